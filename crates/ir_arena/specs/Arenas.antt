@@ -1,0 +1,48 @@
+-- The entries of an arena: its values in order, each with its span. A handle is a place among them.
+use Rattle.std.specs.Prelude.{ℕ, Bool, List, [], ◌∷◌, ◌++◌, if◌then◌else◌, Option, option_map, unwrap_or, position, slice_get}
+use Rattle.std.specs.List.{list_any, position_or_len, IsDistinct}
+use Rattle.ir_arena.specs.declared.span.Span.{Span}
+use Rattle.ir_arena.specs.Spans.{undefined_span}
+
+-- an entry's value
+abbrev pub value_of_entry : {T : Type 0} → T × Span → T
+value_of_entry entry = entry.0
+
+-- an entry's span
+abbrev pub span_of_entry : {T : Type 0} → T × Span → Span
+span_of_entry entry = entry.1
+
+-- the value at a handle, if there is one
+abbrev pub value_at : {T : Type 0} → List (T × Span) → ℕ → Option T
+value_at entries handle = option_map value_of_entry (slice_get entries handle)
+
+-- the span at a handle, or the undefined one
+abbrev pub span_at : {T : Type 0} → List (T × Span) → ℕ → Span
+span_at entries handle = unwrap_or (option_map span_of_entry (slice_get entries handle)) undefined_span
+
+-- In these eq is the equality of the values.
+module _ {T : Type 0} (eq : T → T → Bool) where
+  -- whether an entry's value is equal to this one
+  abbrev pub has_value : T → T × Span → Bool
+  has_value value entry = eq value entry.0
+
+  -- whether some value is equal to this one
+  abbrev pub has_equal : List (T × Span) → T → Bool
+  has_equal entries value = list_any (has_value value) entries
+
+  -- no value is equal to one after it
+  abbrev pub IsDistinctBy : List (T × Span) → Type 0
+  IsDistinctBy entries = IsDistinct (λ d e. eq d.0 e.0) entries
+
+  -- the handle of the first value that is equal to this one
+  abbrev pub found_at : List (T × Span) → T → Option ℕ
+  found_at entries value = position (has_value value) entries
+
+  -- the same, or the length where there is none
+  abbrev pub place_of : List (T × Span) → T → ℕ
+  place_of entries value = position_or_len (has_value value) entries
+
+  -- the entries after an insert: they stay where some value is equal to this one, and else it goes last
+  abbrev pub with_entry : List (T × Span) → T → Span → List (T × Span)
+  with_entry entries value span =
+      if has_equal entries value then entries else entries ++ (value, span) ∷ []

@@ -1,0 +1,3 @@
+pub mod Arenas
+pub mod Handles
+pub mod Spans

@@ -1,0 +1,20 @@
+-- What a clause sees of a span.
+use Rattle.std.specs.Prelude.{ℕ, Bool, not, ◌&&◌, ◌==◌, min, max, if◌then◌else◌}
+use Rattle.ir_arena.specs.declared.span.Span.{Span}
+
+-- the part of the source from start on, below end
+abbrev pub span_from : ℕ → ℕ → Span
+span_from start end = record { start = start; end = end }
+
+-- the span that says no part, which the code calls UNDEFINED
+abbrev pub undefined_span : Span
+undefined_span = span_from 0 0
+
+-- whether it says a part
+abbrev pub is_defined_span : Span → Bool
+is_defined_span s = not ((s.start == 0) && (s.end == 0))
+
+-- the least span that holds both
+abbrev pub joined_span : Span → Span → Span
+joined_span a b =
+    if is_defined_span a then (if is_defined_span b then span_from (min a.start b.start) (max a.end b.end) else a) else b

@@ -1,0 +1,110 @@
+//! Places in an arena, and the error of a place that an arena does not have.
+
+ghost use Rattle.std.specs.Prelude.{◌≡◌, ◌<◌, ◌↔◌, IsSome, IfSome};
+
+use std::marker::{Model, PhantomData};
+
+/// A number below 4294967295, which is `u32::MAX`. In a contract it is that number.
+#[derive(Clone, Copy, PartialEq, Eq, PartialOrd, Ord, Hash, Debug)]
+pub struct NonMaxU32 {
+    value: u32,
+}
+
+impl Model for NonMaxU32 {
+    ghost use Rattle.std.specs.Prelude.{ℕ, ◌<◌};
+
+    ghost Value = { ℕ };
+
+    ghost view = { λ n. n.value };
+
+    ghost invariant = { λ n. n.value < 4294967295 };
+
+    ghost inverse = { λ n. record { value = n } };
+}
+
+impl NonMaxU32 {
+    /// `n`, or `None` for `u32::MAX`.
+    pub fn new(n: u32) -> Option<Self>
+        ensures some { IsSome result ↔ (n < 4294967295) }
+        ensures value { IfSome result (λ r. r ≡ n) }
+    {
+        if n < u32::MAX {
+            Some(NonMaxU32 { value: n })
+        } else {
+            None
+        }
+    }
+
+    /// The number itself.
+    pub fn get(self) -> u32
+        ensures value { result ≡ self }
+        ensures in_range { result < 4294967295 }
+    {
+        self.value
+    }
+}
+
+/// The number that a handle is made of, counted from 0.
+pub type Index = NonMaxU32;
+
+/// The place of a value in an arena, counted from 0. In a contract it is that number.
+///
+/// `T` only tells the handles of one arena from those of another: no `T` is held, and copies,
+/// comparisons and hashes ask nothing of it. An arena whose values hold handles of its own takes a
+/// tag as the `T` of its handles (see [`crate::arena::Arena`]).
+#[derive_where(Clone, Copy, PartialEq, Eq, PartialOrd, Ord, Hash, Debug)]
+pub struct Handle<T> {
+    index: NonMaxU32,
+    marker: PhantomData<T>,
+}
+
+impl<T> Model for Handle<T> {
+    ghost use Rattle.std.specs.Prelude.{ℕ};
+
+    ghost Value = { ℕ };
+
+    ghost view = { λ h. h.index };
+
+    ghost inverse = { λ n. record { index = n; marker = record {} } };
+}
+
+impl<T> Handle<T> {
+    /// The handle of the place `index`.
+    pub fn new(index: Index) -> Self
+        ensures { result ≡ index }
+    {
+        Handle {
+            index,
+            marker: PhantomData,
+        }
+    }
+
+    /// The handle of a place that is known to be one of an arena's. In naga `from_usize`, which
+    /// panics where the place is too large.
+    pub fn at(place: usize) -> Self
+        requires { place < 4294967295 }
+        ensures { result ≡ place }
+    {
+        Handle {
+            index: NonMaxU32 {
+                value: place as u32,
+            },
+            marker: PhantomData,
+        }
+    }
+
+    /// The place, counted from 0.
+    pub fn index(self) -> usize
+        ensures value { result ≡ self }
+        ensures in_range { result < 4294967295 }
+    {
+        self.index.get() as usize
+    }
+}
+
+/// The error of a handle whose place an arena does not have.
+#[derive(Clone, Copy, PartialEq, Eq, Hash, Debug)]
+pub struct BadHandle {
+    /// The handle's place, counted from 0.
+    pub index: usize,
+}

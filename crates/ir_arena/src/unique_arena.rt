@@ -1,0 +1,185 @@
+//! The arena that holds no two equal values.
+
+ghost use Rattle.std.specs.Prelude.{◌≡◌, ◌<◌, ◌≤◌, ◌++◌, ◌↔◌, Some, false, [], ◌∷◌, length, IsTrue, IsOk, IfOk, IfErr, IfSome, OnOk, OnErr};
+ghost use Rattle.ir_arena.specs.Arenas.{value_at, span_at, has_equal, found_at, place_of, with_entry, IsDistinctBy};
+ghost use Rattle.ir_arena.specs.Handles.{handles_from};
+
+use crate::handle::{BadHandle, Handle};
+use crate::iter::Iter;
+use crate::span::Span;
+use std::alloc::{AllocError, Global};
+use std::hash::Hash;
+use std::marker::{Model, PhantomData};
+use std::ops::Index;
+
+/// A list of values with their spans, no two of the values equal. A value's handle is its place, so
+/// two values of the arena are equal exactly where their handles are.
+///
+/// In a contract it is the list of the pairs of a value and its span. An arena holds at most
+/// 4294967295 values.
+///
+/// Its handles are of type `Handle<K>`, as those of [`crate::arena::Arena`] are.
+#[derive(Drop)]
+#[derive_where(Debug; T)]
+pub struct UniqueArena<T: Eq + Hash, K = T> {
+    entries: Vec<(T, Span)>,
+    key: PhantomData<K>,
+}
+
+impl<T: Eq + Hash, K> Model for UniqueArena<T, K> {
+    ghost use Rattle.std.specs.Prelude.{List, ◌≤◌, length};
+    ghost use Rattle.ir_arena.specs.declared.span.Span.{Span};
+    ghost use Rattle.ir_arena.specs.Arenas.{IsDistinctBy};
+
+    ghost Value = { List (T × Span) };
+
+    ghost view = { λ a. a.entries.items };
+
+    ghost invariant = { λ a. IsDistinctBy T.eq a.entries.items × (length a.entries.items ≤ 4294967295) };
+}
+
+impl<T: Eq + Hash, K> UniqueArena<T, K> {
+    /// An empty arena, which allocates nothing.
+    pub fn new(alloc: Global) -> Self
+        ensures { result ≡ [] }
+    {
+        UniqueArena {
+            entries: Vec::new(alloc),
+            key: PhantomData,
+        }
+    }
+
+    /// The number of values.
+    pub fn len(&self) -> usize
+        ensures value { result ≡ length self.now }
+        ensures in_range { length self.now ≤ 4294967295 }
+        ensures distinct { IsDistinctBy T.eq self.now }
+    {
+        self.entries.len()
+    }
+
+    /// Whether there is no value.
+    pub fn is_empty(&self) -> bool
+        ensures { IsTrue result ↔ (self.now ≡ []) }
+    {
+        self.entries.is_empty()
+    }
+
+    /// The values in order, each with its handle.
+    pub fn iter(&self) -> Iter<'_, T, K>
+        ensures { result ≡ handles_from 0 self.now }
+    {
+        Iter::new(self.entries.as_slice())
+    }
+
+    // The place of the value that is equal to `value`.
+    fn find(&self, value: &T) -> Option<usize>
+        ensures value { result ≡ found_at T.eq self.now value.now }
+        ensures in_range { IfSome result (λ place. (place < length self.now) × (place < 4294967295)) }
+    {
+        self.entries.iter().position(|entry| *value == entry.0)
+    }
+
+    /// The handle of the value that is equal to `value`. Where there is none, adds `value` at the
+    /// end. A value that stands already keeps its first span.
+    ///
+    /// # Errors
+    ///
+    /// `AllocError` where there is no memory for a new value, or where 4294967295 values have taken
+    /// each index. The arena then stays as it was.
+    pub fn insert(&mut self, value: T, span: Span) -> Result<Handle<K>, AllocError>
+    where
+        T: Drop,
+        ensures handle { IfOk result (λ h. h ≡ place_of T.eq self.old value) }
+        ensures in_range { IfOk result (λ h. (h < length self.new) × (h < 4294967295)) }
+        ensures ok { OnOk result (self.new ≡ with_entry T.eq self.old value span) }
+        ensures err { OnErr result (self.new ≡ self.old) }
+
+        // where no equal value stands, it goes last
+        ensures appends_to { IfOk result (λ h. has_equal T.eq self.old value ≡ false → h ≡ length self.old) }
+        ensures appends { OnOk result (has_equal T.eq self.old value ≡ false → self.new ≡ self.old ++ (value, span) ∷ []) }
+    {
+        match self.find(&value) {
+            Some(place) => Ok(Handle::at(place)),
+            None => {
+                let place = self.entries.len();
+                if place >= 4294967295 {
+                    return Err(AllocError);
+                }
+                self.entries.push((value, span))?;
+                Ok(Handle::at(place))
+            }
+        }
+    }
+
+    /// The handle of the value that is equal to `value`, if there is one.
+    pub fn get(&self, value: &T) -> Option<Handle<K>>
+        ensures value { result ≡ found_at T.eq self.now value.now }
+        ensures in_range { IfSome result (λ h. h < length self.now) }
+    {
+        match self.find(value) {
+            Some(place) => Some(Handle::at(place)),
+            None => None,
+        }
+    }
+
+    /// The value at `handle`.
+    ///
+    /// # Errors
+    ///
+    /// [`BadHandle`] where the arena has no such place.
+    pub fn get_handle(&self, handle: Handle<K>) -> Result<&T, BadHandle>
+        ensures found { IsOk result ↔ (handle < length self.now) }
+        ensures value { IfOk result (λ value. Some value.now ≡ value_at self.now handle) }
+        ensures bad { IfErr result (λ e. e.index ≡ handle) }
+    {
+        let index = handle.index();
+        match self.entries.get(index) {
+            Some(entry) => Ok(&entry.0),
+            None => Err(BadHandle { index }),
+        }
+    }
+
+    /// The span of the value at `handle`, or [`Span::UNDEFINED`] where the arena has no such place.
+    pub fn get_span(&self, handle: Handle<K>) -> Span
+        ensures { result ≡ span_at self.now handle }
+    {
+        match self.entries.get(handle.index()) {
+            Some(entry) => entry.1,
+            None => Span::UNDEFINED,
+        }
+    }
+
+    /// Tests that the arena has the place of `handle`.
+    ///
+    /// # Errors
+    ///
+    /// [`BadHandle`] where it does not.
+    pub fn check_contains_handle(&self, handle: Handle<K>) -> Result<(), BadHandle>
+        ensures found { IsOk result ↔ (handle < length self.now) }
+        ensures bad { IfErr result (λ e. e.index ≡ handle) }
+    {
+        let index = handle.index();
+        if index < self.entries.len() {
+            Ok(())
+        } else {
+            Err(BadHandle { index })
+        }
+    }
+}
+
+impl<T: Eq + Hash, K> Index<Handle<K>> for UniqueArena<T, K> {
+    type Output = T;
+
+    ghost can_index = { λ a h. h < length a };
+
+    ghost index_gives = { λ a h x. Some x ≡ value_at a h };
+
+    /// The value at a handle of this arena.
+    fn index(&self, handle: Handle<K>) -> &T
+        requires { handle < length self.now }
+        ensures { Some result.now ≡ value_at self.now handle }
+    {
+        &self.entries[handle.index()].0
+    }
+}

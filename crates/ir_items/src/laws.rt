@@ -1,0 +1,12 @@
+// Laws of the items.
+ghost use Rattle.std.specs.Prelude.{◌≡◌, ◌↔◌, IsTrue};
+ghost use Rattle.ir_items.specs.View.{type_view};
+
+use crate::types::IrType;
+
+/// Two types compare equal exactly where their names and what they are made of agree.
+pub fn type_equality(left: &IrType, right: &IrType) -> bool
+    ensures { IsTrue result ↔ (type_view left.now ≡ type_view right.now) }
+{
+    *left == *right
+}

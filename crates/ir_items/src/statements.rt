@@ -1,0 +1,129 @@
+// Statements and the blocks that hold them.
+ghost use Rattle.std.specs.Prelude.{◌≡◌, ◌==◌, ◌++◌, ◌∷◌, [], length, IfOk, OnOk, OnErr};
+ghost use Rattle.ir_items.specs.View.{statement_view, block_view, statements_of, spans_of, IsInStep};
+
+use crate::key;
+use ir_arena::handle::Handle;
+use ir_arena::span::Span;
+use std::alloc::{AllocError, Global};
+
+/// Statements in order, each with its span (naga's `Block`).
+#[cycle(body)]
+#[derive(PartialEq, Eq, Hash, Debug, Drop)]
+pub struct Block {
+    body: Vec<Statement>,
+    span_info: Vec<Span>,
+}
+
+/// One step of a function's body (naga's `Statement`).
+#[cycle(body)]
+#[derive(PartialEq, Eq, Hash, Debug, Drop)]
+pub enum Statement {
+    /// Statements with a scope of their own.
+    Block(Block),
+    /// Ends the function.
+    Return {
+        /// What the function answers, if it answers something.
+        value: Option<Handle<key::Expression>>,
+    },
+    /// Runs another function.
+    Call {
+        /// The function that is run.
+        function: Handle<key::Function>,
+        /// What is passed to it, in order.
+        arguments: Vec<Handle<key::Expression>>,
+        /// The `CallResult` that stands for its answer, if it has one.
+        result: Option<Handle<key::Expression>>,
+    },
+}
+
+impl Block {
+    /// A block without statements.
+    pub fn new(alloc: Global) -> Block
+        ensures statements { statements_of result ≡ [] }
+        ensures spans { spans_of result ≡ [] }
+    {
+        Block {
+            body: Vec::new(alloc),
+            span_info: Vec::new(alloc),
+        }
+    }
+
+    /// How many statements the block has, those inside them not counted.
+    pub fn len(&self) -> usize
+        ensures { result ≡ length (statements_of self.now) }
+    {
+        self.body.len()
+    }
+
+    /// Whether the block has no statement.
+    pub fn is_empty(&self) -> bool
+        ensures { result ≡ (length (statements_of self.now) == 0) }
+    {
+        self.body.is_empty()
+    }
+
+    /// The statements in order (naga's `Deref` of a block).
+    pub fn as_slice(&self) -> &[Statement]
+        ensures { result.now ≡ statements_of self.now }
+    {
+        &self.body
+    }
+
+    /// The statements' spans in order (the second half of naga's `span_iter`).
+    pub fn spans(&self) -> &[Span]
+        ensures { result.now ≡ spans_of self.now }
+    {
+        &self.span_info
+    }
+
+    /// Adds a statement at the end, with its span. The error is want of memory, and leaves the block as it was.
+    pub fn push(&mut self, statement: Statement, span: Span) -> Result<(), AllocError>
+        ensures statements { OnOk result (statements_of self.new ≡ statements_of self.old ++ statement ∷ []) }
+        ensures spans { OnOk result (spans_of self.new ≡ spans_of self.old ++ span ∷ []) }
+        ensures err_statements { OnErr result (statements_of self.new ≡ statements_of self.old) }
+        ensures err_spans { OnErr result (spans_of self.new ≡ spans_of self.old) }
+        ensures in_step { IsInStep self.old → IsInStep self.new }
+    {
+        self.span_info.reserve(1)?;
+        self.body.push(statement)?;
+        self.span_info.push_reserved(span);
+        Ok(())
+    }
+
+    /// An equal block in memory of its own. The error is want of memory.
+    #[cycle(copies)]
+    pub fn clone(&self, alloc: Global) -> Result<Block, AllocError>
+        ensures statements { IfOk result (λ copy. block_view copy ≡ block_view self.now) }
+        ensures spans { IfOk result (λ copy. spans_of copy ≡ spans_of self.now) }
+    {
+        let mut body = Vec::with_capacity(alloc, self.body.len())?;
+        for statement in &self.body {
+            body.push(statement.clone(alloc)?)?;
+        }
+        let span_info = Vec::from_slice(alloc, &self.span_info)?;
+        Ok(Block { body, span_info })
+    }
+}
+
+impl Statement {
+    /// An equal statement in memory of its own. The error is want of memory.
+    #[cycle(copies)]
+    pub fn clone(&self, alloc: Global) -> Result<Statement, AllocError>
+        ensures { IfOk result (λ copy. statement_view copy ≡ statement_view self.now) }
+    {
+        match self {
+            Statement::Block(block) => Ok(Statement::Block(block.clone(alloc)?)),
+            Statement::Return { value } => Ok(Statement::Return { value: *value }),
+            Statement::Call {
+                function,
+                arguments,
+                result,
+            } => Ok(Statement::Call {
+                function: *function,
+                arguments: Vec::from_slice(alloc, arguments)?,
+                result: *result,
+            }),
+        }
+    }
+}
