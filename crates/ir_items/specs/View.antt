@@ -1,5 +1,5 @@
 -- The plain data that the items of a module hold.
-use Rattle.std.specs.Prelude.{◌≡◌, ℕ, List, [], ◌∷◌, Option, option_map, string_bytes, map, length}
+use Rattle.std.specs.Prelude.{◌≡◌, List, [], ◌∷◌, option_map, string_bytes, map, length}
 use Rattle.ir_arena.specs.declared.span.Span.{Span}
 use Rattle.ir_items.specs.Plain.{PlainType, PlainStatement, block, return, call, PlainBlock, stop, next, PlainFunction, PlainModule}
 use Rattle.ir_items.specs.declared.types.IrType.{IrType}

@@ -1,0 +1,43 @@
+-- From the value that the bytes are to the document that they spell.
+use Rattle.std.proofs.Common.{◌≡◌, ◌≤◌, ℕ, List, length, Option, Some, None, IfOk, IfSome, IfNone, Result, Ok, Err, IsUtf8, sym, ap, subst, ◌∙◌}
+use Rattle.std.specs.declared.alloc.AllocError.{AllocError}
+use Rattle.serde_json.specs.Data.{Data, depth}
+use Rattle.serde_json.specs.Read.{read}
+use Rattle.document_reader.specs.Plain.{PlainDocument}
+use Rattle.document_reader.specs.Decode.{document_at, Spells}
+use Rattle.document_reader.specs.Form.{document_form, max_len, Reads}
+use Rattle.document_reader.specs.View.{document_view}
+use Rattle.document_reader.specs.declared.document.Document.{Document}
+use Rattle.document_reader.proofs.DocumentLaws.{document_sound, document_complete}
+use Rattle.document_reader.proofs.Inverse.{some_is}
+
+-- what a value spells reads back
+pub reads_from_spells : (bytes : List ℕ) (v : Data) (d : PlainDocument) (n : ℕ) → length bytes ≤ max_len → IsUtf8 bytes → read bytes ≡ Some v → Spells n v d → Reads bytes d
+reads_from_spells bytes v d n short utf8 value s =
+    let k = document_sound n v d s.found in
+    record {
+      short = short;
+      utf8 = utf8;
+      value = value ∙ ap Some (sym k.0);
+      is_document = record { types = k.1.types; distinct = s.distinct; functions = k.1.functions };
+    }
+
+pub spells_from_reads : (bytes : List ℕ) (v : Data) (d : PlainDocument) (n : ℕ) → read bytes ≡ Some v → depth v ≤ n → Reads bytes d → Spells n v d
+spells_from_reads bytes v d n value le r =
+    let v_is : document_form d ≡ v = some_is _ _ (sym r.value ∙ value) in
+    record {
+      found = subst (λ x. document_at n x ≡ Some d) v_is (document_complete n d (record { types = r.is_document.types; functions = r.is_document.functions }) (subst (λ x. depth x ≤ n) (sym v_is) le));
+      distinct = r.is_document.distinct;
+    }
+
+pub found_if : (bytes : List ℕ) (v : Data) (r : Result (Option Document) AllocError) (n : ℕ) → length bytes ≤ max_len → IsUtf8 bytes × (read bytes ≡ Some v)
+    → IfOk r (λ o. IfSome o (λ d. Spells n v (document_view d))) → IfOk r (λ o. IfSome o (λ d. Reads bytes (document_view d)))
+found_if bytes v (Ok (Some d)) n short u s = reads_from_spells bytes v (document_view d) n short u.0 u.1 s
+found_if bytes v (Ok None) n short u s = tt
+found_if bytes v (Err x) n short u s = tt
+
+pub refused_if : (bytes : List ℕ) (v : Data) (r : Result (Option Document) AllocError) (n : ℕ) → IsUtf8 bytes × (read bytes ≡ Some v) → depth v ≤ n
+    → IfOk r (λ o. IfNone o ((d : PlainDocument) → ¬ Spells n v d)) → IfOk r (λ o. IfNone o ((d : PlainDocument) → ¬ Reads bytes d))
+refused_if bytes v (Ok (Some x)) n u le h = tt
+refused_if bytes v (Ok None) n u le h = λ d r. h d (spells_from_reads bytes v d n u.1 le r)
+refused_if bytes v (Err x) n u le h = tt

@@ -1,0 +1,26 @@
+-- The plain document that a `Document` holds.
+use Rattle.std.specs.Prelude.{map}
+use Rattle.ir_items.specs.Plain.{PlainFunction}
+use Rattle.ir_items.specs.View.{type_view, block_view}
+use Rattle.document_reader.specs.Plain.{PlainSettings, PlainDocument}
+use Rattle.document_reader.specs.declared.document.Settings.{Settings}
+use Rattle.document_reader.specs.declared.document.FunctionItem.{FunctionItem}
+use Rattle.document_reader.specs.declared.document.Document.{Document}
+
+abbrev pub settings_view : Settings → PlainSettings
+settings_view s = record {
+  flags = s.flags.items;
+  capabilities = s.capabilities.items;
+  stages = s.stages.items;
+  operations = s.operations.items;
+  returns = s.returns;
+}
+
+abbrev pub function_view : FunctionItem → PlainFunction
+function_view f = record { body = block_view f.body }
+
+abbrev pub document_view : Document → PlainDocument
+document_view d = record {
+  settings = settings_view d.settings;
+  content = record { types = map type_view d.types.items; functions = map function_view d.functions.items };
+}

@@ -1,0 +1,4 @@
+pub mod Handles
+pub mod Types
+pub mod Steps
+pub mod Text

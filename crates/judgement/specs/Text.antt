@@ -1,0 +1,16 @@
+-- The text of a verdict.
+use Rattle.std.specs.Prelude.{ℕ, List, ◌++◌, codes, decimal}
+use Rattle.judgement.specs.declared.finding.Step.{Step}
+use Rattle.judgement.specs.declared.finding.Step.TheVariants.{«Type», Function}
+use Rattle.judgement.specs.declared.finding.Finding.{Finding}
+use Rattle.judgement.specs.declared.finding.Finding.TheVariants.{Accepted, RefusedDocument, RefusedHandles, Refused}
+
+abbrev pub step_word : Step → List ℕ
+step_word «Type» = codes "type"
+step_word Function = codes "function"
+
+abbrev pub text_of : Finding → List ℕ
+text_of Accepted = codes "accepted\n"
+text_of RefusedDocument = codes "refused document\n"
+text_of RefusedHandles = codes "refused handles\n"
+text_of (Refused step index) = codes "refused " ++ step_word step ++ codes " " ++ decimal index ++ codes "\n"

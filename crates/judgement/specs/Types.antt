@@ -1,0 +1,28 @@
+-- Which types a module may have under its capabilities.
+use Rattle.std.specs.Prelude.{◌≡◌, ◌⊎◌, ℕ, List, Contains}
+use Rattle.ir_kinds.specs.declared.settings.Capability.{Capability}
+use Rattle.ir_kinds.specs.declared.settings.Capability.TheVariants.{ShaderInt16, ShaderInt64, ShaderFloat16, Float64}
+use Rattle.ir_kinds.specs.declared.scalars.ScalarKind.{ScalarKind}
+use Rattle.ir_kinds.specs.declared.scalars.ScalarKind.TheVariants.{Sint, Uint, Float, Bool, AbstractInt, AbstractFloat}
+use Rattle.ir_items.specs.Plain.{PlainType}
+use Rattle.ir_items.specs.declared.types.TypeInner.{TypeInner}
+use Rattle.ir_items.specs.declared.types.TypeInner.TheVariants as inner
+
+-- a width of four bytes, or of two or eight with its capability
+abbrev pub IsWidthOK : List Capability → (two eight : Capability) → ℕ → Type 0
+IsWidthOK capabilities two eight width = (width ≡ 4) ⊎ (((width ≡ 2) × Contains capabilities two) ⊎ ((width ≡ 8) × Contains capabilities eight))
+
+-- a kind and a width in bytes that a scalar type may have
+abbrev pub IsScalarOK : List Capability → ScalarKind → ℕ → Type 0
+IsScalarOK capabilities Bool width = width ≡ 1
+IsScalarOK capabilities Sint width = IsWidthOK capabilities ShaderInt16 ShaderInt64 width
+IsScalarOK capabilities Uint width = IsWidthOK capabilities ShaderInt16 ShaderInt64 width
+IsScalarOK capabilities Float width = IsWidthOK capabilities ShaderFloat16 Float64 width
+IsScalarOK capabilities AbstractInt width = ⊥
+IsScalarOK capabilities AbstractFloat width = ⊥
+
+abbrev pub IsInnerOK : List Capability → TypeInner → Type 0
+IsInnerOK capabilities (inner.Scalar s) = IsScalarOK capabilities s.kind s.width
+
+abbrev pub TypeOK : List Capability → PlainType → Type 0
+TypeOK capabilities t = IsInnerOK capabilities t.inner

@@ -1,0 +1,58 @@
+// What is found of a document.
+ghost use Rattle.std.specs.Prelude.{◌≡◌, IfOk, string_bytes};
+
+use std::alloc::{AllocError, Global};
+use std::fmt::{self, Display};
+
+/// A step of the judgement that names the item which fails it.
+#[derive(Clone, Copy, Debug, PartialEq, Eq)]
+pub enum Step {
+    /// The rules of types.
+    Type,
+    /// The rules of functions.
+    Function,
+}
+
+impl Display for Step {
+    ghost use Rattle.std.specs.Prelude.{Some};
+    ghost use Rattle.judgement.specs.Text.{step_word};
+
+    ghost output = { λ s. Some (step_word s) };
+
+    /// Writes the step's word.
+    fn fmt<W: fmt::Write>(&self, f: &mut fmt::Formatter<W>) -> fmt::Result {
+        match self {
+            Step::Type => write!(f, "type"),
+            Step::Function => write!(f, "function"),
+        }
+    }
+}
+
+/// What is found of a document.
+#[derive(Clone, Copy, Debug, PartialEq, Eq)]
+pub enum Finding {
+    /// No step fails.
+    Accepted,
+    /// The bytes spell no document.
+    RefusedDocument,
+    /// Some handle names nothing, or something that does not come before.
+    RefusedHandles,
+    /// The step that fails, and the least index of an item that fails it.
+    Refused(Step, usize),
+}
+
+impl Finding {
+    ghost use Rattle.judgement.specs.Text.{text_of};
+
+    /// The line that tells it, ended by a line feed. The error is want of memory.
+    pub fn text(self, alloc: Global) -> Result<String, AllocError>
+        ensures { IfOk result (λ text. string_bytes text ≡ text_of self) }
+    {
+        match self {
+            Finding::Accepted => String::from_str(alloc, "accepted\n"),
+            Finding::RefusedDocument => String::from_str(alloc, "refused document\n"),
+            Finding::RefusedHandles => String::from_str(alloc, "refused handles\n"),
+            Finding::Refused(step, index) => format!(in alloc; "refused {step} {index}\n"),
+        }
+    }
+}

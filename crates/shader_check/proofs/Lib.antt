@@ -1,0 +1,7 @@
+pub mod BuildLemmas
+pub mod StepLaws
+pub mod HandleLaws
+pub mod TypeLaws
+pub mod FindingLaws
+pub mod JudgedLaws
+pub mod Due

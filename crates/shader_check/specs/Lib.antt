@@ -1,0 +1,6 @@
+pub mod Tests
+pub mod Widths
+pub mod Judged
+pub mod Faults
+pub mod Outcome
+pub mod Checks

@@ -1,0 +1,52 @@
+// The module that a document writes.
+ghost use Rattle.std.specs.Prelude.{◌≡◌, map, IfOk};
+ghost use Rattle.ir_items.specs.View.{type_view, function_view as function_plain, values_of, module_view};
+ghost use Rattle.document_reader.specs.Form.{AreDistinct};
+ghost use Rattle.document_reader.specs.View.{function_view, document_view};
+
+use document_reader::{Document, FunctionItem};
+use ir_arena::arena::Arena;
+use ir_arena::span::Span;
+use ir_arena::unique_arena::UniqueArena;
+use ir_items::{Function, IrType, Module, key};
+use std::alloc::{AllocError, Global};
+
+fn build_types(
+    alloc: Global,
+    types: &[IrType],
+) -> Result<UniqueArena<IrType, key::IrType>, AllocError>
+    requires { AreDistinct (map type_view types.now) }
+    ensures { IfOk result (λ arena. map type_view (values_of arena) ≡ map type_view types.now) }
+{
+    let mut arena = UniqueArena::new(alloc);
+    for item in types {
+        arena.insert(item.clone(alloc)?, Span::UNDEFINED)?;
+    }
+    Ok(arena)
+}
+
+fn build_functions(
+    alloc: Global,
+    functions: &[FunctionItem],
+) -> Result<Arena<Function, key::Function>, AllocError>
+    ensures { IfOk result (λ arena. map function_plain (values_of arena) ≡ map function_view functions.now) }
+{
+    let mut arena = Arena::new(alloc);
+    for item in functions {
+        let body = item.body.clone(alloc)?;
+        arena.append(Function { body }, Span::UNDEFINED)?;
+    }
+    Ok(arena)
+}
+
+/// The module whose arenas are the document's lists, index for index. Nothing in it has a span. It asks that no two
+/// types are equal, as `read_document` gives. The error is want of memory.
+pub fn build_module(alloc: Global, document: &Document) -> Result<Module, AllocError>
+    requires { AreDistinct (document_view document.now).content.types }
+    ensures { IfOk result (λ m. module_view m ≡ (document_view document.now).content) }
+{
+    Ok(Module {
+        types: build_types(alloc, &document.types)?,
+        functions: build_functions(alloc, &document.functions)?,
+    })
+}

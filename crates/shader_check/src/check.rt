@@ -1,0 +1,128 @@
+// From a reader to a writer: the judgement over what the one gives, as the text that the other takes.
+ghost use Rattle.std.specs.Prelude.{◌≡◌, false, true, IfOk, Err};
+ghost use Rattle.ports.specs.Sink.{has_failed as sink_failed, writer_of};
+ghost use Rattle.ports.specs.Source.{has_failed as source_failed, reader_of};
+ghost use Rattle.shader_check.specs.Checks.{verdict_of, Answers, BreaksOff};
+ghost use Rattle.shader_check.specs.Outcome.{status_of, message_of};
+
+use crate::judge::judge;
+use judgement::Finding;
+use ports::{Sink, Source, TakeError, WriteFailed};
+use std::alloc::{AllocError, Global};
+use std::io::{Read, Write};
+
+// One byte more than a document may have.
+const MAX_TAKEN: usize = 16777217;
+
+/// What the document was found to be.
+#[derive(Clone, Copy, Debug, PartialEq, Eq)]
+pub enum Verdict {
+    /// No step of the judgement fails.
+    Accepted,
+    /// Some step fails.
+    Refused,
+}
+
+/// Why no verdict was reached or told.
+#[derive(Clone, Copy, Debug, PartialEq, Eq)]
+pub enum Fault {
+    /// There was no memory. Nothing was written.
+    Memory,
+    /// The reader failed, or was interrupted too often. Nothing was written.
+    Read,
+    /// The writer failed, was interrupted or took nothing. It may have taken a front of the text.
+    Write,
+}
+
+impl From<AllocError> for Fault {
+    ghost use Rattle.shader_check.specs.declared.check.Fault.TheVariants.{Memory};
+
+    ghost from_gives = { λ _ e. e ≡ Memory };
+
+    fn from(_e: AllocError) -> Fault {
+        Fault::Memory
+    }
+}
+
+impl From<TakeError> for Fault {
+    ghost use Rattle.shader_check.specs.Faults.{fault_of};
+
+    ghost from_gives = { λ e f. f ≡ fault_of e };
+
+    fn from(e: TakeError) -> Fault {
+        match e {
+            TakeError::Memory => Fault::Memory,
+            TakeError::Read => Fault::Read,
+        }
+    }
+}
+
+impl From<WriteFailed> for Fault {
+    ghost use Rattle.shader_check.specs.declared.check.Fault.TheVariants.{Write};
+
+    ghost from_gives = { λ _ e. e ≡ Write };
+
+    fn from(_e: WriteFailed) -> Fault {
+        Fault::Write
+    }
+}
+
+fn verdict_of(finding: Finding) -> Verdict
+    ensures { result ≡ verdict_of finding }
+{
+    match finding {
+        Finding::Accepted => Verdict::Accepted,
+        Finding::RefusedDocument => Verdict::Refused,
+        Finding::RefusedHandles => Verdict::Refused,
+        Finding::Refused(_, _) => Verdict::Refused,
+    }
+}
+
+/// Reads a document to its end, or 16777217 bytes of it, and writes the text of the judgement over it.
+///
+/// It asks that no call of the reader or of the writer has failed before. [`Fault::Memory`] comes only from a
+/// refused allocation, [`Fault::Read`] where a call of the reader failed or 33554434 calls brought no end, and
+/// [`Fault::Write`] where a call of the writer failed, was interrupted or took nothing.
+pub fn check_document<R: Read, W: Write>(
+    alloc: Global,
+    source: &mut Source<R>,
+    sink: &mut Sink<W>,
+) -> Result<Verdict, Fault>
+    requires source_unmarked { source_failed source.old ≡ false }
+    requires sink_unmarked { sink_failed sink.old ≡ false }
+
+    // The text of the judgement is written whole, and nothing else is.
+    ensures ok { IfOk result (Answers (R.remaining (reader_of source.old))
+        (R.remaining (reader_of source.new)) (W.contents (writer_of sink.old))
+        (W.contents (writer_of sink.new))) }
+
+    // A fault comes only from where it says, and before the first write nothing was written.
+    ensures memory { result ≡ Err Fault.Memory → sink.new ≡ sink.old }
+    ensures read { result ≡ Err Fault.Read → source_failed source.new ≡ true }
+    ensures read_unwritten { result ≡ Err Fault.Read → sink.new ≡ sink.old }
+    ensures write { result ≡ Err Fault.Write → sink_failed sink.new ≡ true }
+    ensures write_front { result ≡ Err Fault.Write → BreaksOff (R.remaining (reader_of source.old))
+        (R.remaining (reader_of source.new)) (W.contents (writer_of sink.old))
+        (W.contents (writer_of sink.new)) }
+{
+    let bytes = source.take_all(alloc, MAX_TAKEN)?;
+    let finding = judge(alloc, &bytes)?;
+    let text = finding.text(alloc)?;
+    sink.write_all(text.as_bytes())?;
+    Ok(verdict_of(finding))
+}
+
+/// The exit status of an answer, 0 for accepted, 1 for refused and 2 for a fault, and what is said of it on standard
+/// error: nothing, or the fault in one line.
+pub fn outcome(answer: &Result<Verdict, Fault>) -> (u8, &'static str)
+    ensures status { result.0 ≡ status_of answer.now }
+    ensures message { result.1.now ≡ message_of answer.now }
+{
+    match answer {
+        Ok(Verdict::Accepted) => (0, ""),
+        Ok(Verdict::Refused) => (1, ""),
+        Err(Fault::Memory) => (2, "fault: memory\n"),
+        Err(Fault::Read) => (2, "fault: read\n"),
+        Err(Fault::Write) => (2, "fault: write\n"),
+    }
+}

@@ -1,0 +1,14 @@
+// From bytes to a verdict.
+#![tactic(auto)]
+
+mod build;
+mod check;
+mod handles;
+mod judge;
+mod types;
+
+pub use build::build_module;
+pub use check::{Fault, Verdict, check_document, outcome};
+pub use document_reader::{Document, FunctionItem, Settings, read_document};
+pub use judgement::{Finding, Step};
+pub use ports::{Sink, Source};

@@ -1,0 +1,78 @@
+// The step that tests types.
+ghost use Rattle.std.specs.Prelude.{◌≡◌, ◌↔◌, IsTrue, Contains};
+ghost use Rattle.ir_arena.specs.Handles.{handles_from};
+ghost use Rattle.ir_kinds.specs.declared.settings.Capability.TheVariants.{ShaderInt16, ShaderInt64, ShaderFloat16, Float64};
+ghost use Rattle.ir_items.specs.View.{type_view};
+ghost use Rattle.shader_check.specs.Tests.{first_failing, is_width_ok, is_scalar_ok, is_inner_ok};
+ghost use Rattle.shader_check.specs.Widths.{widths_view, AreWidthsOf};
+
+use ir_arena::unique_arena::UniqueArena;
+use ir_items::{IrType, TypeInner, key};
+use ir_kinds::{Bytes, Capability, Scalar, ScalarKind};
+
+/// The widths of scalars that capabilities allow beside those that always stand.
+#[derive(Clone, Copy, Debug, PartialEq, Eq)]
+pub struct Widths {
+    int16: bool,
+    int64: bool,
+    float16: bool,
+    float64: bool,
+}
+
+/// The widths that these capabilities allow.
+pub fn widths_of(capabilities: &[Capability]) -> Widths
+    ensures { AreWidthsOf capabilities.now (widths_view result) }
+{
+    Widths {
+        int16: capabilities.contains(&Capability::ShaderInt16),
+        int64: capabilities.contains(&Capability::ShaderInt64),
+        float16: capabilities.contains(&Capability::ShaderFloat16),
+        float64: capabilities.contains(&Capability::Float64),
+    }
+}
+
+fn is_width_ok(two: bool, eight: bool, width: Bytes) -> bool
+    ensures { result ≡ is_width_ok two eight width }
+{
+    match width {
+        4 => true,
+        2 => two,
+        8 => eight,
+        _ => false,
+    }
+}
+
+fn is_scalar_ok(widths: Widths, scalar: Scalar) -> bool
+    ensures { result ≡ is_scalar_ok (widths_view widths) scalar.kind scalar.width }
+{
+    match scalar.kind {
+        ScalarKind::Bool => scalar.width == 1,
+        ScalarKind::Sint | ScalarKind::Uint => is_width_ok(
+            widths.int16,
+            widths.int64,
+            scalar.width,
+        ),
+        ScalarKind::Float => is_width_ok(widths.float16, widths.float64, scalar.width),
+        ScalarKind::AbstractInt | ScalarKind::AbstractFloat => false,
+    }
+}
+
+fn is_inner_ok(widths: Widths, inner: &TypeInner) -> bool
+    ensures { result ≡ is_inner_ok (widths_view widths) inner.now }
+{
+    match *inner {
+        TypeInner::Scalar(scalar) => is_scalar_ok(widths, scalar),
+    }
+}
+
+/// The least index of a type that the capabilities don't allow.
+pub fn first_failing_type(types: &UniqueArena<IrType, key::IrType>, widths: Widths) -> Option<usize>
+    ensures { result ≡ first_failing (λ _ t. is_inner_ok (widths_view widths) t.inner) (handles_from 0 types.now) }
+{
+    for (handle, item) in types.iter() {
+        if !is_inner_ok(widths, &item.inner) {
+            return Some(handle.index());
+        }
+    }
+    None
+}
