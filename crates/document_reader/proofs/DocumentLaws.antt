@@ -19,7 +19,7 @@ use Rattle.document_reader.specs.Decode.{first, pair, triple, word_in, all_of, t
 use Rattle.document_reader.specs.Form.{list_form, type_form, block_items, function_form, AllHaveHandles, HasWord, no_special_form, no_filters_form, subgroup_form, content_items, document_form}
 use Rattle.document_reader.specs.Words.{flag_word, capability_word, stage_word, subgroup_flag_word, flags, capabilities, stages, subgroup_flags}
 use Rattle.document_reader.proofs.Inverse.{bind_some, guarded, both_true, passes_some, some_is, as_array_some, as_bool_some, whole_some, is_null_true, is_empty_list_true, first_some, pair_some, triple_some}
-use Rattle.document_reader.proofs.Laws.{IsSound, IsComplete, all_sound, all_complete, anything, word_sound}
+use Rattle.document_reader.proofs.PartLaws.{IsSound, IsComplete, all_sound, all_complete, anything, word_sound}
 use Rattle.document_reader.proofs.ItemLaws.{type_sound, type_complete, function_sound, function_complete}
 
 -- ---- sets of words

@@ -15,7 +15,7 @@ use Rattle.document_reader.specs.Decode.{first, tagged, only, pair, triple, look
 use Rattle.document_reader.specs.Form.{tagged_form, handle_form, scalar_form, inner_form, type_form, statement_form, block_items, block_form, function_form, IsHandle, HasHandles, AllHaveHandles, IsWidth, HasWord}
 use Rattle.document_reader.specs.Words.{scalars, kind_word, scalar_word}
 use Rattle.document_reader.proofs.Inverse.{bind_some, map_some, chosen, guarded, both_true, some_is, is_word, as_array_some, is_null_true, is_empty_list_true, first_some, only_some, pair_some, triple_some, tagged_some}
-use Rattle.document_reader.proofs.Laws.{IsSound, IsComplete, all_sound, all_complete, IsSpelled, word_sound, handle_sound, handle_complete, optional_sound, optional_handle_complete, optional_text_sound, optional_text_complete}
+use Rattle.document_reader.proofs.PartLaws.{IsSound, IsComplete, all_sound, all_complete, IsSpelled, word_sound, handle_sound, handle_complete, optional_sound, optional_handle_complete, optional_text_sound, optional_text_complete}
 
 -- ---- types
 

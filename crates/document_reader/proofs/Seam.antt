@@ -1,14 +1,14 @@
 -- From the value that the bytes are to the document that they spell.
-use Rattle.std.proofs.Common.{◌≡◌, ◌≤◌, ℕ, List, length, Option, Some, None, IfOk, IfSome, IfNone, Result, Ok, Err, IsUtf8, sym, ap, subst, ◌∙◌}
+use Rattle.std.proofs.Common.{◌≡◌, ◌≤◌, ℕ, List, length, Option, Some, None, IfOk, IfSome, IfNone, Result, Ok, Err, IsUtf8, sym, ap, subst, ◌∙◌, arith}
 use Rattle.std.specs.declared.alloc.AllocError.{AllocError}
 use Rattle.serde_json.specs.Data.{Data, depth}
 use Rattle.serde_json.specs.Read.{read}
 use Rattle.document_reader.specs.Plain.{PlainDocument}
 use Rattle.document_reader.specs.Decode.{document_at, Spells}
-use Rattle.document_reader.specs.Form.{document_form, max_len, Reads}
+use Rattle.document_reader.specs.Form.{document_form, max_len, Reads, OneDocument}
 use Rattle.document_reader.specs.View.{document_view}
 use Rattle.document_reader.specs.declared.document.Document.{Document}
-use Rattle.document_reader.proofs.DocumentLaws.{document_sound, document_complete}
+use Rattle.document_reader.proofs.DocumentLaws.{IsInRange, document_sound, document_complete}
 use Rattle.document_reader.proofs.Inverse.{some_is}
 
 -- what a value spells reads back
@@ -41,3 +41,15 @@ pub refused_if : (bytes : List ℕ) (v : Data) (r : Result (Option Document) All
 refused_if bytes v (Ok (Some x)) n u le h = tt
 refused_if bytes v (Ok None) n u le h = λ d r. h d (spells_from_reads bytes v d n u.1 le r)
 refused_if bytes v (Err x) n u le h = tt
+
+-- bytes spell one document at most
+in_range : (bytes : List ℕ) (d : PlainDocument) → Reads bytes d → IsInRange d
+in_range bytes d r = record { types = r.is_document.types; functions = r.is_document.functions }
+
+pub one_document_lem : OneDocument
+one_document_lem bytes d e r s =
+    let forms : document_form d ≡ document_form e = some_is _ _ (sym r.value ∙ s.value) in
+    let n = depth (document_form d) in
+    let first = document_complete n d (in_range bytes d r) (omega arith) in
+    let second = subst (λ x. document_at n x ≡ Some e) (sym forms) (document_complete n e (in_range bytes e s) (subst (λ x. depth x ≤ n) forms (omega arith))) in
+    some_is d e (sym first ∙ second)

@@ -131,3 +131,7 @@ pub record Reads (bytes : List ℕ) (d : PlainDocument) : Type 0 where
   pub utf8 : IsUtf8 bytes
   pub value : read bytes ≡ Some (document_form d)
   pub is_document : IsDocument d
+
+-- bytes spell one document at most
+abbrev pub OneDocument : Type 0
+OneDocument = (bytes : List ℕ) (d e : PlainDocument) → Reads bytes d → Reads bytes e → d ≡ e

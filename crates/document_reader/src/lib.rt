@@ -4,6 +4,7 @@
 mod content;
 mod distinct;
 mod document;
+pub mod laws;
 mod parts;
 mod reading;
 mod settings;

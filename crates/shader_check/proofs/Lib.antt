@@ -5,3 +5,4 @@ pub mod TypeLaws
 pub mod FindingLaws
 pub mod JudgedLaws
 pub mod Due
+pub mod Once

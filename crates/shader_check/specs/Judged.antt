@@ -26,10 +26,6 @@ pub record IsDue (bytes text : List ℕ) : Type 0 where
   pub judged : Judged bytes finding
   pub text_is : text ≡ text_of finding
 
--- bytes spell one document at most
-abbrev pub OneDocument : Type 0
-OneDocument = (bytes : List ℕ) (d e : PlainDocument) → Reads bytes d → Reads bytes e → d ≡ e
-
 -- one text is due for some bytes
 abbrev pub OneText : Type 0
 OneText = (bytes s t : List ℕ) → IsDue bytes s → IsDue bytes t → s ≡ t

@@ -2,7 +2,7 @@
 ghost use Rattle.std.specs.Prelude.{IfOk};
 ghost use Rattle.ir_items.specs.View.{module_view};
 ghost use Rattle.judgement.specs.Steps.{IsFinding};
-ghost use Rattle.shader_check.specs.Judged.{Judged, OneDocument, OneText};
+ghost use Rattle.shader_check.specs.Judged.{Judged};
 
 use crate::build::build_module;
 use crate::handles::handles_in_order;

@@ -5,6 +5,7 @@ mod build;
 mod check;
 mod handles;
 mod judge;
+pub mod laws;
 mod types;
 
 pub use build::build_module;
