@@ -39,6 +39,20 @@ fn build_functions(
     Ok(arena)
 }
 
+fn move_functions(
+    alloc: Global,
+    functions: Vec<FunctionItem>,
+) -> Result<Arena<Function, key::Function>, AllocError>
+    ensures { IfOk result (λ arena. map function_plain (values_of arena) ≡ map function_view functions.items) }
+{
+    let mut arena = Arena::new(alloc);
+    for item in functions {
+        let FunctionItem { body } = item;
+        arena.append(Function { body }, Span::UNDEFINED)?;
+    }
+    Ok(arena)
+}
+
 /// The module whose arenas are the document's lists, index for index. Nothing in it has a span. It asks that no two
 /// types are equal, as `read_document` gives. The error is want of memory.
 pub fn build_module(alloc: Global, document: &Document) -> Result<Module, AllocError>
@@ -48,5 +62,21 @@ pub fn build_module(alloc: Global, document: &Document) -> Result<Module, AllocE
     Ok(Module {
         types: build_types(alloc, &document.types)?,
         functions: build_functions(alloc, &document.functions)?,
+    })
+}
+
+/// The module whose arenas are these lists, index for index, which takes the functions' bodies as they are.
+pub fn into_module(
+    alloc: Global,
+    types: &Vec<IrType>,
+    functions: Vec<FunctionItem>,
+) -> Result<Module, AllocError>
+    requires { AreDistinct (map type_view types.now.items) }
+    ensures { IfOk result (λ m. module_view m
+        ≡ record { types = map type_view types.now.items; functions = map function_view functions.items }) }
+{
+    Ok(Module {
+        types: build_types(alloc, types)?,
+        functions: move_functions(alloc, functions)?,
     })
 }

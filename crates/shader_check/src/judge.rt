@@ -4,10 +4,10 @@ ghost use Rattle.ir_items.specs.View.{module_view};
 ghost use Rattle.judgement.specs.Steps.{IsFinding};
 ghost use Rattle.shader_check.specs.Judged.{Judged};
 
-use crate::build::build_module;
+use crate::build::into_module;
 use crate::handles::handles_in_order;
 use crate::types::{first_failing_type, widths_of};
-use document_reader::{Settings, read_document};
+use document_reader::{Document, Settings, read_document};
 use ir_items::Module;
 use judgement::{Finding, Step};
 use std::alloc::{AllocError, Global};
@@ -33,6 +33,11 @@ pub fn judge(alloc: Global, bytes: &[u8]) -> Result<Finding, AllocError>
     let Some(document) = read_document(alloc, bytes)? else {
         return Ok(Finding::RefusedDocument);
     };
-    let module = build_module(alloc, &document)?;
-    Ok(judge_module(&document.settings, &module))
+    let Document {
+        settings,
+        types,
+        functions,
+    } = document;
+    let module = into_module(alloc, &types, functions)?;
+    Ok(judge_module(&settings, &module))
 }
