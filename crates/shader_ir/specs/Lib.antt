@@ -1,0 +1,3 @@
+pub mod Arenas
+pub mod Plain
+pub mod View
