@@ -1,5 +1,5 @@
 -- One text is due for some bytes.
-use Rattle.std.proofs.Common.{◌≡◌, ◌⊎◌, inl, inr, ◌<◌, ◌≤◌, ℕ, List, Some, slice_get, refl, sym, ap, subst, ◌∙◌, arith}
+use Rattle.std.proofs.Common.{◌≡◌, inl, inr, ℕ, List, refl, sym, ap, subst, ◌∙◌, arith}
 use Rattle.std.proofs.lemmas.Bool.{cases_lt}
 use Rattle.ir_kinds.specs.declared.settings.Capability.{Capability}
 use Rattle.ir_items.specs.Plain.{PlainModule}
@@ -9,7 +9,7 @@ use Rattle.judgement.specs.Text.{text_of}
 use Rattle.judgement.specs.declared.finding.Step.TheVariants.{«Type», Function}
 use Rattle.judgement.specs.declared.finding.Finding.{Finding}
 use Rattle.judgement.specs.declared.finding.Finding.TheVariants.{Accepted, RefusedDocument, RefusedHandles, Refused}
-use Rattle.shader_check.specs.Judged.{Finds, Judged, IsDue, OneText}
+use Rattle.shader_check.specs.Judged.{Finds, Judged, OneText}
 
 least_once : {A : Type 0} (P : A → Type 0) (xs : List A) (i j : ℕ) → IsLeastFailing P xs i → IsLeastFailing P xs j → i ≡ j
 least_once P xs i j f g =
