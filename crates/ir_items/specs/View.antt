@@ -1,5 +1,5 @@
 -- The plain data that the items of a module hold.
-use Rattle.std.specs.Prelude.{◌≡◌, List, [], ◌∷◌, option_map, string_bytes, map, length}
+use Rattle.std.specs.Prelude.{◌≡◌, ℕ, List, [], ◌∷◌, option_map, string_bytes, map, length, vec_capacity}
 use Rattle.ir_arena.specs.declared.span.Span.{Span}
 use Rattle.ir_items.specs.Plain.{PlainType, PlainStatement, block, return, call, PlainBlock, stop, next, PlainFunction, PlainModule}
 use Rattle.ir_items.specs.declared.types.IrType.{IrType}
@@ -43,6 +43,13 @@ statements_of b = (out-Block b).body.items
 
 abbrev pub spans_of : Block → List Span
 spans_of b = (out-Block b).span_info.items
+
+-- how many statements and how many spans a block holds before it has to grow
+abbrev pub room_for_statements : Block → ℕ
+room_for_statements b = vec_capacity (out-Block b).body
+
+abbrev pub room_for_spans : Block → ℕ
+room_for_spans b = vec_capacity (out-Block b).span_info
 
 -- a block has as many spans as statements
 abbrev pub IsInStep : Block → Type 0

@@ -1,6 +1,6 @@
 // Statements and the blocks that hold them.
-ghost use Rattle.std.specs.Prelude.{◌≡◌, ◌==◌, ◌++◌, ◌∷◌, [], length, IfOk, OnOk, OnErr};
-ghost use Rattle.ir_items.specs.View.{statement_view, block_view, statements_of, spans_of, IsInStep};
+ghost use Rattle.std.specs.Prelude.{◌≡◌, ◌≤◌, ◌==◌, ◌++◌, ◌∷◌, [], length, IfOk, OnOk, OnErr};
+ghost use Rattle.ir_items.specs.View.{statement_view, block_view, statements_of, spans_of, room_for_statements, room_for_spans, IsInStep};
 
 use crate::key;
 use ir_arena::handle::Handle;
@@ -53,6 +53,8 @@ impl Block {
     pub fn with_capacity(alloc: Global, count: usize) -> Result<Block, AllocError>
         ensures statements { IfOk result (λ block. statements_of block ≡ []) }
         ensures spans { IfOk result (λ block. spans_of block ≡ []) }
+        ensures room { IfOk result (λ block. count ≤ room_for_statements block) }
+        ensures span_room { IfOk result (λ block. count ≤ room_for_spans block) }
     {
         Ok(Block {
             body: Vec::with_capacity(alloc, count)?,
