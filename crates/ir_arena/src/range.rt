@@ -45,4 +45,12 @@ impl<T> Range<T> {
             marker: PhantomData,
         }
     }
+
+    /// The places, from the first on, below the end.
+    pub fn index_range(&self) -> ops::Range<u32>
+        ensures start { result.start ≡ self.now.0 }
+        ensures end { result.end ≡ self.now.1 }
+    {
+        self.first..self.end
+    }
 }

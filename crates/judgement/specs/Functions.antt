@@ -68,11 +68,10 @@ FitsKind kind (I32 z) = kind ≡ Sint
 FitsKind kind (U32 n) = kind ≡ Uint
 FitsKind kind Default = Unit {0}
 
--- the last case falls through
-abbrev pub last_falls : PlainCases → Bool
-last_falls no_case = false
-last_falls (case value body falls no_case) = falls
-last_falls (case value body falls (case v b f rest)) = last_falls (case v b f rest)
+-- whether the last of these cases falls through, or what is given where there is none
+abbrev pub falls_at_end : Bool → PlainCases → Bool
+falls_at_end falls no_case = falls
+falls_at_end falls (case value body f rest) = falls_at_end f rest
 
 -- The selector is an integer scalar, the values are of its kind and differ, one of them is the default, and the last
 -- case doesn't fall through.
@@ -83,7 +82,7 @@ pub record SwitchOK (f : PlainFunction) (selector : ℕ) (cases : PlainCases) : 
   pub fit : (v : SwitchValue) → Contains (case_values cases) v → FitsKind scalar.kind v
   pub differ : AllPairs (λ v w. v ≢ w) (case_values cases)
   pub default : Contains (case_values cases) Default
-  pub ends : last_falls cases ≡ false
+  pub ends : falls_at_end false cases ≡ false
 
 -- ---- the other statements
 

@@ -8,7 +8,7 @@ use document_reader::{Document, FunctionItem};
 use ir_arena::arena::Arena;
 use ir_arena::span::Span;
 use ir_arena::unique_arena::UniqueArena;
-use ir_items::{Function, IrType, Module, key};
+use ir_items::{Expression, Function, IrType, Module, key};
 use std::alloc::{AllocError, Global};
 
 fn build_types(
@@ -25,6 +25,19 @@ fn build_types(
     Ok(arena)
 }
 
+fn build_expressions(
+    alloc: Global,
+    expressions: &[Expression],
+) -> Result<Arena<Expression, key::Expression>, AllocError>
+    ensures { IfOk result (λ arena. values_of arena ≡ expressions.now) }
+{
+    let mut arena = Arena::new(alloc);
+    for item in expressions {
+        arena.append(*item, Span::UNDEFINED)?;
+    }
+    Ok(arena)
+}
+
 fn build_functions(
     alloc: Global,
     functions: &[FunctionItem],
@@ -33,8 +46,35 @@ fn build_functions(
 {
     let mut arena = Arena::new(alloc);
     for item in functions {
-        let body = item.body.clone(alloc)?;
-        arena.append(Function { body }, Span::UNDEFINED)?;
+        let function = Function {
+            result: item.result,
+            expressions: build_expressions(alloc, &item.expressions)?,
+            body: item.body.clone(alloc)?,
+        };
+        arena.append(function, Span::UNDEFINED)?;
+    }
+    Ok(arena)
+}
+
+fn move_functions(
+    alloc: Global,
+    functions: Vec<FunctionItem>,
+) -> Result<Arena<Function, key::Function>, AllocError>
+    ensures { IfOk result (λ arena. map function_plain (values_of arena) ≡ map function_view functions.items) }
+{
+    let mut arena = Arena::new(alloc);
+    for item in functions {
+        let FunctionItem {
+            result: answer,
+            expressions,
+            body,
+        } = item;
+        let function = Function {
+            result: answer,
+            expressions: build_expressions(alloc, &expressions)?,
+            body,
+        };
+        arena.append(function, Span::UNDEFINED)?;
     }
     Ok(arena)
 }
@@ -48,5 +88,21 @@ pub fn build_module(alloc: Global, document: &Document) -> Result<Module, AllocE
     Ok(Module {
         types: build_types(alloc, &document.types)?,
         functions: build_functions(alloc, &document.functions)?,
+    })
+}
+
+/// The module whose arenas are these lists, index for index, which takes the functions' bodies as they are.
+pub fn into_module(
+    alloc: Global,
+    types: &Vec<IrType>,
+    functions: Vec<FunctionItem>,
+) -> Result<Module, AllocError>
+    requires { AreDistinct (map type_view types.now.items) }
+    ensures { IfOk result (λ m. module_view m
+        ≡ record { types = map type_view types.now.items; functions = map function_view functions.items }) }
+{
+    Ok(Module {
+        types: build_types(alloc, types)?,
+        functions: move_functions(alloc, functions)?,
     })
 }
