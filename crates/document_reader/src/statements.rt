@@ -39,7 +39,7 @@ pub fn handles<K>(alloc: Global, value: &Value) -> Result<Option<Vec<Handle<K>>>
     let Some(items) = value.as_array() else {
         return Ok(None);
     };
-    let mut found = Vec::new(alloc);
+    let mut found = Vec::with_capacity(alloc, items.len())?;
     for item in items {
         let Some(next) = handle(item) else {
             return Ok(None);
@@ -242,7 +242,7 @@ pub fn block(alloc: Global, value: &Value, depth: usize) -> Result<Option<Block>
     let Some(items) = value.as_array() else {
         return Ok(None);
     };
-    let mut found = Block::new(alloc);
+    let mut found = Block::with_capacity(alloc, items.len())?;
     for item in items {
         let Some(next) = statement(alloc, item, depth)? else {
             return Ok(None);

@@ -96,6 +96,17 @@ impl Block {
         }
     }
 
+    /// A block without statements, with room for `count` of them. The error is want of memory.
+    pub fn with_capacity(alloc: Global, count: usize) -> Result<Block, AllocError>
+        ensures statements { IfOk result (λ block. statements_of block ≡ []) }
+        ensures spans { IfOk result (λ block. spans_of block ≡ []) }
+    {
+        Ok(Block {
+            body: Vec::with_capacity(alloc, count)?,
+            span_info: Vec::with_capacity(alloc, count)?,
+        })
+    }
+
     /// How many statements the block has, those inside them not counted.
     pub fn len(&self) -> usize
         ensures { result ≡ length (statements_of self.now) }

@@ -1,0 +1,110 @@
+#!/usr/bin/env python3
+"""Measures the check of a large document beside reading the same bytes as JSON and no more.
+
+Prints a table in Markdown: for each document the median of five runs of each program, which take turns. Time is the
+processor time of the program, and memory the most that it held at once. Both programs have to be built: `rt ci` leaves
+them, and so does `rt run` in crates/checker and crates/json_alone. The status is 1 where a target is missed, or where a
+program answers something else than it should.
+"""
+import os
+import statistics
+import sys
+import tempfile
+from pathlib import Path
+
+TOP = Path(__file__).resolve().parent.parent
+CHECK = TOP / "crates/checker/out/checker"
+ALONE = TOP / "crates/json_alone/out/json_alone"
+SIZES = [1 << 20, 1 << 24]
+RUNS = 5
+MOST_RATIO = 1.6
+MOST_MEMORY = 32
+
+FRONT = ('[1,["EXPRESSIONS","BLOCKS","CONTROL_FLOW_UNIFORMITY","STRUCT_LAYOUTS","CONSTANTS","BINDINGS"],[],[[],[]],false,'
+         '[["Index",["Scalar","u32"]],[null,["Scalar","f32"]]],[null,null,null,[]],[[],null],[],[],[],[],[')
+BACK = "],[]]"
+
+
+def function(*statements):
+    return f'[null,[],null,[],[],[{",".join(statements)}],null]'
+
+
+def call(index):
+    """A call of a function below the one of this index, where there is one."""
+    return f'["Call",{index - 1},[],null]' if index else '["Return",null]'
+
+
+def flat(index):
+    """A function of forty statements, each a return or a call."""
+    return function(*[call(index), '["Return",null]'] * 20)
+
+
+def nested(index):
+    """A function of some sixty statements, a third of them blocks, which are nested up to three deep."""
+    inner = f'["Block",[{call(index // 2)},["Block",[["Block",[{call(index)},["Return",null]]],["Return",null]]]]]'
+    return function(*[call(index), inner, '["Return",null]', call(index // 2)] * 6)
+
+
+KINDS = {"returns and calls": flat, "nested blocks": nested}
+
+
+def write_document(file, kind, size):
+    """Writes a document of exactly `size` bytes: functions as long as there is room, and then blanks."""
+    left = size - len(FRONT) - len(BACK)
+    file.write(FRONT)
+    index = 0
+    while True:
+        text = ("," if index else "") + kind(index)
+        if len(text) > left:
+            break
+        file.write(text)
+        left -= len(text)
+        index += 1
+    file.write(" " * left + BACK)
+    return index
+
+
+def run(program, file, due):
+    """Seconds of processor time and peak memory, in bytes, of one run."""
+    read, write = os.pipe()
+    with open(file, "rb") as given:
+        child = os.posix_spawn(program, [str(program)], {}, file_actions=[
+            (os.POSIX_SPAWN_DUP2, given.fileno(), 0), (os.POSIX_SPAWN_DUP2, write, 1)])
+        _, status, used = os.wait4(child, 0)
+    os.close(write)
+    with os.fdopen(read, "rb") as it:
+        wrote = it.read()
+    if status or wrote != due:
+        sys.exit(f"run: {program.name} ended with status {os.waitstatus_to_exitcode(status)} and wrote {wrote!r}")
+    return used.ru_utime + used.ru_stime, used.ru_maxrss * 1024
+
+
+def main():
+    for program in (CHECK, ALONE):
+        if not program.is_file():
+            sys.exit(f"run: {program.relative_to(TOP)} is not built yet")
+    missed = []
+    print("| document | functions | check | memory | reading alone | memory | ratio of times | memory for a byte |")
+    print("|---|---|---|---|---|---|---|---|")
+    for what, kind in KINDS.items():
+        for size in SIZES:
+            with tempfile.TemporaryDirectory() as room:
+                file = f"{room}/document.json"
+                with open(file, "w") as it:
+                    functions = write_document(it, kind, size)
+                runs = [(run(CHECK, file, b"accepted\n"), run(ALONE, file, b"read\n")) for _ in range(RUNS)]
+            check, check_memory, alone, alone_memory = (
+                statistics.median(it[who][of] for it in runs) for who in (0, 1) for of in (0, 1))
+            ratio, memory, name = check / alone, check_memory / size, f"{size >> 20} MiB, {what}"
+            print(f"| {name} | {functions} | {check * 1000:.1f} ms | {check_memory / 1e6:.1f} MB "
+                  f"| {alone * 1000:.1f} ms | {alone_memory / 1e6:.1f} MB | {ratio:.2f} | {memory:.1f} |", flush=True)
+            if ratio > MOST_RATIO:
+                missed.append(f"{name}: the check takes {ratio:.2f} times the reading, and {MOST_RATIO} are allowed")
+            if memory > MOST_MEMORY:
+                missed.append(f"{name}: {memory:.1f} bytes of memory for a byte, and {MOST_MEMORY} are allowed")
+    print(*missed, sep="\n", end="\n" * bool(missed), file=sys.stderr)
+    return 1 if missed else 0
+
+
+if __name__ == "__main__":
+    sys.exit(main())

@@ -1,0 +1,75 @@
+// A case, and what the check makes of it.
+use crate::padded::Padded;
+use anyhow::{Result, anyhow};
+use base64::engine::general_purpose::STANDARD;
+use serde_json::Value;
+use shader_check::{Sink, Source, Verdict, check_document};
+use std::alloc::{AllocError, Global};
+
+/// A document, and the text that is due for it.
+#[derive(Drop)]
+pub struct Case<'a> {
+    pub name: &'a str,
+    input: Vec<u8>,
+    spaces: u64,
+    output: &'a str,
+}
+
+impl Case<'_> {
+    /// A case as a data file has it.
+    pub fn read(alloc: Global, item: &Value) -> Result<Case<'_>> {
+        let name = text_of(item, "name")?;
+        let input = match item.get("input_b64") {
+            Some(_) => STANDARD.decode(alloc, text_of(item, "input_b64")?.as_bytes())?,
+            None => text_of(item, "input")?.as_bytes().to_vec(alloc)?,
+        };
+        let spaces = match item.get("spaces") {
+            Some(number) => number
+                .as_u64()
+                .ok_or_else(|| anyhow!("the number of spaces is none"))?,
+            None => 0,
+        };
+        let output = text_of(item, "output")?;
+        Ok(Case {
+            name,
+            input,
+            spaces,
+            output,
+        })
+    }
+}
+
+fn text_of<'a>(item: &'a Value, key: &str) -> Result<&'a str> {
+    item.get(key)
+        .and_then(Value::as_str)
+        .ok_or_else(|| anyhow!("{key} is missing, or no text"))
+}
+
+fn first_line(text: &str) -> &str {
+    text.lines().next().unwrap_or("")
+}
+
+/// Runs the check over the case's bytes. Answers how it differs from what is due, or `None` where it does not.
+pub fn judge(alloc: Global, case: &Case<'_>) -> Result<Option<String>, AllocError> {
+    let mut held: Vec<u8> = Vec::new(alloc);
+    let mut source = Source::new(Padded {
+        text: case.input.as_slice(),
+        spaces: case.spaces,
+    });
+    let mut sink = Sink::new(&mut held);
+    let answer = check_document(alloc, &mut source, &mut sink);
+    let due = if case.output.starts_with("accepted") {
+        Verdict::Accepted
+    } else {
+        Verdict::Refused
+    };
+    if answer == Ok(due) && held.as_slice() == case.output.as_bytes() {
+        return Ok(None);
+    }
+    let wanted = first_line(case.output);
+    let written = first_line(std::str::from_utf8(held.as_slice()).unwrap_or("no text"));
+    let difference = format!(in alloc;
+        "due {wanted:?} and {due:?}, but it wrote {written:?} and answered {answer:?}"
+    )?;
+    Ok(Some(difference))
+}
