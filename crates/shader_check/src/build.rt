@@ -79,20 +79,6 @@ fn move_functions(
     Ok(arena)
 }
 
-fn move_functions(
-    alloc: Global,
-    functions: Vec<FunctionItem>,
-) -> Result<Arena<Function, key::Function>, AllocError>
-    ensures { IfOk result (λ arena. map function_plain (values_of arena) ≡ map function_view functions.items) }
-{
-    let mut arena = Arena::new(alloc);
-    for item in functions {
-        let FunctionItem { body } = item;
-        arena.append(Function { body }, Span::UNDEFINED)?;
-    }
-    Ok(arena)
-}
-
 /// The module whose arenas are the document's lists, index for index. Nothing in it has a span. It asks that no two
 /// types are equal, as `read_document` gives. The error is want of memory.
 pub fn build_module(alloc: Global, document: &Document) -> Result<Module, AllocError>
