@@ -25,8 +25,8 @@ FRONT = ('[1,["EXPRESSIONS","BLOCKS","CONTROL_FLOW_UNIFORMITY","STRUCT_LAYOUTS",
 BACK = "],[]]"
 
 
-def function(*statements):
-    return f'[null,[],null,[],[],[{",".join(statements)}],null]'
+def function(*statements, expressions=""):
+    return f'[null,[],null,[],[{expressions}],[{",".join(statements)}],null]'
 
 
 def call(index):
@@ -45,22 +45,90 @@ def nested(index):
     return function(*[call(index), inner, '["Return",null]', call(index // 2)] * 6)
 
 
-KINDS = {"returns and calls": flat, "nested blocks": nested}
+VALUES = '["Literal","bool",true],["Literal","u32",0]'
+
+
+def choice(accept, reject=""):
+    return f'["If",0,[{accept}],[{reject}]]'
+
+
+def turns(body, continuing="", condition="null"):
+    return f'["Loop",[{body}],[{continuing}],{condition}]'
+
+
+def switch(*bodies):
+    """A switch with a case for each body, of which the last is the default."""
+    values = [f'["U32",{at}]' for at in range(len(bodies) - 1)] + ['["Default"]']
+    return '["Switch",1,[' + ",".join(f"[{value},[{body}],false]" for value, body in zip(values, bodies)) + "]]"
+
+
+def steps(_index):
+    """Statements of each kind side by side, none of them in more than three others."""
+    return ",".join([
+        choice('["Kill"]', '["Return",null]'), turns(choice('["Break"]', '["Continue"]'), '["Block",[]]', "0"),
+        switch('["Break"]', '["Block",[["Break"]]]', ""), '["Block",[["Kill"]]]'])
+
+
+def deep(_index):
+    """Sixty choices, blocks and loops in one another, and then thirty switches."""
+    inner, switches = '["Return",null]', '["Return",null]'
+    for at in range(60):
+        inner = [choice(inner), f'["Block",[{inner}]]', turns(inner, "", "0"), choice("", inner)][at % 4]
+    for at in range(30):
+        switches = [switch(switches, ""), switch("", switches)][at % 2]
+    return inner + "," + switches
+
+
+def branching(_index):
+    """Choices that hold two choices each, nine deep: a thousand bodies."""
+    inner = '["Return",null]'
+    for _ in range(9):
+        inner = choice(inner, inner)
+    return inner
+
+
+def short(_index):
+    """The two shortest statements."""
+    return '["Kill"],["Return",null]'
+
+
+def case(index):
+    """A case of a switch."""
+    return f'[["U32",{index}],[["Break"]],false]'
+
+
+# each kind of document: what stands before its items, what stands behind them, an item, and whether returns are put in
+ONE = (f'[null,[],null,[],[{VALUES}],[', "],null]")
+SWITCH = (ONE[0] + '["Switch",1,[', ',[["Default"],[],false]]]' + ONE[1])
+KINDS = {
+    "returns and calls": ("", "", flat, False),
+    "nested blocks": ("", "", nested, False),
+    "one function, short statements": (*ONE, short, False),
+    "one function, wide": (*ONE, steps, False),
+    "one function, deep": (*ONE, deep, False),
+    "one function, branching": (*ONE, branching, False),
+    "one function, wide, returns put in": (*ONE, steps, True),
+    "one function, deep, returns put in": (*ONE, deep, True),
+    "one function, branching, returns put in": (*ONE, branching, True),
+    "one switch": (*SWITCH, case, False),
+}
 
 
 def write_document(file, kind, size):
-    """Writes a document of exactly `size` bytes: functions as long as there is room, and then blanks."""
-    left = size - len(FRONT) - len(BACK)
-    file.write(FRONT)
+    """Writes a document of exactly `size` bytes: items as long as there is room, and then blanks."""
+    before, behind, item, returns = kind
+    front = FRONT.replace(",false,", ",true,") if returns else FRONT
+    left = size - len(front) - len(before) - len(behind) - len(BACK)
+    file.write(front + before)
     index = 0
     while True:
-        text = ("," if index else "") + kind(index)
+        text = ("," if index else "") + item(index)
         if len(text) > left:
             break
         file.write(text)
         left -= len(text)
         index += 1
-    file.write(" " * left + BACK)
+    file.write(behind + " " * left + BACK)
     return index
 
 
@@ -84,19 +152,19 @@ def main():
         if not program.is_file():
             sys.exit(f"run: {program.relative_to(TOP)} is not built yet")
     missed = []
-    print("| document | functions | check | memory | reading alone | memory | ratio of times | memory for a byte |")
+    print("| document | items | check | memory | reading alone | memory | ratio of times | memory for a byte |")
     print("|---|---|---|---|---|---|---|---|")
     for what, kind in KINDS.items():
         for size in SIZES:
             with tempfile.TemporaryDirectory() as room:
                 file = f"{room}/document.json"
                 with open(file, "w") as it:
-                    functions = write_document(it, kind, size)
+                    items = write_document(it, kind, size)
                 runs = [(run(CHECK, file, b"accepted\n"), run(ALONE, file, b"read\n")) for _ in range(RUNS)]
             check, check_memory, alone, alone_memory = (
                 statistics.median(it[who][of] for it in runs) for who in (0, 1) for of in (0, 1))
             ratio, memory, name = check / alone, check_memory / size, f"{size >> 20} MiB, {what}"
-            print(f"| {name} | {functions} | {check * 1000:.1f} ms | {check_memory / 1e6:.1f} MB "
+            print(f"| {name} | {items} | {check * 1000:.1f} ms | {check_memory / 1e6:.1f} MB "
                   f"| {alone * 1000:.1f} ms | {alone_memory / 1e6:.1f} MB | {ratio:.2f} | {memory:.1f} |", flush=True)
             if ratio > MOST_RATIO:
                 missed.append(f"{name}: the check takes {ratio:.2f} times the reading, and {MOST_RATIO} are allowed")

@@ -1,8 +1,8 @@
 #!/usr/bin/env python3
 """Writes the data files of this crate, one case a line.
 
-    make_data.py                            examples.json, from the folder examples at the top, and rows-first.json
-    make_data.py --check                    says which of these two would change, and writes nothing
+    make_data.py                            examples.json, from the folder examples at the top, and the files of rows
+    make_data.py --check                    says which of these would change, and writes nothing
     make_data.py --corpus NAME CASES.jsonl  NAME.json, from a file that has one case a line
 
 A case is an object: its name, its input (or input_b64, in Base64, where that is no UTF-8), spaces, a number of blanks
@@ -296,6 +296,383 @@ def rows():
     yield "the same, cut short", many[:-2], NO_DOCUMENT
 
 
+def control_rows():
+    """Results, literals, and the statements that steer."""
+    ret, brk, cont, kill = ["Return", None], ["Break"], ["Continue"], ["Kill"]
+    literals = [["Literal", "bool", True], ["Literal", "u32", 0], ["Literal", "i32", 0]]
+    truth, whole, signed = 0, 1, 2
+    answer = ["Return", whole]
+    bad = "refused function 0"
+    no_blocks = [it for it in FLAGS if it != "BLOCKS"]
+
+    def fun(*body, expressions=literals, result=None):
+        return [None, [], None if result is None else [result, None], [], list(expressions), list(body), None]
+
+    def one(*body, result=None, expressions=literals, types=(scalar("u32"),), **named):
+        return document(types, [fun(*body, result=result, expressions=expressions)], **named)
+
+    def block(*body):
+        return ["Block", list(body)]
+
+    def choice(accept=(), reject=(), condition=truth):
+        return ["If", condition, list(accept), list(reject)]
+
+    def loop(body=(), continuing=(), condition=None):
+        return ["Loop", list(body), list(continuing), condition]
+
+    def case(value, *body, falls=False):
+        return [value if isinstance(value, list) else ["U32", value], list(body), falls]
+
+    def default(*body, falls=False):
+        return case(["Default"], *body, falls=falls)
+
+    def switch(*cases, on=whole):
+        return ["Switch", on, list(cases)]
+
+    def call(to, arguments=(), result=None):
+        return ["Call", to, list(arguments), result]
+
+    # what the request for this form names
+    yield "break in a continuing part", document([scalar("u32")], [function(loop([], [brk]))]), bad
+    yield "continue in a continuing part", document([scalar("u32")], [function(loop([], [cont]))]), bad
+    yield "return in a continuing part", document([scalar("u32")], [function(loop([], [ret]))]), bad
+    only_whole = [literals[whole]]
+    yield "continue in the default of a switch in a loop", \
+        one(loop([switch(default(cont), on=0)]), expressions=only_whole), ACCEPTED
+    yield "break in the default of a switch in a continuing part", \
+        one(loop([], [switch(default(brk), on=0)]), expressions=only_whole), ACCEPTED
+    yield "case that falls into the default", one(switch(case(1, falls=True), default(), on=0), expressions=only_whole), ACCEPTED
+    yield "signed value for an unsigned selector", \
+        one(switch(case(["I32", 1], falls=True), default(), on=0), expressions=only_whole), bad
+    yield "one value in two cases", \
+        one(switch(case(1, falls=True), case(1, falls=True), default(), on=0), expressions=only_whole), bad
+    yield "switch with a case and no default", one(switch(case(1, falls=True), on=0), expressions=only_whole), bad
+    yield "default that falls through at the end", \
+        one(switch(case(1, falls=True), default(falls=True), on=0), expressions=only_whole), bad
+    for returns, due in [(False, ACCEPTED), (True, bad)]:
+        end = ", returns added" if returns else ""
+        yield f"loop that returns a value, and nothing behind it{end}", \
+            one(loop([["Return", 0]]), result=0, expressions=only_whole, returns=returns), due
+        yield f"empty body of a function with a result{end}", one(result=0, expressions=[], returns=returns), due
+        yield f"choice that kills on one side, in a function with a result{end}", one(choice([kill]), result=0, returns=returns), due
+        yield f"default that breaks at the end of a function with a result{end}", \
+            one(switch(default(brk), on=0), result=0, expressions=only_whole, returns=returns), ACCEPTED
+    yield "break in a function's body", document([], [function(brk)]), bad
+    yield "break in a function's body, without flags", document([], [function(brk)], flags=[]), ACCEPTED
+    yield "truth returned as a number", one(["Return", 0], result=0, expressions=[literals[truth]]), bad
+
+    # how a place may be left: b by a break, c by a continue, r by a return
+    ways = {
+        "block": block, "accepted side": lambda it: choice([it]), "rejected side": lambda it: choice([], [it]),
+        "case": lambda it: switch(case(1, it), default()), "falling case": lambda it: switch(case(1, it, falls=True), default()),
+        "default": lambda it: switch(case(1), default(it)), "early default": lambda it: switch(default(it), case(1)),
+        "loop": lambda it: loop([it]), "continuing part": lambda it: loop([], [it]),
+        "loop with a condition": lambda it: loop([it], [], truth),
+        "continuing part with a condition": lambda it: loop([], [it], truth),
+    }
+    # the innermost is written first
+    places = {
+        "": "r", "block": "r", "accepted side": "r", "rejected side": "r", "block < block": "r", "block < accepted side": "r",
+        "rejected side < accepted side": "r",
+        "case": "br", "falling case": "br", "default": "br", "early default": "br", "block < case": "br",
+        "accepted side < default": "br", "rejected side < falling case": "br", "case < case": "br", "case < block": "br",
+        "default < rejected side": "br",
+        "loop": "bcr", "loop with a condition": "bcr", "block < loop": "bcr", "accepted side < loop": "bcr",
+        "rejected side < loop": "bcr", "case < loop": "bcr", "falling case < loop": "bcr", "default < loop": "bcr",
+        "loop < case": "bcr", "loop < loop": "bcr", "case < block < loop": "bcr", "block < case < loop": "bcr",
+        "case < case < loop": "bcr", "loop < block": "bcr", "loop < rejected side < case < loop": "bcr",
+        "continuing part": "", "continuing part with a condition": "", "block < continuing part": "",
+        "accepted side < continuing part": "", "rejected side < continuing part": "",
+        "block < block < continuing part": "", "block < accepted side < continuing part": "",
+        "continuing part < continuing part": "", "continuing part < loop": "", "continuing part < case": "",
+        "continuing part < case < loop": "", "continuing part < loop < continuing part": "",
+        "case < continuing part": "b", "falling case < continuing part": "b", "default < continuing part": "b",
+        "early default < continuing part": "b", "block < case < continuing part": "b",
+        "rejected side < default < continuing part": "b", "case < block < continuing part": "b",
+        "case < case < continuing part": "b", "case < continuing part < loop": "b",
+        "case < continuing part < case < loop": "b",
+        "loop < continuing part": "bc", "block < loop < continuing part": "bc", "case < loop < continuing part": "bc",
+        "loop < case < continuing part": "bc", "loop < block < continuing part": "bc",
+        "loop < loop < continuing part": "bc", "loop < continuing part < loop": "bc",
+        "accepted side < case < loop < continuing part": "bc",
+    }
+
+    def put(statement, place):
+        for way in place.split(" < ") if place else []:
+            statement = ways[way](statement)
+        return statement
+
+    for place, letters in places.items():
+        where = " in a " + place.replace(" < ", " in a ") if place else " in a body"
+        where = where.replace(" a accepted", " an accepted").replace(" a early", " an early")
+        for what, statement, free in [("break alone", brk, "b" in letters), ("continue alone", cont, "c" in letters),
+                                      ("return alone", ret, "r" in letters), ("kill alone", kill, True),
+                                      ("empty block", block(), True)]:
+            yield f"{what}{where}", one(put(statement, place)), ACCEPTED if free else bad
+            if not free:
+                yield f"{what}{where}, with blocks unasked", one(put(statement, place), flags=no_blocks), ACCEPTED
+        if "r" not in letters:
+            yield f"value returned{where}", one(put(answer, place), answer, result=0), bad
+        else:
+            yield f"value returned{where}", one(put(answer, place), answer, result=0), ACCEPTED
+            yield f"value returned{where}, with no result", one(put(answer, place)), bad
+        yield f"condition that is a number{where}", one(put(choice(condition=whole), place)), bad
+        yield f"missing condition{where}", one(put(choice(condition=3), place)), NO_HANDLES
+        yield f"call with an argument{where}", document([], [fun(), fun(put(call(0, [0]), place))], flags=[]), "refused function 1"
+        yield f"word that no statement has{where}", one(put(["Discard"], place)), NO_DOCUMENT
+    for first in [brk, cont, ret, kill]:
+        word = first[0]
+        yield f"statements behind {word} in a loop", one(loop([first, block(), ret, brk, kill, cont])), ACCEPTED
+        yield f"bad statement behind {word} in a loop", one(loop([first, choice(condition=whole)])), bad
+    yield "break behind a loop", one(loop(), brk), bad
+    yield "continue behind a switch in no loop", one(switch(default()), cont), bad
+    yield "loops of a body and a continuing part, each left by a break", one(loop([brk], [loop([brk])])), ACCEPTED
+    yield "break in a loop, with BLOCKS alone", one(loop([brk]), flags=["BLOCKS"]), ACCEPTED
+    yield "break in a continuing part, with BLOCKS alone", one(loop([], [brk]), flags=["BLOCKS"]), bad
+    for flag in no_blocks:
+        yield f"break in a continuing part, with {flag} alone", one(loop([], [brk]), flags=[flag]), ACCEPTED
+
+    # conditions
+    for at, due in [(truth, ACCEPTED), (whole, bad), (signed, bad), (3, NO_HANDLES), (4294967294, NO_HANDLES)]:
+        for what, made in [("choice", choice(condition=at)), ("loop", loop(condition=at))]:
+            yield f"{what} by expression {at}", one(made), due
+            yield f"{what} by expression {at}, without flags", one(made, flags=[]), NO_HANDLES if due == NO_HANDLES else ACCEPTED
+    yield "choice by a truth that is false", one(choice(condition=0), expressions=[["Literal", "bool", False]]), ACCEPTED
+    yield "loop without a condition", one(loop()), ACCEPTED
+
+    # switches
+    top, low = 4294967295, -2147483648
+    rules = {
+        "default alone": (switch(default()), True),
+        "no case": (switch(), False),
+        "two defaults": (switch(default(), default()), False),
+        "two defaults around a case": (switch(default(), case(1), default()), False),
+        "default first": (switch(default(), case(1)), True),
+        "default in the middle that falls through": (switch(case(1), default(falls=True), case(2)), True),
+        "case behind the default that falls through at the end": (switch(default(), case(1, falls=True)), False),
+        "all but the last fall through": (switch(case(1, falls=True), case(2, falls=True), default()), True),
+        "all fall through": (switch(case(1, falls=True), case(2, falls=True), default(falls=True)), False),
+        "two values": (switch(case(1), case(2), default()), True),
+        "least and greatest unsigned values": (switch(case(0), case(top), default()), True),
+        "least and greatest signed values": (switch(case(["I32", low]), case(["I32", 2147483647]), default(), on=signed), True),
+        "one signed value and its opposite": (switch(case(["I32", 1]), case(["I32", -1]), default(), on=signed), True),
+        "one signed value twice": (switch(case(["I32", -1]), default(), case(["I32", -1]), on=signed), False),
+        "one value in the first and the last case": (switch(case(7), case(8), default(), case(9), case(7)), False),
+        "unsigned value for a signed selector": (switch(case(1), default(), on=signed), False),
+        "signed value for an unsigned selector, behind a good one": (switch(case(1), case(["I32", 2]), default()), False),
+        "one number as a signed and an unsigned value": (switch(case(1), case(["I32", 1]), default()), False),
+        "truth as the selector": (switch(default(), on=truth), False),
+        "truth as the selector, with a value": (switch(case(1), default(), on=truth), False),
+        "signed selector": (switch(default(), on=signed), True),
+        "many values": (switch(*[case(it) for it in range(300)], default()), True),
+        "many values, the last of them again": (switch(*[case(it) for it in range(300)], default(), case(299)), False),
+        "many values, the first of them again": (switch(*[case(it) for it in range(300)], default(), case(0)), False),
+        "bad switch in a case": (switch(case(1, switch()), default()), False),
+        "bad switch in a case that falls through": (switch(case(1, switch(), falls=True), default()), False),
+        "one value in a switch and in a switch inside": (switch(case(1, switch(case(1), default())), default()), True),
+    }
+    for name, (statement, good) in rules.items():
+        yield f"switch: {name}", one(statement), ACCEPTED if good else bad
+        yield f"switch: {name}, returns added", one(statement, returns=True), ACCEPTED if good else bad
+        yield f"switch: {name}, without flags", one(statement, flags=[]), ACCEPTED
+    yield "switch by a missing expression", one(switch(default(), on=3)), NO_HANDLES
+    yield "switch by a missing expression, without flags", one(switch(default(), on=3), flags=[]), NO_HANDLES
+
+    # results and what is returned
+    words = {"bool": truth, "u32": whole, "i32": signed}
+    for word, needed in SCALARS.items():
+        for literal, at in words.items():
+            due = "refused type 0" if needed is None else ACCEPTED if word == literal else bad
+            yield f"{literal} returned as {word}", \
+                one(["Return", at], result=0, types=[scalar(word)], capabilities=CAPABILITIES), due
+    yield "value of a type with a name", one(answer, result=0, types=[scalar("u32", "a")]), ACCEPTED
+    yield "value of the second of two types with one form", one(answer, result=1, types=[scalar("u32", "a"), scalar("u32")]), ACCEPTED
+    yield "value of another type than the declared one", one(answer, result=1, types=[scalar("u32"), scalar("i32")]), bad
+    yield "no value where there is a result", one(ret, result=0), bad
+    yield "no value where there is a result, without flags", one(ret, result=0, flags=[]), ACCEPTED
+    yield "value where there is no result", one(answer), bad
+    yield "value where there is no result, without flags", one(answer, flags=[]), ACCEPTED
+    yield "value of another type, without flags", one(["Return", truth], result=0, flags=[]), ACCEPTED
+    yield "missing value", one(["Return", 3], result=0), NO_HANDLES
+    yield "good return behind a bad one", one(ret, answer, result=0), bad
+    yield "bad return behind a good one", one(answer, ret, result=0), bad
+    yield "result of a missing type", one(result=1), NO_HANDLES
+    yield "result of a missing type, without flags", one(result=1, flags=[]), NO_HANDLES
+    yield "result of the greatest handle", one(result=4294967294), NO_HANDLES
+    yield "result past the greatest handle", one(result=4294967295), NO_DOCUMENT
+    for form in ["[]", "[0]", "[0,null,null]", "[null,null]", "[true,null]", '["0",null]', "[-1,null]", "[0.0,null]", "0", "true",
+                 '"u32"', "{}", "[0,0]", "[0,false]", "[[0],null]"]:
+        yield f"result {form}", written(parts([scalar("u32")], [fun(result="@")])).replace('["@",null]', form), NO_DOCUMENT
+
+    # calls
+    callee, gives = fun(), fun(answer, result=0)
+    for name, first, statement, due, unasked in [
+        ("call without a result", callee, call(0), ACCEPTED, ACCEPTED),
+        ("call that drops a result", gives, call(0), "refused function 1", ACCEPTED),
+        ("call with a literal as the result of none", callee, call(0, [], 1), "refused function 1", ACCEPTED),
+        ("call with a literal as its result", gives, call(0, [], 1), "refused function 1", ACCEPTED),
+        ("call with an argument too many", callee, call(0, [1]), "refused function 1", "refused function 1"),
+        ("call with two arguments too many", callee, call(0, [1, 1]), "refused function 1", "refused function 1"),
+        ("call with an argument too many and a result", gives, call(0, [0], 1), "refused function 1", "refused function 1"),
+        ("call with a missing argument behind one that is there", callee, call(0, [1, 3]), NO_HANDLES, NO_HANDLES),
+        ("call with a missing result of a callee with one", gives, call(0, [], 3), NO_HANDLES, NO_HANDLES),
+    ]:
+        for flags, it in [(FLAGS, due), (["BLOCKS"], due), (no_blocks, unasked), ([], unasked)]:
+            asked = {len(FLAGS): "all", 1: "BLOCKS", 5: "all but BLOCKS", 0: "no flags"}[len(flags)]
+            yield f"{name}, {asked}", document([scalar("u32")], [first, fun(statement)], flags=flags), it
+
+    # which function, and which step
+    wrong = fun(brk)
+    yield "bad functions 1 and 2", document([], [fun(), wrong, wrong]), "refused function 1"
+    yield "bad function 2", document([], [fun(), fun(), wrong]), "refused function 2"
+    yield "bad function 0, then good ones", document([], [wrong, fun(), fun()]), bad
+    yield "bad function 12", document([], [fun(ret)] * 12 + [wrong]), "refused function 12"
+    yield "bad rule in function 0, bad call in function 1", document([], [wrong, fun(call(0, [0]))]), bad
+    yield "bad rule in function 0 unasked, bad call in function 1", \
+        document([], [wrong, fun(call(0, [0]))], flags=[]), "refused function 1"
+    yield "bad call in function 1, bad rule in function 2", document([], [fun(), fun(call(0, [0])), wrong]), "refused function 1"
+    yield "call of a bad function", document([], [wrong, fun(call(0))]), bad
+    yield "types go before bad functions", document([scalar("aint")], [wrong]), "refused type 0"
+    yield "handles go before bad functions", document([], [wrong, fun(["Return", 3])]), NO_HANDLES
+    yield "form goes before bad functions", document([], [wrong, fun(["Return", -1])]), NO_DOCUMENT
+    yield "expressions are each function's own", \
+        document([], [fun(choice(condition=0)), fun(choice(condition=0), expressions=[])]), NO_HANDLES
+    yield "expression 0 is a number in one function", \
+        document([], [fun(choice(condition=0)), fun(choice(condition=0), expressions=only_whole)]), "refused function 1"
+
+    # returns that are put in: in a function with a result they are seen, as they give no value
+    made = {
+        "empty body": ([], True), "a return": ([answer], False), "a kill": ([kill], False), "a call": ([call(0)], True),
+        "an empty block": ([block()], True), "a block with a return": ([block(answer)], False),
+        "a block with a kill": ([block(kill)], False), "a block with a call": ([block(call(0))], True),
+        "a return behind an empty block": ([block(), answer], False),
+        "three blocks, the innermost empty": ([block(block(block()))], True),
+        "three blocks around a return": ([block(block(block(answer)))], False),
+        "a choice with empty sides": ([choice()], True), "a choice that returns on both sides": ([choice([answer], [answer])], False),
+        "a choice that returns where it holds": ([choice([answer])], True),
+        "a choice that returns where it doesn't": ([choice([], [answer])], True),
+        "a choice that returns or kills": ([choice([answer], [kill])], False),
+        "a return behind an empty choice": ([choice(), answer], False),
+        "a choice with an open block": ([choice([block()], [answer])], True),
+        "a choice in a choice, all closed": ([choice([choice([answer], [kill])], [answer])], False),
+        "a choice in a choice, one side open": ([choice([choice([answer])], [answer])], True),
+        "an empty default": ([switch(default())], True), "a default that breaks": ([switch(default(brk))], False),
+        "a default that returns": ([switch(default(answer))], False), "a default that calls": ([switch(default(call(0)))], True),
+        "an empty case that falls through": ([switch(case(1, falls=True), default(answer))], False),
+        "an empty case that doesn't fall through": ([switch(case(1), default(answer))], True),
+        "a case that calls and falls through": ([switch(case(1, call(0), falls=True), default(kill))], False),
+        "an open choice that falls through": ([switch(case(1, choice(), falls=True), default(brk))], False),
+        "a case that breaks, and an open default": ([switch(case(1, brk), default())], True),
+        "a case with a choice that breaks or returns": ([switch(case(1, choice([brk], [answer])), default(block(kill)))], False),
+        "a case with a choice that breaks or goes on": ([switch(case(1, choice([brk])), default(answer))], True),
+        "a switch in a default, which breaks": ([switch(default(switch(default(brk))))], False),
+        "a switch in a default, which is empty": ([switch(default(switch(default())))], True),
+        "a return behind an open switch": ([switch(default()), answer], False),
+        "a loop": ([loop()], True), "a loop that returns": ([loop([answer])], True), "a loop that breaks": ([loop([brk])], True),
+        "a return behind a loop": ([loop(), answer], False), "a loop in a block": ([block(loop())], True),
+        "a loop on one side": ([choice([loop()], [answer])], True), "a loop in a default": ([switch(default(loop([answer])))], True),
+        "an open choice in a loop, and a return": ([loop([choice()]), answer], False),
+        "an empty block behind a return": ([answer, block()], True), "a kill behind a return": ([answer, kill], False),
+        "a call behind a return": ([answer, call(0)], True), "a loop behind a kill": ([kill, loop()], True),
+    }
+    for name, (body, open_end) in made.items():
+        for returns in [False, True]:
+            for flags in [FLAGS, []]:
+                due = "refused function 1" if open_end and returns and flags else ACCEPTED
+                end = ", returns added" * returns + ", without flags" * (not flags)
+                yield f"result, and at the end {name}{end}", \
+                    document([scalar("u32")], [fun(), fun(*body, result=0)], flags=flags, returns=returns), due
+        plain = json.loads(written(body).replace(written(answer), written(ret)))
+        yield f"no result, and at the end {name}, returns added", document([], [fun(), fun(*plain)], returns=True), ACCEPTED
+    yield "break in a body, returns added", one(brk, returns=True), bad
+    yield "break in a continuing part, returns added", one(loop([], [brk]), returns=True), bad
+    yield "second function open, returns added", \
+        document([scalar("u32")], [fun(), fun(answer, result=0), fun(result=0)], returns=True), "refused function 2"
+
+    # forms of statements
+    forms = """
+        ["If"] ["If",0] ["If",0,[]] ["If",0,[],[],[]] ["If",[],[]] ["If",null,[],[]] ["If",-1,[],[]] ["If",true,[],[]]
+        ["If","0",[],[]] ["If",0.0,[],[]] ["If",[0],[],[]] ["If",4294967295,[],[]] ["If",0,null,[]] ["If",0,[],null] ["If",0,0,[]]
+        ["If",0,["Kill"],[]] ["If",0,[],["Kill"]] ["If",0,[[]],[]] ["If",0,[null],[]] ["if",0,[],[]] ["If",0,{},[]]
+        ["Loop"] ["Loop",[]] ["Loop",[],[]] ["Loop",[],[],null,null] ["Loop",[],null] ["Loop",null,[],null] ["Loop",[],null,null]
+        ["Loop",[],[],true] ["Loop",[],[],"0"] ["Loop",[],[],[]] ["Loop",[],[],-1] ["Loop",[],[],0.0] ["Loop",[],[],4294967295]
+        ["Loop",["Kill"],[],null] ["Loop",[],["Kill"],null] ["Loop",0,[],null] ["loop",[],[],null] ["Loop",[],[],{}]
+        ["Switch"] ["Switch",1] ["Switch",1,[[["Default"],[],false]],null] ["Switch",[[["Default"],[],false]]]
+        ["Switch",null,[[["Default"],[],false]]] ["Switch",true,[]] ["Switch","1",[]] ["Switch",1.0,[]] ["Switch",-1,[]]
+        ["Switch",4294967295,[]] ["Switch",1,null] ["Switch",1,0] ["Switch",1,[[]]] ["Switch",1,[null]] ["Switch",1,["Default"]]
+        ["Switch",1,[["Default"]]] ["Switch",1,[["Default",[],false]]] ["Switch",1,[[["Default"],[]]]]
+        ["Switch",1,[[["Default"],[],false,null]]] ["Switch",1,[[["Default"],null,false]]] ["Switch",1,[[["Default"],[],null]]]
+        ["Switch",1,[[["Default"],[],0]]] ["Switch",1,[[["Default"],[],"false"]]] ["Switch",1,[[["Default"],false,[]]]]
+        ["Switch",1,[[null,[],false]]] ["Switch",1,[[1,[],false]]] ["Switch",1,[[[],[],false]]] ["Switch",1,[["",[],false]]]
+        ["Switch",1,[[["Default"],["Kill"],false]]] ["switch",1,[[["Default"],[],false]]] ["Switch",1,{}]
+        ["Break",null] ["Break",0] ["Break",[]] ["break"] ["Break",["Break"]] ["Continue",null] ["Continue",0] ["Continue",[]] ["continue"]
+        ["Kill",null] ["Kill",0] ["Kill",[]] ["kill"] "Break" "Continue" "Kill" "Loop" [["Break"]] ["Return",true] ["Return",[1]]
+    """.split()
+    for form in forms:
+        yield f"form {form}", one("@").replace('"@"', form), NO_DOCUMENT
+        yield f"form {form} in a loop, without flags", one(loop(["@"]), flags=[]).replace('"@"', form), NO_DOCUMENT
+    for value in ['["Default",0]', '["Default",null]', '["default"]', '["U32"]', '["U32",null]', '["U32",1,1]', '["U32",-1]',
+                  '["U32",4294967296]', '["U32",1.0]', '["U32","1"]', '["U32",true]', '["U32",[1]]', '["u32",1]', '["I32"]',
+                  '["I32",null]', '["I32",1,1]', '["I32",2147483648]', '["I32",-2147483649]', '["I32",-0]', '["I32",1e0]',
+                  '["I32","1"]', '["I32",false]', '["i32",1]', '["Bool",true]', '["I64",1]', '["U32",18446744073709551616]',
+                  '["I32",-9223372036854775809]', '[1]', '["Sint",1]', '[null]', '{}']:
+        yield f"switch value {value}", one(switch(case(["@"]), default())).replace('["@"]', value), NO_DOCUMENT
+    for value, at in [('["U32",0]', whole), ('["U32",4294967295]', whole), ('["I32",2147483647]', signed),
+                      ('["I32",-2147483648]', signed), ('["I32",-1]', signed), ('["I32",0]', signed)]:
+        yield f"switch value {value}", one(switch(case(["@"]), default(), on=at)).replace('["@"]', value), ACCEPTED
+
+    # forms of expressions
+    for form in ['["Literal","bool",true]', '["Literal","bool",false]', '["Literal","u32",0]', '["Literal","u32",4294967295]',
+                 '["Literal","i32",0]', '["Literal","i32",2147483647]', '["Literal","i32",-2147483648]', '["Literal","i32",-1]']:
+        yield f"expression {form}", one(expressions=["@"]).replace('"@"', form), ACCEPTED
+        yield f"expression {form} twice", one(expressions=["@", "@"]).replace('"@"', form), ACCEPTED
+    for form in ['[]', 'null', '0', '"Literal"', '["Literal"]', '["Literal","u32"]', '["Literal","u32",0,0]', '["Literal",0]',
+                 '["literal","u32",0]', '["Literal","U32",0]', '["Literal",null,0]', '["Literal",["u32"],0]', '["Literal","uint",0]',
+                 '["Literal","",0]', '["Literal","bool",0]', '["Literal","bool",1]', '["Literal","bool",null]',
+                 '["Literal","bool","true"]', '["Literal","bool",[]]', '["Literal","u32",-1]', '["Literal","u32",4294967296]',
+                 '["Literal","u32",0.0]', '["Literal","u32",-0]', '["Literal","u32",null]', '["Literal","u32",true]',
+                 '["Literal","u32","0"]', '["Literal","u32",1e2]', '["Literal","i32",2147483648]', '["Literal","i32",-2147483649]',
+                 '["Literal","i32",1.5]', '["Literal","i32",null]', '["Literal","i32",false]', '["Literal","i32",4294967295]',
+                 '["Literal","u32",18446744073709551616]', '["Literal","i32",-9223372036854775809]', '["Number","u32",0]', '{}',
+                 '[["Literal","u32",0]]', '["Literal","u32",{}]']:
+        yield f"expression {form}", one(expressions=["@"]).replace('"@"', form), NO_DOCUMENT
+        yield f"expression {form} behind a good one", \
+            one(expressions=[literals[0], "@"], flags=[]).replace('"@"', form), NO_DOCUMENT
+
+    # nesting: a choice and a loop cost two levels, as a block does, and a switch four
+    def into(way, times, statement=None):
+        for _ in range(times):
+            statement = way([] if statement is None else [statement])
+        return statement
+
+    twos = {
+        "choices, accepted sides": lambda it: ["If", truth, it, []], "choices, rejected sides": lambda it: ["If", truth, [], it],
+        "loops": lambda it: ["Loop", it, [], None], "loops, continuing parts": lambda it: ["Loop", [], it, None],
+    }
+    for name, way in twos.items():
+        yield f"61 nested {name}, the innermost empty", one(into(way, 61)), ACCEPTED
+        yield f"62 nested {name}, the innermost empty", one(into(way, 62)), NO_DOCUMENT
+        yield f"kill in 61 nested {name}", one(into(way, 61, kill)), ACCEPTED
+        yield f"kill in 62 nested {name}", one(into(way, 62, kill)), NO_DOCUMENT
+        yield f"break in 61 nested {name}", one(into(way, 61, brk)), ACCEPTED if name == "loops" else bad
+        yield f"61 nested {name}, the innermost empty, returns added", one(into(way, 61), returns=True), ACCEPTED
+    cases_in = lambda it: ["Switch", whole, [[["Default"], it, False]]]
+    yield "30 nested switches, the innermost empty", one(into(cases_in, 30)), ACCEPTED
+    yield "31 nested switches, the innermost empty", one(into(cases_in, 31)), NO_DOCUMENT
+    yield "break in 30 nested switches", one(into(cases_in, 30, brk)), ACCEPTED
+    yield "continue in 30 nested switches", one(into(cases_in, 30, cont)), bad
+    yield "continue in 30 nested switches in a loop", one(loop([into(cases_in, 30, cont)])), ACCEPTED
+    yield "switch without cases in 30 nested switches", one(into(cases_in, 30, switch())), bad
+    yield "kill in a block in 30 nested switches", one(into(cases_in, 30, block(kill))), ACCEPTED
+    yield "kill in two blocks in 30 nested switches", one(into(cases_in, 30, block(block(kill)))), NO_DOCUMENT
+    yield "default in 30 nested switches in a block", one(block(into(cases_in, 30))), ACCEPTED
+    yield "default in 30 nested switches in two blocks", one(block(block(into(cases_in, 30)))), NO_DOCUMENT
+    yield "61 nested blocks, returns added", one(into(lambda it: ["Block", it], 61), returns=True), ACCEPTED
+    yield "61 nested blocks of a function with a result, returns added", \
+        one(into(lambda it: ["Block", it], 61), returns=True, result=0), bad
+    yield "62 nested blocks, returns added", one(into(lambda it: ["Block", it], 62), returns=True), NO_DOCUMENT
+
+
 def case(row):
     name, text, due, spaces = row if len(row) == 4 else (*row, 0)
     made = {"name": name}
@@ -331,7 +708,8 @@ def main(words):
     if words not in ([], ["--check"]):
         sys.exit(__doc__)
     status = 0
-    for name, lines in [("examples.json", examples()), ("rows-first.json", map(case, rows()))]:
+    for name, lines in [("examples.json", examples()), ("rows-first.json", map(case, rows())),
+                        ("rows-control.json", map(case, control_rows()))]:
         text, file = listed(lines), DATA / name
         if not words:
             file.write_text(text)

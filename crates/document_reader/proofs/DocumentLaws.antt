@@ -14,9 +14,10 @@ use Rattle.ir_kinds.specs.declared.settings.ShaderStage.TheVariants as s
 use Rattle.ir_kinds.specs.declared.settings.SubgroupFlag.{SubgroupFlag}
 use Rattle.ir_kinds.specs.declared.settings.SubgroupFlag.TheVariants as o
 use Rattle.ir_items.specs.Plain.{PlainFunction}
-use Rattle.document_reader.specs.Plain.{PlainSettings, PlainDocument}
+use Rattle.ir_kinds.specs.Settings.{PlainSettings}
+use Rattle.document_reader.specs.Plain.{PlainDocument}
 use Rattle.document_reader.specs.Decode.{first, pair, triple, word_in, all_of, type_of, function_at, is_version, SettingsParts, settings_parts, subgroups_of, settings_of, ContentParts, content_parts, special_parts, is_no_special, is_no_filters, is_thin, document_at}
-use Rattle.document_reader.specs.Form.{list_form, type_form, block_items, function_form, AllHaveHandles, HasWord, no_special_form, no_filters_form, subgroup_form, content_items, document_form}
+use Rattle.document_reader.specs.Form.{list_form, type_form, block_items, function_form, IsFunctionItem, HasWord, no_special_form, no_filters_form, subgroup_form, content_items, document_form}
 use Rattle.document_reader.specs.Words.{flag_word, capability_word, stage_word, subgroup_flag_word, flags, capabilities, stages, subgroup_flags}
 use Rattle.document_reader.proofs.Inverse.{bind_some, guarded, both_true, passes_some, some_is, as_array_some, as_bool_some, whole_some, is_null_true, is_empty_list_true, first_some, pair_some, triple_some}
 use Rattle.document_reader.proofs.PartLaws.{IsSound, IsComplete, all_sound, all_complete, anything, word_sound}
@@ -233,7 +234,7 @@ is_no_filters_true d e =
 -- its numbers are handles, and its scalar types have words
 pub record IsInRange (d : PlainDocument) : Type 0 where
   pub types : AllByRecursion (λ t. HasWord t.inner) d.content.types
-  pub functions : AllByRecursion (λ f. AllHaveHandles f.body) d.content.functions
+  pub functions : AllByRecursion IsFunctionItem d.content.functions
 
 pub document_sound : (n : ℕ) → IsSound (document_at n) document_form IsInRange
 unfolding document_at
@@ -246,7 +247,7 @@ document_sound n d doc e =
     let g = guarded (is_thin p.0) (all_of type_of p.0.types) types.0 types.1 in
     let functions = bind_some _ (all_of (function_at n) p.0.functions) doc types.2 in
     let ts = all_sound type_of type_form (λ t. HasWord t.inner) type_sound p.0.types types.0 g.1 in
-    let fs = all_sound (function_at n) function_form (λ f. AllHaveHandles f.body) (function_sound n) p.0.functions functions.0 functions.1 in
+    let fs = all_sound (function_at n) function_form IsFunctionItem (function_sound n) p.0.functions functions.0 functions.1 in
     let t6 = both_true _ _ g.0 in
     let t5 = both_true _ _ t6.0 in
     let t4 = both_true _ _ t5.0 in
@@ -271,8 +272,8 @@ document_sound n d doc e =
     (sym (d_is ∙ ap array (first_is ∙ (sym settings_is ∙ ap (settings_items settings.0) content_is))), record { types = ts.1; functions = fs.1 })
 
 -- the functions nest no deeper than the list of them
-functions_within : (n : ℕ) (xs : List PlainFunction) → AllByRecursion (λ f. AllHaveHandles f.body) xs → items_depth (items_of (map function_form xs)) ≤ n
-    → AllByRecursion (λ f. AllHaveHandles f.body × (items_depth (block_items f.body) ≤ n)) xs
+functions_within : (n : ℕ) (xs : List PlainFunction) → AllByRecursion IsFunctionItem xs → items_depth (items_of (map function_form xs)) ≤ n
+    → AllByRecursion (λ f. IsFunctionItem f × (items_depth (block_items f.body) ≤ n)) xs
 functions_within n [] h le = tt
 functions_within n (x ∷ xs) h le = ((h.0, omega arith), functions_within n xs h.1 (omega arith))
 
@@ -281,4 +282,4 @@ unfolding document_at settings_parts content_parts
 document_complete n d h le =
     rw (settings_complete d.settings (content_items d.content))
     (rw (all_complete type_of type_form (λ t. HasWord t.inner) type_complete d.content.types h.types)
-    (rw (all_complete (function_at n) function_form (λ f. AllHaveHandles f.body × (items_depth (block_items f.body) ≤ n)) (λ f k. function_complete n f k.0 k.1) d.content.functions (functions_within n d.content.functions h.functions (omega arith))) refl))
+    (rw (all_complete (function_at n) function_form (λ f. IsFunctionItem f × (items_depth (block_items f.body) ≤ n)) (λ f k. function_complete n f k.0 k.1) d.content.functions (functions_within n d.content.functions h.functions (omega arith))) refl))

@@ -58,7 +58,7 @@ as_bool_some (string s) b e = cc
 as_bool_some (array xs) b e = cc
 as_bool_some (object ms) b e = cc
 
-as_number_some : (d : Data) (n : Num) → as_number d ≡ Some n → d ≡ number n
+pub as_number_some : (d : Data) (n : Num) → as_number d ≡ Some n → d ≡ number n
 as_number_some null n e = cc
 as_number_some (boolean b) n e = cc
 as_number_some (number m) n e = cc

@@ -1,14 +1,14 @@
 -- What `Decode` finds is what `Form` says: parts, words, numbers and lists.
-use Rattle.std.proofs.Common.{◌≡◌, inl, inr, ◌<◌, ℕ, List, [], ◌∷◌, map, Option, Some, None, IfSome, option_map, nat_lt, refl, sym, ap, subst, ◌∙◌, arith}
-use borrow.Author.Tests.{ltb-true, lt-ltb}
+use Rattle.std.proofs.Common.{◌≡◌, ◌⊎◌, inl, inr, ◌≤◌, ◌<◌, ℕ, ℤ, pos, negsuc, List, [], ◌∷◌, map, Option, Some, None, IfSome, option_map, option_and_then, ◌&&◌, nat_lt, nat_le, int_lt, int_le, refl, sym, ap, subst, ◌∙◌, arith}
+use borrow.Author.Tests.{ltb-true, lt-ltb, leb-true, le-leb}
 use Rattle.std.specs.Str.{bytes_eq}
 use Rattle.std.specs.List.{AllByRecursion}
-use Rattle.serde_json.specs.Data.{unsigned, Data, number, string, array, Items, no_items, item}
-use Rattle.serde_json.specs.Find.{as_array, as_str}
+use Rattle.serde_json.specs.Data.{Num, unsigned, negative, float, Data, number, string, array, Items, no_items, item}
+use Rattle.serde_json.specs.Find.{as_array, as_str, as_number, as_u64, as_i64, of_integer}
 use Rattle.serde_json.specs.View.{items_of}
-use Rattle.document_reader.specs.Decode.{lookup, word_in, is_null, optional, each, all_of, handle_of}
-use Rattle.document_reader.specs.Form.{list_form, handle_form, optional_form, IsHandle}
-use Rattle.document_reader.proofs.Inverse.{bind_some, map_some, chosen, guarded, some_is, is_word, as_array_some, as_str_some, whole_some, is_null_true}
+use Rattle.document_reader.specs.Decode.{lookup, word_in, is_null, optional, each, all_of, handle_of, u32_of, small, below_zero, or_else, i32_of}
+use Rattle.document_reader.specs.Form.{list_form, handle_form, number_form, integer_form, optional_form, IsHandle, IsU32, IsI32}
+use Rattle.document_reader.proofs.Inverse.{bind_some, map_some, chosen, guarded, both_true, some_is, is_word, as_array_some, as_str_some, as_number_some, whole_some, is_null_true}
 
 -- what f finds has the form of its value, and keeps P
 abbrev pub IsSound : {A : Type 0} → (Data → Option A) → (A → Data) → (A → Type 0) → Type 0
@@ -119,3 +119,58 @@ optional_text_sound d o e = (text_is d o e, tt)
 pub optional_text_complete : (o : Option (List ℕ)) → optional as_str (optional_form string o) ≡ Some o
 optional_text_complete None = refl
 optional_text_complete (Some t) = refl
+
+-- ---- numbers of 32 bits
+
+pub u32_sound : IsSound u32_of number_form IsU32
+u32_sound d n e =
+    let a = bind_some _ _ n e in
+    let g = guarded (nat_lt a.0 4294967296) (Some a.0) n a.2 in
+    let n_is : a.0 ≡ n = some_is a.0 n g.1 in
+    let below : a.0 < 4294967296 = ltb-true _ _ g.0 in
+    (sym (whole_some d a.0 a.1 ∙ ap (λ k. number (unsigned k)) n_is), omega arith)
+
+pub u32_complete : IsComplete u32_of number_form IsU32
+u32_complete n h = let below : n < 4294967296 = omega arith in rw (lt-ltb n 4294967296 below) refl
+
+small_some : (n : ℕ) (z : ℤ) → small n ≡ Some z → (pos n ≡ z) × (n ≤ 2147483647)
+small_some n z e =
+    let g = guarded (nat_le n 2147483647) (Some (pos n)) z e in
+    (some_is _ _ g.1, leb-true n 2147483647 g.0)
+
+-- a number below zero: its form, and its range
+below_some : (m : Num) (z : ℤ) → option_and_then below_zero (as_i64 m) ≡ Some z → as_u64 m ≡ None → (m ≡ of_integer z) × IsI32 z
+below_some (unsigned n) z e f = cc
+below_some (negative (pos n)) z e f =
+    let g = guarded (int_lt (pos n) (pos 0) && int_le (negsuc 2147483647) (pos n)) (Some (pos n)) z e in
+    let low : n < 0 = ltb-true n 0 (both_true _ _ g.0).0 in
+    absurd (omega arith)
+below_some (negative (negsuc n)) z e f =
+    let g = guarded (int_le (negsuc 2147483647) (negsuc n)) (Some (negsuc n)) z e in
+    let z_is = some_is (negsuc n) z g.1 in
+    subst (λ x. (negative (negsuc n) ≡ of_integer x) × IsI32 x) z_is (refl, leb-true n 2147483647 g.0)
+below_some (float x) z e f = cc
+
+pub i32_sound : IsSound i32_of integer_form IsI32
+i32_sound d z e =
+    elim (either_some (option_and_then as_u64 (as_number d)) small _ z e) [
+      | inl whole ↦
+          let s = small_some whole.0 z whole.2 in
+          subst (λ x. (integer_form x ≡ d) × IsI32 x) s.0 (sym (whole_some d whole.0 whole.1), s.1)
+      | inr below ↦
+          let a = bind_some below_zero (option_and_then as_i64 (as_number d)) z below.1 in
+          let b = bind_some as_i64 (as_number d) a.0 a.1 in
+          let chain : option_and_then below_zero (as_i64 b.0) ≡ Some z = ap (option_and_then below_zero) b.2 ∙ a.2 in
+          let none : as_u64 b.0 ≡ None = sym (ap (option_and_then as_u64) b.1) ∙ below.0 in
+          let s = below_some b.0 z chain none in
+          (sym (as_number_some d b.0 b.1 ∙ ap number s.0), s.1)
+    ]
+  where
+    either_some : {A : Type 0} (o : Option A) (f : A → Option ℤ) (rest : Option ℤ) (z : ℤ) → or_else o f rest ≡ Some z
+        → ((x : A) × (o ≡ Some x) × (f x ≡ Some z)) ⊎ ((o ≡ None) × (rest ≡ Some z))
+    either_some None f rest z e = inr (refl, e)
+    either_some (Some x) f rest z e = inl (x, refl, e)
+
+pub i32_complete : IsComplete i32_of integer_form IsI32
+i32_complete (pos n) h = rw (le-leb n 2147483647 h) refl
+i32_complete (negsuc n) h = rw (le-leb n 2147483647 h) refl

@@ -1,17 +1,26 @@
 -- The document that a value spells, found step by step; `Form` says what that means.
-use Rattle.std.specs.Prelude.{◌≡◌, ℕ, Bool, true, false, ◌&&◌, zero, suc, List, [], ◌∷◌, codes, Option, Some, None, option_map, option_and_then, if◌then◌else◌, nat_lt, ◌==◌}
+use Rattle.std.specs.Prelude.{◌≡◌, ℕ, Bool, true, false, ◌&&◌, zero, suc, List, [], ◌∷◌, codes, Option, Some, None, option_map, option_and_then, if◌then◌else◌, nat_lt, nat_le, int_lt, int_le, ℤ, pos, negsuc, ◌==◌}
 use Rattle.std.specs.Str.{bytes_eq}
 use Rattle.serde_json.specs.Data.{Data, null, Items, no_items, item}
-use Rattle.serde_json.specs.Find.{as_array, as_str, as_number, as_u64, as_bool}
+use Rattle.serde_json.specs.Find.{as_array, as_str, as_number, as_u64, as_i64, as_bool}
 use Rattle.ir_kinds.specs.declared.settings.ShaderStage.{ShaderStage}
 use Rattle.ir_kinds.specs.declared.settings.SubgroupFlag.{SubgroupFlag}
-use Rattle.ir_items.specs.Plain.{PlainType, PlainStatement, block, return, call, PlainBlock, PlainFunction}
-use Rattle.ir_items.specs.View.{block_of}
+use Rattle.ir_kinds.specs.declared.values.Literal.{Literal}
+use Rattle.ir_kinds.specs.declared.values.Literal.TheVariants as literal
+use Rattle.ir_kinds.specs.declared.values.SwitchValue.{SwitchValue}
+use Rattle.ir_kinds.specs.declared.values.SwitchValue.TheVariants.{I32, U32, Default}
+use Rattle.ir_items.specs.declared.expressions.Expression.{Expression}
+use Rattle.ir_items.specs.declared.expressions.Expression.TheVariants as computed
+use Rattle.document_reader.specs.declared.words.StatementKind.{StatementKind}
+use Rattle.document_reader.specs.declared.words.StatementKind.TheVariants as k
+use Rattle.ir_items.specs.Plain.{PlainType, PlainStatement, block, choice, switch, loop, break, continue, return, kill, call, PlainBlock, PlainFunction}
+use Rattle.ir_items.specs.View.{PlainCase, block_of, cases_of}
 use Rattle.ir_items.specs.declared.types.TypeInner.{TypeInner}
 use Rattle.ir_items.specs.declared.types.TypeInner.TheVariants as inner
-use Rattle.document_reader.specs.Plain.{PlainSettings, PlainDocument}
+use Rattle.ir_kinds.specs.Settings.{PlainSettings}
+use Rattle.document_reader.specs.Plain.{PlainDocument}
 use Rattle.document_reader.specs.Form.{AreDistinct}
-use Rattle.document_reader.specs.Words.{flags, capabilities, stages, subgroup_flags, scalars}
+use Rattle.document_reader.specs.Words.{flags, capabilities, stages, subgroup_flags, scalars, statement_kinds}
 
 infixl 10 ◌>>=◌
 abbrev pub ◌>>=◌ : {A B : Type 0} → Option A → (A → Option B) → Option B
@@ -108,6 +117,76 @@ type_of d = do
   inner ← inner_of parts.1
   Some (record { name = name; inner = inner })
 
+-- a number of 32 bits, without and with a sign
+abbrev pub u32_of : Data → Option ℕ
+u32_of d = do
+  n ← as_number d >>= as_u64
+  if nat_lt n 4294967296 then Some n else None
+
+abbrev pub small : ℕ → Option ℤ
+small n = if nat_le n 2147483647 then Some (pos n) else None
+
+abbrev pub below_zero : ℤ → Option ℤ
+below_zero z = if int_lt z (pos 0) && int_le (negsuc 2147483647) z then Some z else None
+
+-- what f makes of the number, or d where there is none
+abbrev pub or_else : {A B : Type 0} → Option A → (A → Option B) → Option B → Option B
+or_else None f d = d
+or_else (Some x) f d = f x
+
+abbrev pub i32_of : Data → Option ℤ
+i32_of d = or_else (as_number d >>= as_u64) small ((as_number d >>= as_i64) >>= below_zero)
+
+-- a literal by its scalar's word
+unfoldable pub literal_of : Items → Option Literal
+literal_of ds = do
+  parts ← pair ds
+  w ← as_str parts.0
+  if bytes_eq w (codes "bool") then option_map literal.Bool (as_bool parts.1) else (if bytes_eq w (codes "i32") then option_map literal.I32 (i32_of parts.1) else (if bytes_eq w (codes "u32") then option_map literal.U32 (u32_of parts.1) else None))
+
+unfoldable pub expression_of : Data → Option Expression
+expression_of d = do
+  t ← tagged d
+  if bytes_eq t.0 (codes "Literal") then option_map computed.Literal (literal_of t.1) else None
+
+-- the value of a case
+unfoldable pub value_of : Data → Option SwitchValue
+value_of d = do
+  t ← tagged d
+  if bytes_eq t.0 (codes "I32") then option_map I32 (only t.1 >>= i32_of) else (if bytes_eq t.0 (codes "U32") then option_map U32 (only t.1 >>= u32_of) else (if bytes_eq t.0 (codes "Default") then (if is_end t.1 then Some Default else None) else None))
+
+-- a case, where `inside` finds the blocks
+unfoldable pub case_with : (Data → Option PlainBlock) → Data → Option PlainCase
+case_with inside d = do
+  parts ← as_array d >>= triple
+  value ← value_of parts.0
+  falls ← as_bool parts.2
+  body ← inside parts.1
+  Some (record { value = value; body = body; falls = falls })
+
+unfoldable pub choice_with : (Data → Option PlainBlock) → Items → Option PlainStatement
+choice_with inside ds = do
+  parts ← triple ds
+  test ← handle_of parts.0
+  accept ← inside parts.1
+  reject ← inside parts.2
+  Some (choice test accept reject)
+
+unfoldable pub switch_with : (Data → Option PlainBlock) → Items → Option PlainStatement
+switch_with inside ds = do
+  parts ← pair ds
+  selector ← handle_of parts.0
+  cases ← all_of (case_with inside) parts.1
+  Some (switch selector (cases_of cases))
+
+unfoldable pub loop_with : (Data → Option PlainBlock) → Items → Option PlainStatement
+loop_with inside ds = do
+  parts ← triple ds
+  break_if ← optional handle_of parts.2
+  body ← inside parts.0
+  continuing ← inside parts.1
+  Some (loop body continuing break_if)
+
 -- a call: the function, the arguments and the result
 unfoldable pub call_of : Items → Option PlainStatement
 call_of ds = do
@@ -117,20 +196,25 @@ call_of ds = do
   arguments ← all_of handle_of parts.1
   Some (call function arguments result)
 
--- a statement of this word, where `block_at` finds the blocks inside
-unfoldable pub statement_with : (Data → Option PlainBlock) → List ℕ → Items → Option PlainStatement
-statement_with block_at w rest =
-    if bytes_eq w (codes "Block") then option_map block (only rest >>= block_at)
-    else (if bytes_eq w (codes "Return") then option_map return (only rest >>= optional handle_of)
-    else (if bytes_eq w (codes "Call") then call_of rest
-    else None))
+-- a statement of this kind, where `inside` finds the blocks inside
+unfoldable pub statement_with : (Data → Option PlainBlock) → StatementKind → Items → Option PlainStatement
+statement_with inside k.Block rest = option_map block (only rest >>= inside)
+statement_with inside k.If rest = choice_with inside rest
+statement_with inside k.Switch rest = switch_with inside rest
+statement_with inside k.Loop rest = loop_with inside rest
+statement_with inside k.Break rest = if is_end rest then Some break else None
+statement_with inside k.Continue rest = if is_end rest then Some continue else None
+statement_with inside k.Return rest = option_map return (only rest >>= optional handle_of)
+statement_with inside k.Kill rest = if is_end rest then Some kill else None
+statement_with inside k.Call rest = call_of rest
 
 -- n bounds how deep statements nest
 unfoldable pub statement_at : ℕ → Data → Option PlainStatement
 statement_at zero d = None
 statement_at (suc n) d = do
   t ← tagged d
-  statement_with (λ b. option_map block_of (all_of (statement_at n) b)) t.0 t.1
+  kind ← lookup t.0 statement_kinds
+  statement_with (λ b. option_map block_of (all_of (statement_at n) b)) kind t.1
 
 abbrev pub block_at : ℕ → Data → Option PlainBlock
 block_at n d = option_map block_of (all_of (statement_at n) d)
@@ -156,15 +240,24 @@ function_parts d = do
   g ← pair f.1
   Some (record { name = a.0; arguments = b.0; result = c.0; locals = e.0; expressions = f.0; body = g.0; filter = g.1 })
 
--- nothing but the body is written
-abbrev pub is_body_alone : FunctionParts → Bool
-is_body_alone p = is_null p.name && is_empty_list p.arguments && is_null p.result && is_empty_list p.locals && is_empty_list p.expressions && is_null p.filter
+-- neither name, arguments, locals nor filter are written
+abbrev pub is_plain_function : FunctionParts → Bool
+is_plain_function p = is_null p.name && is_empty_list p.arguments && is_empty_list p.locals && is_null p.filter
+
+-- a result's type, where it has no binding
+abbrev pub result_of : Data → Option ℕ
+result_of d = do
+  parts ← as_array d >>= pair
+  t ← handle_of parts.0
+  if is_null parts.1 then Some t else None
 
 unfoldable pub function_at : ℕ → Data → Option PlainFunction
 function_at n d = do
   p ← function_parts d
-  body ← if is_body_alone p then block_at n p.body else None
-  Some (record { body = body })
+  result ← if is_plain_function p then optional result_of p.result else None
+  expressions ← all_of expression_of p.expressions
+  body ← block_at n p.body
+  Some (record { result = result; expressions = expressions; body = body })
 
 -- the first parts of a document, and those behind them
 pub record SettingsParts : Type 0 where

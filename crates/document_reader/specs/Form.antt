@@ -1,16 +1,24 @@
 -- How a document is written, and when bytes spell it.
-use Rattle.std.specs.Prelude.{◌≡◌, ◌≢◌, ◌⊎◌, ℕ, ◌≤◌, List, map, length, codes, Option, Some, None, IfSome, IsUtf8}
+use Rattle.std.specs.Prelude.{◌≡◌, ◌≢◌, ◌⊎◌, ℕ, ℤ, pos, negsuc, ◌≤◌, List, map, length, codes, Option, Some, None, IfSome, IsUtf8}
 use Rattle.std.specs.List.{AllByRecursion, AllPairs}
 use Rattle.serde_json.specs.Data.{Data, null, boolean, number, unsigned, string, array, Items, no_items, item}
+use Rattle.serde_json.specs.Find.{of_integer}
 use Rattle.serde_json.specs.Read.{read}
 use Rattle.serde_json.specs.View.{items_of}
 use Rattle.ir_kinds.specs.declared.scalars.Scalar.{Scalar}
 use Rattle.ir_kinds.specs.declared.scalars.ScalarKind.{ScalarKind}
 use Rattle.ir_kinds.specs.declared.scalars.ScalarKind.TheVariants.{Sint, Uint, Float, Bool, AbstractInt, AbstractFloat}
-use Rattle.ir_items.specs.Plain.{PlainType, PlainStatement, block, return, call, PlainBlock, stop, next, PlainFunction, PlainModule}
+use Rattle.ir_kinds.specs.declared.values.Literal.{Literal}
+use Rattle.ir_kinds.specs.declared.values.Literal.TheVariants as literal
+use Rattle.ir_kinds.specs.declared.values.SwitchValue.{SwitchValue}
+use Rattle.ir_kinds.specs.declared.values.SwitchValue.TheVariants.{I32, U32, Default}
+use Rattle.ir_items.specs.declared.expressions.Expression.{Expression}
+use Rattle.ir_items.specs.declared.expressions.Expression.TheVariants as computed
+use Rattle.ir_items.specs.Plain.{PlainType, PlainStatement, emit, block, choice, switch, loop, break, continue, return, kill, call, PlainBlock, stop, next, PlainCases, no_case, case, PlainFunction, PlainModule}
 use Rattle.ir_items.specs.declared.types.TypeInner.{TypeInner}
 use Rattle.ir_items.specs.declared.types.TypeInner.TheVariants as inner
-use Rattle.document_reader.specs.Plain.{PlainSettings, PlainDocument}
+use Rattle.ir_kinds.specs.Settings.{PlainSettings}
+use Rattle.document_reader.specs.Plain.{PlainDocument}
 use Rattle.document_reader.specs.Words.{flag_word, capability_word, stage_word, subgroup_flag_word, scalar_word}
 
 -- a list, a word with what belongs to it, a handle, and what may be missing
@@ -40,11 +48,40 @@ inner_form (inner.Scalar s) = tagged_form (codes "Scalar") (item (scalar_form s)
 abbrev pub type_form : PlainType → Data
 type_form t = array (item (optional_form string t.name) (item (inner_form t.inner) no_items))
 
--- statements
+-- whole numbers, and the values of literals and cases
+abbrev pub number_form : ℕ → Data
+number_form n = number (unsigned n)
+
+abbrev pub integer_form : ℤ → Data
+integer_form z = number (of_integer z)
+
+abbrev pub literal_items : Literal → Items
+literal_items (literal.Bool b) = item (string (codes "bool")) (item (boolean b) no_items)
+literal_items (literal.I32 z) = item (string (codes "i32")) (item (integer_form z) no_items)
+literal_items (literal.U32 n) = item (string (codes "u32")) (item (number_form n) no_items)
+
+abbrev pub expression_form : Expression → Data
+expression_form (computed.Literal l) = tagged_form (codes "Literal") (literal_items l)
+
+abbrev pub value_form : SwitchValue → Data
+value_form (I32 z) = tagged_form (codes "I32") (item (integer_form z) no_items)
+value_form (U32 n) = tagged_form (codes "U32") (item (number_form n) no_items)
+value_form Default = tagged_form (codes "Default") no_items
+
+-- statements; so far no document holds an `Emit`
 abbrev mutual
   pub statement_form : PlainStatement → Data
+  statement_form (emit first end) = tagged_form (codes "Emit") (item (number_form first) (item (number_form end) no_items))
   statement_form (block b) = tagged_form (codes "Block") (item (array (block_items b)) no_items)
+  statement_form (choice test accept reject) =
+      tagged_form (codes "If") (item (handle_form test) (item (array (block_items accept)) (item (array (block_items reject)) no_items)))
+  statement_form (switch selector cases) = tagged_form (codes "Switch") (item (handle_form selector) (item (array (case_items cases)) no_items))
+  statement_form (loop body continuing break_if) =
+      tagged_form (codes "Loop") (item (array (block_items body)) (item (array (block_items continuing)) (item (optional_form handle_form break_if) no_items)))
+  statement_form break = tagged_form (codes "Break") no_items
+  statement_form continue = tagged_form (codes "Continue") no_items
   statement_form (return value) = tagged_form (codes "Return") (item (optional_form handle_form value) no_items)
+  statement_form kill = tagged_form (codes "Kill") no_items
   statement_form (call function arguments result) =
       tagged_form (codes "Call") (item (handle_form function) (item (list_form handle_form arguments) (item (optional_form handle_form result) no_items)))
 
@@ -52,13 +89,22 @@ abbrev mutual
   block_items stop = no_items
   block_items (next s rest) = item (statement_form s) (block_items rest)
 
+  pub case_items : PlainCases → Items
+  case_items no_case = no_items
+  case_items (case value body falls rest) =
+      item (array (item (value_form value) (item (array (block_items body)) (item (boolean falls) no_items)))) (case_items rest)
+
 abbrev pub block_form : PlainBlock → Data
 block_form b = array (block_items b)
 
--- name, arguments, result, locals, expressions, body, filter: so far only a body is written
+-- a result: its type, and no binding
+abbrev pub result_form : ℕ → Data
+result_form t = array (item (handle_form t) (item null no_items))
+
+-- name, arguments, result, locals, expressions, body, filter: so far without name, arguments, locals and filter
 abbrev pub function_form : PlainFunction → Data
 function_form f =
-    array (item null (item empty_form (item null (item empty_form (item empty_form (item (block_form f.body) (item null no_items)))))))
+    array (item null (item empty_form (item (optional_form result_form f.result) (item empty_form (item (list_form expression_form f.expressions) (item (block_form f.body) (item null no_items)))))))
 
 -- no special types, and no filters
 abbrev pub no_special_form : Data
@@ -88,16 +134,54 @@ max_handle = 4294967294
 abbrev pub IsHandle : ℕ → Type 0
 IsHandle n = n ≤ max_handle
 
--- every number in a statement is a handle
+-- a number of 32 bits, without and with a sign
+abbrev pub IsU32 : ℕ → Type 0
+IsU32 n = n ≤ 4294967295
+
+abbrev pub IsI32 : ℤ → Type 0
+IsI32 (pos n) = n ≤ 2147483647
+IsI32 (negsuc n) = n ≤ 2147483647
+
+abbrev pub IsValue : SwitchValue → Type 0
+IsValue (I32 z) = IsI32 z
+IsValue (U32 n) = IsU32 n
+IsValue Default = Unit {0}
+
+abbrev pub IsLiteral : Literal → Type 0
+IsLiteral (literal.Bool b) = Unit {0}
+IsLiteral (literal.I32 z) = IsI32 z
+IsLiteral (literal.U32 n) = IsU32 n
+
+abbrev pub IsExpression : Expression → Type 0
+IsExpression (computed.Literal l) = IsLiteral l
+
+-- a statement that a document may hold: its handles and values are in range
 abbrev mutual
   pub HasHandles : PlainStatement → Type 0
+  HasHandles (emit first end) = ⊥
   HasHandles (block b) = AllHaveHandles b
+  HasHandles (choice test accept reject) = IsHandle test × AllHaveHandles accept × AllHaveHandles reject
+  HasHandles (switch selector cases) = IsHandle selector × CasesHaveHandles cases
+  HasHandles (loop body continuing break_if) = AllHaveHandles body × AllHaveHandles continuing × IfSome break_if IsHandle
+  HasHandles break = Unit {0}
+  HasHandles continue = Unit {0}
   HasHandles (return value) = IfSome value IsHandle
+  HasHandles kill = Unit {0}
   HasHandles (call function arguments result) = IsHandle function × AllByRecursion IsHandle arguments × IfSome result IsHandle
 
   pub AllHaveHandles : PlainBlock → Type 0
   AllHaveHandles stop = Unit {0}
   AllHaveHandles (next s rest) = HasHandles s × AllHaveHandles rest
+
+  pub CasesHaveHandles : PlainCases → Type 0
+  CasesHaveHandles no_case = Unit {0}
+  CasesHaveHandles (case value body falls rest) = IsValue value × AllHaveHandles body × CasesHaveHandles rest
+
+-- A function that a document may hold.
+pub record IsFunctionItem (f : PlainFunction) : Type 0 where
+  pub result : IfSome f.result IsHandle
+  pub expressions : AllByRecursion IsExpression f.expressions
+  pub body : AllHaveHandles f.body
 
 -- a width in bytes that a kind of scalar has a word for
 abbrev pub IsWidth : ScalarKind → ℕ → Type 0
@@ -120,7 +204,7 @@ AreDistinct xs = AllPairs (λ x y. x ≢ y) xs
 pub record IsDocument (d : PlainDocument) : Type 0 where
   pub types : AllByRecursion (λ t. HasWord t.inner) d.content.types
   pub distinct : AreDistinct d.content.types
-  pub functions : AllByRecursion (λ f. AllHaveHandles f.body) d.content.functions
+  pub functions : AllByRecursion IsFunctionItem d.content.functions
 
 abbrev pub max_len : ℕ
 max_len = 16777216

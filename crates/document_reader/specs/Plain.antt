@@ -1,18 +1,6 @@
 -- The document as plain data: lists, words and numbers.
-use Rattle.std.specs.Prelude.{List, Bool}
-use Rattle.ir_kinds.specs.declared.settings.Flag.{Flag}
-use Rattle.ir_kinds.specs.declared.settings.Capability.{Capability}
-use Rattle.ir_kinds.specs.declared.settings.ShaderStage.{ShaderStage}
-use Rattle.ir_kinds.specs.declared.settings.SubgroupFlag.{SubgroupFlag}
+use Rattle.ir_kinds.specs.Settings.{PlainSettings}
 use Rattle.ir_items.specs.Plain.{PlainModule}
-
--- What a document asks of the validator. A set is the list of its words, in order, repeats kept.
-pub record PlainSettings : Type 0 where
-  pub flags : List Flag
-  pub capabilities : List Capability
-  pub stages : List ShaderStage
-  pub operations : List SubgroupFlag
-  pub returns : Bool
 
 -- The settings, and the module whose lists the document writes.
 pub record PlainDocument : Type 0 where

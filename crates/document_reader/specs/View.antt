@@ -1,8 +1,9 @@
 -- The plain document that a `Document` holds.
-use Rattle.std.specs.Prelude.{map}
+use Rattle.std.specs.Prelude.{option_map, map}
 use Rattle.ir_items.specs.Plain.{PlainFunction}
 use Rattle.ir_items.specs.View.{type_view, block_view}
-use Rattle.document_reader.specs.Plain.{PlainSettings, PlainDocument}
+use Rattle.ir_kinds.specs.Settings.{PlainSettings}
+use Rattle.document_reader.specs.Plain.{PlainDocument}
 use Rattle.document_reader.specs.declared.document.Settings.{Settings}
 use Rattle.document_reader.specs.declared.document.FunctionItem.{FunctionItem}
 use Rattle.document_reader.specs.declared.document.Document.{Document}
@@ -17,7 +18,11 @@ settings_view s = record {
 }
 
 abbrev pub function_view : FunctionItem → PlainFunction
-function_view f = record { body = block_view f.body }
+function_view f = record {
+  result = option_map (λ r. r.ty) f.result;
+  expressions = f.expressions.items;
+  body = block_view f.body;
+}
 
 abbrev pub document_view : Document → PlainDocument
 document_view d = record {

@@ -9,6 +9,8 @@ use Rattle.ir_kinds.specs.declared.settings.ShaderStage.{ShaderStage}
 use Rattle.ir_kinds.specs.declared.settings.ShaderStage.TheVariants as s
 use Rattle.ir_kinds.specs.declared.settings.SubgroupFlag.{SubgroupFlag}
 use Rattle.ir_kinds.specs.declared.settings.SubgroupFlag.TheVariants as o
+use Rattle.document_reader.specs.declared.words.StatementKind.{StatementKind}
+use Rattle.document_reader.specs.declared.words.StatementKind.TheVariants as k
 use Rattle.ir_kinds.specs.declared.scalars.Scalar.{Scalar}
 use Rattle.ir_kinds.specs.declared.scalars.ScalarKind.{ScalarKind}
 use Rattle.ir_kinds.specs.declared.scalars.ScalarKind.TheVariants.{Sint, Uint, Float, Bool, AbstractInt, AbstractFloat}
@@ -191,4 +193,29 @@ scalars =
     (codes "f64", record { kind = Float; width = 8 }) ∷
     (codes "aint", record { kind = AbstractInt; width = 8 }) ∷
     (codes "afloat", record { kind = AbstractFloat; width = 8 }) ∷
+    []
+
+-- the kinds of statements
+abbrev pub statement_word : StatementKind → List ℕ
+statement_word k.Block = codes "Block"
+statement_word k.If = codes "If"
+statement_word k.Switch = codes "Switch"
+statement_word k.Loop = codes "Loop"
+statement_word k.Break = codes "Break"
+statement_word k.Continue = codes "Continue"
+statement_word k.Return = codes "Return"
+statement_word k.Kill = codes "Kill"
+statement_word k.Call = codes "Call"
+
+abbrev pub statement_kinds : List (List ℕ × StatementKind)
+statement_kinds =
+    (codes "Block", k.Block) ∷
+    (codes "If", k.If) ∷
+    (codes "Switch", k.Switch) ∷
+    (codes "Loop", k.Loop) ∷
+    (codes "Break", k.Break) ∷
+    (codes "Continue", k.Continue) ∷
+    (codes "Return", k.Return) ∷
+    (codes "Kill", k.Kill) ∷
+    (codes "Call", k.Call) ∷
     []

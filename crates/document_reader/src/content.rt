@@ -3,15 +3,16 @@ ghost use Rattle.std.specs.Prelude.{◌≡◌, ◌++◌, map, option_map, string
 ghost use Rattle.serde_json.specs.View.{view as data_of, items_view};
 ghost use Rattle.serde_json.specs.Find.{as_str};
 ghost use Rattle.ir_items.specs.View.{type_view};
-ghost use Rattle.document_reader.specs.Decode.{optional, all_of, inner_of, type_of, function_parts, is_body_alone, function_at, special_parts, is_no_special, is_no_filters, content_parts, is_thin};
+ghost use Rattle.document_reader.specs.Decode.{optional, all_of, inner_of, type_of, function_parts, is_plain_function, result_of, function_at, special_parts, is_no_special, is_no_filters, content_parts, is_thin};
 ghost use Rattle.document_reader.specs.Parts.{function_parts_view, content_parts_view};
 ghost use Rattle.document_reader.specs.View.{function_view};
 
 use crate::document::FunctionItem;
+use crate::expressions::expressions;
 use crate::parts::{first, is_empty_list, is_null, only, pair, tagged, triple};
-use crate::statements::block;
+use crate::statements::{block, handle};
 use crate::words::read_word;
-use ir_items::{IrType, TypeInner};
+use ir_items::{FunctionResult, IrType, TypeInner};
 use serde_json::Value;
 use std::alloc::{AllocError, Global};
 
@@ -106,16 +107,34 @@ fn function_parts(value: &Value) -> Option<FunctionParts<'_>>
     })
 }
 
-// Whether nothing but the body is written.
-fn is_body_alone(parts: &FunctionParts<'_>) -> bool
-    ensures { result ≡ is_body_alone (function_parts_view parts.now) }
+// Whether neither name, arguments, locals nor filter are written.
+fn is_plain_function(parts: &FunctionParts<'_>) -> bool
+    ensures { result ≡ is_plain_function (function_parts_view parts.now) }
 {
     is_null(parts.name)
         && is_empty_list(parts.arguments)
-        && is_null(parts.result)
         && is_empty_list(parts.locals)
-        && is_empty_list(parts.expressions)
         && is_null(parts.filter)
+}
+
+// A result with its type, where it has no binding.
+fn function_result(value: &Value) -> Option<FunctionResult>
+    ensures { option_map (λ r. r.ty) result ≡ result_of (data_of value.now) }
+{
+    let (ty, binding) = pair(value.as_array()?)?;
+    let ty = handle(ty)?;
+    is_null(binding).then_some(FunctionResult { ty })
+}
+
+// A result or `null`, or `None` where the value is neither.
+fn optional_result(value: &Value) -> Option<Option<FunctionResult>>
+    ensures { option_map (λ o. option_map (λ r. r.ty) o) result ≡ optional result_of (data_of value.now) }
+{
+    if is_null(value) {
+        Some(None)
+    } else {
+        function_result(value).map(Some)
+    }
 }
 
 #[tactic(auto, unfolding(crate::specs::Decode::function_at))]
@@ -125,13 +144,23 @@ fn function(alloc: Global, value: &Value, depth: usize) -> Result<Option<Functio
     let Some(parts) = function_parts(value) else {
         return Ok(None);
     };
-    if !is_body_alone(&parts) {
+    if !is_plain_function(&parts) {
         return Ok(None);
     }
+    let Some(result) = optional_result(parts.result) else {
+        return Ok(None);
+    };
+    let Some(expressions) = expressions(alloc, parts.expressions)? else {
+        return Ok(None);
+    };
     let Some(body) = block(alloc, parts.body, depth)? else {
         return Ok(None);
     };
-    Ok(Some(FunctionItem { body }))
+    Ok(Some(FunctionItem {
+        result,
+        expressions,
+        body,
+    }))
 }
 
 /// The functions, or `None` where one is written in another way. The error is want of memory.

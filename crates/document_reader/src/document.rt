@@ -1,5 +1,5 @@
 // The document as a value: its lists as they are written.
-use ir_items::{Block, IrType};
+use ir_items::{Block, Expression, FunctionResult, IrType};
 use ir_kinds::{Capability, Flag, ShaderStage, SubgroupFlag};
 
 /// What a document asks of the validator. A set is the list of its words, in order, repeats kept.
@@ -20,6 +20,10 @@ pub struct Settings {
 /// A function as it is written.
 #[derive(Debug, Drop)]
 pub struct FunctionItem {
+    /// What it answers, if it answers something.
+    pub result: Option<FunctionResult>,
+    /// What is computed in it.
+    pub expressions: Vec<Expression>,
     /// What it does. No statement has a span.
     pub body: Block,
 }

@@ -4,6 +4,7 @@
 mod content;
 mod distinct;
 mod document;
+mod expressions;
 pub mod laws;
 mod parts;
 mod reading;

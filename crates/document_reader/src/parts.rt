@@ -1,7 +1,7 @@
 // The parts of a JSON value.
 ghost use Rattle.std.specs.Prelude.{◌≡◌, option_map};
 ghost use Rattle.serde_json.specs.View.{view as data_of, items_view};
-ghost use Rattle.document_reader.specs.Decode.{first, is_end, is_null, is_empty_list, tagged, only, pair, triple, handle_of};
+ghost use Rattle.document_reader.specs.Decode.{first, is_end, is_null, is_empty_list, tagged, only, pair, triple, handle_of, u32_of, small, below_zero, i32_of};
 
 use serde_json::Value;
 
@@ -84,4 +84,46 @@ pub fn triple(items: &[Value]) -> Option<(&Value, &Value, &Value)>
     let (left, rest) = first(items)?;
     let (middle, right) = pair(rest)?;
     Some((left, middle, right))
+}
+
+/// A whole number of 32 bits.
+pub fn u32_number(value: &Value) -> Option<u32>
+    ensures { result ≡ u32_of (data_of value.now) }
+{
+    let number = value.as_u64()?;
+    if number < 4294967296 {
+        Some(number as u32)
+    } else {
+        None
+    }
+}
+
+/// A whole number of 32 bits with a sign.
+pub fn i32_number(value: &Value) -> Option<i32>
+    ensures { result ≡ i32_of (data_of value.now) }
+{
+    match value.as_u64() {
+        Some(number) => small(number),
+        None => below_zero(value.as_i64()?),
+    }
+}
+
+fn small(number: u64) -> Option<i32>
+    ensures { result ≡ small number }
+{
+    if number <= 2147483647 {
+        Some(number as i32)
+    } else {
+        None
+    }
+}
+
+fn below_zero(number: i64) -> Option<i32>
+    ensures { result ≡ below_zero number }
+{
+    if number < 0 && -2147483648 <= number {
+        Some(number as i32)
+    } else {
+        None
+    }
 }

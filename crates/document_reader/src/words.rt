@@ -2,7 +2,7 @@
 ghost use Rattle.std.specs.Prelude.{◌≡◌, ℕ, List, map, option_map, IfOk};
 ghost use Rattle.serde_json.specs.View.{view as data_of};
 ghost use Rattle.document_reader.specs.Decode.{lookup, word_in, all_of};
-ghost use Rattle.document_reader.specs.Words.{spelled, flags, capabilities, stages, subgroup_flags, scalars};
+ghost use Rattle.document_reader.specs.Words.{spelled, flags, capabilities, stages, subgroup_flags, scalars, statement_kinds};
 
 use ir_kinds::{Capability, Flag, Scalar, ScalarKind, ShaderStage, SubgroupFlag};
 use serde_json::Value;
@@ -17,8 +17,8 @@ pub trait Word: Copy + 'static {
         ensures { map spelled result.now ≡ table };
 }
 
-// What the word stands for, or `None` where it is none of the set.
-fn find_word<W: Word>(word: &str) -> Option<W>
+/// What the word stands for, or `None` where it is none of the set.
+pub fn find_word<W: Word>(word: &str) -> Option<W>
     ensures { result ≡ lookup word.now W.table }
 {
     for entry in W::table() {
@@ -280,5 +280,39 @@ impl Word for Scalar {
 
     fn table() -> &'static [(&'static str, Scalar)] {
         &SCALARS
+    }
+}
+
+/// The kinds of statements that a document may hold.
+#[derive(Clone, Copy, Debug, PartialEq, Eq)]
+pub enum StatementKind {
+    Block,
+    If,
+    Switch,
+    Loop,
+    Break,
+    Continue,
+    Return,
+    Kill,
+    Call,
+}
+
+static STATEMENT_KINDS: [(&str, StatementKind); 9] = [
+    ("Block", StatementKind::Block),
+    ("If", StatementKind::If),
+    ("Switch", StatementKind::Switch),
+    ("Loop", StatementKind::Loop),
+    ("Break", StatementKind::Break),
+    ("Continue", StatementKind::Continue),
+    ("Return", StatementKind::Return),
+    ("Kill", StatementKind::Kill),
+    ("Call", StatementKind::Call),
+];
+
+impl Word for StatementKind {
+    ghost table = { statement_kinds };
+
+    fn table() -> &'static [(&'static str, StatementKind)] {
+        &STATEMENT_KINDS
     }
 }

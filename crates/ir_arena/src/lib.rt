@@ -13,5 +13,6 @@ pub mod arena;
 pub mod handle;
 pub mod iter;
 pub mod laws;
+pub mod range;
 pub mod span;
 pub mod unique_arena;

@@ -1,12 +1,16 @@
 // The items of the IR: types, statements, functions and the module that holds them.
 #![tactic(auto)]
 
+mod expressions;
 pub mod key;
 pub mod laws;
 mod module;
 mod statements;
+mod terminator;
 mod types;
 
-pub use module::{Function, Module};
-pub use statements::{Block, Statement};
+pub use expressions::Expression;
+pub use module::{Function, FunctionResult, Module};
+pub use statements::{Block, Statement, SwitchCase};
+pub use terminator::{complete, ensure_block_returns};
 pub use types::{IrType, TypeInner};

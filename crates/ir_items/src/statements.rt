@@ -1,31 +1,78 @@
 // Statements and the blocks that hold them.
-ghost use Rattle.std.specs.Prelude.{◌≡◌, ◌≤◌, ◌==◌, ◌++◌, ◌∷◌, [], length, IfOk, OnOk, OnErr};
-ghost use Rattle.ir_items.specs.View.{statement_view, block_view, statements_of, spans_of, room_for_statements, room_for_spans, IsInStep};
+ghost use Rattle.std.specs.Prelude.{◌≡◌, ◌≤◌, ◌==◌, ◌++◌, ◌∷◌, [], length, map, IfOk, OnOk, OnErr};
+ghost use Rattle.ir_items.specs.View.{statement_view, block_view, case_view, statements_of, spans_of, room_for_statements, room_for_spans, IsInStep};
 
 use crate::key;
 use ir_arena::handle::Handle;
+use ir_arena::range::Range;
 use ir_arena::span::Span;
+use ir_kinds::SwitchValue;
 use std::alloc::{AllocError, Global};
 
 /// Statements in order, each with its span (naga's `Block`).
 #[cycle(body)]
 #[derive(PartialEq, Eq, Hash, Debug, Drop)]
 pub struct Block {
-    body: Vec<Statement>,
-    span_info: Vec<Span>,
+    pub(crate) body: Vec<Statement>,
+    pub(crate) span_info: Vec<Span>,
+}
+
+/// A case of a switch (naga's `SwitchCase`).
+#[cycle(body)]
+#[derive(PartialEq, Eq, Hash, Debug, Drop)]
+pub struct SwitchCase {
+    /// The value that chooses it.
+    pub value: SwitchValue,
+    /// What it does.
+    pub body: Block,
+    /// Whether the next case goes on where it ends.
+    pub fall_through: bool,
 }
 
 /// One step of a function's body (naga's `Statement`).
 #[cycle(body)]
 #[derive(PartialEq, Eq, Hash, Debug, Drop)]
 pub enum Statement {
+    /// Computes a range of expressions.
+    Emit(Range<key::Expression>),
     /// Statements with a scope of their own.
     Block(Block),
+    /// Does one of two blocks.
+    If {
+        /// What chooses: a boolean scalar.
+        condition: Handle<key::Expression>,
+        /// What is done where it holds.
+        accept: Block,
+        /// What is done where it doesn't.
+        reject: Block,
+    },
+    /// Does the case that a value chooses.
+    Switch {
+        /// What chooses: an integer scalar.
+        selector: Handle<key::Expression>,
+        /// The cases in order, one of them the default.
+        cases: Vec<SwitchCase>,
+    },
+    /// Does a body and then a continuing part, again and again.
+    Loop {
+        /// What is done first in each turn.
+        body: Block,
+        /// What is done after it, also where the body is left by `Continue`.
+        continuing: Block,
+        /// What ends the loop after the continuing part where it holds: a boolean scalar.
+        break_if: Option<Handle<key::Expression>>,
+    },
+    /// Leaves the nearest loop or switch.
+    Break,
+    /// Goes on to the continuing part of the nearest loop.
+    Continue,
     /// Ends the function.
     Return {
         /// What the function answers, if it answers something.
         value: Option<Handle<key::Expression>>,
     },
+    /// Ends the fragment.
+    Kill,
     /// Runs another function.
     Call {
         /// The function that is run.
@@ -119,6 +166,20 @@ impl Block {
     }
 }
 
+impl SwitchCase {
+    /// An equal case in memory of its own. The error is want of memory.
+    #[cycle(copies)]
+    pub fn clone(&self, alloc: Global) -> Result<SwitchCase, AllocError>
+        ensures { IfOk result (λ copy. case_view copy ≡ case_view self.now) }
+    {
+        Ok(SwitchCase {
+            value: self.value,
+            body: self.body.clone(alloc)?,
+            fall_through: self.fall_through,
+        })
+    }
+}
+
 impl Statement {
     /// An equal statement in memory of its own. The error is want of memory.
     #[cycle(copies)]
@@ -126,8 +187,34 @@ impl Statement {
         ensures { IfOk result (λ copy. statement_view copy ≡ statement_view self.now) }
     {
         match self {
+            Statement::Emit(range) => Ok(Statement::Emit(range.clone()?)),
             Statement::Block(block) => Ok(Statement::Block(block.clone(alloc)?)),
+            Statement::If {
+                condition,
+                accept,
+                reject,
+            } => Ok(Statement::If {
+                condition: *condition,
+                accept: accept.clone(alloc)?,
+                reject: reject.clone(alloc)?,
+            }),
+            Statement::Switch { selector, cases } => Ok(Statement::Switch {
+                selector: *selector,
+                cases: clone_cases(alloc, cases)?,
+            }),
+            Statement::Loop {
+                body,
+                continuing,
+                break_if,
+            } => Ok(Statement::Loop {
+                body: body.clone(alloc)?,
+                continuing: continuing.clone(alloc)?,
+                break_if: *break_if,
+            }),
+            Statement::Break => Ok(Statement::Break),
+            Statement::Continue => Ok(Statement::Continue),
             Statement::Return { value } => Ok(Statement::Return { value: *value }),
+            Statement::Kill => Ok(Statement::Kill),
             Statement::Call {
                 function,
                 arguments,
@@ -139,4 +226,15 @@ impl Statement {
             }),
         }
     }
+}
+
+#[cycle(copies)]
+fn clone_cases(alloc: Global, cases: &[SwitchCase]) -> Result<Vec<SwitchCase>, AllocError>
+    ensures { IfOk result (λ copies. map case_view copies.items ≡ map case_view cases.now) }
+{
+    let mut copies = Vec::with_capacity(alloc, cases.len())?;
+    for case in cases {
+        copies.push(case.clone(alloc)?)?;
+    }
+    Ok(copies)
 }

@@ -3,6 +3,8 @@
 
 mod scalars;
 mod settings;
+mod values;
 
 pub use scalars::{Bytes, Scalar, ScalarKind};
 pub use settings::{Capability, Flag, ShaderStage, SubgroupFlag};
+pub use values::{Literal, SwitchValue};

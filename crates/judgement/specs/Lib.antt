@@ -1,4 +1,5 @@
 pub mod Handles
 pub mod Types
+pub mod Functions
 pub mod Steps
 pub mod Text

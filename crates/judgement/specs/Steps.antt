@@ -1,9 +1,10 @@
 -- The steps of the judgement over a module, and what is found by them.
 use Rattle.std.specs.Prelude.{◌≡◌, ℕ, ◌<◌, List, Some, slice_get}
-use Rattle.ir_kinds.specs.declared.settings.Capability.{Capability}
-use Rattle.ir_items.specs.Plain.{PlainFunction, PlainModule}
+use Rattle.ir_kinds.specs.Settings.{PlainSettings}
+use Rattle.ir_items.specs.Plain.{PlainModule}
 use Rattle.judgement.specs.Handles.{HandlesOK}
 use Rattle.judgement.specs.Types.{TypeOK}
+use Rattle.judgement.specs.Functions.{FunctionOK}
 use Rattle.judgement.specs.declared.finding.Step.TheVariants.{«Type», Function}
 use Rattle.judgement.specs.declared.finding.Finding.{Finding}
 use Rattle.judgement.specs.declared.finding.Finding.TheVariants.{Accepted, RefusedDocument, RefusedHandles, Refused}
@@ -19,15 +20,10 @@ pub record IsLeastFailing {A : Type 0} (P : A → Type 0) (xs : List A) (i : ℕ
   pub fails : ¬ P item
   pub before : (j : ℕ) (x : A) → j < i → slice_get xs j ≡ Some x → P x
 
--- functions have no rule so far but that of their handles
-abbrev pub FunctionOK : PlainFunction → Type 0
-FunctionOK f = Unit {0}
-
--- What is found of a module: the first step that fails, and the least index that fails it.
-abbrev pub IsFinding : List Capability → PlainModule → Finding → Type 0
-IsFinding capabilities m Accepted = HandlesOK m × AllMeet (TypeOK capabilities) m.types × AllMeet FunctionOK m.functions
-IsFinding capabilities m RefusedDocument = ⊥
-IsFinding capabilities m RefusedHandles = ¬ HandlesOK m
-IsFinding capabilities m (Refused «Type» i) = HandlesOK m × IsLeastFailing (TypeOK capabilities) m.types i
-IsFinding capabilities m (Refused Function i) =
-    HandlesOK m × AllMeet (TypeOK capabilities) m.types × IsLeastFailing FunctionOK m.functions i
+-- What is found of a module under the settings: the first step that fails, and the least index that fails it.
+abbrev pub IsFinding : PlainSettings → PlainModule → Finding → Type 0
+IsFinding s m Accepted = HandlesOK m × AllMeet (TypeOK s.capabilities) m.types × AllMeet (FunctionOK s m) m.functions
+IsFinding s m RefusedDocument = ⊥
+IsFinding s m RefusedHandles = ¬ HandlesOK m
+IsFinding s m (Refused «Type» i) = HandlesOK m × IsLeastFailing (TypeOK s.capabilities) m.types i
+IsFinding s m (Refused Function i) = HandlesOK m × AllMeet (TypeOK s.capabilities) m.types × IsLeastFailing (FunctionOK s m) m.functions i

@@ -1,50 +1,47 @@
 -- What the tests of the steps find is what the judgement says.
-use Rattle.std.proofs.Common.{◌≡◌, ℕ, List, Bool, true, false, true≢false, Option, Some, None, is_none, refl, sym, ap, subst, ◌∙◌, arith}
+use Rattle.std.proofs.Common.{◌≡◌, ◌↔◌, ℕ, List, length, Bool, true, false, true≢false, Option, Some, None, Contains, IsTrue, is_none, refl, sym, ap, subst, ◌∙◌, arith}
+use Rattle.std.proofs.lemmas.List.{length-map}
 use Rattle.std.specs.List.{enumerate_from}
 use Rattle.ir_kinds.specs.declared.settings.Capability.{Capability}
+use Rattle.ir_kinds.specs.Settings.{PlainSettings}
+use Rattle.ir_kinds.specs.declared.settings.Flag.TheVariants.{Blocks}
 use Rattle.ir_arena.specs.Handles.{handles_from}
-use Rattle.ir_items.specs.View.{type_view, function_view, module_view}
+use Rattle.ir_items.specs.View.{type_view, function_view, module_view, values_of}
 use Rattle.ir_items.specs.declared.module.Module.{Module}
 use Rattle.ir_items.specs.Plain.{PlainType, PlainFunction, PlainModule}
-use Rattle.judgement.specs.Handles.{Target, function, expression, expression_count, IsInOrder, HandlesOK}
+use Rattle.judgement.specs.Handles.{HandlesOK}
 use Rattle.judgement.specs.Types.{TypeOK}
+use Rattle.judgement.specs.Functions.{FunctionOK}
 use Rattle.judgement.specs.Steps.{AllMeet, IsLeastFailing}
-use Rattle.shader_check.specs.Tests.{first_failing, function_in_order, Widths, is_inner_ok}
+use Rattle.shader_check.specs.Tests.{first_failing, function_in_order, function_ok, Widths, is_inner_ok}
 use Rattle.shader_check.specs.Widths.{AreWidthsOf}
 use Rattle.shader_check.proofs.StepLaws.{all_pass, none_from_all, one_fails, first_failing-view}
-use Rattle.shader_check.proofs.HandleLaws.{IsBelow, block_below, below_block}
+use Rattle.shader_check.proofs.HandleLaws.{refers_in_order, in_order_refers}
 use Rattle.shader_check.proofs.TypeLaws.{inner_sound, inner_complete}
+use Rattle.shader_check.proofs.FunctionLaws.{function_sound, function_complete}
 
-pub none_is : {A : Type 0} (o : Option A) → is_none o ≡ true → o ≡ None
+none_is : {A : Type 0} (o : Option A) → is_none o ≡ true → o ≡ None
 none_is None e = refl
 none_is (Some x) e = cc
 
 -- ---- handles
 
-in_order_below : (i : ℕ) (f : PlainFunction) (t : Target) → IsBelow i (expression_count f) t → IsInOrder i f t
-in_order_below i f (function callee) h = h
-in_order_below i f (expression e) h = h
+handles_ok : (m : PlainModule) → first_failing (function_in_order (length m.types)) (enumerate_from 0 m.functions) ≡ None → HandlesOK m
+handles_ok m e i f t found r =
+    let passes : function_in_order (length m.types) i f ≡ true = subst (λ k. function_in_order (length m.types) k f ≡ true) (omega arith) (all_pass (function_in_order (length m.types)) 0 m.functions e i f found) in
+    refers_in_order m i f passes t r
 
-below_in_order : (i : ℕ) (f : PlainFunction) (t : Target) → IsInOrder i f t → IsBelow i (expression_count f) t
-below_in_order i f (function callee) h = h
-below_in_order i f (expression e) h = h
-
-pub handles_ok : (m : PlainModule) → first_failing function_in_order (enumerate_from 0 m.functions) ≡ None → HandlesOK m
-handles_ok m e i f t here r =
-    let passes : function_in_order i f ≡ true = subst (λ k. function_in_order k f ≡ true) (omega arith) (all_pass function_in_order 0 m.functions e i f here) in
-    in_order_below i f t (block_below i (expression_count f) f.body passes r.statement r.stands t r.names)
-
-pub handles_tested : (m : PlainModule) → HandlesOK m → first_failing function_in_order (enumerate_from 0 m.functions) ≡ None
+handles_tested : (m : PlainModule) → HandlesOK m → first_failing (function_in_order (length m.types)) (enumerate_from 0 m.functions) ≡ None
 handles_tested m ok =
-    none_from_all function_in_order 0 m.functions (λ i f here. subst (λ k. function_in_order k f ≡ true) (omega arith) (below_block i (expression_count f) f.body (λ s stands t names. below_in_order i f t (ok i f t here (record { statement = s; stands = stands; names = names })))))
+    none_from_all (function_in_order (length m.types)) 0 m.functions (λ i f found. subst (λ k. function_in_order (length m.types) k f ≡ true) (omega arith) (in_order_refers m i f (λ t r. ok i f t found r)))
 
 -- ---- types
 
 module _ (capabilities : List Capability) (w : Widths) (of : AreWidthsOf capabilities w) (ts : List PlainType) where
-  pub types_meet : first_failing (λ _ t. is_inner_ok w t.inner) (enumerate_from 0 ts) ≡ None → AllMeet (TypeOK capabilities) ts
+  types_meet : first_failing (λ _ t. is_inner_ok w t.inner) (enumerate_from 0 ts) ≡ None → AllMeet (TypeOK capabilities) ts
   types_meet e i t here = inner_sound capabilities w of t.inner (all_pass (λ _ t. is_inner_ok w t.inner) 0 ts e i t here)
 
-  pub type_fails : (r : ℕ) → first_failing (λ _ t. is_inner_ok w t.inner) (enumerate_from 0 ts) ≡ Some r → IsLeastFailing (TypeOK capabilities) ts r
+  type_fails : (r : ℕ) → first_failing (λ _ t. is_inner_ok w t.inner) (enumerate_from 0 ts) ≡ Some r → IsLeastFailing (TypeOK capabilities) ts r
   type_fails r e =
       let f = one_fails (λ _ t. is_inner_ok w t.inner) 0 ts r e in
       let at : f.0 ≡ r = (let k = f.1 in omega arith) in
@@ -55,15 +52,42 @@ module _ (capabilities : List Capability) (w : Widths) (of : AreWidthsOf capabil
         before = λ j t lt h. inner_sound capabilities w of t.inner (f.2.before j t lt h);
       })
 
+-- ---- functions
+
+module _ (s : PlainSettings) (blocks : Bool) (of : IsTrue blocks ↔ Contains s.flags Blocks) (m : PlainModule) where
+  functions_meet : first_failing (λ _ f. function_ok blocks s.returns m f) (enumerate_from 0 m.functions) ≡ None → AllMeet (FunctionOK s m) m.functions
+  functions_meet e i f found = function_sound s blocks of m f (all_pass (λ _ g. function_ok blocks s.returns m g) 0 m.functions e i f found)
+
+  function_fails : (r : ℕ) → first_failing (λ _ f. function_ok blocks s.returns m f) (enumerate_from 0 m.functions) ≡ Some r → IsLeastFailing (FunctionOK s m) m.functions r
+  function_fails r e =
+      let f = one_fails (λ _ g. function_ok blocks s.returns m g) 0 m.functions r e in
+      let at : f.0 ≡ r = (let k = f.1 in omega arith) in
+      subst (IsLeastFailing (FunctionOK s m) m.functions) at (record {
+        item = f.2.item;
+        here = f.2.here;
+        fails = λ ok. true≢false (sym (function_complete s blocks of m f.2.item ok) ∙ f.2.fails);
+        before = λ j g lt h. function_sound s blocks of m g (f.2.before j g lt h);
+      })
+
 -- ---- of the module that the code holds
 
-pub tested_true : (m : Module) (b : Bool) → b ≡ is_none (first_failing (λ i f. function_in_order i (function_view f)) (handles_from 0 m.functions)) → b ≡ true → HandlesOK (module_view m)
-tested_true m b e h =
-    handles_ok (module_view m) (sym (first_failing-view function_view function_in_order 0 m.functions) ∙ none_is _ (sym e ∙ h))
+-- as many types as the arena has
+types_are : (m : Module) → length (module_view m).types ≡ length m.types
+types_are m = length-map (values_of m.types) type_view ∙ length-map m.types (λ e. e.0)
 
-pub tested_false : (m : Module) (b : Bool) → b ≡ is_none (first_failing (λ i f. function_in_order i (function_view f)) (handles_from 0 m.functions)) → b ≡ false → ¬ HandlesOK (module_view m)
+in_order_as : (m : Module) → first_failing (λ i f. function_in_order (length m.types) i (function_view f)) (handles_from 0 m.functions)
+    ≡ first_failing (function_in_order (length (module_view m).types)) (enumerate_from 0 (module_view m).functions)
+in_order_as m =
+    first_failing-view function_view (function_in_order (length m.types)) 0 m.functions
+    ∙ ap (λ n. first_failing (function_in_order n) (enumerate_from 0 (module_view m).functions)) (sym (types_are m))
+
+pub tested_true : (m : Module) (b : Bool) → b ≡ is_none (first_failing (λ i f. function_in_order (length m.types) i (function_view f)) (handles_from 0 m.functions)) → b ≡ true → HandlesOK (module_view m)
+tested_true m b e h =
+    handles_ok (module_view m) (sym (in_order_as m) ∙ none_is _ (sym e ∙ h))
+
+pub tested_false : (m : Module) (b : Bool) → b ≡ is_none (first_failing (λ i f. function_in_order (length m.types) i (function_view f)) (handles_from 0 m.functions)) → b ≡ false → ¬ HandlesOK (module_view m)
 tested_false m b e h = λ ok.
-    let none = first_failing-view function_view function_in_order 0 m.functions ∙ handles_tested (module_view m) ok in
+    let none = in_order_as m ∙ handles_tested (module_view m) ok in
     true≢false (sym (e ∙ ap is_none none) ∙ h)
 
 pub types_pass : (capabilities : List Capability) (w : Widths) (m : Module) → AreWidthsOf capabilities w → (o : Option ℕ) → o ≡ first_failing (λ _ t. is_inner_ok w t.inner) (handles_from 0 m.types)
@@ -75,3 +99,13 @@ pub types_fail : (capabilities : List Capability) (w : Widths) (m : Module) → 
     → (r : ℕ) → o ≡ Some r → IsLeastFailing (TypeOK capabilities) (module_view m).types r
 types_fail capabilities w m of o e r h =
     type_fails capabilities w of (module_view m).types r (sym (first_failing-view type_view (λ _ t. is_inner_ok w t.inner) 0 m.types) ∙ (sym e ∙ h))
+
+module _ (s : PlainSettings) (blocks : Bool) (of : IsTrue blocks ↔ Contains s.flags Blocks) (m : Module) (o : Option ℕ)
+    (is : o ≡ first_failing (λ _ f. function_ok blocks s.returns (module_view m) (function_view f)) (handles_from 0 m.functions)) where
+  pub functions_pass : o ≡ None → AllMeet (FunctionOK s (module_view m)) (module_view m).functions
+  functions_pass h =
+      functions_meet s blocks of (module_view m) (sym (first_failing-view function_view (λ _ f. function_ok blocks s.returns (module_view m) f) 0 m.functions) ∙ (sym is ∙ h))
+
+  pub functions_fail : (r : ℕ) → o ≡ Some r → IsLeastFailing (FunctionOK s (module_view m)) (module_view m).functions r
+  functions_fail r h =
+      function_fails s blocks of (module_view m) r (sym (first_failing-view function_view (λ _ f. function_ok blocks s.returns (module_view m) f) 0 m.functions) ∙ (sym is ∙ h))

@@ -1,7 +1,13 @@
 pub mod BuildLemmas
+pub mod EverywhereLaws
+pub mod Entries
 pub mod StepLaws
-pub mod HandleLaws
 pub mod TypeLaws
+pub mod ValueEquality
+pub mod HandleLaws
+pub mod SwitchLaws
+pub mod RuleLaws
+pub mod FunctionLaws
 pub mod FindingLaws
 pub mod JudgedLaws
 pub mod Due

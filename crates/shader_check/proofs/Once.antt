@@ -1,7 +1,7 @@
 -- One text is due for some bytes.
 use Rattle.std.proofs.Common.{◌≡◌, inl, inr, ℕ, List, refl, sym, ap, subst, ◌∙◌, arith}
 use Rattle.std.proofs.lemmas.Bool.{cases_lt}
-use Rattle.ir_kinds.specs.declared.settings.Capability.{Capability}
+use Rattle.ir_kinds.specs.Settings.{PlainSettings}
 use Rattle.ir_items.specs.Plain.{PlainModule}
 use Rattle.document_reader.proofs.Seam.{one_document_lem}
 use Rattle.judgement.specs.Steps.{AllMeet, IsLeastFailing, IsFinding}
@@ -24,30 +24,30 @@ least_once P xs i j f g =
 meets_none : {A : Type 0} (P : A → Type 0) (xs : List A) (i : ℕ) → AllMeet P xs → IsLeastFailing P xs i → ⊥
 meets_none P xs i all least = least.fails (all i least.item least.here)
 
-finding_once : (c : List Capability) (m : PlainModule) (f g : Finding) → IsFinding c m f → IsFinding c m g → f ≡ g
-finding_once c m RefusedDocument g x y = absurd x
-finding_once c m f RefusedDocument x y = absurd y
-finding_once c m Accepted Accepted x y = refl
-finding_once c m Accepted RefusedHandles x y = absurd (y x.0)
-finding_once c m Accepted (Refused «Type» j) x y = absurd (meets_none _ _ j x.1 y.1)
-finding_once c m Accepted (Refused Function j) x y = absurd (meets_none _ _ j x.2 y.2)
-finding_once c m RefusedHandles Accepted x y = absurd (x y.0)
-finding_once c m RefusedHandles RefusedHandles x y = refl
-finding_once c m RefusedHandles (Refused «Type» j) x y = absurd (x y.0)
-finding_once c m RefusedHandles (Refused Function j) x y = absurd (x y.0)
-finding_once c m (Refused «Type» i) Accepted x y = absurd (meets_none _ _ i y.1 x.1)
-finding_once c m (Refused «Type» i) RefusedHandles x y = absurd (y x.0)
-finding_once c m (Refused «Type» i) (Refused «Type» j) x y = ap (Refused «Type») (least_once _ _ i j x.1 y.1)
-finding_once c m (Refused «Type» i) (Refused Function j) x y = absurd (meets_none _ _ i y.1 x.1)
-finding_once c m (Refused Function i) Accepted x y = absurd (meets_none _ _ i y.2 x.2)
-finding_once c m (Refused Function i) RefusedHandles x y = absurd (y x.0)
-finding_once c m (Refused Function i) (Refused «Type» j) x y = absurd (meets_none _ _ j x.1 y.1)
-finding_once c m (Refused Function i) (Refused Function j) x y = ap (Refused Function) (least_once _ _ i j x.2 y.2)
+finding_once : (s : PlainSettings) (m : PlainModule) (f g : Finding) → IsFinding s m f → IsFinding s m g → f ≡ g
+finding_once s m RefusedDocument g x y = absurd x
+finding_once s m f RefusedDocument x y = absurd y
+finding_once s m Accepted Accepted x y = refl
+finding_once s m Accepted RefusedHandles x y = absurd (y x.0)
+finding_once s m Accepted (Refused «Type» j) x y = absurd (meets_none _ _ j x.1 y.1)
+finding_once s m Accepted (Refused Function j) x y = absurd (meets_none _ _ j x.2 y.2)
+finding_once s m RefusedHandles Accepted x y = absurd (x y.0)
+finding_once s m RefusedHandles RefusedHandles x y = refl
+finding_once s m RefusedHandles (Refused «Type» j) x y = absurd (x y.0)
+finding_once s m RefusedHandles (Refused Function j) x y = absurd (x y.0)
+finding_once s m (Refused «Type» i) Accepted x y = absurd (meets_none _ _ i y.1 x.1)
+finding_once s m (Refused «Type» i) RefusedHandles x y = absurd (y x.0)
+finding_once s m (Refused «Type» i) (Refused «Type» j) x y = ap (Refused «Type») (least_once _ _ i j x.1 y.1)
+finding_once s m (Refused «Type» i) (Refused Function j) x y = absurd (meets_none _ _ i y.1 x.1)
+finding_once s m (Refused Function i) Accepted x y = absurd (meets_none _ _ i y.2 x.2)
+finding_once s m (Refused Function i) RefusedHandles x y = absurd (y x.0)
+finding_once s m (Refused Function i) (Refused «Type» j) x y = absurd (meets_none _ _ j x.1 y.1)
+finding_once s m (Refused Function i) (Refused Function j) x y = ap (Refused Function) (least_once _ _ i j x.2 y.2)
 
 finds_once : (bytes : List ℕ) (f g : Finding) → Finds bytes f → Finds bytes g → f ≡ g
 finds_once bytes f g x y =
     let same = one_document_lem bytes x.document y.document x.reads y.reads in
-    finding_once x.document.settings.capabilities x.document.content f g x.finding (subst (λ d. IsFinding d.settings.capabilities d.content g) (sym same) y.finding)
+    finding_once x.document.settings x.document.content f g x.finding (subst (λ d. IsFinding d.settings d.content g) (sym same) y.finding)
 
 judged_once : (bytes : List ℕ) (f g : Finding) → Judged bytes f → Judged bytes g → f ≡ g
 judged_once bytes RefusedDocument RefusedDocument x y = refl

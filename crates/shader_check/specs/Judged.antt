@@ -11,7 +11,7 @@ use Rattle.judgement.specs.declared.finding.Finding.TheVariants.{Accepted, Refus
 pub record Finds (bytes : List ℕ) (f : Finding) : Type 0 where
   pub document : PlainDocument
   pub reads : Reads bytes document
-  pub finding : IsFinding document.settings.capabilities document.content f
+  pub finding : IsFinding document.settings document.content f
 
 -- what the judgement is over these bytes
 abbrev pub Judged : List ℕ → Finding → Type 0

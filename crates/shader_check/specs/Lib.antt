@@ -1,3 +1,5 @@
+pub mod Everywhere
+pub mod Control
 pub mod Tests
 pub mod Widths
 pub mod Judged

@@ -1,12 +1,19 @@
 -- Tests of a module's items, found step by step; the judgement says what they mean.
-use Rattle.std.specs.Prelude.{ℕ, List, [], ◌∷◌, Bool, true, false, ◌&&◌, ◌==◌, nat_lt, Option, Some, None, if◌then◌else◌}
+use Rattle.std.specs.Prelude.{ℕ, List, [], ◌∷◌, length, Bool, true, false, ◌&&◌, ◌||◌, not, ◌==◌, nat_lt, nat_le, Option, Some, None, is_none, option_map, option_and_then, slice_get, if◌then◌else◌}
 use Rattle.std.specs.List.{list_all}
+use Rattle.ir_kinds.specs.declared.scalars.Scalar.{Scalar}
 use Rattle.ir_kinds.specs.declared.scalars.ScalarKind.{ScalarKind}
 use Rattle.ir_kinds.specs.declared.scalars.ScalarKind.TheVariants.{Sint, Uint, Float, Bool as Boolean, AbstractInt, AbstractFloat}
-use Rattle.ir_items.specs.Plain.{PlainStatement, block, return, call, PlainBlock, stop, next, PlainFunction}
+use Rattle.ir_kinds.specs.declared.values.SwitchValue.{SwitchValue}
+use Rattle.ir_kinds.specs.declared.values.SwitchValue.TheVariants.{I32, U32, Default}
+use Rattle.ir_items.specs.Plain.{PlainType, PlainStatement, emit, block, choice, switch, loop, break, continue, return, kill, call, PlainBlock, PlainCases, no_case, case, PlainFunction, PlainModule}
+use Rattle.ir_items.specs.Shapes.{Exit, breaks, continues, returns, kills, exit_of, shape_of}
 use Rattle.ir_items.specs.declared.types.TypeInner.{TypeInner}
 use Rattle.ir_items.specs.declared.types.TypeInner.TheVariants as inner
-use Rattle.judgement.specs.Handles.{expression_count}
+use Rattle.judgement.specs.Functions.{scalar_at, answer_of, argument_count, falls_at_end, body_of}
+use Rattle.ir_kinds.specs.contracts.values.SwitchValuePartialEq.TheImpl as value
+use Rattle.ir_kinds.specs.contracts.scalars.ScalarPartialEq.TheImpl as scalar
+use Rattle.shader_check.specs.Everywhere.{PlainControl, control_of_body, everywhere}
 
 -- the least of these numbers whose item fails the test
 abbrev pub first_failing : {A : Type 0} → (ℕ → A → Bool) → List (ℕ × A) → Option ℕ
@@ -22,19 +29,23 @@ abbrev pub is_below : ℕ → Option ℕ → Bool
 is_below end None = true
 is_below end (Some h) = nat_lt h end
 
--- the handles of functions are below `functions`, those of expressions below `expressions`
-abbrev mutual
-  pub statement_in_order : (functions expressions : ℕ) → PlainStatement → Bool
-  statement_in_order n k (block b) = block_in_order n k b
-  statement_in_order n k (return value) = is_below k value
-  statement_in_order n k (call callee arguments result) = nat_lt callee n && are_below k arguments && is_below k result
+-- the statement's own handles of functions are below `functions`, those of expressions below `expressions`
+abbrev pub statement_in_order : (functions expressions : ℕ) → PlainStatement → Bool
+statement_in_order n k (emit first end) = nat_le first end && nat_le end k
+statement_in_order n k (block b) = true
+statement_in_order n k (choice test accept reject) = nat_lt test k
+statement_in_order n k (switch selector cases) = nat_lt selector k
+statement_in_order n k (loop body continuing break_if) = is_below k break_if
+statement_in_order n k break = true
+statement_in_order n k continue = true
+statement_in_order n k (return value) = is_below k value
+statement_in_order n k kill = true
+statement_in_order n k (call callee arguments result) = nat_lt callee n && are_below k arguments && is_below k result
 
-  pub block_in_order : (functions expressions : ℕ) → PlainBlock → Bool
-  block_in_order n k stop = true
-  block_in_order n k (next s rest) = statement_in_order n k s && block_in_order n k rest
-
-abbrev pub function_in_order : ℕ → PlainFunction → Bool
-function_in_order i f = block_in_order i (expression_count f) f.body
+-- function i of a module with so many types
+abbrev pub function_in_order : ℕ → ℕ → PlainFunction → Bool
+function_in_order types i f =
+    is_below types f.result && everywhere (λ _ s. statement_in_order i (length f.expressions) s) control_of_body f.body
 
 -- ---- types
 
@@ -58,3 +69,96 @@ is_scalar_ok w AbstractFloat width = false
 
 abbrev pub is_inner_ok : Widths → TypeInner → Bool
 is_inner_ok w (inner.Scalar s) = is_scalar_ok w s.kind s.width
+
+-- ---- functions
+
+abbrev pub if_some : {A : Type 0} → (A → Bool) → Option A → Bool
+if_some test None = true
+if_some test (Some x) = test x
+
+abbrev pub some_passes : {A : Type 0} → (A → Bool) → Option A → Bool
+some_passes test None = false
+some_passes test (Some x) = test x
+
+-- a call passes as many arguments as its function has
+abbrev pub arity_ok : PlainModule → PlainStatement → Bool
+arity_ok m (call callee arguments result) = if_some (λ f. length arguments == argument_count f) (slice_get m.functions callee)
+arity_ok m _ = true
+
+abbrev pub is_boolean : ScalarKind → Bool
+is_boolean Boolean = true
+is_boolean _ = false
+
+abbrev pub is_sint : ScalarKind → Bool
+is_sint Sint = true
+is_sint _ = false
+
+abbrev pub is_uint : ScalarKind → Bool
+is_uint Uint = true
+is_uint _ = false
+
+abbrev pub is_condition : PlainFunction → ℕ → Bool
+is_condition f e = some_passes (λ s. is_boolean s.kind) (scalar_at f e)
+
+abbrev pub fits_kind : ScalarKind → SwitchValue → Bool
+fits_kind kind (I32 z) = is_sint kind
+fits_kind kind (U32 n) = is_uint kind
+fits_kind kind Default = is_sint kind || is_uint kind
+
+abbrev pub values_fit : ScalarKind → PlainCases → Bool
+values_fit kind no_case = true
+values_fit kind (case v body falls rest) = fits_kind kind v && values_fit kind rest
+
+abbrev pub has_value : SwitchValue → PlainCases → Bool
+has_value v no_case = false
+has_value v (case w body falls rest) = value.ghosts.eq v w || has_value v rest
+
+abbrev pub values_differ : PlainCases → Bool
+values_differ no_case = true
+values_differ (case v body falls rest) = not (has_value v rest) && values_differ rest
+
+abbrev pub switch_ok : PlainFunction → ℕ → PlainCases → Bool
+switch_ok f selector cases =
+    some_passes (λ s. (is_sint s.kind || is_uint s.kind) && values_fit s.kind cases && values_differ cases && has_value Default cases && not (falls_at_end false cases)) (scalar_at f selector)
+
+-- what is made of this scalar alone
+abbrev pub is_of_scalar : Scalar → TypeInner → Bool
+is_of_scalar s (inner.Scalar t) = scalar.ghosts.eq s t
+
+abbrev pub return_ok : PlainModule → PlainFunction → Option ℕ → Bool
+return_ok m f None = is_none f.result
+return_ok m f (Some e) = some_passes (λ s. some_passes (is_of_scalar s) (answer_of m f)) (scalar_at f e)
+
+abbrev pub call_result_ok : PlainModule → ℕ → Option ℕ → Bool
+call_result_ok m callee None = if_some (λ f. is_none f.result) (slice_get m.functions callee)
+call_result_ok m callee (Some e) = false
+
+abbrev pub statement_ok : PlainModule → PlainFunction → PlainStatement → Bool
+statement_ok m f (emit first end) = nat_le end first
+statement_ok m f (block b) = true
+statement_ok m f (choice test accept reject) = is_condition f test
+statement_ok m f (switch selector cases) = switch_ok f selector cases
+statement_ok m f (loop body continuing break_if) = if_some (is_condition f) break_if
+statement_ok m f break = true
+statement_ok m f continue = true
+statement_ok m f (return value) = return_ok m f value
+statement_ok m f kill = true
+statement_ok m f (call callee arguments result) = call_result_ok m callee result
+
+abbrev pub may_leave_by : PlainControl → Exit → Bool
+may_leave_by c breaks = c.breaks
+may_leave_by c continues = c.continues
+may_leave_by c returns = c.returns
+may_leave_by c kills = true
+
+-- the statement may stand where it stands, and meets its rule
+abbrev pub rule_ok : PlainModule → PlainFunction → PlainControl → PlainStatement → Bool
+rule_ok m f c s = if_some (may_leave_by c) (exit_of (shape_of s)) && statement_ok m f s
+
+-- the arity of calls, and the rules where they are asked
+abbrev pub body_ok : Bool → PlainModule → PlainFunction → PlainBlock → Bool
+body_ok blocks m f b =
+    everywhere (λ _ s. arity_ok m s) control_of_body b && (if blocks then everywhere (rule_ok m f) control_of_body b else true)
+
+abbrev pub function_ok : (blocks completes : Bool) → PlainModule → PlainFunction → Bool
+function_ok blocks completes m f = body_ok blocks m f (body_of completes f)

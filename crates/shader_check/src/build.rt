@@ -8,7 +8,7 @@ use document_reader::{Document, FunctionItem};
 use ir_arena::arena::Arena;
 use ir_arena::span::Span;
 use ir_arena::unique_arena::UniqueArena;
-use ir_items::{Function, IrType, Module, key};
+use ir_items::{Expression, Function, IrType, Module, key};
 use std::alloc::{AllocError, Global};
 
 fn build_types(
@@ -25,6 +25,19 @@ fn build_types(
     Ok(arena)
 }
 
+fn build_expressions(
+    alloc: Global,
+    expressions: &[Expression],
+) -> Result<Arena<Expression, key::Expression>, AllocError>
+    ensures { IfOk result (λ arena. values_of arena ≡ expressions.now) }
+{
+    let mut arena = Arena::new(alloc);
+    for item in expressions {
+        arena.append(*item, Span::UNDEFINED)?;
+    }
+    Ok(arena)
+}
+
 fn build_functions(
     alloc: Global,
     functions: &[FunctionItem],
@@ -33,8 +46,12 @@ fn build_functions(
 {
     let mut arena = Arena::new(alloc);
     for item in functions {
-        let body = item.body.clone(alloc)?;
-        arena.append(Function { body }, Span::UNDEFINED)?;
+        let function = Function {
+            result: item.result,
+            expressions: build_expressions(alloc, &item.expressions)?,
+            body: item.body.clone(alloc)?,
+        };
+        arena.append(function, Span::UNDEFINED)?;
     }
     Ok(arena)
 }
@@ -47,8 +64,17 @@ fn move_functions(
 {
     let mut arena = Arena::new(alloc);
     for item in functions {
-        let FunctionItem { body } = item;
-        arena.append(Function { body }, Span::UNDEFINED)?;
+        let FunctionItem {
+            result: answer,
+            expressions,
+            body,
+        } = item;
+        let function = Function {
+            result: answer,
+            expressions: build_expressions(alloc, &expressions)?,
+            body,
+        };
+        arena.append(function, Span::UNDEFINED)?;
     }
     Ok(arena)
 }

@@ -1,14 +1,13 @@
 // The step that tests handles: each names something, and calls go to functions before their own.
-ghost use Rattle.std.specs.Prelude.{◌≡◌, is_none};
+ghost use Rattle.std.specs.Prelude.{◌≡◌, length, is_none};
 ghost use Rattle.ir_arena.specs.Handles.{handles_from};
-ghost use Rattle.ir_items.specs.View.{statement_view, block_view, function_view};
-ghost use Rattle.shader_check.specs.Tests.{first_failing, are_below, is_below, statement_in_order, block_in_order, function_in_order};
+ghost use Rattle.ir_items.specs.View.{function_view};
+ghost use Rattle.shader_check.specs.Tests.{first_failing, are_below, is_below, statement_in_order, function_in_order};
 
+use crate::control::Control;
+use crate::walk::{StatementTest, everywhere};
 use ir_arena::handle::Handle;
-use ir_items::{Block, Module, Statement, key};
-
-// So far no function has an expression.
-const EXPRESSIONS: usize = 0;
+use ir_items::{Function, Module, Statement, key};
 
 fn are_below(handles: &[Handle<key::Expression>], end: usize) -> bool
     ensures { result ≡ are_below end handles.now }
@@ -30,43 +29,65 @@ fn is_below(handle: Option<Handle<key::Expression>>, end: usize) -> bool
     }
 }
 
-#[cycle(handles)]
-fn statement_in_order(statement: &Statement, functions: usize, expressions: usize) -> bool
-    ensures { result ≡ statement_in_order functions expressions (statement_view statement.now) }
-{
-    match statement {
-        Statement::Block(block) => block_in_order(block, functions, expressions),
-        Statement::Return { value } => is_below(*value, expressions),
-        Statement::Call {
-            function,
-            arguments,
-            result,
-        } => {
-            function.index() < functions
-                && are_below(arguments, expressions)
-                && is_below(*result, expressions)
+// What the handles of a function's statements must be below.
+#[derive(Drop)]
+struct HandleTest {
+    functions: usize,
+    expressions: usize,
+}
+
+impl StatementTest for HandleTest {
+    ghost use Rattle.shader_check.specs.Tests.{statement_in_order};
+
+    ghost test = { λ t _ s. statement_in_order t.functions t.expressions s };
+
+    fn test(&self, _control: Control, statement: &Statement) -> bool {
+        let expressions = self.expressions;
+        match statement {
+            Statement::Emit(range) => {
+                let bounds = range.index_range();
+                bounds.start <= bounds.end && bounds.end as usize <= expressions
+            }
+            Statement::If { condition, .. } => condition.index() < expressions,
+            Statement::Switch { selector, .. } => selector.index() < expressions,
+            Statement::Loop { break_if, .. } => is_below(*break_if, expressions),
+            Statement::Return { value } => is_below(*value, expressions),
+            Statement::Call {
+                function,
+                arguments,
+                result,
+            } => {
+                function.index() < self.functions
+                    && are_below(arguments, expressions)
+                    && is_below(*result, expressions)
+            }
+            Statement::Block(_) | Statement::Break | Statement::Continue | Statement::Kill => true,
         }
     }
 }
 
-#[cycle(handles)]
-fn block_in_order(block: &Block, functions: usize, expressions: usize) -> bool
-    ensures { result ≡ block_in_order functions expressions (block_view block.now) }
+// Whether the handles of a function are in order, of which so many types and functions stand before it.
+fn function_in_order(function: &Function, types: usize, functions: usize) -> bool
+    ensures { result ≡ function_in_order types functions (function_view function.now) }
 {
-    for statement in block.as_slice() {
-        if !statement_in_order(statement, functions, expressions) {
-            return false;
-        }
-    }
-    true
+    let tested = HandleTest {
+        functions,
+        expressions: function.expressions.len(),
+    };
+    let is_result_there = match &function.result {
+        Some(result) => result.ty.index() < types,
+        None => true,
+    };
+    is_result_there && everywhere(&tested, Control::BODY, &function.body)
 }
 
 /// Whether every handle of every function is in order. It follows none.
 pub fn handles_in_order(module: &Module) -> bool
-    ensures { result ≡ is_none (first_failing (λ i f. function_in_order i (function_view f)) (handles_from 0 «module».now.functions)) }
+    ensures { result ≡ is_none (first_failing (λ i f. function_in_order (length «module».now.types) i (function_view f)) (handles_from 0 «module».now.functions)) }
 {
+    let types = module.types.len();
     for (handle, function) in module.functions.iter() {
-        if !block_in_order(&function.body, handle.index(), EXPRESSIONS) {
+        if !function_in_order(function, types, handle.index()) {
             return false;
         }
     }

@@ -1,27 +1,41 @@
 // The judgement over bytes.
-ghost use Rattle.std.specs.Prelude.{IfOk};
+ghost use Rattle.std.specs.Prelude.{◌↔◌, IfOk, IsTrue, Contains};
+ghost use Rattle.ir_kinds.specs.declared.settings.Flag.TheVariants.{Blocks};
 ghost use Rattle.ir_items.specs.View.{module_view};
+ghost use Rattle.document_reader.specs.View.{settings_view};
 ghost use Rattle.judgement.specs.Steps.{IsFinding};
 ghost use Rattle.shader_check.specs.Judged.{Judged};
 
 use crate::build::into_module;
+use crate::functions::first_failing_function;
 use crate::handles::handles_in_order;
 use crate::types::{first_failing_type, widths_of};
 use document_reader::{Document, Settings, read_document};
 use ir_items::Module;
+use ir_kinds::Flag;
 use judgement::{Finding, Step};
 use std::alloc::{AllocError, Global};
 
-// The steps over a module. The types are looked at only where the handles are in order.
-fn judge_module(settings: &Settings, module: &Module) -> Finding
-    ensures { IsFinding settings.now.capabilities.items (module_view «module».now) result }
+fn has_blocks(flags: &[Flag]) -> bool
+    ensures { IsTrue result ↔ Contains flags.now Blocks }
+{
+    flags.contains(&Flag::Blocks)
+}
+
+// The steps over a module. A step looks only at what those before it have passed.
+fn judge_module(alloc: Global, settings: &Settings, module: &Module) -> Result<Finding, AllocError>
+    ensures { IfOk result (IsFinding (settings_view settings.now) (module_view «module».now)) }
 {
     if !handles_in_order(module) {
-        return Finding::RefusedHandles;
+        return Ok(Finding::RefusedHandles);
     }
-    match first_failing_type(&module.types, widths_of(&settings.capabilities)) {
-        Some(index) => Finding::Refused(Step::Type, index),
-        None => Finding::Accepted,
+    if let Some(index) = first_failing_type(&module.types, widths_of(&settings.capabilities)) {
+        return Ok(Finding::Refused(Step::Type, index));
+    }
+    let blocks = has_blocks(&settings.flags);
+    match first_failing_function(alloc, blocks, settings.returns, module)? {
+        Some(index) => Ok(Finding::Refused(Step::Function, index)),
+        None => Ok(Finding::Accepted),
     }
 }
 
@@ -39,5 +53,5 @@ pub fn judge(alloc: Global, bytes: &[u8]) -> Result<Finding, AllocError>
         functions,
     } = document;
     let module = into_module(alloc, &types, functions)?;
-    Ok(judge_module(&settings, &module))
+    judge_module(alloc, &settings, &module)
 }

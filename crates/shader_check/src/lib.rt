@@ -3,10 +3,13 @@
 
 mod build;
 mod check;
+mod control;
+mod functions;
 mod handles;
 mod judge;
 pub mod laws;
 mod types;
+mod walk;
 
 pub use build::build_module;
 pub use check::{Fault, Verdict, check_document, outcome};

@@ -10,6 +10,8 @@ mod memory;
 #[cfg(test)]
 mod outcomes;
 #[cfg(test)]
+mod returns;
+#[cfg(test)]
 mod rows;
 #[cfg(test)]
 mod streams;

@@ -18,19 +18,19 @@ const STEP: usize = 64;
 
 /// What holds all the memory that was left.
 #[derive(Drop)]
-struct Hog {
+pub struct Hog {
     blocks: Vec<Vec<u8>>,
 }
 
 impl Hog {
-    fn new(alloc: Global) -> Result<Hog, AllocError> {
+    pub fn new(alloc: Global) -> Result<Hog, AllocError> {
         Ok(Hog {
             blocks: Vec::with_capacity(alloc, MOST_BLOCKS)?,
         })
     }
 
     /// Takes all that is left, the greatest blocks first. Answers whether the least block was refused in the end.
-    fn fill(&mut self, alloc: Global) -> bool {
+    pub fn fill(&mut self, alloc: Global) -> bool {
         let mut size = GREATEST;
         for _ in 0..MOST_BLOCKS {
             match Vec::with_capacity(alloc, size) {

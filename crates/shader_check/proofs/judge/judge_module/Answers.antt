@@ -1,6 +1,8 @@
-use Rattle.shader_check.proofs.FindingLaws.{tested_true, tested_false, types_pass, types_fail}
+use Rattle.std.proofs.Common.{◌↔◌, Contains, IsTrue, subst}
+use Rattle.ir_kinds.specs.declared.settings.Flag.TheVariants.{Blocks}
+use Rattle.document_reader.specs.View.{settings_view}
 use Rattle.shader_check.specs.Widths.{AreWidthsOf, widths_view}
-use Rattle.std.proofs.Common.{subst}
+use Rattle.shader_check.proofs.FindingLaws.{tested_true, tested_false, types_pass, types_fail, functions_pass, functions_fail}
 use Rattle.shader_check.proofs.judge.judge_module.Goals as goal
 
 pub returns-then-not-handles_in_order : goal.returns-then-not-handles_in_order
@@ -13,10 +15,23 @@ returns-in-Some c =
       types_fail c.args.settings.now.capabilities.items (widths_view c.widths_of.result) c.args.«module».now of c.first_failing_type.result c.first_failing_type.ensures c.in-Some.index c.in-Some.is,
     )
 
+pub first_failing_function-requires : goal.first_failing_function-requires
+first_failing_function-requires c = tested_true c.args.«module».now c.handles_in_order.result c.handles_in_order.ensures c.if-not-handles_in_order.false
+
+pub returns-in-Some-2 : goal.returns-in-Some-2
+returns-in-Some-2 c =
+    let of = subst (λ cs. AreWidthsOf cs (widths_view c.widths_of.result)) c.deref.ensures.value c.widths_of.ensures in
+    let asked = subst (λ fs. IsTrue c.has_blocks-blocks.result ↔ Contains fs Blocks) c.deref-2.ensures.value c.has_blocks-blocks.ensures in (
+      tested_true c.args.«module».now c.handles_in_order.result c.handles_in_order.ensures c.if-not-handles_in_order.false,
+      types_pass c.args.settings.now.capabilities.items (widths_view c.widths_of.result) c.args.«module».now of c.first_failing_type.result c.first_failing_type.ensures c.in_default.is,
+      functions_fail (settings_view c.args.settings.now) c.has_blocks-blocks.result asked c.args.«module».now c.in_ok-index.field-0 c.in_ok-index.ensures c.in-Some-2.index c.in-Some-2.is,
+    )
+
 pub returns-in-None : goal.returns-in-None
 returns-in-None c =
-    let of = subst (λ cs. AreWidthsOf cs (widths_view c.widths_of.result)) c.deref.ensures.value c.widths_of.ensures in (
+    let of = subst (λ cs. AreWidthsOf cs (widths_view c.widths_of.result)) c.deref.ensures.value c.widths_of.ensures in
+    let asked = subst (λ fs. IsTrue c.has_blocks-blocks.result ↔ Contains fs Blocks) c.deref-2.ensures.value c.has_blocks-blocks.ensures in (
       tested_true c.args.«module».now c.handles_in_order.result c.handles_in_order.ensures c.if-not-handles_in_order.false,
-      types_pass c.args.settings.now.capabilities.items (widths_view c.widths_of.result) c.args.«module».now of c.first_failing_type.result c.first_failing_type.ensures c.in-None.is,
-      λ i f here. tt,
+      types_pass c.args.settings.now.capabilities.items (widths_view c.widths_of.result) c.args.«module».now of c.first_failing_type.result c.first_failing_type.ensures c.in_default.is,
+      functions_pass (settings_view c.args.settings.now) c.has_blocks-blocks.result asked c.args.«module».now c.in_ok-index.field-0 c.in_ok-index.ensures c.in-None.is,
     )

@@ -1,0 +1,108 @@
+// Returns at the ends of what a function does (naga's `proc::terminator`).
+ghost use Rattle.std.specs.Prelude.{◌≡◌, map, IfOk, OnOk, OnErr};
+ghost use Rattle.ir_items.specs.Shapes.{shape_of};
+ghost use Rattle.ir_items.specs.Tails.{goes_on, completed, finished, finished_cases, finished_case};
+ghost use Rattle.ir_items.specs.View.{statement_view, block_view, case_view, cases_of};
+
+use crate::statements::{Block, Statement, SwitchCase};
+use ir_arena::span::Span;
+use std::alloc::{AllocError, Global};
+
+/// Puts a return without value at each end of the body that control can reach by itself: into the body and each of
+/// its tail blocks that is empty, or ends in a statement behind which control goes on. What stands is neither changed
+/// nor moved. The error is want of memory, and leaves the body as it was.
+pub fn ensure_block_returns(alloc: Global, block: &mut Block) -> Result<(), AllocError>
+    ensures ok { OnOk result (block_view block.new ≡ completed (block_view block.old)) }
+    ensures err { OnErr result (block.new ≡ block.old) }
+{
+    let whole = complete(alloc, block)?;
+    *block = whole;
+    Ok(())
+}
+
+// Whether control goes on behind the statement by itself.
+fn goes_on(statement: &Statement) -> bool
+    ensures { result ≡ goes_on (shape_of (statement_view statement.now)) }
+{
+    match statement {
+        Statement::Emit(_) | Statement::Call { .. } | Statement::Loop { .. } => true,
+        Statement::Block(_) | Statement::If { .. } | Statement::Switch { .. } => false,
+        Statement::Break | Statement::Continue | Statement::Return { .. } | Statement::Kill => {
+            false
+        }
+    }
+}
+
+/// The body completed with returns as [`ensure_block_returns`] does it, in memory of its own. The error is want of
+/// memory.
+#[cycle(completes)]
+pub fn complete(alloc: Global, block: &Block) -> Result<Block, AllocError>
+    ensures { IfOk result (λ whole. block_view whole ≡ completed (block_view block.now)) }
+{
+    let mut body = Vec::with_capacity(alloc, block.body.len())?;
+    let mut span_info = Vec::from_slice(alloc, &block.span_info)?;
+    let Some((last, front)) = block.body.split_last() else {
+        body.push(Statement::Return { value: None })?;
+        span_info.push(Span::UNDEFINED)?;
+        return Ok(Block { body, span_info });
+    };
+    for statement in front {
+        body.push(statement.clone(alloc)?)?;
+    }
+    body.push(finish(alloc, last)?)?;
+    if !goes_on(last) {
+        return Ok(Block { body, span_info });
+    }
+    body.push(Statement::Return { value: None })?;
+    span_info.push(Span::UNDEFINED)?;
+    Ok(Block { body, span_info })
+}
+
+// The last statement of a tail block, with its tail parts completed.
+#[cycle(completes)]
+fn finish(alloc: Global, statement: &Statement) -> Result<Statement, AllocError>
+    ensures { IfOk result (λ whole. statement_view whole ≡ finished (statement_view statement.now)) }
+{
+    match statement {
+        Statement::Block(block) => Ok(Statement::Block(complete(alloc, block)?)),
+        Statement::If {
+            condition,
+            accept,
+            reject,
+        } => Ok(Statement::If {
+            condition: *condition,
+            accept: complete(alloc, accept)?,
+            reject: complete(alloc, reject)?,
+        }),
+        Statement::Switch { selector, cases } => Ok(Statement::Switch {
+            selector: *selector,
+            cases: finish_cases(alloc, cases)?,
+        }),
+        other => other.clone(alloc),
+    }
+}
+
+#[cycle(completes)]
+fn finish_cases(alloc: Global, cases: &[SwitchCase]) -> Result<Vec<SwitchCase>, AllocError>
+    ensures { IfOk result (λ whole. cases_of (map case_view whole.items) ≡ finished_cases (cases_of (map case_view cases.now))) }
+{
+    let mut whole = Vec::with_capacity(alloc, cases.len())?;
+    for case in cases {
+        whole.push(finish_case(alloc, case)?)?;
+    }
+    Ok(whole)
+}
+
+#[cycle(completes)]
+fn finish_case(alloc: Global, case: &SwitchCase) -> Result<SwitchCase, AllocError>
+    ensures { IfOk result (λ whole. case_view whole ≡ finished_case (case_view case.now)) }
+{
+    if case.fall_through {
+        return case.clone(alloc);
+    }
+    Ok(SwitchCase {
+        value: case.value,
+        body: complete(alloc, &case.body)?,
+        fall_through: false,
+    })
+}

@@ -1,0 +1,321 @@
+// The step that tests functions.
+ghost use Rattle.std.specs.Prelude.{◌≡◌, ◌||◌, false, map, option_map, slice_get, IfOk};
+ghost use Rattle.ir_arena.specs.Handles.{handles_from};
+ghost use Rattle.ir_items.specs.View.{block_view, case_view, cases_of, function_view, module_view};
+ghost use Rattle.judgement.specs.Functions.{scalar_at, answer_of, literal_scalar, expression_scalar, falls_at_end};
+ghost use Rattle.judgement.specs.Handles.{HandlesOK};
+ghost use Rattle.shader_check.specs.Tests.{first_failing, is_sint, is_uint, is_condition, fits_kind, values_fit, has_value, values_differ, switch_ok, is_of_scalar, return_ok, call_result_ok, body_ok, function_ok};
+
+use crate::control::Control;
+use crate::walk::{StatementTest, everywhere};
+use ir_arena::handle::Handle;
+use ir_items::{Block, Expression, Function, Module, Statement, SwitchCase, TypeInner, complete, key};
+use ir_kinds::{Literal, Scalar, ScalarKind, SwitchValue};
+use std::alloc::{AllocError, Global};
+
+const SWITCH_DEFAULT: SwitchValue = SwitchValue::Default;
+
+fn literal_scalar(literal: Literal) -> Scalar
+    ensures { result ≡ literal_scalar literal }
+{
+    let (kind, width) = match literal {
+        Literal::U32(_) => (ScalarKind::Uint, 4),
+        Literal::I32(_) => (ScalarKind::Sint, 4),
+        Literal::Bool(_) => (ScalarKind::Bool, 1),
+    };
+    Scalar { kind, width }
+}
+
+fn expression_scalar(expression: Expression) -> Scalar
+    ensures { result ≡ expression_scalar expression }
+{
+    match expression {
+        Expression::Literal(literal) => literal_scalar(literal),
+    }
+}
+
+// The scalar type of an expression, if it is there.
+fn scalar_at(function: &Function, expression: Handle<key::Expression>) -> Option<Scalar>
+    ensures { result ≡ scalar_at (function_view function.now) expression }
+{
+    match function.expressions.try_get(expression) {
+        Ok(found) => Some(expression_scalar(*found)),
+        Err(_) => None,
+    }
+}
+
+fn is_condition(function: &Function, expression: Handle<key::Expression>) -> bool
+    ensures { result ≡ is_condition (function_view function.now) expression }
+{
+    match scalar_at(function, expression) {
+        Some(scalar) => matches!(scalar.kind, ScalarKind::Bool),
+        None => false,
+    }
+}
+
+fn is_integer(kind: ScalarKind) -> bool
+    ensures { result ≡ (is_sint kind || is_uint kind) }
+{
+    matches!(kind, ScalarKind::Sint | ScalarKind::Uint)
+}
+
+fn fits_kind(kind: ScalarKind, value: SwitchValue) -> bool
+    ensures { result ≡ fits_kind kind value }
+{
+    match value {
+        SwitchValue::I32(_) => matches!(kind, ScalarKind::Sint),
+        SwitchValue::U32(_) => matches!(kind, ScalarKind::Uint),
+        SwitchValue::Default => is_integer(kind),
+    }
+}
+
+fn values_fit(kind: ScalarKind, cases: &[SwitchCase]) -> bool
+    ensures { result ≡ values_fit kind (cases_of (map case_view cases.now)) }
+{
+    for case in cases {
+        if !fits_kind(kind, case.value) {
+            return false;
+        }
+    }
+    true
+}
+
+fn has_value(value: SwitchValue, cases: &[SwitchCase]) -> bool
+    ensures { result ≡ has_value value (cases_of (map case_view cases.now)) }
+{
+    for case in cases {
+        if value == case.value {
+            return true;
+        }
+    }
+    false
+}
+
+// Whether no value stands twice. It looks for each among those behind it.
+fn values_differ(cases: &[SwitchCase]) -> bool
+    ensures { result ≡ values_differ (cases_of (map case_view cases.now)) }
+{
+    for (index, case) in cases.iter().enumerate() {
+        if has_value(case.value, &cases[index + 1..]) {
+            return false;
+        }
+    }
+    true
+}
+
+fn falls_at_end(cases: &[SwitchCase]) -> bool
+    ensures { result ≡ falls_at_end false (cases_of (map case_view cases.now)) }
+{
+    let mut falls = false;
+    for case in cases {
+        falls = case.fall_through;
+    }
+    falls
+}
+
+fn is_switch_ok(function: &Function, selector: Handle<key::Expression>, cases: &[SwitchCase]) -> bool
+    ensures { result ≡ switch_ok (function_view function.now) selector (cases_of (map case_view cases.now)) }
+{
+    match scalar_at(function, selector) {
+        Some(scalar) => {
+            is_integer(scalar.kind)
+                && values_fit(scalar.kind, cases)
+                && values_differ(cases)
+                && has_value(SWITCH_DEFAULT, cases)
+                && !falls_at_end(cases)
+        }
+        None => false,
+    }
+}
+
+// The function at a handle, if it is there.
+#[tactic(auto, using(crate::proofs::Entries::entries))]
+fn function_at(module: &Module, handle: Handle<key::Function>) -> Option<&Function>
+    ensures { option_map (λ f. function_view f.now) result ≡ slice_get (module_view «module».now).functions handle }
+{
+    match module.functions.try_get(handle) {
+        Ok(found) => Some(found),
+        Err(_) => None,
+    }
+}
+
+// What the type at a handle is made of, if it is there.
+#[tactic(auto, using(crate::proofs::Entries::entries))]
+fn inner_at(module: &Module, handle: Handle<key::IrType>) -> Option<TypeInner>
+    ensures { result ≡ option_map (λ t. t.inner) (slice_get (module_view «module».now).types handle) }
+{
+    match module.types.get_handle(handle) {
+        Ok(found) => Some(found.inner),
+        Err(_) => None,
+    }
+}
+
+// What the function's result is made of, if it has one.
+fn answer(module: &Module, function: &Function) -> Option<TypeInner>
+    ensures { result ≡ answer_of (module_view «module».now) (function_view function.now) }
+{
+    inner_at(module, function.result?.ty)
+}
+
+// Whether something is made of this scalar alone.
+fn is_of_scalar(scalar: Scalar, inner: TypeInner) -> bool
+    ensures { result ≡ is_of_scalar scalar inner }
+{
+    match inner {
+        TypeInner::Scalar(declared) => scalar == declared,
+    }
+}
+
+fn is_return_ok(module: &Module, function: &Function, value: Option<Handle<key::Expression>>) -> bool
+    ensures { result ≡ return_ok (module_view «module».now) (function_view function.now) value }
+{
+    let Some(value) = value else {
+        return function.result.is_none();
+    };
+    let Some(scalar) = scalar_at(function, value) else {
+        return false;
+    };
+    match answer(module, function) {
+        Some(inner) => is_of_scalar(scalar, inner),
+        None => false,
+    }
+}
+
+fn is_call_result_ok(
+    module: &Module,
+    callee: Handle<key::Function>,
+    answered: Option<Handle<key::Expression>>,
+) -> bool
+    ensures { result ≡ call_result_ok (module_view «module».now) callee answered }
+{
+    if answered.is_some() {
+        return false;
+    }
+    match function_at(module, callee) {
+        Some(function) => function.result.is_none(),
+        None => true,
+    }
+}
+
+// The arity of calls.
+#[derive(Drop)]
+struct ArityTest<'a> {
+    module: &'a Module,
+}
+
+impl StatementTest for ArityTest<'_> {
+    ghost use Rattle.ir_items.specs.View.{module_view};
+    ghost use Rattle.shader_check.specs.Tests.{arity_ok};
+
+    ghost test = { λ t _ s. arity_ok (module_view t.«module».now) s };
+
+    fn test(&self, _control: Control, statement: &Statement) -> bool {
+        match statement {
+            Statement::Call {
+                function,
+                arguments,
+                ..
+            } => match function_at(self.module, *function) {
+                Some(_) => arguments.is_empty(),
+                None => true,
+            },
+            Statement::Emit(_)
+            | Statement::Block(_)
+            | Statement::If { .. }
+            | Statement::Switch { .. }
+            | Statement::Loop { .. }
+            | Statement::Break
+            | Statement::Continue
+            | Statement::Return { .. }
+            | Statement::Kill => true,
+        }
+    }
+}
+
+// Where a statement may stand, and its rule.
+#[derive(Drop)]
+struct RuleTest<'a> {
+    module: &'a Module,
+    function: &'a Function,
+}
+
+impl StatementTest for RuleTest<'_> {
+    ghost use Rattle.ir_items.specs.View.{module_view, function_view};
+    ghost use Rattle.shader_check.specs.Tests.{rule_ok};
+
+    ghost test = { λ t c s. rule_ok (module_view t.«module».now) (function_view t.function.now) c s };
+
+    fn test(&self, control: Control, statement: &Statement) -> bool {
+        match statement {
+            Statement::Emit(range) => {
+                let bounds = range.index_range();
+                bounds.end <= bounds.start
+            }
+            Statement::If { condition, .. } => is_condition(self.function, *condition),
+            Statement::Switch { selector, cases } => is_switch_ok(self.function, *selector, cases),
+            Statement::Loop { break_if, .. } => match *break_if {
+                Some(condition) => is_condition(self.function, condition),
+                None => true,
+            },
+            Statement::Break => control.breaks,
+            Statement::Continue => control.continues,
+            Statement::Return { value } => {
+                control.returns && is_return_ok(self.module, self.function, *value)
+            }
+            Statement::Call {
+                function, result, ..
+            } => is_call_result_ok(self.module, *function, *result),
+            Statement::Block(_) | Statement::Kill => true,
+        }
+    }
+}
+
+fn is_body_ok(blocks: bool, module: &Module, function: &Function, body: &Block) -> bool
+    ensures { result ≡ body_ok blocks (module_view «module».now) (function_view function.now) (block_view body.now) }
+{
+    if !everywhere(&ArityTest { module }, Control::BODY, body) {
+        return false;
+    }
+    if blocks {
+        everywhere(&RuleTest { module, function }, Control::BODY, body)
+    } else {
+        true
+    }
+}
+
+// Whether the function meets its rules, with returns put in first where they are asked for.
+fn is_function_ok(
+    alloc: Global,
+    blocks: bool,
+    returns: bool,
+    module: &Module,
+    function: &Function,
+) -> Result<bool, AllocError>
+    ensures { IfOk result (λ ok. ok ≡ function_ok blocks returns (module_view «module».now) (function_view function.now)) }
+{
+    if returns {
+        let body = complete(alloc, &function.body)?;
+        Ok(is_body_ok(blocks, module, function, &body))
+    } else {
+        Ok(is_body_ok(blocks, module, function, &function.body))
+    }
+}
+
+/// The least index of a function that fails its rules, in a module whose handles are in order. The error is want of
+/// memory.
+pub fn first_failing_function(
+    alloc: Global,
+    blocks: bool,
+    returns: bool,
+    module: &Module,
+) -> Result<Option<usize>, AllocError>
+    requires { HandlesOK (module_view «module».now) }
+    ensures { IfOk result (λ found. found ≡ first_failing (λ _ f. function_ok blocks returns (module_view «module».now) (function_view f)) (handles_from 0 «module».now.functions)) }
+{
+    for (handle, function) in module.functions.iter() {
+        if !is_function_ok(alloc, blocks, returns, module, function)? {
+            return Ok(Some(handle.index()));
+        }
+    }
+    Ok(None)
+}
