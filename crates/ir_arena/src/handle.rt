@@ -1,6 +1,6 @@
 //! Places in an arena, and the error of a place that an arena does not have.
 
-ghost use Rattle.std.specs.Prelude.{◌≡◌, ◌<◌, ◌↔◌, IsSome, IfSome};
+ghost use Rattle.std.specs.Prelude.{◌≡◌, ◌<◌, ◌+◌, ◌↔◌, IsSome, IfSome};
 
 use std::marker::{Model, PhantomData};
 
@@ -32,6 +32,17 @@ impl NonMaxU32 {
             Some(NonMaxU32 { value: n })
         } else {
             None
+        }
+    }
+
+    /// The sum of this number and `n`, or `None` where it is 4294967295 or more.
+    pub fn checked_add(self, n: u32) -> Option<Self>
+        ensures some { IsSome result ↔ (self + n < 4294967295) }
+        ensures value { IfSome result (λ r. r ≡ self + n) }
+    {
+        match self.get().checked_add(n) {
+            Some(sum) => NonMaxU32::new(sum),
+            None => None,
         }
     }
 
@@ -107,4 +118,15 @@ impl<T> Handle<T> {
 pub struct BadHandle {
     /// The handle's place, counted from 0.
     pub index: usize,
+}
+
+impl BadHandle {
+    /// The error of `handle`.
+    pub fn new<T>(handle: Handle<T>) -> Self
+        ensures { result.index ≡ handle }
+    {
+        BadHandle {
+            index: handle.index(),
+        }
+    }
 }
