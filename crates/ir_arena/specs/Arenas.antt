@@ -1,5 +1,5 @@
 -- The entries of an arena: its values in order, each with its span. A handle is a place among them.
-use Rattle.std.specs.Prelude.{ℕ, Bool, List, [], ◌∷◌, ◌++◌, ◌<◌, true, false, length, if◌then◌else◌, Option, option_map, unwrap_or, position, slice_get}
+use Rattle.std.specs.Prelude.{ℕ, Bool, List, [], ◌∷◌, ◌++◌, ◌<◌, true, false, length, if◌then◌else◌, Option, option_map, unwrap_or, position, slice_get, slice_set}
 use Rattle.std.specs.List.{list_any, position_or_len, IsDistinct, HoldsAt, AllWithin}
 use Rattle.ir_arena.specs.declared.span.Span.{Span}
 use Rattle.ir_arena.specs.Spans.{undefined_span}
@@ -19,6 +19,10 @@ value_at entries handle = option_map value_of_entry (slice_get entries handle)
 -- the span at a handle, or the undefined one
 abbrev pub span_at : {T : Type 0} → List (T × Span) → ℕ → Span
 span_at entries handle = unwrap_or (option_map span_of_entry (slice_get entries handle)) undefined_span
+
+-- the entries with this value at a handle, whose span stays
+abbrev pub with_value : {T : Type 0} → List (T × Span) → ℕ → T → List (T × Span)
+with_value entries handle value = slice_set entries handle (value, span_at entries handle)
 
 -- In these eq is the equality of the values.
 module _ {T : Type 0} (eq : T → T → Bool) where

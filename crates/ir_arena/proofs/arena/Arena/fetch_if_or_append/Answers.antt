@@ -17,4 +17,4 @@ returns-in-None-clause-absent g c =
 pub returns-in-None-clause-err_absent : goal.returns-in-None-clause-err_absent
 returns-in-None-clause-err_absent g c =
     let absent = rw (c.as_slice.ensures.value, c.self.view_is) at c.in-None.ensures.none in
-    on_err_weaker c.append.result (λ _. absent) c.append.ensures.err
+    on_err_weaker {Q = PassesNowhere (λ old. FnReturnsAtPair g.F.Fn c.args.fun old c.args.value) c.args.self.now} c.append.result (λ _. absent) c.append.ensures.err
