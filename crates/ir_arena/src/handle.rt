@@ -2,6 +2,8 @@
 
 ghost use Rattle.std.specs.Prelude.{◌≡◌, ◌<◌, ◌+◌, ◌↔◌, IsSome, IfSome};
 
+use std::error::Error;
+use std::fmt::{self, Display};
 use std::marker::{Model, PhantomData};
 
 /// A number below 4294967295, which is `u32::MAX`. In a contract it is that number.
@@ -113,7 +115,7 @@ impl<T> Handle<T> {
     }
 }
 
-/// The error of a handle whose place an arena does not have.
+/// The error of a handle whose place an arena does not have. Naga's also names the type of the value.
 #[derive(Clone, Copy, PartialEq, Eq, Hash, Debug)]
 pub struct BadHandle {
     /// The handle's place, counted from 0.
@@ -130,3 +132,15 @@ impl BadHandle {
         }
     }
 }
+
+impl Display for BadHandle {
+    fn fmt<W: fmt::Write>(&self, f: &mut fmt::Formatter<W>) -> fmt::Result {
+        write!(
+            f,
+            "Handle {} is either not present, or inaccessible yet",
+            self.index
+        )
+    }
+}
+
+impl Error for BadHandle {}

@@ -4,6 +4,8 @@ ghost use Rattle.std.specs.Prelude.{◌≡◌, ◌<◌, ◌≤◌, ◌+◌, ◌-
 
 use crate::arena::Arena;
 use crate::handle::Handle;
+use std::error::Error;
+use std::fmt::{self, Display};
 use std::marker::{Model, PhantomData};
 use std::ops;
 
@@ -108,7 +110,7 @@ impl<T> Iterator for Range<T> {
     }
 }
 
-/// The error of a range that an arena does not have.
+/// The error of a range that an arena does not have. Naga's also names the type of the values.
 #[derive(Clone, Copy, PartialEq, Eq, Hash, Debug)]
 pub struct BadRangeError {
     /// The range, whatever its handles are of.
@@ -125,3 +127,16 @@ impl BadRangeError {
         }
     }
 }
+
+impl Display for BadRangeError {
+    fn fmt<W: fmt::Write>(&self, f: &mut fmt::Formatter<W>) -> fmt::Result {
+        let places = self.range.index_range();
+        write!(
+            f,
+            "Handle range {}..{} is either not present, or inaccessible yet",
+            places.start, places.end
+        )
+    }
+}
+
+impl Error for BadRangeError {}
