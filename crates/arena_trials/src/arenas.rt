@@ -1,4 +1,7 @@
 // Arenas of numbers, and of texts with tagged handles.
+ghost use Rattle.std.specs.Prelude.{◌≡◌, ◌<◌, length};
+ghost use Rattle.ir_arena.specs.Arenas.{with_value};
+
 use crate::handles::Tag;
 use ir_arena::arena::Arena;
 use ir_arena::handle::{BadHandle, Handle};
@@ -29,6 +32,14 @@ pub fn text_arena(alloc: Global, texts: &[&str]) -> Result<Texts, AllocError> {
     Ok(arena)
 }
 
+// What a caller learns of a value that it changes.
+fn put(arena: &mut Arena<u32>, handle: Handle<u32>, value: u32)
+    requires { handle < length arena.old }
+    ensures { arena.new ≡ with_value arena.old handle value }
+{
+    *arena.get_mut(handle) = value;
+}
+
 #[test]
 fn numbers_are_found(rt: HostRuntime) -> Result<(), Fail> {
     let mut arena: Arena<u32> = Arena::new(rt.alloc());
@@ -51,7 +62,7 @@ fn numbers_are_found(rt: HostRuntime) -> Result<(), Fail> {
         arena.check_contains_handle(away),
         Err(BadHandle { index: 2 })
     );
-    *arena.get_mut(first) = 5;
+    put(&mut arena, first, 5);
     assert_eq!(rt; arena[first], 5);
     assert_eq!(rt; arena[second], 9);
     assert_eq!(rt; arena.get_span(first), Span::new(1, 2));
