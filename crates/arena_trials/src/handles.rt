@@ -60,6 +60,9 @@ fn ranges_give_their_handles(rt: HostRuntime) -> Result<(), Fail> {
     assert_eq!(rt; whole.index_range().start, 2);
     assert_eq!(rt; whole.index_range().end, 4);
     assert_eq!(rt; whole.clone()?, whole);
+    let kept = &whole;
+    let again = *kept;
+    assert_eq!(rt; again, Range::new(2, 4));
     let empty: Range<Tag> = Range::new(7, 7);
     assert_eq!(rt; empty.first_and_last(), None);
     let turned: Range<Tag> = Range::new(7, 5);

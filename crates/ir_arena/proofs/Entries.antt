@@ -1,7 +1,12 @@
 -- What holds of a list's elements, one after the other.
-use Rattle.std.proofs.Common.{◌≡◌, ℕ, ◌<◌, ◌≤◌, List, length, slice_index_or, arith, subst}
+use Rattle.std.proofs.Common.{◌≡◌, ℕ, ◌<◌, ◌≤◌, List, length, slice_index_or, Result, Ok, Err, OnErr, arith, subst}
 use Rattle.std.specs.List.{HoldsAt, AllWithin}
 use Rattle.std.proofs.lemmas.List.{get_or_read}
+
+-- what holds holds at an error too
+pub OnErr-always : {X E P : Type 0} (r : Result X E) → P → OnErr r P
+OnErr-always (Ok x) p = tt
+OnErr-always (Err e) p = p
 
 module _ {X : Type 0} (P : X → Type 0) where
   -- P holds of the element x that was read at place i

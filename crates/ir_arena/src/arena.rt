@@ -259,7 +259,7 @@ impl<T, K> Arena<T, K> {
         Err(BadRangeError::new(Range::<K>::new(places.start, places.end)))
     }
 
-    /// The values of `range`, each with its span.
+    /// The values of `range`, each with its span. In naga `arena[range]`, without the spans.
     pub fn get_range(&self, range: Range<K>) -> &[(T, Span)]
         requires ordered { range.0 ≤ range.1 }
         requires in_bounds { range.1 ≤ length self.now }
@@ -291,7 +291,7 @@ impl<T, K> Arena<T, K> {
         Drain::new(mem::replace(&mut self.entries, empty))
     }
 
-    /// All values with their spans.
+    /// All values with their spans. Naga's `into_inner` leaves out the spans.
     pub fn into_inner(self) -> Vec<(T, Span)>
         ensures { result.items ≡ self }
     {

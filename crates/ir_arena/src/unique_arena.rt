@@ -96,6 +96,7 @@ impl<T: Eq + Hash, K> UniqueArena<T, K> {
         ensures in_range { IfOk result (λ h. (h < length self.new) × (h < 4294967295)) }
         ensures ok { OnOk result (self.new ≡ with_entry T.eq self.old value span) }
         ensures err { OnErr result (self.new ≡ self.old) }
+        ensures err_absent { OnErr result (has_equal T.eq self.old value ≡ false) }
 
         // where no equal value stands, it goes last
         ensures appends_to { IfOk result (λ h. has_equal T.eq self.old value ≡ false → h ≡ length self.old) }

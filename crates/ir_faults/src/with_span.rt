@@ -1,6 +1,6 @@
 //! Errors with the parts of the source that they speak of.
 
-ghost use Rattle.std.specs.Prelude.{◌≡◌, ◌++◌, [], map, string_bytes, IfOk, IfErr};
+ghost use Rattle.std.specs.Prelude.{◌≡◌, ◌++◌, [], map, string_bytes, IsTrue, IfOk, IfErr, OnErr};
 ghost use Rattle.std.specs.List.{AllPass};
 ghost use Rattle.std.specs.Slice.Iter.{iter_rest};
 ghost use Rattle.ir_arena.specs.Spans.{is_defined_span};
@@ -69,6 +69,7 @@ impl<E> WithSpan<E> {
         ensures error { IfOk result (λ fault. error_of fault ≡ error_of self) }
         ensures spans { IfOk result (λ fault. spans_of fault ≡ with_context (spans_of self) span description.entry.now) }
         ensures err { IfErr result (λ refused. IsSameFault self refused.value) }
+        ensures err_known { OnErr result (IsTrue (is_defined_span span)) }
     {
         if !span.is_defined() {
             return Ok(self);
@@ -88,6 +89,7 @@ impl<E> WithSpan<E> {
         ensures error { IfOk result (λ fault. error_of fault ≡ error_of self) }
         ensures spans { IfOk result (λ fault. spans_of fault ≡ with_context (spans_of self) context.0 (string_bytes context.1)) }
         ensures err { IfErr result (λ refused. IsSameFault self refused.value) }
+        ensures err_known { OnErr result (IsTrue (is_defined_span context.0)) }
     {
         let (span, description) = context;
         if !span.is_defined() {
