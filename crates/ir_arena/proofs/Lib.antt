@@ -1,1 +1,4 @@
+pub mod Distinct
+pub mod Entries
 pub mod Found
+pub mod Kept

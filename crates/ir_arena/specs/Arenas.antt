@@ -1,6 +1,6 @@
 -- The entries of an arena: its values in order, each with its span. A handle is a place among them.
-use Rattle.std.specs.Prelude.{ℕ, Bool, List, [], ◌∷◌, ◌++◌, if◌then◌else◌, Option, option_map, unwrap_or, position, slice_get}
-use Rattle.std.specs.List.{list_any, position_or_len, IsDistinct}
+use Rattle.std.specs.Prelude.{ℕ, Bool, List, [], ◌∷◌, ◌++◌, ◌<◌, true, false, length, if◌then◌else◌, Option, option_map, unwrap_or, position, slice_get, slice_set}
+use Rattle.std.specs.List.{list_any, position_or_len, IsDistinct, HoldsAt, AllWithin}
 use Rattle.ir_arena.specs.declared.span.Span.{Span}
 use Rattle.ir_arena.specs.Spans.{undefined_span}
 
@@ -19,6 +19,10 @@ value_at entries handle = option_map value_of_entry (slice_get entries handle)
 -- the span at a handle, or the undefined one
 abbrev pub span_at : {T : Type 0} → List (T × Span) → ℕ → Span
 span_at entries handle = unwrap_or (option_map span_of_entry (slice_get entries handle)) undefined_span
+
+-- the entries with this value at a handle, whose span stays
+abbrev pub with_value : {T : Type 0} → List (T × Span) → ℕ → T → List (T × Span)
+with_value entries handle value = slice_set entries handle (value, span_at entries handle)
 
 -- In these eq is the equality of the values.
 module _ {T : Type 0} (eq : T → T → Bool) where
@@ -46,3 +50,15 @@ module _ {T : Type 0} (eq : T → T → Bool) where
   abbrev pub with_entry : List (T × Span) → T → Span → List (T × Span)
   with_entry entries value span =
       if has_equal entries value then entries else entries ++ (value, span) ∷ []
+
+-- In these a test relates a value to what it may answer there.
+module _ {T : Type 0} (answers : T → Bool → Type 0) where
+  -- the test passes at the value of this handle, and fails at those before it
+  pub record IsFirstPassing (entries : List (T × Span)) (handle : ℕ) : Type 0 where
+    pub within : handle < length entries
+    pub passes : HoldsAt (λ entry. answers entry.0 true) entries handle
+    pub before : AllWithin (λ entry. answers entry.0 false) entries 0 handle
+
+  -- the test fails at each value
+  abbrev pub PassesNowhere : List (T × Span) → Type 0
+  PassesNowhere entries = AllWithin (λ entry. answers entry.0 false) entries 0 (length entries)

@@ -1,3 +1,6 @@
 pub mod Arenas
 pub mod Handles
+pub mod IterMut
+pub mod Lends
+pub mod Retains
 pub mod Spans

@@ -1,5 +1,5 @@
 -- What a clause sees of a span.
-use Rattle.std.specs.Prelude.{ℕ, Bool, not, ◌&&◌, ◌==◌, min, max, if◌then◌else◌}
+use Rattle.std.specs.Prelude.{ℕ, Bool, not, ◌&&◌, ◌==◌, min, max, if◌then◌else◌, List, fold}
 use Rattle.ir_arena.specs.declared.span.Span.{Span}
 
 -- the part of the source from start on, below end
@@ -18,3 +18,11 @@ is_defined_span s = not ((s.start == 0) && (s.end == 0))
 abbrev pub joined_span : Span → Span → Span
 joined_span a b =
     if is_defined_span a then (if is_defined_span b then span_from (min a.start b.start) (max a.end b.end) else a) else b
+
+-- from the start of the one up to the end of the other
+abbrev pub span_until : Span → Span → Span
+span_until a b = span_from a.start b.end
+
+-- the least span that holds all of these, one after the other
+abbrev pub total_span : List Span → Span
+total_span spans = fold joined_span undefined_span spans

@@ -1,14 +1,23 @@
 //! The arena that takes every value.
 
-ghost use Rattle.std.specs.Prelude.{◌≡◌, ◌<◌, ◌≤◌, ◌++◌, ◌↔◌, Some, [], ◌∷◌, length, IsTrue, IsOk, IfOk, IfErr, OnOk, OnErr};
-ghost use Rattle.ir_arena.specs.Arenas.{value_at, span_at};
-ghost use Rattle.ir_arena.specs.Handles.{handles_from};
+ghost use Rattle.std.specs.Prelude.{◌≡◌, ◌<◌, ◌≤◌, ◌++◌, ◌⊎◌, ◌↔◌, Some, false, [], ◌∷◌, length, slice_range, take, IsTrue, IsOk, IfOk, IfErr, IfSome, IfNone, OnOk, OnErr};
+ghost use Rattle.std.specs.Borrow.{sem};
+ghost use Rattle.std.specs.Fn.{FnReturnsAt, FnReturnsAtPair};
+ghost use Rattle.ir_arena.specs.Arenas.{value_at, span_at, has_equal, found_at, place_of, with_entry, IsFirstPassing, PassesNowhere};
+ghost use Rattle.ir_arena.specs.IterMut.{values_to_come};
+ghost use Rattle.ir_arena.specs.Lends.{LendsValue};
+ghost use Rattle.ir_arena.specs.Retains.{KeepsAt, RetainsFrom};
+ghost use Rattle.ir_arena.specs.Handles.{handles_from, entries_from};
 
+use crate::drain::Drain;
 use crate::handle::{BadHandle, Handle};
 use crate::iter::Iter;
+use crate::iter_mut::IterMut;
+use crate::range::{BadRangeError, Range};
 use crate::span::Span;
 use std::alloc::{AllocError, Global};
 use std::marker::{Model, PhantomData};
+use std::mem;
 use std::ops::Index;
 
 /// A list of values, each with its span. A value's handle is its place, so the handles are those
@@ -71,6 +80,14 @@ impl<T, K> Arena<T, K> {
         Iter::new(self.entries.as_slice())
     }
 
+    /// The values in order, each with its handle, to be changed. No contract says what the arena holds
+    /// once they were changed so; that of [`Arena::get_mut`] does.
+    pub fn iter_mut(&mut self) -> IterMut<'_, T, K>
+        ensures { values_to_come result ≡ handles_from 0 self.old }
+    {
+        IterMut::new(self.entries.as_mut_slice())
+    }
+
     /// Adds a value at the end, and gives its handle.
     ///
     /// # Errors
@@ -93,6 +110,81 @@ impl<T, K> Arena<T, K> {
         Ok(Handle::at(place))
     }
 
+    // The place of the first value that is equal to `value`.
+    fn find(&self, value: &T) -> Option<usize>
+    where
+        T: PartialEq,
+        ensures value { result ≡ found_at T.eq self.now value.now }
+        ensures in_range { IfSome result (λ place. (place < length self.now) × (place < 4294967295)) }
+    {
+        self.entries.iter().position(|entry| *value == entry.0)
+    }
+
+    /// The handle of the first value that is equal to `value`. Where there is none, adds `value` at
+    /// the end. A value that stands already keeps its span.
+    ///
+    /// # Errors
+    ///
+    /// As those of [`Arena::append`], where `value` is added.
+    pub fn fetch_or_append(&mut self, value: T, span: Span) -> Result<Handle<K>, AllocError>
+    where
+        T: PartialEq + Drop,
+        ensures handle { IfOk result (λ h. h ≡ place_of T.eq self.old value) }
+        ensures in_range { IfOk result (λ h. (h < length self.new) × (h < 4294967295)) }
+        ensures ok { OnOk result (self.new ≡ with_entry T.eq self.old value span) }
+        ensures err { OnErr result (self.new ≡ self.old) }
+        ensures err_absent { OnErr result (has_equal T.eq self.old value ≡ false) }
+    {
+        match self.find(&value) {
+            Some(place) => Ok(Handle::at(place)),
+            None => self.append(value, span),
+        }
+    }
+
+    /// The handle of the first value that passes `fun`, if there is one.
+    pub fn fetch_if<F: Fn(&T) -> bool>(&self, fun: F) -> Option<Handle<K>>
+        requires { F.IsAlwaysCallable fun }
+        ensures found { IfSome result (IsFirstPassing (FnReturnsAt F.Fn fun) self.now) }
+        ensures none { IfNone result (PassesNowhere (FnReturnsAt F.Fn fun) self.now) }
+    {
+        match first_passing(self.entries.as_slice(), &fun) {
+            Some(place) => Some(Handle::at(place)),
+            None => None,
+        }
+    }
+
+    /// The handle of the first value at which `fun` passes beside `value`. Where there is none, adds
+    /// `value` at the end. A value that stands already keeps its span.
+    ///
+    /// # Errors
+    ///
+    /// As those of [`Arena::append`], where `value` is added.
+    pub fn fetch_if_or_append<F: Fn(&T, &T) -> bool>(
+        &mut self,
+        value: T,
+        span: Span,
+        fun: F,
+    ) -> Result<Handle<K>, AllocError>
+    where
+        T: Drop,
+        requires { F.IsAlwaysCallable fun }
+        ensures found { IfOk result (λ h. h < length self.old → IsFirstPassing (λ old. FnReturnsAtPair F.Fn fun old value) self.old h) }
+        ensures kept { IfOk result (λ h. h < length self.old → self.new ≡ self.old) }
+
+        // a handle that the arena had not is that of the value, which goes last as none passes
+        ensures absent { IfOk result (λ h. length self.old ≤ h → PassesNowhere (λ old. FnReturnsAtPair F.Fn fun old value) self.old) }
+        ensures appends_to { IfOk result (λ h. length self.old ≤ h → h ≡ length self.old) }
+        ensures appends { IfOk result (λ h. length self.old ≤ h → self.new ≡ self.old ++ (value, span) ∷ []) }
+
+        ensures err { OnErr result (self.new ≡ self.old) }
+        ensures err_absent { OnErr result (PassesNowhere (λ old. FnReturnsAtPair F.Fn fun old value) self.old) }
+    {
+        match first_related(self.entries.as_slice(), &value, &fun) {
+            Some(place) => Ok(Handle::at(place)),
+            None => self.append(value, span),
+        }
+    }
+
     /// The value at `handle`.
     ///
     /// # Errors
@@ -108,6 +200,16 @@ impl<T, K> Arena<T, K> {
             Some(entry) => Ok(&entry.0),
             None => Err(BadHandle { index }),
         }
+    }
+
+    /// The value at `handle`, to be changed.
+    pub fn get_mut(&mut self, handle: Handle<K>) -> &mut T
+        requires { handle < length self.old }
+        ensures* writes_back { sem 𝓛 (LendsValue T.row K.row self.entry handle result) }
+        ensures value { Some result.now ≡ value_at self.old handle }
+    {
+        let entry = &mut self.entries[handle.index()];
+        &mut entry.0
     }
 
     /// The span of the value at `handle`, or [`Span::UNDEFINED`] where the arena has no such place.
@@ -136,6 +238,152 @@ impl<T, K> Arena<T, K> {
             Err(BadHandle { index })
         }
     }
+
+    /// Tests that the arena has each place of `range`. A range with no place is one that every arena
+    /// has, unless its end comes before its first place.
+    ///
+    /// # Errors
+    ///
+    /// [`BadRangeError`] where the end comes before the first place, or where the arena lacks a place.
+    pub fn check_contains_range(&self, range: &Range<K>) -> Result<(), BadRangeError>
+        ensures contained { IsOk result ↔ ((range.now.0 ≡ range.now.1) ⊎ (range.now.0 < range.now.1) × (range.now.1 ≤ length self.now)) }
+        ensures bad { IfErr result (λ e. e.range ≡ range.now) }
+    {
+        let places = range.index_range();
+        if places.start == places.end {
+            return Ok(());
+        }
+        if places.start < places.end && places.end as usize <= self.entries.len() {
+            return Ok(());
+        }
+        Err(BadRangeError::new(Range::<K>::new(places.start, places.end)))
+    }
+
+    /// The values of `range`, each with its span. In naga `arena[range]`, without the spans.
+    pub fn get_range(&self, range: Range<K>) -> &[(T, Span)]
+        requires ordered { range.0 ≤ range.1 }
+        requires in_bounds { range.1 ≤ length self.now }
+        ensures { result.now ≡ slice_range self.now range.0 range.1 }
+    {
+        let places = range.index_range();
+        &self.entries.as_slice()[places.start as usize..places.end as usize]
+    }
+
+    /// Asks `keep` at each value in turn, with the handle that it has before the call, and keeps those
+    /// at which it answers true, in order, as it left them. The handles of the values after one that
+    /// goes change.
+    pub fn retain_mut<F: FnMut(Handle<K>, &mut T) -> bool>(&mut self, mut keep: F)
+    where
+        T: Drop,
+        requires { F.IsAlwaysCallable keep }
+        ensures { RetainsFrom (KeepsAt F.FnMut) keep 0 self.old self.new }
+    {
+        let kept = keep_entries(self.entries.as_mut_slice(), &mut keep);
+        self.entries.truncate(kept);
+    }
+
+    /// Takes all values out, and leaves the arena empty.
+    pub fn drain(&mut self) -> Drain<T, K>
+        ensures taken { result ≡ entries_from 0 self.old }
+        ensures emptied { self.new ≡ [] }
+    {
+        let empty = Vec::new(*self.entries.allocator());
+        Drain::new(mem::replace(&mut self.entries, empty))
+    }
+
+    /// All values with their spans. Naga's `into_inner` leaves out the spans.
+    pub fn into_inner(self) -> Vec<(T, Span)>
+        ensures { result.items ≡ self }
+    {
+        let Arena { entries, key: _ } = self;
+        entries
+    }
+}
+
+// The place of the first entry whose value passes `fun`.
+fn first_passing<T, F: Fn(&T) -> bool>(entries: &[(T, Span)], fun: &F) -> Option<usize>
+    requires callable { F.IsAlwaysCallable fun.now }
+    requires in_range { length entries.now ≤ 4294967295 }
+    ensures found { IfSome result (IsFirstPassing (FnReturnsAt F.Fn fun.now) entries.now) }
+    ensures in_range { IfSome result (λ place. place < 4294967295) }
+    ensures none { IfNone result (PassesNowhere (FnReturnsAt F.Fn fun.now) entries.now) }
+{
+    for (place, entry) in entries.iter().enumerate() {
+        if answer(entry, fun) {
+            return Some(place);
+        }
+    }
+    None
+}
+
+// What `fun` answers of the entry's value.
+fn answer<T, F: Fn(&T) -> bool>(entry: &(T, Span), fun: &F) -> bool
+    requires { F.IsAlwaysCallable fun.now }
+    ensures { FnReturnsAt F.Fn fun.now entry.now.0 result }
+{
+    fun(&entry.0)
+}
+
+// The place of the first entry at whose value `fun` passes beside `value`.
+fn first_related<T, F: Fn(&T, &T) -> bool>(
+    entries: &[(T, Span)],
+    value: &T,
+    fun: &F,
+) -> Option<usize>
+    requires callable { F.IsAlwaysCallable fun.now }
+    requires in_range { length entries.now ≤ 4294967295 }
+    ensures found { IfSome result (IsFirstPassing (λ old. FnReturnsAtPair F.Fn fun.now old value.now) entries.now) }
+    ensures in_range { IfSome result (λ place. (place < 4294967295) × (place < length entries.now)) }
+    ensures none { IfNone result (PassesNowhere (λ old. FnReturnsAtPair F.Fn fun.now old value.now) entries.now) }
+{
+    for (place, entry) in entries.iter().enumerate() {
+        if relate(entry, value, fun) {
+            return Some(place);
+        }
+    }
+    None
+}
+
+// What `fun` answers of the entry's value and `value`.
+fn relate<T, F: Fn(&T, &T) -> bool>(entry: &(T, Span), value: &T, fun: &F) -> bool
+    requires { F.IsAlwaysCallable fun.now }
+    ensures { FnReturnsAtPair F.Fn fun.now entry.now.0 value.now result }
+{
+    fun(&entry.0, value)
+}
+
+// Moves the entries that `keep` keeps to the front, in order, and gives their number.
+fn keep_entries<T, K, F: FnMut(Handle<K>, &mut T) -> bool>(
+    entries: &mut [(T, Span)],
+    keep: &mut F,
+) -> usize
+    requires callable { F.IsAlwaysCallable keep.old }
+    requires in_range { length entries.old ≤ 4294967295 }
+    ensures in_range { result ≤ length entries.old }
+    ensures kept { RetainsFrom (KeepsAt F.FnMut) keep.old 0 entries.old (take result entries.new) }
+{
+    let mut kept = 0;
+    for place in 0..entries.len() {
+        if ask(&mut entries[place], Handle::at(place), keep) {
+            entries.swap(kept, place);
+            kept += 1;
+        }
+    }
+    kept
+}
+
+// What `keep` answers of the entry's value, which it may change.
+fn ask<T, K, F: FnMut(Handle<K>, &mut T) -> bool>(
+    entry: &mut (T, Span),
+    handle: Handle<K>,
+    keep: &mut F,
+) -> bool
+    requires { F.IsAlwaysCallable keep.old }
+    ensures callable { F.IsAlwaysCallable keep.new }
+    ensures asked { KeepsAt F.FnMut keep.old handle entry.old.0 result keep.new entry.new.0 }
+    ensures span { entry.new.1 ≡ entry.old.1 }
+{
+    keep(handle, &mut entry.0)
 }
 
 impl<T, K> Index<Handle<K>> for Arena<T, K> {

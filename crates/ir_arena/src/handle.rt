@@ -1,7 +1,9 @@
 //! Places in an arena, and the error of a place that an arena does not have.
 
-ghost use Rattle.std.specs.Prelude.{◌≡◌, ◌<◌, ◌↔◌, IsSome, IfSome};
+ghost use Rattle.std.specs.Prelude.{◌≡◌, ◌<◌, ◌+◌, ◌↔◌, IsSome, IfSome};
 
+use std::error::Error;
+use std::fmt::{self, Display};
 use std::marker::{Model, PhantomData};
 
 /// A number below 4294967295, which is `u32::MAX`. In a contract it is that number.
@@ -32,6 +34,17 @@ impl NonMaxU32 {
             Some(NonMaxU32 { value: n })
         } else {
             None
+        }
+    }
+
+    /// The sum of this number and `n`, or `None` where it is 4294967295 or more.
+    pub fn checked_add(self, n: u32) -> Option<Self>
+        ensures some { IsSome result ↔ (self + n < 4294967295) }
+        ensures value { IfSome result (λ r. r ≡ self + n) }
+    {
+        match self.get().checked_add(n) {
+            Some(sum) => NonMaxU32::new(sum),
+            None => None,
         }
     }
 
@@ -102,9 +115,32 @@ impl<T> Handle<T> {
     }
 }
 
-/// The error of a handle whose place an arena does not have.
+/// The error of a handle whose place an arena does not have. Naga's also names the type of the value.
 #[derive(Clone, Copy, PartialEq, Eq, Hash, Debug)]
 pub struct BadHandle {
     /// The handle's place, counted from 0.
     pub index: usize,
 }
+
+impl BadHandle {
+    /// The error of `handle`.
+    pub fn new<T>(handle: Handle<T>) -> Self
+        ensures { result.index ≡ handle }
+    {
+        BadHandle {
+            index: handle.index(),
+        }
+    }
+}
+
+impl Display for BadHandle {
+    fn fmt<W: fmt::Write>(&self, f: &mut fmt::Formatter<W>) -> fmt::Result {
+        write!(
+            f,
+            "Handle {} is either not present, or inaccessible yet",
+            self.index
+        )
+    }
+}
+
+impl Error for BadHandle {}

@@ -10,8 +10,10 @@
 #![tactic(auto)]
 
 pub mod arena;
+pub mod drain;
 pub mod handle;
 pub mod iter;
+pub mod iter_mut;
 pub mod laws;
 pub mod range;
 pub mod span;

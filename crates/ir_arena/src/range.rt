@@ -4,6 +4,8 @@ ghost use Rattle.std.specs.Prelude.{◌≡◌, ◌<◌, ◌≤◌, ◌+◌, ◌-
 
 use crate::arena::Arena;
 use crate::handle::Handle;
+use std::error::Error;
+use std::fmt::{self, Display};
 use std::marker::{Model, PhantomData};
 use std::ops;
 
@@ -46,6 +48,29 @@ impl<T> Range<T> {
         }
     }
 
+    /// The handles from `first` to `last`, both included.
+    pub fn new_from_bounds(first: Handle<T>, last: Handle<T>) -> Self
+        ensures { result ≡ (first, last + 1) }
+    {
+        let first = first.index();
+        let last = last.index();
+        Range::new(first as u32, last as u32 + 1)
+    }
+
+    /// The first and the last handle, or `None` where there is none.
+    pub fn first_and_last(&self) -> Option<(Handle<T>, Handle<T>)>
+        ensures found { IsSome result ↔ (self.now.0 < self.now.1) }
+        ensures value { IfSome result (λ bounds. bounds ≡ (self.now.0, self.now.1 - 1)) }
+    {
+        if self.first >= self.end {
+            return None;
+        }
+        Some((
+            Handle::at(self.first as usize),
+            Handle::at(self.end as usize - 1),
+        ))
+    }
+
     /// The places, from the first on, below the end.
     pub fn index_range(&self) -> ops::Range<u32>
         ensures start { result.start ≡ self.now.0 }
@@ -53,4 +78,65 @@ impl<T> Range<T> {
     {
         self.first..self.end
     }
+
+    /// The handles of the places `inner`, which `arena` has. Naga panics where it does not.
+    pub fn from_index_range<U>(inner: ops::Range<u32>, arena: &Arena<U, T>) -> Self
+        requires ordered { inner.start ≤ inner.end }
+        requires in_bounds { inner.end ≤ length arena.now }
+        ensures { result ≡ (inner.start, inner.end) }
+    {
+        Range::new(inner.start, inner.end)
+    }
 }
+
+impl<T> Iterator for Range<T> {
+    ghost use Rattle.std.specs.Iterator.{YieldsFirst, item_count};
+    ghost use Rattle.ir_arena.specs.Handles.{handles_between};
+
+    type Item = Handle<T>;
+
+    ghost next_gives = { YieldsFirst handles_between };
+
+    ghost remaining = { item_count handles_between };
+
+    fn next(&mut self) -> Option<Handle<T>> {
+        if self.first < self.end {
+            let handle = Handle::at(self.first as usize);
+            self.first += 1;
+            Some(handle)
+        } else {
+            None
+        }
+    }
+}
+
+/// The error of a range that an arena does not have. Naga's also names the type of the values.
+#[derive(Clone, Copy, PartialEq, Eq, Hash, Debug)]
+pub struct BadRangeError {
+    /// The range, whatever its handles are of.
+    pub range: Range<()>,
+}
+
+impl BadRangeError {
+    /// The error of `range`.
+    pub fn new<T>(range: Range<T>) -> Self
+        ensures { result.range ≡ range }
+    {
+        BadRangeError {
+            range: Range::new(range.first, range.end),
+        }
+    }
+}
+
+impl Display for BadRangeError {
+    fn fmt<W: fmt::Write>(&self, f: &mut fmt::Formatter<W>) -> fmt::Result {
+        let places = self.range.index_range();
+        write!(
+            f,
+            "Handle range {}..{} is either not present, or inaccessible yet",
+            places.start, places.end
+        )
+    }
+}
+
+impl Error for BadRangeError {}

@@ -1,7 +1,10 @@
 //! Parts of the source text that a shader was written in.
 
-ghost use Rattle.std.specs.Prelude.{◌≡◌};
-ghost use Rattle.ir_arena.specs.Spans.{span_from, is_defined_span, joined_span};
+ghost use Rattle.std.specs.Prelude.{◌≡◌, ◌↔◌, IsTrue, IsSome, IfSome};
+ghost use Rattle.std.specs.Iterator.{IsFinite, Drains};
+ghost use Rattle.ir_arena.specs.Spans.{span_from, span_until, is_defined_span, joined_span, total_span};
+
+use std::ops::Range;
 
 /// A part of the source text, in bytes: from `start` on, and below `end`.
 ///
@@ -28,6 +31,43 @@ impl Span {
         ensures { result ≡ is_defined_span self.now }
     {
         *self != Span::UNDEFINED
+    }
+
+    /// The part from the start of this span up to the end of `other`.
+    pub fn until(&self, other: &Self) -> Self
+        ensures { result ≡ span_until self.now other.now }
+    {
+        Span {
+            start: self.start,
+            end: other.end,
+        }
+    }
+
+    /// The bytes of the part, or `None` where it is not known. Where the start passes the end, the
+    /// range is empty.
+    pub fn to_range(self) -> Option<Range<usize>>
+        ensures known { IsSome result ↔ IsTrue (is_defined_span self) }
+        ensures start { IfSome result (λ r. r.start ≡ self.start) }
+        ensures end { IfSome result (λ r. r.end ≡ self.end) }
+    {
+        if self.is_defined() {
+            Some(self.start as usize..self.end as usize)
+        } else {
+            None
+        }
+    }
+
+    /// The least span that holds each of `spans`, [`Span::UNDEFINED`] where none is known.
+    pub fn total_span<I: Iterator<Item = Span> + Drop>(spans: I) -> Self
+        requires can { I.can_next spans }
+        requires ends { IsFinite (I.remaining spans) }
+        ensures { (xs : _) × Drains I.next_gives spans xs × (result ≡ total_span xs) }
+    {
+        let mut total = Span::UNDEFINED;
+        for span in spans {
+            total.subsume(span);
+        }
+        total
     }
 
     /// Grows to the least span that holds `other` too. A part that is not known adds nothing.

@@ -1,15 +1,17 @@
 //! The arena that holds no two equal values.
 
 ghost use Rattle.std.specs.Prelude.{◌≡◌, ◌<◌, ◌≤◌, ◌++◌, ◌↔◌, Some, false, [], ◌∷◌, length, IsTrue, IsOk, IfOk, IfErr, IfSome, OnOk, OnErr};
-ghost use Rattle.ir_arena.specs.Arenas.{value_at, span_at, has_equal, found_at, place_of, with_entry, IsDistinctBy};
-ghost use Rattle.ir_arena.specs.Handles.{handles_from};
+ghost use Rattle.ir_arena.specs.Arenas.{value_at, span_at, with_value, has_equal, found_at, place_of, with_entry, IsDistinctBy};
+ghost use Rattle.ir_arena.specs.Handles.{handles_from, entries_from};
 
+use crate::drain::Drain;
 use crate::handle::{BadHandle, Handle};
 use crate::iter::Iter;
 use crate::span::Span;
 use std::alloc::{AllocError, Global};
 use std::hash::Hash;
 use std::marker::{Model, PhantomData};
+use std::mem;
 use std::ops::Index;
 
 /// A list of values with their spans, no two of the values equal. A value's handle is its place, so
@@ -94,6 +96,7 @@ impl<T: Eq + Hash, K> UniqueArena<T, K> {
         ensures in_range { IfOk result (λ h. (h < length self.new) × (h < 4294967295)) }
         ensures ok { OnOk result (self.new ≡ with_entry T.eq self.old value span) }
         ensures err { OnErr result (self.new ≡ self.old) }
+        ensures err_absent { OnErr result (has_equal T.eq self.old value ≡ false) }
 
         // where no equal value stands, it goes last
         ensures appends_to { IfOk result (λ h. has_equal T.eq self.old value ≡ false → h ≡ length self.old) }
@@ -110,6 +113,19 @@ impl<T: Eq + Hash, K> UniqueArena<T, K> {
                 Ok(Handle::at(place))
             }
         }
+    }
+
+    /// Puts `new` in the place of the value at `old`, whose span it takes.
+    pub fn replace(&mut self, old: Handle<K>, new: T)
+    where
+        T: Drop,
+        requires contained { old < length self.old }
+        requires absent { has_equal T.eq self.old new ≡ false }
+        ensures { self.new ≡ with_value self.old old new }
+    {
+        let place = old.index();
+        let span = self.entries[place].1;
+        self.entries[place] = (new, span);
     }
 
     /// The handle of the value that is equal to `value`, if there is one.
@@ -165,6 +181,33 @@ impl<T: Eq + Hash, K> UniqueArena<T, K> {
         } else {
             Err(BadHandle { index })
         }
+    }
+
+    /// Lets go of all values. The arena keeps its memory.
+    pub fn clear(&mut self)
+    where
+        T: Drop,
+        ensures { self.new ≡ [] }
+    {
+        self.entries.clear();
+    }
+
+    /// Takes all values into an arena of their own, and leaves this one empty. Their handles stay.
+    pub fn take(&mut self) -> Self
+        ensures taken { result ≡ self.old }
+        ensures emptied { self.new ≡ [] }
+    {
+        let empty = UniqueArena::new(*self.entries.allocator());
+        mem::replace(self, empty)
+    }
+
+    /// Takes all values out, and leaves the arena empty.
+    pub fn drain_all(&mut self) -> Drain<T, K>
+        ensures taken { result ≡ entries_from 0 self.old }
+        ensures emptied { self.new ≡ [] }
+    {
+        let UniqueArena { entries, key: _ } = self.take();
+        Drain::new(entries)
     }
 }
 

@@ -1,4 +1,4 @@
-//! What holds of handles and of types for all values.
+//! What holds of handles, spans, types and completed bodies for all values.
 
-pub use ir_arena::laws::handle_laws;
-pub use ir_items::laws::type_equality;
+pub use ir_arena::laws::{handle_laws, subsume_laws};
+pub use ir_items::laws::{completed_by_tails, completed_once, type_equality};

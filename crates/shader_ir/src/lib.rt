@@ -1,5 +1,6 @@
-//! The intermediate representation of a shader from one place: the kinds of `ir_kinds`, the arenas of `ir_arena` and
-//! the items of `ir_items`, and in `specs/` the words of their contracts.
+//! The intermediate representation of a shader from one place: the kinds of `ir_kinds`, the arenas of `ir_arena`, the
+//! sets of handles of `ir_sets`, the errors with spans of `ir_faults` and the items of `ir_items`, and in `specs/` the
+//! words of their contracts.
 //!
 //! Nothing is defined here. A crate that uses the representation as a whole names this crate alone.
 #![tactic(auto)]
@@ -7,9 +8,18 @@
 pub mod laws;
 
 pub use ir_arena::arena::Arena;
+pub use ir_arena::drain::Drain;
 pub use ir_arena::handle::{BadHandle, Handle, Index, NonMaxU32};
 pub use ir_arena::iter::Iter;
+pub use ir_arena::iter_mut::IterMut;
+pub use ir_arena::range::{BadRangeError, Range};
 pub use ir_arena::span::Span;
 pub use ir_arena::unique_arena::UniqueArena;
-pub use ir_items::{Block, Function, IrType, Module, Statement, TypeInner, key};
+pub use ir_faults::refusal::Refusal;
+pub use ir_faults::with_span::WithSpan;
+pub use ir_items::{Block, Statement, SwitchCase, complete, ensure_block_returns};
+pub use ir_items::{Expression, Function, FunctionResult, IrType, Module, TypeInner, key};
 pub use ir_kinds::{Bytes, Capability, Flag, Scalar, ScalarKind, ShaderStage, SubgroupFlag};
+pub use ir_kinds::{Literal, SwitchValue};
+pub use ir_sets::handle_set::HandleSet;
+pub use ir_sets::handle_vec::HandleVec;

@@ -1,6 +1,7 @@
 use Rattle.std.proofs.Common.{arith, sym, ◌∙◌, refl}
 use Rattle.std.proofs.lemmas.List.{length_push}
 use Rattle.std.proofs.lemmas.Map.Keys.{IsDistinct-push}
+use Rattle.ir_arena.proofs.Entries.{OnErr-always}
 use Rattle.ir_arena.proofs.Found.{passes_at, passes_nowhere, none_passes, first_equiv}
 use Rattle.ir_arena.specs.Arenas.{has_value}
 use Rattle.ir_arena.proofs.unique_arena.UniqueArena.insert.Goals as goal
@@ -38,3 +39,11 @@ pub returns-in_ok-push-in-None-clause-ok : goal.returns-in_ok-push-in-None-claus
 returns-in_ok-push-in-None-clause-ok g c =
     let absent = passes_nowhere (has_value g.T.PartialEq.eq c.args.value) c.args.self.now (sym c.find.ensures.value ∙ c.in-None.is) in
     rw (absent, c.in_ok-push-in-None.ensures.items, c.self.view_is) refl
+
+pub returns-then-place-ge4294967295-clause-err_absent : goal.returns-then-place-ge4294967295-clause-err_absent
+returns-then-place-ge4294967295-clause-err_absent g c =
+    passes_nowhere (has_value g.T.PartialEq.eq c.args.value) c.args.self.now (sym c.find.ensures.value ∙ c.in-None.is)
+
+pub returns-in_err-push-in-None-clause-err_absent : goal.returns-in_err-push-in-None-clause-err_absent
+returns-in_err-push-in-None-clause-err_absent g c =
+    OnErr-always c.from_residual.result (passes_nowhere (has_value g.T.PartialEq.eq c.args.value) c.args.self.now (sym c.find.ensures.value ∙ c.in-None.is))

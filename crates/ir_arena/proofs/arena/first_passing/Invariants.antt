@@ -1,0 +1,7 @@
+use Rattle.std.specs.Fn.{FnReturnsAt}
+use Rattle.std.proofs.Common.{false}
+use Rattle.std.specs.List.{AllWithin}
+use Rattle.ir_arena.proofs.arena.first_passing.Given as goal
+
+abbrev pub invariant-loop-place : goal.invariant-loop-place
+invariant-loop-place g l = AllWithin (λ entry. FnReturnsAt g.F.Fn l.fun entry.0 false) l.entries 0 l.place

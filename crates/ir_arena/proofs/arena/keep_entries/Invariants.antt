@@ -1,0 +1,11 @@
+use Rattle.std.proofs.Common.{◌≤◌, ◌++◌, take, drop}
+use Rattle.ir_arena.specs.Retains.{KeepsAt, RetainsFrom}
+use Rattle.ir_arena.proofs.arena.keep_entries.Given as goal
+
+abbrev pub invariant-loop-place : goal.invariant-loop-place
+invariant-loop-place g l =
+    record {
+      callable : goal.F-IsAlwaysCallable g l.keep;
+      behind : l.kept ≤ l.place;
+      so_far : (others : _) → RetainsFrom (KeepsAt g.F.FnMut) l.keep l.place (drop l.place l.entries) others → RetainsFrom (KeepsAt g.F.FnMut) l.fn.keep 0 l.fn.entries (take l.kept l.entries ++ others);
+    }

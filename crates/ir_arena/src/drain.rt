@@ -1,0 +1,65 @@
+//! Taking the values out of an arena.
+
+ghost use Rattle.std.specs.Prelude.{◌≡◌, ◌≤◌, length};
+ghost use Rattle.ir_arena.specs.Handles.{entries_from};
+
+use crate::handle::Handle;
+use crate::span::Span;
+use std::marker::{Model, PhantomData};
+use std::vec;
+
+/// The values that were taken out of an arena, in order, each with the handle that it had there and
+/// its span. In a contract it is the list of those that are still to come.
+///
+/// It owns them, so the arena is empty as soon as they are taken. Naga has a type of its own for the
+/// values of a unique arena, `UniqueArenaDrain`.
+#[derive(Drop)]
+pub struct Drain<T, K> {
+    entries: vec::IntoIter<(T, Span)>,
+    place: usize,
+    key: PhantomData<K>,
+}
+
+impl<T, K> Model for Drain<T, K> {
+    ghost use Rattle.std.specs.Prelude.{ℕ, List, ◌≤◌, ◌+◌, length};
+    ghost use Rattle.std.specs.Vec.Iter.{into_iter_items};
+    ghost use Rattle.ir_arena.specs.declared.span.Span.{Span};
+    ghost use Rattle.ir_arena.specs.Handles.{entries_from};
+
+    ghost Value = { List (ℕ × T × Span) };
+
+    ghost view = { λ d. entries_from d.place (into_iter_items d.entries) };
+
+    ghost invariant = { λ d. d.place + length (into_iter_items d.entries) ≤ 4294967295 };
+}
+
+impl<T, K> Drain<T, K> {
+    /// The values of an arena with these entries.
+    pub fn new(entries: Vec<(T, Span)>) -> Self
+        requires { length entries.items ≤ 4294967295 }
+        ensures { result ≡ entries_from 0 entries.items }
+    {
+        Drain {
+            entries: entries.into_iter(),
+            place: 0,
+            key: PhantomData,
+        }
+    }
+}
+
+impl<T: Drop, K> Iterator for Drain<T, K> {
+    ghost use Rattle.std.specs.Iterator.{YieldsFirst, item_count};
+
+    type Item = (Handle<K>, T, Span);
+
+    ghost next_gives = { YieldsFirst (λ d. d) };
+
+    ghost remaining = { item_count (λ d. d) };
+
+    fn next(&mut self) -> Option<(Handle<K>, T, Span)> {
+        let (value, span) = self.entries.next()?;
+        let handle = Handle::at(self.place);
+        self.place += 1;
+        Some((handle, value, span))
+    }
+}

@@ -1,0 +1,53 @@
+//! Going over an arena whose values may be changed.
+
+ghost use Rattle.std.specs.Prelude.{◌≡◌, ◌≤◌, ◌+◌, length};
+ghost use Rattle.std.specs.Slice.Iter.{iter_mut_rest};
+
+use crate::handle::Handle;
+use crate::span::Span;
+use std::marker::PhantomData;
+use std::slice;
+
+/// The values of an arena in order, each with its handle, to be changed.
+#[derive(Drop)]
+pub struct IterMut<'a, T, K> {
+    entries: slice::IterMut<'a, (T, Span)>,
+    place: usize,
+    key: PhantomData<K>,
+    ghost small: { place + length (iter_mut_rest entries) ≤ 4294967295 },
+}
+
+impl<'a, T, K> IterMut<'a, T, K> {
+    ghost use Rattle.ir_arena.specs.IterMut.{values_to_come};
+    ghost use Rattle.ir_arena.specs.Handles.{handles_from};
+
+    /// An iterator over `entries`, whose first has the handle 0.
+    pub fn new(entries: &'a mut [(T, Span)]) -> Self
+        requires { length entries.old ≤ 4294967295 }
+        ensures rest { values_to_come result ≡ handles_from 0 entries.old }
+    {
+        IterMut {
+            entries: entries.iter_mut(),
+            place: 0,
+            key: PhantomData,
+        }
+    }
+}
+
+impl<'a, T, K> Iterator for IterMut<'a, T, K> {
+    ghost use Rattle.std.specs.Iterator.{YieldsFirstBy, item_count};
+    ghost use Rattle.ir_arena.specs.IterMut.{values_to_come, handle_with_value_to_change};
+
+    type Item = (Handle<K>, &'a mut T);
+
+    ghost next_gives = { YieldsFirstBy handle_with_value_to_change values_to_come };
+
+    ghost remaining = { item_count values_to_come };
+
+    fn next(&mut self) -> Option<(Handle<K>, &'a mut T)> {
+        let entry = self.entries.next()?;
+        let handle = Handle::at(self.place);
+        self.place += 1;
+        Some((handle, &mut entry.0))
+    }
+}

@@ -1,0 +1,243 @@
+//! Sets of the handles of an arena.
+
+ghost use Rattle.std.specs.Prelude.{◌≡◌, ℕ, ◌<◌, ◌≤◌, ◌↔◌, [], length, not, IsTrue, IsNone, IfNone, IfSome, IfOk, IfErr, OnOk, OnErr};
+ghost use Rattle.std.specs.FinSet as set;
+ghost use Rattle.ir_sets.specs.Places.{IsRising, AreIndexes, StandsAt, FitsAt, ListsMembers};
+
+use ir_arena::arena::Arena;
+use ir_arena::handle::Handle;
+use ir_arena::range::Range;
+use ir_arena::unique_arena::UniqueArena;
+use std::alloc::{AllocError, Global};
+use std::hash::Hash;
+use std::marker::{Model, PhantomData};
+
+/// An arena, whatever its values are: what is known of it is how many handles it has. `K` is the type
+/// of its handles.
+pub trait ArenaType<K> {
+    ghost handle_count: { Self → ℕ };
+
+    /// The number of values, and so of handles.
+    fn len(&self) -> usize
+        ensures value { result ≡ handle_count self.now }
+        ensures in_range { handle_count self.now ≤ 4294967295 };
+}
+
+impl<T, K> ArenaType<K> for Arena<T, K> {
+    ghost handle_count = { length };
+
+    fn len(&self) -> usize {
+        Arena::len(self)
+    }
+}
+
+impl<T: Eq + Hash, K> ArenaType<K> for UniqueArena<T, K> {
+    ghost handle_count = { length };
+
+    fn len(&self) -> usize {
+        UniqueArena::len(self)
+    }
+}
+
+/// A set of handles. In a contract it is the set of their places.
+///
+/// Naga's set remembers how many handles the arena has that it was made for; here
+/// [`HandleSet::all_possible`] is handed the arena.
+#[derive(Drop)]
+#[derive_where(Debug)]
+pub struct HandleSet<K> {
+    places: Vec<u32>,
+    as_keys: PhantomData<K>,
+}
+
+impl<K> Model for HandleSet<K> {
+    ghost use Rattle.std.specs.Ordering.{nat_cmp};
+    ghost use Rattle.std.specs.FinSet as set;
+    ghost use Rattle.std.specs.Coded.{coded_ℕ};
+    ghost use Rattle.ir_sets.specs.Places.{IsRising, AreIndexes};
+
+    ghost Value = { set.FinSet nat_cmp };
+
+    ghost coded = { set.code coded_ℕ };
+
+    ghost view = { λ s. set.from_list s.places.items };
+
+    ghost invariant = { λ s. IsRising s.places.items × AreIndexes s.places.items };
+}
+
+impl<K> HandleSet<K> {
+    /// A set with no handle, for those of `arena`. It allocates nothing: its room grows with its
+    /// members, where naga makes room for each handle of the arena at once.
+    pub fn for_arena<A: ArenaType<K>>(alloc: Global, _arena: &A) -> Self
+        ensures { result ≡ set.empty }
+    {
+        HandleSet::new(alloc)
+    }
+
+    /// The handles of `arena`, which are all that a set for it can have.
+    pub fn all_possible<A: ArenaType<K>>(arena: &A) -> Range<K>
+        ensures { result ≡ (0, A.handle_count arena.now) }
+    {
+        Range::new(0, arena.len() as u32)
+    }
+
+    /// A set with no handle, which allocates nothing.
+    pub fn new(alloc: Global) -> Self
+        ensures { result ≡ set.empty }
+    {
+        HandleSet {
+            places: Vec::new(alloc),
+            as_keys: PhantomData,
+        }
+    }
+
+    /// The number of handles.
+    pub fn len(&self) -> usize
+        ensures { result ≡ set.len self.now }
+    {
+        self.places.len()
+    }
+
+    /// Whether there is no handle.
+    pub fn is_empty(&self) -> bool
+        ensures { IsTrue result ↔ (self.now ≡ set.empty) }
+    {
+        self.places.is_empty()
+    }
+
+    /// Whether `handle` is a member.
+    pub fn contains(&self, handle: Handle<K>) -> bool
+        ensures { result ≡ set.contains self.now handle }
+    {
+        find(self.places.as_slice(), handle.index() as u32).is_ok()
+    }
+
+    /// Makes `handle` a member, and answers whether it was none before.
+    ///
+    /// # Errors
+    ///
+    /// `AllocError` where there is no memory for a new member. The set then stays as it was.
+    pub fn insert(&mut self, handle: Handle<K>) -> Result<bool, AllocError>
+        ensures added { IfOk result (λ added. added ≡ not (set.contains self.old handle)) }
+        ensures ok { OnOk result (self.new ≡ set.insert self.old handle) }
+        ensures err { OnErr result (self.new ≡ self.old) }
+        ensures err_absent { OnErr result (IsTrue (not (set.contains self.old handle))) }
+    {
+        let place = handle.index() as u32;
+        match find(self.places.as_slice(), place) {
+            Ok(_) => Ok(false),
+            Err(at) => {
+                self.places.insert(at, place)?;
+                Ok(true)
+            }
+        }
+    }
+
+    /// Takes `handle` out, and answers whether it was a member.
+    pub fn remove(&mut self, handle: Handle<K>) -> bool
+        ensures removed { result ≡ set.contains self.old handle }
+        ensures members { self.new ≡ set.remove self.old handle }
+    {
+        let place = handle.index() as u32;
+        match find(self.places.as_slice(), place) {
+            Ok(at) => {
+                self.places.remove(at);
+                true
+            }
+            Err(_) => false,
+        }
+    }
+
+    /// Takes the greatest handle out, or answers `None` where there is none.
+    pub fn pop(&mut self) -> Option<Handle<K>>
+        ensures empty { IsNone result ↔ (self.old ≡ set.empty) }
+        ensures member { IfSome result (λ h. IsTrue (set.contains self.old h)) }
+        ensures greatest { IfSome result (λ h. (q : _) → IsTrue (set.contains self.old q) → q ≤ h) }
+        ensures rest { IfSome result (λ h. self.new ≡ set.remove self.old h) }
+        ensures none { IfNone result (self.new ≡ self.old) }
+    {
+        let Some(place) = self.places.pop() else {
+            return None;
+        };
+        Some(Handle::at(place as usize))
+    }
+
+    /// Takes all handles out. The set keeps its memory.
+    pub fn clear(&mut self)
+        ensures { self.new ≡ set.empty }
+    {
+        self.places.clear();
+    }
+
+    /// Takes all handles out, so that those of `arena` can be put in. The set keeps its memory.
+    pub fn clear_for_arena<A: ArenaType<K>>(&mut self, _arena: &A)
+        ensures { self.new ≡ set.empty }
+    {
+        self.clear();
+    }
+
+    /// The handles in ascending order.
+    pub fn iter(&self) -> Iter<'_, K>
+        ensures { ListsMembers self.now result }
+    {
+        Iter::new(self.places.as_slice())
+    }
+}
+
+// Where `place` stands among the rising places, or where it would.
+fn find(places: &[u32], place: u32) -> Result<usize, usize>
+    requires { IsRising places.now }
+    ensures stands { IfOk result (StandsAt places.now place) }
+    ensures absent { IfErr result (FitsAt places.now place) }
+{
+    places.binary_search(&place)
+}
+
+/// The handles of a set in ascending order. In a contract it is the list of the places of those that
+/// are still to come.
+#[derive(Drop)]
+pub struct Iter<'a, K> {
+    places: &'a [u32],
+    as_keys: PhantomData<K>,
+}
+
+impl<'a, K> Model for Iter<'a, K> {
+    ghost use Rattle.std.specs.Prelude.{ℕ, List};
+    ghost use Rattle.ir_sets.specs.Places.{AreIndexes};
+
+    ghost Value = { List ℕ };
+
+    ghost view = { λ i. i.places.now };
+
+    ghost invariant = { λ i. AreIndexes i.places.now };
+}
+
+impl<'a, K> Iter<'a, K> {
+    // An iterator over handles of these places.
+    fn new(places: &'a [u32]) -> Self
+        requires { AreIndexes places.now }
+        ensures { result ≡ places.now }
+    {
+        Iter {
+            places,
+            as_keys: PhantomData,
+        }
+    }
+}
+
+impl<'a, K> Iterator for Iter<'a, K> {
+    ghost use Rattle.std.specs.Iterator.{YieldsFirst, item_count};
+
+    type Item = Handle<K>;
+
+    ghost next_gives = { YieldsFirst (λ i. i) };
+
+    ghost remaining = { item_count (λ i. i) };
+
+    fn next(&mut self) -> Option<Handle<K>> {
+        let (first, rest) = self.places.split_first()?;
+        let handle = Handle::at(*first as usize);
+        self.places = rest;
+        Some(handle)
+    }
+}
