@@ -13,6 +13,9 @@ const MOST_STEPS: usize = 2000;
 /// How many bytes more are left at each step: the least by which the C library tells two blocks apart.
 const STEP: usize = 16;
 
+/// More than the returns need.
+const SPARE: usize = 1 << 16;
+
 const RETURN: Statement = Statement::Return { value: None };
 
 fn with(block: Block, statement: Statement) -> Result<Block, AllocError> {
@@ -180,12 +183,19 @@ fn little_memory_for_returns(rt: HostRuntime) -> Result<(), Fail> {
     let mut refusals = 0usize;
     for step in 0..MOST_STEPS {
         let mut hog = Hog::new(alloc)?;
-        let spare: Vec<u8> = Vec::with_capacity(alloc, step * STEP)?;
+        let spare: Vec<u8> = Vec::with_capacity(alloc, SPARE)?;
         let filled = hog.fill(alloc);
         drop(spare);
+        // what is left is the rest of a greater block, which the C library cuts up as it is asked to
+        let plug: Result<Vec<u8>, AllocError> = Vec::with_capacity(
+            alloc,
+            SPARE.saturating_sub(step * STEP),
+        );
+        let plugged = plug.is_ok();
         let answer = ensure_block_returns(alloc, &mut body);
+        drop(plug);
         drop(hog);
-        assert!(rt; filled, "memory was left");
+        assert!(rt; filled && plugged, "other memory was left than should be");
         if answer.is_ok() {
             break;
         }
