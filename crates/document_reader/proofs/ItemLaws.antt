@@ -403,18 +403,20 @@ function_sound n d f e =
     let t3 = both_true _ _ g.0 in
     let t2 = both_true _ _ t3.0 in
     let t1 = both_true _ _ t2.0 in
-    subst (λ y. (function_form y ≡ d) × IsFunctionItem y) (some_is _ f b.2)
-    ((
-      let whole = function_parts_some d p.0 p.1 in
-      let a1 = is_null_true p.0.name t1.0 in
-      let a2 = is_empty_list_true p.0.arguments t1.1 in
-      let a3 = result.0 in
-      let a4 = is_empty_list_true p.0.locals t2.1 in
-      let a5 = expressions.0 in
-      let a6 = body.0 in
-      let a7 = is_null_true p.0.filter t3.1 in
-      cc
-    ), record { result = result.1; expressions = expressions.1; body = body.1 })
+    subst (λ y. (function_form y ≡ d) × IsFunctionItem y) (some_is _ f b.2) (
+      (
+          let whole = function_parts_some d p.0 p.1 in
+          let a1 = is_null_true p.0.name t1.0 in
+          let a2 = is_empty_list_true p.0.arguments t1.1 in
+          let a3 = result.0 in
+          let a4 = is_empty_list_true p.0.locals t2.1 in
+          let a5 = expressions.0 in
+          let a6 = body.0 in
+          let a7 = is_null_true p.0.filter t3.1 in
+          cc
+          ),
+      record { result = result.1; expressions = expressions.1; body = body.1 },
+    )
 
 pub function_complete : (n : ℕ) (f : PlainFunction) → IsFunctionItem f → items_depth (block_items f.body) ≤ n → function_at n (function_form f) ≡ Some f
 unfolding function_at function_parts

@@ -110,9 +110,11 @@ fn statement_of(
         StatementKind::Loop => turns(alloc, rest, depth),
         StatementKind::Break => Ok(is_end(rest).then_some(Statement::Break)),
         StatementKind::Continue => Ok(is_end(rest).then_some(Statement::Continue)),
-        StatementKind::Return => Ok(only(rest)
-            .and_then(|value| optional_handle(value))
-            .map(|value| Statement::Return { value })),
+        StatementKind::Return => Ok(
+            only(rest)
+                .and_then(|value| optional_handle(value))
+                .map(|value| Statement::Return { value }),
+        ),
         StatementKind::Kill => Ok(is_end(rest).then_some(Statement::Kill)),
         StatementKind::Call => call(alloc, rest),
     }

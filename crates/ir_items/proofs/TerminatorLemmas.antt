@@ -31,9 +31,9 @@ pub complete_stays : (b : Block) (front body items : List Statement) (last whole
     → statement_view whole ≡ finished (statement_view last) → goes_on (shape_of (statement_view last)) ≡ false → items ≡ body ++ whole ∷ [] → statements_view items ≡ completed (block_view b)
 complete_stays b front body items last whole parts copies end on made =
     let left : statements_view items ≡ block_of (map statement_view front ++ finished (statement_view last) ∷ []) =
-        ap statements_view made ∙ (ap block_of (map-append statement_view body (whole ∷ [])) ∙ (ap (λ z. block_of (z ++ statement_view whole ∷ [])) copies ∙ ap (λ z. block_of (map statement_view front ++ z ∷ [])) end)) in
+    ap statements_view made ∙ (ap block_of (map-append statement_view body (whole ∷ [])) ∙ (ap (λ z. block_of (z ++ statement_view whole ∷ [])) copies ∙ ap (λ z. block_of (map statement_view front ++ z ∷ [])) end)) in
     let right : block_view b ≡ block_of (map statement_view front ++ statement_view last ∷ []) =
-        block_view-statements b ∙ (ap statements_view parts ∙ ap block_of (map-append statement_view front (last ∷ []))) in
+    block_view-statements b ∙ (ap statements_view parts ∙ ap block_of (map-append statement_view front (last ∷ []))) in
     left ∙ (sym (completed_stays (map statement_view front) (statement_view last) on) ∙ sym (ap completed right))
 
 pub complete_adds : (b : Block) (front body more items : List Statement) (last whole added : Statement) → statements_of b ≡ front ++ last ∷ [] → map statement_view body ≡ map statement_view front
@@ -41,11 +41,11 @@ pub complete_adds : (b : Block) (front body more items : List Statement) (last w
     → statements_view items ≡ completed (block_view b)
 complete_adds b front body more items last whole added parts copies end on made all returns =
     let more_is : map statement_view more ≡ map statement_view front ++ finished (statement_view last) ∷ [] =
-        ap (map statement_view) made ∙ (map-append statement_view body (whole ∷ []) ∙ (ap (λ z. z ++ statement_view whole ∷ []) copies ∙ ap (λ z. map statement_view front ++ z ∷ []) end)) in
+    ap (map statement_view) made ∙ (map-append statement_view body (whole ∷ []) ∙ (ap (λ z. z ++ statement_view whole ∷ []) copies ∙ ap (λ z. map statement_view front ++ z ∷ []) end)) in
     let left : statements_view items ≡ block_of ((map statement_view front ++ finished (statement_view last) ∷ []) ++ return None ∷ []) =
-        ap statements_view all ∙ (ap block_of (map-append statement_view more (added ∷ [])) ∙ (ap (λ z. block_of (z ++ statement_view added ∷ [])) more_is ∙ ap (λ z. block_of ((map statement_view front ++ finished (statement_view last) ∷ []) ++ z ∷ [])) returns)) in
+    ap statements_view all ∙ (ap block_of (map-append statement_view more (added ∷ [])) ∙ (ap (λ z. block_of (z ++ statement_view added ∷ [])) more_is ∙ ap (λ z. block_of ((map statement_view front ++ finished (statement_view last) ∷ []) ++ z ∷ [])) returns)) in
     let right : block_view b ≡ block_of (map statement_view front ++ statement_view last ∷ []) =
-        block_view-statements b ∙ (ap statements_view parts ∙ ap block_of (map-append statement_view front (last ∷ []))) in
+    block_view-statements b ∙ (ap statements_view parts ∙ ap block_of (map-append statement_view front (last ∷ []))) in
     left ∙ (sym (completed_adds (map statement_view front) (statement_view last) on) ∙ sym (ap completed right))
 
 pub cases_same : (items cases : List SwitchCase) (n : ℕ) → length cases ≤ n → map case_view items ≡ map finished_case (map case_view (take n cases)) → cases_of (map case_view items) ≡ finished_cases (cases_of (map case_view cases))

@@ -33,4 +33,4 @@ module _ (s : PlainSettings) (blocks : Bool) (of : IsTrue blocks ↔ Contains s.
   function_complete ok =
       let b = body_of s.returns f in
       true_both _ _ (arity_complete m b ok.arity)
-        (if_asked blocks _ (λ on. let asked = of.0 on in rules_complete m f b (ok.control asked) (ok.statements asked)))
+      (if_asked blocks _ (λ on. let asked = of.0 on in rules_complete m f b (ok.control asked) (ok.statements asked)))

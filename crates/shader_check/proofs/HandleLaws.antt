@@ -84,4 +84,4 @@ module _ (m : PlainModule) (i : ℕ) (f : PlainFunction) where
   in_order_refers h =
       true_both _ _ (below_result f.result (λ t g. h t (inl g)))
       (passes_everywhere (λ _ s. statement_in_order i (length f.expressions) s) control_of_body f.body
-        (λ p s stands. in_order_own s (λ t names. h t (inr (record { place = p; statement = s; stands = stands; names = names })))))
+      (λ p s stands. in_order_own s (λ t names. h t (inr (record { place = p; statement = s; stands = stands; names = names })))))

@@ -150,13 +150,14 @@ module _ (m : PlainModule) (f : PlainFunction) where
 
   pub rules_sound : (b : PlainBlock) → everywhere (rule_ok m f) control_of_body b ≡ true
       → ControlOK b × ((p : Place) (s : PlainStatement) → StandsAt b p s → StatementOK m f s)
-  rules_sound b e =
-      (λ p s exit at leaves. sym (may_at p exit) ∙ if_some_at (may_leave_by (control_at control_of_body p)) (exit_of (shape_of s)) exit (both_true _ _ (passes_at (rule_ok m f) p control_of_body b e s at)).0 leaves,
-        λ p s at. statement_sound s (both_true _ _ (passes_at (rule_ok m f) p control_of_body b e s at)).1)
+  rules_sound b e = (
+    λ p s exit at leaves. sym (may_at p exit) ∙ if_some_at (may_leave_by (control_at control_of_body p)) (exit_of (shape_of s)) exit (both_true _ _ (passes_at (rule_ok m f) p control_of_body b e s at)).0 leaves,
+    λ p s at. statement_sound s (both_true _ _ (passes_at (rule_ok m f) p control_of_body b e s at)).1,
+  )
 
   pub rules_complete : (b : PlainBlock) → ControlOK b → ((p : Place) (s : PlainStatement) → StandsAt b p s → StatementOK m f s) → everywhere (rule_ok m f) control_of_body b ≡ true
   rules_complete b control rules =
       passes_everywhere (rule_ok m f) control_of_body b (λ p s at.
-          true_both _ _
-          (at_if_some (may_leave_by (control_at control_of_body p)) (exit_of (shape_of s)) (λ exit leaves. may_at p exit ∙ control p s exit at leaves))
-          (statement_complete s (rules p s at)))
+      true_both _ _
+      (at_if_some (may_leave_by (control_at control_of_body p)) (exit_of (shape_of s)) (λ exit leaves. may_at p exit ∙ control p s exit at leaves))
+      (statement_complete s (rules p s at)))

@@ -178,5 +178,5 @@ pub switch_complete : (f : PlainFunction) (selector : ℕ) (cs : PlainCases) →
 switch_complete f selector cs h =
     rw h.selects
     (true_both _ _
-      (true_both _ _ (true_both _ _ (true_both _ _ (kind_integer h.scalar.kind h.integer) (fit_complete h.scalar.kind h.integer cs h.fit)) (differ_complete cs h.differ)) (held_value Default cs h.default))
-      (true_not _ (λ e. true≢false (sym e ∙ h.ends))))
+    (true_both _ _ (true_both _ _ (true_both _ _ (kind_integer h.scalar.kind h.integer) (fit_complete h.scalar.kind h.integer cs h.fit)) (differ_complete cs h.differ)) (held_value Default cs h.default))
+    (true_not _ (λ e. true≢false (sym e ∙ h.ends))))

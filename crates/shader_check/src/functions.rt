@@ -9,7 +9,9 @@ ghost use Rattle.shader_check.specs.Tests.{first_failing, is_sint, is_uint, is_c
 use crate::control::Control;
 use crate::walk::{StatementTest, everywhere};
 use ir_arena::handle::Handle;
-use ir_items::{Block, Expression, Function, Module, Statement, SwitchCase, TypeInner, complete, key};
+use ir_items::{
+    Block, Expression, Function, Module, Statement, SwitchCase, TypeInner, complete, key,
+};
 use ir_kinds::{Literal, Scalar, ScalarKind, SwitchValue};
 use std::alloc::{AllocError, Global};
 
@@ -113,7 +115,11 @@ fn falls_at_end(cases: &[SwitchCase]) -> bool
     falls
 }
 
-fn is_switch_ok(function: &Function, selector: Handle<key::Expression>, cases: &[SwitchCase]) -> bool
+fn is_switch_ok(
+    function: &Function,
+    selector: Handle<key::Expression>,
+    cases: &[SwitchCase],
+) -> bool
     ensures { result ≡ switch_ok (function_view function.now) selector (cases_of (map case_view cases.now)) }
 {
     match scalar_at(function, selector) {
@@ -166,7 +172,11 @@ fn is_of_scalar(scalar: Scalar, inner: TypeInner) -> bool
     }
 }
 
-fn is_return_ok(module: &Module, function: &Function, value: Option<Handle<key::Expression>>) -> bool
+fn is_return_ok(
+    module: &Module,
+    function: &Function,
+    value: Option<Handle<key::Expression>>,
+) -> bool
     ensures { result ≡ return_ok (module_view «module».now) (function_view function.now) value }
 {
     let Some(value) = value else {
@@ -263,7 +273,9 @@ impl StatementTest for RuleTest<'_> {
                 control.returns && is_return_ok(self.module, self.function, *value)
             }
             Statement::Call {
-                function, result, ..
+                function,
+                result,
+                ..
             } => is_call_result_ok(self.module, *function, *result),
             Statement::Block(_) | Statement::Kill => true,
         }

@@ -44,7 +44,9 @@ fn in_statement<T: StatementTest>(tested: &T, control: Control, statement: &Stat
         }
         Statement::Switch { cases, .. } => in_cases(tested, control.in_case(), cases),
         Statement::Loop {
-            body, continuing, ..
+            body,
+            continuing,
+            ..
         } => {
             everywhere(tested, control.in_turn(), body)
                 && everywhere(tested, control.in_continuing(), continuing)

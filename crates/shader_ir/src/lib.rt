@@ -17,9 +17,12 @@ pub use ir_arena::span::Span;
 pub use ir_arena::unique_arena::UniqueArena;
 pub use ir_faults::refusal::Refusal;
 pub use ir_faults::with_span::WithSpan;
-pub use ir_items::{Block, Statement, SwitchCase, complete, ensure_block_returns};
-pub use ir_items::{Expression, Function, FunctionResult, IrType, Module, TypeInner, key};
-pub use ir_kinds::{Bytes, Capability, Flag, Scalar, ScalarKind, ShaderStage, SubgroupFlag};
-pub use ir_kinds::{Literal, SwitchValue};
+pub use ir_items::{
+    Block, Expression, Function, FunctionResult, IrType, Module, Statement, SwitchCase, TypeInner,
+    complete, ensure_block_returns, key,
+};
+pub use ir_kinds::{
+    Bytes, Capability, Flag, Literal, Scalar, ScalarKind, ShaderStage, SubgroupFlag, SwitchValue,
+};
 pub use ir_sets::handle_set::HandleSet;
 pub use ir_sets::handle_vec::HandleVec;
