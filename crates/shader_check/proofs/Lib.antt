@@ -6,6 +6,7 @@ pub mod TypeLaws
 pub mod ValueEquality
 pub mod HandleLaws
 pub mod SwitchLaws
+pub mod ValueLaws
 pub mod RuleLaws
 pub mod FunctionLaws
 pub mod FindingLaws

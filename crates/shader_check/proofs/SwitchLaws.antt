@@ -68,17 +68,17 @@ fits_complete k Default i h = kind_integer k i
 
 -- ---- one of a list
 
-contains_cons : {X : Type 0} (x : X) (xs : List X) (y : X) → Contains (x ∷ xs) y → (x ≡ y) ⊎ Contains xs y
+pub contains_cons : {X : Type 0} (x : X) (xs : List X) (y : X) → Contains (x ∷ xs) y → (x ≡ y) ⊎ Contains xs y
 contains_cons x xs y c = by_place x xs y c.0 c.1 c.2
   where
     by_place : {X : Type 0} (x : X) (xs : List X) (y : X) (k : ℕ) → k < length (x ∷ xs) → slice_index_or (x ∷ xs) k y ≡ y → (x ≡ y) ⊎ Contains xs y
     by_place x xs y zero lt e = inl e
     by_place x xs y (suc k) lt e = inr (k, omega arith, e)
 
-contains_first : {X : Type 0} (x : X) (xs : List X) → Contains (x ∷ xs) x
+pub contains_first : {X : Type 0} (x : X) (xs : List X) → Contains (x ∷ xs) x
 contains_first x xs = (0, omega arith, refl)
 
-contains_later : {X : Type 0} (x : X) (xs : List X) (y : X) → Contains xs y → Contains (x ∷ xs) y
+pub contains_later : {X : Type 0} (x : X) (xs : List X) (y : X) → Contains xs y → Contains (x ∷ xs) y
 contains_later x xs y c = (suc c.0, (let lt = c.1 in omega arith), c.2)
 
 -- what stands at a place is one of the list
@@ -135,7 +135,7 @@ true_not : (b : Bool) → (b ≡ true → ⊥) → not b ≡ true
 true_not true h = absurd (h refl)
 true_not false h = refl
 
-differ_sound : (cs : PlainCases) → values_differ cs ≡ true → AllPairs (λ v w. v ≢ w) (case_values cs)
+pub differ_sound : (cs : PlainCases) → values_differ cs ≡ true → AllPairs (λ v w. v ≢ w) (case_values cs)
 differ_sound no_case e = λ i j d lt len. absurd (omega arith)
 differ_sound (case v body falls rest) e =
     let p = both_true _ _ e in
@@ -148,7 +148,7 @@ differ_sound (case v body falls rest) e =
 pairs_behind : {X : Type 0} (R : X → X → Type 0) (x : X) (xs : List X) → AllPairs R (x ∷ xs) → AllPairs R xs
 pairs_behind R x xs h = λ i j d lt len. h (suc i) (suc j) d (omega arith) (omega arith)
 
-differ_complete : (cs : PlainCases) → AllPairs (λ v w. v ≢ w) (case_values cs) → values_differ cs ≡ true
+pub differ_complete : (cs : PlainCases) → AllPairs (λ v w. v ≢ w) (case_values cs) → values_differ cs ≡ true
 differ_complete no_case h = refl
 differ_complete (case v body falls rest) h =
     true_both _ _

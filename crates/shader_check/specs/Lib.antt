@@ -6,3 +6,4 @@ pub mod Judged
 pub mod Faults
 pub mod Outcome
 pub mod Checks
+pub mod Values

@@ -4,6 +4,7 @@ ghost use Rattle.ir_arena.specs.Handles.{handles_from};
 ghost use Rattle.ir_items.specs.View.{block_view, case_view, cases_of, function_view, module_view};
 ghost use Rattle.judgement.specs.Functions.{scalar_at, answer_of, literal_scalar, expression_scalar, falls_at_end};
 ghost use Rattle.judgement.specs.Handles.{HandlesOK};
+ghost use Rattle.shader_check.specs.Values.{value_key};
 ghost use Rattle.shader_check.specs.Tests.{first_failing, is_sint, is_uint, is_condition, fits_kind, values_fit, has_value, values_differ, switch_ok, is_of_scalar, return_ok, call_result_ok, body_ok, function_ok};
 
 use crate::control::Control;
@@ -14,6 +15,7 @@ use ir_items::{
 };
 use ir_kinds::{Literal, Scalar, ScalarKind, SwitchValue};
 use std::alloc::{AllocError, Global};
+use std::collections::BTreeSet;
 
 const SWITCH_DEFAULT: SwitchValue = SwitchValue::Default;
 
@@ -93,16 +95,28 @@ fn has_value(value: SwitchValue, cases: &[SwitchCase]) -> bool
     false
 }
 
-// Whether no value stands twice. It looks for each among those behind it.
-fn values_differ(cases: &[SwitchCase]) -> bool
-    ensures { result ≡ values_differ (cases_of (map case_view cases.now)) }
+// The value as a number, beside the kind that it is of.
+fn value_key(value: SwitchValue) -> (u8, i64)
+    ensures { result ≡ value_key value }
 {
-    for (index, case) in cases.iter().enumerate() {
-        if has_value(case.value, &cases[index + 1..]) {
-            return false;
+    match value {
+        SwitchValue::I32(number) => (0, number as i64),
+        SwitchValue::U32(number) => (1, number as i64),
+        SwitchValue::Default => (2, 0),
+    }
+}
+
+// Whether no value stands twice. The error is want of memory.
+fn values_differ(alloc: Global, cases: &[SwitchCase]) -> Result<bool, AllocError>
+    ensures { IfOk result (λ ok. ok ≡ values_differ (cases_of (map case_view cases.now))) }
+{
+    let mut seen = BTreeSet::new(alloc);
+    for case in cases {
+        if !seen.insert(value_key(case.value))? {
+            return Ok(false);
         }
     }
-    true
+    Ok(true)
 }
 
 fn falls_at_end(cases: &[SwitchCase]) -> bool
@@ -116,22 +130,24 @@ fn falls_at_end(cases: &[SwitchCase]) -> bool
 }
 
 fn is_switch_ok(
+    alloc: Global,
     function: &Function,
     selector: Handle<key::Expression>,
     cases: &[SwitchCase],
-) -> bool
-    ensures { result ≡ switch_ok (function_view function.now) selector (cases_of (map case_view cases.now)) }
+) -> Result<bool, AllocError>
+    ensures { IfOk result (λ ok. ok ≡ switch_ok (function_view function.now) selector (cases_of (map case_view cases.now))) }
 {
-    match scalar_at(function, selector) {
-        Some(scalar) => {
-            is_integer(scalar.kind)
-                && values_fit(scalar.kind, cases)
-                && values_differ(cases)
-                && has_value(SWITCH_DEFAULT, cases)
-                && !falls_at_end(cases)
-        }
-        None => false,
-    }
+    let Some(scalar) = scalar_at(function, selector) else {
+        return Ok(false);
+    };
+    let differ = values_differ(alloc, cases)?;
+    Ok(
+        is_integer(scalar.kind)
+            && values_fit(scalar.kind, cases)
+            && differ
+            && has_value(SWITCH_DEFAULT, cases)
+            && !falls_at_end(cases),
+    )
 }
 
 // The function at a handle, if it is there.
@@ -219,8 +235,13 @@ impl StatementTest for ArityTest<'_> {
 
     ghost test = { λ t _ s. arity_ok (module_view t.«module».now) s };
 
-    fn test(&self, _control: Control, statement: &Statement) -> bool {
-        match statement {
+    fn test(
+        &self,
+        _alloc: Global,
+        _control: Control,
+        statement: &Statement,
+    ) -> Result<bool, AllocError> {
+        let is_ok = match statement {
             Statement::Call {
                 function,
                 arguments,
@@ -238,7 +259,8 @@ impl StatementTest for ArityTest<'_> {
             | Statement::Continue
             | Statement::Return { .. }
             | Statement::Kill => true,
-        }
+        };
+        Ok(is_ok)
     }
 }
 
@@ -255,14 +277,21 @@ impl StatementTest for RuleTest<'_> {
 
     ghost test = { λ t c s. rule_ok (module_view t.«module».now) (function_view t.function.now) c s };
 
-    fn test(&self, control: Control, statement: &Statement) -> bool {
-        match statement {
+    fn test(
+        &self,
+        alloc: Global,
+        control: Control,
+        statement: &Statement,
+    ) -> Result<bool, AllocError> {
+        let is_ok = match statement {
             Statement::Emit(range) => {
                 let bounds = range.index_range();
                 bounds.end <= bounds.start
             }
             Statement::If { condition, .. } => is_condition(self.function, *condition),
-            Statement::Switch { selector, cases } => is_switch_ok(self.function, *selector, cases),
+            Statement::Switch { selector, cases } => {
+                is_switch_ok(alloc, self.function, *selector, cases)?
+            }
             Statement::Loop { break_if, .. } => match *break_if {
                 Some(condition) => is_condition(self.function, condition),
                 None => true,
@@ -278,20 +307,27 @@ impl StatementTest for RuleTest<'_> {
                 ..
             } => is_call_result_ok(self.module, *function, *result),
             Statement::Block(_) | Statement::Kill => true,
-        }
+        };
+        Ok(is_ok)
     }
 }
 
-fn is_body_ok(blocks: bool, module: &Module, function: &Function, body: &Block) -> bool
-    ensures { result ≡ body_ok blocks (module_view «module».now) (function_view function.now) (block_view body.now) }
+fn is_body_ok(
+    alloc: Global,
+    blocks: bool,
+    module: &Module,
+    function: &Function,
+    body: &Block,
+) -> Result<bool, AllocError>
+    ensures { IfOk result (λ ok. ok ≡ body_ok blocks (module_view «module».now) (function_view function.now) (block_view body.now)) }
 {
-    if !everywhere(&ArityTest { module }, Control::BODY, body) {
-        return false;
+    if !everywhere(alloc, &ArityTest { module }, Control::BODY, body)? {
+        return Ok(false);
     }
     if blocks {
-        everywhere(&RuleTest { module, function }, Control::BODY, body)
+        everywhere(alloc, &RuleTest { module, function }, Control::BODY, body)
     } else {
-        true
+        Ok(true)
     }
 }
 
@@ -307,9 +343,9 @@ fn is_function_ok(
 {
     if returns {
         let body = complete(alloc, &function.body)?;
-        Ok(is_body_ok(blocks, module, function, &body))
+        is_body_ok(alloc, blocks, module, function, &body)
     } else {
-        Ok(is_body_ok(blocks, module, function, &function.body))
+        is_body_ok(alloc, blocks, module, function, &function.body)
     }
 }
 

@@ -1,5 +1,5 @@
 // The step that tests handles: each names something, and calls go to functions before their own.
-ghost use Rattle.std.specs.Prelude.{◌≡◌, length, is_none};
+ghost use Rattle.std.specs.Prelude.{◌≡◌, length, is_none, IfOk};
 ghost use Rattle.ir_arena.specs.Handles.{handles_from};
 ghost use Rattle.ir_items.specs.View.{function_view};
 ghost use Rattle.shader_check.specs.Tests.{first_failing, are_below, is_below, statement_in_order, function_in_order};
@@ -8,6 +8,7 @@ use crate::control::Control;
 use crate::walk::{StatementTest, everywhere};
 use ir_arena::handle::Handle;
 use ir_items::{Function, Module, Statement, key};
+use std::alloc::{AllocError, Global};
 
 fn are_below(handles: &[Handle<key::Expression>], end: usize) -> bool
     ensures { result ≡ are_below end handles.now }
@@ -41,9 +42,14 @@ impl StatementTest for HandleTest {
 
     ghost test = { λ t _ s. statement_in_order t.functions t.expressions s };
 
-    fn test(&self, _control: Control, statement: &Statement) -> bool {
+    fn test(
+        &self,
+        _alloc: Global,
+        _control: Control,
+        statement: &Statement,
+    ) -> Result<bool, AllocError> {
         let expressions = self.expressions;
-        match statement {
+        let is_in_order = match statement {
             Statement::Emit(range) => {
                 let bounds = range.index_range();
                 bounds.start <= bounds.end && bounds.end as usize <= expressions
@@ -62,13 +68,19 @@ impl StatementTest for HandleTest {
                     && is_below(*result, expressions)
             }
             Statement::Block(_) | Statement::Break | Statement::Continue | Statement::Kill => true,
-        }
+        };
+        Ok(is_in_order)
     }
 }
 
 // Whether the handles of a function are in order, of which so many types and functions stand before it.
-fn function_in_order(function: &Function, types: usize, functions: usize) -> bool
-    ensures { result ≡ function_in_order types functions (function_view function.now) }
+fn function_in_order(
+    alloc: Global,
+    function: &Function,
+    types: usize,
+    functions: usize,
+) -> Result<bool, AllocError>
+    ensures { IfOk result (λ ok. ok ≡ function_in_order types functions (function_view function.now)) }
 {
     let tested = HandleTest {
         functions,
@@ -78,18 +90,21 @@ fn function_in_order(function: &Function, types: usize, functions: usize) -> boo
         Some(result) => result.ty.index() < types,
         None => true,
     };
-    is_result_there && everywhere(&tested, Control::BODY, &function.body)
+    if !is_result_there {
+        return Ok(false);
+    }
+    everywhere(alloc, &tested, Control::BODY, &function.body)
 }
 
-/// Whether every handle of every function is in order. It follows none.
-pub fn handles_in_order(module: &Module) -> bool
-    ensures { result ≡ is_none (first_failing (λ i f. function_in_order (length «module».now.types) i (function_view f)) (handles_from 0 «module».now.functions)) }
+/// Whether every handle of every function is in order. It follows none. The error is want of memory.
+pub fn handles_in_order(alloc: Global, module: &Module) -> Result<bool, AllocError>
+    ensures { IfOk result (λ ok. ok ≡ is_none (first_failing (λ i f. function_in_order (length «module».now.types) i (function_view f)) (handles_from 0 «module».now.functions))) }
 {
     let types = module.types.len();
     for (handle, function) in module.functions.iter() {
-        if !function_in_order(function, types, handle.index()) {
-            return false;
+        if !function_in_order(alloc, function, types, handle.index())? {
+            return Ok(false);
         }
     }
-    true
+    Ok(true)
 }

@@ -26,7 +26,8 @@ fn has_blocks(flags: &[Flag]) -> bool
 fn judge_module(alloc: Global, settings: &Settings, module: &Module) -> Result<Finding, AllocError>
     ensures { IfOk result (IsFinding (settings_view settings.now) (module_view «module».now)) }
 {
-    if !handles_in_order(module) {
+    let is_in_order = handles_in_order(alloc, module)?;
+    if !is_in_order {
         return Ok(Finding::RefusedHandles);
     }
     if let Some(index) = first_failing_type(&module.types, widths_of(&settings.capabilities)) {

@@ -1,7 +1,9 @@
-use Rattle.std.proofs.Common.{◌≡◌, drop, map}
-use Rattle.ir_items.specs.View.{case_view, cases_of}
-use Rattle.shader_check.specs.Tests.{values_differ}
+use Rattle.std.proofs.Common.{◌≡◌, ◌≢◌, ℕ, ℤ, map, take}
+use Rattle.std.specs.List.{AllPairs}
+use Rattle.std.specs.BTreeSet.{contains}
+use Rattle.shader_check.proofs.ValueLaws.{key_cmp, value_of, has_key}
 use Rattle.shader_check.proofs.functions.values_differ.Given as goal
 
-abbrev pub invariant-loop-index : goal.invariant-loop-index
-invariant-loop-index l = values_differ (cases_of (map case_view (drop l.index l.cases))) ≡ values_differ (cases_of (map case_view l.cases))
+-- the set has the keys of the values so far, which differ
+abbrev pub invariant-loop-case : goal.invariant-loop-case
+invariant-loop-case l = ((q : ℕ × ℤ) → contains key_cmp l.seen q ≡ has_key (take l.case-index l.cases) q) × AllPairs (λ v w. v ≢ w) (map value_of (take l.case-index l.cases))

@@ -1,0 +1,36 @@
+use Rattle.std.proofs.Common.{◌≡◌, Bool, true, false, not, Contains, map, take, true≢false, refl, sym, ap, ◌∙◌, arith}
+use Rattle.std.specs.BTreeSet.{contains}
+use Rattle.shader_check.specs.Values.{value_key}
+use Rattle.document_reader.proofs.DistinctLemmas.{distinct_more, not_distinct, distinct_all}
+use Rattle.shader_check.proofs.ValueLaws.{key_cmp, value_of, has_key, held, found, more_keys, differ_is, repeat_is}
+use Rattle.shader_check.proofs.functions.values_differ.Goals as goal
+
+not_false : (b : Bool) → false ≡ not b → b ≡ true
+not_false true e = refl
+not_false false e = cc
+
+not_true : (b : Bool) → true ≡ not b → b ≡ false
+not_true true e = cc
+not_true false e = refl
+
+pub loop-case-init : goal.loop-case-init
+loop-case-init c = (λ q. rw c.new-seen.ensures.empty refl, λ i j d lt len. absurd (omega arith))
+
+pub returns-then-not-branch : goal.returns-then-not-branch
+returns-then-not-branch c =
+    let there : contains key_cmp c.loop-case.seen (value_key (value_of c.case-item.result)) ≡ true = not_false _ (sym c.if-not-branch.true ∙ rw c.value_key.ensures at c.in_ok-insert.ensures.added) in
+    let before : Contains (map value_of (take c.loop-case.case-index c.args.cases.now)) (value_of c.case-item.result) =
+    held _ _ (sym (c.loop-case.invariant.0 (value_key (value_of c.case-item.result))) ∙ there) in
+    repeat_is c.args.cases.now (not_distinct value_of c.args.cases.now c.loop-case.case-index c.case-item.result c.loop-case-test.true c.case-item.is before)
+
+pub loop-case-preserved : goal.loop-case-preserved
+loop-case-preserved c =
+    let absent : contains key_cmp c.loop-case.seen (value_key (value_of c.case-item.result)) ≡ false = not_true _ (sym c.if-not-branch.false ∙ rw c.value_key.ensures at c.in_ok-insert.ensures.added) in
+    let updates = rw c.value_key.ensures at c.in_ok-insert.ensures.updates in (
+      λ q. more_keys c.args.cases.now c.loop-case.case-index c.case-item.result q _ _ c.loop-case-test.true c.case-item.is (c.loop-case.invariant.0 q) (updates.0 q),
+      distinct_more value_of c.args.cases.now c.loop-case.case-index c.case-item.result c.loop-case-test.true c.case-item.is c.loop-case.invariant.1
+          (λ there. true≢false (sym (c.loop-case.invariant.0 (value_key (value_of c.case-item.result)) ∙ found _ _ there) ∙ absent)),
+    )
+
+pub returns : goal.returns
+returns c = differ_is c.args.cases.now (distinct_all value_of c.args.cases.now c.loop-case.case-index c.loop-case-test.false c.loop-case.invariant.1)
