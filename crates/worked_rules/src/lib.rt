@@ -1,0 +1,84 @@
+//! What the definitions of the judgement say of small examples, worked out by hand and computed by the prover.
+//!
+//! The functions do nothing: their contracts are the examples.
+#![tactic(auto)]
+
+ghost use Rattle.std.specs.Prelude.{◌≡◌, [], ◌∷◌, None, Some, true, false, codes, nat_eq};
+ghost use Rattle.ir_kinds.specs.declared.settings.Capability.TheVariants.{ShaderFloat16};
+ghost use Rattle.ir_kinds.specs.declared.scalars.ScalarKind.TheVariants.{Float, Uint, Bool as Boolean, AbstractInt};
+ghost use Rattle.ir_kinds.specs.declared.values.SwitchValue.TheVariants.{U32, Default};
+ghost use Rattle.ir_items.specs.Plain.{emit, block, choice, switch, loop, break, return, kill, call, stop, next, no_case, case};
+ghost use Rattle.ir_items.specs.Shapes.{breaks, continues, returns, kills, inner, case_at, turn, continuing};
+ghost use Rattle.ir_items.specs.Control.{may_leave};
+ghost use Rattle.ir_items.specs.Tails.{completed};
+ghost use Rattle.judgement.specs.Functions.{falls_at_end, case_values};
+ghost use Rattle.judgement.specs.Handles.{named, function, expression, range};
+ghost use Rattle.judgement.specs.Types.{IsScalarOK};
+ghost use Rattle.judgement.specs.Text.{text_of};
+ghost use Rattle.judgement.specs.declared.finding.Finding.TheVariants.{Accepted, RefusedDocument, RefusedHandles, Refused};
+ghost use Rattle.judgement.specs.declared.finding.Step.TheVariants.{«Type», Function};
+
+/// The line of each finding.
+pub fn lines()
+    ensures accepted { text_of Accepted ≡ codes "accepted\n" }
+    ensures document { text_of RefusedDocument ≡ codes "refused document\n" }
+    ensures handles { text_of RefusedHandles ≡ codes "refused handles\n" }
+    ensures first_type { text_of (Refused «Type» 0) ≡ codes "refused type 0\n" }
+    ensures later_function { text_of (Refused Function 12) ≡ codes "refused function 12\n" }
+{}
+
+/// What a statement names; what is inside it has names of its own.
+pub fn references()
+    ensures of_a_call { named (call 1 (0 ∷ 2 ∷ []) (Some 3)) ≡ function 1 ∷ expression 0 ∷ expression 2 ∷ expression 3 ∷ [] }
+    ensures of_a_plain_call { named (call 7 [] None) ≡ function 7 ∷ [] }
+    ensures of_a_block { named (block (next (call 1 [] None) stop)) ≡ [] }
+    ensures of_an_if { named (choice 4 (next (return (Some 1)) stop) stop) ≡ expression 4 ∷ [] }
+    ensures of_a_loop { named (loop stop stop (Some 2)) ≡ expression 2 ∷ [] }
+    ensures of_a_return { named (return (Some 5)) ≡ expression 5 ∷ [] }
+    ensures of_an_emit { named (emit 1 3) ≡ range 1 3 ∷ [] }
+{}
+
+/// Which scalars may be types.
+pub fn scalars()
+    ensures half_with_its_capability { IsScalarOK (ShaderFloat16 ∷ []) Float 2 }
+    ensures half_without_it { ¬ IsScalarOK [] Float 2 }
+    ensures plain_unsigned { IsScalarOK [] Uint 4 }
+    ensures truth_value { IsScalarOK [] Boolean 1 }
+    ensures wide_truth_value { ¬ IsScalarOK [] Boolean 4 }
+    ensures abstract_integer { ¬ IsScalarOK [] AbstractInt 8 }
+{}
+
+/// Where a statement may leave by, from the innermost part outward.
+pub fn control()
+    ensures break_in_a_body { may_leave breaks [] ≡ false }
+    ensures break_in_a_case { may_leave breaks (case_at 0 ∷ []) ≡ true }
+    ensures continue_in_a_case { may_leave continues (case_at 0 ∷ []) ≡ false }
+    ensures continue_in_a_case_in_a_loop { may_leave continues (case_at 1 ∷ turn ∷ []) ≡ true }
+    ensures break_in_a_block_in_a_loop { may_leave breaks (inner ∷ turn ∷ []) ≡ true }
+    ensures break_in_a_continuing_part { may_leave breaks (continuing ∷ turn ∷ []) ≡ false }
+    ensures break_in_a_loop_in_a_continuing_part { may_leave breaks (turn ∷ continuing ∷ []) ≡ true }
+    ensures return_in_a_body { may_leave returns [] ≡ true }
+    ensures return_in_a_loop_in_a_continuing_part { may_leave returns (turn ∷ continuing ∷ []) ≡ false }
+    ensures kill_in_a_continuing_part { may_leave kills (continuing ∷ []) ≡ true }
+{}
+
+/// Where returns are put in.
+pub fn completed_bodies()
+    ensures nothing { completed stop ≡ next (return None) stop }
+    ensures behind_a_call { completed (next (call 0 [] None) stop) ≡ next (call 0 [] None) (next (return None) stop) }
+    ensures behind_a_loop { completed (next (loop stop stop None) stop) ≡ next (loop stop stop None) (next (return None) stop) }
+    ensures not_behind_a_return { completed (next (return (Some 0)) stop) ≡ next (return (Some 0)) stop }
+    ensures in_a_last_block { completed (next (block stop) stop) ≡ next (block (next (return None) stop)) stop }
+    ensures not_in_an_earlier_block { completed (next (block stop) (next kill stop)) ≡ next (block stop) (next kill stop) }
+    ensures in_one_side_of_an_if { completed (next (choice 0 stop (next kill stop)) stop) ≡ next (choice 0 (next (return None) stop) (next kill stop)) stop }
+    ensures not_where_a_case_falls_through { completed (next (switch 0 (case (U32 1) stop true (case Default stop false no_case))) stop)
+        ≡ next (switch 0 (case (U32 1) stop true (case Default (next (return None) stop) false no_case))) stop }
+{}
+
+/// The values of a switch's cases, and whether the last falls through.
+pub fn cases()
+    ensures values { case_values (case (U32 1) stop true (case Default stop false no_case)) ≡ U32 1 ∷ Default ∷ [] }
+    ensures last_falls { falls_at_end false (case Default stop false (case (U32 1) stop true no_case)) ≡ true }
+    ensures last_does_not { falls_at_end false (case (U32 1) stop true (case Default stop false no_case)) ≡ false }
+    ensures no_case_at_all { falls_at_end false no_case ≡ false }
+{}
