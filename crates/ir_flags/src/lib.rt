@@ -1,0 +1,11 @@
+//! Sets of words, each with one bit for a word, in naga's order.
+#![tactic(auto)]
+
+pub mod laws;
+mod memory;
+mod settings;
+mod stages;
+
+pub use memory::{Barrier, MemoryDecorations, StorageAccess};
+pub use settings::{Capabilities, ValidationFlags};
+pub use stages::{ShaderStages, SubgroupOperationSet};

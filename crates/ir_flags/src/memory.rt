@@ -1,0 +1,135 @@
+//! Sets that say what is done with memory.
+
+use bitflags::{Flag, Flags, bitflag_items};
+
+/// What may be done with a storage buffer or a storage texture (naga's `StorageAccess`). A contract sees
+/// the number of its bits, as `set.0`.
+#[derive(Clone, Copy, PartialEq, Eq, Hash, Debug)]
+pub struct StorageAccess(
+    /// The bits as a number.
+    pub u32,
+);
+
+bitflag_items! {
+    impl StorageAccess: u32 {
+        /// Reads.
+        const LOAD = 1;
+        /// Writes.
+        const STORE = 2;
+        /// Atomic operations on texels.
+        const ATOMIC = 4;
+    }
+}
+
+impl Flags for StorageAccess {
+    ghost use Rattle.std.specs.Prelude.{⊤};
+    ghost use Rattle.ir_flags.specs.Words.{storage_access};
+
+    type Bits = u32;
+
+    ghost exact = { ⊤ };
+
+    ghost table = { storage_access };
+
+    ghost set_of = { λ s. s.0 };
+
+    fn flags<'a>() -> &'a [Flag<StorageAccess>] {
+        StorageAccess::FLAGS
+    }
+
+    fn bits(&self) -> u32 {
+        self.0
+    }
+
+    fn from_bits_retain(bits: u32) -> StorageAccess {
+        StorageAccess(bits)
+    }
+}
+
+/// The memory that a barrier orders (naga's `Barrier`). A contract sees
+/// the number of its bits, as `set.0`.
+#[derive(Clone, Copy, PartialEq, Eq, Hash, Debug)]
+pub struct Barrier(
+    /// The bits as a number.
+    pub u32,
+);
+
+bitflag_items! {
+    impl Barrier: u32 {
+        /// Storage buffers.
+        const STORAGE = 1;
+        /// Workgroup memory.
+        const WORK_GROUP = 2;
+        /// The invocations of a subgroup.
+        const SUB_GROUP = 4;
+        /// Textures.
+        const TEXTURE = 8;
+    }
+}
+
+impl Flags for Barrier {
+    ghost use Rattle.std.specs.Prelude.{⊤};
+    ghost use Rattle.ir_flags.specs.Words.{barrier};
+
+    type Bits = u32;
+
+    ghost exact = { ⊤ };
+
+    ghost table = { barrier };
+
+    ghost set_of = { λ s. s.0 };
+
+    fn flags<'a>() -> &'a [Flag<Barrier>] {
+        Barrier::FLAGS
+    }
+
+    fn bits(&self) -> u32 {
+        self.0
+    }
+
+    fn from_bits_retain(bits: u32) -> Barrier {
+        Barrier(bits)
+    }
+}
+
+/// How a storage buffer's memory is shared (naga's `MemoryDecorations`). A contract sees
+/// the number of its bits, as `set.0`.
+#[derive(Clone, Copy, PartialEq, Eq, Hash, Debug)]
+pub struct MemoryDecorations(
+    /// The bits as a number.
+    pub u8,
+);
+
+bitflag_items! {
+    impl MemoryDecorations: u8 {
+        /// Other invocations see what is written.
+        const COHERENT = 1;
+        /// The memory may change from outside.
+        const VOLATILE = 2;
+    }
+}
+
+impl Flags for MemoryDecorations {
+    ghost use Rattle.std.specs.Prelude.{⊤};
+    ghost use Rattle.ir_flags.specs.Words.{memory_decorations};
+
+    type Bits = u8;
+
+    ghost exact = { ⊤ };
+
+    ghost table = { memory_decorations };
+
+    ghost set_of = { λ s. s.0 };
+
+    fn flags<'a>() -> &'a [Flag<MemoryDecorations>] {
+        MemoryDecorations::FLAGS
+    }
+
+    fn bits(&self) -> u8 {
+        self.0
+    }
+
+    fn from_bits_retain(bits: u8) -> MemoryDecorations {
+        MemoryDecorations(bits)
+    }
+}

@@ -1,0 +1,180 @@
+//! Sets of checks and of capabilities.
+
+ghost use Rattle.std.specs.Prelude.{◌≡◌};
+ghost use Rattle.bitflags.specs.Sets.{known_bits};
+ghost use Rattle.ir_flags.specs.Words.{validation_flags};
+
+use bitflags::{Flag, Flags, bitflag_items};
+
+/// The checks that a validator makes (naga's `ValidationFlags`). A contract sees
+/// the number of its bits, as `set.0`.
+#[derive(Clone, Copy, PartialEq, Eq, Hash, Debug)]
+pub struct ValidationFlags(
+    /// The bits as a number.
+    pub u8,
+);
+
+bitflag_items! {
+    impl ValidationFlags: u8 {
+        /// Expressions.
+        const EXPRESSIONS = 1;
+        /// Statements and blocks.
+        const BLOCKS = 2;
+        /// Control flow uniformity.
+        const CONTROL_FLOW_UNIFORMITY = 4;
+        /// Host-shareable structure layouts.
+        const STRUCT_LAYOUTS = 8;
+        /// Constants and overrides.
+        const CONSTANTS = 16;
+        /// Bindings and varyings.
+        const BINDINGS = 32;
+    }
+}
+
+impl Flags for ValidationFlags {
+    ghost use Rattle.std.specs.Prelude.{⊤};
+    ghost use Rattle.ir_flags.specs.Words.{validation_flags};
+
+    type Bits = u8;
+
+    ghost exact = { ⊤ };
+
+    ghost table = { validation_flags };
+
+    ghost set_of = { λ s. s.0 };
+
+    fn flags<'a>() -> &'a [Flag<ValidationFlags>] {
+        ValidationFlags::FLAGS
+    }
+
+    fn bits(&self) -> u8 {
+        self.0
+    }
+
+    fn from_bits_retain(bits: u8) -> ValidationFlags {
+        ValidationFlags(bits)
+    }
+}
+
+/// What shaders may use beyond the common part (naga's `Capabilities`). A contract sees
+/// the number of its bits, as `set.0`.
+#[derive(Clone, Copy, PartialEq, Eq, Hash, Debug)]
+pub struct Capabilities(
+    /// The bits as a number.
+    pub u64,
+);
+
+bitflag_items! {
+    impl Capabilities: u64 {
+        /// Globals in the immediate address space.
+        const IMMEDIATES = 1;
+        /// Scalars of 64-bit floats.
+        const FLOAT64 = 2;
+        /// Scalars of 16-bit floats.
+        const SHADER_FLOAT16 = 4;
+        /// Scalars of 16-bit integers.
+        const SHADER_INT16 = 8;
+        /// Scalars of 64-bit integers.
+        const SHADER_INT64 = 16;
+        /// The primitive index.
+        const PRIMITIVE_INDEX = 32;
+        /// Binding arrays of uniform buffers.
+        const BUFFER_BINDING_ARRAY = 64;
+        /// Binding arrays of storage buffers.
+        const STORAGE_BUFFER_BINDING_ARRAY = 128;
+        /// Binding arrays of sampled textures and samplers.
+        const TEXTURE_AND_SAMPLER_BINDING_ARRAY = 256;
+        /// Binding arrays of storage textures.
+        const STORAGE_TEXTURE_BINDING_ARRAY = 512;
+        /// Binding arrays of acceleration structures.
+        const ACCELERATION_STRUCTURE_BINDING_ARRAY = 1024;
+        /// Storage images of 16-bit normalised formats.
+        const STORAGE_TEXTURE_16BIT_NORM_FORMATS = 2048;
+        /// Arrays of cube textures.
+        const CUBE_ARRAY_TEXTURES = 4096;
+        /// Clip distances.
+        const CLIP_DISTANCES = 8192;
+        /// Cull distances.
+        const CULL_DISTANCE = 16384;
+        /// Rendering into several views.
+        const MULTIVIEW = 32768;
+        /// Early depth tests.
+        const EARLY_DEPTH_TEST = 65536;
+        /// Shading for each sample.
+        const MULTISAMPLED_SHADING = 131072;
+        /// Blending with two sources.
+        const DUAL_SOURCE_BLENDING = 262144;
+        /// Subgroup operations.
+        const SUBGROUP = 524288;
+        /// Subgroup barriers.
+        const SUBGROUP_BARRIER = 1048576;
+        /// 64-bit atomic `Min` and `Max` without result.
+        const SHADER_INT64_ATOMIC_MIN_MAX = 2097152;
+        /// All 64-bit atomic operations.
+        const SHADER_INT64_ATOMIC_ALL_OPS = 4194304;
+        /// Atomic operations on 32-bit floats.
+        const SHADER_FLOAT32_ATOMIC = 8388608;
+        /// Atomic operations on 32-bit texels.
+        const TEXTURE_ATOMIC = 16777216;
+        /// Atomic operations on 64-bit texels.
+        const TEXTURE_INT64_ATOMIC = 33554432;
+        /// External textures.
+        const TEXTURE_EXTERNAL = 67108864;
+        /// Ray queries.
+        const RAY_QUERY = 134217728;
+        /// The vertex positions of a ray's hit.
+        const RAY_HIT_VERTEX_POSITION = 268435456;
+        /// Pipelines of ray tracing.
+        const RAY_TRACING_PIPELINE = 536870912;
+        /// Barycentric coordinates.
+        const SHADER_BARYCENTRICS = 1073741824;
+        /// Mesh and task shaders.
+        const MESH_SHADER = 2147483648;
+        /// Mesh shaders that give points.
+        const MESH_SHADER_POINT_TOPOLOGY = 4294967296;
+        /// Inputs for each vertex of a primitive.
+        const PER_VERTEX = 8589934592;
+        /// The draw index.
+        const DRAW_INDEX = 17179869184;
+        /// Cooperative matrices.
+        const COOPERATIVE_MATRIX = 34359738368;
+        /// Coherent memory.
+        const MEMORY_DECORATION_COHERENT = 68719476736;
+        /// Volatile memory.
+        const MEMORY_DECORATION_VOLATILE = 137438953472;
+    }
+}
+
+impl Flags for Capabilities {
+    ghost use Rattle.std.specs.Prelude.{⊤};
+    ghost use Rattle.ir_flags.specs.Words.{capabilities};
+
+    type Bits = u64;
+
+    ghost exact = { ⊤ };
+
+    ghost table = { capabilities };
+
+    ghost set_of = { λ s. s.0 };
+
+    fn flags<'a>() -> &'a [Flag<Capabilities>] {
+        Capabilities::FLAGS
+    }
+
+    fn bits(&self) -> u64 {
+        self.0
+    }
+
+    fn from_bits_retain(bits: u64) -> Capabilities {
+        Capabilities(bits)
+    }
+}
+
+impl Default for ValidationFlags {
+    /// All six checks.
+    fn default() -> Self
+        ensures { result.0 ≡ known_bits validation_flags }
+    {
+        <ValidationFlags as Flags>::all()
+    }
+}
