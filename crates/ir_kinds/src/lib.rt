@@ -1,10 +1,32 @@
-// The plain enums and structs of the IR and of a validator's settings: words that hold no list, no text and no handle.
+//! The plain enums and structs of the IR and of a validator's settings: words that hold no list, no text and no handle.
 #![tactic(auto)]
 
+mod bindings;
+mod diagnostics;
+mod images;
+mod maths;
+mod operators;
+mod predeclared;
 mod scalars;
 mod settings;
+mod spaces;
+mod stages;
+mod subgroups;
 mod values;
 
-pub use scalars::{Bytes, Scalar, ScalarKind};
+pub use bindings::{Binding, BuiltIn, Interpolation, ResourceBinding, Sampling};
+pub use diagnostics::{Severity, StandardFilterableTriggeringRule};
+pub use images::{ImageClass, ImageDimension, StorageFormat};
+pub use maths::MathFunction;
+pub use operators::{
+    BinaryOperator, DerivativeAxis, DerivativeControl, RelationalFunction, UnaryOperator,
+};
+pub use predeclared::PredeclaredType;
+pub use scalars::{
+    Bytes, CooperativeRole, CooperativeSize, Scalar, ScalarKind, SwizzleComponent, VectorSize,
+};
 pub use settings::{Capability, Flag, ShaderStage, SubgroupFlag};
+pub use spaces::AddressSpace;
+pub use stages::{ConservativeDepth, EarlyDepthTest, MeshOutputTopology};
+pub use subgroups::{CollectiveOperation, Direction, SubgroupOperation};
 pub use values::{Literal, SwitchValue};

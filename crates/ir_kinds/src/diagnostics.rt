@@ -1,0 +1,21 @@
+//! How findings of a validator are told.
+
+/// How grave a finding is (naga's `Severity`).
+#[derive(Clone, Copy, PartialEq, Eq, Hash, Debug)]
+pub enum Severity {
+    /// It is not told.
+    Off,
+    /// It is told.
+    Info,
+    /// It is a warning.
+    Warning,
+    /// It is an error.
+    Error,
+}
+
+/// A rule of WGSL's whose findings a module may rate (naga's `StandardFilterableTriggeringRule`).
+#[derive(Clone, Copy, PartialEq, Eq, Hash, Debug)]
+pub enum StandardFilterableTriggeringRule {
+    /// Derivatives in uniform control flow.
+    DerivativeUniformity,
+}
