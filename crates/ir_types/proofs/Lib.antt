@@ -1,0 +1,3 @@
+pub mod BuiltIns
+pub mod Same
+pub mod TypeEquality

@@ -1,0 +1,34 @@
+-- The types of a module as plain data, without the memory that texts and lists lie in.
+use Rattle.std.specs.Prelude.{ℕ, List, Option, option_map, string_bytes, map}
+use Rattle.ir_kinds.specs.declared.bindings.Binding.{Binding}
+use Rattle.ir_types.specs.declared.types.StructMember.{StructMember}
+use Rattle.ir_types.specs.declared.types.TypeInner.{TypeInner}
+use Rattle.ir_types.specs.declared.types.TypeInner.TheVariants as inner
+use Rattle.ir_types.specs.declared.types.IrType.{IrType}
+
+-- A member of a struct.
+pub record PlainMember : Type 0 where
+  pub name : Option (List ℕ)
+  pub ty : ℕ
+  pub binding : Option Binding
+  pub offset : ℕ
+
+-- a struct by its members, and any other type as it is
+pub data PlainInner : Type 0 where
+  struct : (members : List PlainMember) → (span : ℕ) → PlainInner
+  plain : TypeInner → PlainInner
+
+-- A type with its name.
+pub record PlainType : Type 0 where
+  pub name : Option (List ℕ)
+  pub inner : PlainInner
+
+abbrev pub member_view : StructMember → PlainMember
+member_view m = record { name = option_map string_bytes m.name; ty = m.ty; binding = m.binding; offset = m.offset }
+
+abbrev pub inner_view : TypeInner → PlainInner
+inner_view (inner.Struct members span) = struct (map member_view members.items) span
+inner_view other = plain other
+
+abbrev pub type_view : IrType → PlainType
+type_view t = record { name = option_map string_bytes t.name; inner = inner_view t.inner }
