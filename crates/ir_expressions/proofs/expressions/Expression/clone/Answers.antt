@@ -1,0 +1,7 @@
+use Rattle.std.proofs.Common.{◌≡◌, rules}
+use Rattle.ir_expressions.proofs.Copies.{copied}
+use Rattle.ir_expressions.proofs.expressions.Expression.clone.Goals as goal
+
+-- src/expressions.rt:169:5
+pub returns : goal.returns
+returns c = search (rules, copied)
