@@ -1,170 +1,327 @@
 // Expressions.
 ghost use Rattle.std.specs.Prelude.{◌≡◌, IfOk};
-ghost use Rattle.ir_expressions.specs.Plain.{expression_view};
+ghost use Rattle.ir_expressions.specs.Plain.{expression_view, implicit_derivatives, always_in_scope, is_dynamic};
 
 use ir_arena::handle::Handle;
 use ir_kinds::{
-    BinaryOperator, CooperativeRole, CooperativeSize, DerivativeAxis, DerivativeControl, Literal,
-    MathFunction, RelationalFunction, ScalarKind, SwizzleComponent, UnaryOperator, VectorSize,
+    BinaryOperator, Bytes, CooperativeRole, CooperativeSize, DerivativeAxis, DerivativeControl,
+    Literal, MathFunction, RelationalFunction, ScalarKind, SwizzleComponent, UnaryOperator,
+    VectorSize,
 };
 use ir_types::key;
 use std::alloc::{AllocError, Global};
 
+/// How much of an image's detail a sample takes (naga's `SampleLevel`).
 #[derive(Clone, Copy, PartialEq, Eq, Hash, Debug)]
 pub enum SampleLevel {
+    /// By how fast the coordinate changes from fragment to fragment.
     Auto,
+    /// The finest.
     Zero,
+    /// This one.
     Exact(Handle<key::Expression>),
+    /// As `Auto` does, with this added.
     Bias(Handle<key::Expression>),
+    /// By how fast the coordinate is said to change.
     Gradient {
+        /// From one fragment to the next on the right.
         x: Handle<key::Expression>,
+        /// From one fragment to the next below.
         y: Handle<key::Expression>,
     },
 }
 
+impl SampleLevel {
+    /// Whether it asks for derivatives that are taken from neighbouring fragments.
+    pub fn implicit_derivatives(self) -> bool
+        ensures { result ≡ implicit_derivatives self }
+    {
+        match self {
+            SampleLevel::Auto | SampleLevel::Bias(_) => true,
+            SampleLevel::Zero | SampleLevel::Exact(_) | SampleLevel::Gradient { .. } => false,
+        }
+    }
+}
+
+/// What is asked of an image (naga's `ImageQuery`).
 #[derive(Clone, Copy, PartialEq, Eq, Hash, Debug)]
 pub enum ImageQuery {
+    /// How many texels it has each way.
     Size {
+        /// At which level of detail; the finest where there is none.
         level: Option<Handle<key::Expression>>,
     },
+    /// How many levels of detail it has.
     NumLevels,
+    /// How many layers it has.
     NumLayers,
+    /// How many samples a texel has.
     NumSamples,
 }
 
+/// The memory that a cooperative matrix is loaded from or stored to (naga's `CooperativeData`).
 #[derive(Clone, Copy, PartialEq, Eq, Hash, Debug)]
 pub struct CooperativeData {
+    /// Where the first scalar lies.
     pub pointer: Handle<key::Expression>,
+    /// From the beginning of one row or column to that of the next, in scalars.
     pub stride: Handle<key::Expression>,
+    /// Whether rows lie one after the other, and not columns.
     pub row_major: bool,
 }
 
+/// What is computed in a function or at the module's top (naga's `Expression`).
 #[derive(Clone, PartialEq, Eq, Hash, Debug, Drop)]
 pub enum Expression {
+    /// A value that is written.
     Literal(Literal),
+    /// A constant of the module.
     Constant(Handle<key::Constant>),
+    /// An override of the module.
     Override(Handle<key::Override>),
+    /// The zero of a type.
     ZeroValue(Handle<key::IrType>),
+    /// A value made of parts.
     Compose {
+        /// Its type.
         ty: Handle<key::IrType>,
+        /// The parts in order.
         components: Vec<Handle<key::Expression>>,
     },
+    /// A part at an index that is computed.
     Access {
+        /// What has the part.
         base: Handle<key::Expression>,
+        /// Which part.
         index: Handle<key::Expression>,
     },
+    /// A part at an index that is written.
     AccessIndex {
+        /// What has the part.
         base: Handle<key::Expression>,
+        /// Which part.
         index: u32,
     },
+    /// A vector with one scalar everywhere.
     Splat {
+        /// How many.
         size: VectorSize,
+        /// The scalar.
         value: Handle<key::Expression>,
     },
+    /// A vector of components of another.
     Swizzle {
+        /// How many.
         size: VectorSize,
+        /// The other.
         vector: Handle<key::Expression>,
+        /// Which component each is; as many count as the size says.
         pattern: [SwizzleComponent; 4],
     },
+    /// The function's argument at this index.
     FunctionArgument(u32),
+    /// A global variable: a pointer to it, or what it is where it is a handle.
     GlobalVariable(Handle<key::GlobalVariable>),
+    /// A pointer to a local variable of the function.
     LocalVariable(Handle<key::LocalVariable>),
+    /// What lies where a pointer points.
     Load {
+        /// The pointer.
         pointer: Handle<key::Expression>,
     },
+    /// A sample of an image.
     ImageSample {
+        /// The image.
         image: Handle<key::Expression>,
+        /// How it is sampled.
         sampler: Handle<key::Expression>,
+        /// Which component of four texels is gathered, if that is what is done.
         gather: Option<SwizzleComponent>,
+        /// Where it is sampled.
         coordinate: Handle<key::Expression>,
+        /// In which layer.
         array_index: Option<Handle<key::Expression>>,
+        /// How many texels beside that place.
         offset: Option<Handle<key::Expression>>,
+        /// At which level of detail.
         level: SampleLevel,
+        /// What the depth is compared with.
         depth_ref: Option<Handle<key::Expression>>,
+        /// Whether the coordinate is kept off the border by half a texel.
         clamp_to_edge: bool,
     },
+    /// A texel of an image.
     ImageLoad {
+        /// The image.
         image: Handle<key::Expression>,
+        /// Which texel.
         coordinate: Handle<key::Expression>,
+        /// In which layer.
         array_index: Option<Handle<key::Expression>>,
+        /// Which sample of it.
         sample: Option<Handle<key::Expression>>,
+        /// At which level of detail.
         level: Option<Handle<key::Expression>>,
     },
+    /// What is asked of an image.
     ImageQuery {
+        /// The image.
         image: Handle<key::Expression>,
+        /// What is asked.
         query: ImageQuery,
     },
+    /// An operation on one value.
     Unary {
+        /// The operation.
         op: UnaryOperator,
+        /// The value.
         expr: Handle<key::Expression>,
     },
+    /// An operation on two values.
     Binary {
+        /// The operation.
         op: BinaryOperator,
+        /// The first.
         left: Handle<key::Expression>,
+        /// The second.
         right: Handle<key::Expression>,
     },
+    /// One of two values.
     Select {
+        /// What chooses, component by component where it is a vector.
         condition: Handle<key::Expression>,
+        /// What is taken where it holds.
         accept: Handle<key::Expression>,
+        /// What is taken where it doesn't.
         reject: Handle<key::Expression>,
     },
+    /// How fast a value changes from fragment to fragment.
     Derivative {
+        /// Which way.
         axis: DerivativeAxis,
+        /// How exactly.
         ctrl: DerivativeControl,
+        /// The value.
         expr: Handle<key::Expression>,
     },
+    /// A question about a value.
     Relational {
+        /// The question.
         fun: RelationalFunction,
+        /// The value.
         argument: Handle<key::Expression>,
     },
+    /// A function of numbers.
     Math {
+        /// The function.
         fun: MathFunction,
+        /// What it is given.
         arg: Handle<key::Expression>,
+        /// What it is given second.
         arg1: Option<Handle<key::Expression>>,
+        /// What it is given third.
         arg2: Option<Handle<key::Expression>>,
+        /// What it is given fourth.
         arg3: Option<Handle<key::Expression>>,
     },
+    /// A value as another kind of scalar.
     As {
+        /// The value.
         expr: Handle<key::Expression>,
+        /// The kind.
         kind: ScalarKind,
-        convert: Option<u8>,
+        /// How many bytes the scalar then has; where there is none, the same bits are read anew.
+        convert: Option<Bytes>,
     },
+    /// What a call of this function answered.
     CallResult(Handle<key::Function>),
+    /// What an atomic operation answered.
     AtomicResult {
+        /// Its type.
         ty: Handle<key::IrType>,
+        /// Whether it is the answer of an exchange that compares.
         comparison: bool,
     },
+    /// What a uniform load of workgroup memory answered.
     WorkGroupUniformLoadResult {
+        /// Its type.
         ty: Handle<key::IrType>,
     },
+    /// How many elements lie where a pointer to a runtime-sized array points.
     ArrayLength(Handle<key::Expression>),
+    /// The vertices of the triangle that a ray hit.
     RayQueryVertexPositions {
+        /// The ray query.
         query: Handle<key::Expression>,
+        /// Whether the hit is the one that was settled on.
         committed: bool,
     },
+    /// Whether a ray query went on.
     RayQueryProceedResult,
+    /// What a ray hit.
     RayQueryGetIntersection {
+        /// The ray query.
         query: Handle<key::Expression>,
+        /// Whether the hit is the one that was settled on.
         committed: bool,
     },
+    /// What a ballot answered.
     SubgroupBallotResult,
+    /// What an operation of a subgroup answered.
     SubgroupOperationResult {
+        /// Its type.
         ty: Handle<key::IrType>,
     },
+    /// A cooperative matrix from memory.
     CooperativeLoad {
+        /// How many columns.
         columns: CooperativeSize,
+        /// How many scalars a column has.
         rows: CooperativeSize,
+        /// Which operand of a product it is.
         role: CooperativeRole,
+        /// The memory (naga's `data`).
         block: CooperativeData,
     },
+    /// The product of two cooperative matrices, with a third added.
     CooperativeMultiplyAdd {
+        /// The first.
         a: Handle<key::Expression>,
+        /// The second.
         b: Handle<key::Expression>,
+        /// The third.
         c: Handle<key::Expression>,
     },
 }
 
 impl Expression {
+    /// Whether it is in scope everywhere in its function and is never emitted: literals, constants, overrides, zeros,
+    /// arguments and variables.
+    pub fn needs_pre_emit(&self) -> bool
+        ensures { result ≡ always_in_scope self.now }
+    {
+        matches!(
+            *self,
+            Expression::Literal(_)
+                | Expression::Constant(_)
+                | Expression::Override(_)
+                | Expression::ZeroValue(_)
+                | Expression::FunctionArgument(_)
+                | Expression::GlobalVariable(_)
+                | Expression::LocalVariable(_)
+        )
+    }
+
+    /// Whether an access at this index is dynamic: it is neither a literal, nor a constant, nor a zero.
+    pub fn is_dynamic_index(&self) -> bool
+        ensures { result ≡ is_dynamic self.now }
+    {
+        !matches!(
+            *self,
+            Expression::Literal(_) | Expression::ZeroValue(_) | Expression::Constant(_)
+        )
+    }
+
     /// An equal expression in memory of its own. The error is want of memory.
     pub fn clone(&self, _alloc: Global) -> Result<Expression, AllocError>
         ensures { IfOk result (λ copy. expression_view copy ≡ expression_view self.now) }
