@@ -137,6 +137,15 @@ unfolding expression_of literal_of
 expression_complete (computed.Literal (literal.Bool b)) h = refl
 expression_complete (computed.Literal (literal.I32 z)) h = ap (λ o. option_map computed.Literal (option_map literal.I32 o)) (i32_complete z h)
 expression_complete (computed.Literal (literal.U32 n)) h = ap (λ o. option_map computed.Literal (option_map literal.U32 o)) (u32_complete n h)
+expression_complete (computed.Literal (literal.F64 _)) h = absurd h
+expression_complete (computed.Literal (literal.F32 _)) h = absurd h
+expression_complete (computed.Literal (literal.F16 _)) h = absurd h
+expression_complete (computed.Literal (literal.U16 _)) h = absurd h
+expression_complete (computed.Literal (literal.I16 _)) h = absurd h
+expression_complete (computed.Literal (literal.U64 _)) h = absurd h
+expression_complete (computed.Literal (literal.I64 _)) h = absurd h
+expression_complete (computed.Literal (literal.AbstractInt _)) h = absurd h
+expression_complete (computed.Literal (literal.AbstractFloat _)) h = absurd h
 
 value_sound : IsSound value_of value_form IsValue
 unfolding value_of

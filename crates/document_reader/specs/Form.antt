@@ -55,10 +55,12 @@ number_form n = number (unsigned n)
 abbrev pub integer_form : ℤ → Data
 integer_form z = number (of_integer z)
 
+-- so far of three scalars: no form holds another literal
 abbrev pub literal_items : Literal → Items
 literal_items (literal.Bool b) = item (string (codes "bool")) (item (boolean b) no_items)
 literal_items (literal.I32 z) = item (string (codes "i32")) (item (integer_form z) no_items)
 literal_items (literal.U32 n) = item (string (codes "u32")) (item (number_form n) no_items)
+literal_items _ = no_items
 
 abbrev pub expression_form : Expression → Data
 expression_form (computed.Literal l) = tagged_form (codes "Literal") (literal_items l)
@@ -151,6 +153,7 @@ abbrev pub IsLiteral : Literal → Type 0
 IsLiteral (literal.Bool b) = Unit {0}
 IsLiteral (literal.I32 z) = IsI32 z
 IsLiteral (literal.U32 n) = IsU32 n
+IsLiteral _ = ⊥
 
 abbrev pub IsExpression : Expression → Type 0
 IsExpression (computed.Literal l) = IsLiteral l

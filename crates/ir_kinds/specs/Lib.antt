@@ -1,1 +1,7 @@
+pub mod Bindings
+pub mod Images
+pub mod Maths
+pub mod Scalars
 pub mod Settings
+pub mod Spaces
+pub mod Values

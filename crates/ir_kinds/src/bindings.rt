@@ -1,5 +1,8 @@
 //! How arguments, results and globals are bound.
 
+ghost use Rattle.std.specs.Prelude.{◌≡◌};
+ghost use Rattle.ir_kinds.specs.Bindings.{built_in_of};
+
 /// A value that a pipeline gives to a shader or takes from it (naga's `BuiltIn`).
 #[derive(Clone, Copy, PartialEq, Eq, Hash, Debug)]
 pub enum BuiltIn {
@@ -153,4 +156,16 @@ pub struct ResourceBinding {
     pub group: u32,
     /// The binding's number in the group.
     pub binding: u32,
+}
+
+impl Binding {
+    /// The built-in value that is bound, or `None` for a location (naga's `Binding::to_built_in`).
+    pub fn to_built_in(&self) -> Option<BuiltIn>
+        ensures { result ≡ built_in_of self.now }
+    {
+        match *self {
+            Binding::BuiltIn(built_in) => Some(built_in),
+            Binding::Location { .. } => None,
+        }
+    }
 }

@@ -1,6 +1,9 @@
 //! Images.
 
-use crate::scalars::ScalarKind;
+ghost use Rattle.std.specs.Prelude.{◌≡◌};
+ghost use Rattle.ir_kinds.specs.Images.{is_depth, is_mipmapped, is_multisampled};
+
+use crate::scalars::{Scalar, ScalarKind};
 use ir_flags::StorageAccess;
 
 /// How many dimensions an image has (naga's `ImageDimension`).
@@ -122,4 +125,88 @@ pub enum ImageClass {
         format: StorageFormat,
         access: StorageAccess,
     },
+}
+
+impl From<StorageFormat> for Scalar {
+    ghost use Rattle.std.specs.Prelude.{◌≡◌};
+    ghost use Rattle.ir_kinds.specs.Images.{format_scalar};
+
+    ghost from_gives = { λ f r. r ≡ format_scalar f };
+
+    /// The scalar type as which a shader reads and writes a component.
+    fn from(format: StorageFormat) -> Self {
+        match format {
+            StorageFormat::R8Uint
+            | StorageFormat::R16Uint
+            | StorageFormat::Rg8Uint
+            | StorageFormat::R32Uint
+            | StorageFormat::Rg16Uint
+            | StorageFormat::Rgba8Uint
+            | StorageFormat::Rgb10a2Uint
+            | StorageFormat::Rg32Uint
+            | StorageFormat::Rgba16Uint
+            | StorageFormat::Rgba32Uint => Scalar::U32,
+            StorageFormat::R8Sint
+            | StorageFormat::R16Sint
+            | StorageFormat::Rg8Sint
+            | StorageFormat::R32Sint
+            | StorageFormat::Rg16Sint
+            | StorageFormat::Rgba8Sint
+            | StorageFormat::Rg32Sint
+            | StorageFormat::Rgba16Sint
+            | StorageFormat::Rgba32Sint => Scalar::I32,
+            StorageFormat::R8Unorm
+            | StorageFormat::R8Snorm
+            | StorageFormat::R16Float
+            | StorageFormat::Rg8Unorm
+            | StorageFormat::Rg8Snorm
+            | StorageFormat::R32Float
+            | StorageFormat::Rg16Float
+            | StorageFormat::Rgba8Unorm
+            | StorageFormat::Rgba8Snorm
+            | StorageFormat::Bgra8Unorm
+            | StorageFormat::Rgb10a2Unorm
+            | StorageFormat::Rg11b10Ufloat
+            | StorageFormat::Rg32Float
+            | StorageFormat::Rgba16Float
+            | StorageFormat::Rgba32Float
+            | StorageFormat::R16Unorm
+            | StorageFormat::R16Snorm
+            | StorageFormat::Rg16Unorm
+            | StorageFormat::Rg16Snorm
+            | StorageFormat::Rgba16Unorm
+            | StorageFormat::Rgba16Snorm => Scalar::F32,
+            StorageFormat::R64Uint => Scalar::U64,
+        }
+    }
+}
+
+impl ImageClass {
+    /// Whether a texel has several samples (naga's `ImageClass::is_multisampled`).
+    pub fn is_multisampled(self) -> bool
+        ensures { result ≡ is_multisampled self }
+    {
+        match self {
+            ImageClass::Sampled { multi, .. } | ImageClass::Depth { multi } => multi,
+            ImageClass::External | ImageClass::Storage { .. } => false,
+        }
+    }
+
+    /// Whether the image has several levels of detail: a sampled image or one of depths, with one sample
+    /// to a texel (naga's `ImageClass::is_mipmapped`).
+    pub fn is_mipmapped(self) -> bool
+        ensures { result ≡ is_mipmapped self }
+    {
+        match self {
+            ImageClass::Sampled { multi, .. } | ImageClass::Depth { multi } => !multi,
+            ImageClass::External | ImageClass::Storage { .. } => false,
+        }
+    }
+
+    /// Whether the image holds depths (naga's `ImageClass::is_depth`).
+    pub fn is_depth(self) -> bool
+        ensures { result ≡ is_depth self }
+    {
+        matches!(self, ImageClass::Depth { .. })
+    }
 }

@@ -4,6 +4,7 @@
 mod bindings;
 mod diagnostics;
 mod images;
+pub mod laws;
 mod maths;
 mod operators;
 mod predeclared;
@@ -23,7 +24,8 @@ pub use operators::{
 };
 pub use predeclared::PredeclaredType;
 pub use scalars::{
-    Bytes, CooperativeRole, CooperativeSize, Scalar, ScalarKind, SwizzleComponent, VectorSize,
+    ABSTRACT_WIDTH, BOOL_WIDTH, Bytes, CooperativeRole, CooperativeSize, Scalar, ScalarKind,
+    SwizzleComponent, VectorSize,
 };
 pub use settings::{Capability, Flag, ShaderStage, SubgroupFlag};
 pub use spaces::AddressSpace;

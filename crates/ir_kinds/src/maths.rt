@@ -1,5 +1,8 @@
 //! Built-in functions of numbers.
 
+ghost use Rattle.std.specs.Prelude.{◌≡◌};
+ghost use Rattle.ir_kinds.specs.Maths.{argument_count};
+
 /// A built-in function of numbers (naga's `MathFunction`).
 #[derive(Clone, Copy, PartialEq, Eq, Hash, Debug)]
 pub enum MathFunction {
@@ -161,4 +164,36 @@ pub enum MathFunction {
     Unpack4xI8,
     /// The other way from `Pack4xU8`.
     Unpack4xU8,
+}
+
+impl MathFunction {
+    /// How many arguments the function takes (naga's `MathFunction::argument_count`).
+    pub fn argument_count(&self) -> usize
+        ensures { result ≡ argument_count self.now }
+    {
+        match *self {
+            MathFunction::Min
+            | MathFunction::Max
+            | MathFunction::Atan2
+            | MathFunction::Ldexp
+            | MathFunction::Pow
+            | MathFunction::Dot
+            | MathFunction::Dot4I8Packed
+            | MathFunction::Dot4U8Packed
+            | MathFunction::Outer
+            | MathFunction::Cross
+            | MathFunction::Distance
+            | MathFunction::Reflect
+            | MathFunction::Step => 2,
+            MathFunction::Clamp
+            | MathFunction::FaceForward
+            | MathFunction::Refract
+            | MathFunction::Fma
+            | MathFunction::Mix
+            | MathFunction::SmoothStep
+            | MathFunction::ExtractBits => 3,
+            MathFunction::InsertBits => 4,
+            _ => 1,
+        }
+    }
 }

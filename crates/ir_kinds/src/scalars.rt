@@ -1,5 +1,8 @@
 //! Scalar types, and the shapes that are built of scalars.
 
+ghost use Rattle.std.specs.Prelude.{◌≡◌, ◌↔◌, ◌⊎◌, ◌≢◌, IsTrue, min};
+ghost use Rattle.ir_kinds.specs.Scalars.{component_place, floating};
+
 /// A number of bytes (naga's `Bytes`).
 pub type Bytes = u8;
 
@@ -71,4 +74,186 @@ pub enum SwizzleComponent {
     Z,
     /// The fourth.
     W,
+}
+
+/// How many bytes a truth value takes (naga's `BOOL_WIDTH`).
+pub const BOOL_WIDTH: Bytes = 1;
+
+/// How many bytes an abstract number takes (naga's `ABSTRACT_WIDTH`).
+pub const ABSTRACT_WIDTH: Bytes = 8;
+
+impl Scalar {
+    /// A 16-bit signed integer.
+    pub const I16: Scalar = Scalar {
+        kind: ScalarKind::Sint,
+        width: 2,
+    };
+
+    /// A 16-bit unsigned integer.
+    pub const U16: Scalar = Scalar {
+        kind: ScalarKind::Uint,
+        width: 2,
+    };
+
+    /// A 32-bit signed integer.
+    pub const I32: Scalar = Scalar {
+        kind: ScalarKind::Sint,
+        width: 4,
+    };
+
+    /// A 32-bit unsigned integer.
+    pub const U32: Scalar = Scalar {
+        kind: ScalarKind::Uint,
+        width: 4,
+    };
+
+    /// A 64-bit signed integer.
+    pub const I64: Scalar = Scalar {
+        kind: ScalarKind::Sint,
+        width: 8,
+    };
+
+    /// A 64-bit unsigned integer.
+    pub const U64: Scalar = Scalar {
+        kind: ScalarKind::Uint,
+        width: 8,
+    };
+
+    /// A 16-bit float.
+    pub const F16: Scalar = Scalar {
+        kind: ScalarKind::Float,
+        width: 2,
+    };
+
+    /// A 32-bit float.
+    pub const F32: Scalar = Scalar {
+        kind: ScalarKind::Float,
+        width: 4,
+    };
+
+    /// A 64-bit float.
+    pub const F64: Scalar = Scalar {
+        kind: ScalarKind::Float,
+        width: 8,
+    };
+
+    /// A truth value.
+    pub const BOOL: Scalar = Scalar {
+        kind: ScalarKind::Bool,
+        width: BOOL_WIDTH,
+    };
+
+    /// An abstract integer.
+    pub const ABSTRACT_INT: Scalar = Scalar {
+        kind: ScalarKind::AbstractInt,
+        width: ABSTRACT_WIDTH,
+    };
+
+    /// An abstract float.
+    pub const ABSTRACT_FLOAT: Scalar = Scalar {
+        kind: ScalarKind::AbstractFloat,
+        width: ABSTRACT_WIDTH,
+    };
+}
+
+impl Scalar {
+    /// A float of `width` bytes (naga's `Scalar::float`).
+    pub fn float(width: Bytes) -> Self
+        ensures { result ≡ floating width }
+    {
+        Scalar {
+            kind: ScalarKind::Float,
+            width,
+        }
+    }
+
+    /// Whether values are WGSL's abstract numbers (naga's `Scalar::is_abstract`).
+    pub fn is_abstract(self) -> bool
+        ensures { IsTrue result
+            ↔ ((self.kind ≡ ScalarKind.AbstractInt) ⊎ (self.kind ≡ ScalarKind.AbstractFloat)) }
+    {
+        matches!(
+            self.kind,
+            ScalarKind::AbstractInt | ScalarKind::AbstractFloat
+        )
+    }
+}
+
+impl ScalarKind {
+    /// Whether values are numbers: all but truth values (naga's `ScalarKind::is_numeric`).
+    pub fn is_numeric(self) -> bool
+        ensures { IsTrue result ↔ (self ≢ ScalarKind.Bool) }
+    {
+        match self {
+            ScalarKind::Sint
+            | ScalarKind::Uint
+            | ScalarKind::Float
+            | ScalarKind::AbstractInt
+            | ScalarKind::AbstractFloat => true,
+            ScalarKind::Bool => false,
+        }
+    }
+}
+
+impl VectorSize {
+    /// The greatest number of components (naga's `VectorSize::MAX`).
+    pub const MAX: usize = VectorSize::Quad as usize;
+}
+
+impl From<VectorSize> for u8 {
+    ghost use Rattle.std.specs.Prelude.{◌≡◌};
+    ghost use Rattle.ir_kinds.specs.Scalars.{component_count};
+
+    ghost from_gives = { λ s n. n ≡ component_count s };
+
+    /// How many components there are.
+    fn from(size: VectorSize) -> Self {
+        size as u8
+    }
+}
+
+impl From<VectorSize> for u32 {
+    ghost use Rattle.std.specs.Prelude.{◌≡◌};
+    ghost use Rattle.ir_kinds.specs.Scalars.{component_count};
+
+    ghost from_gives = { λ s n. n ≡ component_count s };
+
+    /// How many components there are.
+    fn from(size: VectorSize) -> Self {
+        size as u32
+    }
+}
+
+impl SwizzleComponent {
+    /// The components in order (naga's `SwizzleComponent::XYZW`).
+    pub const XYZW: [SwizzleComponent; 4] = [
+        SwizzleComponent::X,
+        SwizzleComponent::Y,
+        SwizzleComponent::Z,
+        SwizzleComponent::W,
+    ];
+
+    /// The component's place, counted from 0 (naga's `SwizzleComponent::index`).
+    pub fn index(&self) -> u32
+        ensures { result ≡ component_place self.now }
+    {
+        match *self {
+            SwizzleComponent::X => 0,
+            SwizzleComponent::Y => 1,
+            SwizzleComponent::Z => 2,
+            SwizzleComponent::W => 3,
+        }
+    }
+
+    /// The component at a place, the last one for 3 and more (naga's `SwizzleComponent::from_index`).
+    pub fn from_index(idx: u32) -> Self
+        ensures { component_place result ≡ min idx 3 }
+    {
+        match idx {
+            0 => SwizzleComponent::X,
+            1 => SwizzleComponent::Y,
+            2 => SwizzleComponent::Z,
+            _ => SwizzleComponent::W,
+        }
+    }
 }

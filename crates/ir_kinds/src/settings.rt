@@ -1,4 +1,6 @@
-// What a validator may be asked for: checks, capabilities, stages and subgroup operations.
+//! What a validator may be asked for, word by word: checks, capabilities, stages and subgroup operations.
+
+ghost use Rattle.std.specs.Prelude.{◌≡◌, ◌↔◌, ◌⊎◌, IsTrue};
 
 /// A check that the validator is asked to make (a flag of naga's `ValidationFlags`).
 #[derive(Clone, Copy, PartialEq, Eq, Hash, Debug)]
@@ -119,6 +121,19 @@ pub enum ShaderStage {
     ClosestHit,
     /// A ray that hits nothing.
     Miss,
+}
+
+impl ShaderStage {
+    /// Whether the stage runs in workgroups: compute, task or mesh (naga's `ShaderStage::compute_like`).
+    pub fn compute_like(self) -> bool
+        ensures { IsTrue result
+            ↔ ((self ≡ ShaderStage.Compute) ⊎ (self ≡ ShaderStage.Task) ⊎ (self ≡ ShaderStage.Mesh)) }
+    {
+        matches!(
+            self,
+            ShaderStage::Compute | ShaderStage::Task | ShaderStage::Mesh
+        )
+    }
 }
 
 /// A kind of subgroup operation (a flag of naga's `SubgroupOperationSet`).

@@ -1,5 +1,10 @@
 //! What belongs to entry points of some stages.
 
+ghost use Rattle.std.specs.Prelude.{◌≡◌};
+ghost use Rattle.ir_kinds.specs.Bindings.{index_built_in};
+
+use crate::bindings::BuiltIn;
+
 /// How a fragment's depth may change (naga's `ConservativeDepth`).
 #[derive(Clone, Copy, PartialEq, Eq, Hash, Debug)]
 pub enum ConservativeDepth {
@@ -29,4 +34,17 @@ pub enum MeshOutputTopology {
     Lines,
     /// Triangles.
     Triangles,
+}
+
+impl MeshOutputTopology {
+    /// The built-in by which a primitive names its vertices (naga's `MeshOutputTopology::to_builtin`).
+    pub fn to_builtin(self) -> BuiltIn
+        ensures { result ≡ index_built_in self }
+    {
+        match self {
+            MeshOutputTopology::Points => BuiltIn::PointIndex,
+            MeshOutputTopology::Lines => BuiltIn::LineIndices,
+            MeshOutputTopology::Triangles => BuiltIn::TriangleIndices,
+        }
+    }
 }

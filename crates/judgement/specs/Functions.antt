@@ -2,12 +2,11 @@
 use Rattle.std.specs.Prelude.{◌≡◌, ◌≢◌, ◌⊎◌, ℕ, ◌≤◌, List, [], ◌∷◌, length, Bool, true, false, if◌then◌else◌, Option, Some, None, option_map, option_and_then, IfSome, Contains, slice_get}
 use Rattle.std.specs.List.{AllPairs}
 use Rattle.ir_kinds.specs.Settings.{PlainSettings}
+use Rattle.ir_kinds.specs.Values.{literal_scalar}
 use Rattle.ir_kinds.specs.declared.settings.Flag.TheVariants.{Blocks}
 use Rattle.ir_kinds.specs.declared.scalars.Scalar.{Scalar}
 use Rattle.ir_kinds.specs.declared.scalars.ScalarKind.{ScalarKind}
 use Rattle.ir_kinds.specs.declared.scalars.ScalarKind.TheVariants.{Sint, Uint, Bool as Boolean}
-use Rattle.ir_kinds.specs.declared.values.Literal.{Literal}
-use Rattle.ir_kinds.specs.declared.values.Literal.TheVariants as literal
 use Rattle.ir_kinds.specs.declared.values.SwitchValue.{SwitchValue}
 use Rattle.ir_kinds.specs.declared.values.SwitchValue.TheVariants.{I32, U32, Default}
 use Rattle.ir_items.specs.declared.expressions.Expression.{Expression}
@@ -20,11 +19,6 @@ use Rattle.ir_items.specs.Control.{ControlOK}
 use Rattle.ir_items.specs.Tails.{completed}
 
 -- ---- types of expressions
-
-abbrev pub literal_scalar : Literal → Scalar
-literal_scalar (literal.U32 n) = record { kind = Uint; width = 4 }
-literal_scalar (literal.I32 n) = record { kind = Sint; width = 4 }
-literal_scalar (literal.Bool b) = record { kind = Boolean; width = 1 }
 
 abbrev pub expression_scalar : Expression → Scalar
 expression_scalar (computed.Literal l) = literal_scalar l

@@ -2,7 +2,7 @@
 ghost use Rattle.std.specs.Prelude.{◌≡◌, ◌||◌, false, map, option_map, slice_get, IfOk};
 ghost use Rattle.ir_arena.specs.Handles.{handles_from};
 ghost use Rattle.ir_items.specs.View.{block_view, case_view, cases_of, function_view, module_view};
-ghost use Rattle.judgement.specs.Functions.{scalar_at, answer_of, literal_scalar, expression_scalar, falls_at_end};
+ghost use Rattle.judgement.specs.Functions.{scalar_at, answer_of, expression_scalar, falls_at_end};
 ghost use Rattle.judgement.specs.Handles.{HandlesOK};
 ghost use Rattle.shader_check.specs.Values.{value_key};
 ghost use Rattle.shader_check.specs.Tests.{first_failing, is_sint, is_uint, is_condition, fits_kind, values_fit, has_value, values_differ, switch_ok, is_of_scalar, return_ok, call_result_ok, body_ok, function_ok};
@@ -13,28 +13,17 @@ use ir_arena::handle::Handle;
 use ir_items::{
     Block, Expression, Function, Module, Statement, SwitchCase, TypeInner, complete, key,
 };
-use ir_kinds::{Literal, Scalar, ScalarKind, SwitchValue};
+use ir_kinds::{Scalar, ScalarKind, SwitchValue};
 use std::alloc::{AllocError, Global};
 use std::collections::BTreeSet;
 
 const SWITCH_DEFAULT: SwitchValue = SwitchValue::Default;
 
-fn literal_scalar(literal: Literal) -> Scalar
-    ensures { result ≡ literal_scalar literal }
-{
-    let (kind, width) = match literal {
-        Literal::U32(_) => (ScalarKind::Uint, 4),
-        Literal::I32(_) => (ScalarKind::Sint, 4),
-        Literal::Bool(_) => (ScalarKind::Bool, 1),
-    };
-    Scalar { kind, width }
-}
-
 fn expression_scalar(expression: Expression) -> Scalar
     ensures { result ≡ expression_scalar expression }
 {
     match expression {
-        Expression::Literal(literal) => literal_scalar(literal),
+        Expression::Literal(literal) => literal.scalar(),
     }
 }
 
