@@ -1,3 +1,5 @@
 pub mod TypeEquality
 pub mod TerminatorLemmas
 pub mod TailLaws
+pub mod SpanLemmas
+pub mod SpanLaws

@@ -71,7 +71,7 @@ head_of-finished (call function arguments result) = refl
 
 -- ---- places
 
-none_in_stop : (p : Place) (s : PlainStatement) → StandsAt stop p s → ⊥
+pub none_in_stop : (p : Place) (s : PlainStatement) → StandsAt stop p s → ⊥
 none_in_stop here s e = let x = e in cc
 none_in_stop (later p) s e = let x = e in cc
 none_in_stop (inside part p) s e = let x = e in cc

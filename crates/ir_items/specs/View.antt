@@ -1,8 +1,11 @@
 -- The plain data that the items of a module hold.
-use Rattle.std.specs.Prelude.{◌≡◌, ℕ, Bool, List, [], ◌∷◌, option_map, string_bytes, map, length, vec_capacity}
+use Rattle.std.specs.Prelude.{◌≡◌, ◌↔◌, ℕ, Bool, List, [], ◌∷◌, option_map, string_bytes, map, length, vec_capacity}
+use Rattle.std.specs.List.{All}
 use Rattle.ir_arena.specs.declared.span.Span.{Span}
 use Rattle.ir_kinds.specs.declared.values.SwitchValue.{SwitchValue}
 use Rattle.ir_items.specs.Plain.{PlainType, PlainStatement, emit, block, choice, switch, loop, break, continue, return, kill, call, PlainBlock, stop, next, PlainCases, no_case, case, PlainFunction, PlainModule}
+use Rattle.ir_items.specs.Shapes.{Part, shape_of, part_of}
+use Rattle.ir_items.specs.Spans.{BlockSpans, spans, InnerSpans, no_statement, in_next, StatementSpans, no_block, in_block, in_sides, in_cases, in_turns, CaseSpans, no_more, in_case, spans_in, InStep}
 use Rattle.ir_items.specs.declared.types.IrType.{IrType}
 use Rattle.ir_items.specs.declared.statements.Statement.{Statement}
 use Rattle.ir_items.specs.declared.statements.Statement.TheOpen.{Statement-F, Block-F, SwitchCase-F}
@@ -63,6 +66,40 @@ case_view = fold-SwitchCase PlainStatement PlainBlock PlainCase statement_step b
 abbrev pub statements_view : List Statement → PlainBlock
 statements_view statements = block_of (map statement_view statements)
 
+-- what lies inside these statements, as inside those of a block
+abbrev pub within_of : List StatementSpans → InnerSpans
+within_of [] = no_statement
+within_of (s ∷ ss) = in_next s (within_of ss)
+
+-- the spans of these cases' blocks, as of those of a switch
+abbrev pub case_spans_of : List BlockSpans → CaseSpans
+case_spans_of [] = no_more
+case_spans_of (b ∷ bs) = in_case b (case_spans_of bs)
+
+-- one level, with what is inside already seen as spans: a statement without blocks has none
+abbrev pub statement_spans_step : Statement-F StatementSpans BlockSpans BlockSpans → StatementSpans
+statement_spans_step (Statement-F.Block b) = in_block b
+statement_spans_step (Statement-F.If condition accept reject) = in_sides accept reject
+statement_spans_step (Statement-F.Switch selector cases) = in_cases (case_spans_of cases.items)
+statement_spans_step (Statement-F.Loop body continuing break_if) = in_turns body continuing
+statement_spans_step _ = no_block
+
+abbrev pub block_spans_step : Block-F StatementSpans BlockSpans BlockSpans → BlockSpans
+block_spans_step b = spans b.span_info.items (within_of b.body.items)
+
+abbrev pub case_spans_step : SwitchCase-F StatementSpans BlockSpans BlockSpans → BlockSpans
+case_spans_step c = c.body
+
+-- the spans inside a statement, in a block and in a case, at every depth
+abbrev pub statement_spans : Statement → StatementSpans
+statement_spans = fold-Statement StatementSpans BlockSpans BlockSpans statement_spans_step block_spans_step case_spans_step
+
+abbrev pub block_spans : Block → BlockSpans
+block_spans = fold-Block StatementSpans BlockSpans BlockSpans statement_spans_step block_spans_step case_spans_step
+
+abbrev pub case_block_spans : SwitchCase → BlockSpans
+case_block_spans = fold-SwitchCase StatementSpans BlockSpans BlockSpans statement_spans_step block_spans_step case_spans_step
+
 -- the statements of a block, and their spans
 abbrev pub statements_of : Block → List Statement
 statements_of b = (out-Block b).body.items
@@ -80,6 +117,18 @@ room_for_spans b = vec_capacity (out-Block b).span_info
 -- a block has as many spans as statements
 abbrev pub IsInStep : Block → Type 0
 IsInStep b = length (spans_of b) ≡ length (statements_of b)
+
+-- a block is in step, and so is each block inside it
+abbrev pub AllInStep : Block → Type 0
+AllInStep b = InStep (block_view b) (block_spans b)
+
+-- each block inside a statement is in step at every depth
+abbrev pub InStepWithin : Statement → Type 0
+InStepWithin s = (part : Part) → InStep (part_of (shape_of (statement_view s)) part) (spans_in (statement_spans s) part)
+
+-- a block is in step at every depth exactly where it is in step itself and each block inside its statements is so
+abbrev pub InStepByStatements : Type 0
+InStepByStatements = (b : Block) → AllInStep b ↔ (IsInStep b × All InStepWithin (statements_of b))
 
 -- the values of an arena, without their spans
 abbrev pub values_of : {T : Type 0} → List (T × Span) → List T

@@ -1,6 +1,6 @@
 // Statements and the blocks that hold them.
 ghost use Rattle.std.specs.Prelude.{◌≡◌, ◌≤◌, ◌==◌, ◌++◌, ◌∷◌, [], length, map, IfOk, OnOk, OnErr};
-ghost use Rattle.ir_items.specs.View.{statement_view, block_view, case_view, statements_of, spans_of, room_for_statements, room_for_spans, IsInStep};
+ghost use Rattle.ir_items.specs.View.{statement_view, block_view, case_view, statement_spans, block_spans, case_block_spans, statements_of, spans_of, room_for_statements, room_for_spans, IsInStep, AllInStep, InStepWithin};
 
 use crate::key;
 use ir_arena::handle::Handle;
@@ -144,6 +144,7 @@ impl Block {
         ensures err_statements { OnErr result (statements_of self.new ≡ statements_of self.old) }
         ensures err_spans { OnErr result (spans_of self.new ≡ spans_of self.old) }
         ensures in_step { IsInStep self.old → IsInStep self.new }
+        ensures all_in_step { AllInStep self.old → InStepWithin statement → AllInStep self.new }
     {
         self.span_info.reserve(1)?;
         self.body.push(statement)?;
@@ -155,7 +156,7 @@ impl Block {
     #[cycle(copies)]
     pub fn clone(&self, alloc: Global) -> Result<Block, AllocError>
         ensures statements { IfOk result (λ copy. block_view copy ≡ block_view self.now) }
-        ensures spans { IfOk result (λ copy. spans_of copy ≡ spans_of self.now) }
+        ensures spans { IfOk result (λ copy. block_spans copy ≡ block_spans self.now) }
     {
         let mut body = Vec::with_capacity(alloc, self.body.len())?;
         for statement in &self.body {
@@ -170,7 +171,8 @@ impl SwitchCase {
     /// An equal case in memory of its own. The error is want of memory.
     #[cycle(copies)]
     pub fn clone(&self, alloc: Global) -> Result<SwitchCase, AllocError>
-        ensures { IfOk result (λ copy. case_view copy ≡ case_view self.now) }
+        ensures case { IfOk result (λ copy. case_view copy ≡ case_view self.now) }
+        ensures spans { IfOk result (λ copy. case_block_spans copy ≡ case_block_spans self.now) }
     {
         Ok(SwitchCase {
             value: self.value,
@@ -184,7 +186,8 @@ impl Statement {
     /// An equal statement in memory of its own. The error is want of memory.
     #[cycle(copies)]
     pub fn clone(&self, alloc: Global) -> Result<Statement, AllocError>
-        ensures { IfOk result (λ copy. statement_view copy ≡ statement_view self.now) }
+        ensures statement { IfOk result (λ copy. statement_view copy ≡ statement_view self.now) }
+        ensures spans { IfOk result (λ copy. statement_spans copy ≡ statement_spans self.now) }
     {
         match self {
             Statement::Emit(range) => Ok(Statement::Emit(range.clone()?)),
@@ -230,7 +233,8 @@ impl Statement {
 
 #[cycle(copies)]
 fn clone_cases(alloc: Global, cases: &[SwitchCase]) -> Result<Vec<SwitchCase>, AllocError>
-    ensures { IfOk result (λ copies. map case_view copies.items ≡ map case_view cases.now) }
+    ensures cases { IfOk result (λ copies. map case_view copies.items ≡ map case_view cases.now) }
+    ensures spans { IfOk result (λ copies. map case_block_spans copies.items ≡ map case_block_spans cases.now) }
 {
     let mut copies = Vec::with_capacity(alloc, cases.len())?;
     for case in cases {
