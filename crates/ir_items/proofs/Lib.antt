@@ -1,4 +1,3 @@
-pub mod TypeEquality
 pub mod TerminatorLemmas
 pub mod TailLaws
 pub mod SpanLemmas

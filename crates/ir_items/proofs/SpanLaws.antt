@@ -6,12 +6,12 @@ use Rattle.std.specs.List.{All}
 use Rattle.std.proofs.lemmas.List.Elements.{All-nil, All-cons, All-head, All-tail, All-same, All-push}
 use Rattle.ir_arena.specs.declared.span.Span.{Span}
 use Rattle.ir_arena.specs.Spans.{undefined_span}
-use Rattle.ir_items.specs.Plain.{PlainStatement, emit, block, choice, switch, loop, break, continue, return, kill, call, PlainBlock, stop, next, PlainCases, no_case, case}
+use Rattle.ir_items.specs.Plain.{PlainStatement, block, choice, switch, return, PlainBlock, stop, next, PlainCases, no_case, case}
 use Rattle.ir_items.specs.Shapes.{shape_of, Part, inner, accepting, rejecting, case_at, turn, continuing, case_body, part_of}
 use Rattle.ir_items.specs.Places.{Place, here, later, inside, condition, StandsAt}
-use Rattle.ir_items.specs.Spans.{BlockSpans, spans, in_next, no_statement, StatementSpans, no_block, in_block, in_sides, in_cases, in_turns, CaseSpans, no_more, in_case, no_spans, own_spans, within_spans, first_of, first_within, behind_first, case_spans, spans_in, span_at, InStep}
+use Rattle.ir_items.specs.Spans.{BlockSpans, spans, in_next, StatementSpans, no_block, in_block, in_sides, in_cases, in_turns, CaseSpans, no_more, in_case, no_spans, own_spans, within_spans, first_of, first_within, behind_first, case_spans, spans_in, span_at, InStep}
 use Rattle.ir_items.specs.Tails.{Ends, IsTailPart, goes_on, IsOpenEnd, empty, behind_last, further, in_tail, completed}
-use Rattle.ir_items.specs.TailSpans.{SpansCompleted, ending_span, ending_within, with_first, cases_within, completed_spans, finished_spans, finished_case_spans}
+use Rattle.ir_items.specs.TailSpans.{SpansCompleted, ending_span, ending_within, cases_within, completed_spans, finished_spans, finished_case_spans}
 use Rattle.ir_items.specs.View.{block_of, within_of, statement_view, statement_spans, block_view, block_spans, statements_of, spans_of, IsInStep, AllInStep, InStepWithin}
 use Rattle.ir_items.specs.declared.statements.Statement.{Statement}
 use Rattle.ir_items.specs.declared.statements.Block.{Block}

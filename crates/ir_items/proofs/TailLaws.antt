@@ -1,8 +1,8 @@
 -- The completed body has a return at each open end of a tail block, and is else what it was.
-use Rattle.std.proofs.Common.{◌≡◌, ◌⊎◌, inl, inr, ℕ, zero, suc, Bool, true, false, IsTrue, Option, None, refl, sym, ap, subst, ◌∙◌}
-use Rattle.ir_items.specs.Plain.{PlainStatement, emit, block, choice, switch, loop, break, continue, return, kill, call, PlainBlock, stop, next, PlainCases, no_case, case}
-use Rattle.ir_items.specs.Shapes.{shape_of, Part, inner, accepting, rejecting, case_at, turn, continuing, case_body, part_of}
-use Rattle.ir_items.specs.Places.{Place, here, later, inside, condition, Spot, nothing, statement, loop_condition, spot_at, StandsAt}
+use Rattle.std.proofs.Common.{◌≡◌, ◌⊎◌, inl, inr, ℕ, zero, suc, Bool, true, false, None, refl, sym, ap, subst, ◌∙◌}
+use Rattle.ir_items.specs.Plain.{PlainStatement, emit, block, choice, switch, loop, break, continue, return, kill, act, call, PlainBlock, stop, next, PlainCases, no_case, case}
+use Rattle.ir_items.specs.Shapes.{shape_of, Part, inner, accepting, rejecting, case_at, case_body, part_of}
+use Rattle.ir_items.specs.Places.{Place, here, later, inside, condition, spot_at, StandsAt}
 use Rattle.ir_items.specs.Tails.{Ends, IsTailPart, goes_on, IsOpenEnd, empty, behind_last, further, in_tail, case_heads, head_of, IsCompleted, ending, completed, finished, finished_cases}
 
 -- ---- parts of a finished statement
@@ -30,6 +30,7 @@ part_either break part = inr refl
 part_either continue part = inr refl
 part_either (return value) part = inr refl
 part_either kill part = inr refl
+part_either (act a) part = inr refl
 part_either (call function arguments result) part = inr refl
 
 case_tail : (cs : PlainCases) (k : ℕ) → Ends cs k → case_body (finished_cases cs) k ≡ completed (case_body cs k)
@@ -51,6 +52,7 @@ part_tail break part h = absurd h
 part_tail continue part h = absurd h
 part_tail (return value) part h = absurd h
 part_tail kill part h = absurd h
+part_tail (act a) part h = absurd h
 part_tail (call function arguments result) part h = absurd h
 
 case_heads-finished : (cs : PlainCases) → case_heads (finished_cases cs) ≡ case_heads cs
@@ -67,6 +69,7 @@ head_of-finished break = refl
 head_of-finished continue = refl
 head_of-finished (return value) = refl
 head_of-finished kill = refl
+head_of-finished (act a) = refl
 head_of-finished (call function arguments result) = refl
 
 -- ---- places
@@ -166,6 +169,7 @@ mutual
   last_once continue = refl
   last_once (return value) = refl
   last_once kill = refl
+  last_once (act a) = refl
   last_once (call function arguments result) = refl
 
   cases_once : (cs : PlainCases) → finished_cases (finished_cases cs) ≡ finished_cases cs

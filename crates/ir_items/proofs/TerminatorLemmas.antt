@@ -1,7 +1,7 @@
 -- The completed body, as the code makes it.
-use Rattle.std.proofs.Common.{◌≡◌, ◌≤◌, ℕ, List, [], ◌∷◌, ◌++◌, map, take, length, Bool, true, false, None, refl, sym, ap, subst, ◌∙◌, rules}
+use Rattle.std.proofs.Common.{◌≡◌, ◌≤◌, ℕ, List, [], ◌∷◌, ◌++◌, map, take, length, true, false, None, refl, sym, ap, ◌∙◌, rules}
 use Rattle.std.proofs.lemmas.List.{map-append, take_all}
-use Rattle.ir_items.specs.Plain.{PlainStatement, return, PlainBlock, stop, next, case}
+use Rattle.ir_items.specs.Plain.{PlainStatement, return, next, case}
 use Rattle.ir_items.specs.Shapes.{shape_of}
 use Rattle.ir_items.specs.Tails.{goes_on, ending, completed, finished, finished_cases, finished_case}
 use Rattle.ir_items.specs.View.{PlainCase, block_of, cases_of, statement_view, block_view, case_view, statements_view, statements_of}

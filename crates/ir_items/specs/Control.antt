@@ -1,5 +1,5 @@
 -- How a statement may leave its block: by the nearest loop or switch around it, and whether a continuing part lies between.
-use Rattle.std.specs.Prelude.{◌≡◌, Bool, true, false, IsTrue, List, [], ◌∷◌, Option, Some}
+use Rattle.std.specs.Prelude.{◌≡◌, Bool, true, false, IsTrue, List, [], ◌∷◌, Some}
 use Rattle.ir_items.specs.Plain.{PlainStatement, PlainBlock}
 use Rattle.ir_items.specs.Shapes.{Exit, breaks, continues, returns, kills, exit_of, shape_of, Part, inner, accepting, rejecting, case_at, turn, continuing}
 use Rattle.ir_items.specs.Places.{Place, here, later, inside, condition, StandsAt}

@@ -1,7 +1,7 @@
 -- Places in a body, what stands there, and what stands before a place.
-use Rattle.std.specs.Prelude.{◌≡◌, ℕ, Option, Some, None}
+use Rattle.std.specs.Prelude.{◌≡◌, ℕ, Option, None}
 use Rattle.ir_items.specs.Plain.{PlainStatement, PlainBlock, stop, next}
-use Rattle.ir_items.specs.Shapes.{Shape, simple, leaves, calls, nests, chooses, switches, loops, shape_of, Part, turn, continuing, part_of}
+use Rattle.ir_items.specs.Shapes.{Shape, loops, shape_of, Part, turn, continuing, part_of}
 
 -- A place in a body is a path: the body's first statement, a place after it, a place in one of its parts, or its
 -- condition, if it is a loop.

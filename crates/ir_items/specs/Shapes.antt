@@ -1,6 +1,6 @@
 -- The shape of a statement: what steers, and nothing of what it computes.
 use Rattle.std.specs.Prelude.{ℕ, zero, suc, Option, Some, None}
-use Rattle.ir_items.specs.Plain.{PlainStatement, emit, block, choice, switch, loop, break, continue, return, kill, call, PlainBlock, stop, next, PlainCases, no_case, case}
+use Rattle.ir_items.specs.Plain.{PlainStatement, emit, block, choice, switch, loop, break, continue, return, kill, act, call, PlainBlock, stop, PlainCases, no_case, case}
 
 -- how a statement leaves the block that it stands in
 pub data Exit : Type 0 where
@@ -29,6 +29,7 @@ shape_of break = leaves breaks
 shape_of continue = leaves continues
 shape_of (return value) = leaves returns
 shape_of kill = leaves kills
+shape_of (act a) = simple
 shape_of (call function arguments result) = calls function
 
 -- how it leaves its block, if it does

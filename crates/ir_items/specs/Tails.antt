@@ -1,8 +1,8 @@
 -- The tail blocks of a body, and the body completed with returns.
-use Rattle.std.specs.Prelude.{◌≡◌, ◌⊎◌, ℕ, zero, suc, Bool, true, false, IsTrue, if◌then◌else◌, Option, None}
-use Rattle.ir_items.specs.Plain.{PlainStatement, emit, block, choice, switch, loop, break, continue, return, kill, call, PlainBlock, stop, next, PlainCases, no_case, case}
+use Rattle.std.specs.Prelude.{◌≡◌, ◌⊎◌, ℕ, zero, suc, Bool, true, false, IsTrue, if◌then◌else◌, None}
+use Rattle.ir_items.specs.Plain.{PlainStatement, emit, block, choice, switch, loop, break, continue, return, kill, act, call, PlainBlock, stop, next, PlainCases, no_case, case}
 use Rattle.ir_items.specs.View.{PlainCase}
-use Rattle.ir_items.specs.Shapes.{Shape, simple, leaves, calls, nests, chooses, switches, loops, shape_of, Part, inner, accepting, rejecting, case_at, part_of}
+use Rattle.ir_items.specs.Shapes.{Shape, simple, calls, nests, chooses, switches, loops, shape_of, Part, inner, accepting, rejecting, case_at, part_of}
 use Rattle.ir_items.specs.Places.{Place, here, later, inside, StandsAt}
 
 -- the case is there and doesn't fall through
@@ -78,6 +78,7 @@ abbrev mutual
   finished continue = continue
   finished (return value) = return value
   finished kill = kill
+  finished (act a) = act a
   finished (call function arguments result) = call function arguments result
 
   pub finished_cases : PlainCases → PlainCases

@@ -3,20 +3,28 @@ use Rattle.std.specs.Prelude.{◌≡◌, ◌↔◌, ℕ, Bool, List, [], ◌∷�
 use Rattle.std.specs.List.{All}
 use Rattle.ir_arena.specs.declared.span.Span.{Span}
 use Rattle.ir_kinds.specs.declared.values.SwitchValue.{SwitchValue}
-use Rattle.ir_items.specs.Plain.{PlainType, PlainStatement, emit, block, choice, switch, loop, break, continue, return, kill, call, PlainBlock, stop, next, PlainCases, no_case, case, PlainFunction, PlainModule}
+use Rattle.ir_types.specs.Plain.{type_view}
+use Rattle.ir_expressions.specs.Plain.{expression_view}
+use Rattle.ir_items.specs.Plain.{control_barrier, memory_barrier, store, image_store, atomic, image_atomic, uniform_load, ray_query, ballot, collective, gather, cooperative_store, ray_pipeline, PlainStatement, emit, block, choice, switch, loop, break, continue, return, kill, act, call, PlainBlock, stop, next, PlainCases, no_case, case, PlainArgument, PlainLocal, PlainFunction, PlainEntry, PlainConstant, PlainOverride, PlainGlobal, PlainRule, standard, unknown, user, PlainNode, PlainSpecial, PlainModule}
 use Rattle.ir_items.specs.Shapes.{Part, shape_of, part_of}
 use Rattle.ir_items.specs.Spans.{BlockSpans, spans, InnerSpans, no_statement, in_next, StatementSpans, no_block, in_block, in_sides, in_cases, in_turns, CaseSpans, no_more, in_case, spans_in, InStep}
-use Rattle.ir_items.specs.declared.types.IrType.{IrType}
 use Rattle.ir_items.specs.declared.statements.Statement.{Statement}
 use Rattle.ir_items.specs.declared.statements.Statement.TheOpen.{Statement-F, Block-F, SwitchCase-F}
 use Rattle.ir_items.specs.declared.statements.Statement.TheFolds.{fold-Statement, fold-Block, fold-SwitchCase}
 use Rattle.ir_items.specs.declared.statements.Block.{Block, out-Block}
 use Rattle.ir_items.specs.declared.statements.SwitchCase.{SwitchCase}
-use Rattle.ir_items.specs.declared.module.Function.{Function}
+use Rattle.ir_items.specs.declared.globals.Constant.{Constant}
+use Rattle.ir_items.specs.declared.globals.Override.{Override}
+use Rattle.ir_items.specs.declared.globals.GlobalVariable.{GlobalVariable}
+use Rattle.ir_items.specs.declared.filters.FilterableTriggeringRule.{FilterableTriggeringRule}
+use Rattle.ir_items.specs.declared.filters.FilterableTriggeringRule.TheVariants as rule
+use Rattle.ir_items.specs.declared.filters.DiagnosticFilterNode.{DiagnosticFilterNode}
+use Rattle.ir_items.specs.declared.functions.LocalVariable.{LocalVariable}
+use Rattle.ir_items.specs.declared.functions.FunctionArgument.{FunctionArgument}
+use Rattle.ir_items.specs.declared.functions.Function.{Function}
+use Rattle.ir_items.specs.declared.entries.EntryPoint.{EntryPoint}
+use Rattle.ir_items.specs.declared.module.SpecialTypes.{SpecialTypes}
 use Rattle.ir_items.specs.declared.module.Module.{Module}
-
-abbrev pub type_view : IrType → PlainType
-type_view t = record { name = option_map string_bytes t.name; inner = t.inner }
 
 -- these statements, as a block
 abbrev pub block_of : List PlainStatement → PlainBlock
@@ -45,7 +53,20 @@ statement_step Statement-F.Break = break
 statement_step Statement-F.Continue = continue
 statement_step (Statement-F.Return value) = return value
 statement_step Statement-F.Kill = kill
+statement_step (Statement-F.ControlBarrier barrier) = act (control_barrier barrier)
+statement_step (Statement-F.MemoryBarrier barrier) = act (memory_barrier barrier)
+statement_step (Statement-F.Store pointer value) = act (store pointer value)
+statement_step (Statement-F.ImageStore image coordinate array_index value) = act (image_store image coordinate array_index value)
+statement_step (Statement-F.Atomic pointer fun value result) = act (atomic pointer fun value result)
+statement_step (Statement-F.ImageAtomic image coordinate array_index fun value) = act (image_atomic image coordinate array_index fun value)
+statement_step (Statement-F.WorkGroupUniformLoad pointer result) = act (uniform_load pointer result)
 statement_step (Statement-F.Call function arguments result) = call function arguments.items result
+statement_step (Statement-F.RayQuery query fun) = act (ray_query query fun)
+statement_step (Statement-F.SubgroupBallot result predicate) = act (ballot result predicate)
+statement_step (Statement-F.SubgroupCollectiveOperation op collective_op argument result) = act (collective op collective_op argument result)
+statement_step (Statement-F.SubgroupGather mode argument result) = act (gather mode argument result)
+statement_step (Statement-F.CooperativeStore target place) = act (cooperative_store target place)
+statement_step (Statement-F.RayPipelineFunction fun) = act (ray_pipeline fun)
 
 abbrev pub block_step : Block-F PlainStatement PlainBlock PlainCase → PlainBlock
 block_step b = block_of b.body.items
@@ -130,16 +151,85 @@ InStepWithin s = (part : Part) → InStep (part_of (shape_of (statement_view s))
 abbrev pub InStepByStatements : Type 0
 InStepByStatements = (b : Block) → AllInStep b ↔ (IsInStep b × All InStepWithin (statements_of b))
 
+-- the statement steers nothing, computes no range and calls nothing
+abbrev pub IsAct : PlainStatement → Type 0
+IsAct (act a) = Unit {0}
+IsAct _ = ⊥
+
 -- the values of an arena, without their spans
 abbrev pub values_of : {T : Type 0} → List (T × Span) → List T
 values_of entries = map (λ e. e.0) entries
 
+abbrev pub argument_view : FunctionArgument → PlainArgument
+argument_view a = record { name = option_map string_bytes a.name; ty = a.ty; binding = a.binding }
+
+abbrev pub local_view : LocalVariable → PlainLocal
+local_view l = record { name = option_map string_bytes l.name; ty = l.ty; init = l.init }
+
 abbrev pub function_view : Function → PlainFunction
 function_view f = record {
-  result = option_map (λ r. r.ty) f.result;
-  expressions = values_of f.expressions;
+  name = option_map string_bytes f.name;
+  arguments = map argument_view f.arguments.items;
+  result = f.result;
+  locals = map local_view (values_of f.local_variables);
+  expressions = map expression_view (values_of f.expressions);
   body = block_view f.body;
+  leaf = f.diagnostic_filter_leaf;
+}
+
+abbrev pub entry_view : EntryPoint → PlainEntry
+entry_view e = record {
+  stage = e.stage;
+  name = string_bytes e.name;
+  early = e.early_depth_test;
+  sizes = e.workgroup_size;
+  mesh = e.mesh_info;
+  payload = e.task_payload;
+  function = function_view e.function;
+}
+
+abbrev pub constant_view : Constant → PlainConstant
+constant_view c = record { name = option_map string_bytes c.name; ty = c.ty; init = c.init }
+
+abbrev pub override_view : Override → PlainOverride
+override_view o = record { name = option_map string_bytes o.name; id = o.id; ty = o.ty; init = o.init }
+
+abbrev pub global_view : GlobalVariable → PlainGlobal
+global_view g = record {
+  name = option_map string_bytes g.name;
+  space = g.space;
+  binding = g.binding;
+  ty = g.ty;
+  init = g.init;
+  decorations = g.memory_decorations;
+}
+
+abbrev pub rule_view : FilterableTriggeringRule → PlainRule
+rule_view (rule.Standard r) = standard r
+rule_view (rule.Unknown name) = unknown (string_bytes name)
+rule_view (rule.User tool name) = user (string_bytes tool) (string_bytes name)
+
+abbrev pub node_view : DiagnosticFilterNode → PlainNode
+node_view n = record { severity = n.inner.new_severity; rule = rule_view n.inner.triggering_rule; parent = n.parent }
+
+abbrev pub special_view : SpecialTypes → PlainSpecial
+special_view s = record {
+  ray_desc = s.ray_desc;
+  ray_intersection = s.ray_intersection;
+  ray_vertex_return = s.ray_vertex_return;
+  predeclared = s.predeclared_types.entries;
 }
 
 abbrev pub module_view : Module → PlainModule
-module_view m = record { types = map type_view (values_of m.types); functions = map function_view (values_of m.functions) }
+module_view m = record {
+  types = map type_view (values_of m.types);
+  special = special_view m.special_types;
+  filters = map node_view (values_of m.diagnostic_filters);
+  leaf = m.diagnostic_filter_leaf;
+  constants = map constant_view (values_of m.constants);
+  overrides = map override_view (values_of m.overrides);
+  global_expressions = map expression_view (values_of m.global_expressions);
+  globals = map global_view (values_of m.global_variables);
+  functions = map function_view (values_of m.functions);
+  entries = map entry_view m.entry_points.items;
+}

@@ -1,16 +1,23 @@
-// The items of the IR: types, statements, functions and the module that holds them.
+// The items of the IR: statements, functions and the module that holds them. It hands on the types and the expressions.
 #![tactic(auto)]
 
-mod expressions;
-pub mod key;
+mod acts;
+mod entries;
+mod filters;
+mod functions;
+mod globals;
 pub mod laws;
 mod module;
 mod statements;
 mod terminator;
-mod types;
 
-pub use expressions::Expression;
-pub use module::{Function, FunctionResult, Module};
+pub use acts::{AtomicFunction, GatherMode, RayPipelineFunction, RayQueryFunction};
+pub use entries::{EntryPoint, MeshStageInfo};
+pub use filters::{DiagnosticFilter, DiagnosticFilterNode, FilterableTriggeringRule};
+pub use functions::{Function, FunctionArgument, FunctionResult, LocalVariable};
+pub use globals::{Constant, GlobalVariable, Override};
+pub use ir_expressions::{CooperativeData, Expression, ImageQuery, SampleLevel};
+pub use ir_types::{ArraySize, IrType, StructMember, TypeInner, key};
+pub use module::{GlobalCtx, Module, SpecialTypes};
 pub use statements::{Block, Statement, SwitchCase};
 pub use terminator::{complete, ensure_block_returns};
-pub use types::{IrType, TypeInner};

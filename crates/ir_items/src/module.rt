@@ -1,28 +1,29 @@
-// Functions, and the module that holds everything.
-use crate::expressions::Expression;
-use crate::key;
-use crate::statements::Block;
-use crate::types::IrType;
+// The module that holds everything.
+ghost use Rattle.std.specs.Prelude.{◌≡◌};
+
+use crate::entries::EntryPoint;
+use crate::filters::DiagnosticFilterNode;
+use crate::functions::Function;
+use crate::globals::{Constant, GlobalVariable, Override};
+use indexmap::IndexMap;
 use ir_arena::arena::Arena;
 use ir_arena::handle::Handle;
 use ir_arena::unique_arena::UniqueArena;
+use ir_expressions::Expression;
+use ir_kinds::PredeclaredType;
+use ir_types::{IrType, key};
 
-/// What a function answers (naga's `FunctionResult`).
-#[derive(Clone, Copy, PartialEq, Eq, Hash, Debug)]
-pub struct FunctionResult {
-    /// The type of the answer.
-    pub ty: Handle<key::IrType>,
-}
-
-/// A function (naga's `Function`).
-#[derive(Debug, Drop)]
-pub struct Function {
-    /// What it answers, if it answers something.
-    pub result: Option<FunctionResult>,
-    /// What is computed in it.
-    pub expressions: Arena<Expression, key::Expression>,
-    /// What it does.
-    pub body: Block,
+/// Types that some expressions ask for by what they are (naga's `SpecialTypes`).
+#[derive(Drop)]
+pub struct SpecialTypes {
+    /// The type of a ray.
+    pub ray_desc: Option<Handle<key::IrType>>,
+    /// The type of what a ray hits.
+    pub ray_intersection: Option<Handle<key::IrType>>,
+    /// The type of the vertices that a ray hits.
+    pub ray_vertex_return: Option<Handle<key::IrType>>,
+    /// The types of what some functions answer.
+    pub predeclared_types: IndexMap<PredeclaredType, Handle<key::IrType>>,
 }
 
 /// A shader module (naga's `Module`).
@@ -30,6 +31,52 @@ pub struct Function {
 pub struct Module {
     /// The types, no two of them equal.
     pub types: UniqueArena<IrType, key::IrType>,
+    /// The types that some expressions ask for.
+    pub special_types: SpecialTypes,
+    /// The constants.
+    pub constants: Arena<Constant, key::Constant>,
+    /// The overrides.
+    pub overrides: Arena<Override, key::Override>,
+    /// The variables.
+    pub global_variables: Arena<GlobalVariable, key::GlobalVariable>,
+    /// What constants, overrides and variables begin as.
+    pub global_expressions: Arena<Expression, key::Expression>,
     /// The functions that are no entry points.
     pub functions: Arena<Function, key::Function>,
+    /// The entry points.
+    pub entry_points: Vec<EntryPoint>,
+    /// The diagnostic filters.
+    pub diagnostic_filters: Arena<DiagnosticFilterNode, key::DiagnosticFilterNode>,
+    /// The diagnostic filters that count in the whole module.
+    pub diagnostic_filter_leaf: Option<Handle<key::DiagnosticFilterNode>>,
+}
+
+/// What a global expression may name (naga's `GlobalCtx`).
+#[derive(Clone, Copy)]
+pub struct GlobalCtx<'a> {
+    /// The types.
+    pub types: &'a UniqueArena<IrType, key::IrType>,
+    /// The constants.
+    pub constants: &'a Arena<Constant, key::Constant>,
+    /// The overrides.
+    pub overrides: &'a Arena<Override, key::Override>,
+    /// The global expressions.
+    pub global_expressions: &'a Arena<Expression, key::Expression>,
+}
+
+impl Module {
+    /// What its global expressions may name.
+    pub fn to_ctx(&self) -> GlobalCtx<'_>
+        ensures types { result.types.now ≡ self.now.types }
+        ensures constants { result.constants.now ≡ self.now.constants }
+        ensures overrides { result.overrides.now ≡ self.now.overrides }
+        ensures global_expressions { result.global_expressions.now ≡ self.now.global_expressions }
+    {
+        GlobalCtx {
+            types: &self.types,
+            constants: &self.constants,
+            overrides: &self.overrides,
+            global_expressions: &self.global_expressions,
+        }
+    }
 }

@@ -1,12 +1,16 @@
 // Statements and the blocks that hold them.
 ghost use Rattle.std.specs.Prelude.{◌≡◌, ◌≤◌, ◌==◌, ◌++◌, ◌∷◌, [], length, map, IfOk, OnOk, OnErr};
-ghost use Rattle.ir_items.specs.View.{statement_view, block_view, case_view, statement_spans, block_spans, case_block_spans, statements_of, spans_of, room_for_statements, room_for_spans, IsInStep, AllInStep, InStepWithin};
+ghost use Rattle.ir_items.specs.View.{statement_view, block_view, case_view, statement_spans, block_spans, case_block_spans, statements_of, spans_of, room_for_statements, room_for_spans, IsInStep, AllInStep, InStepWithin, IsAct};
+ghost use Rattle.ir_items.specs.Spans.{no_block};
 
-use crate::key;
+use crate::acts::{AtomicFunction, GatherMode, RayPipelineFunction, RayQueryFunction};
 use ir_arena::handle::Handle;
 use ir_arena::range::Range;
 use ir_arena::span::Span;
-use ir_kinds::SwitchValue;
+use ir_expressions::CooperativeData;
+use ir_flags::Barrier;
+use ir_kinds::{CollectiveOperation, SubgroupOperation, SwitchValue};
+use ir_types::key;
 use std::alloc::{AllocError, Global};
 
 /// Statements in order, each with its span (naga's `Block`).
@@ -73,6 +77,59 @@ pub enum Statement {
     },
     /// Ends the fragment.
     Kill,
+    /// Waits for the other invocations, and orders memory.
+    ControlBarrier(Barrier),
+    /// Orders memory.
+    MemoryBarrier(Barrier),
+    /// Writes where a pointer points.
+    Store {
+        /// The pointer.
+        pointer: Handle<key::Expression>,
+        /// What is written.
+        value: Handle<key::Expression>,
+    },
+    /// Writes a texel.
+    ImageStore {
+        /// The image.
+        image: Handle<key::Expression>,
+        /// Which texel.
+        coordinate: Handle<key::Expression>,
+        /// In which layer.
+        array_index: Option<Handle<key::Expression>>,
+        /// What is written.
+        value: Handle<key::Expression>,
+    },
+    /// Changes an atomic at once.
+    Atomic {
+        /// Where it lies.
+        pointer: Handle<key::Expression>,
+        /// What is done.
+        fun: AtomicFunction,
+        /// With what.
+        value: Handle<key::Expression>,
+        /// The `AtomicResult` that stands for what lay there, if it is asked for.
+        result: Option<Handle<key::Expression>>,
+    },
+    /// Changes a texel at once.
+    ImageAtomic {
+        /// The image.
+        image: Handle<key::Expression>,
+        /// Which texel.
+        coordinate: Handle<key::Expression>,
+        /// In which layer.
+        array_index: Option<Handle<key::Expression>>,
+        /// What is done.
+        fun: AtomicFunction,
+        /// With what.
+        value: Handle<key::Expression>,
+    },
+    /// Reads workgroup memory, the same for all of a workgroup.
+    WorkGroupUniformLoad {
+        /// Where it lies.
+        pointer: Handle<key::Expression>,
+        /// The `WorkGroupUniformLoadResult` that stands for what lies there.
+        result: Handle<key::Expression>,
+    },
     /// Runs another function.
     Call {
         /// The function that is run.
@@ -82,6 +139,49 @@ pub enum Statement {
         /// The `CallResult` that stands for its answer, if it has one.
         result: Option<Handle<key::Expression>>,
     },
+    /// Does something with a ray query.
+    RayQuery {
+        /// A pointer to the query.
+        query: Handle<key::Expression>,
+        /// What is done.
+        fun: RayQueryFunction,
+    },
+    /// Asks all of a subgroup.
+    SubgroupBallot {
+        /// The `SubgroupBallotResult` that stands for the answer.
+        result: Handle<key::Expression>,
+        /// What each says; `true` where there is none.
+        predicate: Option<Handle<key::Expression>>,
+    },
+    /// Computes one thing of what all of a subgroup have.
+    SubgroupCollectiveOperation {
+        /// What is computed.
+        op: SubgroupOperation,
+        /// Of all, or of those before.
+        collective_op: CollectiveOperation,
+        /// What each has.
+        argument: Handle<key::Expression>,
+        /// The `SubgroupOperationResult` that stands for the answer.
+        result: Handle<key::Expression>,
+    },
+    /// Takes what another of the subgroup has.
+    SubgroupGather {
+        /// From which.
+        mode: GatherMode,
+        /// What each has.
+        argument: Handle<key::Expression>,
+        /// The `SubgroupOperationResult` that stands for the answer.
+        result: Handle<key::Expression>,
+    },
+    /// Writes a cooperative matrix to memory.
+    CooperativeStore {
+        /// The matrix.
+        target: Handle<key::Expression>,
+        /// The memory (naga's `data`).
+        block: CooperativeData,
+    },
+    /// Asks something of a pipeline of ray tracing.
+    RayPipelineFunction(RayPipelineFunction),
 }
 
 impl Block {
@@ -227,6 +327,96 @@ impl Statement {
                 arguments: Vec::from_slice(alloc, arguments)?,
                 result: *result,
             }),
+            act => Ok(act.copy_act()),
+        }
+    }
+
+    // An equal statement, where it steers nothing and holds no list.
+    fn copy_act(&self) -> Statement
+        requires { IsAct (statement_view self.now) }
+        ensures statement { statement_view result ≡ statement_view self.now }
+        ensures spans { statement_spans result ≡ no_block }
+    {
+        match *self {
+            Statement::ControlBarrier(barrier) => Statement::ControlBarrier(barrier),
+            Statement::MemoryBarrier(barrier) => Statement::MemoryBarrier(barrier),
+            Statement::Store { pointer, value } => Statement::Store { pointer, value },
+            Statement::ImageStore {
+                image,
+                coordinate,
+                array_index,
+                value,
+            } => Statement::ImageStore {
+                image,
+                coordinate,
+                array_index,
+                value,
+            },
+            Statement::Atomic {
+                pointer,
+                fun,
+                value,
+                result: answer,
+            } => Statement::Atomic {
+                pointer,
+                fun,
+                value,
+                result: answer,
+            },
+            Statement::ImageAtomic {
+                image,
+                coordinate,
+                array_index,
+                fun,
+                value,
+            } => Statement::ImageAtomic {
+                image,
+                coordinate,
+                array_index,
+                fun,
+                value,
+            },
+            Statement::WorkGroupUniformLoad {
+                pointer,
+                result: answer,
+            } => Statement::WorkGroupUniformLoad {
+                pointer,
+                result: answer,
+            },
+            Statement::RayQuery { query, fun } => Statement::RayQuery { query, fun },
+            Statement::SubgroupBallot {
+                result: answer,
+                predicate,
+            } => Statement::SubgroupBallot {
+                result: answer,
+                predicate,
+            },
+            Statement::SubgroupCollectiveOperation {
+                op,
+                collective_op,
+                argument,
+                result: answer,
+            } => Statement::SubgroupCollectiveOperation {
+                op,
+                collective_op,
+                argument,
+                result: answer,
+            },
+            Statement::SubgroupGather {
+                mode,
+                argument,
+                result: answer,
+            } => Statement::SubgroupGather {
+                mode,
+                argument,
+                result: answer,
+            },
+            Statement::CooperativeStore { target, block } => Statement::CooperativeStore {
+                target,
+                block,
+            },
+            Statement::RayPipelineFunction(fun) => Statement::RayPipelineFunction(fun),
+            _ => unreachable!(),
         }
     }
 }

@@ -30,11 +30,11 @@ fn goes_on(statement: &Statement) -> bool
     ensures { result ≡ goes_on (shape_of (statement_view statement.now)) }
 {
     match statement {
-        Statement::Emit(_) | Statement::Call { .. } | Statement::Loop { .. } => true,
         Statement::Block(_) | Statement::If { .. } | Statement::Switch { .. } => false,
         Statement::Break | Statement::Continue | Statement::Return { .. } | Statement::Kill => {
             false
         }
+        _ => true,
     }
 }
 

@@ -5,4 +5,4 @@ pub mod key;
 pub mod laws;
 mod types;
 
-pub use types::{ArraySize, IrType, StructMember, TypeInner};
+pub use types::{ArraySize, IrType, StructMember, TypeInner, clone_name};
