@@ -11,10 +11,10 @@ use Rattle.ir_kinds.specs.declared.scalars.ScalarKind.TheVariants.{Sint, Uint, F
 use Rattle.ir_kinds.specs.declared.values.Literal.{Literal}
 use Rattle.ir_kinds.specs.declared.values.Literal.TheVariants as literal
 use Rattle.ir_kinds.specs.declared.values.SwitchValue.TheVariants.{I32, U32, Default}
-use Rattle.ir_items.specs.declared.expressions.Expression.TheVariants as computed
+use Rattle.ir_expressions.specs.declared.expressions.Expression.TheVariants as computed
 use Rattle.ir_items.specs.Plain.{PlainStatement, emit, block, choice, switch, loop, break, continue, return, kill, call, PlainBlock, stop, next, PlainCases, no_case, case, PlainFunction}
 use Rattle.ir_items.specs.View.{PlainCase, block_of, cases_of}
-use Rattle.ir_items.specs.declared.types.TypeInner.TheVariants as inner
+use Rattle.ir_types.specs.declared.types.TypeInner.TheVariants as inner
 use Rattle.document_reader.specs.declared.words.StatementKind.{StatementKind}
 use Rattle.document_reader.specs.declared.words.StatementKind.TheVariants as k
 use Rattle.document_reader.specs.Decode.{first, is_end, is_null, tagged, only, pair, triple, lookup, word_in, optional, all_of, handle_of, u32_of, i32_of, literal_of, expression_of, value_of, case_with, choice_with, switch_with, loop_with, inner_of, type_of, call_of, statement_with, statement_at, block_at, FunctionParts, function_parts, is_plain_function, result_of, function_at}

@@ -9,14 +9,15 @@ use Rattle.ir_kinds.specs.declared.values.Literal.{Literal}
 use Rattle.ir_kinds.specs.declared.values.Literal.TheVariants as literal
 use Rattle.ir_kinds.specs.declared.values.SwitchValue.{SwitchValue}
 use Rattle.ir_kinds.specs.declared.values.SwitchValue.TheVariants.{I32, U32, Default}
-use Rattle.ir_items.specs.declared.expressions.Expression.{Expression}
-use Rattle.ir_items.specs.declared.expressions.Expression.TheVariants as computed
+use Rattle.ir_expressions.specs.declared.expressions.Expression.{Expression}
+use Rattle.ir_expressions.specs.declared.expressions.Expression.TheVariants as computed
 use Rattle.document_reader.specs.declared.words.StatementKind.{StatementKind}
 use Rattle.document_reader.specs.declared.words.StatementKind.TheVariants as k
-use Rattle.ir_items.specs.Plain.{PlainType, PlainStatement, block, choice, switch, loop, break, continue, return, kill, call, PlainBlock, PlainFunction}
+use Rattle.ir_types.specs.Plain.{PlainType}
+use Rattle.ir_items.specs.Plain.{PlainStatement, block, choice, switch, loop, break, continue, return, kill, call, PlainBlock, PlainFunction}
 use Rattle.ir_items.specs.View.{PlainCase, block_of, cases_of}
-use Rattle.ir_items.specs.declared.types.TypeInner.{TypeInner}
-use Rattle.ir_items.specs.declared.types.TypeInner.TheVariants as inner
+use Rattle.ir_types.specs.declared.types.TypeInner.{TypeInner}
+use Rattle.ir_types.specs.declared.types.TypeInner.TheVariants as inner
 use Rattle.ir_kinds.specs.Settings.{PlainSettings}
 use Rattle.document_reader.specs.Plain.{PlainDocument}
 use Rattle.document_reader.specs.Form.{AreDistinct}

@@ -12,11 +12,12 @@ use Rattle.ir_kinds.specs.declared.values.Literal.{Literal}
 use Rattle.ir_kinds.specs.declared.values.Literal.TheVariants as literal
 use Rattle.ir_kinds.specs.declared.values.SwitchValue.{SwitchValue}
 use Rattle.ir_kinds.specs.declared.values.SwitchValue.TheVariants.{I32, U32, Default}
-use Rattle.ir_items.specs.declared.expressions.Expression.{Expression}
-use Rattle.ir_items.specs.declared.expressions.Expression.TheVariants as computed
-use Rattle.ir_items.specs.Plain.{PlainType, PlainStatement, emit, block, choice, switch, loop, break, continue, return, kill, call, PlainBlock, stop, next, PlainCases, no_case, case, PlainFunction, PlainModule}
-use Rattle.ir_items.specs.declared.types.TypeInner.{TypeInner}
-use Rattle.ir_items.specs.declared.types.TypeInner.TheVariants as inner
+use Rattle.ir_expressions.specs.declared.expressions.Expression.{Expression}
+use Rattle.ir_expressions.specs.declared.expressions.Expression.TheVariants as computed
+use Rattle.ir_types.specs.Plain.{PlainType}
+use Rattle.ir_items.specs.Plain.{PlainStatement, emit, block, choice, switch, loop, break, continue, return, kill, call, PlainBlock, stop, next, PlainCases, no_case, case, PlainFunction, PlainModule}
+use Rattle.ir_types.specs.declared.types.TypeInner.{TypeInner}
+use Rattle.ir_types.specs.declared.types.TypeInner.TheVariants as inner
 use Rattle.ir_kinds.specs.Settings.{PlainSettings}
 use Rattle.document_reader.specs.Plain.{PlainDocument}
 use Rattle.document_reader.specs.Words.{flag_word, capability_word, stage_word, subgroup_flag_word, scalar_word}

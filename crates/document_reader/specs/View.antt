@@ -1,7 +1,8 @@
 -- The plain document that a `Document` holds.
 use Rattle.std.specs.Prelude.{option_map, map}
 use Rattle.ir_items.specs.Plain.{PlainFunction}
-use Rattle.ir_items.specs.View.{type_view, block_view}
+use Rattle.ir_types.specs.Plain.{type_view}
+use Rattle.ir_items.specs.View.{block_view}
 use Rattle.ir_kinds.specs.Settings.{PlainSettings}
 use Rattle.document_reader.specs.Plain.{PlainDocument}
 use Rattle.document_reader.specs.declared.document.Settings.{Settings}

@@ -2,7 +2,7 @@
 ghost use Rattle.std.specs.Prelude.{◌≡◌, ◌++◌, map, option_map, string_bytes, IfOk};
 ghost use Rattle.serde_json.specs.View.{view as data_of, items_view};
 ghost use Rattle.serde_json.specs.Find.{as_str};
-ghost use Rattle.ir_items.specs.View.{type_view};
+ghost use Rattle.ir_types.specs.Plain.{type_view};
 ghost use Rattle.document_reader.specs.Decode.{optional, all_of, inner_of, type_of, function_parts, is_plain_function, result_of, function_at, special_parts, is_no_special, is_no_filters, content_parts, is_thin};
 ghost use Rattle.document_reader.specs.Parts.{function_parts_view, content_parts_view};
 ghost use Rattle.document_reader.specs.View.{function_view};

@@ -1,10 +1,10 @@
 // Whether a list of types repeats one.
 ghost use Rattle.std.specs.Prelude.{◌↔◌, IsTrue, Contains, map, take};
-ghost use Rattle.ir_items.specs.View.{type_view};
+ghost use Rattle.ir_types.specs.Plain.{type_view};
 ghost use Rattle.document_reader.specs.Form.{AreDistinct};
 
 use ir_items::IrType;
-use ir_items::laws::type_equality;
+use ir_types::laws::type_equality;
 
 // Whether an equal type stands among these.
 fn has_type(types: &[IrType], wanted: &IrType) -> bool

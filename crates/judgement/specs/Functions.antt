@@ -9,33 +9,39 @@ use Rattle.ir_kinds.specs.declared.scalars.ScalarKind.{ScalarKind}
 use Rattle.ir_kinds.specs.declared.scalars.ScalarKind.TheVariants.{Sint, Uint, Bool as Boolean}
 use Rattle.ir_kinds.specs.declared.values.SwitchValue.{SwitchValue}
 use Rattle.ir_kinds.specs.declared.values.SwitchValue.TheVariants.{I32, U32, Default}
-use Rattle.ir_items.specs.declared.expressions.Expression.{Expression}
-use Rattle.ir_items.specs.declared.expressions.Expression.TheVariants as computed
-use Rattle.ir_items.specs.declared.types.TypeInner.{TypeInner}
-use Rattle.ir_items.specs.declared.types.TypeInner.TheVariants as inner
-use Rattle.ir_items.specs.Plain.{PlainType, PlainStatement, emit, block, choice, switch, loop, break, continue, return, kill, call, PlainBlock, PlainCases, no_case, case, PlainFunction, PlainModule}
+use Rattle.ir_expressions.specs.Plain.{PlainExpression, plain as computes}
+use Rattle.ir_expressions.specs.declared.expressions.Expression.TheVariants as computed
+use Rattle.ir_types.specs.declared.types.TypeInner.TheVariants as inner
+use Rattle.ir_types.specs.Plain.{PlainInner, plain, PlainType}
+use Rattle.ir_items.specs.Plain.{PlainStatement, emit, block, choice, switch, loop, break, continue, return, kill, act, call, PlainBlock, PlainCases, no_case, case, PlainFunction, PlainModule}
+use Rattle.ir_items.specs.declared.functions.FunctionResult.{FunctionResult}
 use Rattle.ir_items.specs.Places.{Place, StandsAt}
 use Rattle.ir_items.specs.Control.{ControlOK}
 use Rattle.ir_items.specs.Tails.{completed}
 
 -- ---- types of expressions
 
-abbrev pub expression_scalar : Expression → Scalar
-expression_scalar (computed.Literal l) = literal_scalar l
+-- so far no document holds an expression that is no literal
+abbrev pub expression_scalar : PlainExpression → Option Scalar
+expression_scalar (computes (computed.Literal l)) = Some (literal_scalar l)
+expression_scalar _ = None
 
 -- the scalar type of an expression of the function
 abbrev pub scalar_at : PlainFunction → ℕ → Option Scalar
-scalar_at f e = option_map expression_scalar (slice_get f.expressions e)
+scalar_at f e = option_and_then expression_scalar (slice_get f.expressions e)
 
--- what the function's result is made of, if it has one
-abbrev pub answer_of : PlainModule → PlainFunction → Option TypeInner
-answer_of m f = option_and_then (λ t. option_map (λ (x : PlainType). x.inner) (slice_get m.types t)) f.result
+abbrev pub inner_scalar : PlainInner → Option Scalar
+inner_scalar (plain (inner.Scalar s)) = Some s
+inner_scalar _ = None
+
+-- the scalar that the function answers, if it answers one
+abbrev pub answer_of : PlainModule → PlainFunction → Option Scalar
+answer_of m f = option_and_then (λ (r : FunctionResult). option_and_then (λ (x : PlainType). inner_scalar x.inner) (slice_get m.types r.ty)) f.result
 
 -- ---- calls
 
--- so far functions have no arguments
 abbrev pub argument_count : PlainFunction → ℕ
-argument_count f = 0
+argument_count f = length f.arguments
 
 -- each call passes as many arguments as its function has
 abbrev pub ArityOK : PlainModule → PlainBlock → Type 0
@@ -87,9 +93,10 @@ IsCondition f e = (s : Scalar) × (scalar_at f e ≡ Some s) × (s.kind ≡ Bool
 -- a return has a value exactly if the function has a result, and it is of its type
 abbrev pub ReturnOK : PlainModule → PlainFunction → Option ℕ → Type 0
 ReturnOK m f None = f.result ≡ None
-ReturnOK m f (Some e) = (s : Scalar) × (scalar_at f e ≡ Some s) × (answer_of m f ≡ Some (inner.Scalar s))
+ReturnOK m f (Some e) = (s : Scalar) × (scalar_at f e ≡ Some s) × (answer_of m f ≡ Some s)
 
--- what a statement asks, control and what is inside it aside; literals are always in scope, so a range of them can't be emitted
+-- what a statement asks, control and what is inside it aside; literals are always in scope, so a range of them can't
+-- be emitted, and so far no document holds an act
 abbrev pub StatementOK : PlainModule → PlainFunction → PlainStatement → Type 0
 StatementOK m f (emit first end) = end ≤ first
 StatementOK m f (block b) = Unit {0}
@@ -100,6 +107,7 @@ StatementOK m f break = Unit {0}
 StatementOK m f continue = Unit {0}
 StatementOK m f (return value) = ReturnOK m f value
 StatementOK m f kill = Unit {0}
+StatementOK m f (act a) = ⊥
 StatementOK m f (call callee arguments result) = CallResultOK m callee result
 
 -- the body that is looked at: completed with returns where the document says so

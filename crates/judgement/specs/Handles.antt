@@ -1,7 +1,8 @@
 -- What the handles of a module name, and when they are in order.
 use Rattle.std.specs.Prelude.{◌≡◌, ◌⊎◌, ℕ, ◌<◌, ◌≤◌, List, [], ◌∷◌, ◌++◌, map, length, Option, Some, slice_get}
 use Rattle.std.specs.Option.{option_to_list}
-use Rattle.ir_items.specs.Plain.{PlainStatement, emit, block, choice, switch, loop, break, continue, return, kill, call, PlainFunction, PlainModule}
+use Rattle.ir_items.specs.Plain.{PlainStatement, emit, block, choice, switch, loop, break, continue, return, kill, act, call, PlainFunction, PlainModule}
+use Rattle.ir_items.specs.declared.functions.FunctionResult.{FunctionResult}
 use Rattle.ir_items.specs.Places.{Place, StandsAt}
 
 -- x is one of xs
@@ -17,7 +18,7 @@ pub data Target : Type 0 where
   expression : ℕ → Target
   range : (first end : ℕ) → Target
 
--- what a statement names; statements inside it have handles of their own
+-- what a statement names; statements inside it have handles of their own. So far no document holds an act.
 abbrev pub named : PlainStatement → List Target
 named (emit first end) = range first end ∷ []
 named (block b) = []
@@ -28,6 +29,7 @@ named break = []
 named continue = []
 named (return value) = map expression (option_to_list value)
 named kill = []
+named (act a) = []
 named (call callee arguments result) = function callee ∷ map expression (arguments ++ option_to_list result)
 
 -- Some statement of the function names the target.
@@ -39,7 +41,7 @@ pub record NamesInBody (f : PlainFunction) (t : Target) : Type 0 where
 
 -- the function refers to the target: by its result's type, or by a statement
 abbrev pub Refers : PlainFunction → Target → Type 0
-Refers f t = Has (map type (option_to_list f.result)) t ⊎ NamesInBody f t
+Refers f t = Has (map (λ (r : FunctionResult). type r.ty) (option_to_list f.result)) t ⊎ NamesInBody f t
 
 -- The target exists, and a range is in order. What function i of the module names among the functions comes before it.
 abbrev pub IsInOrder : PlainModule → ℕ → PlainFunction → Target → Type 0

@@ -4,9 +4,8 @@ use Rattle.ir_kinds.specs.declared.settings.Capability.{Capability}
 use Rattle.ir_kinds.specs.declared.settings.Capability.TheVariants.{ShaderInt16, ShaderInt64, ShaderFloat16, Float64}
 use Rattle.ir_kinds.specs.declared.scalars.ScalarKind.{ScalarKind}
 use Rattle.ir_kinds.specs.declared.scalars.ScalarKind.TheVariants.{Sint, Uint, Float, Bool, AbstractInt, AbstractFloat}
-use Rattle.ir_items.specs.Plain.{PlainType}
-use Rattle.ir_items.specs.declared.types.TypeInner.{TypeInner}
-use Rattle.ir_items.specs.declared.types.TypeInner.TheVariants as inner
+use Rattle.ir_types.specs.Plain.{PlainInner, plain, PlainType}
+use Rattle.ir_types.specs.declared.types.TypeInner.TheVariants as inner
 
 -- a width of four bytes, or of two or eight with its capability
 abbrev pub IsWidthOK : List Capability → (two eight : Capability) → ℕ → Type 0
@@ -21,8 +20,10 @@ IsScalarOK capabilities Float width = IsWidthOK capabilities ShaderFloat16 Float
 IsScalarOK capabilities AbstractInt width = ⊥
 IsScalarOK capabilities AbstractFloat width = ⊥
 
-abbrev pub IsInnerOK : List Capability → TypeInner → Type 0
-IsInnerOK capabilities (inner.Scalar s) = IsScalarOK capabilities s.kind s.width
+-- so far no document holds a type that is no scalar
+abbrev pub IsInnerOK : List Capability → PlainInner → Type 0
+IsInnerOK capabilities (plain (inner.Scalar s)) = IsScalarOK capabilities s.kind s.width
+IsInnerOK capabilities _ = ⊥
 
 abbrev pub TypeOK : List Capability → PlainType → Type 0
 TypeOK capabilities t = IsInnerOK capabilities t.inner

@@ -3,9 +3,10 @@ use Rattle.std.proofs.Common.{◌≡◌, ℕ, suc, ◌+◌, ◌<◌, List, [], �
 use Rattle.std.proofs.lemmas.List.{take_more, map-append}
 use Rattle.ir_arena.specs.Arenas.{has_equal}
 use Rattle.ir_arena.specs.declared.span.Span.{Span}
-use Rattle.ir_items.specs.View.{type_view, values_of}
-use Rattle.ir_items.specs.declared.types.IrType.{IrType}
-use Rattle.ir_items.specs.contracts.types.IrTypePartialEq.TheImpl.{ghosts}
+use Rattle.ir_types.specs.Plain.{type_view}
+use Rattle.ir_items.specs.View.{values_of}
+use Rattle.ir_types.specs.declared.types.IrType.{IrType}
+use Rattle.ir_types.specs.contracts.types.IrTypePartialEq.TheImpl.{ghosts}
 use Rattle.ir_items.proofs.TypeEquality.{type_eq}
 use Rattle.document_reader.specs.Form.{AreDistinct}
 use Rattle.document_reader.proofs.DistinctLemmas.{not_distinct}

@@ -6,9 +6,11 @@ use Rattle.ir_kinds.specs.declared.settings.Capability.{Capability}
 use Rattle.ir_kinds.specs.Settings.{PlainSettings}
 use Rattle.ir_kinds.specs.declared.settings.Flag.TheVariants.{Blocks}
 use Rattle.ir_arena.specs.Handles.{handles_from}
-use Rattle.ir_items.specs.View.{type_view, function_view, module_view, values_of}
+use Rattle.ir_types.specs.Plain.{type_view}
+use Rattle.ir_items.specs.View.{function_view, module_view, values_of}
 use Rattle.ir_items.specs.declared.module.Module.{Module}
-use Rattle.ir_items.specs.Plain.{PlainType, PlainFunction, PlainModule}
+use Rattle.ir_types.specs.Plain.{PlainType}
+use Rattle.ir_items.specs.Plain.{PlainFunction, PlainModule}
 use Rattle.judgement.specs.Handles.{HandlesOK}
 use Rattle.judgement.specs.Types.{TypeOK}
 use Rattle.judgement.specs.Functions.{FunctionOK}

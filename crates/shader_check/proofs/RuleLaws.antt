@@ -3,8 +3,8 @@ use Rattle.std.proofs.Common.{◌≡◌, ◌⊎◌, inl, inr, ℕ, ◌≤◌, Li
 use borrow.Author.Tests.{leb-true, le-leb, eqb-true, eq-eqb}
 use Rattle.ir_kinds.specs.declared.scalars.Scalar.{Scalar}
 use Rattle.ir_kinds.specs.contracts.scalars.ScalarPartialEq.TheImpl as scalar
-use Rattle.ir_items.specs.declared.types.TypeInner.{TypeInner}
-use Rattle.ir_items.specs.declared.types.TypeInner.TheVariants as inner
+use Rattle.ir_types.specs.declared.types.TypeInner.{TypeInner}
+use Rattle.ir_types.specs.declared.types.TypeInner.TheVariants as inner
 use Rattle.ir_items.specs.Plain.{PlainStatement, emit, block, choice, switch, loop, break, continue, return, kill, call, PlainBlock, PlainFunction, PlainModule}
 use Rattle.ir_items.specs.Shapes.{Exit, breaks, continues, returns, kills, exit_of, shape_of, Part, inner as nested, accepting, rejecting, case_at, turn, continuing}
 use Rattle.ir_items.specs.Places.{Place, here, later, inside, condition, StandsAt}

@@ -4,8 +4,8 @@ use borrow.Author.Tests.{eqb-true, eq-eqb}
 use Rattle.ir_kinds.specs.declared.settings.Capability.{Capability}
 use Rattle.ir_kinds.specs.declared.scalars.ScalarKind.{ScalarKind}
 use Rattle.ir_kinds.specs.declared.scalars.ScalarKind.TheVariants.{Sint, Uint, Float, Bool as Boolean, AbstractInt, AbstractFloat}
-use Rattle.ir_items.specs.declared.types.TypeInner.{TypeInner}
-use Rattle.ir_items.specs.declared.types.TypeInner.TheVariants as inner
+use Rattle.ir_types.specs.declared.types.TypeInner.{TypeInner}
+use Rattle.ir_types.specs.declared.types.TypeInner.TheVariants as inner
 use Rattle.judgement.specs.Types.{IsWidthOK, IsScalarOK, IsInnerOK}
 use Rattle.shader_check.specs.Tests.{Widths, is_width_ok, is_scalar_ok, is_inner_ok}
 use Rattle.shader_check.specs.Widths.{AreWidthsOf}

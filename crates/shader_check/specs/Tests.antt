@@ -6,10 +6,11 @@ use Rattle.ir_kinds.specs.declared.scalars.ScalarKind.{ScalarKind}
 use Rattle.ir_kinds.specs.declared.scalars.ScalarKind.TheVariants.{Sint, Uint, Float, Bool as Boolean, AbstractInt, AbstractFloat}
 use Rattle.ir_kinds.specs.declared.values.SwitchValue.{SwitchValue}
 use Rattle.ir_kinds.specs.declared.values.SwitchValue.TheVariants.{I32, U32, Default}
-use Rattle.ir_items.specs.Plain.{PlainType, PlainStatement, emit, block, choice, switch, loop, break, continue, return, kill, call, PlainBlock, PlainCases, no_case, case, PlainFunction, PlainModule}
+use Rattle.ir_types.specs.Plain.{PlainType}
+use Rattle.ir_items.specs.Plain.{PlainStatement, emit, block, choice, switch, loop, break, continue, return, kill, call, PlainBlock, PlainCases, no_case, case, PlainFunction, PlainModule}
 use Rattle.ir_items.specs.Shapes.{Exit, breaks, continues, returns, kills, exit_of, shape_of}
-use Rattle.ir_items.specs.declared.types.TypeInner.{TypeInner}
-use Rattle.ir_items.specs.declared.types.TypeInner.TheVariants as inner
+use Rattle.ir_types.specs.declared.types.TypeInner.{TypeInner}
+use Rattle.ir_types.specs.declared.types.TypeInner.TheVariants as inner
 use Rattle.judgement.specs.Functions.{scalar_at, answer_of, argument_count, falls_at_end, body_of}
 use Rattle.ir_kinds.specs.contracts.values.SwitchValuePartialEq.TheImpl as value
 use Rattle.ir_kinds.specs.contracts.scalars.ScalarPartialEq.TheImpl as scalar

@@ -1,6 +1,7 @@
 // The module that a document writes.
 ghost use Rattle.std.specs.Prelude.{◌≡◌, map, IfOk};
-ghost use Rattle.ir_items.specs.View.{type_view, function_view as function_plain, values_of, module_view};
+ghost use Rattle.ir_types.specs.Plain.{type_view};
+ghost use Rattle.ir_items.specs.View.{function_view as function_plain, values_of, module_view};
 ghost use Rattle.document_reader.specs.Form.{AreDistinct};
 ghost use Rattle.document_reader.specs.View.{function_view, document_view};
 

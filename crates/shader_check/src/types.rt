@@ -2,7 +2,7 @@
 ghost use Rattle.std.specs.Prelude.{◌≡◌, ◌↔◌, IsTrue, Contains};
 ghost use Rattle.ir_arena.specs.Handles.{handles_from};
 ghost use Rattle.ir_kinds.specs.declared.settings.Capability.TheVariants.{ShaderInt16, ShaderInt64, ShaderFloat16, Float64};
-ghost use Rattle.ir_items.specs.View.{type_view};
+ghost use Rattle.ir_types.specs.Plain.{type_view};
 ghost use Rattle.shader_check.specs.Tests.{first_failing, is_width_ok, is_scalar_ok, is_inner_ok};
 ghost use Rattle.shader_check.specs.Widths.{widths_view, AreWidthsOf};
 

@@ -1,6 +1,6 @@
 use Rattle.std.proofs.Common.{◌≡◌, drop, map, ◌++◌, option_map}
 use Rattle.serde_json.specs.View.{items_view}
-use Rattle.ir_items.specs.View.{type_view}
+use Rattle.ir_types.specs.Plain.{type_view}
 use Rattle.document_reader.specs.Decode.{each, type_of}
 use Rattle.document_reader.proofs.content.types.Given as goal
 

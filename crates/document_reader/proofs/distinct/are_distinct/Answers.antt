@@ -1,5 +1,5 @@
 use Rattle.std.proofs.Common.{Contains, map, take, true≢false, refl, sym}
-use Rattle.ir_items.specs.View.{type_view}
+use Rattle.ir_types.specs.Plain.{type_view}
 use Rattle.document_reader.proofs.DistinctLemmas.{distinct_more, not_distinct, distinct_all}
 use Rattle.document_reader.proofs.distinct.are_distinct.Goals as goal
 

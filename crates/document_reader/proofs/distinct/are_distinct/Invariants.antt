@@ -1,5 +1,5 @@
 use Rattle.std.proofs.Common.{map, take}
-use Rattle.ir_items.specs.View.{type_view}
+use Rattle.ir_types.specs.Plain.{type_view}
 use Rattle.document_reader.specs.Form.{AreDistinct}
 use Rattle.document_reader.proofs.distinct.are_distinct.Given as goal
 

@@ -1,5 +1,5 @@
 use Rattle.std.proofs.Common.{Contains, map, take}
-use Rattle.ir_items.specs.View.{type_view}
+use Rattle.ir_types.specs.Plain.{type_view}
 use Rattle.document_reader.proofs.distinct.has_type.Given as goal
 
 -- no type so far is equal to the wanted one

@@ -1,6 +1,6 @@
 use Rattle.std.proofs.Common.{◌≡◌, Some, map, true≢false, sym, subst, ◌∙◌}
 use Rattle.serde_json.specs.View.{view as data_of}
-use Rattle.ir_items.specs.View.{type_view}
+use Rattle.ir_types.specs.Plain.{type_view}
 use Rattle.document_reader.specs.Decode.{document_at}
 use Rattle.document_reader.specs.Form.{AreDistinct}
 use Rattle.document_reader.specs.View.{document_view}

@@ -1,5 +1,6 @@
 use Rattle.std.proofs.Common.{◌≡◌, map, take}
-use Rattle.ir_items.specs.View.{type_view, values_of}
+use Rattle.ir_types.specs.Plain.{type_view}
+use Rattle.ir_items.specs.View.{values_of}
 use Rattle.shader_check.proofs.build.build_types.Given as goal
 
 -- the arena holds the types so far
