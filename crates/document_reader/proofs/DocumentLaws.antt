@@ -13,11 +13,12 @@ use Rattle.ir_kinds.specs.declared.settings.ShaderStage.{ShaderStage}
 use Rattle.ir_kinds.specs.declared.settings.ShaderStage.TheVariants as s
 use Rattle.ir_kinds.specs.declared.settings.SubgroupFlag.{SubgroupFlag}
 use Rattle.ir_kinds.specs.declared.settings.SubgroupFlag.TheVariants as o
-use Rattle.ir_items.specs.Plain.{PlainFunction}
+use Rattle.ir_items.specs.Plain.{PlainFunction, PlainModule}
 use Rattle.ir_kinds.specs.Settings.{PlainSettings}
 use Rattle.document_reader.specs.Plain.{PlainDocument}
 use Rattle.document_reader.specs.Decode.{first, pair, triple, word_in, all_of, type_of, function_at, is_version, SettingsParts, settings_parts, subgroups_of, settings_of, ContentParts, content_parts, special_parts, is_no_special, is_no_filters, is_thin, document_at}
-use Rattle.document_reader.specs.Form.{list_form, type_form, block_items, function_form, IsFunctionItem, HasWord, no_special_form, no_filters_form, subgroup_form, content_items, document_form}
+use Rattle.document_reader.specs.Form.{list_form, type_form, block_items, function_form, IsFunctionItem, HasWord, no_special_form, no_filters_form, subgroup_form, content_items, thin_module, empty_form, document_form}
+use Rattle.ir_types.specs.Plain.{PlainType}
 use Rattle.document_reader.specs.Words.{flag_word, capability_word, stage_word, subgroup_flag_word, flags, capabilities, stages, subgroup_flags}
 use Rattle.document_reader.proofs.Inverse.{bind_some, guarded, both_true, passes_some, some_is, as_array_some, as_bool_some, whole_some, is_null_true, is_empty_list_true, first_some, pair_some, triple_some}
 use Rattle.document_reader.proofs.PartLaws.{IsSound, IsComplete, all_sound, all_complete, anything, word_sound}
@@ -233,8 +234,15 @@ is_no_filters_true d e =
 
 -- its numbers are handles, and its scalar types have words
 pub record IsInRange (d : PlainDocument) : Type 0 where
+  pub thin : d.content ≡ thin_module d.content.types d.content.functions
   pub types : AllByRecursion (λ t. HasWord t.inner) d.content.types
   pub functions : AllByRecursion IsFunctionItem d.content.functions
+
+-- the items of a thin module, part by part
+content_made : (p : ContentParts) (types : List PlainType) (functions : List PlainFunction) → list_form type_form types ≡ p.types → p.special ≡ no_special_form → p.filters ≡ no_filters_form
+    → p.constants ≡ empty_form → p.overrides ≡ empty_form → p.global_expressions ≡ empty_form → p.globals ≡ empty_form → list_form function_form functions ≡ p.functions → p.entries ≡ empty_form
+    → item p.types (item p.special (item p.filters (item p.constants (item p.overrides (item p.global_expressions (item p.globals (item p.functions (item p.entries no_items)))))))) ≡ content_items (thin_module types functions)
+content_made p types functions a b c d e f g h i = cc
 
 pub document_sound : (n : ℕ) → IsSound (document_at n) document_form IsInRange
 unfolding document_at
@@ -267,9 +275,10 @@ document_sound n d doc e =
     let globals_is = is_empty_list_true p.0.globals t5.1 in
     let entries_is = is_empty_list_true p.0.entries t6.1 in
     let functions_is = fs.0 in
-    let content_is : s.0.rest ≡ content_items (record { types = types.0; functions = functions.0 }) = cc (rest_is, types_is, special_is, filters_is, constants_is, overrides_is, expressions_is, globals_is, entries_is, functions_is) in
+    let content_is : s.0.rest ≡ content_items (thin_module types.0 functions.0) =
+    rest_is ∙ content_made p.0 types.0 functions.0 types_is special_is filters_is constants_is overrides_is expressions_is globals_is functions_is entries_is in
     subst (λ x. (document_form x ≡ d) × IsInRange x) (some_is _ doc functions.2)
-    (sym (d_is ∙ ap array (first_is ∙ (sym settings_is ∙ ap (settings_items settings.0) content_is))), record { types = ts.1; functions = fs.1 })
+    (sym (d_is ∙ ap array (first_is ∙ (sym settings_is ∙ ap (settings_items settings.0) content_is))), record { thin = refl; types = ts.1; functions = fs.1 })
 
 -- the functions nest no deeper than the list of them
 functions_within : (n : ℕ) (xs : List PlainFunction) → AllByRecursion IsFunctionItem xs → items_depth (items_of (map function_form xs)) ≤ n
@@ -282,4 +291,4 @@ unfolding document_at settings_parts content_parts
 document_complete n d h le =
     rw (settings_complete d.settings (content_items d.content))
     (rw (all_complete type_of type_form (λ t. HasWord t.inner) type_complete d.content.types h.types)
-    (rw (all_complete (function_at n) function_form (λ f. IsFunctionItem f × (items_depth (block_items f.body) ≤ n)) (λ f k. function_complete n f k.0 k.1) d.content.functions (functions_within n d.content.functions h.functions (omega arith))) refl))
+    (rw (all_complete (function_at n) function_form (λ f. IsFunctionItem f × (items_depth (block_items f.body) ≤ n)) (λ f k. function_complete n f k.0 k.1) d.content.functions (functions_within n d.content.functions h.functions (omega arith))) (ap (λ (c : PlainModule). Some (record { settings = d.settings; content = c })) (sym h.thin))))

@@ -2,7 +2,7 @@
 use Rattle.std.proofs.Common.{◌≡◌, inl, inr, ◌≤◌, ℕ, zero, suc, List, [], ◌∷◌, map, codes, Option, Some, None, IfSome, option_map, option_and_then, cond, refl, sym, ap, subst, ◌∙◌, arith, rules}
 use Rattle.std.specs.Str.{bytes_eq}
 use Rattle.std.specs.List.{AllByRecursion}
-use Rattle.serde_json.specs.Data.{Data, boolean, null, string, array, Items, no_items, item, depth, items_depth}
+use Rattle.serde_json.specs.Data.{Data, boolean, string, array, Items, no_items, item, depth, items_depth}
 use Rattle.serde_json.specs.Find.{as_array, as_str, as_bool}
 use Rattle.serde_json.specs.View.{items_of}
 use Rattle.ir_kinds.specs.declared.scalars.Scalar.{Scalar}
@@ -12,13 +12,15 @@ use Rattle.ir_kinds.specs.declared.values.Literal.{Literal}
 use Rattle.ir_kinds.specs.declared.values.Literal.TheVariants as literal
 use Rattle.ir_kinds.specs.declared.values.SwitchValue.TheVariants.{I32, U32, Default}
 use Rattle.ir_expressions.specs.declared.expressions.Expression.TheVariants as computed
-use Rattle.ir_items.specs.Plain.{PlainStatement, emit, block, choice, switch, loop, break, continue, return, kill, call, PlainBlock, stop, next, PlainCases, no_case, case, PlainFunction}
+use Rattle.ir_items.specs.Plain.{PlainStatement, emit, block, choice, switch, loop, break, continue, return, kill, act, call, PlainBlock, stop, next, PlainCases, no_case, case, PlainFunction}
 use Rattle.ir_items.specs.View.{PlainCase, block_of, cases_of}
+use Rattle.ir_types.specs.Plain.{plain, struct}
 use Rattle.ir_types.specs.declared.types.TypeInner.TheVariants as inner
+use Rattle.ir_expressions.specs.Plain.{compose, plain as computes}
 use Rattle.document_reader.specs.declared.words.StatementKind.{StatementKind}
 use Rattle.document_reader.specs.declared.words.StatementKind.TheVariants as k
 use Rattle.document_reader.specs.Decode.{first, is_end, is_null, tagged, only, pair, triple, lookup, word_in, optional, all_of, handle_of, u32_of, i32_of, literal_of, expression_of, value_of, case_with, choice_with, switch_with, loop_with, inner_of, type_of, call_of, statement_with, statement_at, block_at, FunctionParts, function_parts, is_plain_function, result_of, function_at}
-use Rattle.document_reader.specs.Form.{tagged_form, handle_form, optional_form, result_form, literal_items, expression_form, value_form, scalar_form, inner_form, type_form, statement_form, block_items, case_items, block_form, function_form, IsHandle, IsLiteral, IsExpression, IsValue, HasHandles, AllHaveHandles, CasesHaveHandles, IsFunctionItem, IsWidth, HasWord}
+use Rattle.document_reader.specs.Form.{tagged_form, handle_form, optional_form, result_form, literal_items, expression_form, value_form, scalar_form, inner_form, type_form, statement_form, block_items, case_items, block_form, function_form, IsHandle, IsLiteral, IsExpression, IsResult, IsValue, HasHandles, AllHaveHandles, CasesHaveHandles, IsFunctionItem, IsWidth, HasWord}
 use Rattle.document_reader.specs.Words.{scalars, kind_word, scalar_word, statement_word, statement_kinds}
 use Rattle.document_reader.proofs.Inverse.{bind_some, map_some, chosen, guarded, both_true, some_is, is_word, as_array_some, as_str_some, as_bool_some, is_null_true, is_empty_list_true, is_end_true, first_some, only_some, pair_some, triple_some, tagged_some}
 use Rattle.document_reader.proofs.PartLaws.{IsSound, IsComplete, all_sound, all_complete, IsSpelled, lookup_sound, word_sound, handle_sound, handle_complete, optional_sound, optional_handle_complete, optional_text_sound, optional_text_complete, u32_sound, u32_complete, i32_sound, i32_complete}
@@ -36,14 +38,14 @@ lookup_keeps P (t ∷ ts) all w a e =
 scalars_spelled : IsSpelled scalar_word scalars
 scalars_spelled = search rules
 
-scalars_wide : AllByRecursion (λ e. HasWord (inner.Scalar e.1)) scalars
+scalars_wide : AllByRecursion (λ e. HasWord (plain (inner.Scalar e.1))) scalars
 scalars_wide =
     (refl, (inl refl, (inl refl, (inr (inl refl), (inr (inl refl), (inr (inr refl), (inr (inr refl), (inl refl, (inr (inl refl), (inr (inr refl), (refl, (refl, tt))))))))))))
 
-scalar_sound : (d : Data) (s : Scalar) → word_in scalars d ≡ Some s → (scalar_form s ≡ d) × HasWord (inner.Scalar s)
+scalar_sound : (d : Data) (s : Scalar) → word_in scalars d ≡ Some s → (scalar_form s ≡ d) × HasWord (plain (inner.Scalar s))
 scalar_sound d s e =
     let w = bind_some _ (as_str d) s e in
-    ((word_sound scalar_word scalars scalars_spelled d s e).0, lookup_keeps (λ x. HasWord (inner.Scalar x)) scalars scalars_wide w.0 s w.2)
+    ((word_sound scalar_word scalars scalars_spelled d s e).0, lookup_keeps (λ x. HasWord (plain (inner.Scalar x))) scalars scalars_wide w.0 s w.2)
 
 abbrev Finds : ScalarKind → ℕ → Type 0
 Finds k w = lookup (kind_word k w) scalars ≡ Some (record { kind = k; width = w })
@@ -67,13 +69,27 @@ inner_sound d i e =
     let t = bind_some _ (tagged d) i e in
     let s = bind_some _ _ i t.2 in
     let g = guarded (bytes_eq t.0.0 (codes "Scalar")) (only t.0.1) s.0 s.1 in
-    let x = map_some inner.Scalar _ i s.2 in
+    let x = map_some (λ y. plain (inner.Scalar y)) _ i s.2 in
     let k = scalar_sound s.0 x.0 x.1 in
     subst (λ j. (inner_form j ≡ d) × HasWord j) x.2
     ((let a = tagged_some d t.0 t.1 in let b = is_word t.0.0 _ g.0 in let c = only_some t.0.1 s.0 g.1 in let f = k.0 in cc), k.1)
 
 inner_complete : IsComplete inner_of inner_form HasWord
-inner_complete (inner.Scalar s) h = ap (option_map inner.Scalar) (scalar_found s.kind s.width h)
+inner_complete (plain (inner.Scalar s)) h = ap (option_map (λ x. plain (inner.Scalar x))) (scalar_found s.kind s.width h)
+inner_complete (plain (inner.Vector _ _)) h = absurd h
+inner_complete (plain (inner.Matrix _ _ _)) h = absurd h
+inner_complete (plain (inner.CooperativeMatrix _ _ _ _)) h = absurd h
+inner_complete (plain (inner.Atomic _)) h = absurd h
+inner_complete (plain (inner.Pointer _ _)) h = absurd h
+inner_complete (plain (inner.ValuePointer _ _ _)) h = absurd h
+inner_complete (plain (inner.Array _ _ _)) h = absurd h
+inner_complete (plain (inner.Struct _ _)) h = absurd h
+inner_complete (plain (inner.Image _ _ _)) h = absurd h
+inner_complete (plain (inner.Sampler _)) h = absurd h
+inner_complete (plain (inner.AccelerationStructure _)) h = absurd h
+inner_complete (plain (inner.RayQuery _)) h = absurd h
+inner_complete (plain (inner.BindingArray _ _)) h = absurd h
+inner_complete (struct _ _) h = absurd h
 
 pub type_sound : IsSound type_of type_form (λ t. HasWord t.inner)
 unfolding type_of
@@ -127,25 +143,59 @@ unfolding expression_of
 expression_sound d x e =
     let t = bind_some _ (tagged d) x e in
     let g = guarded (bytes_eq t.0.0 (codes "Literal")) _ x t.2 in
-    let l = map_some computed.Literal (literal_of t.0.1) x g.1 in
+    let l = map_some (λ y. computes (computed.Literal y)) (literal_of t.0.1) x g.1 in
     let s = literal_sound t.0.1 l.0 l.1 in
     subst (λ y. (expression_form y ≡ d) × IsExpression y) l.2
     (sym (tagged_some d t.0 t.1 ∙ (ap (λ w. tagged_form w t.0.1) (is_word t.0.0 _ g.0) ∙ ap (tagged_form (codes "Literal")) (sym s.0))), s.1)
 
 pub expression_complete : IsComplete expression_of expression_form IsExpression
 unfolding expression_of literal_of
-expression_complete (computed.Literal (literal.Bool b)) h = refl
-expression_complete (computed.Literal (literal.I32 z)) h = ap (λ o. option_map computed.Literal (option_map literal.I32 o)) (i32_complete z h)
-expression_complete (computed.Literal (literal.U32 n)) h = ap (λ o. option_map computed.Literal (option_map literal.U32 o)) (u32_complete n h)
-expression_complete (computed.Literal (literal.F64 _)) h = absurd h
-expression_complete (computed.Literal (literal.F32 _)) h = absurd h
-expression_complete (computed.Literal (literal.F16 _)) h = absurd h
-expression_complete (computed.Literal (literal.U16 _)) h = absurd h
-expression_complete (computed.Literal (literal.I16 _)) h = absurd h
-expression_complete (computed.Literal (literal.U64 _)) h = absurd h
-expression_complete (computed.Literal (literal.I64 _)) h = absurd h
-expression_complete (computed.Literal (literal.AbstractInt _)) h = absurd h
-expression_complete (computed.Literal (literal.AbstractFloat _)) h = absurd h
+expression_complete (computes (computed.Literal (literal.Bool b))) h = refl
+expression_complete (computes (computed.Literal (literal.I32 z))) h = ap (λ o. option_map (λ y. computes (computed.Literal y)) (option_map literal.I32 o)) (i32_complete z h)
+expression_complete (computes (computed.Literal (literal.U32 n))) h = ap (λ o. option_map (λ y. computes (computed.Literal y)) (option_map literal.U32 o)) (u32_complete n h)
+expression_complete (computes (computed.Literal (literal.F64 _))) h = absurd h
+expression_complete (computes (computed.Literal (literal.F32 _))) h = absurd h
+expression_complete (computes (computed.Literal (literal.F16 _))) h = absurd h
+expression_complete (computes (computed.Literal (literal.U16 _))) h = absurd h
+expression_complete (computes (computed.Literal (literal.I16 _))) h = absurd h
+expression_complete (computes (computed.Literal (literal.U64 _))) h = absurd h
+expression_complete (computes (computed.Literal (literal.I64 _))) h = absurd h
+expression_complete (computes (computed.Literal (literal.AbstractInt _))) h = absurd h
+expression_complete (computes (computed.Literal (literal.AbstractFloat _))) h = absurd h
+expression_complete (computes (computed.Constant _)) h = absurd h
+expression_complete (computes (computed.Override _)) h = absurd h
+expression_complete (computes (computed.ZeroValue _)) h = absurd h
+expression_complete (computes (computed.Compose _ _)) h = absurd h
+expression_complete (computes (computed.Access _ _)) h = absurd h
+expression_complete (computes (computed.AccessIndex _ _)) h = absurd h
+expression_complete (computes (computed.Splat _ _)) h = absurd h
+expression_complete (computes (computed.Swizzle _ _ _)) h = absurd h
+expression_complete (computes (computed.FunctionArgument _)) h = absurd h
+expression_complete (computes (computed.GlobalVariable _)) h = absurd h
+expression_complete (computes (computed.LocalVariable _)) h = absurd h
+expression_complete (computes (computed.Load _)) h = absurd h
+expression_complete (computes (computed.ImageSample _ _ _ _ _ _ _ _ _)) h = absurd h
+expression_complete (computes (computed.ImageLoad _ _ _ _ _)) h = absurd h
+expression_complete (computes (computed.ImageQuery _ _)) h = absurd h
+expression_complete (computes (computed.Unary _ _)) h = absurd h
+expression_complete (computes (computed.Binary _ _ _)) h = absurd h
+expression_complete (computes (computed.Select _ _ _)) h = absurd h
+expression_complete (computes (computed.Derivative _ _ _)) h = absurd h
+expression_complete (computes (computed.Relational _ _)) h = absurd h
+expression_complete (computes (computed.Math _ _ _ _ _)) h = absurd h
+expression_complete (computes (computed.As _ _ _)) h = absurd h
+expression_complete (computes (computed.CallResult _)) h = absurd h
+expression_complete (computes (computed.AtomicResult _ _)) h = absurd h
+expression_complete (computes (computed.WorkGroupUniformLoadResult _)) h = absurd h
+expression_complete (computes (computed.ArrayLength _)) h = absurd h
+expression_complete (computes (computed.RayQueryVertexPositions _ _)) h = absurd h
+expression_complete (computes computed.RayQueryProceedResult) h = absurd h
+expression_complete (computes (computed.RayQueryGetIntersection _ _)) h = absurd h
+expression_complete (computes computed.SubgroupBallotResult) h = absurd h
+expression_complete (computes (computed.SubgroupOperationResult _)) h = absurd h
+expression_complete (computes (computed.CooperativeLoad _ _ _ _)) h = absurd h
+expression_complete (computes (computed.CooperativeMultiplyAdd _ _ _)) h = absurd h
+expression_complete (compose _ _) h = absurd h
 
 value_sound : IsSound value_of value_form IsValue
 unfolding value_of
@@ -331,6 +381,7 @@ some_depth break le = omega arith
 some_depth continue le = omega arith
 some_depth (return value) le = omega arith
 some_depth kill le = omega arith
+some_depth (act a) le = omega arith
 some_depth (call function arguments result) le = omega arith
 
 mutual
@@ -351,6 +402,7 @@ mutual
   statement_complete (suc n) continue h le = refl
   statement_complete (suc n) (return value) h le = ap (option_map return) (optional_handle_complete value h)
   statement_complete (suc n) kill h le = refl
+  statement_complete (suc n) (act a) h le = absurd h
   statement_complete (suc n) (call function arguments result) h le =
       rw (handle_complete function h.0) (rw (optional_handle_complete result h.2) (rw (all_complete handle_of handle_form IsHandle handle_complete arguments h.1) refl))
 
@@ -384,19 +436,19 @@ function_parts_some d p e =
     subst (λ q. d ≡ array (item q.name (item q.arguments (item q.result (item q.locals (item q.expressions (item q.body (item q.filter no_items)))))))) p_is
     (as_array_some d i.0 i.1 ∙ ap array (first_some i.0 a.0 a.1 ∙ ap (item a.0.0) (first_some a.0.1 b.0 b.1 ∙ ap (item b.0.0) (first_some b.0.1 c.0 c.1 ∙ ap (item c.0.0) (first_some c.0.1 f.0 f.1 ∙ ap (item f.0.0) (first_some f.0.1 g.0 g.1 ∙ ap (item g.0.0) (pair_some g.0.1 h.0 h.1)))))))
 
-result_sound : IsSound result_of result_form IsHandle
+result_sound : IsSound result_of result_form IsResult
 result_sound d t e =
     let p = bind_some _ (option_and_then pair (as_array d)) t e in
     let i = bind_some pair (as_array d) p.0 p.1 in
     let h = bind_some _ (handle_of p.0.0) t p.2 in
-    let g = guarded (is_null p.0.1) (Some h.0) t h.2 in
+    let g = guarded (is_null p.0.1) (Some (record { ty = h.0; binding = None })) t h.2 in
     let ty = handle_sound p.0.0 h.0 h.1 in
-    subst (λ x. (result_form x ≡ d) × IsHandle x) (some_is h.0 t g.1)
-    ((let x = as_array_some d i.0 i.1 in let y = pair_some i.0 p.0 i.2 in let z = ty.0 in let w = is_null_true p.0.1 g.0 in cc), ty.1)
+    subst (λ x. (result_form x ≡ d) × IsResult x) (some_is (record { ty = h.0; binding = None }) t g.1)
+    ((let x = as_array_some d i.0 i.1 in let y = pair_some i.0 p.0 i.2 in let z = ty.0 in let w = is_null_true p.0.1 g.0 in cc), (ty.1, refl))
 
-optional_result_complete : IsComplete (optional result_of) (optional_form result_form) (λ o. IfSome o IsHandle)
+optional_result_complete : IsComplete (optional result_of) (optional_form result_form) (λ o. IfSome o IsResult)
 optional_result_complete None h = refl
-optional_result_complete (Some t) h = rw (handle_complete t h) refl
+optional_result_complete (Some r) h = rw (handle_complete r.ty h.0) (ap (λ b. Some (Some (record { ty = r.ty; binding = b }))) (sym h.1))
 
 pub function_sound : (n : ℕ) → IsSound (function_at n) function_form IsFunctionItem
 unfolding function_at
@@ -406,7 +458,7 @@ function_sound n d f e =
     let g = guarded (is_plain_function p.0) (optional result_of p.0.result) r.0 r.1 in
     let x = bind_some _ (all_of expression_of p.0.expressions) f r.2 in
     let b = bind_some _ (block_at n p.0.body) f x.2 in
-    let result = optional_sound result_of result_form IsHandle result_sound p.0.result r.0 g.1 in
+    let result = optional_sound result_of result_form IsResult result_sound p.0.result r.0 g.1 in
     let expressions = all_sound expression_of expression_form IsExpression expression_sound p.0.expressions x.0 x.1 in
     let body = block_sound n (statement_sound n) p.0.body b.0 b.1 in
     let t3 = both_true _ _ g.0 in
@@ -424,10 +476,10 @@ function_sound n d f e =
           let a7 = is_null_true p.0.filter t3.1 in
           cc
           ),
-      record { result = result.1; expressions = expressions.1; body = body.1 },
+      record { alone = refl; result = result.1; expressions = expressions.1; body = body.1 },
     )
 
 pub function_complete : (n : ℕ) (f : PlainFunction) → IsFunctionItem f → items_depth (block_items f.body) ≤ n → function_at n (function_form f) ≡ Some f
 unfolding function_at function_parts
 function_complete n f h le =
-    rw (optional_result_complete f.result h.result) (rw (all_complete expression_of expression_form IsExpression expression_complete f.expressions h.expressions) (rw (block_complete n f.body h.body le) refl))
+    rw (optional_result_complete f.result h.result) (rw (all_complete expression_of expression_form IsExpression expression_complete f.expressions h.expressions) (rw (block_complete n f.body h.body le) (ap Some (sym h.alone))))

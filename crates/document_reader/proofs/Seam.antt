@@ -19,14 +19,14 @@ reads_from_spells bytes v d n short utf8 value s =
       short = short;
       utf8 = utf8;
       value = value ∙ ap Some (sym k.0);
-      is_document = record { types = k.1.types; distinct = s.distinct; functions = k.1.functions };
+      is_document = record { thin = k.1.thin; types = k.1.types; distinct = s.distinct; functions = k.1.functions };
     }
 
 pub spells_from_reads : (bytes : List ℕ) (v : Data) (d : PlainDocument) (n : ℕ) → read bytes ≡ Some v → depth v ≤ n → Reads bytes d → Spells n v d
 spells_from_reads bytes v d n value le r =
     let v_is : document_form d ≡ v = some_is _ _ (sym r.value ∙ value) in
     record {
-      found = subst (λ x. document_at n x ≡ Some d) v_is (document_complete n d (record { types = r.is_document.types; functions = r.is_document.functions }) (subst (λ x. depth x ≤ n) (sym v_is) le));
+      found = subst (λ x. document_at n x ≡ Some d) v_is (document_complete n d (record { thin = r.is_document.thin; types = r.is_document.types; functions = r.is_document.functions }) (subst (λ x. depth x ≤ n) (sym v_is) le));
       distinct = r.is_document.distinct;
     }
 
@@ -44,7 +44,7 @@ refused_if bytes v (Err x) n u le h = tt
 
 -- bytes spell one document at most
 in_range : (bytes : List ℕ) (d : PlainDocument) → Reads bytes d → IsInRange d
-in_range bytes d r = record { types = r.is_document.types; functions = r.is_document.functions }
+in_range bytes d r = record { thin = r.is_document.thin; types = r.is_document.types; functions = r.is_document.functions }
 
 pub one_document_lem : OneDocument
 one_document_lem bytes d e r s =

@@ -9,18 +9,18 @@ use Rattle.ir_kinds.specs.declared.values.Literal.{Literal}
 use Rattle.ir_kinds.specs.declared.values.Literal.TheVariants as literal
 use Rattle.ir_kinds.specs.declared.values.SwitchValue.{SwitchValue}
 use Rattle.ir_kinds.specs.declared.values.SwitchValue.TheVariants.{I32, U32, Default}
-use Rattle.ir_expressions.specs.declared.expressions.Expression.{Expression}
+use Rattle.ir_expressions.specs.Plain.{PlainExpression, plain as computes}
 use Rattle.ir_expressions.specs.declared.expressions.Expression.TheVariants as computed
 use Rattle.document_reader.specs.declared.words.StatementKind.{StatementKind}
 use Rattle.document_reader.specs.declared.words.StatementKind.TheVariants as k
-use Rattle.ir_types.specs.Plain.{PlainType}
+use Rattle.ir_types.specs.Plain.{PlainInner, plain, PlainType}
 use Rattle.ir_items.specs.Plain.{PlainStatement, block, choice, switch, loop, break, continue, return, kill, call, PlainBlock, PlainFunction}
 use Rattle.ir_items.specs.View.{PlainCase, block_of, cases_of}
-use Rattle.ir_types.specs.declared.types.TypeInner.{TypeInner}
 use Rattle.ir_types.specs.declared.types.TypeInner.TheVariants as inner
 use Rattle.ir_kinds.specs.Settings.{PlainSettings}
 use Rattle.document_reader.specs.Plain.{PlainDocument}
-use Rattle.document_reader.specs.Form.{AreDistinct}
+use Rattle.document_reader.specs.Form.{AreDistinct, plain_function, thin_module}
+use Rattle.ir_items.specs.declared.functions.FunctionResult.{FunctionResult}
 use Rattle.document_reader.specs.Words.{flags, capabilities, stages, subgroup_flags, scalars, statement_kinds}
 
 infixl 10 ◌>>=◌
@@ -105,11 +105,11 @@ handle_of d = do
 abbrev pub optional : {A : Type 0} → (Data → Option A) → Data → Option (Option A)
 optional f d = if is_null d then Some None else option_map Some (f d)
 
-abbrev pub inner_of : Data → Option TypeInner
+abbrev pub inner_of : Data → Option PlainInner
 inner_of d = do
   t ← tagged d
   s ← if bytes_eq t.0 (codes "Scalar") then only t.1 else None
-  option_map inner.Scalar (word_in scalars s)
+  option_map (λ x. plain (inner.Scalar x)) (word_in scalars s)
 
 unfoldable pub type_of : Data → Option PlainType
 type_of d = do
@@ -145,10 +145,10 @@ literal_of ds = do
   w ← as_str parts.0
   if bytes_eq w (codes "bool") then option_map literal.Bool (as_bool parts.1) else (if bytes_eq w (codes "i32") then option_map literal.I32 (i32_of parts.1) else (if bytes_eq w (codes "u32") then option_map literal.U32 (u32_of parts.1) else None))
 
-unfoldable pub expression_of : Data → Option Expression
+unfoldable pub expression_of : Data → Option PlainExpression
 expression_of d = do
   t ← tagged d
-  if bytes_eq t.0 (codes "Literal") then option_map computed.Literal (literal_of t.1) else None
+  if bytes_eq t.0 (codes "Literal") then option_map (λ l. computes (computed.Literal l)) (literal_of t.1) else None
 
 -- the value of a case
 unfoldable pub value_of : Data → Option SwitchValue
@@ -245,12 +245,12 @@ function_parts d = do
 abbrev pub is_plain_function : FunctionParts → Bool
 is_plain_function p = is_null p.name && is_empty_list p.arguments && is_empty_list p.locals && is_null p.filter
 
--- a result's type, where it has no binding
-abbrev pub result_of : Data → Option ℕ
+-- a result by its type, where it has no binding
+abbrev pub result_of : Data → Option FunctionResult
 result_of d = do
   parts ← as_array d >>= pair
   t ← handle_of parts.0
-  if is_null parts.1 then Some t else None
+  if is_null parts.1 then Some (record { ty = t; binding = None }) else None
 
 unfoldable pub function_at : ℕ → Data → Option PlainFunction
 function_at n d = do
@@ -258,7 +258,7 @@ function_at n d = do
   result ← if is_plain_function p then optional result_of p.result else None
   expressions ← all_of expression_of p.expressions
   body ← block_at n p.body
-  Some (record { result = result; expressions = expressions; body = body })
+  Some (plain_function result expressions body)
 
 -- the first parts of a document, and those behind them
 pub record SettingsParts : Type 0 where
@@ -350,7 +350,7 @@ document_at n d = do
   settings ← settings_of s
   types ← if is_thin c then all_of type_of c.types else None
   functions ← all_of (function_at n) c.functions
-  Some (record { settings = settings; content = record { types = types; functions = functions } })
+  Some (record { settings = settings; content = thin_module types functions })
 
 -- The value spells this document, whose types are distinct.
 pub record Spells (n : ℕ) (value : Data) (d : PlainDocument) : Type 0 where

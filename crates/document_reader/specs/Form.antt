@@ -1,5 +1,5 @@
 -- How a document is written, and when bytes spell it.
-use Rattle.std.specs.Prelude.{◌≡◌, ◌≢◌, ◌⊎◌, ℕ, ℤ, pos, negsuc, ◌≤◌, List, map, length, codes, Option, Some, None, IfSome, IsUtf8}
+use Rattle.std.specs.Prelude.{◌≡◌, ◌≢◌, ◌⊎◌, ℕ, ℤ, pos, negsuc, ◌≤◌, List, [], map, length, codes, Option, Some, None, IfSome, IsUtf8}
 use Rattle.std.specs.List.{AllByRecursion, AllPairs}
 use Rattle.serde_json.specs.Data.{Data, null, boolean, number, unsigned, string, array, Items, no_items, item}
 use Rattle.serde_json.specs.Find.{of_integer}
@@ -12,11 +12,11 @@ use Rattle.ir_kinds.specs.declared.values.Literal.{Literal}
 use Rattle.ir_kinds.specs.declared.values.Literal.TheVariants as literal
 use Rattle.ir_kinds.specs.declared.values.SwitchValue.{SwitchValue}
 use Rattle.ir_kinds.specs.declared.values.SwitchValue.TheVariants.{I32, U32, Default}
-use Rattle.ir_expressions.specs.declared.expressions.Expression.{Expression}
+use Rattle.ir_expressions.specs.Plain.{PlainExpression, plain as computes}
 use Rattle.ir_expressions.specs.declared.expressions.Expression.TheVariants as computed
-use Rattle.ir_types.specs.Plain.{PlainType}
-use Rattle.ir_items.specs.Plain.{PlainStatement, emit, block, choice, switch, loop, break, continue, return, kill, call, PlainBlock, stop, next, PlainCases, no_case, case, PlainFunction, PlainModule}
-use Rattle.ir_types.specs.declared.types.TypeInner.{TypeInner}
+use Rattle.ir_types.specs.Plain.{PlainInner, plain, PlainType}
+use Rattle.ir_items.specs.Plain.{PlainStatement, emit, block, choice, switch, loop, break, continue, return, kill, act, call, PlainBlock, stop, next, PlainCases, no_case, case, PlainFunction, PlainSpecial, PlainModule}
+use Rattle.ir_items.specs.declared.functions.FunctionResult.{FunctionResult}
 use Rattle.ir_types.specs.declared.types.TypeInner.TheVariants as inner
 use Rattle.ir_kinds.specs.Settings.{PlainSettings}
 use Rattle.document_reader.specs.Plain.{PlainDocument}
@@ -43,8 +43,10 @@ empty_form = array no_items
 abbrev pub scalar_form : Scalar → Data
 scalar_form s = string (scalar_word s)
 
-abbrev pub inner_form : TypeInner → Data
-inner_form (inner.Scalar s) = tagged_form (codes "Scalar") (item (scalar_form s) no_items)
+-- so far no document holds another inner form
+abbrev pub inner_form : PlainInner → Data
+inner_form (plain (inner.Scalar s)) = tagged_form (codes "Scalar") (item (scalar_form s) no_items)
+inner_form _ = null
 
 abbrev pub type_form : PlainType → Data
 type_form t = array (item (optional_form string t.name) (item (inner_form t.inner) no_items))
@@ -63,15 +65,17 @@ literal_items (literal.I32 z) = item (string (codes "i32")) (item (integer_form 
 literal_items (literal.U32 n) = item (string (codes "u32")) (item (number_form n) no_items)
 literal_items _ = no_items
 
-abbrev pub expression_form : Expression → Data
-expression_form (computed.Literal l) = tagged_form (codes "Literal") (literal_items l)
+-- so far no document holds another expression
+abbrev pub expression_form : PlainExpression → Data
+expression_form (computes (computed.Literal l)) = tagged_form (codes "Literal") (literal_items l)
+expression_form _ = null
 
 abbrev pub value_form : SwitchValue → Data
 value_form (I32 z) = tagged_form (codes "I32") (item (integer_form z) no_items)
 value_form (U32 n) = tagged_form (codes "U32") (item (number_form n) no_items)
 value_form Default = tagged_form (codes "Default") no_items
 
--- statements; so far no document holds an `Emit`
+-- statements; so far no document holds an `Emit` or an act
 abbrev mutual
   pub statement_form : PlainStatement → Data
   statement_form (emit first end) = tagged_form (codes "Emit") (item (number_form first) (item (number_form end) no_items))
@@ -85,6 +89,7 @@ abbrev mutual
   statement_form continue = tagged_form (codes "Continue") no_items
   statement_form (return value) = tagged_form (codes "Return") (item (optional_form handle_form value) no_items)
   statement_form kill = tagged_form (codes "Kill") no_items
+  statement_form (act a) = empty_form
   statement_form (call function arguments result) =
       tagged_form (codes "Call") (item (handle_form function) (item (list_form handle_form arguments) (item (optional_form handle_form result) no_items)))
 
@@ -101,8 +106,8 @@ abbrev pub block_form : PlainBlock → Data
 block_form b = array (block_items b)
 
 -- a result: its type, and no binding
-abbrev pub result_form : ℕ → Data
-result_form t = array (item (handle_form t) (item null no_items))
+abbrev pub result_form : FunctionResult → Data
+result_form r = array (item (handle_form r.ty) (item null no_items))
 
 -- name, arguments, result, locals, expressions, body, filter: so far without name, arguments, locals and filter
 abbrev pub function_form : PlainFunction → Data
@@ -156,8 +161,13 @@ IsLiteral (literal.I32 z) = IsI32 z
 IsLiteral (literal.U32 n) = IsU32 n
 IsLiteral _ = ⊥
 
-abbrev pub IsExpression : Expression → Type 0
-IsExpression (computed.Literal l) = IsLiteral l
+abbrev pub IsExpression : PlainExpression → Type 0
+IsExpression (computes (computed.Literal l)) = IsLiteral l
+IsExpression _ = ⊥
+
+-- a result's type is a handle, and it has no binding
+abbrev pub IsResult : FunctionResult → Type 0
+IsResult r = IsHandle r.ty × (r.binding ≡ None)
 
 -- a statement that a document may hold: its handles and values are in range
 abbrev mutual
@@ -171,6 +181,7 @@ abbrev mutual
   HasHandles continue = Unit {0}
   HasHandles (return value) = IfSome value IsHandle
   HasHandles kill = Unit {0}
+  HasHandles (act a) = ⊥
   HasHandles (call function arguments result) = IsHandle function × AllByRecursion IsHandle arguments × IfSome result IsHandle
 
   pub AllHaveHandles : PlainBlock → Type 0
@@ -181,9 +192,15 @@ abbrev mutual
   CasesHaveHandles no_case = Unit {0}
   CasesHaveHandles (case value body falls rest) = IsValue value × AllHaveHandles body × CasesHaveHandles rest
 
+-- a function with a result, expressions and a body alone
+abbrev pub plain_function : Option FunctionResult → List PlainExpression → PlainBlock → PlainFunction
+plain_function result expressions body =
+    record { name = None; arguments = []; result = result; locals = []; expressions = expressions; body = body; leaf = None }
+
 -- A function that a document may hold.
 pub record IsFunctionItem (f : PlainFunction) : Type 0 where
-  pub result : IfSome f.result IsHandle
+  pub alone : f ≡ plain_function f.result f.expressions f.body
+  pub result : IfSome f.result IsResult
   pub expressions : AllByRecursion IsExpression f.expressions
   pub body : AllHaveHandles f.body
 
@@ -197,15 +214,36 @@ IsWidth AbstractInt w = w ≡ 8
 IsWidth AbstractFloat w = w ≡ 8
 
 -- what is made of scalar types that have a word
-abbrev pub HasWord : TypeInner → Type 0
-HasWord (inner.Scalar s) = IsWidth s.kind s.width
+abbrev pub HasWord : PlainInner → Type 0
+HasWord (plain (inner.Scalar s)) = IsWidth s.kind s.width
+HasWord _ = ⊥
 
 -- no entry is equal to a later one
 abbrev pub AreDistinct : {A : Type 0} → List A → Type 0
 AreDistinct xs = AllPairs (λ x y. x ≢ y) xs
 
--- What is asked of a document beyond its form: its numbers are handles, its scalar types have words, and no two types are equal.
+abbrev pub no_special : PlainSpecial
+no_special = record { ray_desc = None; ray_intersection = None; ray_vertex_return = None; predeclared = [] }
+
+-- a module with types and functions alone
+abbrev pub thin_module : List PlainType → List PlainFunction → PlainModule
+thin_module types functions = record {
+  types = types;
+  special = no_special;
+  filters = [];
+  leaf = None;
+  constants = [];
+  overrides = [];
+  global_expressions = [];
+  globals = [];
+  functions = functions;
+  entries = [];
+}
+
+-- What is asked of a document beyond its form: it has types and functions alone, its numbers are handles, its scalar
+-- types have words, and no two types are equal.
 pub record IsDocument (d : PlainDocument) : Type 0 where
+  pub thin : d.content ≡ thin_module d.content.types d.content.functions
   pub types : AllByRecursion (λ t. HasWord t.inner) d.content.types
   pub distinct : AreDistinct d.content.types
   pub functions : AllByRecursion IsFunctionItem d.content.functions

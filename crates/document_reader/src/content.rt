@@ -2,7 +2,7 @@
 ghost use Rattle.std.specs.Prelude.{◌≡◌, ◌++◌, map, option_map, string_bytes, IfOk};
 ghost use Rattle.serde_json.specs.View.{view as data_of, items_view};
 ghost use Rattle.serde_json.specs.Find.{as_str};
-ghost use Rattle.ir_types.specs.Plain.{type_view};
+ghost use Rattle.ir_types.specs.Plain.{inner_view, type_view};
 ghost use Rattle.document_reader.specs.Decode.{optional, all_of, inner_of, type_of, function_parts, is_plain_function, result_of, function_at, special_parts, is_no_special, is_no_filters, content_parts, is_thin};
 ghost use Rattle.document_reader.specs.Parts.{function_parts_view, content_parts_view};
 ghost use Rattle.document_reader.specs.View.{function_view};
@@ -31,7 +31,7 @@ fn name(alloc: Global, value: &Value) -> Result<Option<Option<String>>, AllocErr
 }
 
 fn inner(value: &Value) -> Option<TypeInner>
-    ensures { result ≡ inner_of (data_of value.now) }
+    ensures { option_map inner_view result ≡ inner_of (data_of value.now) }
 {
     let (kind, rest) = tagged(value)?;
     match kind {
@@ -119,16 +119,16 @@ fn is_plain_function(parts: &FunctionParts<'_>) -> bool
 
 // A result with its type, where it has no binding.
 fn function_result(value: &Value) -> Option<FunctionResult>
-    ensures { option_map (λ r. r.ty) result ≡ result_of (data_of value.now) }
+    ensures { result ≡ result_of (data_of value.now) }
 {
     let (ty, binding) = pair(value.as_array()?)?;
     let ty = handle(ty)?;
-    is_null(binding).then_some(FunctionResult { ty })
+    is_null(binding).then_some(FunctionResult { ty, binding: None })
 }
 
 // A result or `null`, or `None` where the value is neither.
 fn optional_result(value: &Value) -> Option<Option<FunctionResult>>
-    ensures { option_map (λ o. option_map (λ r. r.ty) o) result ≡ optional result_of (data_of value.now) }
+    ensures { result ≡ optional result_of (data_of value.now) }
 {
     if is_null(value) {
         Some(None)

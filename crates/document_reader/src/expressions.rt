@@ -1,5 +1,6 @@
 // Expressions, and the values of literals and cases.
-ghost use Rattle.std.specs.Prelude.{◌≡◌, ◌++◌, option_map, IfOk};
+ghost use Rattle.std.specs.Prelude.{◌≡◌, ◌++◌, map, option_map, IfOk};
+ghost use Rattle.ir_expressions.specs.Plain.{expression_view};
 ghost use Rattle.serde_json.specs.View.{view as data_of, items_view};
 ghost use Rattle.document_reader.specs.Decode.{all_of, literal_of, expression_of, value_of};
 
@@ -24,7 +25,7 @@ fn literal(items: &[Value]) -> Option<Literal>
 
 #[tactic(auto, unfolding(crate::specs::Decode::expression_of))]
 fn expression(value: &Value) -> Option<Expression>
-    ensures { result ≡ expression_of (data_of value.now) }
+    ensures { option_map expression_view result ≡ expression_of (data_of value.now) }
 {
     let (word, rest) = tagged(value)?;
     match word {
@@ -35,7 +36,7 @@ fn expression(value: &Value) -> Option<Expression>
 
 /// The expressions, or `None` where one is written in another way. The error is want of memory.
 pub fn expressions(alloc: Global, value: &Value) -> Result<Option<Vec<Expression>>, AllocError>
-    ensures { IfOk result (λ found. option_map (λ v. v.items) found ≡ all_of expression_of (data_of value.now)) }
+    ensures { IfOk result (λ found. option_map (λ v. map expression_view v.items) found ≡ all_of expression_of (data_of value.now)) }
 {
     let Some(items) = value.as_array() else {
         return Ok(None);

@@ -1,4 +1,5 @@
-use Rattle.std.proofs.Common.{◌≡◌, drop, ◌++◌, option_map}
+use Rattle.std.proofs.Common.{◌≡◌, drop, map, ◌++◌, option_map}
+use Rattle.ir_expressions.specs.Plain.{expression_view}
 use Rattle.serde_json.specs.View.{items_view}
 use Rattle.document_reader.specs.Decode.{each, expression_of}
 use Rattle.document_reader.proofs.expressions.expressions.Given as goal
@@ -6,4 +7,4 @@ use Rattle.document_reader.proofs.expressions.expressions.Given as goal
 -- what was found so far, and what the rest gives, is what all of it gives
 abbrev pub invariant-loop-item : goal.invariant-loop-item
 invariant-loop-item l =
-    option_map (λ xs. l.found.items ++ xs) (each expression_of (items_view (drop l.item-index l.item-items))) ≡ each expression_of (items_view l.item-items)
+    option_map (λ xs. map expression_view l.found.items ++ xs) (each expression_of (items_view (drop l.item-index l.item-items))) ≡ each expression_of (items_view l.item-items)
