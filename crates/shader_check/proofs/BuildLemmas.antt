@@ -7,7 +7,7 @@ use Rattle.ir_types.specs.Plain.{type_view}
 use Rattle.ir_items.specs.View.{values_of}
 use Rattle.ir_types.specs.declared.types.IrType.{IrType}
 use Rattle.ir_types.specs.contracts.types.IrTypePartialEq.TheImpl.{ghosts}
-use Rattle.ir_items.proofs.TypeEquality.{type_eq}
+use Rattle.ir_types.proofs.TypeEquality.{type_eq}
 use Rattle.document_reader.specs.Form.{AreDistinct}
 use Rattle.document_reader.proofs.DistinctLemmas.{not_distinct}
 

@@ -1,6 +1,5 @@
 -- What an arena holds at a handle, as plain data.
-use Rattle.std.proofs.Common.{◌≡◌, ℕ, ◌<◌, ◌≤◌, List, length, map, Some, None, option_map, slice_get, sym, ap, ◌∙◌, arith}
-use Rattle.std.proofs.lemmas.List.{length-map}
+use Rattle.std.proofs.Common.{◌≡◌, ℕ, ◌≤◌, List, length, map, None, option_map, slice_get, ap, ◌∙◌}
 use Rattle.std.proofs.lemmas.Option.{slice_get-map, slice_get_past}
 use Rattle.ir_arena.specs.Arenas.{value_at}
 use Rattle.ir_arena.specs.declared.span.Span.{Span}

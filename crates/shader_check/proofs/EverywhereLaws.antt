@@ -1,8 +1,8 @@
 -- A test that is made everywhere passes at every place.
-use Rattle.std.proofs.Common.{◌≡◌, ◌⊎◌, inl, inr, ℕ, zero, suc, Bool, true, false, ◌&&◌, refl, sym, ap, subst, ◌∙◌}
-use Rattle.ir_items.specs.Plain.{PlainStatement, emit, block, choice, switch, loop, break, continue, return, kill, call, PlainBlock, stop, next, PlainCases, no_case, case}
+use Rattle.std.proofs.Common.{◌≡◌, ℕ, zero, suc, Bool, true, false, ◌&&◌, refl, subst}
+use Rattle.ir_items.specs.Plain.{PlainStatement, emit, block, choice, switch, loop, break, continue, return, kill, act, call, PlainBlock, stop, next, PlainCases, no_case, case}
 use Rattle.ir_items.specs.Shapes.{shape_of, Part, inner, accepting, rejecting, case_at, turn, continuing, case_body, part_of}
-use Rattle.ir_items.specs.Places.{Place, here, later, inside, condition, Spot, statement, spot_at, StandsAt}
+use Rattle.ir_items.specs.Places.{Place, here, later, inside, condition, StandsAt}
 use Rattle.shader_check.specs.Everywhere.{PlainControl, enter, control_at, everywhere, in_statement, in_cases}
 
 pub both_true : (a b : Bool) → (a && b) ≡ true → (a ≡ true) × (b ≡ true)
@@ -32,6 +32,7 @@ module _ (ok : PlainControl → PlainStatement → Bool) where
   own_passes c continue e = e
   own_passes c (return value) e = e
   own_passes c kill e = e
+  own_passes c (act a) e = e
   own_passes c (call function arguments result) e = e
 
   case_passes : (c : PlainControl) (cs : PlainCases) (k : ℕ) → in_cases ok c cs ≡ true → everywhere ok c (case_body cs k) ≡ true
@@ -55,6 +56,7 @@ module _ (ok : PlainControl → PlainStatement → Bool) where
   part_passes c continue part e = refl
   part_passes c (return value) part e = refl
   part_passes c kill part e = refl
+  part_passes c (act a) part e = refl
   part_passes c (call function arguments result) part e = refl
 
   pub passes_at : (p : Place) (c : PlainControl) (b : PlainBlock) → everywhere ok c b ≡ true → (s : PlainStatement) → StandsAt b p s → ok (control_at c p) s ≡ true
@@ -90,6 +92,7 @@ module _ (ok : PlainControl → PlainStatement → Bool) where
     statement_passes c continue own h = own
     statement_passes c (return value) own h = own
     statement_passes c kill own h = own
+    statement_passes c (act a) own h = own
     statement_passes c (call function arguments result) own h = own
 
     cases_pass : (c : PlainControl) (cs : PlainCases) → ((k : ℕ) → PassesAt c (case_body cs k)) → in_cases ok c cs ≡ true

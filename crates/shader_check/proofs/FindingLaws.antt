@@ -6,11 +6,11 @@ use Rattle.ir_kinds.specs.declared.settings.Capability.{Capability}
 use Rattle.ir_kinds.specs.Settings.{PlainSettings}
 use Rattle.ir_kinds.specs.declared.settings.Flag.TheVariants.{Blocks}
 use Rattle.ir_arena.specs.Handles.{handles_from}
-use Rattle.ir_types.specs.Plain.{type_view}
+use Rattle.ir_types.specs.Plain.{inner_view, type_view}
 use Rattle.ir_items.specs.View.{function_view, module_view, values_of}
 use Rattle.ir_items.specs.declared.module.Module.{Module}
 use Rattle.ir_types.specs.Plain.{PlainType}
-use Rattle.ir_items.specs.Plain.{PlainFunction, PlainModule}
+use Rattle.ir_items.specs.Plain.{PlainModule}
 use Rattle.judgement.specs.Handles.{HandlesOK}
 use Rattle.judgement.specs.Types.{TypeOK}
 use Rattle.judgement.specs.Functions.{FunctionOK}
@@ -92,12 +92,12 @@ tested_false m b e h = λ ok.
     let none = in_order_as m ∙ handles_tested (module_view m) ok in
     true≢false (sym (e ∙ ap is_none none) ∙ h)
 
-pub types_pass : (capabilities : List Capability) (w : Widths) (m : Module) → AreWidthsOf capabilities w → (o : Option ℕ) → o ≡ first_failing (λ _ t. is_inner_ok w t.inner) (handles_from 0 m.types)
+pub types_pass : (capabilities : List Capability) (w : Widths) (m : Module) → AreWidthsOf capabilities w → (o : Option ℕ) → o ≡ first_failing (λ _ t. is_inner_ok w (inner_view t.inner)) (handles_from 0 m.types)
     → o ≡ None → AllMeet (TypeOK capabilities) (module_view m).types
 types_pass capabilities w m of o e h =
     types_meet capabilities w of (module_view m).types (sym (first_failing-view type_view (λ _ t. is_inner_ok w t.inner) 0 m.types) ∙ (sym e ∙ h))
 
-pub types_fail : (capabilities : List Capability) (w : Widths) (m : Module) → AreWidthsOf capabilities w → (o : Option ℕ) → o ≡ first_failing (λ _ t. is_inner_ok w t.inner) (handles_from 0 m.types)
+pub types_fail : (capabilities : List Capability) (w : Widths) (m : Module) → AreWidthsOf capabilities w → (o : Option ℕ) → o ≡ first_failing (λ _ t. is_inner_ok w (inner_view t.inner)) (handles_from 0 m.types)
     → (r : ℕ) → o ≡ Some r → IsLeastFailing (TypeOK capabilities) (module_view m).types r
 types_fail capabilities w m of o e r h =
     type_fails capabilities w of (module_view m).types r (sym (first_failing-view type_view (λ _ t. is_inner_ok w t.inner) 0 m.types) ∙ (sym e ∙ h))

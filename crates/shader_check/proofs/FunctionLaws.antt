@@ -1,11 +1,11 @@
 -- The test of a function says its rules.
-use Rattle.std.proofs.Common.{◌≡◌, ◌↔◌, Bool, true, false, ◌&&◌, if◌then◌else◌, Contains, IsTrue, refl, sym}
+use Rattle.std.proofs.Common.{◌≡◌, ◌↔◌, Bool, true, false, if◌then◌else◌, Contains, IsTrue, refl}
 use Rattle.ir_kinds.specs.Settings.{PlainSettings}
 use Rattle.ir_kinds.specs.declared.settings.Flag.TheVariants.{Blocks}
 use Rattle.ir_items.specs.Plain.{PlainFunction, PlainModule}
 use Rattle.judgement.specs.Functions.{body_of, FunctionOK}
 use Rattle.shader_check.specs.Everywhere.{control_of_body, everywhere}
-use Rattle.shader_check.specs.Tests.{arity_ok, rule_ok, function_ok}
+use Rattle.shader_check.specs.Tests.{rule_ok, function_ok}
 use Rattle.shader_check.proofs.EverywhereLaws.{both_true, true_both}
 use Rattle.shader_check.proofs.RuleLaws.{arity_sound, arity_complete, rules_sound, rules_complete}
 

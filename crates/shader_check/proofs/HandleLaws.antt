@@ -1,9 +1,10 @@
 -- The test of handles says that every reference is in order.
-use Rattle.std.proofs.Common.{◌≡◌, ◌⊎◌, inl, inr, ℕ, List, [], ◌∷◌, ◌++◌, map, length, Bool, true, false, Option, Some, None, refl, sym, subst}
+use Rattle.std.proofs.Common.{◌≡◌, inl, inr, ℕ, List, [], ◌∷◌, ◌++◌, map, length, true, Option, Some, None, option_map, refl, subst}
+use Rattle.ir_items.specs.declared.functions.FunctionResult.{FunctionResult}
 use borrow.Author.Tests.{ltb-true, lt-ltb, leb-true, le-leb}
 use Rattle.std.specs.Option.{option_to_list}
-use Rattle.ir_items.specs.Plain.{PlainStatement, emit, block, choice, switch, loop, break, continue, return, kill, call, PlainFunction, PlainModule}
-use Rattle.judgement.specs.Handles.{Has, Target, type, function, expression, range, named, NamesInBody, Refers, IsInOrder}
+use Rattle.ir_items.specs.Plain.{PlainStatement, emit, block, choice, switch, loop, break, continue, return, kill, act, call, PlainFunction, PlainModule}
+use Rattle.judgement.specs.Handles.{Has, Target, type, function, expression, range, named, Refers, IsInOrder}
 use Rattle.shader_check.specs.Everywhere.{control_of_body}
 use Rattle.shader_check.specs.Tests.{are_below, is_below, statement_in_order, function_in_order}
 use Rattle.shader_check.proofs.EverywhereLaws.{both_true, true_both, passes_at, passes_everywhere}
@@ -34,15 +35,17 @@ module _ (m : PlainModule) (i : ℕ) (f : PlainFunction) where
   own_in_order continue e t h = absurd h
   own_in_order (return value) e t h = operands_below [] value refl e t h
   own_in_order kill e t h = absurd h
+  own_in_order (act a) e t h = absurd h
   own_in_order (call callee arguments result) e t (inl h) =
       subst (IsInOrder m i f) h (ltb-true callee i (both_true _ _ (both_true _ _ e).0).0)
   own_in_order (call callee arguments result) e t (inr h) =
       let p = both_true _ _ e in
       operands_below arguments result (both_true _ _ p.0).1 p.1 t h
 
-  result_in_order : (o : Option ℕ) → is_below (length m.types) o ≡ true → (t : Target) → Has (map type (option_to_list o)) t → IsInOrder m i f t
+  result_in_order : (o : Option FunctionResult) → is_below (length m.types) (option_map (λ (r : FunctionResult). r.ty) o) ≡ true → (t : Target)
+      → Has (map (λ (r : FunctionResult). type r.ty) (option_to_list o)) t → IsInOrder m i f t
   result_in_order None e t h = absurd h
-  result_in_order (Some x) e t (inl h) = subst (IsInOrder m i f) h (ltb-true x _ e)
+  result_in_order (Some x) e t (inl h) = subst (IsInOrder m i f) h (ltb-true x.ty _ e)
   result_in_order (Some x) e t (inr h) = absurd h
 
   pub refers_in_order : function_in_order (length m.types) i f ≡ true → (t : Target) → Refers f t → IsInOrder m i f t
@@ -72,13 +75,15 @@ module _ (m : PlainModule) (i : ℕ) (f : PlainFunction) where
   in_order_own continue h = refl
   in_order_own (return value) h = (below_operands [] value h).1
   in_order_own kill h = refl
+  in_order_own (act a) h = refl
   in_order_own (call callee arguments result) h =
       let operands = below_operands arguments result (λ t g. h t (inr g)) in
       true_both _ _ (true_both _ _ (lt-ltb callee i (h (function callee) (inl refl))) operands.0) operands.1
 
-  below_result : (o : Option ℕ) → ((t : Target) → Has (map type (option_to_list o)) t → IsInOrder m i f t) → is_below (length m.types) o ≡ true
+  below_result : (o : Option FunctionResult) → ((t : Target) → Has (map (λ (r : FunctionResult). type r.ty) (option_to_list o)) t → IsInOrder m i f t)
+      → is_below (length m.types) (option_map (λ (r : FunctionResult). r.ty) o) ≡ true
   below_result None h = refl
-  below_result (Some x) h = lt-ltb x _ (h (type x) (inl refl))
+  below_result (Some x) h = lt-ltb x.ty _ (h (type x.ty) (inl refl))
 
   pub in_order_refers : ((t : Target) → Refers f t → IsInOrder m i f t) → function_in_order (length m.types) i f ≡ true
   in_order_refers h =

@@ -1,17 +1,14 @@
 -- The tests of statements say their rules.
-use Rattle.std.proofs.Common.{◌≡◌, ◌⊎◌, inl, inr, ℕ, ◌≤◌, List, [], ◌∷◌, length, Bool, true, false, true≢false, ◌&&◌, nat_eq, Option, Some, None, IfSome, IsTrue, is_none, slice_get, refl, sym, ap, subst, ◌∙◌}
+use Rattle.std.proofs.Common.{◌≡◌, ℕ, List, [], ◌∷◌, length, Bool, true, true≢false, nat_eq, Option, Some, None, IfSome, is_none, slice_get, refl, sym, ap, subst, ◌∙◌}
 use borrow.Author.Tests.{leb-true, le-leb, eqb-true, eq-eqb}
-use Rattle.ir_kinds.specs.declared.scalars.Scalar.{Scalar}
 use Rattle.ir_kinds.specs.contracts.scalars.ScalarPartialEq.TheImpl as scalar
-use Rattle.ir_types.specs.declared.types.TypeInner.{TypeInner}
-use Rattle.ir_types.specs.declared.types.TypeInner.TheVariants as inner
-use Rattle.ir_items.specs.Plain.{PlainStatement, emit, block, choice, switch, loop, break, continue, return, kill, call, PlainBlock, PlainFunction, PlainModule}
+use Rattle.ir_items.specs.Plain.{PlainStatement, emit, block, choice, switch, loop, break, continue, return, kill, act, call, PlainBlock, PlainFunction, PlainModule}
 use Rattle.ir_items.specs.Shapes.{Exit, breaks, continues, returns, kills, exit_of, shape_of, Part, inner as nested, accepting, rejecting, case_at, turn, continuing}
 use Rattle.ir_items.specs.Places.{Place, here, later, inside, condition, StandsAt}
 use Rattle.ir_items.specs.Control.{parts_around, breaks_in, continues_in, returns_in, may_leave, ControlOK}
 use Rattle.judgement.specs.Functions.{scalar_at, answer_of, argument_count, ArityOK, CallResultOK, IsCondition, ReturnOK, StatementOK}
 use Rattle.shader_check.specs.Everywhere.{PlainControl, enter, control_at, control_of_body, everywhere}
-use Rattle.shader_check.specs.Tests.{if_some, some_passes, arity_ok, is_boolean, is_condition, is_of_scalar, return_ok, call_result_ok, statement_ok, may_leave_by, rule_ok}
+use Rattle.shader_check.specs.Tests.{if_some, arity_ok, is_boolean, is_condition, return_ok, call_result_ok, statement_ok, may_leave_by, rule_ok}
 use Rattle.shader_check.proofs.EverywhereLaws.{both_true, true_both, passes_at, passes_everywhere}
 use Rattle.shader_check.proofs.SwitchLaws.{some_passes_some, boolean_kind, switch_sound, switch_complete}
 use Rattle.shader_check.proofs.ValueEquality.{scalar_eq}
@@ -48,6 +45,7 @@ arity_complete m b h = passes_everywhere (λ _ s. arity_ok m s) control_of_body 
     own p continue at = refl
     own p (return value) at = refl
     own p kill at = refl
+    own p (act a) at = refl
     own p (call callee arguments result) at =
         at_if_some (λ g. nat_eq (length arguments) (argument_count g)) (slice_get m.functions callee) (λ f found. eq-eqb _ _ (h p callee arguments result f at found))
 
@@ -90,22 +88,16 @@ condition_sound f e h =
 condition_complete : (f : PlainFunction) (e : ℕ) → IsCondition f e → is_condition f e ≡ true
 condition_complete f e h = rw h.1 (subst (λ k. is_boolean k ≡ true) (sym h.2) refl)
 
-of_scalar_sound : (s : Scalar) (i : TypeInner) → is_of_scalar s i ≡ true → i ≡ inner.Scalar s
-of_scalar_sound s (inner.Scalar t) e = ap inner.Scalar (sym ((scalar_eq s t).0 e))
-
-of_scalar_complete : (s : Scalar) → is_of_scalar s (inner.Scalar s) ≡ true
-of_scalar_complete s = (scalar_eq s s).1 refl
-
 return_sound : (m : PlainModule) (f : PlainFunction) (value : Option ℕ) → return_ok m f value ≡ true → ReturnOK m f value
 return_sound m f None h = none_is f.result h
 return_sound m f (Some e) h =
     let s = some_passes_some _ (scalar_at f e) h in
-    let i = some_passes_some (is_of_scalar s.0) (answer_of m f) s.2 in
-    (s.0, s.1, i.1 ∙ ap Some (of_scalar_sound s.0 i.0 i.2))
+    let i = some_passes_some (scalar.ghosts.eq s.0) (answer_of m f) s.2 in
+    (s.0, s.1, i.1 ∙ ap Some (sym ((scalar_eq s.0 i.0).0 i.2)))
 
 return_complete : (m : PlainModule) (f : PlainFunction) (value : Option ℕ) → ReturnOK m f value → return_ok m f value ≡ true
 return_complete m f None h = ap is_none h
-return_complete m f (Some e) h = rw h.1 (rw h.2 (of_scalar_complete h.0))
+return_complete m f (Some e) h = rw h.1 (rw h.2 ((scalar_eq h.0 h.0).1 refl))
 
 result_sound : (m : PlainModule) (callee : ℕ) (result : Option ℕ) → call_result_ok m callee result ≡ true → CallResultOK m callee result
 result_sound m callee None h = λ f found. none_is f.result (if_some_at (λ g. is_none g.result) (slice_get m.functions callee) f h found)
@@ -134,6 +126,7 @@ module _ (m : PlainModule) (f : PlainFunction) where
   statement_sound continue h = tt
   statement_sound (return value) h = return_sound m f value h
   statement_sound kill h = tt
+  statement_sound (act a) h = let k = h in cc
   statement_sound (call callee arguments result) h = result_sound m callee result h
 
   statement_complete : (s : PlainStatement) → StatementOK m f s → statement_ok m f s ≡ true
@@ -146,6 +139,7 @@ module _ (m : PlainModule) (f : PlainFunction) where
   statement_complete continue h = refl
   statement_complete (return value) h = return_complete m f value h
   statement_complete kill h = refl
+  statement_complete (act a) h = absurd h
   statement_complete (call callee arguments result) h = result_complete m callee result h
 
   pub rules_sound : (b : PlainBlock) → everywhere (rule_ok m f) control_of_body b ≡ true

@@ -1,5 +1,5 @@
 -- The test of a switch says its rule.
-use Rattle.std.proofs.Common.{◌≡◌, ◌≢◌, ◌⊎◌, inl, inr, ℕ, zero, suc, ◌<◌, List, [], ◌∷◌, length, Bool, true, false, true≢false, ◌&&◌, ◌||◌, not, Contains, Option, Some, None, refl, sym, ap, subst, ◌∙◌, arith}
+use Rattle.std.proofs.Common.{◌≡◌, ◌≢◌, ◌⊎◌, inl, inr, ℕ, zero, suc, ◌<◌, List, [], ◌∷◌, length, Bool, true, false, true≢false, ◌||◌, not, Contains, Option, Some, None, refl, sym, subst, ◌∙◌, arith}
 use Rattle.std.specs.Prelude.{slice_index_or}
 use Rattle.std.specs.List.{AllPairs}
 use Rattle.std.proofs.lemmas.List.Kept.{AllPairs-cons}
@@ -7,9 +7,8 @@ use Rattle.ir_kinds.specs.declared.scalars.ScalarKind.{ScalarKind}
 use Rattle.ir_kinds.specs.declared.scalars.ScalarKind.TheVariants.{Sint, Uint, Float, Bool as Boolean, AbstractInt, AbstractFloat}
 use Rattle.ir_kinds.specs.declared.values.SwitchValue.{SwitchValue}
 use Rattle.ir_kinds.specs.declared.values.SwitchValue.TheVariants.{I32, U32, Default}
-use Rattle.ir_kinds.specs.contracts.values.SwitchValuePartialEq.TheImpl as value
 use Rattle.ir_items.specs.Plain.{PlainCases, no_case, case, PlainFunction}
-use Rattle.judgement.specs.Functions.{scalar_at, IsInteger, case_values, FitsKind, falls_at_end, SwitchOK}
+use Rattle.judgement.specs.Functions.{scalar_at, IsInteger, case_values, FitsKind, SwitchOK}
 use Rattle.shader_check.specs.Tests.{some_passes, is_boolean, is_sint, is_uint, fits_kind, values_fit, has_value, values_differ, switch_ok}
 use Rattle.shader_check.proofs.EverywhereLaws.{both_true, true_both}
 use Rattle.shader_check.proofs.ValueEquality.{value_eq}

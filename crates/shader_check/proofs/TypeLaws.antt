@@ -4,7 +4,7 @@ use borrow.Author.Tests.{eqb-true, eq-eqb}
 use Rattle.ir_kinds.specs.declared.settings.Capability.{Capability}
 use Rattle.ir_kinds.specs.declared.scalars.ScalarKind.{ScalarKind}
 use Rattle.ir_kinds.specs.declared.scalars.ScalarKind.TheVariants.{Sint, Uint, Float, Bool as Boolean, AbstractInt, AbstractFloat}
-use Rattle.ir_types.specs.declared.types.TypeInner.{TypeInner}
+use Rattle.ir_types.specs.Plain.{PlainInner, struct, plain}
 use Rattle.ir_types.specs.declared.types.TypeInner.TheVariants as inner
 use Rattle.judgement.specs.Types.{IsWidthOK, IsScalarOK, IsInnerOK}
 use Rattle.shader_check.specs.Tests.{Widths, is_width_ok, is_scalar_ok, is_inner_ok}
@@ -48,8 +48,36 @@ module _ (capabilities : List Capability) (w : Widths) (of : AreWidthsOf capabil
   scalar_complete AbstractInt width h = absurd h
   scalar_complete AbstractFloat width h = absurd h
 
-  pub inner_sound : (i : TypeInner) → is_inner_ok w i ≡ true → IsInnerOK capabilities i
-  inner_sound (inner.Scalar s) h = scalar_sound s.kind s.width h
+  pub inner_sound : (i : PlainInner) → is_inner_ok w i ≡ true → IsInnerOK capabilities i
+  inner_sound (plain (inner.Scalar s)) h = scalar_sound s.kind s.width h
+  inner_sound (struct _ _) h = let k = h in cc
+  inner_sound (plain (inner.Vector _ _)) h = let k = h in cc
+  inner_sound (plain (inner.Matrix _ _ _)) h = let k = h in cc
+  inner_sound (plain (inner.CooperativeMatrix _ _ _ _)) h = let k = h in cc
+  inner_sound (plain (inner.Atomic _)) h = let k = h in cc
+  inner_sound (plain (inner.Pointer _ _)) h = let k = h in cc
+  inner_sound (plain (inner.ValuePointer _ _ _)) h = let k = h in cc
+  inner_sound (plain (inner.Array _ _ _)) h = let k = h in cc
+  inner_sound (plain (inner.Struct _ _)) h = let k = h in cc
+  inner_sound (plain (inner.Image _ _ _)) h = let k = h in cc
+  inner_sound (plain (inner.Sampler _)) h = let k = h in cc
+  inner_sound (plain (inner.AccelerationStructure _)) h = let k = h in cc
+  inner_sound (plain (inner.RayQuery _)) h = let k = h in cc
+  inner_sound (plain (inner.BindingArray _ _)) h = let k = h in cc
 
-  pub inner_complete : (i : TypeInner) → IsInnerOK capabilities i → is_inner_ok w i ≡ true
-  inner_complete (inner.Scalar s) h = scalar_complete s.kind s.width h
+  pub inner_complete : (i : PlainInner) → IsInnerOK capabilities i → is_inner_ok w i ≡ true
+  inner_complete (plain (inner.Scalar s)) h = scalar_complete s.kind s.width h
+  inner_complete (struct _ _) h = absurd h
+  inner_complete (plain (inner.Vector _ _)) h = absurd h
+  inner_complete (plain (inner.Matrix _ _ _)) h = absurd h
+  inner_complete (plain (inner.CooperativeMatrix _ _ _ _)) h = absurd h
+  inner_complete (plain (inner.Atomic _)) h = absurd h
+  inner_complete (plain (inner.Pointer _ _)) h = absurd h
+  inner_complete (plain (inner.ValuePointer _ _ _)) h = absurd h
+  inner_complete (plain (inner.Array _ _ _)) h = absurd h
+  inner_complete (plain (inner.Struct _ _)) h = absurd h
+  inner_complete (plain (inner.Image _ _ _)) h = absurd h
+  inner_complete (plain (inner.Sampler _)) h = absurd h
+  inner_complete (plain (inner.AccelerationStructure _)) h = absurd h
+  inner_complete (plain (inner.RayQuery _)) h = absurd h
+  inner_complete (plain (inner.BindingArray _ _)) h = absurd h

@@ -1,6 +1,6 @@
 -- A test of statements, made wherever one stands in a body.
-use Rattle.std.specs.Prelude.{ℕ, Bool, true, false, ◌&&◌}
-use Rattle.ir_items.specs.Plain.{PlainStatement, emit, block, choice, switch, loop, break, continue, return, kill, call, PlainBlock, stop, next, PlainCases, no_case, case}
+use Rattle.std.specs.Prelude.{Bool, true, false, ◌&&◌}
+use Rattle.ir_items.specs.Plain.{PlainStatement, emit, block, choice, switch, loop, break, continue, return, kill, act, call, PlainBlock, stop, next, PlainCases, no_case, case}
 use Rattle.ir_items.specs.Shapes.{Part, inner, accepting, rejecting, case_at, turn, continuing}
 use Rattle.ir_items.specs.Places.{Place, here, later, inside, condition}
 
@@ -46,6 +46,7 @@ abbrev mutual
   in_statement ok c continue = ok c continue
   in_statement ok c (return value) = ok c (return value)
   in_statement ok c kill = ok c kill
+  in_statement ok c (act a) = ok c (act a)
   in_statement ok c (call function arguments result) = ok c (call function arguments result)
 
   pub in_cases : (PlainControl → PlainStatement → Bool) → PlainControl → PlainCases → Bool

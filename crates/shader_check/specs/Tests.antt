@@ -1,15 +1,14 @@
 -- Tests of a module's items, found step by step; the judgement says what they mean.
-use Rattle.std.specs.Prelude.{ℕ, List, [], ◌∷◌, length, Bool, true, false, ◌&&◌, ◌||◌, not, ◌==◌, nat_lt, nat_le, Option, Some, None, is_none, option_map, option_and_then, slice_get, if◌then◌else◌}
+use Rattle.std.specs.Prelude.{ℕ, List, [], ◌∷◌, length, Bool, true, false, ◌&&◌, ◌||◌, not, ◌==◌, nat_lt, nat_le, Option, Some, None, is_none, option_map, slice_get, if◌then◌else◌}
 use Rattle.std.specs.List.{list_all}
-use Rattle.ir_kinds.specs.declared.scalars.Scalar.{Scalar}
 use Rattle.ir_kinds.specs.declared.scalars.ScalarKind.{ScalarKind}
 use Rattle.ir_kinds.specs.declared.scalars.ScalarKind.TheVariants.{Sint, Uint, Float, Bool as Boolean, AbstractInt, AbstractFloat}
 use Rattle.ir_kinds.specs.declared.values.SwitchValue.{SwitchValue}
 use Rattle.ir_kinds.specs.declared.values.SwitchValue.TheVariants.{I32, U32, Default}
-use Rattle.ir_types.specs.Plain.{PlainType}
-use Rattle.ir_items.specs.Plain.{PlainStatement, emit, block, choice, switch, loop, break, continue, return, kill, call, PlainBlock, PlainCases, no_case, case, PlainFunction, PlainModule}
+use Rattle.ir_types.specs.Plain.{PlainInner, plain}
+use Rattle.ir_items.specs.declared.functions.FunctionResult.{FunctionResult}
+use Rattle.ir_items.specs.Plain.{PlainStatement, emit, block, choice, switch, loop, break, continue, return, kill, act, call, PlainBlock, PlainCases, no_case, case, PlainFunction, PlainModule}
 use Rattle.ir_items.specs.Shapes.{Exit, breaks, continues, returns, kills, exit_of, shape_of}
-use Rattle.ir_types.specs.declared.types.TypeInner.{TypeInner}
 use Rattle.ir_types.specs.declared.types.TypeInner.TheVariants as inner
 use Rattle.judgement.specs.Functions.{scalar_at, answer_of, argument_count, falls_at_end, body_of}
 use Rattle.ir_kinds.specs.contracts.values.SwitchValuePartialEq.TheImpl as value
@@ -41,12 +40,13 @@ statement_in_order n k break = true
 statement_in_order n k continue = true
 statement_in_order n k (return value) = is_below k value
 statement_in_order n k kill = true
+statement_in_order n k (act a) = true
 statement_in_order n k (call callee arguments result) = nat_lt callee n && are_below k arguments && is_below k result
 
 -- function i of a module with so many types
 abbrev pub function_in_order : ℕ → ℕ → PlainFunction → Bool
 function_in_order types i f =
-    is_below types f.result && everywhere (λ _ s. statement_in_order i (length f.expressions) s) control_of_body f.body
+    is_below types (option_map (λ (r : FunctionResult). r.ty) f.result) && everywhere (λ _ s. statement_in_order i (length f.expressions) s) control_of_body f.body
 
 -- ---- types
 
@@ -68,8 +68,9 @@ is_scalar_ok w Float width = is_width_ok w.float16 w.float64 width
 is_scalar_ok w AbstractInt width = false
 is_scalar_ok w AbstractFloat width = false
 
-abbrev pub is_inner_ok : Widths → TypeInner → Bool
-is_inner_ok w (inner.Scalar s) = is_scalar_ok w s.kind s.width
+abbrev pub is_inner_ok : Widths → PlainInner → Bool
+is_inner_ok w (plain (inner.Scalar s)) = is_scalar_ok w s.kind s.width
+is_inner_ok w _ = false
 
 -- ---- functions
 
@@ -122,13 +123,9 @@ abbrev pub switch_ok : PlainFunction → ℕ → PlainCases → Bool
 switch_ok f selector cases =
     some_passes (λ s. (is_sint s.kind || is_uint s.kind) && values_fit s.kind cases && values_differ cases && has_value Default cases && not (falls_at_end false cases)) (scalar_at f selector)
 
--- what is made of this scalar alone
-abbrev pub is_of_scalar : Scalar → TypeInner → Bool
-is_of_scalar s (inner.Scalar t) = scalar.ghosts.eq s t
-
 abbrev pub return_ok : PlainModule → PlainFunction → Option ℕ → Bool
 return_ok m f None = is_none f.result
-return_ok m f (Some e) = some_passes (λ s. some_passes (is_of_scalar s) (answer_of m f)) (scalar_at f e)
+return_ok m f (Some e) = some_passes (λ s. some_passes (scalar.ghosts.eq s) (answer_of m f)) (scalar_at f e)
 
 abbrev pub call_result_ok : PlainModule → ℕ → Option ℕ → Bool
 call_result_ok m callee None = if_some (λ f. is_none f.result) (slice_get m.functions callee)
@@ -144,6 +141,7 @@ statement_ok m f break = true
 statement_ok m f continue = true
 statement_ok m f (return value) = return_ok m f value
 statement_ok m f kill = true
+statement_ok m f (act a) = false
 statement_ok m f (call callee arguments result) = call_result_ok m callee result
 
 abbrev pub may_leave_by : PlainControl → Exit → Bool

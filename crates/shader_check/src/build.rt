@@ -1,15 +1,17 @@
 // The module that a document writes.
 ghost use Rattle.std.specs.Prelude.{◌≡◌, map, IfOk};
 ghost use Rattle.ir_types.specs.Plain.{type_view};
-ghost use Rattle.ir_items.specs.View.{function_view as function_plain, values_of, module_view};
-ghost use Rattle.document_reader.specs.Form.{AreDistinct};
+ghost use Rattle.ir_items.specs.View.{block_view, function_view as function_plain, values_of, module_view};
+ghost use Rattle.document_reader.specs.Form.{AreDistinct, plain_function, thin_module};
+ghost use Rattle.ir_expressions.specs.Plain.{expression_view};
 ghost use Rattle.document_reader.specs.View.{function_view, document_view};
 
 use document_reader::{Document, FunctionItem};
+use indexmap::IndexMap;
 use ir_arena::arena::Arena;
 use ir_arena::span::Span;
 use ir_arena::unique_arena::UniqueArena;
-use ir_items::{Expression, Function, IrType, Module, key};
+use ir_items::{Block, Expression, Function, FunctionResult, IrType, Module, SpecialTypes, key};
 use std::alloc::{AllocError, Global};
 
 fn build_types(
@@ -30,13 +32,60 @@ fn build_expressions(
     alloc: Global,
     expressions: &[Expression],
 ) -> Result<Arena<Expression, key::Expression>, AllocError>
-    ensures { IfOk result (λ arena. values_of arena ≡ expressions.now) }
+    ensures { IfOk result (λ arena. map expression_view (values_of arena) ≡ map expression_view expressions.now) }
 {
     let mut arena = Arena::new(alloc);
     for item in expressions {
-        arena.append(*item, Span::UNDEFINED)?;
+        arena.append(item.clone(alloc)?, Span::UNDEFINED)?;
     }
     Ok(arena)
+}
+
+// A function with a result, expressions and a body alone.
+fn function_of(
+    alloc: Global,
+    answer: Option<FunctionResult>,
+    expressions: Arena<Expression, key::Expression>,
+    body: Block,
+) -> Function
+    ensures { function_plain result ≡ plain_function answer (map expression_view (values_of expressions)) (block_view body) }
+{
+    Function {
+        name: None,
+        arguments: Vec::new(alloc),
+        result: answer,
+        local_variables: Arena::new(alloc),
+        expressions,
+        body,
+        diagnostic_filter_leaf: None,
+    }
+}
+
+// A module with types and functions alone.
+fn module_of(
+    alloc: Global,
+    types: UniqueArena<IrType, key::IrType>,
+    functions: Arena<Function, key::Function>,
+) -> Module
+    ensures { module_view result ≡ thin_module (map type_view (values_of types)) (map function_plain (values_of functions)) }
+{
+    Module {
+        types,
+        special_types: SpecialTypes {
+            ray_desc: None,
+            ray_intersection: None,
+            ray_vertex_return: None,
+            predeclared_types: IndexMap::new(alloc),
+        },
+        constants: Arena::new(alloc),
+        overrides: Arena::new(alloc),
+        global_variables: Arena::new(alloc),
+        global_expressions: Arena::new(alloc),
+        functions,
+        entry_points: Vec::new(alloc),
+        diagnostic_filters: Arena::new(alloc),
+        diagnostic_filter_leaf: None,
+    }
 }
 
 fn build_functions(
@@ -47,11 +96,12 @@ fn build_functions(
 {
     let mut arena = Arena::new(alloc);
     for item in functions {
-        let function = Function {
-            result: item.result,
-            expressions: build_expressions(alloc, &item.expressions)?,
-            body: item.body.clone(alloc)?,
-        };
+        let function = function_of(
+            alloc,
+            item.result,
+            build_expressions(alloc, &item.expressions)?,
+            item.body.clone(alloc)?,
+        );
         arena.append(function, Span::UNDEFINED)?;
     }
     Ok(arena)
@@ -70,11 +120,8 @@ fn move_functions(
             expressions,
             body,
         } = item;
-        let function = Function {
-            result: answer,
-            expressions: build_expressions(alloc, &expressions)?,
-            body,
-        };
+        let expressions = build_expressions(alloc, &expressions)?;
+        let function = function_of(alloc, answer, expressions, body);
         arena.append(function, Span::UNDEFINED)?;
     }
     Ok(arena)
@@ -86,10 +133,9 @@ pub fn build_module(alloc: Global, document: &Document) -> Result<Module, AllocE
     requires { AreDistinct (document_view document.now).content.types }
     ensures { IfOk result (λ m. module_view m ≡ (document_view document.now).content) }
 {
-    Ok(Module {
-        types: build_types(alloc, &document.types)?,
-        functions: build_functions(alloc, &document.functions)?,
-    })
+    let types = build_types(alloc, &document.types)?;
+    let functions = build_functions(alloc, &document.functions)?;
+    Ok(module_of(alloc, types, functions))
 }
 
 /// The module whose arenas are these lists, index for index, which takes the functions' bodies as they are.
@@ -100,10 +146,9 @@ pub fn into_module(
 ) -> Result<Module, AllocError>
     requires { AreDistinct (map type_view types.now.items) }
     ensures { IfOk result (λ m. module_view m
-        ≡ record { types = map type_view types.now.items; functions = map function_view functions.items }) }
+        ≡ thin_module (map type_view types.now.items) (map function_view functions.items)) }
 {
-    Ok(Module {
-        types: build_types(alloc, types)?,
-        functions: move_functions(alloc, functions)?,
-    })
+    let types = build_types(alloc, types)?;
+    let functions = move_functions(alloc, functions)?;
+    Ok(module_of(alloc, types, functions))
 }

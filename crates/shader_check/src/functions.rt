@@ -1,11 +1,13 @@
 // The step that tests functions.
-ghost use Rattle.std.specs.Prelude.{◌≡◌, ◌||◌, false, map, option_map, slice_get, IfOk};
+ghost use Rattle.std.specs.Prelude.{◌≡◌, ◌||◌, false, map, option_map, option_and_then, slice_get, IfOk};
+ghost use Rattle.ir_types.specs.Plain.{inner_view};
+ghost use Rattle.ir_expressions.specs.Plain.{expression_view};
 ghost use Rattle.ir_arena.specs.Handles.{handles_from};
 ghost use Rattle.ir_items.specs.View.{block_view, case_view, cases_of, function_view, module_view};
-ghost use Rattle.judgement.specs.Functions.{scalar_at, answer_of, expression_scalar, falls_at_end};
+ghost use Rattle.judgement.specs.Functions.{scalar_at, answer_of, expression_scalar, inner_scalar, falls_at_end};
 ghost use Rattle.judgement.specs.Handles.{HandlesOK};
 ghost use Rattle.shader_check.specs.Values.{value_key};
-ghost use Rattle.shader_check.specs.Tests.{first_failing, is_sint, is_uint, is_condition, fits_kind, values_fit, has_value, values_differ, switch_ok, is_of_scalar, return_ok, call_result_ok, body_ok, function_ok};
+ghost use Rattle.shader_check.specs.Tests.{first_failing, is_sint, is_uint, is_condition, fits_kind, values_fit, has_value, values_differ, switch_ok, return_ok, call_result_ok, body_ok, function_ok};
 
 use crate::control::Control;
 use crate::walk::{StatementTest, everywhere};
@@ -19,20 +21,22 @@ use std::collections::BTreeSet;
 
 const SWITCH_DEFAULT: SwitchValue = SwitchValue::Default;
 
-fn expression_scalar(expression: Expression) -> Scalar
-    ensures { result ≡ expression_scalar expression }
+fn expression_scalar(expression: &Expression) -> Option<Scalar>
+    ensures { result ≡ expression_scalar (expression_view expression.now) }
 {
     match expression {
-        Expression::Literal(literal) => literal.scalar(),
+        Expression::Literal(literal) => Some(literal.scalar()),
+        _ => None,
     }
 }
 
-// The scalar type of an expression, if it is there.
+// The scalar type of an expression, if it is there and has one.
+#[tactic(auto, using(crate::proofs::Entries::entries))]
 fn scalar_at(function: &Function, expression: Handle<key::Expression>) -> Option<Scalar>
     ensures { result ≡ scalar_at (function_view function.now) expression }
 {
     match function.expressions.try_get(expression) {
-        Ok(found) => Some(expression_scalar(*found)),
+        Ok(found) => expression_scalar(found),
         Err(_) => None,
     }
 }
@@ -150,31 +154,32 @@ fn function_at(module: &Module, handle: Handle<key::Function>) -> Option<&Functi
     }
 }
 
-// What the type at a handle is made of, if it is there.
+// The scalar that something is made of, if it is a scalar.
+fn inner_scalar(inner: &TypeInner) -> Option<Scalar>
+    ensures { result ≡ inner_scalar (inner_view inner.now) }
+{
+    match *inner {
+        TypeInner::Scalar(scalar) => Some(scalar),
+        _ => None,
+    }
+}
+
+// The scalar that the type at a handle is, if it is there and is one.
 #[tactic(auto, using(crate::proofs::Entries::entries))]
-fn inner_at(module: &Module, handle: Handle<key::IrType>) -> Option<TypeInner>
-    ensures { result ≡ option_map (λ t. t.inner) (slice_get (module_view «module».now).types handle) }
+fn scalar_of_type(module: &Module, handle: Handle<key::IrType>) -> Option<Scalar>
+    ensures { result ≡ option_and_then (λ t. inner_scalar t.inner) (slice_get (module_view «module».now).types handle) }
 {
     match module.types.get_handle(handle) {
-        Ok(found) => Some(found.inner),
+        Ok(found) => inner_scalar(&found.inner),
         Err(_) => None,
     }
 }
 
-// What the function's result is made of, if it has one.
-fn answer(module: &Module, function: &Function) -> Option<TypeInner>
+// The scalar that the function answers, if it answers one.
+fn answer(module: &Module, function: &Function) -> Option<Scalar>
     ensures { result ≡ answer_of (module_view «module».now) (function_view function.now) }
 {
-    inner_at(module, function.result?.ty)
-}
-
-// Whether something is made of this scalar alone.
-fn is_of_scalar(scalar: Scalar, inner: TypeInner) -> bool
-    ensures { result ≡ is_of_scalar scalar inner }
-{
-    match inner {
-        TypeInner::Scalar(declared) => scalar == declared,
-    }
+    scalar_of_type(module, function.result?.ty)
 }
 
 fn is_return_ok(
@@ -191,7 +196,7 @@ fn is_return_ok(
         return false;
     };
     match answer(module, function) {
-        Some(inner) => is_of_scalar(scalar, inner),
+        Some(declared) => scalar == declared,
         None => false,
     }
 }
@@ -236,18 +241,10 @@ impl StatementTest for ArityTest<'_> {
                 arguments,
                 ..
             } => match function_at(self.module, *function) {
-                Some(_) => arguments.is_empty(),
+                Some(found) => arguments.len() == found.arguments.len(),
                 None => true,
             },
-            Statement::Emit(_)
-            | Statement::Block(_)
-            | Statement::If { .. }
-            | Statement::Switch { .. }
-            | Statement::Loop { .. }
-            | Statement::Break
-            | Statement::Continue
-            | Statement::Return { .. }
-            | Statement::Kill => true,
+            _ => true,
         };
         Ok(is_ok)
     }
@@ -296,6 +293,7 @@ impl StatementTest for RuleTest<'_> {
                 ..
             } => is_call_result_ok(self.module, *function, *result),
             Statement::Block(_) | Statement::Kill => true,
+            _ => false,
         };
         Ok(is_ok)
     }

@@ -67,7 +67,7 @@ impl StatementTest for HandleTest {
                     && are_below(arguments, expressions)
                     && is_below(*result, expressions)
             }
-            Statement::Block(_) | Statement::Break | Statement::Continue | Statement::Kill => true,
+            _ => true,
         };
         Ok(is_in_order)
     }

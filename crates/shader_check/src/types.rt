@@ -2,7 +2,7 @@
 ghost use Rattle.std.specs.Prelude.{◌≡◌, ◌↔◌, IsTrue, Contains};
 ghost use Rattle.ir_arena.specs.Handles.{handles_from};
 ghost use Rattle.ir_kinds.specs.declared.settings.Capability.TheVariants.{ShaderInt16, ShaderInt64, ShaderFloat16, Float64};
-ghost use Rattle.ir_types.specs.Plain.{type_view};
+ghost use Rattle.ir_types.specs.Plain.{inner_view, type_view};
 ghost use Rattle.shader_check.specs.Tests.{first_failing, is_width_ok, is_scalar_ok, is_inner_ok};
 ghost use Rattle.shader_check.specs.Widths.{widths_view, AreWidthsOf};
 
@@ -58,16 +58,17 @@ fn is_scalar_ok(widths: Widths, scalar: Scalar) -> bool
 }
 
 fn is_inner_ok(widths: Widths, inner: &TypeInner) -> bool
-    ensures { result ≡ is_inner_ok (widths_view widths) inner.now }
+    ensures { result ≡ is_inner_ok (widths_view widths) (inner_view inner.now) }
 {
     match *inner {
         TypeInner::Scalar(scalar) => is_scalar_ok(widths, scalar),
+        _ => false,
     }
 }
 
 /// The least index of a type that the capabilities don't allow.
 pub fn first_failing_type(types: &UniqueArena<IrType, key::IrType>, widths: Widths) -> Option<usize>
-    ensures { result ≡ first_failing (λ _ t. is_inner_ok (widths_view widths) t.inner) (handles_from 0 types.now) }
+    ensures { result ≡ first_failing (λ _ t. is_inner_ok (widths_view widths) (inner_view t.inner)) (handles_from 0 types.now) }
 {
     for (handle, item) in types.iter() {
         if !is_inner_ok(widths, &item.inner) {

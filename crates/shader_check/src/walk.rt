@@ -72,12 +72,7 @@ fn in_statement<T: StatementTest>(
             }
             everywhere(alloc, tested, control.in_continuing(), continuing)
         }
-        Statement::Emit(_)
-        | Statement::Break
-        | Statement::Continue
-        | Statement::Return { .. }
-        | Statement::Kill
-        | Statement::Call { .. } => Ok(true),
+        _ => Ok(true),
     }
 }
 
