@@ -48,30 +48,30 @@ within-intersection a b c ca cb =
     bits-within c (bit_and a b)
     (λ i. let e = bit_at_and a b i in let p = within-bits c a ca i in let q = within-bits c b cb i in omega arith)
 
-pub all-storage_access : known_bits storage_access ≡ 2 ^ 3 - 1
+pub all_storage_access : known_bits storage_access ≡ 2 ^ 3 - 1
 unfolding known_from
-all-storage_access = refl
+all_storage_access = refl
 
-pub all-barrier : known_bits barrier ≡ 2 ^ 4 - 1
+pub all_barrier : known_bits barrier ≡ 2 ^ 4 - 1
 unfolding known_from
-all-barrier = refl
+all_barrier = refl
 
-pub all-memory_decorations : known_bits memory_decorations ≡ 2 ^ 2 - 1
+pub all_memory_decorations : known_bits memory_decorations ≡ 2 ^ 2 - 1
 unfolding known_from
-all-memory_decorations = refl
+all_memory_decorations = refl
 
-pub all-shader_stages : known_bits shader_stages ≡ 2 ^ 9 - 1
+pub all_shader_stages : known_bits shader_stages ≡ 2 ^ 9 - 1
 unfolding known_from
-all-shader_stages = refl
+all_shader_stages = refl
 
-pub all-subgroup_operations : known_bits subgroup_operations ≡ 2 ^ 7 - 1
+pub all_subgroup_operations : known_bits subgroup_operations ≡ 2 ^ 7 - 1
 unfolding known_from
-all-subgroup_operations = refl
+all_subgroup_operations = refl
 
-pub all-validation_flags : known_bits validation_flags ≡ 2 ^ 6 - 1
+pub all_validation_flags : known_bits validation_flags ≡ 2 ^ 6 - 1
 unfolding known_from
-all-validation_flags = refl
+all_validation_flags = refl
 
-pub all-capabilities : known_bits capabilities ≡ 2 ^ 38 - 1
+pub all_capabilities : known_bits capabilities ≡ 2 ^ 38 - 1
 unfolding known_from
-all-capabilities = refl
+all_capabilities = refl

@@ -170,6 +170,7 @@ impl Flags for Capabilities {
 
 impl Default for ValidationFlags {
     /// All six checks.
+    #[tactic(auto, using(crate::proofs::SetLaws::all_validation_flags))]
     fn default() -> Self
         ensures { result.0 ≡ 2 ^ 6 - 1 }
     {
