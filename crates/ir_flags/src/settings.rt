@@ -1,8 +1,6 @@
 //! Sets of checks and of capabilities.
 
-ghost use Rattle.std.specs.Prelude.{◌≡◌};
-ghost use Rattle.bitflags.specs.Sets.{known_bits};
-ghost use Rattle.ir_flags.specs.Words.{validation_flags};
+ghost use Rattle.std.specs.Prelude.{◌≡◌, ◌-◌, ◌^◌};
 
 use bitflags::{Flag, Flags, bitflag_items};
 
@@ -172,8 +170,9 @@ impl Flags for Capabilities {
 
 impl Default for ValidationFlags {
     /// All six checks.
+    #[tactic(auto, using(crate::proofs::SetLaws::all_validation_flags))]
     fn default() -> Self
-        ensures { result.0 ≡ known_bits validation_flags }
+        ensures { result.0 ≡ 2 ^ 6 - 1 }
     {
         <ValidationFlags as Flags>::all()
     }

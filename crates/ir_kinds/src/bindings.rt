@@ -160,7 +160,7 @@ pub struct ResourceBinding {
 
 impl Binding {
     /// The built-in value that is bound, or `None` for a location (naga's `Binding::to_built_in`).
-    pub fn to_built_in(&self) -> Option<BuiltIn>
+    pub const fn to_built_in(&self) -> Option<BuiltIn>
         ensures { result ≡ built_in_of self.now }
     {
         match *self {

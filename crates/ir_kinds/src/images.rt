@@ -183,7 +183,7 @@ impl From<StorageFormat> for Scalar {
 
 impl ImageClass {
     /// Whether a texel has several samples (naga's `ImageClass::is_multisampled`).
-    pub fn is_multisampled(self) -> bool
+    pub const fn is_multisampled(self) -> bool
         ensures { result ≡ is_multisampled self }
     {
         match self {
@@ -194,7 +194,7 @@ impl ImageClass {
 
     /// Whether the image has several levels of detail: a sampled image or one of depths, with one sample
     /// to a texel (naga's `ImageClass::is_mipmapped`).
-    pub fn is_mipmapped(self) -> bool
+    pub const fn is_mipmapped(self) -> bool
         ensures { result ≡ is_mipmapped self }
     {
         match self {
@@ -204,7 +204,7 @@ impl ImageClass {
     }
 
     /// Whether the image holds depths (naga's `ImageClass::is_depth`).
-    pub fn is_depth(self) -> bool
+    pub const fn is_depth(self) -> bool
         ensures { result ≡ is_depth self }
     {
         matches!(self, ImageClass::Depth { .. })

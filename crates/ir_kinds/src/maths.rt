@@ -168,7 +168,7 @@ pub enum MathFunction {
 
 impl MathFunction {
     /// How many arguments the function takes (naga's `MathFunction::argument_count`).
-    pub fn argument_count(&self) -> usize
+    pub const fn argument_count(&self) -> usize
         ensures { result ≡ argument_count self.now }
     {
         match *self {

@@ -158,7 +158,7 @@ impl Scalar {
 
 impl Scalar {
     /// A float of `width` bytes (naga's `Scalar::float`).
-    pub fn float(width: Bytes) -> Self
+    pub const fn float(width: Bytes) -> Self
         ensures { result ≡ floating width }
     {
         Scalar {
@@ -168,7 +168,7 @@ impl Scalar {
     }
 
     /// Whether values are WGSL's abstract numbers (naga's `Scalar::is_abstract`).
-    pub fn is_abstract(self) -> bool
+    pub const fn is_abstract(self) -> bool
         ensures { IsTrue result
             ↔ ((self.kind ≡ ScalarKind.AbstractInt) ⊎ (self.kind ≡ ScalarKind.AbstractFloat)) }
     {
@@ -181,7 +181,7 @@ impl Scalar {
 
 impl ScalarKind {
     /// Whether values are numbers: all but truth values (naga's `ScalarKind::is_numeric`).
-    pub fn is_numeric(self) -> bool
+    pub const fn is_numeric(self) -> bool
         ensures { IsTrue result ↔ (self ≢ ScalarKind.Bool) }
     {
         match self {
@@ -234,7 +234,7 @@ impl SwizzleComponent {
     ];
 
     /// The component's place, counted from 0 (naga's `SwizzleComponent::index`).
-    pub fn index(&self) -> u32
+    pub const fn index(&self) -> u32
         ensures { result ≡ component_place self.now }
     {
         match *self {
@@ -246,7 +246,7 @@ impl SwizzleComponent {
     }
 
     /// The component at a place, the last one for 3 and more (naga's `SwizzleComponent::from_index`).
-    pub fn from_index(idx: u32) -> Self
+    pub const fn from_index(idx: u32) -> Self
         ensures { component_place result ≡ min idx 3 }
     {
         match idx {

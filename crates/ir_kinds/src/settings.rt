@@ -125,7 +125,7 @@ pub enum ShaderStage {
 
 impl ShaderStage {
     /// Whether the stage runs in workgroups: compute, task or mesh (naga's `ShaderStage::compute_like`).
-    pub fn compute_like(self) -> bool
+    pub const fn compute_like(self) -> bool
         ensures { IsTrue result
             ↔ ((self ≡ ShaderStage.Compute) ⊎ (self ≡ ShaderStage.Task) ⊎ (self ≡ ShaderStage.Mesh)) }
     {

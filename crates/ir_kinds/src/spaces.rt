@@ -53,7 +53,7 @@ impl AddressSpace {
 
     /// Whether a workgroup shares the memory: its own, or a task's payload (naga's
     /// `AddressSpace::is_workgroup_like`).
-    pub fn is_workgroup_like(self) -> bool
+    pub const fn is_workgroup_like(self) -> bool
         ensures { IsTrue result ↔ ((self ≡ AddressSpace.WorkGroup) ⊎ (self ≡ AddressSpace.TaskPayload)) }
     {
         matches!(self, AddressSpace::WorkGroup | AddressSpace::TaskPayload)

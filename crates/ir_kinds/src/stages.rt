@@ -38,7 +38,7 @@ pub enum MeshOutputTopology {
 
 impl MeshOutputTopology {
     /// The built-in by which a primitive names its vertices (naga's `MeshOutputTopology::to_builtin`).
-    pub fn to_builtin(self) -> BuiltIn
+    pub const fn to_builtin(self) -> BuiltIn
         ensures { result ≡ index_built_in self }
     {
         match self {

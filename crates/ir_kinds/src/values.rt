@@ -61,7 +61,7 @@ pub enum SwitchValue {
 impl Literal {
     /// The value 0 of a scalar type, for truth values `false`; `None` where no literal has the type
     /// (naga's `Literal::zero`).
-    pub fn zero(scalar: Scalar) -> Option<Self>
+    pub const fn zero(scalar: Scalar) -> Option<Self>
         ensures value { result ≡ option_map (λ u. u.as_zero) (units_of scalar) }
         ensures scalar { IfSome result (λ l. literal_scalar l ≡ scalar) }
     {
@@ -84,7 +84,7 @@ impl Literal {
 
     /// The value 1 of a scalar type, for truth values `true`; `None` where no literal has the type
     /// (naga's `Literal::one`).
-    pub fn one(scalar: Scalar) -> Option<Self>
+    pub const fn one(scalar: Scalar) -> Option<Self>
         ensures value { result ≡ option_map (λ u. u.as_one) (units_of scalar) }
         ensures scalar { IfSome result (λ l. literal_scalar l ≡ scalar) }
     {
@@ -107,7 +107,7 @@ impl Literal {
 
     /// The value -1 of a scalar type; `None` where no literal has the type, for unsigned integers and for
     /// truth values (naga's `Literal::minus_one`).
-    pub fn minus_one(scalar: Scalar) -> Option<Self>
+    pub const fn minus_one(scalar: Scalar) -> Option<Self>
         ensures value { result ≡ option_and_then (λ u. u.as_minus_one) (units_of scalar) }
         ensures scalar { IfSome result (λ l. literal_scalar l ≡ scalar) }
     {
@@ -125,7 +125,7 @@ impl Literal {
     }
 
     /// The scalar type (naga's `Literal::scalar`).
-    pub fn scalar(&self) -> Scalar
+    pub const fn scalar(&self) -> Scalar
         ensures { result ≡ literal_scalar self.now }
     {
         match *self {
@@ -145,14 +145,14 @@ impl Literal {
     }
 
     /// How many bytes a value of the type takes (naga's `Literal::width`).
-    pub fn width(&self) -> Bytes
+    pub const fn width(&self) -> Bytes
         ensures { result ≡ (literal_scalar self.now).width }
     {
         self.scalar().width
     }
 
     /// What the value counts or tells (naga's `Literal::scalar_kind`).
-    pub fn scalar_kind(&self) -> ScalarKind
+    pub const fn scalar_kind(&self) -> ScalarKind
         ensures { result ≡ (literal_scalar self.now).kind }
     {
         self.scalar().kind

@@ -1,0 +1,140 @@
+// Sets of words, through the calls of `Flags` and through operators.
+use crate::uses;
+use anyhow::Result;
+use bitflags::Flags;
+use ir_flags::{
+    Barrier, Capabilities, MemoryDecorations, ShaderStages, StorageAccess, SubgroupOperationSet,
+    ValidationFlags, laws,
+};
+
+// Of each set: how many words it has, and the bits of all of them.
+fn print_alls(rt: &HostRuntime) -> Result<()> {
+    println!(rt;
+        "access {} {}",
+        StorageAccess::flags().len(),
+        StorageAccess::all().bits()
+    )?;
+    println!(rt;
+        "barrier {} {}",
+        Barrier::flags().len(),
+        Barrier::all().bits()
+    )?;
+    println!(rt;
+        "decorations {} {}",
+        MemoryDecorations::flags().len(),
+        MemoryDecorations::all().bits()
+    )?;
+    println!(rt;
+        "stages {} {}",
+        ShaderStages::flags().len(),
+        ShaderStages::all().bits()
+    )?;
+    println!(rt;
+        "subgroups {} {}",
+        SubgroupOperationSet::flags().len(),
+        SubgroupOperationSet::all().bits()
+    )?;
+    println!(rt;
+        "flags {} {}",
+        ValidationFlags::flags().len(),
+        ValidationFlags::all().bits()
+    )?;
+    println!(rt;
+        "capabilities {} {}",
+        Capabilities::flags().len(),
+        Capabilities::all().bits()
+    )?;
+    Ok(())
+}
+
+fn print_constants(rt: &HostRuntime) -> Result<()> {
+    laws::compute_like();
+    laws::all_words();
+    laws::within(1, 3, 7);
+    println!(rt; "compute-like {}", ShaderStages::COMPUTE_LIKE.bits())?;
+    println!(rt; "default {}", ValidationFlags::default().bits())?;
+    println!(rt;
+        "volatile {}",
+        Capabilities::MEMORY_DECORATION_VOLATILE.bits()
+    )?;
+    println!(rt; "names {:?}", ValidationFlags::from_name("BLOCKS"))?;
+    println!(rt; "no name {:?}", ValidationFlags::from_name("blocks"))?;
+    println!(rt; "hex {:x}", Capabilities::MESH_SHADER.bits())?;
+    for flag in Barrier::SUB_GROUP | Barrier::STORAGE {
+        println!(rt; "barrier {}", flag.bits())?;
+    }
+    Ok(())
+}
+
+fn print_operations(rt: &HostRuntime) -> Result<()> {
+    let some = ShaderStages::VERTEX.union(ShaderStages::MESH);
+    let other = ShaderStages::MESH | ShaderStages::TASK;
+    println!(rt; "{some:?} {other:?}")?;
+    println!(rt; "union {}", uses::either(some, other).bits())?;
+    println!(rt;
+        "intersection {} {}",
+        uses::both(some, other).bits(),
+        (some & other).bits()
+    )?;
+    println!(rt;
+        "difference {} {}",
+        uses::only_left(some, other).bits(),
+        (some - other).bits()
+    )?;
+    println!(rt;
+        "complement {} {}",
+        some.complement().bits(),
+        (!some).bits()
+    )?;
+    println!(rt;
+        "symmetric {} {}",
+        some.symmetric_difference(other).bits(),
+        (some ^ other).bits()
+    )?;
+    println!(rt;
+        "contains {} {}",
+        some.contains(other),
+        uses::is_within(ShaderStages::MESH, other)
+    )?;
+    println!(rt; "intersects {}", some.intersects(other))?;
+    println!(rt;
+        "empty {} {}",
+        uses::is_empty(some),
+        uses::is_empty(uses::nothing())
+    )?;
+    println!(rt; "all {} {}", some.is_all(), uses::every_check().is_all())?;
+    println!(rt;
+        "only fragment {} {}",
+        uses::is_fragment(some),
+        uses::is_fragment(ShaderStages::FRAGMENT)
+    )?;
+    Ok(())
+}
+
+fn print_changes(rt: &HostRuntime) -> Result<()> {
+    let mut checks = ValidationFlags::empty();
+    uses::add_blocks(&mut checks);
+    checks.set(ValidationFlags::CONSTANTS, true);
+    println!(rt; "checks {}", checks.bits())?;
+    uses::drop_blocks(&mut checks);
+    println!(rt; "checks {}", checks.bits())?;
+    checks.toggle(ValidationFlags::BINDINGS);
+    println!(rt; "checks {}", checks.bits())?;
+    println!(rt;
+        "bits {:?} {:?}",
+        uses::from_known(63),
+        uses::from_known(64)
+    )?;
+    println!(rt; "kept {}", ValidationFlags::from_bits_retain(64).bits())?;
+    println!(rt; "cut {}", ValidationFlags::from_bits_truncate(66).bits())?;
+    println!(rt; "mesh {}", uses::can_mesh(Capabilities::MESH_SHADER))?;
+    println!(rt; "mesh {}", uses::can_mesh(Capabilities::all()))?;
+    Ok(())
+}
+
+pub fn run(rt: &HostRuntime) -> Result<()> {
+    print_alls(rt)?;
+    print_constants(rt)?;
+    print_operations(rt)?;
+    print_changes(rt)
+}
