@@ -138,6 +138,7 @@ impl Block {
     }
 
     /// Adds a statement at the end, with its span. The error is want of memory, and leaves the block as it was.
+    #[tactic(auto, using(crate::proofs::SpanLaws::in_step_behind))]
     pub fn push(&mut self, statement: Statement, span: Span) -> Result<(), AllocError>
         ensures statements { OnOk result (statements_of self.new ≡ statements_of self.old ++ statement ∷ []) }
         ensures spans { OnOk result (spans_of self.new ≡ spans_of self.old ++ span ∷ []) }
