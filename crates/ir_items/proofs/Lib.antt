@@ -3,3 +3,4 @@ pub mod TerminatorLemmas
 pub mod TailLaws
 pub mod SpanLemmas
 pub mod SpanLaws
+pub mod SpanIterLemmas

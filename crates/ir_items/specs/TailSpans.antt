@@ -1,9 +1,9 @@
 -- The spans of the body completed with returns.
-use Rattle.std.specs.Prelude.{◌≡◌, ℕ, Bool, true, false, if◌then◌else◌, List, [], ◌∷◌, ◌++◌, take, Option, Some}
+use Rattle.std.specs.Prelude.{◌≡◌, Bool, true, false, if◌then◌else◌, List, [], ◌∷◌, ◌++◌, take, Some}
 use Rattle.ir_arena.specs.declared.span.Span.{Span}
 use Rattle.ir_arena.specs.Spans.{undefined_span}
 use Rattle.ir_items.specs.Plain.{PlainStatement, block, choice, switch, PlainBlock, stop, next, PlainCases, no_case, case}
-use Rattle.ir_items.specs.Shapes.{shape_of, inner, accepting, rejecting, case_at}
+use Rattle.ir_items.specs.Shapes.{shape_of, inner, accepting, rejecting}
 use Rattle.ir_items.specs.Places.{Place, StandsAt}
 use Rattle.ir_items.specs.Spans.{BlockSpans, spans, InnerSpans, no_statement, in_next, StatementSpans, no_block, in_block, in_sides, in_cases, CaseSpans, no_more, in_case, no_spans, own_spans, within_spans, first_within, behind_first, spans_in, span_at, InStep}
 use Rattle.ir_items.specs.View.{PlainCase}

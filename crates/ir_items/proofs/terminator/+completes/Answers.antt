@@ -1,9 +1,8 @@
-use Rattle.std.proofs.Common.{[], ◌∷◌, ◌++◌, map, sym, ap, ◌∙◌, rules}
+use Rattle.std.proofs.Common.{[], ◌∷◌, ◌++◌, map, sym, ap, ◌∙◌}
 use Rattle.std.proofs.lemmas.Result.{IfOk-weaker}
 use Rattle.std.proofs.lemmas.List.{take_all}
 use Rattle.ir_arena.specs.Spans.{undefined_span}
 use Rattle.ir_items.specs.View.{statement_view, statement_spans, statements_of, spans_of}
-use Rattle.ir_items.specs.declared.statements.Statement.{the_lemmas}
 use Rattle.ir_items.proofs.TerminatorLemmas.{block_view-statements, complete_stays, complete_adds, cases_same}
 use Rattle.ir_items.proofs.SpanLemmas.{block_spans-lists, spans_stay, spans_added, case_spans_same, ok_both}
 use Rattle.ir_items.proofs.terminator.+completes.Goals as goal
