@@ -2,3 +2,4 @@ pub mod TerminatorLemmas
 pub mod TailLaws
 pub mod SpanLemmas
 pub mod SpanLaws
+pub mod SpanIterLemmas

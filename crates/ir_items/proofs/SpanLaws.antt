@@ -1,9 +1,9 @@
 -- Spans by place: those of the completed body.
-use Rattle.std.proofs.Common.{◌+◌, ◌≡◌, ◌⊎◌, inl, inr, ℕ, zero, suc, Bool, true, false, List, [], ◌∷◌, ◌++◌, Option, Some, None, refl, sym, ap, subst, ◌∙◌, ◌↔◌, map, length}
+use Rattle.std.proofs.Common.{◌+◌, ◌-◌, min, take, drop, ◌≡◌, ◌⊎◌, inl, inr, ℕ, zero, suc, Bool, true, false, List, [], ◌∷◌, ◌++◌, Option, Some, None, refl, sym, ap, subst, ◌∙◌, ◌↔◌, map, length}
 use Rattle.std.proofs.Math.Nat.{suc_inj}
-use Rattle.std.proofs.lemmas.List.{length-append}
-use Rattle.std.specs.List.{All}
-use Rattle.std.proofs.lemmas.List.Elements.{All-nil, All-cons, All-head, All-tail, All-same, All-push}
+use Rattle.std.proofs.lemmas.List.{length-append, length-take, length-drop}
+use Rattle.std.specs.List.{All, remove_range, splice}
+use Rattle.std.proofs.lemmas.List.Elements.{All-nil, All-cons, All-head, All-tail, All-same, All-push, All-append, All-take, All-drop}
 use Rattle.ir_arena.specs.declared.span.Span.{Span}
 use Rattle.ir_arena.specs.Spans.{undefined_span}
 use Rattle.ir_items.specs.Plain.{PlainStatement, block, choice, switch, return, PlainBlock, stop, next, PlainCases, no_case, case}
@@ -246,3 +246,39 @@ in_step_behind old new s x statements own h first =
     let each = in_step_each old h in
     let count : IsInStep new = ap length own ∙ (length-append (spans_of old) (x ∷ []) ∙ (ap (λ n. n + 1) each.0 ∙ (sym (length-append (statements_of old) (s ∷ [])) ∙ sym (ap length statements)))) in
     in_step_throughout new count (All-same InStepWithin (statements_of new) _ statements (All-push InStepWithin (statements_of old) s each.1 first))
+
+-- two blocks that are in step, one behind the other
+pub in_step_joined : (old other new : Block) → statements_of new ≡ statements_of old ++ statements_of other → spans_of new ≡ spans_of old ++ spans_of other → AllInStep old → AllInStep other → AllInStep new
+in_step_joined old other new statements own h k =
+    let left = in_step_each old h in
+    let right = in_step_each other k in
+    let count : IsInStep new = ap length own ∙ (length-append (spans_of old) (spans_of other) ∙ ((λ i. left.0 i + right.0 i) ∙ (sym (length-append (statements_of old) (statements_of other)) ∙ sym (ap length statements)))) in
+    in_step_throughout new count (All-same InStepWithin (statements_of new) _ statements (All-append InStepWithin (statements_of old) (statements_of other) left.1 right.1))
+
+count_without : {X Y : Type 0} (xs : List X) (ys : List Y) (i j : ℕ) → length xs ≡ length ys → length (take i xs ++ drop j xs) ≡ length (take i ys ++ drop j ys)
+count_without xs ys i j e =
+    length-append (take i xs) (drop j xs) ∙ ((λ k. length-take i xs k + length-drop j xs k) ∙ (ap (λ n. min i n + (n - j)) e ∙ (sym (λ k. length-take i ys k + length-drop j ys k) ∙ sym (length-append (take i ys) (drop j ys)))))
+
+-- a block that is in step, without a run of it
+pub in_step_without : (old new : Block) (i j : ℕ) → statements_of new ≡ remove_range (statements_of old) i j → spans_of new ≡ remove_range (spans_of old) i j → AllInStep old → AllInStep new
+in_step_without old new i j statements own h =
+    let each = in_step_each old h in
+    let xs : List Statement = statements_of old in
+    let count : IsInStep new = ap length own ∙ (count_without (spans_of old) xs i j each.0 ∙ sym (ap length statements)) in
+    in_step_throughout new count (All-same InStepWithin (statements_of new) _ statements (All-append InStepWithin (take i xs) (drop j xs) (All-take InStepWithin i xs each.1) (All-drop InStepWithin j xs each.1)))
+
+length_spliced : {X : Type 0} (xs ys : List X) (i j : ℕ) → length (splice xs i j ys) ≡ min i (length xs) + (length ys + (length xs - j))
+length_spliced xs ys i j =
+    length-append (take i xs) (ys ++ drop j xs) ∙ (λ k. length-take i xs k + (length-append ys (drop j xs) ∙ ap (λ n. length ys + n) (length-drop j xs)) k)
+
+-- a block that is in step, with another in the place of a run of it
+pub in_step_spliced : (old other new : Block) (i j : ℕ) → statements_of new ≡ splice (statements_of old) i j (statements_of other) → spans_of new ≡ splice (spans_of old) i j (spans_of other) → AllInStep old → AllInStep other → AllInStep new
+in_step_spliced old other new i j statements own h k =
+    let left = in_step_each old h in
+    let right = in_step_each other k in
+    let xs : List Statement = statements_of old in
+    let ys : List Statement = statements_of other in
+    let count : IsInStep new =
+    ap length own ∙ (length_spliced (spans_of old) (spans_of other) i j ∙ ((λ n. (min i (left.0 n)) + (right.0 n + (left.0 n - j))) ∙ (sym (length_spliced xs ys i j) ∙ sym (ap length statements)))) in
+    in_step_throughout new count (All-same InStepWithin (statements_of new) _ statements
+    (All-append InStepWithin (take i xs) (ys ++ drop j xs) (All-take InStepWithin i xs left.1) (All-append InStepWithin ys (drop j xs) right.1 (All-drop InStepWithin j xs left.1))))

@@ -2,12 +2,15 @@
 #![tactic(auto)]
 
 mod acts;
+mod blocks;
 mod entries;
 mod filters;
 mod functions;
 mod globals;
 pub mod laws;
 mod module;
+mod runs;
+mod span_iter;
 mod statements;
 mod terminator;
 
@@ -19,5 +22,6 @@ pub use globals::{Constant, GlobalVariable, Override};
 pub use ir_expressions::{CooperativeData, Expression, ImageQuery, SampleLevel};
 pub use ir_types::{ArraySize, IrType, StructMember, TypeInner, key};
 pub use module::{GlobalCtx, Module, SpecialTypes};
+pub use span_iter::{SpanIter, SpanIterMut};
 pub use statements::{Block, Statement, SwitchCase};
 pub use terminator::{complete, ensure_block_returns};

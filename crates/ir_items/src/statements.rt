@@ -1,6 +1,6 @@
 // Statements and the blocks that hold them.
-ghost use Rattle.std.specs.Prelude.{◌≡◌, ◌≤◌, ◌==◌, ◌++◌, ◌∷◌, [], length, map, IfOk, OnOk, OnErr};
-ghost use Rattle.ir_items.specs.View.{statement_view, block_view, case_view, statement_spans, block_spans, case_block_spans, statements_of, spans_of, room_for_statements, room_for_spans, IsInStep, AllInStep, InStepWithin, IsAct};
+ghost use Rattle.std.specs.Prelude.{◌≡◌, map, IfOk};
+ghost use Rattle.ir_items.specs.View.{statement_view, block_view, case_view, statement_spans, block_spans, case_block_spans, IsAct};
 ghost use Rattle.ir_items.specs.Spans.{no_block};
 
 use crate::acts::{AtomicFunction, GatherMode, RayPipelineFunction, RayQueryFunction};
@@ -185,73 +185,6 @@ pub enum Statement {
 }
 
 impl Block {
-    /// A block without statements.
-    pub fn new(alloc: Global) -> Block
-        ensures statements { statements_of result ≡ [] }
-        ensures spans { spans_of result ≡ [] }
-    {
-        Block {
-            body: Vec::new(alloc),
-            span_info: Vec::new(alloc),
-        }
-    }
-
-    /// A block without statements, with room for `count` of them. The error is want of memory.
-    pub fn with_capacity(alloc: Global, count: usize) -> Result<Block, AllocError>
-        ensures statements { IfOk result (λ block. statements_of block ≡ []) }
-        ensures spans { IfOk result (λ block. spans_of block ≡ []) }
-        ensures room { IfOk result (λ block. count ≤ room_for_statements block) }
-        ensures span_room { IfOk result (λ block. count ≤ room_for_spans block) }
-    {
-        Ok(Block {
-            body: Vec::with_capacity(alloc, count)?,
-            span_info: Vec::with_capacity(alloc, count)?,
-        })
-    }
-
-    /// How many statements the block has, those inside them not counted.
-    pub fn len(&self) -> usize
-        ensures { result ≡ length (statements_of self.now) }
-    {
-        self.body.len()
-    }
-
-    /// Whether the block has no statement.
-    pub fn is_empty(&self) -> bool
-        ensures { result ≡ (length (statements_of self.now) == 0) }
-    {
-        self.body.is_empty()
-    }
-
-    /// The statements in order (naga's `Deref` of a block).
-    pub fn as_slice(&self) -> &[Statement]
-        ensures { result.now ≡ statements_of self.now }
-    {
-        &self.body
-    }
-
-    /// The statements' spans in order (the second half of naga's `span_iter`).
-    pub fn spans(&self) -> &[Span]
-        ensures { result.now ≡ spans_of self.now }
-    {
-        &self.span_info
-    }
-
-    /// Adds a statement at the end, with its span. The error is want of memory, and leaves the block as it was.
-    pub fn push(&mut self, statement: Statement, span: Span) -> Result<(), AllocError>
-        ensures statements { OnOk result (statements_of self.new ≡ statements_of self.old ++ statement ∷ []) }
-        ensures spans { OnOk result (spans_of self.new ≡ spans_of self.old ++ span ∷ []) }
-        ensures err_statements { OnErr result (statements_of self.new ≡ statements_of self.old) }
-        ensures err_spans { OnErr result (spans_of self.new ≡ spans_of self.old) }
-        ensures in_step { IsInStep self.old → IsInStep self.new }
-        ensures all_in_step { AllInStep self.old → InStepWithin statement → AllInStep self.new }
-    {
-        self.span_info.reserve(1)?;
-        self.body.push(statement)?;
-        self.span_info.push_reserved(span);
-        Ok(())
-    }
-
     /// An equal block in memory of its own. The error is want of memory.
     #[cycle(copies)]
     pub fn clone(&self, alloc: Global) -> Result<Block, AllocError>

@@ -1,0 +1,37 @@
+// Runs of a list's items, taken out and put in without memory.
+ghost use Rattle.std.specs.Prelude.{◌≡◌, ◌≤◌, ◌+◌, ◌++◌, [], vec_len, vec_capacity};
+ghost use Rattle.std.specs.List.{remove_range, splice};
+
+/// Moves the items of `other` to the end of `list`, which has room for them.
+pub fn move_behind<T>(list: &mut Vec<T>, other: &mut Vec<T>)
+    requires { vec_len list.old + vec_len other.old ≤ vec_capacity list.old }
+    ensures list { list.new.items ≡ list.old.items ++ other.old.items }
+    ensures other { other.new.items ≡ [] }
+{
+    let _moved = list.append(other);
+}
+
+/// Takes the items from `start` on, below `end`, out of the list, as far as it has them.
+pub fn cut<T: Drop>(list: &mut Vec<T>, start: usize, end: usize)
+    requires { start ≤ end }
+    ensures items { list.new.items ≡ remove_range list.old.items start end }
+    ensures room { vec_capacity list.new ≡ vec_capacity list.old }
+{
+    let count = list.len();
+    list.drain(start.min(count)..end.min(count));
+}
+
+/// Puts the items of `other` in the place of those from `start` on, below `end`, as far as the list has them. It has
+/// room for all.
+pub fn put_in<T: Drop>(list: &mut Vec<T>, start: usize, end: usize, other: Vec<T>)
+    requires order { start ≤ end }
+    requires room { vec_len list.old + vec_len other ≤ vec_capacity list.old }
+    ensures { list.new.items ≡ splice list.old.items start end other.items }
+{
+    let mut other = other;
+    let count = other.len();
+    cut(list, start, end);
+    let start = start.min(list.len());
+    move_behind(list, &mut other);
+    list[start..].rotate_right(count);
+}
