@@ -3,3 +3,4 @@ pub mod TailLaws
 pub mod SpanLemmas
 pub mod SpanLaws
 pub mod SpanIterLemmas
+pub mod CopyLemmas

@@ -1,5 +1,5 @@
 -- The plain data that the items of a module hold.
-use Rattle.std.specs.Prelude.{◌≡◌, ◌↔◌, ℕ, Bool, List, [], ◌∷◌, option_map, string_bytes, map, length, vec_capacity}
+use Rattle.std.specs.Prelude.{◌≡◌, ◌↔◌, ℕ, Bool, List, [], ◌∷◌, None, option_map, string_bytes, map, length, vec_capacity}
 use Rattle.std.specs.List.{All}
 use Rattle.ir_arena.specs.declared.span.Span.{Span}
 use Rattle.ir_kinds.specs.declared.values.SwitchValue.{SwitchValue}
@@ -176,6 +176,10 @@ function_view f = record {
   body = block_view f.body;
   leaf = f.diagnostic_filter_leaf;
 }
+
+-- a function that is given nothing, answers nothing and does nothing
+abbrev pub empty_function : PlainFunction
+empty_function = record { name = None; arguments = []; result = None; locals = []; expressions = []; body = stop; leaf = None }
 
 abbrev pub entry_view : EntryPoint → PlainEntry
 entry_view e = record {

@@ -1,8 +1,13 @@
 // Entry points.
+ghost use Rattle.std.specs.Prelude.{◌≡◌, IfOk};
+ghost use Rattle.ir_items.specs.Copies.{spanned_entry};
+
+use crate::copies::Copied;
 use crate::functions::Function;
 use ir_arena::handle::Handle;
 use ir_kinds::{EarlyDepthTest, MeshOutputTopology, ShaderStage};
 use ir_types::key;
+use std::alloc::{AllocError, Global};
 
 /// What a mesh shader gives (naga's `MeshStageInfo`).
 #[derive(Clone, Copy, PartialEq, Eq, Hash, Debug)]
@@ -42,4 +47,33 @@ pub struct EntryPoint {
     pub task_payload: Option<Handle<key::GlobalVariable>>,
     /// What it does.
     pub function: Function,
+}
+
+impl EntryPoint {
+    /// An equal entry point in memory of its own, with the same spans. The error is want of memory.
+    pub fn clone(&self, alloc: Global) -> Result<EntryPoint, AllocError>
+        ensures { IfOk result (λ copy. spanned_entry copy ≡ spanned_entry self.now) }
+    {
+        Ok(EntryPoint {
+            name: String::from_str(alloc, self.name.as_str())?,
+            stage: self.stage,
+            early_depth_test: self.early_depth_test,
+            workgroup_size: self.workgroup_size,
+            mesh_info: self.mesh_info,
+            task_payload: self.task_payload,
+            function: self.function.clone(alloc)?,
+        })
+    }
+}
+
+impl Copied for EntryPoint {
+    ghost use Rattle.ir_items.specs.Copies.{SpannedEntry, spanned_entry};
+
+    ghost View = { SpannedEntry };
+
+    ghost view = { spanned_entry };
+
+    fn copied(&self, alloc: Global) -> Result<EntryPoint, AllocError> {
+        self.clone(alloc)
+    }
 }

@@ -2,6 +2,7 @@
 ghost use Rattle.std.specs.Prelude.{◌≡◌, IfOk};
 ghost use Rattle.ir_items.specs.View.{rule_view, node_view};
 
+use crate::copies::Copied;
 use ir_arena::handle::Handle;
 use ir_kinds::{Severity, StandardFilterableTriggeringRule};
 use ir_types::key;
@@ -70,5 +71,18 @@ impl DiagnosticFilterNode {
             },
             parent: self.parent,
         })
+    }
+}
+
+impl Copied for DiagnosticFilterNode {
+    ghost use Rattle.ir_items.specs.Plain.{PlainNode};
+    ghost use Rattle.ir_items.specs.View.{node_view};
+
+    ghost View = { PlainNode };
+
+    ghost view = { node_view };
+
+    fn copied(&self, alloc: Global) -> Result<DiagnosticFilterNode, AllocError> {
+        self.clone(alloc)
     }
 }

@@ -1,7 +1,9 @@
 // Functions, and what they have.
 ghost use Rattle.std.specs.Prelude.{◌≡◌, IfOk};
-ghost use Rattle.ir_items.specs.View.{local_view, argument_view};
+ghost use Rattle.ir_items.specs.Copies.{spanned_function};
+ghost use Rattle.ir_items.specs.View.{local_view, argument_view, function_view, empty_function};
 
+use crate::copies::{Copied, copy_arena, copy_list};
 use crate::statements::Block;
 use ir_arena::arena::Arena;
 use ir_arena::handle::Handle;
@@ -83,5 +85,87 @@ impl FunctionArgument {
             ty: self.ty,
             binding: self.binding,
         })
+    }
+}
+
+impl Function {
+    /// A function that is given nothing, answers nothing and does nothing (naga's `Function::default`).
+    pub fn new(alloc: Global) -> Function
+        ensures { function_view result ≡ empty_function }
+    {
+        Function {
+            name: None,
+            arguments: Vec::new(alloc),
+            result: None,
+            local_variables: Arena::new(alloc),
+            expressions: Arena::new(alloc),
+            body: Block::new(alloc),
+            diagnostic_filter_leaf: None,
+        }
+    }
+
+    /// An equal function in memory of its own, with the same spans. The error is want of memory.
+    pub fn clone(&self, alloc: Global) -> Result<Function, AllocError>
+        ensures { IfOk result (λ copy. spanned_function copy ≡ spanned_function self.now) }
+    {
+        Ok(Function {
+            name: clone_name(alloc, &self.name)?,
+            arguments: copy_list(alloc, &self.arguments)?,
+            result: self.result,
+            local_variables: copy_arena(alloc, &self.local_variables)?,
+            expressions: copy_arena(alloc, &self.expressions)?,
+            body: self.body.clone(alloc)?,
+            diagnostic_filter_leaf: self.diagnostic_filter_leaf,
+        })
+    }
+}
+
+impl Copied for LocalVariable {
+    ghost use Rattle.ir_items.specs.Plain.{PlainLocal};
+    ghost use Rattle.ir_items.specs.View.{local_view};
+
+    ghost View = { PlainLocal };
+
+    ghost view = { local_view };
+
+    fn copied(&self, alloc: Global) -> Result<LocalVariable, AllocError> {
+        self.clone(alloc)
+    }
+}
+
+impl Copied for FunctionArgument {
+    ghost use Rattle.ir_items.specs.Plain.{PlainArgument};
+    ghost use Rattle.ir_items.specs.View.{argument_view};
+
+    ghost View = { PlainArgument };
+
+    ghost view = { argument_view };
+
+    fn copied(&self, alloc: Global) -> Result<FunctionArgument, AllocError> {
+        self.clone(alloc)
+    }
+}
+
+impl Copied for Expression {
+    ghost use Rattle.ir_expressions.specs.Plain.{PlainExpression, expression_view};
+
+    ghost View = { PlainExpression };
+
+    ghost view = { expression_view };
+
+    fn copied(&self, alloc: Global) -> Result<Expression, AllocError> {
+        self.clone(alloc)
+    }
+}
+
+impl Copied for Function {
+    ghost use Rattle.ir_items.specs.Copies.{SpannedFunction, spanned_function};
+
+    ghost View = { SpannedFunction };
+
+    ghost view = { spanned_function };
+
+    fn copied(&self, alloc: Global) -> Result<Function, AllocError> {
+        self.clone(alloc)
     }
 }

@@ -2,6 +2,7 @@
 ghost use Rattle.std.specs.Prelude.{◌≡◌, IfOk};
 ghost use Rattle.ir_items.specs.View.{constant_view, override_view, global_view};
 
+use crate::copies::Copied;
 use ir_arena::handle::Handle;
 use ir_flags::MemoryDecorations;
 use ir_kinds::{AddressSpace, ResourceBinding};
@@ -89,5 +90,44 @@ impl GlobalVariable {
             init: self.init,
             memory_decorations: self.memory_decorations,
         })
+    }
+}
+
+impl Copied for Constant {
+    ghost use Rattle.ir_items.specs.Plain.{PlainConstant};
+    ghost use Rattle.ir_items.specs.View.{constant_view};
+
+    ghost View = { PlainConstant };
+
+    ghost view = { constant_view };
+
+    fn copied(&self, alloc: Global) -> Result<Constant, AllocError> {
+        self.clone(alloc)
+    }
+}
+
+impl Copied for Override {
+    ghost use Rattle.ir_items.specs.Plain.{PlainOverride};
+    ghost use Rattle.ir_items.specs.View.{override_view};
+
+    ghost View = { PlainOverride };
+
+    ghost view = { override_view };
+
+    fn copied(&self, alloc: Global) -> Result<Override, AllocError> {
+        self.clone(alloc)
+    }
+}
+
+impl Copied for GlobalVariable {
+    ghost use Rattle.ir_items.specs.Plain.{PlainGlobal};
+    ghost use Rattle.ir_items.specs.View.{global_view};
+
+    ghost View = { PlainGlobal };
+
+    ghost view = { global_view };
+
+    fn copied(&self, alloc: Global) -> Result<GlobalVariable, AllocError> {
+        self.clone(alloc)
     }
 }

@@ -3,6 +3,7 @@
 
 mod acts;
 mod blocks;
+mod copies;
 mod entries;
 mod filters;
 mod functions;

@@ -17,12 +17,26 @@ pub use ir_arena::span::Span;
 pub use ir_arena::unique_arena::UniqueArena;
 pub use ir_faults::refusal::Refusal;
 pub use ir_faults::with_span::WithSpan;
+pub use ir_flags::{
+    Barrier, Capabilities, MemoryDecorations, ShaderStages, StorageAccess, SubgroupOperationSet,
+    ValidationFlags,
+};
 pub use ir_items::{
-    Block, Expression, Function, FunctionResult, IrType, Module, Statement, SwitchCase, TypeInner,
-    complete, ensure_block_returns, key,
+    ArraySize, AtomicFunction, Block, Constant, CooperativeData, DiagnosticFilter,
+    DiagnosticFilterNode, EntryPoint, Expression, FilterableTriggeringRule, Function,
+    FunctionArgument, FunctionResult, GatherMode, GlobalCtx, GlobalVariable, ImageQuery, IrType,
+    LocalVariable, MeshStageInfo, Module, Override, RayPipelineFunction, RayQueryFunction,
+    SampleLevel, SpanIter, SpanIterMut, SpecialTypes, Statement, StructMember, SwitchCase,
+    TypeInner, complete, ensure_block_returns, key,
 };
 pub use ir_kinds::{
-    Bytes, Capability, Flag, Literal, Scalar, ScalarKind, ShaderStage, SubgroupFlag, SwitchValue,
+    AddressSpace, BinaryOperator, Binding, BuiltIn, Bytes, Capability, CollectiveOperation,
+    ConservativeDepth, CooperativeRole, CooperativeSize, DerivativeAxis, DerivativeControl,
+    Direction, EarlyDepthTest, Flag, ImageClass, ImageDimension, Interpolation, Literal,
+    MathFunction, MeshOutputTopology, PredeclaredType, RelationalFunction, ResourceBinding,
+    Sampling, Scalar, ScalarKind, Severity, ShaderStage, StandardFilterableTriggeringRule,
+    StorageFormat, SubgroupFlag, SubgroupOperation, SwitchValue, SwizzleComponent, UnaryOperator,
+    VectorSize,
 };
 pub use ir_sets::handle_set::HandleSet;
 pub use ir_sets::handle_vec::HandleVec;

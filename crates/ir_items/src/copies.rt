@@ -1,0 +1,44 @@
+// Copies of arenas and lists, item by item.
+ghost use Rattle.std.specs.Prelude.{◌≡◌, map, IfOk};
+ghost use Rattle.ir_items.specs.Copies.{entry_of};
+
+use ir_arena::arena::Arena;
+use ir_arena::range::Range;
+use std::alloc::{AllocError, Global};
+
+/// What can be copied into memory of its own.
+pub trait Copied: Sized {
+    /// What it holds.
+    ghost View: { Type 0 };
+
+    ghost view: { Self → View };
+
+    /// One that holds the same. The error is want of memory.
+    fn copied(&self, alloc: Global) -> Result<Self, AllocError>
+        ensures { IfOk result (λ copy. view copy ≡ view self.now) };
+}
+
+/// An arena that holds the same, each value with its span. The error is want of memory.
+pub fn copy_arena<T: Copied + Drop, K>(
+    alloc: Global,
+    arena: &Arena<T, K>,
+) -> Result<Arena<T, K>, AllocError>
+    ensures { IfOk result (λ copy. map (entry_of T.view) copy ≡ map (entry_of T.view) arena.now) }
+{
+    let mut copy = Arena::new(alloc);
+    for entry in arena.get_range(Range::new(0, arena.len() as u32)) {
+        copy.append(entry.0.copied(alloc)?, entry.1)?;
+    }
+    Ok(copy)
+}
+
+/// A list that holds the same. The error is want of memory.
+pub fn copy_list<T: Copied + Drop>(alloc: Global, items: &[T]) -> Result<Vec<T>, AllocError>
+    ensures { IfOk result (λ copy. map T.view copy.items ≡ map T.view items.now) }
+{
+    let mut copy = Vec::with_capacity(alloc, items.len())?;
+    for item in items {
+        copy.push(item.copied(alloc)?)?;
+    }
+    Ok(copy)
+}
