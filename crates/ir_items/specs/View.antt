@@ -237,3 +237,21 @@ module_view m = record {
   functions = map function_view (values_of m.functions);
   entries = map entry_view m.entry_points.items;
 }
+
+abbrev pub no_special : PlainSpecial
+no_special = record { ray_desc = None; ray_intersection = None; ray_vertex_return = None; predeclared = [] }
+
+-- a module without items
+abbrev pub empty_module : PlainModule
+empty_module = record {
+  types = [];
+  special = no_special;
+  filters = [];
+  leaf = None;
+  constants = [];
+  overrides = [];
+  global_expressions = [];
+  globals = [];
+  functions = [];
+  entries = [];
+}

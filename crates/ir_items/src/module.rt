@@ -1,5 +1,6 @@
 // The module that holds everything.
-ghost use Rattle.std.specs.Prelude.{◌≡◌};
+ghost use Rattle.std.specs.Prelude.{◌≡◌, IfOk};
+ghost use Rattle.ir_items.specs.View.{special_view, no_special, module_view, empty_module};
 
 use crate::entries::EntryPoint;
 use crate::filters::DiagnosticFilterNode;
@@ -12,6 +13,7 @@ use ir_arena::unique_arena::UniqueArena;
 use ir_expressions::Expression;
 use ir_kinds::PredeclaredType;
 use ir_types::{IrType, key};
+use std::alloc::{AllocError, Global};
 
 /// Types that some expressions ask for by what they are (naga's `SpecialTypes`).
 #[derive(Drop)]
@@ -64,7 +66,51 @@ pub struct GlobalCtx<'a> {
     pub global_expressions: &'a Arena<Expression, key::Expression>,
 }
 
+impl SpecialTypes {
+    /// None of them (naga's `SpecialTypes::default`).
+    pub fn new(alloc: Global) -> SpecialTypes
+        ensures { special_view result ≡ no_special }
+    {
+        SpecialTypes {
+            ray_desc: None,
+            ray_intersection: None,
+            ray_vertex_return: None,
+            predeclared_types: IndexMap::new(alloc),
+        }
+    }
+
+    /// The same in memory of its own. The error is want of memory.
+    pub fn clone(&self, _alloc: Global) -> Result<SpecialTypes, AllocError>
+        ensures { IfOk result (λ copy. special_view copy ≡ special_view self.now) }
+    {
+        Ok(SpecialTypes {
+            ray_desc: self.ray_desc,
+            ray_intersection: self.ray_intersection,
+            ray_vertex_return: self.ray_vertex_return,
+            predeclared_types: self.predeclared_types.clone()?,
+        })
+    }
+}
+
 impl Module {
+    /// A module without items (naga's `Module::default`).
+    pub fn new(alloc: Global) -> Module
+        ensures { module_view result ≡ empty_module }
+    {
+        Module {
+            types: UniqueArena::new(alloc),
+            special_types: SpecialTypes::new(alloc),
+            constants: Arena::new(alloc),
+            overrides: Arena::new(alloc),
+            global_variables: Arena::new(alloc),
+            global_expressions: Arena::new(alloc),
+            functions: Arena::new(alloc),
+            entry_points: Vec::new(alloc),
+            diagnostic_filters: Arena::new(alloc),
+            diagnostic_filter_leaf: None,
+        }
+    }
+
     /// What its global expressions may name.
     pub fn to_ctx(&self) -> GlobalCtx<'_>
         ensures types { result.types.now ≡ self.now.types }
