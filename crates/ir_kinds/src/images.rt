@@ -155,28 +155,8 @@ impl From<StorageFormat> for Scalar {
             | StorageFormat::Rg32Sint
             | StorageFormat::Rgba16Sint
             | StorageFormat::Rgba32Sint => Scalar::I32,
-            StorageFormat::R8Unorm
-            | StorageFormat::R8Snorm
-            | StorageFormat::R16Float
-            | StorageFormat::Rg8Unorm
-            | StorageFormat::Rg8Snorm
-            | StorageFormat::R32Float
-            | StorageFormat::Rg16Float
-            | StorageFormat::Rgba8Unorm
-            | StorageFormat::Rgba8Snorm
-            | StorageFormat::Bgra8Unorm
-            | StorageFormat::Rgb10a2Unorm
-            | StorageFormat::Rg11b10Ufloat
-            | StorageFormat::Rg32Float
-            | StorageFormat::Rgba16Float
-            | StorageFormat::Rgba32Float
-            | StorageFormat::R16Unorm
-            | StorageFormat::R16Snorm
-            | StorageFormat::Rg16Unorm
-            | StorageFormat::Rg16Snorm
-            | StorageFormat::Rgba16Unorm
-            | StorageFormat::Rgba16Snorm => Scalar::F32,
             StorageFormat::R64Uint => Scalar::U64,
+            _ => Scalar::F32,
         }
     }
 }
