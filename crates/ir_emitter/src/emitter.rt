@@ -13,7 +13,7 @@ use std::marker::Model;
 
 /// Remembers how many expressions a function had, so that those that are appended can be emitted together (naga's
 /// `Emitter`). In a contract it is the count that it began at, or nothing where it doesn't run.
-#[derive(Debug)]
+#[derive(Debug, Drop)]
 pub struct Emitter {
     start_len: Option<usize>,
 }
