@@ -1,9 +1,10 @@
 // A writer with a mark that its failed calls leave.
-ghost use Rattle.std.specs.Prelude.{◌≡◌, ◌<◌, ◌≤◌, false, true, length, take, IfOk, OnOk, OnErr};
+ghost use Rattle.std.specs.Prelude.{◌≡◌, ◌<◌, ◌≤◌, false, true, length, take, Ok, IfOk, OnOk, OnErr};
 ghost use Rattle.std.specs.Io.{WritesAtMost};
 ghost use Rattle.std.specs.Io.KnownBytes.{Appends, Keeps, WriteAppends};
 
-use std::io::{self, Write};
+use crate::call::WriteCall;
+use std::io;
 
 /// A call of the writer failed, was interrupted, or took nothing, so that not all was written.
 #[derive(Clone, Copy, Debug, PartialEq, Eq)]
@@ -39,8 +40,9 @@ impl<W> Sink<W> {
     }
 }
 
-impl<W: Write> Sink<W> {
-    ghost use Rattle.ports.specs.Sink.{has_failed, writer_of, AppendsFront};
+impl<W: WriteCall> Sink<W> {
+    ghost use Rattle.ports.specs.Calls.{Call};
+    ghost use Rattle.ports.specs.Sink.{has_failed, writer_of, AppendsFront, TakesNothing, WritesAll, WritingFails};
 
     /// One call of the writer, as it is.
     // Never inlined, as `Source::read`: LLVM is known to lose a test for 0 that stands in one function with the call,
@@ -51,8 +53,10 @@ impl<W: Write> Sink<W> {
         ensures bytes { WriteAppends (W.contents (writer_of self.old))
             (W.contents (writer_of self.new)) result bytes.now }
         ensures kept { has_failed self.new ≡ has_failed self.old }
+        ensures call { W.writes (writer_of self.old) (writer_of self.new)
+            (record { answer = result; buffer = bytes.now }) }
     {
-        self.writer.write(bytes)
+        self.writer.write_once(bytes)
     }
 
     /// One call of the writer: how many bytes it took from the front of `bytes`, which is at least one. Otherwise the
@@ -65,6 +69,12 @@ impl<W: Write> Sink<W> {
         ensures err { OnErr result (Keeps (W.contents (writer_of self.old))
             (W.contents (writer_of self.new))) }
         ensures mark { OnErr result (has_failed self.new ≡ true) }
+
+        // Just one call was made.
+        ensures ok_call { IfOk result (λ n. W.writes (writer_of self.old) (writer_of self.new)
+            (record { answer = Ok n; buffer = bytes.now })) }
+        ensures err_call { OnErr result ((c : Call) × (c.buffer ≡ bytes.now) × TakesNothing c
+            × W.writes (writer_of self.old) (writer_of self.new) c) }
     {
         match self.call(bytes) {
             Ok(count) if count > 0 => Ok(count),
@@ -88,6 +98,12 @@ impl<W: Write> Sink<W> {
         ensures err { OnErr result (AppendsFront (W.contents (writer_of self.old))
             (W.contents (writer_of self.new)) bytes.now) }
         ensures mark { OnErr result (has_failed self.new ≡ true) }
+
+        // The calls that were made, whatever the writer is.
+        ensures ok_calls { OnOk result (WritesAll W.writes (writer_of self.old) (writer_of self.new)
+            bytes.now) }
+        ensures err_calls { OnErr result (WritingFails W.writes (writer_of self.old)
+            (writer_of self.new) bytes.now) }
     {
         let mut written = 0;
         while written < bytes.len() {

@@ -1,10 +1,12 @@
 // A reader with a mark that its failed calls leave.
-ghost use Rattle.std.specs.Prelude.{◌≡◌, ◌||◌, ◌<◌, ℕ, false, true, is_err, IfOk};
+ghost use Rattle.std.specs.Prelude.{◌≡◌, ◌↔◌, ◌||◌, ◌<◌, ℕ, false, true, is_err, IfOk, IsTrue};
 ghost use Rattle.std.specs.Io.{ReadsAtMost};
 ghost use Rattle.std.specs.Io.KnownBytes.{ReadConsumes};
+ghost use Rattle.std.specs.IoError.{error_kind};
 
+use crate::call::ReadCall;
 use std::alloc::{AllocError, Global};
-use std::io::{self, ErrorKind, Read};
+use std::io::{self, ErrorKind};
 
 /// How many times [`Source::take_all`] calls the reader at most.
 ///
@@ -31,6 +33,12 @@ impl From<AllocError> for TakeError {
     fn from(_e: AllocError) -> TakeError {
         TakeError::Memory
     }
+}
+
+fn is_interrupted(e: &io::Error) -> bool
+    ensures { IsTrue result ↔ (error_kind e.now ≡ ErrorKind.Interrupted) }
+{
+    e.kind() == ErrorKind::Interrupted
 }
 
 /// A reader with a mark: it is set by each call of the reader that fails, an interrupted one too, and never cleared.
@@ -62,8 +70,8 @@ impl<R> Source<R> {
     }
 }
 
-impl<R: Read> Source<R> {
-    ghost use Rattle.ports.specs.Source.{has_failed, reader_of, TakesAll, TakesFront};
+impl<R: ReadCall> Source<R> {
+    ghost use Rattle.ports.specs.Source.{has_failed, reader_of, TakesAll, TakesFront, ReadsAll, ReadingFails, ReadingStops};
 
     /// One call of the reader: how many bytes it put at the front of `buf`, or its own error, which sets the mark.
     ///
@@ -76,8 +84,12 @@ impl<R: Read> Source<R> {
         ensures bytes { ReadConsumes (R.remaining (reader_of self.old))
             (R.remaining (reader_of self.new)) result buf.new }
         ensures mark { has_failed self.new ≡ (has_failed self.old || is_err result) }
+
+        // Just one call was made, and this is its answer.
+        ensures call { R.reads (reader_of self.old) (reader_of self.new)
+            (record { answer = result; buffer = buf.new }) }
     {
-        let result = self.reader.read(buf);
+        let result = self.reader.read_once(buf);
         if result.is_err() {
             self.failed = true;
         }
@@ -105,6 +117,14 @@ impl<R: Read> Source<R> {
         ensures read { result ≡ Err TakeError.Read → TakesFront (R.remaining (reader_of self.old))
             (R.remaining (reader_of self.new)) 0 most }
 
+        // The calls that were made, whatever the reader is.
+        ensures ok_calls { IfOk result (λ given. ReadsAll R.reads (reader_of self.old)
+            (reader_of self.new) most MAX_CALLS given.items) }
+        ensures memory_calls { result ≡ Err TakeError.Memory → ReadingStops R.reads (reader_of self.old)
+            (reader_of self.new) most MAX_CALLS }
+        ensures read_calls { result ≡ Err TakeError.Read → ReadingFails R.reads (reader_of self.old)
+            (reader_of self.new) most MAX_CALLS }
+
         ensures mark { result ≡ Err TakeError.Read → has_failed self.new ≡ true }
         ensures kept { has_failed self.old ≡ true → has_failed self.new ≡ true }
     {
@@ -119,7 +139,7 @@ impl<R: Read> Source<R> {
                 Ok(0) => return Ok(taken),
                 Ok(count) => taken.extend_from_slice(&chunk[..count])?,
                 Err(e) => {
-                    if e.kind() != ErrorKind::Interrupted {
+                    if !is_interrupted(&e) {
                         return Err(TakeError::Read);
                     }
                 }

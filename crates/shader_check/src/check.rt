@@ -1,15 +1,15 @@
 // From a reader to a writer: the judgement over what the one gives, as the text that the other takes.
-ghost use Rattle.std.specs.Prelude.{◌≡◌, false, true, IfOk, Err};
+ghost use Rattle.std.specs.Prelude.{◌≡◌, false, true, List, IfOk, Err};
+ghost use Rattle.ports.specs.Calls.{Call};
 ghost use Rattle.ports.specs.Sink.{has_failed as sink_failed, writer_of};
-ghost use Rattle.ports.specs.Source.{has_failed as source_failed, reader_of};
-ghost use Rattle.shader_check.specs.Checks.{verdict_of, Answers, BreaksOff};
+ghost use Rattle.ports.specs.Source.{has_failed as source_failed, reader_of, Reading, ReadingFails};
+ghost use Rattle.shader_check.specs.Checks.{verdict_of, max_taken, max_calls, Answers, AnswersInCalls, BreaksOff, BreaksOffInCalls};
 ghost use Rattle.shader_check.specs.Outcome.{status_of, message_of};
 
 use crate::judge::judge;
 use judgement::Finding;
-use ports::{Sink, Source, TakeError, WriteFailed};
+use ports::{ReadCall, Sink, Source, TakeError, WriteCall, WriteFailed};
 use std::alloc::{AllocError, Global};
-use std::io::{Read, Write};
 
 // One byte more than a document may have.
 const MAX_TAKEN: usize = 16777217;
@@ -80,10 +80,12 @@ fn verdict_of(finding: Finding) -> Verdict
 
 /// Reads a document to its end, or 16777217 bytes of it, and writes the text of the judgement over it.
 ///
+/// Every [`std::io::Read`] is a [`ReadCall`], and every [`std::io::Write`] a [`WriteCall`].
+///
 /// It asks that no call of the reader or of the writer has failed before. [`Fault::Memory`] comes only from a
 /// refused allocation, [`Fault::Read`] where a call of the reader failed or 33554434 calls brought no end, and
 /// [`Fault::Write`] where a call of the writer failed, was interrupted or took nothing.
-pub fn check_document<R: Read, W: Write>(
+pub fn check_document<R: ReadCall, W: WriteCall>(
     alloc: Global,
     source: &mut Source<R>,
     sink: &mut Sink<W>,
@@ -104,6 +106,16 @@ pub fn check_document<R: Read, W: Write>(
     ensures write_front { result ≡ Err Fault.Write → BreaksOff (R.remaining (reader_of source.old))
         (R.remaining (reader_of source.new)) (W.contents (writer_of sink.old))
         (W.contents (writer_of sink.new)) }
+
+    // The same of the calls that were made, whatever the reader and the writer are.
+    ensures ok_calls { IfOk result (AnswersInCalls R.reads (reader_of source.old)
+        (reader_of source.new) W.writes (writer_of sink.old) (writer_of sink.new)) }
+    ensures read_calls { result ≡ Err Fault.Read → ReadingFails R.reads (reader_of source.old)
+        (reader_of source.new) max_taken max_calls }
+    ensures write_calls { result ≡ Err Fault.Write → BreaksOffInCalls R.reads (reader_of source.old)
+        (reader_of source.new) W.writes (writer_of sink.old) (writer_of sink.new) }
+    ensures reading { (calls : List Call) × Reading R.reads (reader_of source.old)
+        (reader_of source.new) max_taken max_calls calls }
 {
     let bytes = source.take_all(alloc, MAX_TAKEN)?;
     let finding = judge(alloc, &bytes)?;

@@ -15,4 +15,4 @@ pub use build::build_module;
 pub use check::{Fault, Verdict, check_document, outcome};
 pub use document_reader::{Document, FunctionItem, Settings, read_document};
 pub use judgement::{Finding, Step};
-pub use ports::{Sink, Source};
+pub use ports::{ReadCall, Sink, Source, WriteCall};

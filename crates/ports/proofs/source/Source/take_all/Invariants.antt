@@ -1,6 +1,7 @@
 use Rattle.std.proofs.Common.{◌≡◌, ◌≤◌, true, false, length}
 use Rattle.std.specs.Io.KnownBytes.{Consumes}
 use Rattle.ports.specs.Source.{has_failed, reader_of}
+use Rattle.ports.proofs.Runs.{ReadsOn}
 use Rattle.ports.proofs.source.Source.take_all.Given as goal
 
 -- `progress`: as long as no call failed, each call gave a byte
@@ -10,4 +11,5 @@ invariant-loop-call g l = record {
   within : length l.taken.items ≤ l.most;
   kept : has_failed l.initial.self ≡ true → has_failed l.self ≡ true;
   progress : has_failed l.self ≡ false → l.call ≤ length l.taken.items;
+  run : ReadsOn g.R.ReadCall.reads (reader_of l.initial.self) (reader_of l.self) l.most l.call l.taken.items;
 }
