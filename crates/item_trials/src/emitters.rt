@@ -1,4 +1,6 @@
 // Ranges of what was appended.
+ghost use Rattle.std.specs.Prelude.{◌≡◌, ◌+◌, OnOk, length};
+
 use ir_arena::arena::Arena;
 use ir_arena::range::Range;
 use ir_arena::span::Span;
@@ -8,7 +10,9 @@ use ir_kinds::Literal;
 use std::alloc::AllocError;
 use std::test::Fail;
 
-fn append(arena: &mut Arena<Expression, key::Expression>, span: Span) -> Result<(), AllocError> {
+fn append(arena: &mut Arena<Expression, key::Expression>, span: Span) -> Result<(), AllocError>
+    ensures { OnOk result (length arena.new ≡ length arena.old + 1) }
+{
     arena.append(Expression::Literal(Literal::U32(1)), span)?;
     Ok(())
 }

@@ -192,8 +192,8 @@ fn copies_equal_their_sources(rt: HostRuntime) -> Result<(), Fail> {
     assert_eq!(rt; block.len(), 23);
     let copy = block.clone(rt.alloc())?;
     assert!(rt; copy == block);
-    assert_eq!(rt; copy.spans()[0], Span::new(3, 4));
-    assert_eq!(rt; copy.spans()[22], Span::new(7, 8));
+    assert_eq!(rt; copy.spans().first().copied(), Some(Span::new(3, 4)));
+    assert_eq!(rt; copy.spans().last().copied(), Some(Span::new(7, 8)));
     Ok(())
 }
 

@@ -133,7 +133,9 @@ fn names_and_members_count(rt: HostRuntime) -> Result<(), Fail> {
     assert!(rt; !type_equality(&source, &renamed));
     let mut moved = source.clone(alloc)?;
     if let TypeInner::Struct { members, .. } = &mut moved.inner {
-        members[1].offset = 20;
+        if let Some(last) = members.last_mut() {
+            last.offset = 20;
+        }
     }
     assert!(rt; !type_equality(&source, &moved));
     Ok(())
