@@ -78,6 +78,29 @@ impl Call {
     }
 }
 
+/// What holds all memory but a little, which is more at each step.
+#[derive(Drop)]
+struct Little {
+    plug: Vec<u8>,
+    hog: Hog,
+}
+
+impl Little {
+    fn leave(alloc: Global, step: usize) -> Result<Little, Fail> {
+        let mut hog = Hog::new(alloc)?;
+        let spare: Vec<u8> = Vec::with_capacity(alloc, SPARE)?;
+        let filled = hog.fill(alloc);
+        drop(spare);
+        // what is left is the rest of a greater block, which the C library cuts up as it is asked to
+        let plug = Vec::with_capacity(alloc, SPARE.saturating_sub(step.saturating_mul(STEP)))?;
+        if filled {
+            Ok(Little { plug, hog })
+        } else {
+            Err(Fail::new("memory was left"))
+        }
+    }
+}
+
 /// Makes a call with more memory at each step. Answers how many steps were refused it.
 fn refusals(alloc: Global, call: Call) -> Result<usize, Fail> {
     let few = block(alloc, &FEW)?;
@@ -87,22 +110,9 @@ fn refusals(alloc: Global, call: Call) -> Result<usize, Fail> {
         let mut subject = few.clone(alloc)?;
         let mut other = many.clone(alloc)?;
         let taken = many.clone(alloc)?;
-        let mut hog = Hog::new(alloc)?;
-        let spare: Vec<u8> = Vec::with_capacity(alloc, SPARE)?;
-        let filled = hog.fill(alloc);
-        drop(spare);
-        // what is left is the rest of a greater block, which the C library cuts up as it is asked to
-        let plug: Result<Vec<u8>, AllocError> = Vec::with_capacity(
-            alloc,
-            SPARE.saturating_sub(step * STEP),
-        );
-        let plugged = plug.is_ok();
+        let little = Little::leave(alloc, step)?;
         let refused = call.is_refused(&mut subject, &mut other, taken);
-        drop(plug);
-        drop(hog);
-        if !filled || !plugged {
-            return Err(Fail::new("other memory was left than should be"));
-        }
+        drop(little);
         if !refused {
             if subject != due {
                 return Err(Fail::new("another block came"));
@@ -132,20 +142,36 @@ fn little_memory_for_calls(rt: HostRuntime) -> Result<(), Fail> {
 }
 
 #[test]
-fn no_memory_for_new_blocks(rt: HostRuntime) -> Result<(), Fail> {
-    let alloc = rt.alloc();
-    let mut body = Vec::new(alloc);
-    for place in MANY {
-        body.push(emit(place))?;
+fn little_memory_for_room(rt: HostRuntime) -> Result<(), Fail> {
+    for step in 0..MOST_STEPS {
+        let little = Little::leave(rt.alloc(), step)?;
+        let made = Block::with_capacity(rt.alloc(), 8);
+        drop(little);
+        if made.is_ok() {
+            assert!(rt; step > 10, "only {step} refusals");
+            return Ok(());
+        }
     }
-    let mut hog = Hog::new(alloc)?;
-    let filled = hog.fill(alloc);
-    let made = Block::with_capacity(alloc, 1000).is_err();
-    let taken = Block::from_vec(alloc, body).is_err();
-    let empty = Block::new(alloc);
-    drop(hog);
-    assert!(rt; filled && made && taken && empty.is_empty());
-    Ok(())
+    Err(Fail::new("no step left enough memory"))
+}
+
+#[test]
+fn little_memory_for_spans(rt: HostRuntime) -> Result<(), Fail> {
+    let alloc = rt.alloc();
+    for step in 0..MOST_STEPS {
+        let mut body = Vec::new(alloc);
+        for place in MANY {
+            body.push(emit(place))?;
+        }
+        let little = Little::leave(alloc, step)?;
+        let made = Block::from_vec(alloc, body);
+        drop(little);
+        if made.is_ok() {
+            assert!(rt; step > 1, "only {step} refusals");
+            return Ok(());
+        }
+    }
+    Err(Fail::new("no step left enough memory"))
 }
 
 #[test]
