@@ -3,6 +3,8 @@
 
 pub mod key;
 pub mod laws;
+mod literals;
 mod types;
 
+pub use literals::LiteralExt;
 pub use types::{ArraySize, IrType, StructMember, TypeInner, clone_name};

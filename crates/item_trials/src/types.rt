@@ -4,8 +4,9 @@ use ir_flags::StorageAccess;
 use ir_items::{ArraySize, IrType, StructMember, TypeInner};
 use ir_kinds::{
     AddressSpace, Binding, BuiltIn, CooperativeRole, CooperativeSize, ImageClass, ImageDimension,
-    Scalar, StorageFormat, VectorSize,
+    Literal, Scalar, StorageFormat, VectorSize,
 };
+use ir_types::LiteralExt;
 use ir_types::laws::type_equality;
 use std::alloc::{AllocError, Global};
 use std::test::Fail;
@@ -138,5 +139,12 @@ fn names_and_members_count(rt: HostRuntime) -> Result<(), Fail> {
         }
     }
     assert!(rt; !type_equality(&source, &moved));
+    Ok(())
+}
+
+#[test]
+fn literals_have_their_scalars(rt: HostRuntime) -> Result<(), Fail> {
+    assert!(rt; Literal::F16(15360).ty_inner() == TypeInner::Scalar(Scalar::F16));
+    assert!(rt; Literal::AbstractInt(-1).ty_inner() == TypeInner::Scalar(Scalar::ABSTRACT_INT));
     Ok(())
 }

@@ -1,3 +1,5 @@
 pub mod Arenas
 pub mod Plain
+pub mod Spans
 pub mod View
+pub mod Words

@@ -1,7 +1,10 @@
 //! What holds of handles, spans, types and completed bodies for all values.
 
 pub use ir_arena::laws::{handle_laws, subsume_laws};
+pub use ir_emitter::laws::ranges_partition;
+pub use ir_flags::laws::{all_words, compute_like, within};
 pub use ir_items::laws::{
     completed_by_tails, completed_once, in_step_by_statements, spans_completed_by_tails,
 };
+pub use ir_kinds::laws::{scalar_constants, vector_constants};
 pub use ir_types::laws::type_equality;

@@ -1,6 +1,7 @@
-//! The intermediate representation of a shader from one place: the kinds of `ir_kinds`, the arenas of `ir_arena`, the
-//! sets of handles of `ir_sets`, the errors with spans of `ir_faults` and the items of `ir_items`, and in `specs/` the
-//! words of their contracts.
+//! The intermediate representation of a shader from one place: the sets of words of `ir_flags`, the kinds of `ir_kinds`,
+//! the arenas of `ir_arena`, the sets of handles of `ir_sets`, the errors with spans of `ir_faults`, the types, the
+//! expressions and the items of `ir_types`, `ir_expressions` and `ir_items`, the emitter of `ir_emitter`, and in `specs/`
+//! the words of their contracts.
 //!
 //! Nothing is defined here. A crate that uses the representation as a whole names this crate alone.
 #![tactic(auto)]
@@ -17,6 +18,7 @@ pub use ir_arena::span::Span;
 pub use ir_arena::unique_arena::UniqueArena;
 pub use ir_faults::refusal::Refusal;
 pub use ir_faults::with_span::WithSpan;
+pub use ir_emitter::Emitter;
 pub use ir_flags::{
     Barrier, Capabilities, MemoryDecorations, ShaderStages, StorageAccess, SubgroupOperationSet,
     ValidationFlags,
@@ -40,3 +42,4 @@ pub use ir_kinds::{
 };
 pub use ir_sets::handle_set::HandleSet;
 pub use ir_sets::handle_vec::HandleVec;
+pub use ir_types::LiteralExt;

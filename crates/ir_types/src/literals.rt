@@ -1,0 +1,28 @@
+// The type of a literal.
+ghost use Rattle.std.specs.Prelude.{◌≡◌};
+ghost use Rattle.ir_kinds.specs.declared.scalars.Scalar.{Scalar};
+ghost use Rattle.ir_types.specs.Plain.{plain, inner_view};
+ghost use Rattle.ir_types.specs.declared.types.TypeInner.TheVariants as inner;
+
+use crate::types::TypeInner;
+use ir_kinds::Literal;
+
+/// What a literal has that needs types (calls of naga's `Literal`).
+pub trait LiteralExt: Sized {
+    /// Its scalar.
+    ghost scalar_of: { Self → Scalar };
+
+    /// What its type is made of: its scalar (naga's `Literal::ty_inner`).
+    fn ty_inner(self) -> TypeInner
+        ensures { inner_view result ≡ plain (inner.Scalar (scalar_of self)) };
+}
+
+impl LiteralExt for Literal {
+    ghost use Rattle.ir_kinds.specs.Values.{literal_scalar};
+
+    ghost scalar_of = { literal_scalar };
+
+    fn ty_inner(self) -> TypeInner {
+        TypeInner::Scalar(self.scalar())
+    }
+}
