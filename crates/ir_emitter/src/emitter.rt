@@ -72,6 +72,17 @@ impl Emitter {
     }
 }
 
+impl Default for Emitter {
+    ghost use Rattle.std.specs.Prelude.{◌≡◌, None};
+
+    ghost is_default = { λ e. e ≡ None };
+
+    /// One that doesn't run.
+    fn default() -> Self {
+        Emitter::new()
+    }
+}
+
 // The least span that holds those of the expressions from `start` on, below `end`.
 fn span_of(arena: &Arena<Expression, key::Expression>, start: u32, end: u32) -> Span
     requires ordered { start ≤ end }

@@ -59,16 +59,26 @@ impl FilterableTriggeringRule {
     }
 }
 
+impl DiagnosticFilter {
+    /// An equal filter in memory of its own. The error is want of memory.
+    pub fn clone(&self, alloc: Global) -> Result<DiagnosticFilter, AllocError>
+        ensures severity { IfOk result (λ copy. copy.new_severity ≡ self.now.new_severity) }
+        ensures rule { IfOk result (λ copy. rule_view copy.triggering_rule ≡ rule_view self.now.triggering_rule) }
+    {
+        Ok(DiagnosticFilter {
+            new_severity: self.new_severity,
+            triggering_rule: self.triggering_rule.clone(alloc)?,
+        })
+    }
+}
+
 impl DiagnosticFilterNode {
     /// An equal node in memory of its own. The error is want of memory.
     pub fn clone(&self, alloc: Global) -> Result<DiagnosticFilterNode, AllocError>
         ensures { IfOk result (λ copy. node_view copy ≡ node_view self.now) }
     {
         Ok(DiagnosticFilterNode {
-            inner: DiagnosticFilter {
-                new_severity: self.inner.new_severity,
-                triggering_rule: self.inner.triggering_rule.clone(alloc)?,
-            },
+            inner: self.inner.clone(alloc)?,
             parent: self.parent,
         })
     }

@@ -1,7 +1,8 @@
 // Functions, and what they have.
 ghost use Rattle.std.specs.Prelude.{◌≡◌, IfOk};
 ghost use Rattle.ir_items.specs.Copies.{spanned_function};
-ghost use Rattle.ir_items.specs.View.{local_view, argument_view, function_view, empty_function};
+ghost use Rattle.ir_items.specs.View.{local_view, argument_view, function_view, block_spans, empty_function};
+ghost use Rattle.ir_items.specs.Spans.{no_spans};
 
 use crate::copies::{Copied, copy_arena, copy_list};
 use crate::statements::Block;
@@ -91,7 +92,8 @@ impl FunctionArgument {
 impl Function {
     /// A function that is given nothing, answers nothing and does nothing (naga's `Function::default`).
     pub fn new(alloc: Global) -> Function
-        ensures { function_view result ≡ empty_function }
+        ensures function { function_view result ≡ empty_function }
+        ensures spans { block_spans result.body ≡ no_spans }
     {
         Function {
             name: None,

@@ -127,8 +127,8 @@ fn move_functions(
     Ok(arena)
 }
 
-/// The module whose arenas are the document's lists, index for index. Nothing in it has a span. It asks that no two
-/// types are equal, as `read_document` gives. The error is want of memory.
+/// The module whose arenas are the document's lists, index for index. It asks that no two types are equal, as
+/// `read_document` gives. No item gets a span, which no clause says. The error is want of memory.
 pub fn build_module(alloc: Global, document: &Document) -> Result<Module, AllocError>
     requires { AreDistinct (document_view document.now).content.types }
     ensures { IfOk result (λ m. module_view m ≡ (document_view document.now).content) }

@@ -82,8 +82,8 @@ fn verdict_of(finding: Finding) -> Verdict
 ///
 /// Every [`std::io::Read`] is a [`ReadCall`], and every [`std::io::Write`] a [`WriteCall`].
 ///
-/// It asks that no call of the reader or of the writer has failed before. [`Fault::Memory`] comes only from a
-/// refused allocation, [`Fault::Read`] where a call of the reader failed or 33554434 calls brought no end, and
+/// It asks that no call of the reader or of the writer has failed before. [`Fault::Memory`] is what a
+/// refused allocation comes to, which no clause says, [`Fault::Read`] where a call of the reader failed or 33554434 calls brought no end, and
 /// [`Fault::Write`] where a call of the writer failed, was interrupted or took nothing.
 pub fn check_document<R: ReadCall, W: WriteCall>(
     alloc: Global,

@@ -10,36 +10,102 @@ pub mod laws;
 
 pub use ir_arena::arena::Arena;
 pub use ir_arena::drain::Drain;
-pub use ir_arena::handle::{BadHandle, Handle, Index, NonMaxU32};
+pub use ir_arena::handle::BadHandle;
+pub use ir_arena::handle::Handle;
+pub use ir_arena::handle::Index;
+pub use ir_arena::handle::NonMaxU32;
 pub use ir_arena::iter::Iter;
 pub use ir_arena::iter_mut::IterMut;
-pub use ir_arena::range::{BadRangeError, Range};
+pub use ir_arena::range::BadRangeError;
+pub use ir_arena::range::Range;
 pub use ir_arena::span::Span;
 pub use ir_arena::unique_arena::UniqueArena;
-pub use ir_faults::refusal::Refusal;
-pub use ir_faults::with_span::WithSpan;
 pub use ir_emitter::Emitter;
-pub use ir_flags::{
-    Barrier, Capabilities, MemoryDecorations, ShaderStages, StorageAccess, SubgroupOperationSet,
-    ValidationFlags,
-};
-pub use ir_items::{
-    ArraySize, AtomicFunction, Block, Constant, CooperativeData, DiagnosticFilter,
-    DiagnosticFilterNode, EntryPoint, Expression, FilterableTriggeringRule, Function,
-    FunctionArgument, FunctionResult, GatherMode, GlobalCtx, GlobalVariable, ImageQuery, IrType,
-    LocalVariable, MeshStageInfo, Module, Override, RayPipelineFunction, RayQueryFunction,
-    SampleLevel, SpanIter, SpanIterMut, SpecialTypes, Statement, StructMember, SwitchCase,
-    TypeInner, complete, ensure_block_returns, key,
-};
-pub use ir_kinds::{
-    AddressSpace, BinaryOperator, Binding, BuiltIn, Bytes, Capability, CollectiveOperation,
-    ConservativeDepth, CooperativeRole, CooperativeSize, DerivativeAxis, DerivativeControl,
-    Direction, EarlyDepthTest, Flag, ImageClass, ImageDimension, Interpolation, Literal,
-    MathFunction, MeshOutputTopology, PredeclaredType, RelationalFunction, ResourceBinding,
-    Sampling, Scalar, ScalarKind, Severity, ShaderStage, StandardFilterableTriggeringRule,
-    StorageFormat, SubgroupFlag, SubgroupOperation, SwitchValue, SwizzleComponent, UnaryOperator,
-    VectorSize,
-};
+pub use ir_faults::refusal::Refusal;
+pub use ir_faults::with_span::SpanContext;
+pub use ir_faults::with_span::WithSpan;
+pub use ir_flags::Barrier;
+pub use ir_flags::Capabilities;
+pub use ir_flags::MemoryDecorations;
+pub use ir_flags::ShaderStages;
+pub use ir_flags::StorageAccess;
+pub use ir_flags::SubgroupOperationSet;
+pub use ir_flags::ValidationFlags;
+pub use ir_items::ArraySize;
+pub use ir_items::AtomicFunction;
+pub use ir_items::Block;
+pub use ir_items::Constant;
+pub use ir_items::CooperativeData;
+pub use ir_items::DiagnosticFilter;
+pub use ir_items::DiagnosticFilterNode;
+pub use ir_items::EntryPoint;
+pub use ir_items::Expression;
+pub use ir_items::FilterableTriggeringRule;
+pub use ir_items::Function;
+pub use ir_items::FunctionArgument;
+pub use ir_items::FunctionResult;
+pub use ir_items::GatherMode;
+pub use ir_items::GlobalCtx;
+pub use ir_items::GlobalVariable;
+pub use ir_items::ImageQuery;
+pub use ir_items::IrType;
+pub use ir_items::LocalVariable;
+pub use ir_items::MeshStageInfo;
+pub use ir_items::Module;
+pub use ir_items::Override;
+pub use ir_items::RayPipelineFunction;
+pub use ir_items::RayQueryFunction;
+pub use ir_items::SampleLevel;
+pub use ir_items::SpanIter;
+pub use ir_items::SpanIterMut;
+pub use ir_items::SpecialTypes;
+pub use ir_items::Statement;
+pub use ir_items::StructMember;
+pub use ir_items::SwitchCase;
+pub use ir_items::TypeInner;
+pub use ir_items::complete;
+pub use ir_items::ensure_block_returns;
+pub use ir_items::key;
+pub use ir_kinds::ABSTRACT_WIDTH;
+pub use ir_kinds::AddressSpace;
+pub use ir_kinds::BOOL_WIDTH;
+pub use ir_kinds::BinaryOperator;
+pub use ir_kinds::Binding;
+pub use ir_kinds::BuiltIn;
+pub use ir_kinds::Bytes;
+pub use ir_kinds::Capability;
+pub use ir_kinds::CollectiveOperation;
+pub use ir_kinds::ConservativeDepth;
+pub use ir_kinds::CooperativeRole;
+pub use ir_kinds::CooperativeSize;
+pub use ir_kinds::DerivativeAxis;
+pub use ir_kinds::DerivativeControl;
+pub use ir_kinds::Direction;
+pub use ir_kinds::EarlyDepthTest;
+pub use ir_kinds::Flag;
+pub use ir_kinds::ImageClass;
+pub use ir_kinds::ImageDimension;
+pub use ir_kinds::Interpolation;
+pub use ir_kinds::Literal;
+pub use ir_kinds::MathFunction;
+pub use ir_kinds::MeshOutputTopology;
+pub use ir_kinds::PredeclaredType;
+pub use ir_kinds::RelationalFunction;
+pub use ir_kinds::ResourceBinding;
+pub use ir_kinds::Sampling;
+pub use ir_kinds::Scalar;
+pub use ir_kinds::ScalarKind;
+pub use ir_kinds::Severity;
+pub use ir_kinds::ShaderStage;
+pub use ir_kinds::StandardFilterableTriggeringRule;
+pub use ir_kinds::StorageFormat;
+pub use ir_kinds::SubgroupFlag;
+pub use ir_kinds::SubgroupOperation;
+pub use ir_kinds::SwitchValue;
+pub use ir_kinds::SwizzleComponent;
+pub use ir_kinds::UnaryOperator;
+pub use ir_kinds::VectorSize;
+pub use ir_sets::handle_set::ArenaType;
 pub use ir_sets::handle_set::HandleSet;
 pub use ir_sets::handle_vec::HandleVec;
 pub use ir_types::LiteralExt;
