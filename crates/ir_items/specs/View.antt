@@ -156,6 +156,16 @@ abbrev pub IsAct : PlainStatement → Type 0
 IsAct (act a) = Unit {0}
 IsAct _ = ⊥
 
+-- the statement is an act of rays, of subgroups or of cooperative matrices
+abbrev pub IsSharedAct : PlainStatement → Type 0
+IsSharedAct (act (ray_query query fun)) = Unit {0}
+IsSharedAct (act (ballot result predicate)) = Unit {0}
+IsSharedAct (act (collective op collective_op argument result)) = Unit {0}
+IsSharedAct (act (gather mode argument result)) = Unit {0}
+IsSharedAct (act (cooperative_store target place)) = Unit {0}
+IsSharedAct (act (ray_pipeline fun)) = Unit {0}
+IsSharedAct _ = ⊥
+
 -- the values of an arena, without their spans
 abbrev pub values_of : {T : Type 0} → List (T × Span) → List T
 values_of entries = map (λ e. e.0) entries

@@ -1,6 +1,6 @@
 // Statements and the blocks that hold them.
 ghost use Rattle.std.specs.Prelude.{◌≡◌, map, IfOk};
-ghost use Rattle.ir_items.specs.View.{statement_view, block_view, case_view, statement_spans, block_spans, case_block_spans, IsAct};
+ghost use Rattle.ir_items.specs.View.{statement_view, block_view, case_view, statement_spans, block_spans, case_block_spans, IsAct, IsSharedAct};
 ghost use Rattle.ir_items.specs.Spans.{no_block};
 
 use crate::acts::{AtomicFunction, GatherMode, RayPipelineFunction, RayQueryFunction};
@@ -316,6 +316,17 @@ impl Statement {
                 pointer,
                 result: answer,
             },
+            _ => self.copy_shared_act(),
+        }
+    }
+
+    // An equal act of rays, of subgroups or of cooperative matrices.
+    fn copy_shared_act(&self) -> Statement
+        requires { IsSharedAct (statement_view self.now) }
+        ensures statement { statement_view result ≡ statement_view self.now }
+        ensures spans { statement_spans result ≡ no_block }
+    {
+        match *self {
             Statement::RayQuery { query, fun } => Statement::RayQuery { query, fun },
             Statement::SubgroupBallot {
                 result: answer,
