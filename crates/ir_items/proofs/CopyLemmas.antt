@@ -2,8 +2,11 @@
 use Rattle.std.proofs.Common.{◌≡◌, List, [], ◌∷◌, map, option_map, string_bytes, refl, sym, ap, ◌∙◌}
 use Rattle.ir_arena.specs.declared.span.Span.{Span}
 use Rattle.ir_expressions.specs.Plain.{expression_view}
-use Rattle.ir_items.specs.View.{values_of, argument_view, local_view, block_view, block_spans}
-use Rattle.ir_items.specs.Copies.{entry_of, spanned_function}
+use Rattle.ir_types.specs.Plain.{type_view}
+use Rattle.ir_items.specs.View.{values_of, argument_view, local_view, block_view, block_spans, function_view, entry_view, special_view, constant_view, override_view, global_view, node_view}
+use Rattle.ir_items.specs.Copies.{entry_of, SpannedFunction, spanned_function, SpannedEntry, spanned_entry, spanned_module}
+use Rattle.ir_items.specs.declared.entries.EntryPoint.{EntryPoint}
+use Rattle.ir_items.specs.declared.module.Module.{Module}
 use Rattle.ir_items.specs.declared.functions.Function.{Function}
 
 module _ {A B : Type 0} (view : A → B) where
@@ -32,4 +35,49 @@ same_function f g names arguments answers locals expressions bodies spans leaves
   locals = locals i;
   expressions = expressions i;
   body = spans i;
+}
+
+-- spanned functions and entry points hold the plain ones
+plain_functions : (fs : List Function) → map function_view fs ≡ map (λ (s : SpannedFunction). s.plain) (map spanned_function fs)
+plain_functions [] = refl
+plain_functions (f ∷ fs) = ap (λ rest. function_view f ∷ rest) (plain_functions fs)
+
+plain_entries : (es : List EntryPoint) → map entry_view es ≡ map (λ (s : SpannedEntry). s.plain) (map spanned_entry es)
+plain_entries [] = refl
+plain_entries (e ∷ es) = ap (λ rest. entry_view e ∷ rest) (plain_entries es)
+
+same_plain_functions : (xs ys : List (Function × Span)) → map (entry_of spanned_function) xs ≡ map (entry_of spanned_function) ys → map function_view (values_of xs) ≡ map function_view (values_of ys)
+same_plain_functions xs ys e =
+    plain_functions (values_of xs) ∙ (ap (map (λ (s : SpannedFunction). s.plain)) (same_values spanned_function xs ys e) ∙ sym (plain_functions (values_of ys)))
+
+same_plain_entries : (xs ys : List EntryPoint) → map spanned_entry xs ≡ map spanned_entry ys → map entry_view xs ≡ map entry_view ys
+same_plain_entries xs ys e = plain_entries xs ∙ (ap (map (λ (s : SpannedEntry). s.plain)) e ∙ sym (plain_entries ys))
+
+-- a module is copied list by list
+pub same_module : (m n : Module) → map (entry_of type_view) m.types ≡ map (entry_of type_view) n.types → special_view m.special_types ≡ special_view n.special_types
+    → map (entry_of constant_view) m.constants ≡ map (entry_of constant_view) n.constants → map (entry_of override_view) m.overrides ≡ map (entry_of override_view) n.overrides
+    → map (entry_of global_view) m.global_variables ≡ map (entry_of global_view) n.global_variables → map (entry_of expression_view) m.global_expressions ≡ map (entry_of expression_view) n.global_expressions
+    → map (entry_of spanned_function) m.functions ≡ map (entry_of spanned_function) n.functions → map spanned_entry m.entry_points.items ≡ map spanned_entry n.entry_points.items
+    → map (entry_of node_view) m.diagnostic_filters ≡ map (entry_of node_view) n.diagnostic_filters → m.diagnostic_filter_leaf ≡ n.diagnostic_filter_leaf → spanned_module m ≡ spanned_module n
+same_module m n types special constants overrides globals expressions functions entries filters leaves = λ i. record {
+  plain = record {
+    types = same_values type_view m.types n.types types i;
+    special = special i;
+    filters = same_values node_view m.diagnostic_filters n.diagnostic_filters filters i;
+    leaf = leaves i;
+    constants = same_values constant_view m.constants n.constants constants i;
+    overrides = same_values override_view m.overrides n.overrides overrides i;
+    global_expressions = same_values expression_view m.global_expressions n.global_expressions expressions i;
+    globals = same_values global_view m.global_variables n.global_variables globals i;
+    functions = same_plain_functions m.functions n.functions functions i;
+    entries = same_plain_entries m.entry_points.items n.entry_points.items entries i;
+  };
+  types = types i;
+  filters = filters i;
+  constants = constants i;
+  overrides = overrides i;
+  global_expressions = expressions i;
+  globals = globals i;
+  functions = functions i;
+  entries = entries i;
 }

@@ -4,3 +4,4 @@ pub mod SpanLemmas
 pub mod SpanLaws
 pub mod SpanIterLemmas
 pub mod CopyLemmas
+pub mod TypeCopies

@@ -1,9 +1,13 @@
 // Copies of arenas and lists, item by item.
 ghost use Rattle.std.specs.Prelude.{◌≡◌, map, IfOk};
+ghost use Rattle.ir_types.specs.Plain.{type_view};
 ghost use Rattle.ir_items.specs.Copies.{entry_of};
 
 use ir_arena::arena::Arena;
+use ir_arena::handle::Handle;
 use ir_arena::range::Range;
+use ir_arena::unique_arena::UniqueArena;
+use ir_types::{IrType, key};
 use std::alloc::{AllocError, Global};
 
 /// What can be copied into memory of its own.
@@ -39,6 +43,21 @@ pub fn copy_list<T: Copied + Drop>(alloc: Global, items: &[T]) -> Result<Vec<T>,
     let mut copy = Vec::with_capacity(alloc, items.len())?;
     for item in items {
         copy.push(item.copied(alloc)?)?;
+    }
+    Ok(copy)
+}
+
+/// An arena that holds the same types, each with its span. The error is want of memory.
+pub fn copy_types(
+    alloc: Global,
+    types: &UniqueArena<IrType, key::IrType>,
+) -> Result<UniqueArena<IrType, key::IrType>, AllocError>
+    ensures { IfOk result (λ copy. map (entry_of type_view) copy ≡ map (entry_of type_view) types.now) }
+{
+    let mut copy = UniqueArena::new(alloc);
+    for place in 0..types.len() {
+        let handle = Handle::at(place);
+        copy.insert(types[handle].clone(alloc)?, types.get_span(handle))?;
     }
     Ok(copy)
 }

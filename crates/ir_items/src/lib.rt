@@ -16,6 +16,7 @@ mod statements;
 mod terminator;
 
 pub use acts::{AtomicFunction, GatherMode, RayPipelineFunction, RayQueryFunction};
+pub use copies::{Copied, copy_arena, copy_list, copy_types};
 pub use entries::{EntryPoint, MeshStageInfo};
 pub use filters::{DiagnosticFilter, DiagnosticFilterNode, FilterableTriggeringRule};
 pub use functions::{Function, FunctionArgument, FunctionResult, LocalVariable};

@@ -1,7 +1,9 @@
 // The module that holds everything.
 ghost use Rattle.std.specs.Prelude.{◌≡◌, IfOk};
+ghost use Rattle.ir_items.specs.Copies.{spanned_module};
 ghost use Rattle.ir_items.specs.View.{special_view, no_special, module_view, empty_module};
 
+use crate::copies::{copy_arena, copy_list, copy_types};
 use crate::entries::EntryPoint;
 use crate::filters::DiagnosticFilterNode;
 use crate::functions::Function;
@@ -109,6 +111,24 @@ impl Module {
             diagnostic_filters: Arena::new(alloc),
             diagnostic_filter_leaf: None,
         }
+    }
+
+    /// An equal module in memory of its own, with the same spans. The error is want of memory.
+    pub fn clone(&self, alloc: Global) -> Result<Module, AllocError>
+        ensures { IfOk result (λ copy. spanned_module copy ≡ spanned_module self.now) }
+    {
+        Ok(Module {
+            types: copy_types(alloc, &self.types)?,
+            special_types: self.special_types.clone(alloc)?,
+            constants: copy_arena(alloc, &self.constants)?,
+            overrides: copy_arena(alloc, &self.overrides)?,
+            global_variables: copy_arena(alloc, &self.global_variables)?,
+            global_expressions: copy_arena(alloc, &self.global_expressions)?,
+            functions: copy_arena(alloc, &self.functions)?,
+            entry_points: copy_list(alloc, &self.entry_points)?,
+            diagnostic_filters: copy_arena(alloc, &self.diagnostic_filters)?,
+            diagnostic_filter_leaf: self.diagnostic_filter_leaf,
+        })
     }
 
     /// What its global expressions may name.

@@ -1,6 +1,7 @@
 // Items of a module, and their copies.
 use crate::expressions::{always, emitted};
 use crate::statements::every_kind;
+use crate::types::struct_type;
 use ir_arena::handle::Handle;
 use ir_arena::span::Span;
 use ir_flags::MemoryDecorations;
@@ -181,6 +182,32 @@ fn special_types_are_copied(rt: HostRuntime) -> Result<(), Fail> {
     assert_eq!(rt; copy.ray_intersection, None);
     assert_eq!(rt; copy.predeclared_types.len(), 1);
     assert!(rt; copy.predeclared_types.get(&key) == Some(&Handle::at(6)));
+    Ok(())
+}
+
+#[test]
+fn modules_are_copied(rt: HostRuntime) -> Result<(), Fail> {
+    let alloc = rt.alloc();
+    let mut module = Module::new(alloc);
+    module.types.insert(struct_type(alloc)?, Span::new(1, 2))?;
+    let constant = Constant {
+        name: name(alloc, "tau")?,
+        ty: Handle::at(0),
+        init: Handle::at(1),
+    };
+    module.constants.append(constant, Span::new(3, 4))?;
+    module.functions.append(function(alloc)?, Span::new(5, 6))?;
+    module.diagnostic_filter_leaf = Some(Handle::at(7));
+    let copy = module.clone(alloc)?;
+    assert_eq!(rt; copy.types.len(), 1);
+    assert!(rt; copy.types.get_handle(Handle::at(0)) == module.types.get_handle(Handle::at(0)));
+    assert_eq!(rt; copy.types.get_span(Handle::at(0)), Span::new(1, 2));
+    assert!(rt; copy.constants.try_get(Handle::at(0)) == module.constants.try_get(Handle::at(0)));
+    assert_eq!(rt; copy.constants.get_span(Handle::at(0)), Span::new(3, 4));
+    assert_eq!(rt; copy.functions.len(), 1);
+    assert_eq!(rt; copy.functions.get_span(Handle::at(0)), Span::new(5, 6));
+    assert_eq!(rt; copy.diagnostic_filter_leaf, Some(Handle::at(7)));
+    assert_eq!(rt; copy.entry_points.len(), 0);
     Ok(())
 }
 
