@@ -4,7 +4,9 @@
 
 mod bases;
 mod filters;
+mod flatten;
 pub mod laws;
 
 pub use bases::originating_global;
 pub use filters::search;
+pub use flatten::{FlattenCompose, flatten_compose};
