@@ -8,3 +8,4 @@ pub use ir_items::laws::{
 };
 pub use ir_kinds::laws::{scalar_constants, vector_constants};
 pub use ir_types::laws::type_equality;
+pub use ir_walks::laws::{one_flattening, one_origin, one_severity};

@@ -1,0 +1,4 @@
+pub mod Chains
+pub mod FlatLemmas
+pub mod Paths
+pub mod Places

@@ -1,0 +1,44 @@
+//! Diagnostic filters.
+ghost use Rattle.std.specs.Prelude.{◌≡◌, ◌<◌, ◌↔◌, length, IsTrue};
+ghost use Rattle.std.specs.Option.{ForSome};
+ghost use Rattle.ir_items.specs.Plain.{standard};
+ghost use Rattle.ir_items.specs.View.{node_view};
+ghost use Rattle.ir_walks.specs.Filters.{nodes_of, ParentsPrecede, HasSeverity};
+
+use ir_arena::arena::Arena;
+use ir_arena::handle::Handle;
+use ir_items::{DiagnosticFilterNode, FilterableTriggeringRule, key};
+use ir_kinds::{Severity, StandardFilterableTriggeringRule};
+
+/// How severe the faults of a rule are where the filters of `node` and of the nodes behind it count: the new severity
+/// of the nearest node with that rule, from `node` to its parent and on to the root, or [`Severity::Error`] where none
+/// of them has it (naga's `DiagnosticFilterNode::search`). The parent of each node in `arena` comes before it.
+pub fn search(
+    node: Option<Handle<key::DiagnosticFilterNode>>,
+    arena: &Arena<DiagnosticFilterNode, key::DiagnosticFilterNode>,
+    triggering_rule: StandardFilterableTriggeringRule,
+) -> Severity
+    requires in_arena { ForSome node (λ h. h < length arena.now) }
+    requires parents { ParentsPrecede (nodes_of arena.now) }
+    ensures { HasSeverity (nodes_of arena.now) node triggering_rule result }
+{
+    let mut current = node;
+    while let Some(handle) = current {
+        let filter_node = &arena[handle];
+        if has_rule(filter_node, triggering_rule) {
+            return filter_node.inner.new_severity;
+        }
+        current = filter_node.parent;
+    }
+    Severity::Error
+}
+
+// Whether the node's filter is one of this rule.
+fn has_rule(node: &DiagnosticFilterNode, triggering_rule: StandardFilterableTriggeringRule) -> bool
+    ensures { IsTrue result ↔ ((node_view node.now).rule ≡ standard triggering_rule) }
+{
+    match node.inner.triggering_rule {
+        FilterableTriggeringRule::Standard(rule) => rule == triggering_rule,
+        _ => false,
+    }
+}
