@@ -1,6 +1,7 @@
 //! The intermediate representation of a shader from one place: the sets of words of `ir_flags`, the kinds of `ir_kinds`,
 //! the arenas of `ir_arena`, the sets of handles of `ir_sets`, the errors with spans of `ir_faults`, the types, the
-//! expressions and the items of `ir_types`, `ir_expressions` and `ir_items`, the emitter of `ir_emitter`, the walks of `ir_walks`, and in `specs/`
+//! expressions and the items of `ir_types`, `ir_expressions` and `ir_items`, the emitter of `ir_emitter`, the walks of
+//! `ir_walks`, and in `specs/`
 //! the words of their contracts.
 //!
 //! Nothing is defined here. A crate that uses the representation as a whole names this crate alone.
@@ -36,6 +37,7 @@ pub use ir_items::AtomicFunction;
 pub use ir_items::Block;
 pub use ir_items::Constant;
 pub use ir_items::CooperativeData;
+pub use ir_items::Copied;
 pub use ir_items::DiagnosticFilter;
 pub use ir_items::DiagnosticFilterNode;
 pub use ir_items::EntryPoint;
@@ -64,6 +66,9 @@ pub use ir_items::StructMember;
 pub use ir_items::SwitchCase;
 pub use ir_items::TypeInner;
 pub use ir_items::complete;
+pub use ir_items::copy_arena;
+pub use ir_items::copy_list;
+pub use ir_items::copy_types;
 pub use ir_items::ensure_block_returns;
 pub use ir_items::key;
 pub use ir_kinds::ABSTRACT_WIDTH;
@@ -109,10 +114,6 @@ pub use ir_sets::handle_set::ArenaType;
 pub use ir_sets::handle_set::HandleSet;
 pub use ir_sets::handle_vec::HandleVec;
 pub use ir_types::LiteralExt;
-pub use ir_items::Copied;
-pub use ir_items::copy_arena;
-pub use ir_items::copy_list;
-pub use ir_items::copy_types;
 pub use ir_walks::FlattenCompose;
 pub use ir_walks::flatten_compose;
 pub use ir_walks::originating_global;
