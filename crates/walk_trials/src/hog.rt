@@ -1,0 +1,47 @@
+// Memory that is taken, so that none is left.
+use std::alloc::{AllocError, Global};
+
+const MOST_BLOCKS: usize = 1 << 17;
+
+const GREATEST: usize = 1 << 46;
+
+const SMALL: usize = 2048;
+
+/// What holds all the memory that was left.
+#[derive(Drop)]
+pub struct Hog {
+    blocks: Vec<Vec<u8>>,
+}
+
+impl Hog {
+    pub fn new(alloc: Global) -> Result<Hog, AllocError> {
+        Ok(Hog {
+            blocks: Vec::with_capacity(alloc, MOST_BLOCKS)?,
+        })
+    }
+
+    /// Takes all that is left, the greatest blocks first. Answers whether the least block was refused
+    /// in the end.
+    pub fn fill(&mut self, alloc: Global) -> bool {
+        let mut size = GREATEST;
+        for _ in 0..MOST_BLOCKS {
+            match Vec::with_capacity(alloc, size) {
+                Ok(block) => {
+                    if self.blocks.push(block).is_err() {
+                        return false;
+                    }
+                }
+                Err(_) => {
+                    if size > SMALL {
+                        size /= 2;
+                    } else if size > 8 {
+                        size = size.saturating_sub(8);
+                    } else {
+                        return true;
+                    }
+                }
+            }
+        }
+        false
+    }
+}
