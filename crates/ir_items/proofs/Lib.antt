@@ -5,3 +5,4 @@ pub mod SpanLaws
 pub mod SpanIterLemmas
 pub mod CopyLemmas
 pub mod TypeCopies
+pub mod RoomLemmas

@@ -1,10 +1,11 @@
 // The calls of a block.
-ghost use Rattle.std.specs.Prelude.{◌≡◌, ◌≤◌, ◌==◌, ◌++◌, ◌∷◌, [], length, map, replicate, IfOk, IfSome, OnOk, OnErr, option_to_list};
+ghost use Rattle.std.specs.Prelude.{◌≡◌, ◌≤◌, ◌==◌, ◌++◌, ◌∷◌, [], length, map, replicate, IsOk, IfOk, IfSome, OnOk, OnErr, option_to_list};
 ghost use Rattle.std.specs.List.{remove_range, splice, zip};
 ghost use Rattle.std.specs.Range.Bound.{start_index, end_index};
 ghost use Rattle.ir_arena.specs.Spans.{undefined_span};
 ghost use Rattle.std.specs.Borrow.{sem};
 ghost use Rattle.ir_items.specs.Lends.{LendsStatements};
+ghost use Rattle.ir_items.specs.Room.{HasOwnRoom};
 ghost use Rattle.ir_items.specs.SpanIters.{pairs_to_come};
 ghost use Rattle.ir_items.specs.View.{statements_of, spans_of, room_for_statements, room_for_spans, IsInStep, AllInStep, InStepWithin};
 
@@ -103,7 +104,8 @@ impl Block {
         self.body.as_mut_slice()
     }
 
-    /// Adds a statement at the end, with its span. The error is want of memory, and leaves the block as it was.
+    /// Adds a statement at the end, with its span. The error is want of memory, and leaves the block as it was. There
+    /// is none where the block has room.
     #[tactic(auto, using(crate::proofs::SpanLaws::in_step_behind))]
     pub fn push(&mut self, statement: Statement, span: Span) -> Result<(), AllocError>
         ensures statements { OnOk result (statements_of self.new ≡ statements_of self.old ++ statement ∷ []) }
@@ -112,6 +114,7 @@ impl Block {
         ensures err_spans { OnErr result (spans_of self.new ≡ spans_of self.old) }
         ensures in_step { IsInStep self.old → IsInStep self.new }
         ensures all_in_step { AllInStep self.old → InStepWithin statement → AllInStep self.new }
+        ensures succeeds { HasOwnRoom self.old → IsOk result }
     {
         self.span_info.reserve(1)?;
         self.body.push(statement)?;

@@ -1,5 +1,5 @@
-// Returns at the ends of what a function does (naga's `proc::terminator`).
-ghost use Rattle.std.specs.Prelude.{◌≡◌, ◌++◌, ◌∷◌, [], None, map, IfOk, OnOk, OnErr};
+// The body completed with returns, in memory of its own.
+ghost use Rattle.std.specs.Prelude.{◌≡◌, ◌++◌, ◌∷◌, [], None, map, IfOk};
 ghost use Rattle.ir_arena.specs.Spans.{undefined_span};
 ghost use Rattle.ir_items.specs.Plain.{return};
 ghost use Rattle.ir_items.specs.Shapes.{shape_of};
@@ -12,21 +12,8 @@ use crate::statements::{Block, Statement, SwitchCase};
 use ir_arena::span::Span;
 use std::alloc::{AllocError, Global};
 
-/// Puts a return without value at each end of the body that control can reach by itself: into the body and each of
-/// its tail blocks that is empty, or ends in a statement behind which control goes on. What stands is neither changed
-/// nor moved. The error is want of memory, and leaves the body as it was.
-pub fn ensure_block_returns(alloc: Global, block: &mut Block) -> Result<(), AllocError>
-    ensures ok { OnOk result (block_view block.new ≡ completed (block_view block.old)) }
-    ensures spans { OnOk result (block_spans block.new ≡ completed_spans (block_view block.old) (block_spans block.old)) }
-    ensures err { OnErr result (block.new ≡ block.old) }
-{
-    let whole = complete(alloc, block)?;
-    *block = whole;
-    Ok(())
-}
-
 // Whether control goes on behind the statement by itself.
-fn goes_on(statement: &Statement) -> bool
+pub(crate) fn goes_on(statement: &Statement) -> bool
     ensures { result ≡ goes_on (shape_of (statement_view statement.now)) }
 {
     match statement {
@@ -38,8 +25,8 @@ fn goes_on(statement: &Statement) -> bool
     }
 }
 
-/// The body completed with returns as [`ensure_block_returns`] does it, in memory of its own. The error is want of
-/// memory.
+/// The body completed with returns as [`crate::ensure_block_returns`] does it, in memory of its own. The error is want
+/// of memory.
 #[cycle(completes)]
 pub fn complete(alloc: Global, block: &Block) -> Result<Block, AllocError>
     ensures statements { IfOk result (λ whole. block_view whole ≡ completed (block_view block.now)) }
