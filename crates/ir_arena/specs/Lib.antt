@@ -4,3 +4,4 @@ pub mod IterMut
 pub mod Lends
 pub mod Retains
 pub mod Spans
+pub mod Equality

@@ -47,6 +47,26 @@ impl<T, K> Model for Arena<T, K> {
     ghost invariant = { λ a. length a.entries.items ≤ 4294967295 };
 }
 
+/// Two arenas are equal where they have as many values, and each is equal to the other's at its place and has the same
+/// span.
+impl<T: PartialEq, K> PartialEq for Arena<T, K> {
+    ghost use Rattle.ir_arena.specs.Equality.{same_entries, same_entries_per};
+
+    ghost eq = { same_entries T.eq };
+
+    ghost laws = { same_entries_per T.laws };
+
+    fn eq(&self, other: &Self) -> bool {
+        self.entries == other.entries
+    }
+}
+
+impl<T: Eq, K> Eq for Arena<T, K> {
+    ghost use Rattle.ir_arena.specs.Equality.{same_entries_equiv};
+
+    ghost laws = { same_entries_equiv T.Eq.laws };
+}
+
 impl<T, K> Arena<T, K> {
     /// An empty arena, which allocates nothing.
     pub fn new(alloc: Global) -> Self

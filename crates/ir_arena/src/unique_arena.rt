@@ -40,6 +40,26 @@ impl<T: Eq + Hash, K> Model for UniqueArena<T, K> {
     ghost invariant = { λ a. IsDistinctBy T.eq a.entries.items × (length a.entries.items ≤ 4294967295) };
 }
 
+/// Two arenas are equal where they have as many values, and each is equal to the other's at its place and has the same
+/// span.
+impl<T: Eq + Hash, K> PartialEq for UniqueArena<T, K> {
+    ghost use Rattle.ir_arena.specs.Equality.{same_entries, same_entries_per};
+
+    ghost eq = { same_entries T.eq };
+
+    ghost laws = { same_entries_per T.PartialEq.laws };
+
+    fn eq(&self, other: &Self) -> bool {
+        self.entries == other.entries
+    }
+}
+
+impl<T: Eq + Hash, K> Eq for UniqueArena<T, K> {
+    ghost use Rattle.ir_arena.specs.Equality.{same_entries_equiv};
+
+    ghost laws = { same_entries_equiv T.Eq.laws };
+}
+
 impl<T: Eq + Hash, K> UniqueArena<T, K> {
     /// An empty arena, which allocates nothing.
     pub fn new(alloc: Global) -> Self

@@ -31,7 +31,7 @@ pub struct MeshStageInfo {
 }
 
 /// Where a stage of a pipeline begins (naga's `EntryPoint`).
-#[derive(Debug, Drop)]
+#[derive(PartialEq, Eq, Debug, Drop)]
 pub struct EntryPoint {
     /// The name that a pipeline calls it by.
     pub name: String,

@@ -45,7 +45,7 @@ pub struct FunctionResult {
 }
 
 /// A function (naga's `Function`).
-#[derive(Debug, Drop)]
+#[derive(PartialEq, Eq, Debug, Drop)]
 pub struct Function {
     /// The name in the source, if any.
     pub name: Option<String>,

@@ -18,7 +18,7 @@ use ir_types::{IrType, key};
 use std::alloc::{AllocError, Global};
 
 /// Types that some expressions ask for by what they are (naga's `SpecialTypes`).
-#[derive(Drop)]
+#[derive(PartialEq, Eq, Debug, Drop)]
 pub struct SpecialTypes {
     /// The type of a ray.
     pub ray_desc: Option<Handle<key::IrType>>,
@@ -31,7 +31,7 @@ pub struct SpecialTypes {
 }
 
 /// A shader module (naga's `Module`).
-#[derive(Drop)]
+#[derive(PartialEq, Eq, Debug, Drop)]
 pub struct Module {
     /// The types, no two of them equal.
     pub types: UniqueArena<IrType, key::IrType>,
