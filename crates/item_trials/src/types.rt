@@ -76,6 +76,11 @@ fn plain_inners(alloc: Global) -> Result<Vec<TypeInner>, AllocError> {
         size: ArraySize::Dynamic,
         stride: 16,
     })?;
+    resource_inners(&mut inners)?;
+    Ok(inners)
+}
+
+fn resource_inners(inners: &mut Vec<TypeInner>) -> Result<(), AllocError> {
     inners.push(TypeInner::Image {
         dim: ImageDimension::D2,
         arrayed: true,
@@ -95,7 +100,7 @@ fn plain_inners(alloc: Global) -> Result<Vec<TypeInner>, AllocError> {
         base: Handle::at(2),
         size: ArraySize::Pending(Handle::at(1)),
     })?;
-    Ok(inners)
+    Ok(())
 }
 
 #[test]
