@@ -11,7 +11,7 @@ mod order;
 mod sizes;
 mod type_methods;
 
-pub use compare::{CompareTypes, compare_types};
+pub use compare::compare_types;
 pub use index::{IndexableLength, IndexableLengthError, ResolveArraySizeError};
 pub use order::types_go_back;
 pub use sizes::MAX_TYPE_SIZE;
