@@ -10,24 +10,33 @@ use typing_rules::{
 };
 
 #[test]
-fn sizes(rt: HostRuntime) -> Result<(), Fail> {
-    let alloc = rt.alloc();
+fn sizes_of_values(rt: HostRuntime) -> Result<(), Fail> {
     assert!(rt; Scalar::F32.to_inner_scalar().size() == 4);
-    assert!(rt; vector(VectorSize::Quad, Scalar::F32).size() == 16);
-    assert!(rt; struct_of(alloc, &[0, 1], 32)?.try_size() == Some(32));
+    assert!(rt; vector(VectorSize::Quad, Scalar::F32).try_size() == Some(16));
     let matrix = TypeInner::Matrix {
         columns: VectorSize::Tri,
         rows: VectorSize::Tri,
         scalar: Scalar::F32,
     };
     assert!(rt; matrix.try_size() == Some(48));
+    assert!(rt; pointer_to(0).try_size() == Some(4));
+    Ok(())
+}
+
+#[test]
+fn sizes_of_structs(rt: HostRuntime) -> Result<(), Fail> {
+    let alloc = rt.alloc();
+    assert!(rt; struct_of(alloc, &[0, 1], 32)?.try_size() == Some(32));
+    assert!(rt; struct_of(alloc, &[0], 4294967295)?.try_size() == None);
+    assert!(rt; struct_of(alloc, &[0], MAX_TYPE_SIZE)?.try_size() == Some(2147483647));
+    Ok(())
+}
+
+#[test]
+fn sizes_of_arrays(rt: HostRuntime) -> Result<(), Fail> {
     assert!(rt; array_of(0, ArraySize::Constant(3), 2).try_size() == Some(6));
     assert!(rt; array_of(0, ArraySize::Dynamic, 4).try_size() == Some(4));
-    assert!(rt; struct_of(alloc, &[0], 4294967295)?.try_size() == None);
     assert!(rt; array_of(0, ArraySize::Constant(65536), 65536).try_size() == None);
-    assert!(rt; struct_of(alloc, &[0], MAX_TYPE_SIZE)?.try_size() == Some(2147483647));
-    assert!(rt; pointer_to(0).try_size() == Some(4));
-    assert!(rt; TypeInner::Sampler { comparison: false }.try_size() == Some(0));
     Ok(())
 }
 
@@ -35,14 +44,38 @@ fn sizes(rt: HostRuntime) -> Result<(), Fail> {
 fn lengths(rt: HostRuntime) -> Result<(), Fail> {
     let types = types(rt.alloc())?;
     let four = vector(VectorSize::Quad, Scalar::F32);
-    assert!(rt; four.indexable_length(&types) == Ok(IndexableLength::Known(4)));
-    assert!(rt; pointer_to(4).indexable_length(&types) == Ok(IndexableLength::Known(3)));
-    assert!(rt; pointer_to(5).indexable_length(&types) == Ok(IndexableLength::Dynamic));
-    let none = Err(IndexableLengthError::TypeNotIndexable);
-    assert!(rt; pointer_to(2).indexable_length(&types) == none);
-    let size = ArraySize::Pending(Handle::at(0));
-    let pending = Err(IndexableLengthError::Pending(size));
-    assert!(rt; array_of(0, size, 4).indexable_length(&types) == pending);
+    assert!(rt; matches!(four.indexable_length(&types), Ok(IndexableLength::Known(4))));
+    assert!(rt;
+        matches!(
+            pointer_to(4).indexable_length(&types),
+            Ok(IndexableLength::Known(3))
+        )
+    );
+    assert!(rt;
+        matches!(
+            pointer_to(5).indexable_length(&types),
+            Ok(IndexableLength::Dynamic)
+        )
+    );
+    Ok(())
+}
+
+#[test]
+fn no_lengths(rt: HostRuntime) -> Result<(), Fail> {
+    let types = types(rt.alloc())?;
+    assert!(rt;
+        matches!(
+            pointer_to(2).indexable_length(&types),
+            Err(IndexableLengthError::TypeNotIndexable)
+        )
+    );
+    let pending = array_of(0, ArraySize::Pending(Handle::at(0)), 4);
+    assert!(rt;
+        matches!(
+            pending.indexable_length(&types),
+            Err(IndexableLengthError::Pending(_))
+        )
+    );
     Ok(())
 }
 
