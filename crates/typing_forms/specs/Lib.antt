@@ -1,0 +1,4 @@
+pub mod Forms
+pub mod Order
+pub mod Ranks
+pub mod Resolutions

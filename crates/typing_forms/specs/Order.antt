@@ -1,0 +1,17 @@
+-- Types are built of types that come before them.
+use Rattle.std.specs.Prelude.{◌≡◌, ℕ, ◌<◌, List, [], ◌∷◌, Some, map, All}
+use Rattle.ir_types.specs.Plain.{PlainInner, struct, plain, PlainType}
+use Rattle.ir_types.specs.declared.types.TypeInner.TheVariants as inner
+use Rattle.typing_forms.specs.Resolutions.{inner_at}
+
+-- the types that a type names
+abbrev pub named_types : PlainInner → List ℕ
+named_types (struct members span) = map (λ m. m.ty) members
+named_types (plain (inner.Pointer base space)) = base ∷ []
+named_types (plain (inner.Array base size stride)) = base ∷ []
+named_types (plain (inner.BindingArray base size)) = base ∷ []
+named_types _ = []
+
+-- each type names only types before it
+pub record TypesGoBack (types : List PlainType) : Type 0 where
+  pub each : (handle : ℕ) (i : PlainInner) → inner_at types handle ≡ Some i → All (λ named. named < handle) (named_types i)

@@ -1,0 +1,5 @@
+mod CanonicalForms
+mod Constructed
+mod Orders
+mod Shapes
+mod Walks

@@ -1,0 +1,7 @@
+pub mod Canonical
+pub mod Constructible
+pub mod Conversions
+pub mod Elements
+pub mod Lengths
+pub mod Parts
+pub mod Sizes

@@ -1,0 +1,26 @@
+//! Which types are equivalent.
+
+ghost use Rattle.std.specs.Prelude.{◌≡◌, ◌↔◌, IsTrue};
+ghost use Rattle.typing_forms.specs.Resolutions.{types_view, resolution_view};
+ghost use Rattle.typing_forms.specs.Forms.{form_of, NoStructValue};
+
+use ir_arena::unique_arena::UniqueArena;
+use ir_types::{IrType, key};
+use typing_forms::laws::form_equality;
+use typing_forms::{TypeResolution, form_of};
+
+/// Whether two types are equivalent: their canonical forms are equal (naga's `compare_types`). Names don't count, nor
+/// whether a type is given by its handle, but for structs: a struct is its handle, and none may be given as a value.
+pub fn compare_types(
+    lhs: &TypeResolution,
+    rhs: &TypeResolution,
+    types: &UniqueArena<IrType, key::IrType>,
+) -> bool
+    requires left { NoStructValue (resolution_view lhs.now) }
+    requires right { NoStructValue (resolution_view rhs.now) }
+    ensures { IsTrue result
+        ↔ (form_of (types_view types.now) (resolution_view lhs.now)
+        ≡ form_of (types_view types.now) (resolution_view rhs.now)) }
+{
+    form_equality(form_of(types, lhs), form_of(types, rhs))
+}
