@@ -1,0 +1,18 @@
+//! Overload sets: the rules of a built-in function that the arguments given so far leave.
+#![tactic(auto)]
+
+mod any;
+mod functions;
+mod list;
+mod overload_set;
+mod regular;
+mod rows;
+
+pub use any::AnyOverloadSet;
+pub use functions::MathFunctionExt;
+pub use list::List;
+pub use overload_set::OverloadSet;
+pub use overload_tables::{
+    Arguments, Conclusion, ConstructorSize, Rule, ValueType, conversion_rank,
+};
+pub use regular::Regular;
