@@ -1,0 +1,2 @@
+pub mod FormEquality
+pub mod Lookups

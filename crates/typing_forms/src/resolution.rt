@@ -1,0 +1,54 @@
+//! What the type of an expression is given as.
+
+ghost use Rattle.std.specs.Prelude.{◌≡◌, ◌<◌, Some, length, IfOk};
+ghost use Rattle.ir_types.specs.Plain.{inner_view};
+ghost use Rattle.typing_forms.specs.Resolutions.{types_view, resolution_view, handle_of, resolved, IsAmong};
+
+use ir_arena::handle::Handle;
+use ir_arena::unique_arena::UniqueArena;
+use ir_types::{IrType, TypeInner, key};
+use std::alloc::{AllocError, Global};
+
+/// The type of an expression (naga's `TypeResolution`).
+#[derive(PartialEq, Debug, Drop)]
+pub enum TypeResolution {
+    /// A type of the module.
+    Handle(Handle<key::IrType>),
+    /// A type that the module need not have, by what it is made of. It is no struct.
+    Value(TypeInner),
+}
+
+impl TypeResolution {
+    /// The handle of the type, where it is given by one (naga's `TypeResolution::handle`).
+    pub const fn handle(&self) -> Option<Handle<key::IrType>>
+        ensures { result ≡ handle_of (resolution_view self.now) }
+    {
+        match *self {
+            TypeResolution::Handle(handle) => Some(handle),
+            TypeResolution::Value(_) => None,
+        }
+    }
+
+    /// What the type is made of, lent by the arena or by the resolution itself (naga's
+    /// `TypeResolution::inner_with`).
+    #[tactic(auto, using(crate::proofs::Lookups::inner_found))]
+    pub fn inner_with<'a>(&'a self, types: &'a UniqueArena<IrType, key::IrType>) -> &'a TypeInner
+        requires { IsAmong (length types.now) (resolution_view self.now) }
+        ensures { Some (inner_view result.now) ≡ resolved (types_view types.now) (resolution_view self.now) }
+    {
+        match *self {
+            TypeResolution::Handle(handle) => &types[handle].inner,
+            TypeResolution::Value(ref inner) => inner,
+        }
+    }
+
+    /// An equal resolution in memory of its own (naga's `TypeResolution::clone`). The error is want of memory.
+    pub fn clone(&self, alloc: Global) -> Result<TypeResolution, AllocError>
+        ensures { IfOk result (λ copy. resolution_view copy ≡ resolution_view self.now) }
+    {
+        match *self {
+            TypeResolution::Handle(handle) => Ok(TypeResolution::Handle(handle)),
+            TypeResolution::Value(ref inner) => Ok(TypeResolution::Value(inner.clone(alloc)?)),
+        }
+    }
+}

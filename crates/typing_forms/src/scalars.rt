@@ -1,0 +1,43 @@
+//! What is built of a scalar.
+
+ghost use Rattle.std.specs.Prelude.{◌≡◌};
+ghost use Rattle.ir_kinds.specs.declared.scalars.Scalar.{Scalar};
+ghost use Rattle.ir_types.specs.Plain.{plain, inner_view};
+ghost use Rattle.ir_types.specs.declared.types.TypeInner.TheVariants as inner;
+
+use ir_kinds::{Scalar, VectorSize};
+use ir_types::TypeInner;
+
+/// The types that are built of one scalar (calls of naga's `Scalar`).
+pub trait ScalarExt: Sized {
+    /// The scalar itself.
+    ghost scalar_of: { Self → Scalar };
+
+    /// The scalar as a type (naga's `Scalar::to_inner_scalar`).
+    fn to_inner_scalar(self) -> TypeInner
+        ensures { inner_view result ≡ plain (inner.Scalar (scalar_of self)) };
+
+    /// A vector of the scalar (naga's `Scalar::to_inner_vector`).
+    fn to_inner_vector(self, size: VectorSize) -> TypeInner
+        ensures { inner_view result ≡ plain (inner.Vector size (scalar_of self)) };
+
+    /// An atomic of the scalar (naga's `Scalar::to_inner_atomic`).
+    fn to_inner_atomic(self) -> TypeInner
+        ensures { inner_view result ≡ plain (inner.Atomic (scalar_of self)) };
+}
+
+impl ScalarExt for Scalar {
+    ghost scalar_of = { λ s. s };
+
+    fn to_inner_scalar(self) -> TypeInner {
+        TypeInner::Scalar(self)
+    }
+
+    fn to_inner_vector(self, size: VectorSize) -> TypeInner {
+        TypeInner::Vector { size, scalar: self }
+    }
+
+    fn to_inner_atomic(self) -> TypeInner {
+        TypeInner::Atomic(self)
+    }
+}
