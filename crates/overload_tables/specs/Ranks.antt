@@ -1,38 +1,12 @@
--- How far a scalar is from one that it converts to, and which arguments a rule accepts.
+-- Which arguments a rule accepts, and at which rank.
 use Rattle.std.specs.Prelude.{ℕ, List, [], ◌∷◌, Option, Some, None, Bool, true, false, ◌&&◌, not, ◌==◌, is_some, slice_get, if◌then◌else◌}
-use Rattle.ir_kinds.specs.declared.scalars.Scalar.{Scalar}
 use Rattle.ir_kinds.specs.declared.scalars.ScalarKind.{ScalarKind}
 use Rattle.ir_kinds.specs.declared.scalars.ScalarKind.TheVariants as kind
-use Rattle.ir_kinds.specs.Scalars.{is_scalar, signed, unsigned, floating, abstract_int, abstract_float}
-use Rattle.ir_types.specs.declared.types.TypeInner.{TypeInner}
+use Rattle.ir_types.specs.Plain.{PlainInner}
+use Rattle.typing_forms.specs.Ranks.{rank}
 use Rattle.overload_tables.specs.declared.rules.ValueType.{ValueType}
 use Rattle.overload_tables.specs.declared.rules.Rule.{Rule}
 use Rattle.overload_tables.specs.Types.{constructor_place, value_type_of, listed}
-
--- ---- the table of ranks
-
--- what an abstract float converts to, and the rank of each
-abbrev pub from_abstract_float : List (Scalar × ℕ)
-from_abstract_float = (floating 4, 1) ∷ (floating 2, 2) ∷ (floating 8, 3) ∷ []
-
--- what an abstract integer converts to, and the rank of each
-abbrev pub from_abstract_int : List (Scalar × ℕ)
-from_abstract_int =
-    (signed 4, 4) ∷ (unsigned 4, 5) ∷ (signed 2, 6) ∷ (unsigned 2, 7) ∷ (signed 8, 8) ∷ (unsigned 8, 9)
-    ∷ (abstract_float, 10) ∷ (floating 4, 11) ∷ (floating 2, 12) ∷ (floating 8, 13) ∷ []
-
--- the rank that stands beside a scalar
-abbrev pub rank_in : Scalar → List (Scalar × ℕ) → Option ℕ
-rank_in to [] = None
-rank_in to (row ∷ rows) = if is_scalar row.0 to then Some row.1 else rank_in to rows
-
--- from a scalar to another one: 0 where the two are one
-abbrev pub rank : Scalar → Scalar → Option ℕ
-rank from to =
-    if is_scalar from to then Some 0
-    else if is_scalar from abstract_float then rank_in to from_abstract_float
-    else if is_scalar from abstract_int then rank_in to from_abstract_int
-    else None
 
 -- ---- acceptance
 
@@ -57,7 +31,7 @@ accepts_if place (Some given) rule = accepts place given rule
 accepts_if place None rule = false
 
 -- no rule accepts what is neither a scalar nor a vector nor a matrix
-abbrev pub accepts_inner : ℕ → TypeInner → Rule → Bool
+abbrev pub accepts_inner : ℕ → PlainInner → Rule → Bool
 accepts_inner place given rule = accepts_if place (value_type_of given) rule
 
 -- ---- rules without abstract arguments

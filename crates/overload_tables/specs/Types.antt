@@ -2,6 +2,7 @@
 use Rattle.std.specs.Prelude.{ℕ, List, [], ◌∷◌, Option, Some, None}
 use Rattle.ir_kinds.specs.declared.scalars.Scalar.{Scalar}
 use Rattle.ir_kinds.specs.declared.scalars.VectorSize.TheVariants.{Bi, Tri, Quad}
+use Rattle.ir_types.specs.Plain.{PlainInner, plain}
 use Rattle.ir_types.specs.declared.types.TypeInner.{TypeInner}
 use Rattle.ir_types.specs.declared.types.TypeInner.TheVariants as inner
 use Rattle.overload_tables.specs.declared.rules.ConstructorSize.{ConstructorSize}
@@ -36,10 +37,10 @@ inner_of (size.Vector n) s = inner.Vector n s
 inner_of (size.Matrix c r) s = inner.Matrix c r s
 
 -- the shape and the scalar of an inner form that is a scalar, a vector or a matrix
-abbrev pub value_type_of : TypeInner → Option ValueType
-value_type_of (inner.Scalar s) = Some (value_type size.Scalar s)
-value_type_of (inner.Vector n s) = Some (value_type (size.Vector n) s)
-value_type_of (inner.Matrix c r s) = Some (value_type (size.Matrix c r) s)
+abbrev pub value_type_of : PlainInner → Option ValueType
+value_type_of (plain (inner.Scalar s)) = Some (value_type size.Scalar s)
+value_type_of (plain (inner.Vector n s)) = Some (value_type (size.Vector n) s)
+value_type_of (plain (inner.Matrix c r s)) = Some (value_type (size.Matrix c r) s)
 value_type_of _ = None
 
 -- the types of arguments as a list

@@ -2,9 +2,7 @@
 #![tactic(auto)]
 
 mod patterns;
-mod ranks;
 mod rules;
 
 pub use patterns::Pattern;
-pub use ranks::conversion_rank;
 pub use rules::{Arguments, Conclusion, ConstructorSize, Rule, ValueType};

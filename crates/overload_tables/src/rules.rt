@@ -1,12 +1,13 @@
 //! Rules, and how they are made.
 
 ghost use Rattle.std.specs.Prelude.{◌≡◌, length, slice_get};
+ghost use Rattle.ir_types.specs.Plain.{plain, inner_view};
 ghost use Rattle.overload_tables.specs.Types.{constructor_place, inner_of, value_type_of, listed};
 ghost use Rattle.overload_tables.specs.Ranks.{type_rank, rank_at, accepts_inner, is_abstract_kind, is_concrete};
 
-use crate::ranks::conversion_rank;
 use ir_kinds::{PredeclaredType, Scalar, ScalarKind, VectorSize};
 use ir_types::TypeInner;
+use typing_forms::conversion_rank;
 
 /// The shape of a value, without its scalar (naga's `ConstructorSize`).
 #[derive(Clone, Copy, PartialEq, Eq, Hash, Debug)]
@@ -27,7 +28,7 @@ pub enum ConstructorSize {
 impl ConstructorSize {
     /// The type of this shape with a scalar (naga's `ConstructorSize::to_inner`).
     pub const fn to_inner(self, scalar: Scalar) -> TypeInner
-        ensures { result ≡ inner_of self scalar }
+        ensures { inner_view result ≡ plain (inner_of self scalar) }
     {
         match self {
             ConstructorSize::Scalar => TypeInner::Scalar(scalar),
@@ -77,14 +78,14 @@ pub struct ValueType {
 impl ValueType {
     /// What the type is made of.
     pub const fn to_inner(self) -> TypeInner
-        ensures { result ≡ inner_of self.size self.scalar }
+        ensures { inner_view result ≡ plain (inner_of self.size self.scalar) }
     {
         self.size.to_inner(self.scalar)
     }
 
     /// The type of a value that an inner form is, or `None` where it is another form.
     pub const fn of(inner: &TypeInner) -> Option<ValueType>
-        ensures { result ≡ value_type_of inner.now }
+        ensures { result ≡ value_type_of (inner_view inner.now) }
     {
         match *inner {
             TypeInner::Scalar(scalar) => Some(ValueType {
@@ -119,7 +120,7 @@ impl ValueType {
 
     /// How far a value of this type is from the type that is asked for, or `None` where it does not convert to it: the
     /// rank of the scalars where the shapes are the same.
-    pub fn rank_to(self, wanted: ValueType) -> Option<u8>
+    pub fn rank_to(self, wanted: ValueType) -> Option<u32>
         ensures { result ≡ type_rank self wanted }
     {
         if self.size.place() == wanted.size.place() {
@@ -198,7 +199,7 @@ pub struct Rule {
 impl Rule {
     /// How far a value of the type is from what the rule asks for at a place, counted from 0, or `None` where it does
     /// not convert to it, or there is no such argument.
-    pub fn rank_at(&self, place: usize, given: ValueType) -> Option<u8>
+    pub fn rank_at(&self, place: usize, given: ValueType) -> Option<u32>
         ensures { result ≡ rank_at place given self.now }
     {
         given.rank_to(self.arguments.get(place)?)
@@ -206,7 +207,7 @@ impl Rule {
 
     /// Whether a value of the inner form can be the argument at a place, counted from 0.
     pub fn accepts(&self, place: usize, given: &TypeInner) -> bool
-        ensures { result ≡ accepts_inner place given.now self.now }
+        ensures { result ≡ accepts_inner place (inner_view given.now) self.now }
     {
         match ValueType::of(given) {
             Some(given) => self.rank_at(place, given).is_some(),

@@ -2,6 +2,7 @@
 
 ghost use Rattle.std.specs.Prelude.{◌≡◌, ◌++◌, [], IfOk, OnOk, filter, min, max};
 ghost use Rattle.std.specs.List.{fold};
+ghost use Rattle.ir_types.specs.Plain.{inner_view};
 ghost use Rattle.overload_tables.specs.Ranks.{accepts_inner, is_concrete};
 ghost use Rattle.overload_tables.specs.Tables.{rules_over, row};
 ghost use Rattle.typing_overloads.specs.Sets.{arity, one_or_none, arguments_at};
@@ -36,7 +37,7 @@ fn accepting(
     place: usize,
     given: &TypeInner,
 ) -> Result<Vec<Rule>, AllocError>
-    ensures { IfOk result (λ left. left.items ≡ filter (accepts_inner place given.now) rules.now) }
+    ensures { IfOk result (λ left. left.items ≡ filter (accepts_inner place (inner_view given.now)) rules.now) }
 {
     let mut left = Vec::new(alloc);
     for rule in rules {

@@ -1,6 +1,7 @@
 //! What every overload set is.
 
 ghost use Rattle.std.specs.Prelude.{◌≡◌, ◌<◌, ◌==◌, List, IfOk, Some, filter, length, slice_get};
+ghost use Rattle.ir_types.specs.Plain.{inner_view};
 ghost use Rattle.overload_tables.specs.declared.rules.Rule.{Rule};
 ghost use Rattle.overload_tables.specs.Ranks.{accepts_inner, is_concrete};
 ghost use Rattle.typing_overloads.specs.Sets.{fewest_arguments, most_arguments, arguments_at};
@@ -31,7 +32,7 @@ pub trait OverloadSet: Clone {
 
     /// The rules that accept an argument of the type `ty` at the place `i`, counted from 0. The error is want of memory.
     fn arg(&self, alloc: Global, i: usize, ty: &TypeInner) -> Result<Self, AllocError>
-        ensures { IfOk result (λ set. rules set ≡ filter (accepts_inner i ty.now) (rules self.now)) };
+        ensures { IfOk result (λ set. rules set ≡ filter (accepts_inner i (inner_view ty.now)) (rules self.now)) };
 
     /// The rules that have no abstract argument.
     fn concrete_only(self) -> Self
