@@ -1,6 +1,7 @@
 //! The rules of built-in functions of numbers: which types they take together, and what they give.
 #![tactic(auto)]
 
+pub mod laws;
 mod patterns;
 mod rules;
 

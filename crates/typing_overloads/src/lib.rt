@@ -13,6 +13,6 @@ pub use functions::MathFunctionExt;
 pub use list::List;
 pub use overload_set::OverloadSet;
 pub use overload_tables::{
-    Arguments, Conclusion, ConstructorSize, Rule, ValueType, conversion_rank,
+    Arguments, Conclusion, ConstructorSize, Rule, ValueType,
 };
 pub use regular::Regular;
