@@ -9,10 +9,9 @@ mod regular;
 mod rows;
 
 pub use any::AnyOverloadSet;
+pub use constructor_sets::{ConstructorSet, Members, OneBitsIter, ScalarSet};
 pub use functions::MathFunctionExt;
 pub use list::List;
 pub use overload_set::OverloadSet;
-pub use overload_tables::{
-    Arguments, Conclusion, ConstructorSize, Rule, ValueType,
-};
+pub use overload_tables::{Arguments, Conclusion, ConstructorSize, Rule, ValueType};
 pub use regular::Regular;

@@ -1,0 +1,6 @@
+//! The types that the rules of functions give in a module.
+#![tactic(auto)]
+
+mod conclusion;
+
+pub use conclusion::{ConclusionExt, MissingSpecialType};
