@@ -34,7 +34,7 @@ impl ConclusionExt for Conclusion {
 
     ghost given = { given_type };
 
-    #[tactic(auto, using(crate::proofs::Keys::lookup-is_handle))]
+    #[tactic(auto, using(crate::proofs::Keys::handle_found))]
     fn into_resolution(
         self,
         special_types: &SpecialTypes,
