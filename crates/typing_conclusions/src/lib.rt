@@ -2,5 +2,6 @@
 #![tactic(auto)]
 
 mod conclusion;
+mod tests;
 
 pub use conclusion::{ConclusionExt, MissingSpecialType};
