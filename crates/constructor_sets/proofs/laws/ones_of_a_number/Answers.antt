@@ -1,0 +1,11 @@
+use Rattle.constructor_sets.proofs.Ones.{sum_of_ones, rising_ones, powers_of_ones}
+use Rattle.constructor_sets.proofs.laws.ones_of_a_number.Goals as goal
+
+pub returns-clause-sum : goal.returns-clause-sum
+returns-clause-sum c = sum_of_ones c.args.bits c.ranges.bits.fits
+
+pub returns-clause-rising : goal.returns-clause-rising
+returns-clause-rising c = rising_ones c.args.bits
+
+pub returns-clause-powers : goal.returns-clause-powers
+returns-clause-powers c = powers_of_ones c.args.bits

@@ -1,0 +1,29 @@
+-- The one bits of a number.
+use Rattle.std.specs.Prelude.{◌≡◌, ◌<◌, ◌*◌, ◌/◌, ◌%◌, ◌^◌, ◌==◌, ℕ, zero, suc, List, [], ◌∷◌, Bool, true, false}
+
+abbrev pub put_if : {A : Type 0} → Bool → A → List A → List A
+put_if true x xs = x ∷ xs
+put_if false x xs = xs
+
+-- what stands at the places of a number's one bits, the lowest first
+abbrev pub chosen : {A : Type 0} → ℕ → List A → List A
+chosen bits [] = []
+chosen bits (x ∷ xs) = put_if (bits % 2 == 1) x (chosen (bits / 2) xs)
+
+-- so many powers of two, from one on
+abbrev pub powers : ℕ → ℕ → List ℕ
+powers power zero = []
+powers power (suc count) = power ∷ powers (2 * power) count
+
+-- the one bits of a number of 64 bits, each as the power of two that it stands for
+abbrev pub one_bits : ℕ → List ℕ
+one_bits bits = chosen bits (powers 1 64)
+
+-- each is greater than those before it, and than this number
+abbrev pub IsRisingFrom : ℕ → List ℕ → Type 0
+IsRisingFrom n [] = Unit {0}
+IsRisingFrom n (x ∷ xs) = (n < x) × IsRisingFrom x xs
+
+abbrev pub ArePowersOfTwo : List ℕ → Type 0
+ArePowersOfTwo [] = Unit {0}
+ArePowersOfTwo (x ∷ xs) = ((k : ℕ) × (x ≡ 2 ^ k)) × ArePowersOfTwo xs

@@ -1,0 +1,30 @@
+//! What holds of the sets and of one bits.
+
+ghost use Rattle.std.specs.Prelude.{◌≡◌, ◌++◌, [], ◌∷◌, sum};
+ghost use Rattle.ir_kinds.specs.Scalars.{boolean, abstract_int, abstract_float};
+ghost use Rattle.overload_tables.specs.Tables.{numbers, floats, integers, vectors};
+ghost use Rattle.constructor_sets.specs.Bits.{one_bits, IsRisingFrom, ArePowersOfTwo};
+ghost use Rattle.constructor_sets.specs.Members.{scalars_in, sizes_in};
+
+use crate::{ConstructorSet, ScalarSet};
+
+/// The one bits of a number rise, are powers of two, and have the number as their sum.
+pub fn ones_of_a_number(bits: u64)
+    ensures sum { sum (one_bits bits) ≡ bits }
+    ensures rising { IsRisingFrom 0 (one_bits bits) }
+    ensures powers { ArePowersOfTwo (one_bits bits) }
+{}
+
+/// The scalars of the named sets.
+pub fn named_sets()
+    ensures float { scalars_in ScalarSet.FLOAT.0 ≡ floats }
+    ensures numeric { scalars_in ScalarSet.NUMERIC.0 ≡ numbers }
+    ensures concrete_integer { scalars_in ScalarSet.CONCRETE_INTEGER.0 ≡ integers }
+    ensures integer { scalars_in ScalarSet.INTEGER.0 ≡ abstract_int ∷ integers }
+    ensures abstract_numbers { scalars_in ScalarSet.ABSTRACT.0 ≡ abstract_int ∷ abstract_float ∷ [] }
+    ensures concrete_float { abstract_float ∷ scalars_in ScalarSet.CONCRETE_FLOAT.0 ≡ floats }
+    ensures concrete { scalars_in ScalarSet.CONCRETE.0
+        ≡ integers ++ scalars_in ScalarSet.CONCRETE_FLOAT.0 ++ boolean ∷ [] }
+    ensures unimplemented { ScalarSet.FLOAT_ABSTRACT_UNIMPLEMENTED.0 ≡ ScalarSet.CONCRETE_FLOAT.0 }
+    ensures vectors { sizes_in ConstructorSet.VECN.0 ≡ vectors }
+{}

@@ -1,0 +1,15 @@
+//! What holds of rules, whatever arguments are supplied.
+
+ghost use Rattle.overload_tables.specs.Laws.{PreferredIsBest, DemandsCommute, DemandsRepeat};
+
+/// Of the rules of a function that any arguments leave, and any call for concrete ones, none has a smaller rank than
+/// the first one at an argument that was supplied.
+pub fn preferred_is_best()
+    ensures { PreferredIsBest }
+{}
+
+/// Arguments may be supplied in any order, and again.
+pub fn arguments_filter()
+    ensures commute { DemandsCommute }
+    ensures repeat { DemandsRepeat }
+{}

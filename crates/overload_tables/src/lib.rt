@@ -1,0 +1,9 @@
+//! The rules of built-in functions of numbers: which types they take together, and what they give.
+#![tactic(auto)]
+
+pub mod laws;
+mod patterns;
+mod rules;
+
+pub use patterns::Pattern;
+pub use rules::{Arguments, Conclusion, ConstructorSize, Rule, ValueType};

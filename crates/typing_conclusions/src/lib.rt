@@ -1,0 +1,7 @@
+//! The types that the rules of functions give in a module.
+#![tactic(auto)]
+
+mod conclusion;
+mod tests;
+
+pub use conclusion::{ConclusionExt, MissingSpecialType};

@@ -1,0 +1,3 @@
+pub mod Either
+pub mod Rows
+pub mod Sets

@@ -1,0 +1,28 @@
+-- What lists of rules have.
+use Rattle.std.specs.Prelude.{ℕ, List, [], ◌∷◌, Option, Some, None, length, slice_get, min, max}
+use Rattle.std.specs.List.{fold, flat_map}
+use Rattle.overload_tables.specs.declared.rules.Rule.{Rule}
+use Rattle.overload_tables.specs.declared.rules.ValueType.{ValueType}
+use Rattle.overload_tables.specs.Types.{listed}
+
+-- how many arguments a rule has
+abbrev pub arity : Rule → ℕ
+arity rule = length (listed rule.arguments)
+
+-- the least number of arguments, and 0 where there is no rule
+abbrev pub fewest_arguments : List Rule → ℕ
+fewest_arguments [] = 0
+fewest_arguments (rule ∷ rules) = fold (λ n r. min n (arity r)) (arity rule) rules
+
+-- the greatest number of arguments, and 0 where there is no rule
+abbrev pub most_arguments : List Rule → ℕ
+most_arguments [] = 0
+most_arguments (rule ∷ rules) = fold (λ n r. max n (arity r)) (arity rule) rules
+
+abbrev pub one_or_none : Option ValueType → List ValueType
+one_or_none (Some wanted) = wanted ∷ []
+one_or_none None = []
+
+-- what the rules ask for at a place, without those that have no such argument
+abbrev pub arguments_at : ℕ → List Rule → List ValueType
+arguments_at place rules = flat_map (λ rule. one_or_none (slice_get (listed rule.arguments) place)) rules

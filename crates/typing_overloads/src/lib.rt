@@ -1,0 +1,17 @@
+//! Overload sets: the rules of a built-in function that the arguments given so far leave.
+#![tactic(auto)]
+
+mod any;
+mod functions;
+mod list;
+mod overload_set;
+mod regular;
+mod rows;
+
+pub use any::AnyOverloadSet;
+pub use constructor_sets::{ConstructorSet, Members, OneBitsIter, ScalarSet};
+pub use functions::MathFunctionExt;
+pub use list::List;
+pub use overload_set::OverloadSet;
+pub use overload_tables::{Arguments, Conclusion, ConstructorSize, Rule, ValueType};
+pub use regular::Regular;
