@@ -96,6 +96,12 @@ is_end (item d ds) = false
 abbrev pub at_end : {A : Type 0} → A → Items → Option A
 at_end x ds = if is_end ds then Some x else None
 
+-- the one item that there is
+abbrev pub only : Items → Option Data
+only ds = do
+  t ← first ds
+  if is_end t.1 then Some t.0 else None
+
 -- the first part, with what comes behind it
 abbrev pub front : {A : Type 0} → (Data → Option A) → Items → Option (A × Items)
 front f ds = do

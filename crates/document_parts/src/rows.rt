@@ -2,7 +2,7 @@
 ghost use Rattle.std.specs.Prelude.{◌≡◌, option_map};
 ghost use Rattle.serde_json.specs.Find.{as_str};
 ghost use Rattle.serde_json.specs.View.{view as data_of, items_view};
-ghost use Rattle.document_parts.specs.Find.{first, is_end, front, one, two, three, four, five, six, seven, eight, nine, tagged};
+ghost use Rattle.document_parts.specs.Find.{first, is_end, front, only, one, two, three, four, five, six, seven, eight, nine, tagged};
 
 use crate::part::Part;
 use serde_json::Value;
@@ -43,6 +43,14 @@ pub fn front<A: Part>(items: &[Value]) -> Option<(A, &[Value])>
 {
     let (item, rest) = first(items)?;
     Some((A::read(item)?, rest))
+}
+
+/// The one item that there is.
+pub fn only(items: &[Value]) -> Option<&Value>
+    ensures { option_map (λ v. data_of v.now) result ≡ only (items_view items.now) }
+{
+    let (item, rest) = first(items)?;
+    is_end(rest).then_some(item)
 }
 
 /// The one part that there is.

@@ -1,0 +1,11 @@
+//! The expressions of a document.
+#![tactic(auto)]
+
+mod expressions;
+mod images;
+mod kind_readers;
+mod kinds;
+mod literals;
+
+pub use expressions::{read_expression, read_expressions};
+pub use kinds::{ExpressionKind, LevelKind, LiteralKind, QueryKind};
