@@ -1,8 +1,8 @@
 -- What is found for an expression is what its form says.
-use Rattle.std.proofs.Common.{◌≡◌, ◌⊎◌, inl, inr, ℕ, List, [], ◌∷◌, map, length, Option, Some, None, option_map, option_and_then, cond, nat_eq, refl, sym, ap, subst, ◌∙◌, rules}
+use Rattle.std.proofs.Common.{◌≡◌, inl, inr, ℕ, List, [], ◌∷◌, Some, nat_eq, refl, ap, subst, ◌∙◌, rules}
 use borrow.Author.Tests.{eqb-true}
 use Rattle.std.specs.Prelude.{codes}
-use Rattle.serde_json.specs.Data.{Data, null, boolean, number, string, array, object, Items, no_items, item}
+use Rattle.serde_json.specs.Data.{Data, string, array, Items, item}
 use Rattle.serde_json.specs.Find.{as_bool, as_str}
 use Rattle.ir_kinds.specs.declared.values.Literal.{Literal}
 use Rattle.ir_kinds.specs.declared.values.Literal.TheVariants as literal
@@ -12,19 +12,15 @@ use Rattle.ir_expressions.specs.declared.expressions.SampleLevel.{SampleLevel}
 use Rattle.ir_expressions.specs.declared.expressions.SampleLevel.TheVariants as level
 use Rattle.ir_expressions.specs.declared.expressions.ImageQuery.{ImageQuery}
 use Rattle.ir_expressions.specs.declared.expressions.ImageQuery.TheVariants as query
-use Rattle.ir_expressions.specs.Plain.{PlainExpression, compose, plain as computes}
-use Rattle.ir_expressions.specs.declared.expressions.Expression.TheVariants as computed
-use Rattle.document_words.specs.Tables.{letters, cooperative_roles, unary_operators, binary_operators, derivative_axes, derivative_controls, relational_functions, math_functions, scalar_kinds}
-use Rattle.document_parts.specs.Form.{ANumber, AHandle, AU32, ASigned, ASize, ASide, ABool, AText, AWord, Maybe, AList, Ends, ◌▸◌, Tagged}
-use Rattle.document_parts.specs.Find.{number_of, handle_of, u32_of, signed_of, size_of, side_of, word_in, optional, all_of, at_end, one, two, three, four, five, six, nine, of_kind, of_word}
+use Rattle.document_words.specs.Tables.{letters}
+use Rattle.document_parts.specs.Form.{ANumber, AHandle, ASigned, ABool, AWord, Maybe, AList, Ends, ◌▸◌}
+use Rattle.document_parts.specs.Find.{number_of, handle_of, signed_of, word_in, optional, all_of, one, two}
 use Rattle.document_parts.proofs.Inverse.{bind_some, map_some, chosen, guarded, some_is, as_str_some}
-use Rattle.document_parts.proofs.PartLaws.{IsExact, number_exact, handle_exact, u32_exact, signed_exact, size_exact, side_exact, bool_exact, word_exact, optional_exact, list_exact}
-use Rattle.document_parts.proofs.RowLaws.{IsExactRow, at_end_sound, at_end_complete, one_exact, two_exact, three_exact, four_exact, five_exact, six_exact, nine_exact, IsSpelled, kind_sound, kind_complete, word_sound, word_complete, made_sound, made_complete}
-use Rattle.document_expressions.specs.Kinds.{expression_word, expression_kinds, literal_word, literal_kinds, level_word, level_kinds, query_word, query_kinds}
-use Rattle.document_expressions.specs.Find.{literal_with, literal_of, level_with, level_of, query_with, query_of, letter_in, next_letter, last_letter, pattern_in, pattern_of, expression_with, expression_of}
-use Rattle.document_expressions.specs.Form.{ALiteral, ALevel, AQuery, letter_code, APattern, AnExpression}
-use Rattle.document_expressions.specs.declared.kinds.ExpressionKind.{ExpressionKind}
-use Rattle.document_expressions.specs.declared.kinds.ExpressionKind.TheVariants as exk
+use Rattle.document_parts.proofs.PartLaws.{IsExact, number_exact, handle_exact, signed_exact, bool_exact, word_exact, optional_exact, list_exact}
+use Rattle.document_parts.proofs.RowLaws.{IsExactRow, at_end_sound, at_end_complete, one_exact, two_exact, IsSpelled, kind_sound, kind_complete, word_sound, word_complete, made_sound, made_complete}
+use Rattle.document_expressions.specs.Kinds.{literal_word, literal_kinds, level_word, level_kinds, query_word, query_kinds}
+use Rattle.document_expressions.specs.Find.{literal_with, literal_of, level_with, level_of, query_with, query_of, letter_in, next_letter, last_letter, pattern_in, pattern_of}
+use Rattle.document_expressions.specs.Form.{ALiteral, ALevel, AQuery, letter_code, APattern}
 use Rattle.document_expressions.specs.declared.kinds.LiteralKind.{LiteralKind}
 use Rattle.document_expressions.specs.declared.kinds.LiteralKind.TheVariants as lik
 use Rattle.document_expressions.specs.declared.kinds.LevelKind.{LevelKind}

@@ -1,5 +1,5 @@
 -- What an expression's value is written for, found step by step; `Form` says what that means.
-use Rattle.std.specs.Prelude.{ℕ, List, [], ◌∷◌, Option, Some, None, option_map, option_and_then, ◌==◌, if◌then◌else◌}
+use Rattle.std.specs.Prelude.{ℕ, List, [], ◌∷◌, Option, Some, None, option_map, ◌==◌, if◌then◌else◌}
 use Rattle.serde_json.specs.Data.{Data, Items}
 use Rattle.serde_json.specs.Find.{as_bool, as_str}
 use Rattle.ir_kinds.specs.declared.values.Literal.{Literal}
@@ -13,7 +13,7 @@ use Rattle.ir_expressions.specs.declared.expressions.ImageQuery.TheVariants as q
 use Rattle.ir_expressions.specs.Plain.{PlainExpression, compose, plain as computes}
 use Rattle.ir_expressions.specs.declared.expressions.Expression.TheVariants as computed
 use Rattle.document_words.specs.Tables.{letters, cooperative_roles, unary_operators, binary_operators, derivative_axes, derivative_controls, relational_functions, math_functions, scalar_kinds}
-use Rattle.document_parts.specs.Find.{◌>>=◌, number_of, handle_of, u32_of, signed_of, size_of, side_of, word_in, optional, all_of, at_end, one, two, three, four, five, six, nine, of_kind, of_word}
+use Rattle.document_parts.specs.Find.{◌>>=◌, number_of, handle_of, u32_of, signed_of, size_of, side_of, word_in, optional, all_of, at_end, one, two, three, five, six, nine, of_kind, of_word}
 use Rattle.document_expressions.specs.Kinds.{expression_kinds, literal_kinds, level_kinds, query_kinds}
 use Rattle.document_expressions.specs.declared.kinds.ExpressionKind.{ExpressionKind}
 use Rattle.document_expressions.specs.declared.kinds.ExpressionKind.TheVariants as exk

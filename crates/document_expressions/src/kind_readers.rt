@@ -261,8 +261,8 @@ pub fn uniform_load_result(items: &[Value]) -> Option<Expression>
 pub fn array_length(items: &[Value]) -> Option<Expression>
     ensures { option_map expression_view result ≡ array_length_of (items_view items.now) }
 {
-    let array = one(items)?;
-    Some(Expression::ArrayLength(array))
+    let pointer = one(items)?;
+    Some(Expression::ArrayLength(pointer))
 }
 
 pub fn vertex_positions(items: &[Value]) -> Option<Expression>

@@ -5,6 +5,7 @@ mod expressions;
 mod images;
 mod kind_readers;
 mod kinds;
+pub mod laws;
 mod literals;
 
 pub use expressions::{read_expression, read_expressions};
