@@ -3,6 +3,7 @@
 
 mod bindings;
 mod kinds;
+pub mod laws;
 mod spaces;
 mod types;
 

@@ -37,7 +37,7 @@ handle_exact = number_exact 4294967294
 pub u32_exact : IsExact u32_of AU32
 u32_exact = number_exact 4294967295
 
-either_some : {A : Type 0} (o : Option A) (f : A → Option ℤ) (rest : Option ℤ) (z : ℤ) → or_else o f rest ≡ Some z
+pub either_some : {A B : Type 0} (o : Option A) (f : A → Option B) (rest : Option B) (z : B) → or_else o f rest ≡ Some z
     → ((x : A) × (o ≡ Some x) × (f x ≡ Some z)) ⊎ ((o ≡ None) × (rest ≡ Some z))
 either_some None f rest z e = inr (refl, e)
 either_some (Some x) f rest z e = inl (x, refl, e)

@@ -5,7 +5,7 @@ use Rattle.std.specs.Str.{bytes_eq}
 use Rattle.serde_json.specs.Data.{Data, null, boolean, number, string, array, object, Items, no_items, item}
 use Rattle.serde_json.specs.Find.{as_array, as_str}
 use Rattle.document_words.specs.Lookup.{lookup}
-use Rattle.document_parts.specs.Form.{AText, Ends, Starts, ◌▸◌, Tagged}
+use Rattle.document_parts.specs.Form.{AText, AnArray, Ends, Starts, ◌▸◌, Tagged}
 use Rattle.document_parts.specs.Find.{is_end, at_end, front, one, two, three, four, five, six, seven, eight, nine, tagged, of_kind, of_word}
 use Rattle.document_parts.proofs.Inverse.{bind_some, map_some, chosen, guarded, some_is, is_word, as_array_some, is_end_true}
 use Rattle.document_parts.proofs.PartLaws.{IsExact, text_exact}
@@ -190,3 +190,48 @@ made_sound make f Q row ds y e T use_it =
 
 pub made_complete : {A B : Type 0} (make : A → B) (f : Items → Option A) (Q : A → Items → Type 0) → IsExactRow f Q → (ds : Items) (x : A) → Q x ds → option_map make (f ds) ≡ Some (make x)
 made_complete make f Q row ds x h = ap (option_map make) (row.complete ds x h)
+
+-- ---- arrays
+
+pub array_exact : {A : Type 0} (f : Items → Option A) (Q : A → Items → Type 0) → IsExactRow f Q → IsExact (λ d. option_and_then f (as_array d)) (λ x d. AnArray (Q x) d)
+array_exact {A} f Q row = record { sound = found; complete = there }
+  where
+    found : (d : Data) (x : A) → option_and_then f (as_array d) ≡ Some x → AnArray (Q x) d
+    found d x e =
+        let a = bind_some f (as_array d) x e in
+        subst (AnArray (Q x)) (sym (as_array_some d a.0 a.1)) (row.sound a.0 x a.2)
+
+    there : (d : Data) (x : A) → AnArray (Q x) d → option_and_then f (as_array d) ≡ Some x
+    there null x h = absurd h
+    there (boolean b) x h = absurd h
+    there (number n) x h = absurd h
+    there (string s) x h = absurd h
+    there (array ds) x h = row.complete ds x h
+    there (object ms) x h = absurd h
+
+-- what is made of what is found in a value
+pub made_at_sound : {A B : Type 0} (make : A → B) (f : Data → Option A) (P : A → Data → Type 0) → IsExact f P → (d : Data) (y : B) → option_map make (f d) ≡ Some y → (T : B → Type 0) → ((x : A) → P x d → T (make x)) → T y
+made_at_sound make f P exact d y e T use_it =
+    let a = map_some make (f d) y e in
+    subst T a.2 (use_it a.0 (exact.sound d a.0 a.1))
+
+pub made_at_complete : {A B : Type 0} (make : A → B) (f : Data → Option A) (P : A → Data → Type 0) → IsExact f P → (d : Data) (x : A) → P x d → option_map make (f d) ≡ Some (make x)
+made_at_complete make f P exact d x h = ap (option_map make) (exact.complete d x h)
+
+-- ---- tables
+
+pub lookup_keeps : {A : Type 0} (P : A → Type 0) (table : List (List ℕ × A)) → AllByRecursion (λ e. P e.1) table → (w : List ℕ) (a : A) → lookup w table ≡ Some a → P a
+lookup_keeps P [] all w a e = cc
+lookup_keeps P (t ∷ ts) all w a e =
+    elim (chosen (bytes_eq w t.0) _ _ _ e) [
+      | inl here ↦ subst P (some_is t.1 a here.1) all.0
+      | inr there ↦ lookup_keeps P ts all.1 w a there.1
+    ]
+
+-- a text that comes first
+pub text_row : (ds : Items) (t : List ℕ × Items) → front as_str ds ≡ Some t → ds ≡ item (string t.0) t.1
+text_row ds t e = row_is ds t (front_sound as_str AText text_exact ds t e)
+  where
+    row_is : (ds : Items) (t : List ℕ × Items) → Starts (AText t.0) (λ r. r ≡ t.1) ds → ds ≡ item (string t.0) t.1
+    row_is no_items t h = absurd h
+    row_is (item x xs) t h = ap (λ y. item y xs) h.0 ∙ ap (item (string t.0)) h.1
