@@ -1,0 +1,10 @@
+//! The statements of a document.
+#![tactic(auto)]
+
+mod acts;
+mod kinds;
+mod parts;
+mod statements;
+
+pub use kinds::{AtomicKind, GatherKind, PipelineKind, QueryKind, StatementKind, ValueKind};
+pub use statements::block;
