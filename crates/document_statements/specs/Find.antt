@@ -1,11 +1,10 @@
 -- What a statement's value is written for, found step by step; `Form` says what that means.
-use Rattle.std.specs.Prelude.{ℕ, zero, suc, List, Option, Some, None, option_map, option_and_then}
+use Rattle.std.specs.Prelude.{ℕ, zero, suc, Option, None, option_map}
 use Rattle.serde_json.specs.Data.{Data, Items}
 use Rattle.serde_json.specs.Find.{as_array, as_bool}
 use Rattle.ir_items.specs.View.{PlainCase, block_of, cases_of}
 use Rattle.ir_kinds.specs.declared.values.SwitchValue.{SwitchValue}
 use Rattle.ir_kinds.specs.declared.values.SwitchValue.TheVariants as val
-use Rattle.ir_expressions.specs.declared.expressions.CooperativeData.{CooperativeData}
 use Rattle.ir_items.specs.declared.acts.AtomicFunction.{AtomicFunction}
 use Rattle.ir_items.specs.declared.acts.AtomicFunction.TheVariants as atm
 use Rattle.ir_items.specs.declared.acts.GatherMode.{GatherMode}
@@ -14,7 +13,7 @@ use Rattle.ir_items.specs.declared.acts.RayQueryFunction.{RayQueryFunction}
 use Rattle.ir_items.specs.declared.acts.RayQueryFunction.TheVariants as ray
 use Rattle.ir_items.specs.declared.acts.RayPipelineFunction.{RayPipelineFunction}
 use Rattle.ir_items.specs.declared.acts.RayPipelineFunction.TheVariants as pip
-use Rattle.ir_items.specs.Plain.{PlainAct, control_barrier, memory_barrier, store, image_store, atomic, image_atomic, uniform_load, ray_query, ballot, collective, gather, cooperative_store, ray_pipeline, PlainStatement, emit, block, choice, switch, loop, break, continue, return, kill, act, call, PlainBlock, stop, next, PlainCases, no_case, case}
+use Rattle.ir_items.specs.Plain.{control_barrier, memory_barrier, store, image_store, atomic, image_atomic, uniform_load, ray_query, ballot, collective, gather, cooperative_store, ray_pipeline, PlainStatement, emit, block, choice, switch, loop, break, continue, return, kill, act, call, PlainBlock}
 use Rattle.document_words.specs.Unions.{barrier_union}
 use Rattle.document_words.specs.Tables.{barriers, subgroup_operations, collective_operations, directions}
 use Rattle.document_parts.specs.Find.{◌>>=◌, handle_of, u32_of, signed_of, word_in, set_of, optional, all_of, at_end, one, two, three, four, five, of_kind}

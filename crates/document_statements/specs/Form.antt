@@ -1,9 +1,8 @@
 -- How statements are written.
-use Rattle.std.specs.Prelude.{ℕ, codes}
+use Rattle.std.specs.Prelude.{codes}
 use Rattle.serde_json.specs.Data.{Data, Items}
 use Rattle.ir_kinds.specs.declared.values.SwitchValue.{SwitchValue}
 use Rattle.ir_kinds.specs.declared.values.SwitchValue.TheVariants as val
-use Rattle.ir_expressions.specs.declared.expressions.CooperativeData.{CooperativeData}
 use Rattle.ir_items.specs.declared.acts.AtomicFunction.{AtomicFunction}
 use Rattle.ir_items.specs.declared.acts.AtomicFunction.TheVariants as atm
 use Rattle.ir_items.specs.declared.acts.GatherMode.{GatherMode}
@@ -15,11 +14,11 @@ use Rattle.ir_items.specs.declared.acts.RayPipelineFunction.TheVariants as pip
 use Rattle.ir_items.specs.Plain.{PlainAct, control_barrier, memory_barrier, store, image_store, atomic, image_atomic, uniform_load, ray_query, ballot, collective, gather, cooperative_store, ray_pipeline, PlainStatement, emit, block, choice, switch, loop, break, continue, return, kill, act, call, PlainBlock, stop, next, PlainCases, no_case, case}
 use Rattle.document_words.specs.Unions.{barrier_union}
 use Rattle.document_words.specs.Tables.{barriers, subgroup_operations, collective_operations, directions}
-use Rattle.document_parts.specs.Form.{AHandle, AU32, ASigned, ABool, AText, AWord, ASet, Maybe, AnArray, AList, Ends, Starts, ◌▸◌, Tagged}
+use Rattle.document_parts.specs.Form.{AHandle, AU32, ASigned, ABool, AWord, ASet, Maybe, AnArray, AList, Ends, Starts, ◌▸◌, Tagged}
 
 unfoldable pub AValue : SwitchValue → Data → Type 0
-AValue (val.I32 number) = Tagged (codes "I32") (ASigned 2147483647 number ▸ Ends)
-AValue (val.U32 number) = Tagged (codes "U32") (AU32 number ▸ Ends)
+AValue (val.I32 amount) = Tagged (codes "I32") (ASigned 2147483647 amount ▸ Ends)
+AValue (val.U32 amount) = Tagged (codes "U32") (AU32 amount ▸ Ends)
 AValue val.Default = Tagged (codes "Default") Ends
 
 unfoldable pub AnAtomic : AtomicFunction → Data → Type 0

@@ -3,6 +3,7 @@
 
 mod acts;
 mod kinds;
+pub mod laws;
 mod parts;
 mod statements;
 
