@@ -4,7 +4,7 @@ use document_items::read_type;
 use std::alloc::AllocError;
 
 // Each kind and each word, at the ends of its ranges.
-const GOOD: [&str; 168] = [
+const GOOD: [&str; 170] = [
     "[null,[\"Scalar\",\"bool\"]]",
     "[null,[\"Scalar\",\"i16\"]]",
     "[null,[\"Scalar\",\"u16\"]]",
@@ -173,6 +173,8 @@ const GOOD: [&str; 168] = [
     "[null,[\"Struct\",[[\"m\",0,[\"Location\",0,null,null,4294967295,false],0],[null,1,null,4294967295]],8]]",
     "[\"\",[\"Scalar\",\"bool\"]]",
     "[\"é\",[\"Scalar\",\"bool\"]]",
+    "[null,[\"Pointer\",0,[\"Storage\",[\"LOAD\"]]]]",
+    "[\"s\",[\"Struct\",[[\"a\",0,null,0]],4]]",
 ];
 
 // A number past its end, a word or an arity of no kind, `null` where it may not stand.
