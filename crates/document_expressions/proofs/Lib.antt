@@ -1,0 +1,2 @@
+pub mod ExpressionParts
+pub mod ExpressionLaws

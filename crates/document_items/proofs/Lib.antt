@@ -1,0 +1,2 @@
+pub mod PartTypeLaws
+pub mod TypeLaws

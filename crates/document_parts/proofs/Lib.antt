@@ -1,0 +1,4 @@
+pub mod Steps
+pub mod Inverse
+pub mod PartLaws
+pub mod RowLaws

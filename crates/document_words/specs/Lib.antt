@@ -1,0 +1,3 @@
+pub mod Lookup
+pub mod Tables
+pub mod Unions

@@ -1,0 +1,14 @@
+-- Sets of bits, joined.
+use Rattle.std.specs.Int.RustNames.{bit_or}
+use Rattle.ir_flags.specs.declared.memory.StorageAccess.{StorageAccess}
+use Rattle.ir_flags.specs.declared.memory.Barrier.{Barrier}
+use Rattle.ir_flags.specs.declared.memory.MemoryDecorations.{MemoryDecorations}
+
+abbrev pub access_union : StorageAccess → StorageAccess → StorageAccess
+access_union a b = record { 0 = bit_or a.0 b.0 }
+
+abbrev pub barrier_union : Barrier → Barrier → Barrier
+barrier_union a b = record { 0 = bit_or a.0 b.0 }
+
+abbrev pub decoration_union : MemoryDecorations → MemoryDecorations → MemoryDecorations
+decoration_union a b = record { 0 = bit_or a.0 b.0 }
