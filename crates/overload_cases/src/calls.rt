@@ -59,9 +59,11 @@ pub fn is_due(alloc: Global, case: &Value) -> Result<bool> {
             let left = set.overload_list(alloc)?.len() as u64;
             let first = preferred(&set);
             let concrete = preferred(&set.concrete_only());
-            Ok(left == number(case, 3)?
-                && first == due_rule(item(case, 4)?)?
-                && concrete == due_rule(item(case, 5)?)?)
+            Ok(
+                left == number(case, 3)?
+                    && first == due_rule(item(case, 4)?)?
+                    && concrete == due_rule(item(case, 5)?)?,
+            )
         }
         other => Err(anyhow!("an unknown case: {other}")),
     }
@@ -104,12 +106,24 @@ fn rows(alloc: Global) -> Result<()> {
     let word = one(Scalar::U32);
     let real = one(Scalar::F32);
     let sin = after(alloc, MathFunction::Sin, &[(0, int)])?;
-    ensure!(preferred(&sin) == gives(Arguments::One(float), float), "sin");
+    ensure!(
+        preferred(&sin) == gives(Arguments::One(float), float),
+        "sin"
+    );
     let sin = sin.concrete_only();
-    ensure!(preferred(&sin) == gives(Arguments::One(real), real), "concrete sin");
+    ensure!(
+        preferred(&sin) == gives(Arguments::One(real), real),
+        "concrete sin"
+    );
     let max = after(alloc, MathFunction::Max, &[(0, int), (1, word)])?;
-    ensure!(preferred(&max) == gives(Arguments::Two(word, word), word), "max");
-    ensure!(after(alloc, MathFunction::Sign, &[(0, word)])?.is_empty(), "sign");
+    ensure!(
+        preferred(&max) == gives(Arguments::Two(word, word), word),
+        "max"
+    );
+    ensure!(
+        after(alloc, MathFunction::Sign, &[(0, word)])?.is_empty(),
+        "sign"
+    );
     let triple = of(VEC3, Scalar::F32);
     let mix = after(alloc, MathFunction::Mix, &[(0, triple), (2, real)])?;
     ensure!(
@@ -118,14 +132,23 @@ fn rows(alloc: Global) -> Result<()> {
     );
     let pair = of(VEC2, Scalar::ABSTRACT_INT);
     let dot = after(alloc, MathFunction::Dot, &[(0, pair), (1, pair)])?;
-    ensure!(preferred(&dot) == gives(Arguments::Two(pair, pair), int), "dot");
+    ensure!(
+        preferred(&dot) == gives(Arguments::Two(pair, pair), int),
+        "dot"
+    );
     Ok(())
 }
 
 fn one_bits() -> Result<()> {
     let mut ones = OneBitsIter::new(11);
-    ensure!(ones.next() == Some(1) && ones.next() == Some(2), "the low bits of 11");
-    ensure!(ones.next() == Some(8) && ones.next().is_none(), "the high bit of 11");
+    ensure!(
+        ones.next() == Some(1) && ones.next() == Some(2),
+        "the low bits of 11"
+    );
+    ensure!(
+        ones.next() == Some(8) && ones.next().is_none(),
+        "the high bit of 11"
+    );
     Ok(())
 }
 
@@ -135,44 +158,95 @@ fn sets() -> Result<()> {
     ensure!(members.next() == Some(ScalarSet::U32), "the first member");
     ensure!(members.next() == Some(ScalarSet::F32), "the second member");
     ensure!(members.next().is_none(), "a third member");
-    ensure!(two.scalars().next() == Some(Scalar::U32), "the first scalar");
+    ensure!(
+        two.scalars().next() == Some(Scalar::U32),
+        "the first scalar"
+    );
     let wider = ScalarSet::convertible_from(Scalar::ABSTRACT_FLOAT);
-    ensure!(wider == ScalarSet::FLOAT, "what an abstract float converts to");
-    ensure!(wider.most_general_scalar() == Scalar::ABSTRACT_FLOAT, "the most general float");
-    ensure!(ScalarSet::singleton(Scalar::I16) == ScalarSet::I16, "the set of one scalar");
+    ensure!(
+        wider == ScalarSet::FLOAT,
+        "what an abstract float converts to"
+    );
+    ensure!(
+        wider.most_general_scalar() == Scalar::ABSTRACT_FLOAT,
+        "the most general float"
+    );
+    ensure!(
+        ScalarSet::singleton(Scalar::I16) == ScalarSet::I16,
+        "the set of one scalar"
+    );
     let inner = of(VEC3, Scalar::F32).to_inner();
     let shape = ConstructorSet::singleton(&inner);
     ensure!(shape == ConstructorSet::VEC3, "the set of one shape");
-    ensure!(shape.is_singleton() && shape.size() == VEC3, "the one shape");
+    ensure!(
+        shape.is_singleton() && shape.size() == VEC3,
+        "the one shape"
+    );
     ensure!(!ConstructorSet::VECN.is_singleton(), "three shapes");
-    ensure!(ConstructorSet::VECN.sizes().next() == Some(VEC2), "the first shape");
-    ensure!(ConstructorSet::VECN.members().next() == Some(ConstructorSet::VEC2), "the first set");
+    ensure!(
+        ConstructorSet::VECN.sizes().next() == Some(VEC2),
+        "the first shape"
+    );
+    ensure!(
+        ConstructorSet::VECN.members().next() == Some(ConstructorSet::VEC2),
+        "the first set"
+    );
     let sampler = TypeInner::Sampler { comparison: false };
-    ensure!(ConstructorSet::singleton(&sampler) == ConstructorSet(0), "no shape");
+    ensure!(
+        ConstructorSet::singleton(&sampler) == ConstructorSet(0),
+        "no shape"
+    );
     Ok(())
 }
 
 fn small_calls(alloc: Global) -> Result<()> {
     let mix = MathFunction::Mix.overloads(alloc)?;
     let same = mix.clone()?;
-    ensure!(same.overload_list(alloc)?.len() == 28, "a clone has all rules");
+    ensure!(
+        same.overload_list(alloc)?.len() == 28,
+        "a clone has all rules"
+    );
     ensure!(!mix.is_empty(), "Mix has rules");
-    ensure!(mix.min_arguments() == 3 && mix.max_arguments() == 3, "three arguments");
+    ensure!(
+        mix.min_arguments() == 3 && mix.max_arguments() == 3,
+        "three arguments"
+    );
     let asked = mix.allowed_args(alloc, 2)?;
-    ensure!(asked.len() == 28 && asked.first() == Some(&one(Scalar::ABSTRACT_FLOAT)), "third ones");
+    ensure!(
+        asked.len() == 28 && asked.first() == Some(&one(Scalar::ABSTRACT_FLOAT)),
+        "third ones"
+    );
     ensure!(mix.allowed_args(alloc, 3)?.is_empty(), "no fourth argument");
     let sampler = TypeInner::Sampler { comparison: false };
-    ensure!(mix.arg(alloc, 0, &sampler)?.is_empty(), "a sampler is no number");
+    ensure!(
+        mix.arg(alloc, 0, &sampler)?.is_empty(),
+        "a sampler is no number"
+    );
     let real = one(Scalar::F32);
     let rule = Rule {
         arguments: Arguments::Two(real, real),
         conclusion: Conclusion::Value(real),
     };
-    ensure!(rule.arguments.len() == 2 && rule.arguments.get(2).is_none(), "two arguments");
-    ensure!(rule.rank_at(1, one(Scalar::ABSTRACT_INT)) == Some(11), "an integer for a float");
-    ensure!(rule.accepts(0, &real.to_inner()) && rule.is_concrete(), "a float for a float");
-    ensure!(real.rank_to(one(Scalar::F16)).is_none(), "a float for a shorter one");
-    ensure!(ValueType::of(&VEC2.to_inner(Scalar::F32)) == Some(of(VEC2, Scalar::F32)), "a pair");
+    ensure!(
+        rule.arguments.len() == 2 && rule.arguments.get(2).is_none(),
+        "two arguments"
+    );
+    ensure!(
+        rule.rank_at(1, one(Scalar::ABSTRACT_INT)) == Some(11),
+        "an integer for a float"
+    );
+    ensure!(
+        rule.accepts(0, &real.to_inner()) && rule.is_concrete(),
+        "a float for a float"
+    );
+    ensure!(
+        real.rank_to(one(Scalar::F16)).is_none(),
+        "a float for a shorter one"
+    );
+    ensure!(
+        ValueType::of(&VEC2.to_inner(Scalar::F32)) == Some(of(VEC2, Scalar::F32)),
+        "a pair"
+    );
     ensure!(VEC3.place() == 2, "the place of three");
     Ok(())
 }

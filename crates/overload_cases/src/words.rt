@@ -102,7 +102,8 @@ static SCALARS: [(&str, Scalar); 12] = [
 
 /// The item at a place.
 pub fn item(list: &Value, place: usize) -> Result<&Value> {
-    list.get(place).ok_or_else(|| anyhow!("a list is too short"))
+    list.get(place)
+        .ok_or_else(|| anyhow!("a list is too short"))
 }
 
 /// The text at a place.
