@@ -6,10 +6,10 @@ use ir_items::{Block, Statement};
 use std::alloc::{AllocError, Global};
 use std::test::Fail;
 
-const MOST_STEPS: usize = 2000;
+const MOST_STEPS: usize = 1000;
 
 /// How many bytes more are left at each step: the least by which the C library tells two blocks apart.
-const STEP: usize = 16;
+const STEP: usize = 32;
 
 /// More than the calls need.
 const SPARE: usize = 1 << 15;
@@ -148,7 +148,7 @@ fn little_memory_for_room(rt: HostRuntime) -> Result<(), Fail> {
         let made = Block::with_capacity(rt.alloc(), 8);
         drop(little);
         if made.is_ok() {
-            assert!(rt; step > 10, "only {step} refusals");
+            assert!(rt; step > 5, "only {step} refusals");
             return Ok(());
         }
     }

@@ -11,7 +11,7 @@ use std::test::Fail;
 const MOST_STEPS: usize = 2000;
 
 /// How many bytes more are left at each step: the least by which the C library tells two blocks apart.
-const STEP: usize = 16;
+const STEP: usize = 32;
 
 /// More than the returns need.
 const SPARE: usize = 1 << 16;
@@ -109,6 +109,25 @@ fn wide_with_returns(alloc: Global) -> Result<Block, AllocError> {
     with(block(alloc, emit())?, Statement::Block(inner))
 }
 
+/// A block of four statements that has room for no other.
+fn full(alloc: Global) -> Result<Block, AllocError> {
+    let mut full = Block::with_capacity(alloc, 4)?;
+    for _ in 0..4 {
+        full.push(emit(), Span::UNDEFINED)?;
+    }
+    Ok(full)
+}
+
+/// A choice between two blocks of such statements, and what it is with its returns.
+fn full_sides(alloc: Global) -> Result<Block, AllocError> {
+    block(alloc, choice(full(alloc)?, full(alloc)?))
+}
+
+fn full_sides_with_returns(alloc: Global) -> Result<Block, AllocError> {
+    let accept = with(full(alloc)?, RETURN)?;
+    block(alloc, choice(accept, with(full(alloc)?, RETURN)?))
+}
+
 /// Whether returns are put into the body as they are due, by both calls, and no more when they are put in again.
 fn puts_in(alloc: Global, body: Block, due: &Block) -> Result<bool, AllocError> {
     let copy = complete(alloc, &body)?;
@@ -177,12 +196,12 @@ fn returns_in_each_kind_of_tail(rt: HostRuntime) -> Result<(), Fail> {
 #[test]
 fn little_memory_for_returns(rt: HostRuntime) -> Result<(), Fail> {
     let alloc = rt.alloc();
-    let before = wide(alloc)?;
-    let after = wide_with_returns(alloc)?;
+    let before = full_sides(alloc)?;
+    let after = full_sides_with_returns(alloc)?;
     let mut refusals = 0usize;
     let mut done = false;
     for step in 0..MOST_STEPS {
-        let mut body = wide(alloc)?;
+        let mut body = full_sides(alloc)?;
         let mut hog = Hog::new(alloc)?;
         let spare: Vec<u8> = Vec::with_capacity(alloc, SPARE)?;
         let filled = hog.fill(alloc);

@@ -2,6 +2,7 @@ pub mod Canonical
 pub mod Constructible
 pub mod Conversions
 pub mod Elements
+pub mod Equivalence
 pub mod Lengths
 pub mod Parts
 pub mod Sizes

@@ -1,8 +1,9 @@
 //! Which types are equivalent.
 
-ghost use Rattle.std.specs.Prelude.{◌≡◌, ◌↔◌, IsTrue};
+ghost use Rattle.std.specs.Prelude.{◌↔◌, IsTrue};
 ghost use Rattle.typing_forms.specs.Resolutions.{types_view, resolution_view};
-ghost use Rattle.typing_forms.specs.Forms.{form_of, NoStructValue};
+ghost use Rattle.typing_forms.specs.Forms.{NoStructValue};
+ghost use Rattle.typing_rules.specs.Equivalence.{AreEquivalent};
 
 use ir_arena::unique_arena::UniqueArena;
 use ir_types::{IrType, key};
@@ -18,9 +19,7 @@ pub fn compare_types(
 ) -> bool
     requires left { NoStructValue (resolution_view lhs.now) }
     requires right { NoStructValue (resolution_view rhs.now) }
-    ensures { IsTrue result
-        ↔ (form_of (types_view types.now) (resolution_view lhs.now)
-        ≡ form_of (types_view types.now) (resolution_view rhs.now)) }
+    ensures { IsTrue result ↔ AreEquivalent (types_view types.now) (resolution_view lhs.now) (resolution_view rhs.now) }
 {
     form_equality(form_of(types, lhs), form_of(types, rhs))
 }

@@ -94,9 +94,12 @@ fn laws(rt: HostRuntime) -> Result<(), Fail> {
     let types = types(rt.alloc())?;
     let number = TypeResolution::Handle(place(0));
     let value = TypeResolution::Value(TypeInner::Scalar(Scalar::F32));
-    assert!(rt; compare_reflexive(&number, &types));
-    assert!(rt; compare_symmetric(&number, &value, &types));
-    assert!(rt; compare_transitive(&number, &value, &number, &types));
+    assert!(rt; compare_types(&number, &number, &types));
+    assert!(rt; compare_types(&number, &value, &types));
+    assert!(rt; compare_types(&value, &number, &types));
+    compare_reflexive();
+    compare_symmetric();
+    compare_transitive();
     Ok(())
 }
 

@@ -1,0 +1,18 @@
+-- Which types are equivalent.
+use Rattle.std.specs.Prelude.{◌≡◌, List}
+use Rattle.ir_types.specs.Plain.{PlainType}
+use Rattle.typing_forms.specs.Forms.{form_of}
+use Rattle.typing_forms.specs.Resolutions.{PlainResolution}
+
+-- they have one canonical form
+abbrev pub AreEquivalent : List PlainType → PlainResolution → PlainResolution → Type 0
+AreEquivalent types a b = form_of types a ≡ form_of types b
+
+abbrev pub EquivalentToItself : Type 0
+EquivalentToItself = (types : List PlainType) (a : PlainResolution) → AreEquivalent types a a
+
+abbrev pub EquivalentBothWays : Type 0
+EquivalentBothWays = (types : List PlainType) (a b : PlainResolution) → AreEquivalent types a b → AreEquivalent types b a
+
+abbrev pub EquivalentAlong : Type 0
+EquivalentAlong = (types : List PlainType) (a b c : PlainResolution) → AreEquivalent types a b → AreEquivalent types b c → AreEquivalent types a c
