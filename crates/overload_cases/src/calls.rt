@@ -100,12 +100,10 @@ const fn gives(arguments: Arguments, value: ValueType) -> Option<Rule> {
     })
 }
 
-fn rows(alloc: Global) -> Result<()> {
+fn rows_of_one(alloc: Global) -> Result<()> {
     let float = one(Scalar::ABSTRACT_FLOAT);
-    let int = one(Scalar::ABSTRACT_INT);
-    let word = one(Scalar::U32);
     let real = one(Scalar::F32);
-    let sin = after(alloc, MathFunction::Sin, &[(0, int)])?;
+    let sin = after(alloc, MathFunction::Sin, &[(0, one(Scalar::ABSTRACT_INT))])?;
     ensure!(
         preferred(&sin) == gives(Arguments::One(float), float),
         "sin"
@@ -115,26 +113,35 @@ fn rows(alloc: Global) -> Result<()> {
         preferred(&sin) == gives(Arguments::One(real), real),
         "concrete sin"
     );
+    let sign = after(alloc, MathFunction::Sign, &[(0, one(Scalar::U32))])?;
+    ensure!(sign.is_empty(), "sign");
+    Ok(())
+}
+
+fn rows_of_two(alloc: Global) -> Result<()> {
+    let int = one(Scalar::ABSTRACT_INT);
+    let word = one(Scalar::U32);
     let max = after(alloc, MathFunction::Max, &[(0, int), (1, word)])?;
     ensure!(
         preferred(&max) == gives(Arguments::Two(word, word), word),
         "max"
-    );
-    ensure!(
-        after(alloc, MathFunction::Sign, &[(0, word)])?.is_empty(),
-        "sign"
-    );
-    let triple = of(VEC3, Scalar::F32);
-    let mix = after(alloc, MathFunction::Mix, &[(0, triple), (2, real)])?;
-    ensure!(
-        preferred(&mix) == gives(Arguments::Three(triple, triple, real), triple),
-        "mix"
     );
     let pair = of(VEC2, Scalar::ABSTRACT_INT);
     let dot = after(alloc, MathFunction::Dot, &[(0, pair), (1, pair)])?;
     ensure!(
         preferred(&dot) == gives(Arguments::Two(pair, pair), int),
         "dot"
+    );
+    Ok(())
+}
+
+fn rows_of_three(alloc: Global) -> Result<()> {
+    let triple = of(VEC3, Scalar::F32);
+    let real = one(Scalar::F32);
+    let mix = after(alloc, MathFunction::Mix, &[(0, triple), (2, real)])?;
+    ensure!(
+        preferred(&mix) == gives(Arguments::Three(triple, triple, real), triple),
+        "mix"
     );
     Ok(())
 }
@@ -175,6 +182,10 @@ fn sets() -> Result<()> {
         ScalarSet::singleton(Scalar::I16) == ScalarSet::I16,
         "the set of one scalar"
     );
+    Ok(())
+}
+
+fn shapes() -> Result<()> {
     let inner = of(VEC3, Scalar::F32).to_inner();
     let shape = ConstructorSet::singleton(&inner);
     ensure!(shape == ConstructorSet::VEC3, "the set of one shape");
@@ -217,6 +228,11 @@ fn small_calls(alloc: Global) -> Result<()> {
         "third ones"
     );
     ensure!(mix.allowed_args(alloc, 3)?.is_empty(), "no fourth argument");
+    Ok(())
+}
+
+fn other_calls(alloc: Global) -> Result<()> {
+    let mix = MathFunction::Mix.overloads(alloc)?;
     let sampler = TypeInner::Sampler { comparison: false };
     ensure!(
         mix.arg(alloc, 0, &sampler)?.is_empty(),
@@ -253,10 +269,14 @@ fn small_calls(alloc: Global) -> Result<()> {
 
 /// Runs each call once.
 pub fn every_call(rt: &HostRuntime) -> Result<()> {
-    rows(rt.alloc())?;
+    rows_of_one(rt.alloc())?;
+    rows_of_two(rt.alloc())?;
+    rows_of_three(rt.alloc())?;
     one_bits()?;
     sets()?;
+    shapes()?;
     small_calls(rt.alloc())?;
+    other_calls(rt.alloc())?;
     println!(rt; "each call answers what is due")?;
     Ok(())
 }
