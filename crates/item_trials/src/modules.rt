@@ -74,8 +74,6 @@ fn functions_are_copied(rt: HostRuntime) -> Result<(), Fail> {
     assert!(rt; is_alike(&source, &copy));
     assert_eq!(rt; copy.expressions.get_span(Handle::at(0)), Span::new(10, 12));
     assert!(rt; !is_alike(&source, &Function::new(rt.alloc())));
-    assert!(rt; source == copy);
-    assert!(rt; source != Function::new(rt.alloc()));
     Ok(())
 }
 
@@ -110,10 +108,6 @@ fn entry_points_are_copied(rt: HostRuntime) -> Result<(), Fail> {
     assert_eq!(rt; copy.mesh_info, source.mesh_info);
     assert_eq!(rt; copy.task_payload, Some(Handle::at(4)));
     assert!(rt; is_alike(&source.function, &copy.function));
-    assert!(rt; source == copy);
-    let mut other = copy;
-    other.workgroup_size = [8, 4, 2];
-    assert!(rt; source != other);
     Ok(())
 }
 
@@ -214,8 +208,6 @@ fn modules_are_copied(rt: HostRuntime) -> Result<(), Fail> {
     assert_eq!(rt; copy.functions.get_span(Handle::at(0)), Span::new(5, 6));
     assert_eq!(rt; copy.diagnostic_filter_leaf, Some(Handle::at(7)));
     assert_eq!(rt; copy.entry_points.len(), 0);
-    assert!(rt; copy == module);
-    assert!(rt; copy != Module::new(alloc));
     Ok(())
 }
 
@@ -233,10 +225,11 @@ fn of_one_constant(alloc: Global, span: Span) -> Result<Module, AllocError> {
 
 #[test]
 fn equal_modules_have_the_same_spans(rt: HostRuntime) -> Result<(), Fail> {
-    let alloc = rt.alloc();
-    let module = of_one_constant(alloc, Span::new(1, 2))?;
-    assert!(rt; module == of_one_constant(alloc, Span::new(1, 2))?);
-    assert!(rt; module != of_one_constant(alloc, Span::new(1, 3))?);
+    let module = of_one_constant(rt.alloc(), Span::new(1, 2))?;
+    let same = of_one_constant(rt.alloc(), Span::new(1, 2))?;
+    let other = of_one_constant(rt.alloc(), Span::new(1, 3))?;
+    assert!(rt; module == same);
+    assert!(rt; module != other);
     Ok(())
 }
 
