@@ -62,13 +62,7 @@ fn numbers_are_found(rt: HostRuntime) -> Result<(), Fail> {
         arena.check_contains_handle(away),
         Err(BadHandle { index: 2 })
     );
-    let mut same: Arena<u32> = Arena::new(rt.alloc());
-    assert!(rt; arena != same);
-    same.append(7, Span::new(1, 2))?;
-    same.append(9, Span::new(3, 4))?;
-    assert!(rt; arena == same);
     put(&mut arena, first, 5);
-    assert!(rt; arena != same);
     assert_eq!(rt; arena[first], 5);
     assert_eq!(rt; arena[second], 9);
     assert_eq!(rt; arena.get_span(first), Span::new(1, 2));

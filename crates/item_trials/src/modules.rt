@@ -211,28 +211,6 @@ fn modules_are_copied(rt: HostRuntime) -> Result<(), Fail> {
     Ok(())
 }
 
-/// A module with one unnamed constant at this span.
-fn of_one_constant(alloc: Global, span: Span) -> Result<Module, AllocError> {
-    let mut module = Module::new(alloc);
-    let constant = Constant {
-        name: None,
-        ty: Handle::at(0),
-        init: Handle::at(0),
-    };
-    module.constants.append(constant, span)?;
-    Ok(module)
-}
-
-#[test]
-fn equal_modules_have_the_same_spans(rt: HostRuntime) -> Result<(), Fail> {
-    let module = of_one_constant(rt.alloc(), Span::new(1, 2))?;
-    let same = of_one_constant(rt.alloc(), Span::new(1, 2))?;
-    let other = of_one_constant(rt.alloc(), Span::new(1, 3))?;
-    assert!(rt; module == same);
-    assert!(rt; module != other);
-    Ok(())
-}
-
 #[test]
 fn a_context_shows_the_module(rt: HostRuntime) -> Result<(), Fail> {
     let alloc = rt.alloc();

@@ -76,11 +76,6 @@ fn plain_inners(alloc: Global) -> Result<Vec<TypeInner>, AllocError> {
         size: ArraySize::Dynamic,
         stride: 16,
     })?;
-    resource_inners(&mut inners)?;
-    Ok(inners)
-}
-
-fn resource_inners(inners: &mut Vec<TypeInner>) -> Result<(), AllocError> {
     inners.push(TypeInner::Image {
         dim: ImageDimension::D2,
         arrayed: true,
@@ -100,7 +95,7 @@ fn resource_inners(inners: &mut Vec<TypeInner>) -> Result<(), AllocError> {
         base: Handle::at(2),
         size: ArraySize::Pending(Handle::at(1)),
     })?;
-    Ok(())
+    Ok(inners)
 }
 
 #[test]
