@@ -114,13 +114,10 @@ KINDS = {
 }
 
 
-def write_document(file, kind, size):
-    """Writes a document of exactly `size` bytes: items as long as there is room, and then blanks."""
-    before, behind, item, returns = kind
-    front = FRONT.replace(",false,", ",true,") if returns else FRONT
-    left = size - len(front) - len(before) - len(behind) - len(BACK)
-    file.write(front + before)
-    index = 0
+def fill(file, front, item, back, size):
+    """Writes exactly `size` bytes: items as long as there is room, and then blanks. Answers how many items there are."""
+    left, index = size - len(front) - len(back), 0
+    file.write(front)
     while True:
         text = ("," if index else "") + item(index)
         if len(text) > left:
@@ -128,12 +125,19 @@ def write_document(file, kind, size):
         file.write(text)
         left -= len(text)
         index += 1
-    file.write(behind + " " * left + BACK)
+    file.write(" " * left + back)
     return index
 
 
-def run(program, file, due):
-    """Seconds of processor time and peak memory, in bytes, of one run."""
+def write_document(file, kind, size):
+    """Writes a document of exactly `size` bytes, and answers how many items it has."""
+    before, behind, item, returns = kind
+    front = FRONT.replace(",false,", ",true,") if returns else FRONT
+    return fill(file, front + before, item, behind + BACK, size)
+
+
+def run(program, file, due, wanted=0):
+    """Seconds of processor time and peak memory, in bytes, of one run, which has to write `due` and end with `wanted`."""
     read, write = os.pipe()
     with open(file, "rb") as given:
         child = os.posix_spawn(program, [str(program)], {}, file_actions=[
@@ -142,8 +146,8 @@ def run(program, file, due):
     os.close(write)
     with os.fdopen(read, "rb") as it:
         wrote = it.read()
-    if status or wrote != due:
-        sys.exit(f"run: {program.name} ended with status {os.waitstatus_to_exitcode(status)} and wrote {wrote!r}")
+    if os.waitstatus_to_exitcode(status) != wanted or wrote != due:
+        sys.exit(f"{program.name} ended with status {os.waitstatus_to_exitcode(status)} and wrote {wrote!r}")
     return used.ru_utime + used.ru_stime, used.ru_maxrss * 1024
 
 

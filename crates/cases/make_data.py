@@ -1,18 +1,22 @@
 #!/usr/bin/env python3
 """Writes the data files of this crate, one case a line.
 
-    make_data.py                            examples.json, from the folder examples at the top, and the files of rows
+    make_data.py                            examples.json, from the folder examples at the top, the files of rows, and
+                                            format.json, from the examples and the words of docs/FORMAT.md
     make_data.py --check                    says which of these would change, and writes nothing
     make_data.py --corpus NAME CASES.jsonl  NAME.json, from a file that has one case a line
 
 A case is an object: its name, its input (or input_b64, in Base64, where that is no UTF-8), spaces, a number of blanks
-that are to follow the input (none where it is left out), and the output that is due. The answers of the rows below
-were worked out by hand. A new data file also needs its name in data/files.json and its line in stdout.
+that are to follow the input (none where it is left out), and the output that is due; or, where it has a form, whether
+its input is a document. The answers of the rows below were worked out by hand. A new data file also needs its name in data/files.json and its line in stdout.
 """
 import base64
 import json
 import sys
 from pathlib import Path
+
+sys.dont_write_bytecode = True
+import format_cases
 
 HERE = Path(__file__).resolve().parent
 DATA = HERE / "data"
@@ -709,7 +713,7 @@ def main(words):
         sys.exit(__doc__)
     status = 0
     for name, lines in [("examples.json", examples()), ("rows-first.json", map(case, rows())),
-                        ("rows-control.json", map(case, control_rows()))]:
+                        ("rows-control.json", map(case, control_rows())), ("format.json", format_cases.cases())]:
         text, file = listed(lines), DATA / name
         if not words:
             file.write_text(text)

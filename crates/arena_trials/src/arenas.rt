@@ -151,10 +151,7 @@ fn numbers_are_gone_over(rt: HostRuntime) -> Result<(), Fail> {
     assert_eq!(rt; taken.next(), Some((Handle::at(1), 14, Span::new(4, 100))));
     assert_eq!(rt; taken.next(), None);
     let again = number_arena(rt.alloc(), &[8])?;
-    assert_eq!(rt;
-        again.into_inner().as_slice(),
-        [(8, Span::new(8, 100))].as_slice()
-    );
+    assert_eq!(rt; again.into_inner().as_slice(), [8].as_slice());
     Ok(())
 }
 

@@ -94,14 +94,12 @@ fn ranges_of_an_arena(rt: HostRuntime) -> Result<(), Fail> {
     let range = Range::from_index_range(1..3, &numbers);
     assert_eq!(rt; range, Range::new(1, 3));
     assert_eq!(rt; Range::from_index_range(0..0, &tagged), Range::new(0, 0));
+    assert_eq!(rt; numbers.get_range(range), [6, 7].as_slice());
     assert_eq!(rt;
-        numbers.get_range(range),
-        [(6, Span::new(6, 9)), (7, Span::new(7, 9))].as_slice()
+        numbers.get_range_spans(Range::new(1, 3)),
+        [Span::new(6, 9), Span::new(7, 9)].as_slice()
     );
-    assert_eq!(rt;
-        tagged.get_range(Range::new(2, 3)),
-        [(7, Span::UNDEFINED)].as_slice()
-    );
+    assert_eq!(rt; tagged.get_range(Range::new(2, 3)), [7].as_slice());
     assert_eq!(rt; numbers.check_contains_range(&Range::new(0, 3)), Ok(()));
     assert_eq!(rt; numbers.check_contains_range(&Range::new(9, 9)), Ok(()));
     let long = Range::new(2, 4);

@@ -3,7 +3,7 @@ use crate::padded::Padded;
 use anyhow::{Result, anyhow};
 use base64::engine::general_purpose::STANDARD;
 use serde_json::Value;
-use shader_check::{Sink, Source, Verdict, check_document};
+use shader_check::{Sink, Source, Verdict, check_document, read_document};
 use std::alloc::{AllocError, Global};
 
 /// A document, and the text that is due for it.
@@ -12,6 +12,7 @@ pub struct Case<'a> {
     pub name: &'a str,
     input: Vec<u8>,
     spaces: u64,
+    form: Option<bool>,
     output: &'a str,
 }
 
@@ -29,11 +30,13 @@ impl Case<'_> {
                 .ok_or_else(|| anyhow!("the number of spaces is none"))?,
             None => 0,
         };
+        let form = item.get("form").and_then(Value::as_bool);
         let output = text_of(item, "output")?;
         Ok(Case {
             name,
             input,
             spaces,
+            form,
             output,
         })
     }
@@ -49,8 +52,29 @@ fn first_line(text: &str) -> &str {
     text.lines().next().unwrap_or("")
 }
 
-/// Runs the check over the case's bytes. Answers how it differs from what is due, or `None` where it does not.
+// Reads the case's bytes as a document. Answers how that differs from what is due, or `None` where it does not.
+fn judge_form(alloc: Global, case: &Case<'_>, form: bool) -> Result<Option<String>, AllocError> {
+    let read = read_document(alloc, case.input.as_slice())?.is_some();
+    if read == form {
+        return Ok(None);
+    }
+    let difference = format!(in alloc;
+        "a document: {form} is due, but it was read as one: {read}"
+    )?;
+    Ok(Some(difference))
+}
+
+/// Reads the case's bytes where it tells whether they are a document, or else runs the check over them. Answers how that
+/// differs from what is due, or `None` where it does not.
 pub fn judge(alloc: Global, case: &Case<'_>) -> Result<Option<String>, AllocError> {
+    match case.form {
+        Some(form) => judge_form(alloc, case, form),
+        None => judge_output(alloc, case),
+    }
+}
+
+// Runs the check over the case's bytes.
+fn judge_output(alloc: Global, case: &Case<'_>) -> Result<Option<String>, AllocError> {
     let mut held: Vec<u8> = Vec::new(alloc);
     let mut source = Source::new(Padded {
         text: case.input.as_slice(),

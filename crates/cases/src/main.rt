@@ -1,7 +1,8 @@
 // Runs the check on each case of the data files, and tells which answers are not the due ones.
 //
 // data/files.json names the data files. Each is a list of objects: a case's `name`, its `input` (or `input_b64`, in
-// Base64), the number of `spaces` that follow the input, which may be left out, and the `output` that is due.
+// Base64), the number of `spaces` that follow the input, which may be left out, and the `output` that is due; or, where a
+// case has a `form`, whether its input is a document.
 // The program runs where these files lie: by hand it is `cd data && ../out/cases`.
 #![tactic(auto)]
 

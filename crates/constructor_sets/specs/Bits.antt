@@ -10,6 +10,11 @@ abbrev pub chosen : {A : Type 0} → ℕ → List A → List A
 chosen bits [] = []
 chosen bits (x ∷ xs) = put_if (bits % 2 == 1) x (chosen (bits / 2) xs)
 
+-- whether each of the items stands at the place of a one bit
+abbrev pub marks : {A : Type 0} → ℕ → List A → List Bool
+marks bits [] = []
+marks bits (x ∷ xs) = (bits % 2 == 1) ∷ marks (bits / 2) xs
+
 -- so many powers of two, from one on
 abbrev pub powers : ℕ → ℕ → List ℕ
 powers power zero = []

@@ -1,9 +1,9 @@
 //! Sets of scalars.
 
-ghost use Rattle.std.specs.Prelude.{◌≡◌, ◌<◌, Some, filter, is_some, length, slice_get};
+ghost use Rattle.std.specs.Prelude.{◌≡◌, ◌<◌, Some, filter, is_some, length, map, slice_get};
 ghost use Rattle.ir_kinds.specs.Scalars.{is_scalar};
 ghost use Rattle.typing_forms.specs.Ranks.{rank};
-ghost use Rattle.constructor_sets.specs.Bits.{chosen};
+ghost use Rattle.constructor_sets.specs.Bits.{chosen, marks};
 ghost use Rattle.constructor_sets.specs.Members.{scalars, scalars_in, single_scalars};
 
 use crate::one_bits::Members;
@@ -176,7 +176,8 @@ impl ScalarSet {
 
     /// The scalars that `from` converts to, itself with them (naga's `ScalarSet::convertible_from`).
     pub const fn convertible_from(from: Scalar) -> ScalarSet
-        ensures { scalars_in result.0 ≡ filter (λ to. is_some (rank from to)) scalars }
+        ensures members { scalars_in result.0 ≡ filter (λ to. is_some (rank from to)) scalars }
+        ensures each { marks result.0 scalars ≡ map (λ to. is_some (rank from to)) scalars }
     {
         match (from.kind, from.width) {
             (ScalarKind::AbstractInt, 8) => ScalarSet::NUMERIC,

@@ -1,132 +1,51 @@
--- What `Decode` finds is what `Form` says: settings, and the whole document.
-use Rattle.std.proofs.Common.{◌≡◌, ℕ, ◌≤◌, List, [], ◌∷◌, map, Some, option_and_then, true, nat_eq, refl, sym, ap, subst, ◌∙◌, arith, rules}
+-- What is found for a document is what its form says.
+use Rattle.std.proofs.Common.{◌≡◌, ◌≤◌, ℕ, zero, suc, List, [], ◌∷◌, Option, Some, None, true, refl, sym, ap, subst, ◌∙◌, arith}
 use borrow.Author.Tests.{eqb-true}
-use Rattle.std.specs.List.{AllByRecursion}
-use Rattle.serde_json.specs.Data.{unsigned, Data, boolean, number, string, array, Items, no_items, item, depth, items_depth}
-use Rattle.serde_json.specs.Find.{as_array, as_number, as_u64, as_bool}
-use Rattle.serde_json.specs.View.{items_of}
-use Rattle.ir_kinds.specs.declared.settings.Flag.{Flag}
-use Rattle.ir_kinds.specs.declared.settings.Flag.TheVariants as f
-use Rattle.ir_kinds.specs.declared.settings.Capability.{Capability}
-use Rattle.ir_kinds.specs.declared.settings.Capability.TheVariants as c
+use Rattle.serde_json.specs.Data.{Data, null, boolean, number, string, array, object, Items, no_items, item, depth, items_depth}
+use Rattle.serde_json.specs.Find.{as_array, as_bool}
 use Rattle.ir_kinds.specs.declared.settings.ShaderStage.{ShaderStage}
-use Rattle.ir_kinds.specs.declared.settings.ShaderStage.TheVariants as s
 use Rattle.ir_kinds.specs.declared.settings.SubgroupFlag.{SubgroupFlag}
-use Rattle.ir_kinds.specs.declared.settings.SubgroupFlag.TheVariants as o
-use Rattle.ir_items.specs.Plain.{PlainFunction, PlainModule}
 use Rattle.ir_kinds.specs.Settings.{PlainSettings}
-use Rattle.document_reader.specs.Plain.{PlainDocument}
-use Rattle.document_reader.specs.Decode.{first, pair, triple, word_in, all_of, type_of, function_at, is_version, SettingsParts, settings_parts, subgroups_of, settings_of, ContentParts, content_parts, special_parts, is_no_special, is_no_filters, is_thin, document_at}
-use Rattle.document_reader.specs.Form.{list_form, type_form, block_items, function_form, IsFunctionItem, HasWord, no_special_form, no_filters_form, subgroup_form, content_items, thin_module, empty_form, document_form}
-use Rattle.ir_types.specs.Plain.{PlainType}
-use Rattle.document_reader.specs.Words.{flag_word, capability_word, stage_word, subgroup_flag_word, flags, capabilities, stages, subgroup_flags}
-use Rattle.document_reader.proofs.Inverse.{bind_some, guarded, both_true, passes_some, some_is, as_array_some, as_bool_some, whole_some, is_null_true, is_empty_list_true, first_some, pair_some, triple_some}
-use Rattle.document_reader.proofs.PartLaws.{IsSound, IsComplete, all_sound, all_complete, anything, word_sound}
-use Rattle.document_reader.proofs.ItemLaws.{type_sound, type_complete, function_sound, function_complete}
-
--- ---- sets of words
-
-flags_sound : IsSound (all_of (word_in flags)) (list_form (λ x. string (flag_word x))) (AllByRecursion (λ _. Unit {0}))
-flags_sound = all_sound _ _ (λ _. Unit {0}) (word_sound flag_word flags (search rules))
-
-capabilities_sound : IsSound (all_of (word_in capabilities)) (list_form (λ x. string (capability_word x))) (AllByRecursion (λ _. Unit {0}))
-capabilities_sound = all_sound _ _ (λ _. Unit {0}) (word_sound capability_word capabilities (search rules))
-
-stages_sound : IsSound (all_of (word_in stages)) (list_form (λ x. string (stage_word x))) (AllByRecursion (λ _. Unit {0}))
-stages_sound = all_sound _ _ (λ _. Unit {0}) (word_sound stage_word stages (search rules))
-
-subgroup_flags_sound : IsSound (all_of (word_in subgroup_flags)) (list_form (λ x. string (subgroup_flag_word x))) (AllByRecursion (λ _. Unit {0}))
-subgroup_flags_sound = all_sound _ _ (λ _. Unit {0}) (word_sound subgroup_flag_word subgroup_flags (search rules))
-
-flag_complete : IsComplete (word_in flags) (λ x. string (flag_word x)) (λ _. Unit {0})
-flag_complete f.Expressions h = refl
-flag_complete f.Blocks h = refl
-flag_complete f.ControlFlowUniformity h = refl
-flag_complete f.StructLayouts h = refl
-flag_complete f.Constants h = refl
-flag_complete f.Bindings h = refl
-
-capability_complete : IsComplete (word_in capabilities) (λ x. string (capability_word x)) (λ _. Unit {0})
-capability_complete c.Immediates h = refl
-capability_complete c.Float64 h = refl
-capability_complete c.ShaderFloat16 h = refl
-capability_complete c.ShaderInt16 h = refl
-capability_complete c.ShaderInt64 h = refl
-capability_complete c.PrimitiveIndex h = refl
-capability_complete c.BufferBindingArray h = refl
-capability_complete c.StorageBufferBindingArray h = refl
-capability_complete c.TextureAndSamplerBindingArray h = refl
-capability_complete c.StorageTextureBindingArray h = refl
-capability_complete c.AccelerationStructureBindingArray h = refl
-capability_complete c.StorageTexture16BitNormFormats h = refl
-capability_complete c.CubeArrayTextures h = refl
-capability_complete c.ClipDistances h = refl
-capability_complete c.CullDistance h = refl
-capability_complete c.Multiview h = refl
-capability_complete c.EarlyDepthTest h = refl
-capability_complete c.MultisampledShading h = refl
-capability_complete c.DualSourceBlending h = refl
-capability_complete c.Subgroup h = refl
-capability_complete c.SubgroupBarrier h = refl
-capability_complete c.ShaderInt64AtomicMinMax h = refl
-capability_complete c.ShaderInt64AtomicAllOps h = refl
-capability_complete c.ShaderFloat32Atomic h = refl
-capability_complete c.TextureAtomic h = refl
-capability_complete c.TextureInt64Atomic h = refl
-capability_complete c.TextureExternal h = refl
-capability_complete c.RayQuery h = refl
-capability_complete c.RayHitVertexPosition h = refl
-capability_complete c.RayTracingPipeline h = refl
-capability_complete c.ShaderBarycentrics h = refl
-capability_complete c.MeshShader h = refl
-capability_complete c.MeshShaderPointTopology h = refl
-capability_complete c.PerVertex h = refl
-capability_complete c.DrawIndex h = refl
-capability_complete c.CooperativeMatrix h = refl
-capability_complete c.MemoryDecorationCoherent h = refl
-capability_complete c.MemoryDecorationVolatile h = refl
-
-stage_complete : IsComplete (word_in stages) (λ x. string (stage_word x)) (λ _. Unit {0})
-stage_complete s.Vertex h = refl
-stage_complete s.Fragment h = refl
-stage_complete s.Compute h = refl
-stage_complete s.Mesh h = refl
-stage_complete s.Task h = refl
-stage_complete s.RayGeneration h = refl
-stage_complete s.AnyHit h = refl
-stage_complete s.ClosestHit h = refl
-stage_complete s.Miss h = refl
-
-subgroup_flag_complete : IsComplete (word_in subgroup_flags) (λ x. string (subgroup_flag_word x)) (λ _. Unit {0})
-subgroup_flag_complete o.Basic h = refl
-subgroup_flag_complete o.Vote h = refl
-subgroup_flag_complete o.Arithmetic h = refl
-subgroup_flag_complete o.Ballot h = refl
-subgroup_flag_complete o.Shuffle h = refl
-subgroup_flag_complete o.ShuffleRelative h = refl
-subgroup_flag_complete o.Quad h = refl
-
-flags_complete : (xs : List Flag) → all_of (word_in flags) (list_form (λ x. string (flag_word x)) xs) ≡ Some xs
-flags_complete xs = all_complete (word_in flags) (λ x. string (flag_word x)) (λ _. Unit {0}) flag_complete xs (anything xs)
-
-capabilities_complete : (xs : List Capability) → all_of (word_in capabilities) (list_form (λ x. string (capability_word x)) xs) ≡ Some xs
-capabilities_complete xs = all_complete (word_in capabilities) (λ x. string (capability_word x)) (λ _. Unit {0}) capability_complete xs (anything xs)
-
-stages_complete : (xs : List ShaderStage) → all_of (word_in stages) (list_form (λ x. string (stage_word x)) xs) ≡ Some xs
-stages_complete xs = all_complete (word_in stages) (λ x. string (stage_word x)) (λ _. Unit {0}) stage_complete xs (anything xs)
-
-subgroup_flags_complete : (xs : List SubgroupFlag) → all_of (word_in subgroup_flags) (list_form (λ x. string (subgroup_flag_word x)) xs) ≡ Some xs
-subgroup_flags_complete xs = all_complete (word_in subgroup_flags) (λ x. string (subgroup_flag_word x)) (λ _. Unit {0}) subgroup_flag_complete xs (anything xs)
+use Rattle.ir_items.specs.Plain.{PlainModule}
+use Rattle.document_words.specs.Tables.{flags, capabilities, stages, subgroup_flags}
+use Rattle.document_parts.specs.Form.{ABool, AWord, AnArray, EachOf, AList, Ends, ◌▸◌}
+use Rattle.document_parts.specs.Find.{whole_of, word_in, each, all_of, first, only}
+use Rattle.document_parts.proofs.Inverse.{bind_some, map_some, guarded, some_is, as_array_some, whole_some}
+use Rattle.document_parts.proofs.PartLaws.{IsExact, bool_exact, word_exact, list_exact}
+use Rattle.document_items.specs.Form.{AType}
+use Rattle.document_items.specs.Find.{type_of}
+use Rattle.document_items.proofs.TypeLaws.{type_sound, type_complete}
+use Rattle.document_expressions.specs.Form.{AnExpression}
+use Rattle.document_expressions.specs.Find.{expression_of}
+use Rattle.document_expressions.proofs.ExpressionLaws.{expression_sound, expression_complete}
+use Rattle.document_globals.specs.Form.{ASpecial, AllFilters, AConstant, AnOverride, AGlobal}
+use Rattle.document_globals.specs.Find.{special_of, filters_of, constant_of, override_of, global_of}
+use Rattle.document_globals.proofs.GlobalLaws.{constants_exact, overrides_exact, globals_exact}
+use Rattle.document_globals.proofs.FilterLaws.{filters_exact}
+use Rattle.document_globals.proofs.SpecialLaws.{special_exact}
+use Rattle.document_functions.specs.Form.{AFunction}
+use Rattle.document_functions.specs.Find.{max_depth, function_of}
+use Rattle.document_functions.proofs.FunctionLaws.{first_some, only_some, function_sound, function_complete, list_within}
+use Rattle.document_entries.specs.Form.{AnEntry}
+use Rattle.document_entries.specs.Find.{entry_of}
+use Rattle.document_entries.proofs.EntryLaws.{entry_sound, entry_complete}
+use Rattle.document_model.specs.Plain.{PlainDocument}
+use Rattle.document_reader.specs.Form.{IsVersion, TheSubgroups, ADocument}
+use Rattle.document_reader.specs.Find.{number_is, is_version, SettingsParts, settings_parts, subgroups_of, settings_of, ContentParts, content_parts, PlainGlobals, globals_of, content_of, with_settings, document_of}
 
 -- ---- settings
 
-is_version_true : (d : Data) → is_version d ≡ true → d ≡ number (unsigned 1)
-is_version_true d e =
-    let p = passes_some (λ n. nat_eq n 1) (option_and_then as_u64 (as_number d)) e in
-    whole_some d p.0 p.1 ∙ ap (λ k. number (unsigned k)) (eqb-true p.0 1 p.2)
+words_exact : {A : Type 0} (table : List (List ℕ × A)) → IsExact (all_of (word_in table)) (AList (AWord table))
+words_exact table = list_exact (word_in table) (AWord table) (word_exact table)
 
-settings_parts_some : (ds : Items) (p : SettingsParts) → settings_parts ds ≡ Some p
-    → ds ≡ item p.version (item p.flags (item p.capabilities (item p.subgroups (item p.returns p.rest))))
+number_is_true : (m : ℕ) (o : Option ℕ) → number_is m o ≡ true → o ≡ Some m
+number_is_true m None e = cc
+number_is_true m (Some n) e = ap Some (eqb-true n m e)
+
+version_sound : (d : Data) → is_version d ≡ true → IsVersion d
+version_sound d e = whole_some d 1 (number_is_true 1 (whole_of d) e)
+
+settings_parts_some : (ds : Items) (p : SettingsParts) → settings_parts ds ≡ Some p → ds ≡ item p.version (item p.flags (item p.capabilities (item p.subgroups (item p.returns p.rest))))
 unfolding settings_parts
 settings_parts_some ds p e =
     let a = bind_some _ (first ds) p e in
@@ -138,29 +57,38 @@ settings_parts_some ds p e =
     subst (λ q. ds ≡ item q.version (item q.flags (item q.capabilities (item q.subgroups (item q.returns q.rest))))) p_is
     (first_some ds a.0 a.1 ∙ ap (item a.0.0) (first_some a.0.1 b.0 b.1 ∙ ap (item b.0.0) (first_some b.0.1 g.0 g.1 ∙ ap (item g.0.0) (first_some g.0.1 h.0 h.1 ∙ ap (item h.0.0) (first_some h.0.1 k.0 k.1)))))
 
--- the stage set and the subgroup set
-abbrev sets_form : List ShaderStage × List SubgroupFlag → Data
-sets_form t = array (item (list_form (λ x. string (stage_word x)) t.0) (item (list_form (λ x. string (subgroup_flag_word x)) t.1) no_items))
+-- the two sets, as what is found for them
+abbrev TheSets : List ShaderStage × List SubgroupFlag → Data → Type 0
+TheSets t = AnArray (AList (AWord stages) t.0 ▸ AList (AWord subgroup_flags) t.1 ▸ Ends)
 
-subgroups_sound : (d : Data) (t : List ShaderStage × List SubgroupFlag) → subgroups_of d ≡ Some t → sets_form t ≡ d
+subgroups_sound : (d : Data) (t : List ShaderStage × List SubgroupFlag) → subgroups_of d ≡ Some t → TheSets t d
 unfolding subgroups_of
 subgroups_sound d t e =
-    let p = bind_some _ _ t e in
-    let i = bind_some pair (as_array d) p.0 p.1 in
-    let a = bind_some _ _ t p.2 in
-    let b = bind_some _ _ t a.2 in
-    let x = stages_sound p.0.0 a.0 a.1 in
-    let y = subgroup_flags_sound p.0.1 b.0 b.1 in
-    subst (λ z. sets_form z ≡ d) (some_is (a.0, b.0) t b.2)
-    (let u = as_array_some d i.0 i.1 in let v = pair_some i.0 p.0 i.2 in let w = x.0 in let z = y.0 in cc)
+    let i = bind_some _ (as_array d) t e in
+    let a = bind_some _ (first i.0) t i.2 in
+    let b = bind_some _ (only a.0.1) t a.2 in
+    let x = bind_some _ (all_of (word_in stages) a.0.0) t b.2 in
+    let y = bind_some _ (all_of (word_in subgroup_flags) b.0) t x.2 in
+    subst (λ z. TheSets z d) (some_is (x.0, y.0) t y.2) (subst (TheSets (x.0, y.0)) (sym (as_array_some d i.0 i.1 ∙ ap array (first_some i.0 a.0 a.1 ∙ ap (item a.0.0) (only_some a.0.1 b.0 b.1))))
+    ((words_exact stages).sound a.0.0 x.0 x.1, ((words_exact subgroup_flags).sound b.0 y.0 y.1, tt)))
 
--- the items that settings are written as, before the others
-abbrev settings_items : PlainSettings → Items → Items
-settings_items s rest =
-    item (number (unsigned 1)) (item (list_form (λ x. string (flag_word x)) s.flags) (item (list_form (λ x. string (capability_word x)) s.capabilities) (item (subgroup_form s) (item (boolean s.returns) rest))))
+subgroups_complete : (d : Data) (t : List ShaderStage × List SubgroupFlag) → TheSets t d → subgroups_of d ≡ Some t
+unfolding subgroups_of
+subgroups_complete null t h = absurd h
+subgroups_complete (boolean b) t h = absurd h
+subgroups_complete (number n) t h = absurd h
+subgroups_complete (string s) t h = absurd h
+subgroups_complete (array no_items) t h = absurd h
+subgroups_complete (array (item a no_items)) t h = absurd h.1
+subgroups_complete (array (item a (item b no_items))) t h = rw ((words_exact stages).complete a t.0 h.0) (rw ((words_exact subgroup_flags).complete b t.1 h.1.0) refl)
+subgroups_complete (array (item a (item b (item c rest)))) t h = absurd h.1.1
+subgroups_complete (object ms) t h = absurd h
 
-settings_sound : (p : SettingsParts) (s : PlainSettings) → settings_of p ≡ Some s
-    → settings_items s p.rest ≡ item p.version (item p.flags (item p.capabilities (item p.subgroups (item p.returns p.rest))))
+-- what the first parts are written for
+abbrev TheSettings : PlainSettings → SettingsParts → Type 0
+TheSettings s p = IsVersion p.version × (AList (AWord flags) s.flags p.flags × (AList (AWord capabilities) s.capabilities p.capabilities × (TheSubgroups s p.subgroups × ABool s.returns p.returns)))
+
+settings_sound : (p : SettingsParts) (s : PlainSettings) → settings_of p ≡ Some s → TheSettings s p
 unfolding settings_of
 settings_sound p s e =
     let a = bind_some _ _ s e in
@@ -168,127 +96,167 @@ settings_sound p s e =
     let b = bind_some _ (all_of (word_in capabilities) p.capabilities) s a.2 in
     let t = bind_some _ (subgroups_of p.subgroups) s b.2 in
     let r = bind_some _ (as_bool p.returns) s t.2 in
-    let one = is_version_true p.version g.0 in
-    let x = (flags_sound p.flags a.0 g.1).0 in
-    let y = (capabilities_sound p.capabilities b.0 b.1).0 in
-    let z = subgroups_sound p.subgroups t.0 t.1 in
-    let w = as_bool_some p.returns r.0 r.1 in
-    subst (λ q. settings_items q p.rest ≡ item p.version (item p.flags (item p.capabilities (item p.subgroups (item p.returns p.rest))))) (some_is _ s r.2) cc
+    subst (λ x. TheSettings x p) (some_is _ s r.2)
+    (version_sound p.version g.0, ((words_exact flags).sound p.flags a.0 g.1, ((words_exact capabilities).sound p.capabilities b.0 b.1, (subgroups_sound p.subgroups t.0 t.1, bool_exact.sound p.returns r.0 r.1))))
 
-settings_complete : (s : PlainSettings) (rest : Items)
-    → settings_of (record { version = number (unsigned 1); flags = list_form (λ x. string (flag_word x)) s.flags; capabilities = list_form (λ x. string (capability_word x)) s.capabilities; subgroups = subgroup_form s; returns = boolean s.returns; rest = rest }) ≡ Some s
-unfolding settings_of subgroups_of
-settings_complete s rest =
-    rw (flags_complete s.flags)
-    (rw (capabilities_complete s.capabilities)
-    (rw (stages_complete s.stages)
-    (rw (subgroup_flags_complete s.operations) refl)))
+settings_complete : (p : SettingsParts) (s : PlainSettings) → TheSettings s p → settings_of p ≡ Some s
+unfolding settings_of
+settings_complete p s h =
+    rw h.0
+    (rw ((words_exact flags).complete p.flags s.flags h.1.0)
+    (rw ((words_exact capabilities).complete p.capabilities s.capabilities h.1.1.0)
+    (rw (subgroups_complete p.subgroups (s.stages, s.operations) h.1.1.1.0)
+    (rw (bool_exact.complete p.returns s.returns h.1.1.1.1) refl))))
 
--- ---- the lists
+-- ---- lists
 
-content_parts_some : (ds : Items) (p : ContentParts) → content_parts ds ≡ Some p
-    → ds ≡ item p.types (item p.special (item p.filters (item p.constants (item p.overrides (item p.global_expressions (item p.globals (item p.functions (item p.entries no_items))))))))
+types_exact : IsExact (all_of type_of) (AList AType)
+types_exact = list_exact type_of AType (record { sound = type_sound; complete = type_complete })
+
+expressions_exact : IsExact (all_of expression_of) (AList AnExpression)
+expressions_exact = list_exact expression_of AnExpression (record { sound = expression_sound; complete = expression_complete })
+
+-- the items that have these parts
+abbrev content_items : ContentParts → Items
+content_items p = item p.types (item p.special (item p.filters (item p.constants (item p.overrides (item p.global_expressions (item p.globals (item p.functions (item p.entries no_items))))))))
+
+content_parts_some : (ds : Items) (p : ContentParts) → content_parts ds ≡ Some p → ds ≡ content_items p
 unfolding content_parts
-content_parts_some ds p e =
-    let a = bind_some _ (first ds) p e in
-    let b = bind_some _ (first a.0.1) p a.2 in
-    let g = bind_some _ (first b.0.1) p b.2 in
-    let h = bind_some _ (first g.0.1) p g.2 in
-    let k = bind_some _ (first h.0.1) p h.2 in
-    let l = bind_some _ (first k.0.1) p k.2 in
-    let m = bind_some _ (first l.0.1) p l.2 in
-    let n = bind_some _ (pair m.0.1) p m.2 in
-    let p_is : record { types = a.0.0; special = b.0.0; filters = g.0.0; constants = h.0.0; overrides = k.0.0; global_expressions = l.0.0; globals = m.0.0; functions = n.0.0; entries = n.0.1 } ≡ p = some_is _ _ n.2 in
-    subst (λ q. ds ≡ item q.types (item q.special (item q.filters (item q.constants (item q.overrides (item q.global_expressions (item q.globals (item q.functions (item q.entries no_items))))))))) p_is
-    (first_some ds a.0 a.1 ∙ ap (item a.0.0) (first_some a.0.1 b.0 b.1 ∙ ap (item b.0.0) (first_some b.0.1 g.0 g.1 ∙ ap (item g.0.0) (first_some g.0.1 h.0 h.1 ∙ ap (item h.0.0) (first_some h.0.1 k.0 k.1 ∙ ap (item k.0.0) (first_some k.0.1 l.0 l.1 ∙ ap (item l.0.0) (first_some l.0.1 m.0 m.1 ∙ ap (item m.0.0) (pair_some m.0.1 n.0 n.1))))))))
+content_parts_some no_items p x = cc
+content_parts_some (item a no_items) p x = cc
+content_parts_some (item a (item b no_items)) p x = cc
+content_parts_some (item a (item b (item c no_items))) p x = cc
+content_parts_some (item a (item b (item c (item e no_items)))) p x = cc
+content_parts_some (item a (item b (item c (item e (item f no_items))))) p x = cc
+content_parts_some (item a (item b (item c (item e (item f (item g no_items)))))) p x = cc
+content_parts_some (item a (item b (item c (item e (item f (item g (item h no_items))))))) p x = cc
+content_parts_some (item a (item b (item c (item e (item f (item g (item h (item i no_items)))))))) p x = cc
+content_parts_some (item a (item b (item c (item e (item f (item g (item h (item i (item j no_items))))))))) p x =
+    let made : ContentParts = record { types = a; special = b; filters = c; constants = e; overrides = f; global_expressions = g; globals = h; functions = i; entries = j } in
+    subst (λ q. content_items made ≡ content_items q) (some_is made p x) refl
+content_parts_some (item a (item b (item c (item e (item f (item g (item h (item i (item j (item k rest)))))))))) p x = cc
 
-is_no_special_true : (d : Data) → is_no_special d ≡ true → d ≡ no_special_form
-is_no_special_true d e =
-    let p = passes_some _ (special_parts d) e in
-    let i = bind_some _ (as_array d) p.0 p.1 in
-    let a = bind_some _ (first i.0) p.0 i.2 in
-    let b = bind_some _ (triple a.0.1) p.0 a.2 in
-    let t3 = both_true _ _ p.2 in
-    let t2 = both_true _ _ t3.0 in
-    let t1 = both_true _ _ t2.0 in
-    let parts : d ≡ array (item p.0.0 (item p.0.1 (item p.0.2 (item p.0.3 no_items)))) =
-    subst (λ q. d ≡ array (item q.0 (item q.1 (item q.2 (item q.3 no_items))))) (some_is (a.0.0, b.0.0, b.0.1, b.0.2) p.0 b.2)
-    (as_array_some d i.0 i.1 ∙ ap array (first_some i.0 a.0 a.1 ∙ ap (item a.0.0) (triple_some a.0.1 b.0 b.1))) in
-    let x = is_null_true p.0.0 t1.0 in
-    let y = is_null_true p.0.1 t1.1 in
-    let z = is_null_true p.0.2 t2.1 in
-    let w = is_empty_list_true p.0.3 t3.1 in
-    cc
+abbrev TheGlobals : PlainGlobals → ContentParts → Type 0
+TheGlobals g p = AList AConstant g.constants p.constants × (AList AnOverride g.overrides p.overrides × (AList AnExpression g.expressions p.global_expressions × AList AGlobal g.variables p.globals))
 
-is_no_filters_true : (d : Data) → is_no_filters d ≡ true → d ≡ no_filters_form
-is_no_filters_true d e =
-    let p = passes_some _ (option_and_then pair (as_array d)) e in
-    let i = bind_some pair (as_array d) p.0 p.1 in
-    let t = both_true _ _ p.2 in
-    let parts = as_array_some d i.0 i.1 ∙ ap array (pair_some i.0 p.0 i.2) in
-    let x = is_empty_list_true p.0.0 t.0 in
-    let y = is_null_true p.0.1 t.1 in
-    cc
+globals_sound : (p : ContentParts) (g : PlainGlobals) → globals_of p ≡ Some g → TheGlobals g p
+unfolding globals_of
+globals_sound p g e =
+    let a = bind_some _ (all_of constant_of p.constants) g e in
+    let b = bind_some _ (all_of override_of p.overrides) g a.2 in
+    let c = bind_some _ (all_of expression_of p.global_expressions) g b.2 in
+    let f = bind_some _ (all_of global_of p.globals) g c.2 in
+    subst (λ x. TheGlobals x p) (some_is _ g f.2)
+    (constants_exact.sound p.constants a.0 a.1, (overrides_exact.sound p.overrides b.0 b.1, (expressions_exact.sound p.global_expressions c.0 c.1, globals_exact.sound p.globals f.0 f.1)))
+
+globals_complete : (p : ContentParts) (g : PlainGlobals) → TheGlobals g p → globals_of p ≡ Some g
+unfolding globals_of
+globals_complete p g h =
+    rw (constants_exact.complete p.constants g.constants h.0)
+    (rw (overrides_exact.complete p.overrides g.overrides h.1.0)
+    (rw (expressions_exact.complete p.global_expressions g.expressions h.1.1.0)
+    (rw (globals_exact.complete p.globals g.variables h.1.1.1) refl)))
+
+each_sound : {A : Type 0} (f : Data → Option A) (P : A → Data → Type 0) → ((d : Data) (x : A) → f d ≡ Some x → P x d) → (ds : Items) (xs : List A) → each f ds ≡ Some xs → EachOf P xs ds
+each_sound f P one no_items xs e = subst (λ ys. EachOf P ys no_items) (some_is [] xs e) tt
+each_sound f P one (item d ds) xs e =
+    let a = bind_some _ (f d) xs e in
+    let b = bind_some _ (each f ds) xs a.2 in
+    subst (λ ys. EachOf P ys (item d ds)) (some_is (a.0 ∷ b.0) xs b.2) (one d a.0 a.1, each_sound f P one ds b.0 b.1)
+
+list_sound : {A : Type 0} (f : Data → Option A) (P : A → Data → Type 0) → ((d : Data) (x : A) → f d ≡ Some x → P x d) → (d : Data) (xs : List A) → all_of f d ≡ Some xs → AList P xs d
+list_sound f P one d xs e =
+    let a = bind_some _ (as_array d) xs e in
+    subst (AList P xs) (sym (as_array_some d a.0 a.1)) (each_sound f P one a.0 xs a.2)
+
+-- the types, the special types, the filters, what stands for the module, the functions, the entry points
+abbrev TheContent : PlainModule → ContentParts → Type 0
+TheContent m p =
+    AList AType m.types p.types × (ASpecial m.special p.special × (AllFilters (m.filters, m.leaf) p.filters × (TheGlobals (record { constants = m.constants; overrides = m.overrides; expressions = m.global_expressions; variables = m.globals }) p × (AList AFunction m.functions p.functions × AList AnEntry m.entries p.entries))))
+
+content_sound : (p : ContentParts) (m : PlainModule) → content_of p ≡ Some m → TheContent m p
+unfolding content_of
+content_sound p m e =
+    let a = bind_some _ (all_of type_of p.types) m e in
+    let b = bind_some _ (special_of p.special) m a.2 in
+    let c = bind_some _ (filters_of p.filters) m b.2 in
+    let g = bind_some _ (globals_of p) m c.2 in
+    let f = bind_some _ (all_of function_of p.functions) m g.2 in
+    let k = bind_some _ (all_of entry_of p.entries) m f.2 in
+    subst (λ x. TheContent x p) (some_is _ m k.2)
+    (types_exact.sound p.types a.0 a.1, (special_exact.sound p.special b.0 b.1, (filters_exact.sound p.filters c.0 c.1, (globals_sound p g.0 g.1, (list_sound function_of AFunction function_sound p.functions f.0 f.1, list_sound entry_of AnEntry entry_sound p.entries k.0 k.1)))))
+
+content_complete : (p : ContentParts) (m : PlainModule) → TheContent m p → depth p.functions ≤ max_depth → depth p.entries ≤ max_depth → content_of p ≡ Some m
+unfolding content_of
+content_complete p m h functions entries =
+    rw (types_exact.complete p.types m.types h.0)
+    (rw (special_exact.complete p.special m.special h.1.0)
+    (rw (filters_exact.complete p.filters (m.filters, m.leaf) h.1.1.0)
+    (rw (globals_complete p _ h.1.1.1.0)
+    (rw (list_within function_of AFunction max_depth function_complete p.functions m.functions h.1.1.1.1.0 functions)
+    (rw (list_within entry_of AnEntry max_depth entry_complete p.entries m.entries h.1.1.1.1.1 entries) refl)))))
 
 -- ---- the document
 
--- its numbers are handles, and its scalar types have words
-pub record IsInRange (d : PlainDocument) : Type 0 where
-  pub thin : d.content ≡ thin_module d.content.types d.content.functions
-  pub types : AllByRecursion (λ t. HasWord t.inner) d.content.types
-  pub functions : AllByRecursion IsFunctionItem d.content.functions
+pub document_sound : (d : Data) (x : PlainDocument) → document_of d ≡ Some x → ADocument x d
+unfolding document_of
+document_sound d x e =
+    let i = bind_some _ (as_array d) x e in
+    let s = bind_some _ (settings_parts i.0) x i.2 in
+    let p = bind_some _ (content_parts s.0.rest) x s.2 in
+    let settings = bind_some _ (settings_of s.0) x p.2 in
+    let content = map_some (with_settings settings.0) (content_of p.0) x settings.2 in
+    let a = settings_sound s.0 settings.0 settings.1 in
+    let b = content_sound p.0 content.0 content.1 in
+    let written = as_array_some d i.0 i.1 ∙ ap array (settings_parts_some i.0 s.0 s.1 ∙ ap (λ r. item s.0.version (item s.0.flags (item s.0.capabilities (item s.0.subgroups (item s.0.returns r))))) (content_parts_some s.0.rest p.0 p.1)) in
+    subst (λ y. ADocument y d) content.2 (subst (ADocument (with_settings settings.0 content.0)) (sym written)
+    (a.0, (a.1.0, (a.1.1.0, (a.1.1.1.0, (a.1.1.1.1, (b.0, (b.1.0, (b.1.1.0, (b.1.1.1.0.0, (b.1.1.1.0.1.0, (b.1.1.1.0.1.1.0, (b.1.1.1.0.1.1.1, (b.1.1.1.1.0, (b.1.1.1.1.1, tt)))))))))))))))
 
--- the items of a thin module, part by part
-content_made : (p : ContentParts) (types : List PlainType) (functions : List PlainFunction) → list_form type_form types ≡ p.types → p.special ≡ no_special_form → p.filters ≡ no_filters_form
-    → p.constants ≡ empty_form → p.overrides ≡ empty_form → p.global_expressions ≡ empty_form → p.globals ≡ empty_form → list_form function_form functions ≡ p.functions → p.entries ≡ empty_form
-    → item p.types (item p.special (item p.filters (item p.constants (item p.overrides (item p.global_expressions (item p.globals (item p.functions (item p.entries no_items)))))))) ≡ content_items (thin_module types functions)
-content_made p types functions a b c d e f g h i = cc
+-- an item nests no deeper than the items that it is one of
+first_within : (d : Data) (ds : Items) (n : ℕ) → items_depth (item d ds) ≤ n → depth d ≤ n
+first_within d ds n le = omega arith
 
-pub document_sound : (n : ℕ) → IsSound (document_at n) document_form IsInRange
-unfolding document_at
-document_sound n d doc e =
-    let i = bind_some _ (as_array d) doc e in
-    let s = bind_some _ (settings_parts i.0) doc i.2 in
-    let p = bind_some _ (content_parts s.0.rest) doc s.2 in
-    let settings = bind_some _ (settings_of s.0) doc p.2 in
-    let types = bind_some _ _ doc settings.2 in
-    let g = guarded (is_thin p.0) (all_of type_of p.0.types) types.0 types.1 in
-    let functions = bind_some _ (all_of (function_at n) p.0.functions) doc types.2 in
-    let ts = all_sound type_of type_form (λ t. HasWord t.inner) type_sound p.0.types types.0 g.1 in
-    let fs = all_sound (function_at n) function_form IsFunctionItem (function_sound n) p.0.functions functions.0 functions.1 in
-    let t6 = both_true _ _ g.0 in
-    let t5 = both_true _ _ t6.0 in
-    let t4 = both_true _ _ t5.0 in
-    let t3 = both_true _ _ t4.0 in
-    let t2 = both_true _ _ t3.0 in
-    let t1 = both_true _ _ t2.0 in
-    let d_is = as_array_some d i.0 i.1 in
-    let first_is = settings_parts_some i.0 s.0 s.1 in
-    let settings_is = settings_sound s.0 settings.0 settings.1 in
-    let rest_is = content_parts_some s.0.rest p.0 p.1 in
-    let types_is = ts.0 in
-    let special_is = is_no_special_true p.0.special t1.0 in
-    let filters_is = is_no_filters_true p.0.filters t1.1 in
-    let constants_is = is_empty_list_true p.0.constants t2.1 in
-    let overrides_is = is_empty_list_true p.0.overrides t3.1 in
-    let expressions_is = is_empty_list_true p.0.global_expressions t4.1 in
-    let globals_is = is_empty_list_true p.0.globals t5.1 in
-    let entries_is = is_empty_list_true p.0.entries t6.1 in
-    let functions_is = fs.0 in
-    let content_is : s.0.rest ≡ content_items (thin_module types.0 functions.0) =
-    rest_is ∙ content_made p.0 types.0 functions.0 types_is special_is filters_is constants_is overrides_is expressions_is globals_is functions_is entries_is in
-    subst (λ x. (document_form x ≡ d) × IsInRange x) (some_is _ doc functions.2)
-    (sym (d_is ∙ ap array (first_is ∙ (sym settings_is ∙ ap (settings_items settings.0) content_is))), record { thin = refl; types = ts.1; functions = fs.1 })
+rest_within : (d : Data) (ds : Items) (n : ℕ) → items_depth (item d ds) ≤ n → items_depth ds ≤ n
+rest_within d ds n le = omega arith
 
--- the functions nest no deeper than the list of them
-functions_within : (n : ℕ) (xs : List PlainFunction) → AllByRecursion IsFunctionItem xs → items_depth (items_of (map function_form xs)) ≤ n
-    → AllByRecursion (λ f. IsFunctionItem f × (items_depth (block_items f.body) ≤ n)) xs
-functions_within n [] h le = tt
-functions_within n (x ∷ xs) h le = ((h.0, omega arith), functions_within n xs h.1 (omega arith))
+-- what a list nests no deeper than, each item that it begins with aside
+abbrev later : ℕ → Items → Items
+later zero ds = ds
+later (suc k) no_items = no_items
+later (suc k) (item d ds) = later k ds
 
-pub document_complete : (n : ℕ) (d : PlainDocument) → IsInRange d → depth (document_form d) ≤ n → document_at n (document_form d) ≡ Some d
-unfolding document_at settings_parts content_parts
-document_complete n d h le =
-    rw (settings_complete d.settings (content_items d.content))
-    (rw (all_complete type_of type_form (λ t. HasWord t.inner) type_complete d.content.types h.types)
-    (rw (all_complete (function_at n) function_form (λ f. IsFunctionItem f × (items_depth (block_items f.body) ≤ n)) (λ f k. function_complete n f k.0 k.1) d.content.functions (functions_within n d.content.functions h.functions (omega arith))) (ap (λ (c : PlainModule). Some (record { settings = d.settings; content = c })) (sym h.thin))))
+later_within : (k : ℕ) (ds : Items) (n : ℕ) → items_depth ds ≤ n → items_depth (later k ds) ≤ n
+later_within zero ds n le = le
+later_within (suc k) no_items n le = le
+later_within (suc k) (item d ds) n le = later_within k ds n (rest_within d ds n le)
+
+items_complete : (x : PlainDocument) (ds : Items) → ADocument x (array ds) → items_depth ds ≤ max_depth → document_of (array ds) ≡ Some x
+unfolding document_of settings_parts content_parts
+items_complete x no_items h le = absurd h
+items_complete x (item v no_items) h le = absurd h.1
+items_complete x (item v (item f no_items)) h le = absurd h.1.1
+items_complete x (item v (item f (item c no_items))) h le = absurd h.1.1.1
+items_complete x (item v (item f (item c (item s no_items)))) h le = absurd h.1.1.1.1
+items_complete x (item v (item f (item c (item s (item r no_items))))) h le = absurd h.1.1.1.1.1
+items_complete x (item v (item f (item c (item s (item r (item t1 no_items)))))) h le = absurd h.1.1.1.1.1.1
+items_complete x (item v (item f (item c (item s (item r (item t1 (item t2 no_items))))))) h le = absurd h.1.1.1.1.1.1.1
+items_complete x (item v (item f (item c (item s (item r (item t1 (item t2 (item t3 no_items)))))))) h le = absurd h.1.1.1.1.1.1.1.1
+items_complete x (item v (item f (item c (item s (item r (item t1 (item t2 (item t3 (item t4 no_items))))))))) h le = absurd h.1.1.1.1.1.1.1.1.1
+items_complete x (item v (item f (item c (item s (item r (item t1 (item t2 (item t3 (item t4 (item t5 no_items)))))))))) h le = absurd h.1.1.1.1.1.1.1.1.1.1
+items_complete x (item v (item f (item c (item s (item r (item t1 (item t2 (item t3 (item t4 (item t5 (item t6 no_items))))))))))) h le = absurd h.1.1.1.1.1.1.1.1.1.1.1
+items_complete x (item v (item f (item c (item s (item r (item t1 (item t2 (item t3 (item t4 (item t5 (item t6 (item t7 no_items)))))))))))) h le = absurd h.1.1.1.1.1.1.1.1.1.1.1.1
+items_complete x (item v (item f (item c (item s (item r (item t1 (item t2 (item t3 (item t4 (item t5 (item t6 (item t7 (item t8 no_items))))))))))))) h le = absurd h.1.1.1.1.1.1.1.1.1.1.1.1.1
+items_complete x (item v (item f (item c (item s (item r (item t1 (item t2 (item t3 (item t4 (item t5 (item t6 (item t7 (item t8 (item t9 no_items)))))))))))))) h le =
+    let p : ContentParts = record { types = t1; special = t2; filters = t3; constants = t4; overrides = t5; global_expressions = t6; globals = t7; functions = t8; entries = t9 } in
+    let q : SettingsParts = record { version = v; flags = f; capabilities = c; subgroups = s; returns = r; rest = content_items p } in
+    rw (settings_complete q x.settings (h.0, (h.1.0, (h.1.1.0, (h.1.1.1.0, h.1.1.1.1.0)))))
+    (rw (content_complete p x.content (h.1.1.1.1.1.0, (h.1.1.1.1.1.1.0, (h.1.1.1.1.1.1.1.0, ((h.1.1.1.1.1.1.1.1.0, (h.1.1.1.1.1.1.1.1.1.0, (h.1.1.1.1.1.1.1.1.1.1.0, h.1.1.1.1.1.1.1.1.1.1.1.0))), (h.1.1.1.1.1.1.1.1.1.1.1.1.0, h.1.1.1.1.1.1.1.1.1.1.1.1.1.0))))) (first_within t8 (item t9 no_items) max_depth (later_within 12 (item v (item f (item c (item s (item r (item t1 (item t2 (item t3 (item t4 (item t5 (item t6 (item t7 (item t8 (item t9 no_items)))))))))))))) max_depth le)) (first_within t9 no_items max_depth (later_within 13 (item v (item f (item c (item s (item r (item t1 (item t2 (item t3 (item t4 (item t5 (item t6 (item t7 (item t8 (item t9 no_items)))))))))))))) max_depth le))) refl)
+items_complete x (item v (item f (item c (item s (item r (item t1 (item t2 (item t3 (item t4 (item t5 (item t6 (item t7 (item t8 (item t9 (item more rest))))))))))))))) h le = absurd h.1.1.1.1.1.1.1.1.1.1.1.1.1.1
+
+pub document_complete : (d : Data) (x : PlainDocument) → ADocument x d → depth d ≤ max_depth → document_of d ≡ Some x
+document_complete null x h le = absurd h
+document_complete (boolean b) x h le = absurd h
+document_complete (number n) x h le = absurd h
+document_complete (string s) x h le = absurd h
+document_complete (array ds) x h le = items_complete x ds h (omega arith)
+document_complete (object ms) x h le = absurd h

@@ -1,6 +1,3 @@
-pub mod Plain
-pub mod Words
-pub mod View
+pub mod Find
 pub mod Form
-pub mod Decode
 pub mod Parts

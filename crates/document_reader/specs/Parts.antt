@@ -1,9 +1,12 @@
 -- The parts of a document as data, of the structs that hold them.
+use Rattle.std.specs.Prelude.{map}
 use Rattle.serde_json.specs.View.{view as data_of, items_view}
-use Rattle.document_reader.specs.Decode.{SettingsParts, ContentParts, FunctionParts}
+use Rattle.ir_expressions.specs.Plain.{expression_view}
+use Rattle.ir_globals.specs.View.{constant_view, override_view, global_view}
+use Rattle.document_reader.specs.Find.{SettingsParts, ContentParts, PlainGlobals}
 use Rattle.document_reader.specs.declared.settings.SettingsParts.{SettingsParts as SettingsPartsOf}
 use Rattle.document_reader.specs.declared.content.ContentParts.{ContentParts as ContentPartsOf}
-use Rattle.document_reader.specs.declared.content.FunctionParts.{FunctionParts as FunctionPartsOf}
+use Rattle.document_reader.specs.declared.content.Globals.{Globals}
 
 abbrev pub settings_parts_view : SettingsPartsOf → SettingsParts
 settings_parts_view p = record {
@@ -13,17 +16,6 @@ settings_parts_view p = record {
   subgroups = data_of p.subgroups.now;
   returns = data_of p.returns.now;
   rest = items_view p.rest.now;
-}
-
-abbrev pub function_parts_view : FunctionPartsOf → FunctionParts
-function_parts_view p = record {
-  name = data_of p.name.now;
-  arguments = data_of p.arguments.now;
-  result = data_of p.result.now;
-  locals = data_of p.locals.now;
-  expressions = data_of p.expressions.now;
-  body = data_of p.body.now;
-  filter = data_of p.filter.now;
 }
 
 abbrev pub content_parts_view : ContentPartsOf → ContentParts
@@ -37,4 +29,12 @@ content_parts_view p = record {
   globals = data_of p.globals.now;
   functions = data_of p.functions.now;
   entries = data_of p.entries.now;
+}
+
+abbrev pub globals_view : Globals → PlainGlobals
+globals_view g = record {
+  constants = map constant_view g.constants.items;
+  overrides = map override_view g.overrides.items;
+  expressions = map expression_view g.expressions.items;
+  variables = map global_view g.variables.items;
 }

@@ -1,16 +1,10 @@
-// The document: what it is, and how its bytes spell it.
+//! From bytes to a document.
 #![tactic(auto)]
 
 mod content;
-mod distinct;
-mod document;
-mod expressions;
 pub mod laws;
-mod parts;
 mod reading;
 mod settings;
-mod statements;
-mod words;
 
-pub use document::{Document, FunctionItem, Settings};
+pub use document_model::{Document, Settings};
 pub use reading::read_document;

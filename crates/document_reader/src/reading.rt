@@ -1,25 +1,22 @@
 // From bytes to a document.
-ghost use Rattle.std.specs.Prelude.{◌≡◌, IfOk, IfSome, IfNone, option_map, map};
+ghost use Rattle.std.specs.Prelude.{◌≡◌, IfOk, IfSome, IfNone, option_map};
 ghost use Rattle.serde_json.specs.View.{view as data_of};
-ghost use Rattle.document_reader.specs.Decode.{document_at, Spells};
+ghost use Rattle.document_model.specs.Plain.{PlainDocument};
+ghost use Rattle.document_model.specs.View.{document_view};
+ghost use Rattle.document_reader.specs.Find.{document_of, Spells};
 ghost use Rattle.document_reader.specs.Form.{Reads};
-ghost use Rattle.document_reader.specs.Plain.{PlainDocument};
-ghost use Rattle.document_reader.specs.View.{document_view};
 
-use crate::content::{content_parts, functions, is_thin, types};
-use crate::distinct::are_distinct;
-use crate::document::Document;
+use crate::content::{content, content_parts};
 use crate::settings::{settings, settings_parts};
+use document_model::{Document, are_distinct};
 use serde_json::Value;
 use std::alloc::{AllocError, Global};
 
 const MAX_LEN: usize = 16777216;
 
-const MAX_DEPTH: usize = 127;
-
-#[tactic(auto, unfolding(crate::specs::Decode::document_at))]
-fn document(alloc: Global, value: &Value, depth: usize) -> Result<Option<Document>, AllocError>
-    ensures { IfOk result (λ found. option_map document_view found ≡ document_at depth (data_of value.now)) }
+#[tactic(auto, unfolding(crate::specs::Find::document_of))]
+fn document(alloc: Global, value: &Value) -> Result<Option<Document>, AllocError>
+    ensures { IfOk result (λ found. option_map document_view found ≡ document_of (data_of value.now)) }
 {
     let Some(first) = value.as_array().and_then(|items| settings_parts(items)) else {
         return Ok(None);
@@ -30,32 +27,15 @@ fn document(alloc: Global, value: &Value, depth: usize) -> Result<Option<Documen
     let Some(settings) = settings(alloc, &first)? else {
         return Ok(None);
     };
-    if !is_thin(&parts) {
-        return Ok(None);
-    }
-    let Some(types) = types(alloc, parts.types)? else {
-        return Ok(None);
-    };
-    let Some(functions) = functions(alloc, parts.functions, depth)? else {
-        return Ok(None);
-    };
-    Ok(Some(Document {
-        settings,
-        types,
-        functions,
-    }))
+    content(alloc, settings, &parts)
 }
 
 // The document that the value spells, unless two of its types are equal.
-fn distinct_document(
-    alloc: Global,
-    value: &Value,
-    depth: usize,
-) -> Result<Option<Document>, AllocError>
-    ensures found { IfOk result (λ found. IfSome found (λ d. Spells depth (data_of value.now) (document_view d))) }
-    ensures refused { IfOk result (λ found. IfNone found ((d : PlainDocument) → ¬ Spells depth (data_of value.now) d)) }
+fn distinct_document(alloc: Global, value: &Value) -> Result<Option<Document>, AllocError>
+    ensures found { IfOk result (λ found. IfSome found (λ d. Spells (data_of value.now) (document_view d))) }
+    ensures refused { IfOk result (λ found. IfNone found ((d : PlainDocument) → ¬ Spells (data_of value.now) d)) }
 {
-    let Some(document) = document(alloc, value, depth)? else {
+    let Some(document) = document(alloc, value)? else {
         return Ok(None);
     };
     if are_distinct(&document.types) {
@@ -75,7 +55,7 @@ pub fn read_document(alloc: Global, bytes: &[u8]) -> Result<Option<Document>, Al
         return Ok(None);
     }
     match Value::from_slice(alloc, bytes) {
-        Ok(value) => distinct_document(alloc, &value, MAX_DEPTH),
+        Ok(value) => distinct_document(alloc, &value),
         Err(e) => {
             if e.is_memory() {
                 Err(AllocError)

@@ -1,13 +1,12 @@
 // What a document asks of the validator.
 ghost use Rattle.std.specs.Prelude.{◌≡◌, option_map, IfOk};
 ghost use Rattle.serde_json.specs.View.{view as data_of, items_view};
-ghost use Rattle.document_reader.specs.Decode.{is_version, settings_parts, subgroups_of, settings_of};
+ghost use Rattle.document_model.specs.View.{settings_view};
+ghost use Rattle.document_reader.specs.Find.{is_version, settings_parts, subgroups_of, settings_of};
 ghost use Rattle.document_reader.specs.Parts.{settings_parts_view};
-ghost use Rattle.document_reader.specs.View.{settings_view};
 
-use crate::document::Settings;
-use crate::parts::{first, pair};
-use crate::words::read_words;
+use document_model::Settings;
+use document_parts::{first, only, read_words};
 use ir_kinds::{ShaderStage, SubgroupFlag};
 use serde_json::Value;
 use std::alloc::{AllocError, Global};
@@ -26,7 +25,7 @@ pub struct SettingsParts<'a> {
 }
 
 /// The first parts of a document, or `None` where there are too few.
-#[tactic(auto, unfolding(crate::specs::Decode::settings_parts))]
+#[tactic(auto, unfolding(crate::specs::Find::settings_parts))]
 pub fn settings_parts(items: &[Value]) -> Option<SettingsParts<'_>>
     ensures { option_map settings_parts_view result ≡ settings_parts (items_view items.now) }
 {
@@ -54,16 +53,18 @@ fn is_version(value: &Value) -> bool
     }
 }
 
-/// The stage set and the subgroup set.
-#[tactic(auto, unfolding(crate::specs::Decode::subgroups_of))]
+// The stage set and the subgroup set.
+#[tactic(auto, unfolding(crate::specs::Find::subgroups_of))]
 fn subgroups(
     alloc: Global,
     value: &Value,
 ) -> Result<Option<(Vec<ShaderStage>, Vec<SubgroupFlag>)>, AllocError>
-    ensures { IfOk result (λ found. option_map (λ t. (t.0.items, t.1.items)) found
-        ≡ subgroups_of (data_of value.now)) }
+    ensures { IfOk result (λ found. option_map (λ t. (t.0.items, t.1.items)) found ≡ subgroups_of (data_of value.now)) }
 {
-    let Some((stages, operations)) = value.as_array().and_then(|items| pair(items)) else {
+    let Some((stages, rest)) = value.as_array().and_then(|items| first(items)) else {
+        return Ok(None);
+    };
+    let Some(operations) = only(rest) else {
         return Ok(None);
     };
     let Some(stages) = read_words(alloc, stages)? else {
@@ -76,7 +77,7 @@ fn subgroups(
 }
 
 /// What the document asks for, or `None` where a part is written in another way. The error is want of memory.
-#[tactic(auto, unfolding(crate::specs::Decode::settings_of))]
+#[tactic(auto, unfolding(crate::specs::Find::settings_of))]
 pub fn settings(alloc: Global, parts: &SettingsParts<'_>) -> Result<Option<Settings>, AllocError>
     ensures { IfOk result (λ found. option_map settings_view found ≡ settings_of (settings_parts_view parts.now)) }
 {

@@ -4,14 +4,14 @@ use Rattle.std.specs.Prelude.{codes}
 use Rattle.serde_json.specs.Data.{Data, string, array, Items, item}
 use Rattle.ir_kinds.specs.declared.values.SwitchValue.{SwitchValue}
 use Rattle.ir_kinds.specs.declared.values.SwitchValue.TheVariants as val
-use Rattle.ir_items.specs.declared.acts.AtomicFunction.{AtomicFunction}
-use Rattle.ir_items.specs.declared.acts.AtomicFunction.TheVariants as atm
-use Rattle.ir_items.specs.declared.acts.GatherMode.{GatherMode}
-use Rattle.ir_items.specs.declared.acts.GatherMode.TheVariants as gat
-use Rattle.ir_items.specs.declared.acts.RayQueryFunction.{RayQueryFunction}
-use Rattle.ir_items.specs.declared.acts.RayQueryFunction.TheVariants as ray
-use Rattle.ir_items.specs.declared.acts.RayPipelineFunction.{RayPipelineFunction}
-use Rattle.ir_items.specs.declared.acts.RayPipelineFunction.TheVariants as pip
+use Rattle.ir_blocks.specs.declared.acts.AtomicFunction.{AtomicFunction}
+use Rattle.ir_blocks.specs.declared.acts.AtomicFunction.TheVariants as atm
+use Rattle.ir_blocks.specs.declared.acts.GatherMode.{GatherMode}
+use Rattle.ir_blocks.specs.declared.acts.GatherMode.TheVariants as gat
+use Rattle.ir_blocks.specs.declared.acts.RayQueryFunction.{RayQueryFunction}
+use Rattle.ir_blocks.specs.declared.acts.RayQueryFunction.TheVariants as ray
+use Rattle.ir_blocks.specs.declared.acts.RayPipelineFunction.{RayPipelineFunction}
+use Rattle.ir_blocks.specs.declared.acts.RayPipelineFunction.TheVariants as pip
 use Rattle.document_words.specs.Tables.{directions}
 use Rattle.document_parts.specs.Form.{AHandle, AU32, ASigned, AWord, Maybe, AList, Ends, ◌▸◌}
 use Rattle.document_parts.specs.Find.{handle_of, u32_of, signed_of, word_in, optional, all_of, one, two, three, of_kind}

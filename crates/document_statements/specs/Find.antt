@@ -2,18 +2,18 @@
 use Rattle.std.specs.Prelude.{ℕ, zero, suc, Option, None, option_map}
 use Rattle.serde_json.specs.Data.{Data, Items}
 use Rattle.serde_json.specs.Find.{as_array, as_bool}
-use Rattle.ir_items.specs.View.{PlainCase, block_of, cases_of}
+use Rattle.ir_blocks.specs.View.{PlainCase, block_of, cases_of}
 use Rattle.ir_kinds.specs.declared.values.SwitchValue.{SwitchValue}
 use Rattle.ir_kinds.specs.declared.values.SwitchValue.TheVariants as val
-use Rattle.ir_items.specs.declared.acts.AtomicFunction.{AtomicFunction}
-use Rattle.ir_items.specs.declared.acts.AtomicFunction.TheVariants as atm
-use Rattle.ir_items.specs.declared.acts.GatherMode.{GatherMode}
-use Rattle.ir_items.specs.declared.acts.GatherMode.TheVariants as gat
-use Rattle.ir_items.specs.declared.acts.RayQueryFunction.{RayQueryFunction}
-use Rattle.ir_items.specs.declared.acts.RayQueryFunction.TheVariants as ray
-use Rattle.ir_items.specs.declared.acts.RayPipelineFunction.{RayPipelineFunction}
-use Rattle.ir_items.specs.declared.acts.RayPipelineFunction.TheVariants as pip
-use Rattle.ir_items.specs.Plain.{control_barrier, memory_barrier, store, image_store, atomic, image_atomic, uniform_load, ray_query, ballot, collective, gather, cooperative_store, ray_pipeline, PlainStatement, emit, block, choice, switch, loop, break, continue, return, kill, act, call, PlainBlock}
+use Rattle.ir_blocks.specs.declared.acts.AtomicFunction.{AtomicFunction}
+use Rattle.ir_blocks.specs.declared.acts.AtomicFunction.TheVariants as atm
+use Rattle.ir_blocks.specs.declared.acts.GatherMode.{GatherMode}
+use Rattle.ir_blocks.specs.declared.acts.GatherMode.TheVariants as gat
+use Rattle.ir_blocks.specs.declared.acts.RayQueryFunction.{RayQueryFunction}
+use Rattle.ir_blocks.specs.declared.acts.RayQueryFunction.TheVariants as ray
+use Rattle.ir_blocks.specs.declared.acts.RayPipelineFunction.{RayPipelineFunction}
+use Rattle.ir_blocks.specs.declared.acts.RayPipelineFunction.TheVariants as pip
+use Rattle.ir_blocks.specs.Plain.{control_barrier, memory_barrier, store, image_store, atomic, image_atomic, uniform_load, ray_query, ballot, collective, gather, cooperative_store, ray_pipeline, PlainStatement, emit, block, choice, switch, loop, break, continue, return, kill, act, call, PlainBlock}
 use Rattle.document_words.specs.Unions.{barrier_union}
 use Rattle.document_words.specs.Tables.{barriers, subgroup_operations, collective_operations, directions}
 use Rattle.document_parts.specs.Find.{◌>>=◌, handle_of, u32_of, signed_of, word_in, set_of, optional, all_of, at_end, one, two, three, four, five, of_kind}

@@ -3,15 +3,15 @@ use Rattle.std.specs.Prelude.{codes}
 use Rattle.serde_json.specs.Data.{Data, Items}
 use Rattle.ir_kinds.specs.declared.values.SwitchValue.{SwitchValue}
 use Rattle.ir_kinds.specs.declared.values.SwitchValue.TheVariants as val
-use Rattle.ir_items.specs.declared.acts.AtomicFunction.{AtomicFunction}
-use Rattle.ir_items.specs.declared.acts.AtomicFunction.TheVariants as atm
-use Rattle.ir_items.specs.declared.acts.GatherMode.{GatherMode}
-use Rattle.ir_items.specs.declared.acts.GatherMode.TheVariants as gat
-use Rattle.ir_items.specs.declared.acts.RayQueryFunction.{RayQueryFunction}
-use Rattle.ir_items.specs.declared.acts.RayQueryFunction.TheVariants as ray
-use Rattle.ir_items.specs.declared.acts.RayPipelineFunction.{RayPipelineFunction}
-use Rattle.ir_items.specs.declared.acts.RayPipelineFunction.TheVariants as pip
-use Rattle.ir_items.specs.Plain.{PlainAct, control_barrier, memory_barrier, store, image_store, atomic, image_atomic, uniform_load, ray_query, ballot, collective, gather, cooperative_store, ray_pipeline, PlainStatement, emit, block, choice, switch, loop, break, continue, return, kill, act, call, PlainBlock, stop, next, PlainCases, no_case, case}
+use Rattle.ir_blocks.specs.declared.acts.AtomicFunction.{AtomicFunction}
+use Rattle.ir_blocks.specs.declared.acts.AtomicFunction.TheVariants as atm
+use Rattle.ir_blocks.specs.declared.acts.GatherMode.{GatherMode}
+use Rattle.ir_blocks.specs.declared.acts.GatherMode.TheVariants as gat
+use Rattle.ir_blocks.specs.declared.acts.RayQueryFunction.{RayQueryFunction}
+use Rattle.ir_blocks.specs.declared.acts.RayQueryFunction.TheVariants as ray
+use Rattle.ir_blocks.specs.declared.acts.RayPipelineFunction.{RayPipelineFunction}
+use Rattle.ir_blocks.specs.declared.acts.RayPipelineFunction.TheVariants as pip
+use Rattle.ir_blocks.specs.Plain.{PlainAct, control_barrier, memory_barrier, store, image_store, atomic, image_atomic, uniform_load, ray_query, ballot, collective, gather, cooperative_store, ray_pipeline, PlainStatement, emit, block, choice, switch, loop, break, continue, return, kill, act, call, PlainBlock, stop, next, PlainCases, no_case, case}
 use Rattle.document_words.specs.Unions.{barrier_union}
 use Rattle.document_words.specs.Tables.{barriers, subgroup_operations, collective_operations, directions}
 use Rattle.document_parts.specs.Form.{AHandle, AU32, ASigned, ABool, AWord, ASet, Maybe, AnArray, AList, Ends, Starts, ◌▸◌, Tagged}

@@ -1,13 +1,13 @@
 // Statements without blocks, each kind by a function of its own.
 ghost use Rattle.std.specs.Prelude.{◌≡◌, option_map, IfOk};
 ghost use Rattle.serde_json.specs.View.{items_view};
-ghost use Rattle.ir_items.specs.View.{statement_view};
+ghost use Rattle.ir_blocks.specs.View.{statement_view};
 ghost use Rattle.document_statements.specs.Find.{st_emit_of, st_break_of, st_continue_of, st_return_of, st_kill_of, st_control_barrier_of, st_memory_barrier_of, st_store_of, st_image_store_of, st_atomic_of, st_image_atomic_of, st_work_group_uniform_load_of, st_call_of, st_ray_query_of, st_subgroup_ballot_of, st_subgroup_collective_operation_of, st_subgroup_gather_of, st_cooperative_store_of, st_ray_pipeline_function_of};
 
 use crate::parts::{atomic_function, gather_mode, pipeline_function, query_function};
 use document_parts::{first, four, front, is_end, one, only, read_list, three, two};
 use ir_arena::range::Range;
-use ir_items::{CooperativeData, Statement};
+use ir_blocks::{CooperativeData, Statement};
 use serde_json::Value;
 use std::alloc::{AllocError, Global};
 

@@ -1,7 +1,7 @@
 // Laws of statements.
 ghost use Rattle.std.specs.Prelude.{◌≡◌, ◌≤◌, ℕ, Some};
 ghost use Rattle.serde_json.specs.Data.{Data, depth};
-ghost use Rattle.ir_items.specs.Plain.{PlainBlock};
+ghost use Rattle.ir_blocks.specs.Plain.{PlainBlock};
 ghost use Rattle.document_parts.specs.Form.{AnArray};
 ghost use Rattle.document_statements.specs.Find.{block_at};
 ghost use Rattle.document_statements.specs.Form.{TheStatements};

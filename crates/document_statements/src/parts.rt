@@ -6,7 +6,7 @@ ghost use Rattle.document_statements.specs.Find.{value_with, value_of, atomic_wi
 use crate::kinds::{AtomicKind, GatherKind, PipelineKind, QueryKind, ValueKind};
 use document_parts::{i32_number, is_end, one, only, tagged, three, two};
 use document_words::find_word;
-use ir_items::{AtomicFunction, GatherMode, RayPipelineFunction, RayQueryFunction};
+use ir_blocks::{AtomicFunction, GatherMode, RayPipelineFunction, RayQueryFunction};
 use ir_kinds::SwitchValue;
 use serde_json::Value;
 

@@ -1,7 +1,7 @@
 // Statements and the blocks that hold them.
 ghost use Rattle.std.specs.Prelude.{◌≡◌, ◌++◌, map, option_map, IfOk};
 ghost use Rattle.serde_json.specs.View.{view as data_of, items_view};
-ghost use Rattle.ir_items.specs.View.{statement_view, block_view, case_view};
+ghost use Rattle.ir_blocks.specs.View.{statement_view, block_view, case_view};
 ghost use Rattle.document_parts.specs.Find.{all_of};
 ghost use Rattle.document_statements.specs.Find.{statement_at, statement_with, block_at, case_with};
 
@@ -11,7 +11,7 @@ use crate::parts::switch_value;
 use document_parts::{first, front, is_end, one, only, tagged};
 use document_words::find_word;
 use ir_arena::span::Span;
-use ir_items::{Block, Statement, SwitchCase};
+use ir_blocks::{Block, Statement, SwitchCase};
 use serde_json::Value;
 use std::alloc::{AllocError, Global};
 

@@ -1,7 +1,9 @@
 -- What holds of a list's elements, one after the other.
-use Rattle.std.proofs.Common.{◌≡◌, ℕ, ◌<◌, ◌≤◌, List, length, slice_index_or, Result, Ok, Err, OnErr, arith, subst}
+use Rattle.std.proofs.Common.{◌≡◌, ℕ, ◌≤◌, List, Some, Result, Ok, Err, OnErr, arith, subst}
 use Rattle.std.specs.List.{HoldsAt, AllWithin}
-use Rattle.std.proofs.lemmas.List.{get_or_read}
+use Rattle.ir_arena.specs.declared.span.Span.{Span}
+use Rattle.ir_arena.specs.Arenas.{value_at}
+use Rattle.ir_arena.proofs.Zipped.{value_got}
 
 -- what holds holds at an error too
 pub OnErr-always : {X E P : Type 0} (r : Result X E) → P → OnErr r P
@@ -9,10 +11,10 @@ OnErr-always (Ok x) p = tt
 OnErr-always (Err e) p = p
 
 module _ {X : Type 0} (P : X → Type 0) where
-  -- P holds of the element x that was read at place i
-  pub HoldsAt-read : (xs : List X) (i : ℕ) (x : X) → i < length xs → x ≡ slice_index_or xs i x → P x → HoldsAt P xs i
-  HoldsAt-read xs i x within is p = λ d. subst P (get_or_read xs i x within is d) p
-
   -- what holds below i holds below n, where n is no more
   pub AllWithin-up_to : (xs : List X) (i n : ℕ) → n ≤ i → AllWithin P xs 0 i → AllWithin P xs 0 n
   AllWithin-up_to xs i n le all = λ k d low below. all k d low (omega arith)
+
+-- what holds of the value at a handle holds of the entry there
+pub HoldsAt-value : {T : Type 0} (P : T → Type 0) (entries : List (T × Span)) (i : ℕ) (x : T) → Some x ≡ value_at entries i → P x → HoldsAt (λ entry. P entry.0) entries i
+HoldsAt-value P entries i x is p = λ d. subst P (value_got entries i x is d) p

@@ -1,3 +1,4 @@
+pub mod Zipped
 pub mod Distinct
 pub mod Entries
 pub mod Found

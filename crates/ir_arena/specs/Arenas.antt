@@ -1,6 +1,6 @@
 -- The entries of an arena: its values in order, each with its span. A handle is a place among them.
-use Rattle.std.specs.Prelude.{ℕ, Bool, List, [], ◌∷◌, ◌++◌, ◌<◌, true, false, length, if◌then◌else◌, Option, option_map, unwrap_or, position, slice_get, slice_set}
-use Rattle.std.specs.List.{list_any, position_or_len, IsDistinct, HoldsAt, AllWithin}
+use Rattle.std.specs.Prelude.{ℕ, Bool, List, [], ◌∷◌, ◌++◌, ◌<◌, true, false, length, if◌then◌else◌, Option, option_map, unwrap_or, map, position, slice_get, slice_set}
+use Rattle.std.specs.List.{zip, refill, list_any, position_or_len, IsDistinct, HoldsAt, AllWithin}
 use Rattle.ir_arena.specs.declared.span.Span.{Span}
 use Rattle.ir_arena.specs.Spans.{undefined_span}
 
@@ -23,6 +23,10 @@ span_at entries handle = unwrap_or (option_map span_of_entry (slice_get entries 
 -- the entries with this value at a handle, whose span stays
 abbrev pub with_value : {T : Type 0} → List (T × Span) → ℕ → T → List (T × Span)
 with_value entries handle value = slice_set entries handle (value, span_at entries handle)
+
+-- the entries with these values in place of their own, as far as there are entries, whose spans stay
+abbrev pub with_values : {T : Type 0} → List (T × Span) → List T → List (T × Span)
+with_values entries values = zip (refill (length entries) (map value_of_entry entries) values) (map span_of_entry entries)
 
 -- In these eq is the equality of the values.
 module _ {T : Type 0} (eq : T → T → Bool) where

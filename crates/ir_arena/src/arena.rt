@@ -1,11 +1,11 @@
 //! The arena that takes every value.
 
-ghost use Rattle.std.specs.Prelude.{◌≡◌, ◌<◌, ◌≤◌, ◌++◌, ◌⊎◌, ◌↔◌, Some, false, [], ◌∷◌, length, slice_range, take, IsTrue, IsOk, IfOk, IfErr, IfSome, IfNone, OnOk, OnErr};
+ghost use Rattle.std.specs.Prelude.{◌≡◌, ◌<◌, ◌≤◌, ◌++◌, ◌⊎◌, ◌↔◌, Some, false, [], ◌∷◌, length, map, slice_range, IsTrue, IsOk, IfOk, IfErr, IfSome, IfNone, OnOk, OnErr};
 ghost use Rattle.std.specs.Borrow.{sem};
 ghost use Rattle.std.specs.Fn.{FnReturnsAt, FnReturnsAtPair};
-ghost use Rattle.ir_arena.specs.Arenas.{value_at, span_at, has_equal, found_at, place_of, with_entry, IsFirstPassing, PassesNowhere};
-ghost use Rattle.ir_arena.specs.IterMut.{values_to_come};
-ghost use Rattle.ir_arena.specs.Lends.{LendsValue};
+ghost use Rattle.ir_arena.specs.Arenas.{value_of_entry, span_of_entry, value_at, span_at, has_equal, found_at, place_of, with_entry, IsFirstPassing, PassesNowhere};
+ghost use Rattle.ir_arena.specs.IterMut.{values_to_come, loan_name};
+ghost use Rattle.ir_arena.specs.Lends.{LendsValue, LendsValues, KeepsSpans};
 ghost use Rattle.ir_arena.specs.Retains.{KeepsAt, RetainsFrom};
 ghost use Rattle.ir_arena.specs.Handles.{handles_from, entries_from};
 
@@ -15,9 +15,9 @@ use crate::iter::Iter;
 use crate::iter_mut::IterMut;
 use crate::range::{BadRangeError, Range};
 use crate::span::Span;
+use crate::spanned::Spanned;
 use std::alloc::{AllocError, Global};
 use std::marker::{Model, PhantomData};
-use std::mem;
 use std::ops::Index;
 
 /// A list of values, each with its span. A value's handle is its place, so the handles are those
@@ -32,7 +32,7 @@ use std::ops::Index;
 #[derive(Drop)]
 #[derive_where(Debug; T)]
 pub struct Arena<T, K = T> {
-    entries: Vec<(T, Span)>,
+    entries: Spanned<T>,
     key: PhantomData<K>,
 }
 
@@ -42,9 +42,9 @@ impl<T, K> Model for Arena<T, K> {
 
     ghost Value = { List (T × Span) };
 
-    ghost view = { λ a. a.entries.items };
+    ghost view = { λ a. a.entries };
 
-    ghost invariant = { λ a. length a.entries.items ≤ 4294967295 };
+    ghost invariant = { λ a. length a.entries ≤ 4294967295 };
 }
 
 /// Two arenas are equal where they have as many values, and each is equal to the other's at its place and has the same
@@ -73,7 +73,7 @@ impl<T, K> Arena<T, K> {
         ensures { result ≡ [] }
     {
         Arena {
-            entries: Vec::new(alloc),
+            entries: Spanned::new(alloc),
             key: PhantomData,
         }
     }
@@ -90,22 +90,23 @@ impl<T, K> Arena<T, K> {
     pub fn is_empty(&self) -> bool
         ensures { IsTrue result ↔ (self.now ≡ []) }
     {
-        self.entries.is_empty()
+        self.len() == 0
     }
 
     /// The values in order, each with its handle.
     pub fn iter(&self) -> Iter<'_, T, K>
         ensures { result ≡ handles_from 0 self.now }
     {
-        Iter::new(self.entries.as_slice())
+        Iter::new(self.entries.values())
     }
 
-    /// The values in order, each with its handle, to be changed. No contract says what the arena holds
-    /// once they were changed so; that of [`Arena::get_mut`] does.
+    /// The values in order, each with its handle, to be changed. Their spans stay.
     pub fn iter_mut(&mut self) -> IterMut<'_, T, K>
-        ensures { values_to_come result ≡ handles_from 0 self.old }
+        ensures* writes_back { sem 𝓛 (LendsValues T.row K.row self.entry (loan_name result)) }
+        ensures keeps { KeepsSpans self.old }
+        ensures values { values_to_come result ≡ handles_from 0 self.old }
     {
-        IterMut::new(self.entries.as_mut_slice())
+        IterMut::new(self.entries.values_mut())
     }
 
     /// Adds a value at the end, and gives its handle.
@@ -126,7 +127,7 @@ impl<T, K> Arena<T, K> {
         if place >= 4294967295 {
             return Err(AllocError);
         }
-        self.entries.push((value, span))?;
+        self.entries.push(value, span)?;
         Ok(Handle::at(place))
     }
 
@@ -137,7 +138,7 @@ impl<T, K> Arena<T, K> {
         ensures value { result ≡ found_at T.eq self.now value.now }
         ensures in_range { IfSome result (λ place. (place < length self.now) × (place < 4294967295)) }
     {
-        self.entries.iter().position(|entry| *value == entry.0)
+        self.entries.find(value)
     }
 
     /// The handle of the first value that is equal to `value`. Where there is none, adds `value` at
@@ -167,7 +168,7 @@ impl<T, K> Arena<T, K> {
         ensures found { IfSome result (IsFirstPassing (FnReturnsAt F.Fn fun) self.now) }
         ensures none { IfNone result (PassesNowhere (FnReturnsAt F.Fn fun) self.now) }
     {
-        match first_passing(self.entries.as_slice(), &fun) {
+        match first_passing(&self.entries, &fun) {
             Some(place) => Some(Handle::at(place)),
             None => None,
         }
@@ -199,7 +200,7 @@ impl<T, K> Arena<T, K> {
         ensures err { OnErr result (self.new ≡ self.old) }
         ensures err_absent { OnErr result (PassesNowhere (λ old. FnReturnsAtPair F.Fn fun old value) self.old) }
     {
-        match first_related(self.entries.as_slice(), &value, &fun) {
+        match first_related(&self.entries, &value, &fun) {
             Some(place) => Ok(Handle::at(place)),
             None => self.append(value, span),
         }
@@ -216,10 +217,10 @@ impl<T, K> Arena<T, K> {
         ensures bad { IfErr result (λ e. e.index ≡ handle) }
     {
         let index = handle.index();
-        match self.entries.get(index) {
-            Some(entry) => Ok(&entry.0),
-            None => Err(BadHandle { index }),
+        if index >= self.entries.len() {
+            return Err(BadHandle { index });
         }
+        Ok(self.entries.value(index))
     }
 
     /// The value at `handle`, to be changed.
@@ -228,18 +229,14 @@ impl<T, K> Arena<T, K> {
         ensures* writes_back { sem 𝓛 (LendsValue T.row K.row self.entry handle result) }
         ensures value { Some result.now ≡ value_at self.old handle }
     {
-        let entry = &mut self.entries[handle.index()];
-        &mut entry.0
+        self.entries.value_mut(handle.index())
     }
 
     /// The span of the value at `handle`, or [`Span::UNDEFINED`] where the arena has no such place.
     pub fn get_span(&self, handle: Handle<K>) -> Span
         ensures { result ≡ span_at self.now handle }
     {
-        match self.entries.get(handle.index()) {
-            Some(entry) => entry.1,
-            None => Span::UNDEFINED,
-        }
+        self.entries.span(handle.index())
     }
 
     /// Tests that the arena has the place of `handle`.
@@ -279,14 +276,24 @@ impl<T, K> Arena<T, K> {
         Err(BadRangeError::new(Range::<K>::new(places.start, places.end)))
     }
 
-    /// The values of `range`, each with its span. In naga `arena[range]`, without the spans.
-    pub fn get_range(&self, range: Range<K>) -> &[(T, Span)]
+    /// The values of `range` (naga's `arena[range]`).
+    pub fn get_range(&self, range: Range<K>) -> &[T]
         requires ordered { range.0 ≤ range.1 }
         requires in_bounds { range.1 ≤ length self.now }
-        ensures { result.now ≡ slice_range self.now range.0 range.1 }
+        ensures { result.now ≡ map value_of_entry (slice_range self.now range.0 range.1) }
     {
         let places = range.index_range();
-        &self.entries.as_slice()[places.start as usize..places.end as usize]
+        &self.entries.values()[places.start as usize..places.end as usize]
+    }
+
+    /// The spans of the values of `range`.
+    pub fn get_range_spans(&self, range: Range<K>) -> &[Span]
+        requires ordered { range.0 ≤ range.1 }
+        requires in_bounds { range.1 ≤ length self.now }
+        ensures { result.now ≡ map span_of_entry (slice_range self.now range.0 range.1) }
+    {
+        let places = range.index_range();
+        &self.entries.spans()[places.start as usize..places.end as usize]
     }
 
     /// Asks `keep` at each value in turn, with the handle that it has before the call, and keeps those
@@ -298,8 +305,7 @@ impl<T, K> Arena<T, K> {
         requires { F.IsAlwaysCallable keep }
         ensures { RetainsFrom (KeepsAt F.FnMut) keep 0 self.old self.new }
     {
-        let kept = keep_entries(self.entries.as_mut_slice(), &mut keep);
-        self.entries.truncate(kept);
+        keep_entries(&mut self.entries, &mut keep);
     }
 
     /// Takes all values out, and leaves the arena empty.
@@ -307,46 +313,46 @@ impl<T, K> Arena<T, K> {
         ensures taken { result ≡ entries_from 0 self.old }
         ensures emptied { self.new ≡ [] }
     {
-        let empty = Vec::new(*self.entries.allocator());
-        Drain::new(mem::replace(&mut self.entries, empty))
+        Drain::new(self.entries.take())
     }
 
-    /// All values with their spans. Naga's `into_inner` leaves out the spans.
-    pub fn into_inner(self) -> Vec<(T, Span)>
-        ensures { result.items ≡ self }
+    /// All values, without their spans.
+    pub fn into_inner(self) -> Vec<T>
+        ensures { result.items ≡ map value_of_entry self }
     {
         let Arena { entries, key: _ } = self;
-        entries
+        let (values, _) = entries.into_lists();
+        values
     }
 }
 
 // The place of the first entry whose value passes `fun`.
-fn first_passing<T, F: Fn(&T) -> bool>(entries: &[(T, Span)], fun: &F) -> Option<usize>
+fn first_passing<T, F: Fn(&T) -> bool>(entries: &Spanned<T>, fun: &F) -> Option<usize>
     requires callable { F.IsAlwaysCallable fun.now }
     requires in_range { length entries.now ≤ 4294967295 }
     ensures found { IfSome result (IsFirstPassing (FnReturnsAt F.Fn fun.now) entries.now) }
     ensures in_range { IfSome result (λ place. place < 4294967295) }
     ensures none { IfNone result (PassesNowhere (FnReturnsAt F.Fn fun.now) entries.now) }
 {
-    for (place, entry) in entries.iter().enumerate() {
-        if answer(entry, fun) {
+    for place in 0..entries.len() {
+        if answer(entries.value(place), fun) {
             return Some(place);
         }
     }
     None
 }
 
-// What `fun` answers of the entry's value.
-fn answer<T, F: Fn(&T) -> bool>(entry: &(T, Span), fun: &F) -> bool
+// What `fun` answers of the value.
+fn answer<T, F: Fn(&T) -> bool>(value: &T, fun: &F) -> bool
     requires { F.IsAlwaysCallable fun.now }
-    ensures { FnReturnsAt F.Fn fun.now entry.now.0 result }
+    ensures { FnReturnsAt F.Fn fun.now value.now result }
 {
-    fun(&entry.0)
+    fun(value)
 }
 
 // The place of the first entry at whose value `fun` passes beside `value`.
 fn first_related<T, F: Fn(&T, &T) -> bool>(
-    entries: &[(T, Span)],
+    entries: &Spanned<T>,
     value: &T,
     fun: &F,
 ) -> Option<usize>
@@ -356,54 +362,53 @@ fn first_related<T, F: Fn(&T, &T) -> bool>(
     ensures in_range { IfSome result (λ place. (place < 4294967295) × (place < length entries.now)) }
     ensures none { IfNone result (PassesNowhere (λ old. FnReturnsAtPair F.Fn fun.now old value.now) entries.now) }
 {
-    for (place, entry) in entries.iter().enumerate() {
-        if relate(entry, value, fun) {
+    for place in 0..entries.len() {
+        if relate(entries.value(place), value, fun) {
             return Some(place);
         }
     }
     None
 }
 
-// What `fun` answers of the entry's value and `value`.
-fn relate<T, F: Fn(&T, &T) -> bool>(entry: &(T, Span), value: &T, fun: &F) -> bool
+// What `fun` answers of the two values.
+fn relate<T, F: Fn(&T, &T) -> bool>(old: &T, value: &T, fun: &F) -> bool
     requires { F.IsAlwaysCallable fun.now }
-    ensures { FnReturnsAtPair F.Fn fun.now entry.now.0 value.now result }
+    ensures { FnReturnsAtPair F.Fn fun.now old.now value.now result }
 {
-    fun(&entry.0, value)
+    fun(old, value)
 }
 
-// Moves the entries that `keep` keeps to the front, in order, and gives their number.
-fn keep_entries<T, K, F: FnMut(Handle<K>, &mut T) -> bool>(
-    entries: &mut [(T, Span)],
+// Keeps the entries that `keep` keeps, in order.
+fn keep_entries<T: Drop, K, F: FnMut(Handle<K>, &mut T) -> bool>(
+    entries: &mut Spanned<T>,
     keep: &mut F,
-) -> usize
+)
     requires callable { F.IsAlwaysCallable keep.old }
     requires in_range { length entries.old ≤ 4294967295 }
-    ensures in_range { result ≤ length entries.old }
-    ensures kept { RetainsFrom (KeepsAt F.FnMut) keep.old 0 entries.old (take result entries.new) }
+    ensures in_range { length entries.new ≤ length entries.old }
+    ensures kept { RetainsFrom (KeepsAt F.FnMut) keep.old 0 entries.old entries.new }
 {
     let mut kept = 0;
     for place in 0..entries.len() {
-        if ask(&mut entries[place], Handle::at(place), keep) {
+        if ask(entries.value_mut(place), Handle::at(place), keep) {
             entries.swap(kept, place);
             kept += 1;
         }
     }
-    kept
+    entries.truncate(kept);
 }
 
-// What `keep` answers of the entry's value, which it may change.
+// What `keep` answers of the value, which it may change.
 fn ask<T, K, F: FnMut(Handle<K>, &mut T) -> bool>(
-    entry: &mut (T, Span),
+    value: &mut T,
     handle: Handle<K>,
     keep: &mut F,
 ) -> bool
     requires { F.IsAlwaysCallable keep.old }
     ensures callable { F.IsAlwaysCallable keep.new }
-    ensures asked { KeepsAt F.FnMut keep.old handle entry.old.0 result keep.new entry.new.0 }
-    ensures span { entry.new.1 ≡ entry.old.1 }
+    ensures asked { KeepsAt F.FnMut keep.old handle value.old result keep.new value.new }
 {
-    keep(handle, &mut entry.0)
+    keep(handle, value)
 }
 
 impl<T, K> Index<Handle<K>> for Arena<T, K> {
@@ -418,6 +423,6 @@ impl<T, K> Index<Handle<K>> for Arena<T, K> {
         requires { handle < length self.now }
         ensures { Some result.now ≡ value_at self.now handle }
     {
-        &self.entries[handle.index()].0
+        self.entries.value(handle.index())
     }
 }

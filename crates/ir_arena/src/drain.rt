@@ -5,6 +5,7 @@ ghost use Rattle.ir_arena.specs.Handles.{entries_from};
 
 use crate::handle::Handle;
 use crate::span::Span;
+use crate::spanned::Spanned;
 use std::marker::{Model, PhantomData};
 use std::vec;
 
@@ -15,32 +16,36 @@ use std::vec;
 /// values of a unique arena, `UniqueArenaDrain`.
 #[derive(Drop)]
 pub struct Drain<T, K> {
-    entries: vec::IntoIter<(T, Span)>,
+    values: vec::IntoIter<T>,
+    spans: vec::IntoIter<Span>,
     place: usize,
     key: PhantomData<K>,
 }
 
 impl<T, K> Model for Drain<T, K> {
-    ghost use Rattle.std.specs.Prelude.{ℕ, List, ◌≤◌, ◌+◌, length};
+    ghost use Rattle.std.specs.Prelude.{◌≡◌, ℕ, List, ◌≤◌, ◌+◌, length};
+    ghost use Rattle.std.specs.List.{zip};
     ghost use Rattle.std.specs.Vec.Iter.{into_iter_items};
     ghost use Rattle.ir_arena.specs.declared.span.Span.{Span};
     ghost use Rattle.ir_arena.specs.Handles.{entries_from};
 
     ghost Value = { List (ℕ × T × Span) };
 
-    ghost view = { λ d. entries_from d.place (into_iter_items d.entries) };
+    ghost view = { λ d. entries_from d.place (zip (into_iter_items d.values) (into_iter_items d.spans)) };
 
-    ghost invariant = { λ d. d.place + length (into_iter_items d.entries) ≤ 4294967295 };
+    ghost invariant = { λ d. (length (into_iter_items d.spans) ≡ length (into_iter_items d.values)) × (d.place + length (into_iter_items d.values) ≤ 4294967295) };
 }
 
 impl<T, K> Drain<T, K> {
-    /// The values of an arena with these entries.
-    pub fn new(entries: Vec<(T, Span)>) -> Self
-        requires { length entries.items ≤ 4294967295 }
-        ensures { result ≡ entries_from 0 entries.items }
+    // The values of an arena with these entries.
+    pub(crate) fn new(entries: Spanned<T>) -> Self
+        requires { length entries ≤ 4294967295 }
+        ensures { result ≡ entries_from 0 entries }
     {
+        let (values, spans) = entries.into_lists();
         Drain {
-            entries: entries.into_iter(),
+            values: values.into_iter(),
+            spans: spans.into_iter(),
             place: 0,
             key: PhantomData,
         }
@@ -57,7 +62,8 @@ impl<T: Drop, K> Iterator for Drain<T, K> {
     ghost remaining = { item_count (λ d. d) };
 
     fn next(&mut self) -> Option<(Handle<K>, T, Span)> {
-        let (value, span) = self.entries.next()?;
+        let span = self.spans.next()?;
+        let value = self.values.next()?;
         let handle = Handle::at(self.place);
         self.place += 1;
         Some((handle, value, span))

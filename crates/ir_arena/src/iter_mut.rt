@@ -4,30 +4,30 @@ ghost use Rattle.std.specs.Prelude.{◌≡◌, ◌≤◌, ◌+◌, length};
 ghost use Rattle.std.specs.Slice.Iter.{iter_mut_rest};
 
 use crate::handle::Handle;
-use crate::span::Span;
 use std::marker::PhantomData;
 use std::slice;
 
 /// The values of an arena in order, each with its handle, to be changed.
 #[derive(Drop)]
 pub struct IterMut<'a, T, K> {
-    entries: slice::IterMut<'a, (T, Span)>,
+    values: slice::IterMut<'a, T>,
     place: usize,
     key: PhantomData<K>,
-    ghost small: { place + length (iter_mut_rest entries) ≤ 4294967295 },
+    ghost small: { place + length (iter_mut_rest values) ≤ 4294967295 },
 }
 
 impl<'a, T, K> IterMut<'a, T, K> {
-    ghost use Rattle.ir_arena.specs.IterMut.{values_to_come};
-    ghost use Rattle.ir_arena.specs.Handles.{handles_from};
+    ghost use Rattle.std.specs.List.{enumerate_from};
+    ghost use Rattle.ir_arena.specs.IterMut.{values_to_come, loan_name};
 
-    /// An iterator over `entries`, whose first has the handle 0.
-    pub fn new(entries: &'a mut [(T, Span)]) -> Self
-        requires { length entries.old ≤ 4294967295 }
-        ensures rest { values_to_come result ≡ handles_from 0 entries.old }
+    /// An iterator over `values`, whose first has the handle 0.
+    pub fn new(values: &'a mut [T]) -> Self
+        requires { length values.old ≤ 4294967295 }
+        ensures rest { values_to_come result ≡ enumerate_from 0 values.old }
+        ensures name { loan_name result ≡ values.entry.ghost_name }
     {
         IterMut {
-            entries: entries.iter_mut(),
+            values: values.iter_mut(),
             place: 0,
             key: PhantomData,
         }
@@ -45,9 +45,9 @@ impl<'a, T, K> Iterator for IterMut<'a, T, K> {
     ghost remaining = { item_count values_to_come };
 
     fn next(&mut self) -> Option<(Handle<K>, &'a mut T)> {
-        let entry = self.entries.next()?;
+        let value = self.values.next()?;
         let handle = Handle::at(self.place);
         self.place += 1;
-        Some((handle, &mut entry.0))
+        Some((handle, value))
     }
 }

@@ -17,4 +17,5 @@ pub mod iter_mut;
 pub mod laws;
 pub mod range;
 pub mod span;
+mod spanned;
 pub mod unique_arena;

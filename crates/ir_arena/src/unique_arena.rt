@@ -8,10 +8,10 @@ use crate::drain::Drain;
 use crate::handle::{BadHandle, Handle};
 use crate::iter::Iter;
 use crate::span::Span;
+use crate::spanned::Spanned;
 use std::alloc::{AllocError, Global};
 use std::hash::Hash;
 use std::marker::{Model, PhantomData};
-use std::mem;
 use std::ops::Index;
 
 /// A list of values with their spans, no two of the values equal. A value's handle is its place, so
@@ -24,7 +24,7 @@ use std::ops::Index;
 #[derive(Drop)]
 #[derive_where(Debug; T)]
 pub struct UniqueArena<T: Eq + Hash, K = T> {
-    entries: Vec<(T, Span)>,
+    entries: Spanned<T>,
     key: PhantomData<K>,
 }
 
@@ -35,9 +35,9 @@ impl<T: Eq + Hash, K> Model for UniqueArena<T, K> {
 
     ghost Value = { List (T × Span) };
 
-    ghost view = { λ a. a.entries.items };
+    ghost view = { λ a. a.entries };
 
-    ghost invariant = { λ a. IsDistinctBy T.eq a.entries.items × (length a.entries.items ≤ 4294967295) };
+    ghost invariant = { λ a. IsDistinctBy T.eq a.entries × (length a.entries ≤ 4294967295) };
 }
 
 /// Two arenas are equal where they have as many values, and each is equal to the other's at its place and has the same
@@ -66,7 +66,7 @@ impl<T: Eq + Hash, K> UniqueArena<T, K> {
         ensures { result ≡ [] }
     {
         UniqueArena {
-            entries: Vec::new(alloc),
+            entries: Spanned::new(alloc),
             key: PhantomData,
         }
     }
@@ -84,14 +84,14 @@ impl<T: Eq + Hash, K> UniqueArena<T, K> {
     pub fn is_empty(&self) -> bool
         ensures { IsTrue result ↔ (self.now ≡ []) }
     {
-        self.entries.is_empty()
+        self.len() == 0
     }
 
     /// The values in order, each with its handle.
     pub fn iter(&self) -> Iter<'_, T, K>
         ensures { result ≡ handles_from 0 self.now }
     {
-        Iter::new(self.entries.as_slice())
+        Iter::new(self.entries.values())
     }
 
     // The place of the value that is equal to `value`.
@@ -99,7 +99,7 @@ impl<T: Eq + Hash, K> UniqueArena<T, K> {
         ensures value { result ≡ found_at T.eq self.now value.now }
         ensures in_range { IfSome result (λ place. (place < length self.now) × (place < 4294967295)) }
     {
-        self.entries.iter().position(|entry| *value == entry.0)
+        self.entries.find(value)
     }
 
     /// The handle of the value that is equal to `value`. Where there is none, adds `value` at the
@@ -129,7 +129,7 @@ impl<T: Eq + Hash, K> UniqueArena<T, K> {
                 if place >= 4294967295 {
                     return Err(AllocError);
                 }
-                self.entries.push((value, span))?;
+                self.entries.push(value, span)?;
                 Ok(Handle::at(place))
             }
         }
@@ -143,9 +143,7 @@ impl<T: Eq + Hash, K> UniqueArena<T, K> {
         requires absent { has_equal T.eq self.old new ≡ false }
         ensures { self.new ≡ with_value self.old old new }
     {
-        let place = old.index();
-        let span = self.entries[place].1;
-        self.entries[place] = (new, span);
+        self.entries.replace(old.index(), new);
     }
 
     /// The handle of the value that is equal to `value`, if there is one.
@@ -170,20 +168,17 @@ impl<T: Eq + Hash, K> UniqueArena<T, K> {
         ensures bad { IfErr result (λ e. e.index ≡ handle) }
     {
         let index = handle.index();
-        match self.entries.get(index) {
-            Some(entry) => Ok(&entry.0),
-            None => Err(BadHandle { index }),
+        if index >= self.entries.len() {
+            return Err(BadHandle { index });
         }
+        Ok(self.entries.value(index))
     }
 
     /// The span of the value at `handle`, or [`Span::UNDEFINED`] where the arena has no such place.
     pub fn get_span(&self, handle: Handle<K>) -> Span
         ensures { result ≡ span_at self.now handle }
     {
-        match self.entries.get(handle.index()) {
-            Some(entry) => entry.1,
-            None => Span::UNDEFINED,
-        }
+        self.entries.span(handle.index())
     }
 
     /// Tests that the arena has the place of `handle`.
@@ -217,8 +212,10 @@ impl<T: Eq + Hash, K> UniqueArena<T, K> {
         ensures taken { result ≡ self.old }
         ensures emptied { self.new ≡ [] }
     {
-        let empty = UniqueArena::new(*self.entries.allocator());
-        mem::replace(self, empty)
+        UniqueArena {
+            entries: self.entries.take(),
+            key: PhantomData,
+        }
     }
 
     /// Takes all values out, and leaves the arena empty.
@@ -226,8 +223,7 @@ impl<T: Eq + Hash, K> UniqueArena<T, K> {
         ensures taken { result ≡ entries_from 0 self.old }
         ensures emptied { self.new ≡ [] }
     {
-        let UniqueArena { entries, key: _ } = self.take();
-        Drain::new(entries)
+        Drain::new(self.entries.take())
     }
 }
 
@@ -243,6 +239,6 @@ impl<T: Eq + Hash, K> Index<Handle<K>> for UniqueArena<T, K> {
         requires { handle < length self.now }
         ensures { Some result.now ≡ value_at self.now handle }
     {
-        &self.entries[handle.index()].0
+        self.entries.value(handle.index())
     }
 }

@@ -2,13 +2,13 @@
 ghost use Rattle.std.specs.Prelude.{◌≡◌, ◌≤◌, IsTrue, None, Some, is_some, option_map, unwrap_or, length, map, slice_range};
 ghost use Rattle.ir_arena.specs.Arenas.{span_of_entry};
 ghost use Rattle.ir_arena.specs.Spans.{total_span};
-ghost use Rattle.ir_items.specs.View.{statement_view};
+ghost use Rattle.ir_blocks.specs.View.{statement_view};
 ghost use Rattle.ir_emitter.specs.Emitted.{emitted};
 
 use ir_arena::arena::Arena;
 use ir_arena::range::Range;
 use ir_arena::span::Span;
-use ir_items::{Expression, Statement, key};
+use ir_blocks::{Expression, Statement, key};
 use std::marker::Model;
 
 /// Remembers how many expressions a function had, so that those that are appended can be emitted together (naga's
@@ -89,9 +89,9 @@ fn span_of(arena: &Arena<Expression, key::Expression>, start: u32, end: u32) -> 
     requires in_bounds { end ≤ length arena.now }
     ensures { result ≡ total_span (map span_of_entry (slice_range arena.now start end)) }
 {
-    let mut span = Span::UNDEFINED;
-    for entry in arena.get_range(Range::new(start, end)) {
-        span.subsume(entry.1);
+    let mut joined = Span::UNDEFINED;
+    for span in arena.get_range_spans(Range::new(start, end)) {
+        joined.subsume(*span);
     }
-    span
+    joined
 }

@@ -1,22 +1,17 @@
--- What the entries of an arena hold, without their spans.
+-- Functions and modules are copied part by part.
 use Rattle.std.proofs.Common.{◌≡◌, List, [], ◌∷◌, map, option_map, string_bytes, refl, sym, ap, ◌∙◌}
 use Rattle.ir_arena.specs.declared.span.Span.{Span}
 use Rattle.ir_expressions.specs.Plain.{expression_view}
 use Rattle.ir_types.specs.Plain.{type_view}
-use Rattle.ir_items.specs.View.{values_of, argument_view, local_view, block_view, block_spans, function_view, entry_view, special_view, constant_view, override_view, global_view, node_view}
-use Rattle.ir_items.specs.Copies.{entry_of, SpannedFunction, spanned_function, SpannedEntry, spanned_entry, spanned_module}
+use Rattle.ir_blocks.specs.View.{block_view, block_spans}
+use Rattle.ir_globals.specs.View.{values_of, special_view, constant_view, override_view, global_view, node_view}
+use Rattle.ir_items.specs.View.{argument_view, local_view, function_view, entry_view}
+use Rattle.ir_globals.specs.Copies.{entry_of}
+use Rattle.ir_items.specs.Copies.{SpannedFunction, spanned_function, SpannedEntry, spanned_entry, spanned_module}
 use Rattle.ir_items.specs.declared.entries.EntryPoint.{EntryPoint}
 use Rattle.ir_items.specs.declared.module.Module.{Module}
 use Rattle.ir_items.specs.declared.functions.Function.{Function}
-
-module _ {A B : Type 0} (view : A → B) where
-  values_of_entries : (entries : List (A × Span)) → map view (values_of entries) ≡ map (λ e. e.0) (map (entry_of view) entries)
-  values_of_entries [] = refl
-  values_of_entries (e ∷ es) = ap (λ rest. view e.0 ∷ rest) (values_of_entries es)
-
-  -- where entries hold the same, so do their values
-  pub same_values : (xs ys : List (A × Span)) → map (entry_of view) xs ≡ map (entry_of view) ys → map view (values_of xs) ≡ map view (values_of ys)
-  same_values xs ys e = values_of_entries xs ∙ (ap (map (λ x. x.0)) e ∙ sym (values_of_entries ys))
+use Rattle.ir_globals.proofs.CopyLemmas.{same_values}
 
 -- a function is copied part by part
 pub same_function : (f g : Function) → option_map string_bytes f.name ≡ option_map string_bytes g.name → map argument_view f.arguments.items ≡ map argument_view g.arguments.items → f.result ≡ g.result

@@ -1,8 +1,1 @@
-pub mod TerminatorLemmas
-pub mod TailLaws
-pub mod SpanLemmas
-pub mod SpanLaws
-pub mod SpanIterLemmas
 pub mod CopyLemmas
-pub mod TypeCopies
-pub mod RoomLemmas

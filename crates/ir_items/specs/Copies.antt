@@ -3,16 +3,16 @@ use Rattle.std.specs.Prelude.{List, map}
 use Rattle.ir_arena.specs.declared.span.Span.{Span}
 use Rattle.ir_types.specs.Plain.{PlainType, type_view}
 use Rattle.ir_expressions.specs.Plain.{PlainExpression, expression_view}
-use Rattle.ir_items.specs.Plain.{PlainLocal, PlainFunction, PlainEntry, PlainConstant, PlainOverride, PlainGlobal, PlainNode, PlainModule}
-use Rattle.ir_items.specs.Spans.{BlockSpans}
-use Rattle.ir_items.specs.View.{block_spans, local_view, function_view, entry_view, constant_view, override_view, global_view, node_view, module_view}
+use Rattle.ir_globals.specs.Plain.{PlainConstant, PlainOverride, PlainGlobal, PlainNode}
+use Rattle.ir_items.specs.Plain.{PlainLocal, PlainFunction, PlainEntry, PlainModule}
+use Rattle.ir_blocks.specs.Spans.{BlockSpans}
+use Rattle.ir_globals.specs.Copies.{entry_of}
+use Rattle.ir_blocks.specs.View.{block_spans}
+use Rattle.ir_globals.specs.View.{constant_view, override_view, global_view, node_view}
+use Rattle.ir_items.specs.View.{local_view, function_view, entry_view, module_view}
 use Rattle.ir_items.specs.declared.functions.Function.{Function}
 use Rattle.ir_items.specs.declared.entries.EntryPoint.{EntryPoint}
 use Rattle.ir_items.specs.declared.module.Module.{Module}
-
--- what an entry of an arena holds, with its span
-abbrev pub entry_of : {T View : Type 0} → (T → View) → T × Span → View × Span
-entry_of view entry = (view entry.0, entry.1)
 
 -- A function with the spans of its variables, its expressions and its statements.
 pub record SpannedFunction : Type 0 where

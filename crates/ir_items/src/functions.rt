@@ -1,14 +1,15 @@
 // Functions, and what they have.
 ghost use Rattle.std.specs.Prelude.{◌≡◌, IfOk};
 ghost use Rattle.ir_items.specs.Copies.{spanned_function};
-ghost use Rattle.ir_items.specs.View.{local_view, argument_view, function_view, block_spans, empty_function};
-ghost use Rattle.ir_items.specs.Spans.{no_spans};
+ghost use Rattle.ir_blocks.specs.View.{block_spans};
+ghost use Rattle.ir_items.specs.View.{local_view, argument_view, function_view, empty_function};
+ghost use Rattle.ir_blocks.specs.Spans.{no_spans};
 
-use crate::copies::{Copied, copy_arena, copy_list};
-use crate::statements::Block;
 use ir_arena::arena::Arena;
 use ir_arena::handle::Handle;
+use ir_blocks::Block;
 use ir_expressions::Expression;
+use ir_globals::{Copied, copy_arena, copy_list};
 use ir_kinds::Binding;
 use ir_types::{clone_name, key};
 use std::alloc::{AllocError, Global};
@@ -144,18 +145,6 @@ impl Copied for FunctionArgument {
     ghost view = { argument_view };
 
     fn copied(&self, alloc: Global) -> Result<FunctionArgument, AllocError> {
-        self.clone(alloc)
-    }
-}
-
-impl Copied for Expression {
-    ghost use Rattle.ir_expressions.specs.Plain.{PlainExpression, expression_view};
-
-    ghost View = { PlainExpression };
-
-    ghost view = { expression_view };
-
-    fn copied(&self, alloc: Global) -> Result<Expression, AllocError> {
         self.clone(alloc)
     }
 }

@@ -1,8 +1,8 @@
 //! Diagnostic filters.
 ghost use Rattle.std.specs.Prelude.{◌≡◌, ◌<◌, ◌↔◌, length, IsTrue};
 ghost use Rattle.std.specs.Option.{ForSome};
-ghost use Rattle.ir_items.specs.Plain.{standard};
-ghost use Rattle.ir_items.specs.View.{node_view};
+ghost use Rattle.ir_globals.specs.Plain.{standard};
+ghost use Rattle.ir_globals.specs.View.{node_view};
 ghost use Rattle.ir_walks.specs.Filters.{nodes_of, ParentsPrecede, HasSeverity};
 
 use ir_arena::arena::Arena;

@@ -1,9 +1,10 @@
 -- What the handles of a module name, and when they are in order.
 use Rattle.std.specs.Prelude.{◌≡◌, ◌⊎◌, ℕ, ◌<◌, ◌≤◌, List, [], ◌∷◌, ◌++◌, map, length, Option, Some, slice_get}
 use Rattle.std.specs.Option.{option_to_list}
-use Rattle.ir_items.specs.Plain.{PlainStatement, emit, block, choice, switch, loop, break, continue, return, kill, act, call, PlainFunction, PlainModule}
+use Rattle.ir_blocks.specs.Plain.{PlainStatement, emit, block, choice, switch, loop, break, continue, return, kill, act, call}
+use Rattle.ir_items.specs.Plain.{PlainFunction, PlainModule}
 use Rattle.ir_items.specs.declared.functions.FunctionResult.{FunctionResult}
-use Rattle.ir_items.specs.Places.{Place, StandsAt}
+use Rattle.ir_blocks.specs.Places.{Place, StandsAt}
 
 -- x is one of xs
 abbrev pub Has : {A : Type 0} → List A → A → Type 0

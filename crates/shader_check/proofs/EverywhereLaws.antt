@@ -1,8 +1,8 @@
 -- A test that is made everywhere passes at every place.
 use Rattle.std.proofs.Common.{◌≡◌, ℕ, zero, suc, Bool, true, false, ◌&&◌, refl, subst}
-use Rattle.ir_items.specs.Plain.{PlainStatement, emit, block, choice, switch, loop, break, continue, return, kill, act, call, PlainBlock, stop, next, PlainCases, no_case, case}
-use Rattle.ir_items.specs.Shapes.{shape_of, Part, inner, accepting, rejecting, case_at, turn, continuing, case_body, part_of}
-use Rattle.ir_items.specs.Places.{Place, here, later, inside, condition, StandsAt}
+use Rattle.ir_blocks.specs.Plain.{PlainStatement, emit, block, choice, switch, loop, break, continue, return, kill, act, call, PlainBlock, stop, next, PlainCases, no_case, case}
+use Rattle.ir_blocks.specs.Shapes.{shape_of, Part, inner, accepting, rejecting, case_at, turn, continuing, case_body, part_of}
+use Rattle.ir_blocks.specs.Places.{Place, here, later, inside, condition, StandsAt}
 use Rattle.shader_check.specs.Everywhere.{PlainControl, enter, control_at, everywhere, in_statement, in_cases}
 
 pub both_true : (a b : Bool) → (a && b) ≡ true → (a ≡ true) × (b ≡ true)

@@ -7,7 +7,8 @@ use Rattle.ir_kinds.specs.Settings.{PlainSettings}
 use Rattle.ir_kinds.specs.declared.settings.Flag.TheVariants.{Blocks}
 use Rattle.ir_arena.specs.Handles.{handles_from}
 use Rattle.ir_types.specs.Plain.{inner_view, type_view}
-use Rattle.ir_items.specs.View.{function_view, module_view, values_of}
+use Rattle.ir_globals.specs.View.{values_of}
+use Rattle.ir_items.specs.View.{function_view, module_view}
 use Rattle.ir_items.specs.declared.module.Module.{Module}
 use Rattle.ir_types.specs.Plain.{PlainType}
 use Rattle.ir_items.specs.Plain.{PlainModule}

@@ -3,7 +3,8 @@ use Rattle.std.proofs.Common.{◌≡◌, inl, inr, ℕ, List, [], ◌∷◌, ◌
 use Rattle.ir_items.specs.declared.functions.FunctionResult.{FunctionResult}
 use borrow.Author.Tests.{ltb-true, lt-ltb, leb-true, le-leb}
 use Rattle.std.specs.Option.{option_to_list}
-use Rattle.ir_items.specs.Plain.{PlainStatement, emit, block, choice, switch, loop, break, continue, return, kill, act, call, PlainFunction, PlainModule}
+use Rattle.ir_blocks.specs.Plain.{PlainStatement, emit, block, choice, switch, loop, break, continue, return, kill, act, call}
+use Rattle.ir_items.specs.Plain.{PlainFunction, PlainModule}
 use Rattle.judgement.specs.Handles.{Has, Target, type, function, expression, range, named, Refers, IsInOrder}
 use Rattle.shader_check.specs.Everywhere.{control_of_body}
 use Rattle.shader_check.specs.Tests.{are_below, is_below, statement_in_order, function_in_order}

@@ -1,4 +1,3 @@
-pub mod BuildLemmas
 pub mod EverywhereLaws
 pub mod Entries
 pub mod StepLaws

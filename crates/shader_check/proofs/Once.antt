@@ -51,18 +51,18 @@ finds_once bytes f g x y =
 
 judged_once : (bytes : List ℕ) (f g : Finding) → Judged bytes f → Judged bytes g → f ≡ g
 judged_once bytes RefusedDocument RefusedDocument x y = refl
-judged_once bytes RefusedDocument Accepted x y = absurd (x y.document y.reads)
-judged_once bytes RefusedDocument RefusedHandles x y = absurd (x y.document y.reads)
-judged_once bytes RefusedDocument (Refused t j) x y = absurd (x y.document y.reads)
-judged_once bytes Accepted RefusedDocument x y = absurd (y x.document x.reads)
+judged_once bytes RefusedDocument Accepted x y = absurd (x y.document y.reads y.within)
+judged_once bytes RefusedDocument RefusedHandles x y = absurd (x y.document y.reads y.within)
+judged_once bytes RefusedDocument (Refused t j) x y = absurd (x y.document y.reads y.within)
+judged_once bytes Accepted RefusedDocument x y = absurd (y x.document x.reads x.within)
 judged_once bytes Accepted Accepted x y = refl
 judged_once bytes Accepted RefusedHandles x y = finds_once bytes Accepted RefusedHandles x y
 judged_once bytes Accepted (Refused t j) x y = finds_once bytes Accepted (Refused t j) x y
-judged_once bytes RefusedHandles RefusedDocument x y = absurd (y x.document x.reads)
+judged_once bytes RefusedHandles RefusedDocument x y = absurd (y x.document x.reads x.within)
 judged_once bytes RefusedHandles Accepted x y = finds_once bytes RefusedHandles Accepted x y
 judged_once bytes RefusedHandles RefusedHandles x y = refl
 judged_once bytes RefusedHandles (Refused t j) x y = finds_once bytes RefusedHandles (Refused t j) x y
-judged_once bytes (Refused s i) RefusedDocument x y = absurd (y x.document x.reads)
+judged_once bytes (Refused s i) RefusedDocument x y = absurd (y x.document x.reads x.within)
 judged_once bytes (Refused s i) Accepted x y = finds_once bytes (Refused s i) Accepted x y
 judged_once bytes (Refused s i) RefusedHandles x y = finds_once bytes (Refused s i) RefusedHandles x y
 judged_once bytes (Refused s i) (Refused t j) x y = finds_once bytes (Refused s i) (Refused t j) x y

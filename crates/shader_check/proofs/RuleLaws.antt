@@ -2,10 +2,11 @@
 use Rattle.std.proofs.Common.{◌≡◌, ℕ, List, [], ◌∷◌, length, Bool, true, true≢false, nat_eq, Option, Some, None, IfSome, is_none, slice_get, refl, sym, ap, subst, ◌∙◌}
 use borrow.Author.Tests.{leb-true, le-leb, eqb-true, eq-eqb}
 use Rattle.ir_kinds.specs.contracts.scalars.ScalarPartialEq.TheImpl as scalar
-use Rattle.ir_items.specs.Plain.{PlainStatement, emit, block, choice, switch, loop, break, continue, return, kill, act, call, PlainBlock, PlainFunction, PlainModule}
-use Rattle.ir_items.specs.Shapes.{Exit, breaks, continues, returns, kills, exit_of, shape_of, Part, inner as nested, accepting, rejecting, case_at, turn, continuing}
-use Rattle.ir_items.specs.Places.{Place, here, later, inside, condition, StandsAt}
-use Rattle.ir_items.specs.Control.{parts_around, breaks_in, continues_in, returns_in, may_leave, ControlOK}
+use Rattle.ir_blocks.specs.Plain.{PlainStatement, emit, block, choice, switch, loop, break, continue, return, kill, act, call, PlainBlock}
+use Rattle.ir_items.specs.Plain.{PlainFunction, PlainModule}
+use Rattle.ir_blocks.specs.Shapes.{Exit, breaks, continues, returns, kills, exit_of, shape_of, Part, inner as nested, accepting, rejecting, case_at, turn, continuing}
+use Rattle.ir_blocks.specs.Places.{Place, here, later, inside, condition, StandsAt}
+use Rattle.ir_blocks.specs.Control.{parts_around, breaks_in, continues_in, returns_in, may_leave, ControlOK}
 use Rattle.judgement.specs.Functions.{scalar_at, answer_of, argument_count, ArityOK, CallResultOK, IsCondition, ReturnOK, StatementOK}
 use Rattle.shader_check.specs.Everywhere.{PlainControl, enter, control_at, control_of_body, everywhere}
 use Rattle.shader_check.specs.Tests.{if_some, arity_ok, is_boolean, is_condition, return_ok, call_result_ok, statement_ok, may_leave_by, rule_ok}

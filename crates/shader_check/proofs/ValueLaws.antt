@@ -11,10 +11,10 @@ use Rattle.std.proofs.lemmas.List.{take_more}
 use Rattle.std.proofs.lemmas.List.Folds.{list_any-append}
 use Rattle.ir_kinds.specs.declared.values.SwitchValue.{SwitchValue}
 use Rattle.ir_kinds.specs.declared.values.SwitchValue.TheVariants.{I32, U32, Default}
-use Rattle.ir_items.specs.Plain.{PlainStatement, PlainBlock}
-use Rattle.ir_items.specs.View.{PlainCase, case_view, cases_of, statement_step, block_step, case_step}
-use Rattle.ir_items.specs.declared.statements.Statement.TheFolds.{fold_out-SwitchCase}
-use Rattle.ir_items.specs.declared.statements.SwitchCase.{SwitchCase}
+use Rattle.ir_blocks.specs.Plain.{PlainStatement, PlainBlock}
+use Rattle.ir_blocks.specs.View.{PlainCase, case_view, cases_of, statement_step, block_step, case_step}
+use Rattle.ir_blocks.specs.declared.statements.Statement.TheFolds.{fold_out-SwitchCase}
+use Rattle.ir_blocks.specs.declared.statements.SwitchCase.{SwitchCase}
 use Rattle.judgement.specs.Functions.{case_values}
 use Rattle.shader_check.specs.Tests.{values_differ}
 use Rattle.shader_check.specs.Values.{value_key}

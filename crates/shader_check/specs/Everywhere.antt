@@ -1,8 +1,8 @@
 -- A test of statements, made wherever one stands in a body.
 use Rattle.std.specs.Prelude.{Bool, true, false, ◌&&◌}
-use Rattle.ir_items.specs.Plain.{PlainStatement, emit, block, choice, switch, loop, break, continue, return, kill, act, call, PlainBlock, stop, next, PlainCases, no_case, case}
-use Rattle.ir_items.specs.Shapes.{Part, inner, accepting, rejecting, case_at, turn, continuing}
-use Rattle.ir_items.specs.Places.{Place, here, later, inside, condition}
+use Rattle.ir_blocks.specs.Plain.{PlainStatement, emit, block, choice, switch, loop, break, continue, return, kill, act, call, PlainBlock, stop, next, PlainCases, no_case, case}
+use Rattle.ir_blocks.specs.Shapes.{Part, inner, accepting, rejecting, case_at, turn, continuing}
+use Rattle.ir_blocks.specs.Places.{Place, here, later, inside, condition}
 
 -- How a statement may leave its block at a place.
 pub record PlainControl : Type 0 where

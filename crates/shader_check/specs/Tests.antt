@@ -7,8 +7,9 @@ use Rattle.ir_kinds.specs.declared.values.SwitchValue.{SwitchValue}
 use Rattle.ir_kinds.specs.declared.values.SwitchValue.TheVariants.{I32, U32, Default}
 use Rattle.ir_types.specs.Plain.{PlainInner, plain}
 use Rattle.ir_items.specs.declared.functions.FunctionResult.{FunctionResult}
-use Rattle.ir_items.specs.Plain.{PlainStatement, emit, block, choice, switch, loop, break, continue, return, kill, act, call, PlainBlock, PlainCases, no_case, case, PlainFunction, PlainModule}
-use Rattle.ir_items.specs.Shapes.{Exit, breaks, continues, returns, kills, exit_of, shape_of}
+use Rattle.ir_blocks.specs.Plain.{PlainStatement, emit, block, choice, switch, loop, break, continue, return, kill, act, call, PlainBlock, PlainCases, no_case, case}
+use Rattle.ir_items.specs.Plain.{PlainFunction, PlainModule}
+use Rattle.ir_blocks.specs.Shapes.{Exit, breaks, continues, returns, kills, exit_of, shape_of}
 use Rattle.ir_types.specs.declared.types.TypeInner.TheVariants as inner
 use Rattle.judgement.specs.Functions.{scalar_at, answer_of, argument_count, falls_at_end, body_of}
 use Rattle.ir_kinds.specs.contracts.values.SwitchValuePartialEq.TheImpl as value

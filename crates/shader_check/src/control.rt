@@ -1,6 +1,6 @@
 // How a statement may leave its block.
 ghost use Rattle.std.specs.Prelude.{◌≡◌};
-ghost use Rattle.ir_items.specs.Shapes.{case_at, turn, continuing};
+ghost use Rattle.ir_blocks.specs.Shapes.{case_at, turn, continuing};
 ghost use Rattle.shader_check.specs.Everywhere.{enter, control_of_body};
 
 /// How a statement may leave its block at a place: by the nearest enclosing loop or switch, and whether a continuing

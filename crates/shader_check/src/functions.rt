@@ -3,7 +3,8 @@ ghost use Rattle.std.specs.Prelude.{◌≡◌, ◌||◌, false, map, option_map,
 ghost use Rattle.ir_types.specs.Plain.{inner_view};
 ghost use Rattle.ir_expressions.specs.Plain.{expression_view};
 ghost use Rattle.ir_arena.specs.Handles.{handles_from};
-ghost use Rattle.ir_items.specs.View.{block_view, case_view, cases_of, function_view, module_view};
+ghost use Rattle.ir_blocks.specs.View.{block_view, case_view, cases_of};
+ghost use Rattle.ir_items.specs.View.{function_view, module_view};
 ghost use Rattle.judgement.specs.Functions.{scalar_at, answer_of, expression_scalar, inner_scalar, falls_at_end};
 ghost use Rattle.judgement.specs.Handles.{HandlesOK};
 ghost use Rattle.shader_check.specs.Values.{value_key};

@@ -2,18 +2,20 @@
 ghost use Rattle.std.specs.Prelude.{◌↔◌, IfOk, IsTrue, Contains};
 ghost use Rattle.ir_kinds.specs.declared.settings.Flag.TheVariants.{Blocks};
 ghost use Rattle.ir_items.specs.View.{module_view};
-ghost use Rattle.document_reader.specs.View.{settings_view};
+ghost use Rattle.document_model.specs.View.{settings_view};
 ghost use Rattle.judgement.specs.Steps.{IsFinding};
 ghost use Rattle.shader_check.specs.Judged.{Judged};
 
-use crate::build::into_module;
 use crate::functions::first_failing_function;
 use crate::handles::handles_in_order;
 use crate::types::{first_failing_type, widths_of};
-use document_reader::{Document, Settings, read_document};
+use document_model::Settings;
+use document_reader::read_document;
+use document_within::within;
 use ir_items::Module;
 use ir_kinds::Flag;
 use judgement::{Finding, Step};
+use module_builder::into_module;
 use std::alloc::{AllocError, Global};
 
 fn has_blocks(flags: &[Flag]) -> bool
@@ -40,19 +42,17 @@ fn judge_module(alloc: Global, settings: &Settings, module: &Module) -> Result<F
     }
 }
 
-/// What is found of the document that the bytes spell: the first step that fails, and in it the least index. The
-/// error is want of memory.
+/// What is found of the document that the bytes spell: the first step that fails, and in it the least index. Where they
+/// spell none, or one that is not checked so far, the document is refused. The error is want of memory.
 pub fn judge(alloc: Global, bytes: &[u8]) -> Result<Finding, AllocError>
     ensures { IfOk result (Judged bytes.now) }
 {
     let Some(document) = read_document(alloc, bytes)? else {
         return Ok(Finding::RefusedDocument);
     };
-    let Document {
-        settings,
-        types,
-        functions,
-    } = document;
-    let module = into_module(alloc, &types, functions)?;
+    if !within(&document) {
+        return Ok(Finding::RefusedDocument);
+    }
+    let (settings, module) = into_module(alloc, document)?;
     judge_module(alloc, &settings, &module)
 }

@@ -1,7 +1,6 @@
 // From bytes to a verdict.
 #![tactic(auto)]
 
-mod build;
 mod check;
 mod control;
 mod functions;
@@ -11,8 +10,10 @@ pub mod laws;
 mod types;
 mod walk;
 
-pub use build::build_module;
 pub use check::{Fault, Verdict, check_document, outcome};
-pub use document_reader::{Document, FunctionItem, Settings, read_document};
+pub use document_model::{Document, Settings};
+pub use document_reader::read_document;
+pub use document_within::within;
 pub use judgement::{Finding, Step};
+pub use module_builder::build_module;
 pub use ports::{ReadCall, Sink, Source, WriteCall};

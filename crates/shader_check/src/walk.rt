@@ -1,7 +1,7 @@
 // A test of statements, made wherever one stands in a body.
 ghost use Rattle.std.specs.Prelude.{◌≡◌, Bool, map, IfOk};
-ghost use Rattle.ir_items.specs.Plain.{PlainStatement};
-ghost use Rattle.ir_items.specs.View.{statement_view, block_view, case_view, cases_of};
+ghost use Rattle.ir_blocks.specs.Plain.{PlainStatement};
+ghost use Rattle.ir_blocks.specs.View.{statement_view, block_view, case_view, cases_of};
 ghost use Rattle.shader_check.specs.Everywhere.{PlainControl, everywhere, in_statement, in_cases};
 ghost use Rattle.shader_check.specs.Control.{control_view};
 

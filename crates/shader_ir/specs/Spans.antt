@@ -1,6 +1,7 @@
 -- The spans of bodies, of copies, and of what is emitted.
-pub use Rattle.ir_items.specs.Spans.{BlockSpans, spans, InnerSpans, no_statement, in_next, StatementSpans, no_block, in_block, in_sides, in_turns, CaseSpans, no_more, in_case, span_at, InStep}
-pub use Rattle.ir_items.specs.TailSpans.{completed_spans, SpansCompletedByTails}
-pub use Rattle.ir_items.specs.Tails.{completed, CompletedByTails, CompletedOnce}
-pub use Rattle.ir_items.specs.Copies.{entry_of, SpannedFunction, spanned_function, SpannedEntry, spanned_entry, SpannedModule, spanned_module}
+pub use Rattle.ir_blocks.specs.Spans.{BlockSpans, spans, InnerSpans, no_statement, in_next, StatementSpans, no_block, in_block, in_sides, in_turns, CaseSpans, no_more, in_case, span_at, InStep}
+pub use Rattle.ir_blocks.specs.TailSpans.{completed_spans, SpansCompletedByTails}
+pub use Rattle.ir_blocks.specs.Tails.{completed, CompletedByTails, CompletedOnce}
+pub use Rattle.ir_globals.specs.Copies.{entry_of}
+pub use Rattle.ir_items.specs.Copies.{SpannedFunction, spanned_function, SpannedEntry, spanned_entry, SpannedModule, spanned_module}
 pub use Rattle.ir_emitter.specs.Emitted.{emitted, Run, AreRuns, ranges_of, Holds, ArePartition, Partition}

@@ -13,8 +13,8 @@ pub use overload_tables::{Arguments, Conclusion, ConstructorSize, Pattern, Rule,
 pub use typing_compare::CompareTypes;
 pub use typing_conclusions::{ConclusionExt, MissingSpecialType};
 pub use typing_forms::{
-    Form, ScalarExt, TypeResolution, conversion_rank, converted_rank, form_in, form_of,
-    form_of_type, inner_of,
+    Form, ScalarExt, ScalarKindExt, TypeResolution, conversion_rank, converted_rank, form_in,
+    form_of, form_of_type, inner_of,
 };
 pub use typing_overloads::{AnyOverloadSet, List, MathFunctionExt, OverloadSet, Regular};
 pub use typing_rules::{

@@ -4,6 +4,8 @@
 #[cfg(test)]
 mod blocks;
 #[cfg(test)]
+mod documents;
+#[cfg(test)]
 mod fakes;
 #[cfg(test)]
 mod limits;

@@ -2,7 +2,7 @@
 
 use crate::{ConclusionExt, MissingSpecialType};
 use ir_arena::handle::Handle;
-use ir_items::SpecialTypes;
+use ir_globals::SpecialTypes;
 use ir_kinds::{PredeclaredType, Scalar};
 use overload_tables::{Conclusion, ConstructorSize, ValueType};
 use std::test::Fail;

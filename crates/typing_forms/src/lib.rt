@@ -10,4 +10,4 @@ mod scalars;
 pub use form::{Form, form_in, form_of, form_of_type, inner_of};
 pub use ranks::{conversion_rank, converted_rank};
 pub use resolution::TypeResolution;
-pub use scalars::ScalarExt;
+pub use scalars::{ScalarExt, ScalarKindExt};

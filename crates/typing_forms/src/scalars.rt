@@ -1,11 +1,13 @@
-//! What is built of a scalar.
+//! What is built of a scalar, and what its kind is.
 
-ghost use Rattle.std.specs.Prelude.{◌≡◌};
+ghost use Rattle.std.specs.Prelude.{◌≡◌, ◌≢◌, ◌↔◌, IsTrue};
 ghost use Rattle.ir_kinds.specs.declared.scalars.Scalar.{Scalar};
+ghost use Rattle.ir_kinds.specs.declared.scalars.ScalarKind.{ScalarKind};
+ghost use Rattle.ir_kinds.specs.declared.scalars.ScalarKind.TheVariants as kind;
 ghost use Rattle.ir_types.specs.Plain.{plain, inner_view};
 ghost use Rattle.ir_types.specs.declared.types.TypeInner.TheVariants as inner;
 
-use ir_kinds::{Scalar, VectorSize};
+use ir_kinds::{Scalar, ScalarKind, VectorSize};
 use ir_types::TypeInner;
 
 /// The types that are built of one scalar (calls of naga's `Scalar`).
@@ -39,5 +41,23 @@ impl ScalarExt for Scalar {
 
     fn to_inner_atomic(self) -> TypeInner {
         TypeInner::Atomic(self)
+    }
+}
+
+/// What a kind of scalar is (a call of naga's `ScalarKind`).
+pub trait ScalarKindExt: Sized {
+    /// The kind itself.
+    ghost kind_of: { Self → ScalarKind };
+
+    /// Whether values are numbers: all but truth values (naga's `ScalarKind::is_numeric`).
+    fn is_numeric(self) -> bool
+        ensures { IsTrue result ↔ (kind_of self ≢ kind.Bool) };
+}
+
+impl ScalarKindExt for ScalarKind {
+    ghost kind_of = { λ k. k };
+
+    fn is_numeric(self) -> bool {
+        ScalarKind::is_numeric(self)
     }
 }

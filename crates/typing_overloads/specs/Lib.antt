@@ -1,3 +1,4 @@
 pub mod Either
+pub mod Products
 pub mod Rows
 pub mod Sets

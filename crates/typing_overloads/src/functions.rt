@@ -6,11 +6,20 @@ ghost use Rattle.typing_overloads.specs.Either.{any_rules};
 
 use crate::any::AnyOverloadSet;
 use crate::list::List;
+use crate::product::Product;
 use crate::regular::Regular;
-use crate::rows::{FLOATS, VECTORS, row_of};
+use crate::rows::row_of;
+use constructor_sets::{ConstructorSet, ScalarSet};
 use ir_kinds::MathFunction;
 use overload_tables::Pattern;
 use std::alloc::{AllocError, Global};
+
+// The rules of `Mix` that blend vectors by a scalar.
+const BLENDS: Product = Product {
+    pattern: Pattern::WithScalar,
+    scalars: ScalarSet::FLOAT,
+    sizes: ConstructorSet::VECN,
+};
 
 /// What a function of numbers has that needs overload sets (a call of naga's `MathFunction`).
 pub trait MathFunctionExt: Sized {
@@ -27,22 +36,17 @@ impl MathFunctionExt for MathFunction {
 
     ghost table = { tables.table };
 
-    fn overloads(self, alloc: Global) -> Result<AnyOverloadSet, AllocError> {
-        let row = row_of(self);
-        let list = List::new(alloc).add(row.pattern, row.scalars, row.sizes)?;
+    fn overloads(self, _alloc: Global) -> Result<AnyOverloadSet, AllocError> {
+        let rules = row_of(self);
         match self {
-            MathFunction::Mix => Ok(AnyOverloadSet::List(list.add(
-                Pattern::WithScalar,
-                &FLOATS,
-                &VECTORS,
-            )?)),
+            MathFunction::Mix => Ok(AnyOverloadSet::List(List::new(rules, BLENDS))),
             MathFunction::Refract
             | MathFunction::ExtractBits
             | MathFunction::InsertBits
             | MathFunction::Ldexp
             | MathFunction::Outer
-            | MathFunction::Transpose => Ok(AnyOverloadSet::List(list)),
-            _ => Ok(AnyOverloadSet::Regular(Regular::new(list))),
+            | MathFunction::Transpose => Ok(AnyOverloadSet::List(List::new(rules, Product::NONE))),
+            _ => Ok(AnyOverloadSet::Regular(Regular::new(rules))),
         }
     }
 }

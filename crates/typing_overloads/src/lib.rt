@@ -2,9 +2,11 @@
 #![tactic(auto)]
 
 mod any;
+mod asked;
 mod functions;
 mod list;
 mod overload_set;
+mod product;
 mod regular;
 mod rows;
 

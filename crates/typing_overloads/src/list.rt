@@ -1,101 +1,50 @@
-//! Overload sets that keep their rules one by one.
+//! Overload sets of rules of two forms.
 
-ghost use Rattle.std.specs.Prelude.{◌≡◌, ◌++◌, [], IfOk, OnOk, filter, min, max};
-ghost use Rattle.std.specs.List.{fold};
-ghost use Rattle.ir_types.specs.Plain.{inner_view};
-ghost use Rattle.overload_tables.specs.Ranks.{accepts_inner, is_concrete};
-ghost use Rattle.overload_tables.specs.Tables.{rules_over, row};
-ghost use Rattle.typing_overloads.specs.Sets.{arity, one_or_none, arguments_at};
+ghost use Rattle.std.specs.Prelude.{◌≡◌, ◌++◌, slice_get};
+ghost use Rattle.typing_overloads.specs.Products.{rules_of};
 
 use crate::overload_set::OverloadSet;
-use ir_kinds::Scalar;
+use crate::product::Product;
 use ir_types::TypeInner;
-use overload_tables::{ConstructorSize, Pattern, Rule, ValueType};
+use overload_tables::{Rule, ValueType};
 use std::alloc::{AllocError, Global};
 use std::marker::Model;
 
-/// An overload set that keeps its rules one by one (naga's `List`). In a contract it is the list of the rules that are
-/// left.
+/// An overload set of functions whose rules may be of two forms (naga's `List`). In a contract it is the list of the
+/// rules that are left.
 #[derive(Debug, Drop)]
 pub struct List {
-    rules: Vec<Rule>,
+    first: Product,
+    second: Product,
 }
 
 impl Model for List {
-    ghost use Rattle.std.specs.Prelude.{List};
+    ghost use Rattle.std.specs.Prelude.{◌++◌, List};
     ghost use Rattle.overload_tables.specs.declared.rules.Rule.{Rule};
+    ghost use Rattle.typing_overloads.specs.Products.{rules_of};
 
     ghost Value = { List Rule };
 
-    ghost view = { λ l. l.rules.items };
+    ghost view = { λ l. rules_of l.first ++ rules_of l.second };
 }
 
-// The rules that accept an argument.
-fn accepting(
-    alloc: Global,
-    rules: &[Rule],
-    place: usize,
-    given: &TypeInner,
-) -> Result<Vec<Rule>, AllocError>
-    ensures { IfOk result (λ left. left.items ≡ filter (accepts_inner place (inner_view given.now)) rules.now) }
-{
-    let mut left = Vec::new(alloc);
-    for rule in rules {
-        if rule.accepts(place, given) {
-            left.push(*rule)?;
+impl List {
+    /// The rules of one product, and then those of another.
+    pub(crate) const fn new(first: Product, second: Product) -> List
+        ensures { result ≡ rules_of first ++ rules_of second }
+    {
+        List { first, second }
+    }
+
+    // The first rule that is left, if there is one.
+    fn preferred(&self) -> Option<Rule>
+        ensures { result ≡ slice_get self.now 0 }
+    {
+        match self.first.first() {
+            Some(rule) => Some(rule),
+            None => self.second.first(),
         }
     }
-    Ok(left)
-}
-
-// Takes away the rules that have an abstract argument.
-fn keep_concrete(rules: &mut Vec<Rule>)
-    ensures { rules.new.items ≡ filter is_concrete rules.old.items }
-{
-    rules.retain(|rule| rule.is_concrete());
-}
-
-// The least of a number and the numbers of the rules' arguments.
-fn fewest(found: usize, rules: &[Rule]) -> usize
-    ensures { result ≡ fold (λ n r. min n (arity r)) found rules.now }
-{
-    let mut fewest = found;
-    for rule in rules {
-        fewest = fewest.min(rule.arguments.len());
-    }
-    fewest
-}
-
-// The greatest of a number and the numbers of the rules' arguments.
-fn most(found: usize, rules: &[Rule]) -> usize
-    ensures { result ≡ fold (λ n r. max n (arity r)) found rules.now }
-{
-    let mut most = found;
-    for rule in rules {
-        most = most.max(rule.arguments.len());
-    }
-    most
-}
-
-// Adds a type, if there is one.
-fn add_type(types: &mut Vec<ValueType>, wanted: Option<ValueType>) -> Result<(), AllocError>
-    ensures { OnOk result (types.new.items ≡ types.old.items ++ one_or_none wanted) }
-{
-    if let Some(wanted) = wanted {
-        types.push(wanted)?;
-    }
-    Ok(())
-}
-
-// The types that the rules ask for at a place.
-fn asked_at(alloc: Global, rules: &[Rule], place: usize) -> Result<Vec<ValueType>, AllocError>
-    ensures { IfOk result (λ types. types.items ≡ arguments_at place rules.now) }
-{
-    let mut types = Vec::new(alloc);
-    for rule in rules {
-        add_type(&mut types, rule.arguments.get(place))?;
-    }
-    Ok(types)
 }
 
 impl Clone for List {
@@ -105,7 +54,8 @@ impl Clone for List {
 
     fn clone(&self) -> Result<List, AllocError> {
         Ok(List {
-            rules: self.rules.as_slice().to_vec(*self.rules.allocator())?,
+            first: self.first,
+            second: self.second,
         })
     }
 }
@@ -114,88 +64,53 @@ impl OverloadSet for List {
     ghost rules = { λ l. l };
 
     fn is_empty(&self) -> bool {
-        self.rules.is_empty()
+        self.preferred().is_none()
     }
 
     fn min_arguments(&self) -> usize {
-        match self.rules.as_slice().split_first() {
-            Some((first, rest)) => fewest(first.arguments.len(), rest),
-            None => unreachable!(),
-        }
+        let found = self.most_preferred().arguments.len();
+        self.second.fewest(self.first.fewest(found))
     }
 
     fn max_arguments(&self) -> usize {
-        match self.rules.as_slice().split_first() {
-            Some((first, rest)) => most(first.arguments.len(), rest),
+        let found = self.most_preferred().arguments.len();
+        self.second.most(self.first.most(found))
+    }
+
+    fn arg(&self, _alloc: Global, i: usize, ty: &TypeInner) -> Result<Self, AllocError> {
+        Ok(List {
+            first: self.first.accepting(i, ty),
+            second: self.second.accepting(i, ty),
+        })
+    }
+
+    fn concrete_only(self) -> Self {
+        List {
+            first: self.first.concrete_only(),
+            second: self.second.concrete_only(),
+        }
+    }
+
+    fn most_preferred(&self) -> Rule {
+        match self.preferred() {
+            Some(rule) => rule,
             None => unreachable!(),
         }
     }
 
-    fn arg(&self, alloc: Global, i: usize, ty: &TypeInner) -> Result<Self, AllocError> {
-        Ok(List {
-            rules: accepting(alloc, self.rules.as_slice(), i, ty)?,
-        })
-    }
-
-    fn concrete_only(mut self) -> Self {
-        keep_concrete(&mut self.rules);
-        self
-    }
-
-    fn most_preferred(&self) -> Rule {
-        self.rules[0]
-    }
-
     fn overload_list(&self, alloc: Global) -> Result<Vec<Rule>, AllocError> {
-        self.rules.as_slice().to_vec(alloc)
+        let mut rules = Vec::new(alloc);
+        self.first.add_to(&mut rules)?;
+        self.second.add_to(&mut rules)?;
+        Ok(rules)
     }
 
     fn allowed_args(&self, alloc: Global, i: usize) -> Result<Vec<ValueType>, AllocError> {
-        asked_at(alloc, self.rules.as_slice(), i)
+        let mut types = Vec::new(alloc);
+        self.first.add_types_to(&mut types, i)?;
+        self.second.add_types_to(&mut types, i)?;
+        Ok(types)
     }
 
     ghost clones = { λ set copy same. same };
-}
-
-// Adds the rules of one shape.
-fn add_row(
-    rules: &mut Vec<Rule>,
-    pattern: Pattern,
-    scalars: &[Scalar],
-    size: ConstructorSize,
-) -> Result<(), AllocError>
-    ensures { OnOk result (rules.new.items ≡ rules.old.items ++ row pattern scalars.now size) }
-{
-    for scalar in scalars {
-        rules.push(pattern.rule(size, *scalar))?;
-    }
-    Ok(())
-}
-
-impl List {
-    /// No rule.
-    pub(crate) fn new(alloc: Global) -> List
-        ensures { result ≡ [] }
-    {
-        List {
-            rules: Vec::new(alloc),
-        }
-    }
-
-    /// Adds the rules that the pattern makes of each of the shapes with each of the scalars: by shape, then by scalar.
-    /// The error is want of memory.
-    pub(crate) fn add(
-        self,
-        pattern: Pattern,
-        scalars: &[Scalar],
-        sizes: &[ConstructorSize],
-    ) -> Result<List, AllocError>
-        ensures { IfOk result (λ list. list ≡ self ++ rules_over pattern scalars.now sizes.now) }
-    {
-        let mut rules = self.rules;
-        for size in sizes {
-            add_row(&mut rules, pattern, scalars, *size)?;
-        }
-        Ok(List { rules })
-    }
 }

@@ -1,9 +1,10 @@
 //! Overload sets of functions whose rules are of one form for each shape and scalar.
 
-ghost use Rattle.std.specs.Prelude.{◌≡◌, List};
+ghost use Rattle.std.specs.Prelude.{◌≡◌, slice_get};
+ghost use Rattle.typing_overloads.specs.Products.{rules_of};
 
-use crate::list::List;
 use crate::overload_set::OverloadSet;
+use crate::product::Product;
 use ir_types::TypeInner;
 use overload_tables::{Rule, ValueType};
 use std::alloc::{AllocError, Global};
@@ -13,24 +14,32 @@ use std::marker::Model;
 /// `Regular`). In a contract it is the list of the rules that are left.
 #[derive(Debug, Drop)]
 pub struct Regular {
-    list: List,
+    product: Product,
 }
 
 impl Model for Regular {
     ghost use Rattle.std.specs.Prelude.{List};
     ghost use Rattle.overload_tables.specs.declared.rules.Rule.{Rule};
+    ghost use Rattle.typing_overloads.specs.Products.{rules_of};
 
     ghost Value = { List Rule };
 
-    ghost view = { λ r. r.list };
+    ghost view = { λ r. rules_of r.product };
 }
 
 impl Regular {
-    /// The set with the rules of a list.
-    pub(crate) fn new(list: List) -> Regular
-        ensures { result ≡ list }
+    /// The set with the rules of a product.
+    pub(crate) const fn new(product: Product) -> Regular
+        ensures { result ≡ rules_of product }
     {
-        Regular { list }
+        Regular { product }
+    }
+
+    // The first rule that is left, if there is one.
+    fn preferred(&self) -> Option<Rule>
+        ensures { result ≡ slice_get self.now 0 }
+    {
+        self.product.first()
     }
 }
 
@@ -41,7 +50,7 @@ impl Clone for Regular {
 
     fn clone(&self) -> Result<Regular, AllocError> {
         Ok(Regular {
-            list: self.list.clone()?,
+            product: self.product,
         })
     }
 }
@@ -50,39 +59,46 @@ impl OverloadSet for Regular {
     ghost rules = { λ r. r };
 
     fn is_empty(&self) -> bool {
-        self.list.is_empty()
+        self.preferred().is_none()
     }
 
     fn min_arguments(&self) -> usize {
-        self.list.min_arguments()
+        self.product.fewest(self.most_preferred().arguments.len())
     }
 
     fn max_arguments(&self) -> usize {
-        self.list.max_arguments()
+        self.product.most(self.most_preferred().arguments.len())
     }
 
-    fn arg(&self, alloc: Global, i: usize, ty: &TypeInner) -> Result<Self, AllocError> {
+    fn arg(&self, _alloc: Global, i: usize, ty: &TypeInner) -> Result<Self, AllocError> {
         Ok(Regular {
-            list: self.list.arg(alloc, i, ty)?,
+            product: self.product.accepting(i, ty),
         })
     }
 
     fn concrete_only(self) -> Self {
         Regular {
-            list: self.list.concrete_only(),
+            product: self.product.concrete_only(),
         }
     }
 
     fn most_preferred(&self) -> Rule {
-        self.list.most_preferred()
+        match self.preferred() {
+            Some(rule) => rule,
+            None => unreachable!(),
+        }
     }
 
     fn overload_list(&self, alloc: Global) -> Result<Vec<Rule>, AllocError> {
-        self.list.overload_list(alloc)
+        let mut rules = Vec::new(alloc);
+        self.product.add_to(&mut rules)?;
+        Ok(rules)
     }
 
     fn allowed_args(&self, alloc: Global, i: usize) -> Result<Vec<ValueType>, AllocError> {
-        self.list.allowed_args(alloc, i)
+        let mut types = Vec::new(alloc);
+        self.product.add_types_to(&mut types, i)?;
+        Ok(types)
     }
 
     ghost clones = { λ set copy same. same };

@@ -1,213 +1,99 @@
 //! The table of the functions of numbers, a row for each.
 
 ghost use Rattle.std.specs.Prelude.{◌≡◌};
-ghost use Rattle.overload_tables.specs.Tables.{rules_over};
+ghost use Rattle.typing_overloads.specs.Products.{rules_of};
 ghost use Rattle.typing_overloads.specs.Rows.{first_row};
 
-use ir_kinds::{MathFunction as Mf, Scalar, VectorSize};
-use overload_tables::{ConstructorSize, Pattern};
+use crate::product::Product;
+use constructor_sets::{ConstructorSet as C, ScalarSet as S};
+use ir_kinds::MathFunction as Mf;
+use overload_tables::Pattern;
 
-/// What the rules of a function are made of.
-#[derive(Clone, Copy, Debug)]
-pub(crate) struct Row {
-    /// The form of each rule.
-    pub pattern: Pattern,
-    /// The scalars, in order.
-    pub scalars: &'static [Scalar],
-    /// The shapes, in order.
-    pub sizes: &'static [ConstructorSize],
-}
+// All numbers but the unsigned ones.
+const SIGNED_NUMBERS: S = S(S::ABSTRACT_INT.0 | S::I32.0 | S::I16.0 | S::I64.0 | S::FLOAT.0);
 
-const INTEGERS: [Scalar; 6] = [
-    Scalar::I32,
-    Scalar::U32,
-    Scalar::I16,
-    Scalar::U16,
-    Scalar::I64,
-    Scalar::U64,
-];
+// Scalars and vectors.
+const SHAPES: C = C(C::SCALAR.0 | C::VECN.0);
 
-pub(crate) const FLOATS: [Scalar; 4] = [
-    Scalar::ABSTRACT_FLOAT,
-    Scalar::F32,
-    Scalar::F16,
-    Scalar::F64,
-];
+const SQUARES: C = C(C::MAT2X2.0 | C::MAT3X3.0 | C::MAT4X4.0);
 
-const NUMBERS: [Scalar; 11] = [
-    Scalar::ABSTRACT_INT,
-    Scalar::I32,
-    Scalar::U32,
-    Scalar::I16,
-    Scalar::U16,
-    Scalar::I64,
-    Scalar::U64,
-    Scalar::ABSTRACT_FLOAT,
-    Scalar::F32,
-    Scalar::F16,
-    Scalar::F64,
-];
+const MATRICES: C = C(
+    C::MAT2X2.0
+        | C::MAT2X3.0
+        | C::MAT2X4.0
+        | C::MAT3X2.0
+        | C::MAT3X3.0
+        | C::MAT3X4.0
+        | C::MAT4X2.0
+        | C::MAT4X3.0
+        | C::MAT4X4.0,
+);
 
-const SIGNED_NUMBERS: [Scalar; 8] = [
-    Scalar::ABSTRACT_INT,
-    Scalar::I32,
-    Scalar::I16,
-    Scalar::I64,
-    Scalar::ABSTRACT_FLOAT,
-    Scalar::F32,
-    Scalar::F16,
-    Scalar::F64,
-];
-
-const I32: [Scalar; 1] = [Scalar::I32];
-
-const U32: [Scalar; 1] = [Scalar::U32];
-
-const F32: [Scalar; 1] = [Scalar::F32];
-
-const SCALAR: [ConstructorSize; 1] = [ConstructorSize::Scalar];
-
-const VEC2: [ConstructorSize; 1] = [ConstructorSize::Vector(VectorSize::Bi)];
-
-const VEC3: [ConstructorSize; 1] = [ConstructorSize::Vector(VectorSize::Tri)];
-
-const VEC4: [ConstructorSize; 1] = [ConstructorSize::Vector(VectorSize::Quad)];
-
-pub(crate) const VECTORS: [ConstructorSize; 3] = [
-    ConstructorSize::Vector(VectorSize::Bi),
-    ConstructorSize::Vector(VectorSize::Tri),
-    ConstructorSize::Vector(VectorSize::Quad),
-];
-
-const SHAPES: [ConstructorSize; 4] = [
-    ConstructorSize::Scalar,
-    ConstructorSize::Vector(VectorSize::Bi),
-    ConstructorSize::Vector(VectorSize::Tri),
-    ConstructorSize::Vector(VectorSize::Quad),
-];
-
-const SQUARES: [ConstructorSize; 3] = [
-    ConstructorSize::Matrix {
-        columns: VectorSize::Bi,
-        rows: VectorSize::Bi,
-    },
-    ConstructorSize::Matrix {
-        columns: VectorSize::Tri,
-        rows: VectorSize::Tri,
-    },
-    ConstructorSize::Matrix {
-        columns: VectorSize::Quad,
-        rows: VectorSize::Quad,
-    },
-];
-
-const MATRICES: [ConstructorSize; 9] = [
-    ConstructorSize::Matrix {
-        columns: VectorSize::Bi,
-        rows: VectorSize::Bi,
-    },
-    ConstructorSize::Matrix {
-        columns: VectorSize::Bi,
-        rows: VectorSize::Tri,
-    },
-    ConstructorSize::Matrix {
-        columns: VectorSize::Bi,
-        rows: VectorSize::Quad,
-    },
-    ConstructorSize::Matrix {
-        columns: VectorSize::Tri,
-        rows: VectorSize::Bi,
-    },
-    ConstructorSize::Matrix {
-        columns: VectorSize::Tri,
-        rows: VectorSize::Tri,
-    },
-    ConstructorSize::Matrix {
-        columns: VectorSize::Tri,
-        rows: VectorSize::Quad,
-    },
-    ConstructorSize::Matrix {
-        columns: VectorSize::Quad,
-        rows: VectorSize::Bi,
-    },
-    ConstructorSize::Matrix {
-        columns: VectorSize::Quad,
-        rows: VectorSize::Tri,
-    },
-    ConstructorSize::Matrix {
-        columns: VectorSize::Quad,
-        rows: VectorSize::Quad,
-    },
-];
-
-const fn over(
-    pattern: Pattern,
-    scalars: &'static [Scalar],
-    sizes: &'static [ConstructorSize],
-) -> Row
-    ensures { rules_over result.pattern result.scalars.now result.sizes.now
-        ≡ rules_over pattern scalars.now sizes.now }
+const fn over(pattern: Pattern, scalars: S, sizes: C) -> Product
+    ensures pattern { result.pattern ≡ pattern }
+    ensures scalars { result.scalars ≡ scalars }
+    ensures sizes { result.sizes ≡ sizes }
 {
-    Row {
+    Product {
         pattern,
         scalars,
         sizes,
     }
 }
 
-/// The row of a function. `Mix` has a second one, of vectors with a scalar.
-pub(crate) const fn row_of(function: Mf) -> Row
-    ensures { rules_over result.pattern result.scalars.now result.sizes.now ≡ first_row function }
+/// The rules of a function. `Mix` has others too, of vectors with a scalar.
+pub(crate) const fn row_of(function: Mf) -> Product
+    ensures { rules_of result ≡ first_row function }
 {
     match function {
-        Mf::Abs => over(Pattern::Same, &NUMBERS, &SHAPES),
-        Mf::Min | Mf::Max => over(Pattern::SameTwo, &NUMBERS, &SHAPES),
-        Mf::Clamp => over(Pattern::SameThree, &NUMBERS, &SHAPES),
-        Mf::Sign => over(Pattern::Same, &SIGNED_NUMBERS, &SHAPES),
-        Mf::Atan2 | Mf::Pow | Mf::Step => over(Pattern::SameTwo, &FLOATS, &SHAPES),
-        Mf::Fma | Mf::SmoothStep | Mf::Mix => over(Pattern::SameThree, &FLOATS, &SHAPES),
-        Mf::QuantizeToF16 => over(Pattern::Same, &F32, &SHAPES),
+        Mf::Abs => over(Pattern::Same, S::NUMERIC, SHAPES),
+        Mf::Min | Mf::Max => over(Pattern::SameTwo, S::NUMERIC, SHAPES),
+        Mf::Clamp => over(Pattern::SameThree, S::NUMERIC, SHAPES),
+        Mf::Sign => over(Pattern::Same, SIGNED_NUMBERS, SHAPES),
+        Mf::Atan2 | Mf::Pow | Mf::Step => over(Pattern::SameTwo, S::FLOAT, SHAPES),
+        Mf::Fma | Mf::SmoothStep | Mf::Mix => over(Pattern::SameThree, S::FLOAT, SHAPES),
+        Mf::QuantizeToF16 => over(Pattern::Same, S::F32, SHAPES),
         Mf::CountTrailingZeros
         | Mf::CountLeadingZeros
         | Mf::CountOneBits
         | Mf::ReverseBits
         | Mf::FirstTrailingBit
-        | Mf::FirstLeadingBit => over(Pattern::Same, &INTEGERS, &SHAPES),
-        Mf::ExtractBits => over(Pattern::WithRange, &INTEGERS, &SHAPES),
-        Mf::InsertBits => over(Pattern::TwoWithRange, &INTEGERS, &SHAPES),
-        Mf::Dot => over(Pattern::TwoToScalar, &NUMBERS, &VECTORS),
-        Mf::Normalize => over(Pattern::Same, &FLOATS, &VECTORS),
-        Mf::Reflect => over(Pattern::SameTwo, &FLOATS, &VECTORS),
-        Mf::FaceForward => over(Pattern::SameThree, &FLOATS, &VECTORS),
-        Mf::Refract => over(Pattern::WithScalar, &FLOATS, &VECTORS),
-        Mf::Cross => over(Pattern::SameTwo, &FLOATS, &VEC3),
-        Mf::Length => over(Pattern::ToScalar, &FLOATS, &SHAPES),
-        Mf::Distance => over(Pattern::TwoToScalar, &FLOATS, &SHAPES),
-        Mf::Modf => over(Pattern::ToFraction, &FLOATS, &SHAPES),
-        Mf::Frexp => over(Pattern::ToExponent, &FLOATS, &SHAPES),
-        Mf::Ldexp => over(Pattern::WithExponent, &FLOATS, &SHAPES),
-        Mf::Outer => over(Pattern::ToOuter, &FLOATS, &MATRICES),
-        Mf::Transpose => over(Pattern::ToTransposed, &FLOATS, &MATRICES),
-        Mf::Determinant => over(Pattern::ToScalar, &FLOATS, &SQUARES),
-        Mf::Inverse => over(Pattern::Same, &FLOATS, &SQUARES),
-        Mf::Pack4x8snorm | Mf::Pack4x8unorm => over(Pattern::ToWord, &F32, &VEC4),
+        | Mf::FirstLeadingBit => over(Pattern::Same, S::CONCRETE_INTEGER, SHAPES),
+        Mf::ExtractBits => over(Pattern::WithRange, S::CONCRETE_INTEGER, SHAPES),
+        Mf::InsertBits => over(Pattern::TwoWithRange, S::CONCRETE_INTEGER, SHAPES),
+        Mf::Dot => over(Pattern::TwoToScalar, S::NUMERIC, C::VECN),
+        Mf::Normalize => over(Pattern::Same, S::FLOAT, C::VECN),
+        Mf::Reflect => over(Pattern::SameTwo, S::FLOAT, C::VECN),
+        Mf::FaceForward => over(Pattern::SameThree, S::FLOAT, C::VECN),
+        Mf::Refract => over(Pattern::WithScalar, S::FLOAT, C::VECN),
+        Mf::Cross => over(Pattern::SameTwo, S::FLOAT, C::VEC3),
+        Mf::Length => over(Pattern::ToScalar, S::FLOAT, SHAPES),
+        Mf::Distance => over(Pattern::TwoToScalar, S::FLOAT, SHAPES),
+        Mf::Modf => over(Pattern::ToFraction, S::FLOAT, SHAPES),
+        Mf::Frexp => over(Pattern::ToExponent, S::FLOAT, SHAPES),
+        Mf::Ldexp => over(Pattern::WithExponent, S::FLOAT, SHAPES),
+        Mf::Outer => over(Pattern::ToOuter, S::FLOAT, MATRICES),
+        Mf::Transpose => over(Pattern::ToTransposed, S::FLOAT, MATRICES),
+        Mf::Determinant => over(Pattern::ToScalar, S::FLOAT, SQUARES),
+        Mf::Inverse => over(Pattern::Same, S::FLOAT, SQUARES),
+        Mf::Pack4x8snorm | Mf::Pack4x8unorm => over(Pattern::ToWord, S::F32, C::VEC4),
         Mf::Pack2x16snorm | Mf::Pack2x16unorm | Mf::Pack2x16float => over(
             Pattern::ToWord,
-            &F32,
-            &VEC2,
+            S::F32,
+            C::VEC2,
         ),
-        Mf::Pack4xI8 | Mf::Pack4xI8Clamp => over(Pattern::ToWord, &I32, &VEC4),
-        Mf::Pack4xU8 | Mf::Pack4xU8Clamp => over(Pattern::ToWord, &U32, &VEC4),
-        Mf::Unpack4x8snorm | Mf::Unpack4x8unorm => over(Pattern::FromWord, &F32, &VEC4),
+        Mf::Pack4xI8 | Mf::Pack4xI8Clamp => over(Pattern::ToWord, S::I32, C::VEC4),
+        Mf::Pack4xU8 | Mf::Pack4xU8Clamp => over(Pattern::ToWord, S::U32, C::VEC4),
+        Mf::Unpack4x8snorm | Mf::Unpack4x8unorm => over(Pattern::FromWord, S::F32, C::VEC4),
         Mf::Unpack2x16snorm | Mf::Unpack2x16unorm | Mf::Unpack2x16float => over(
             Pattern::FromWord,
-            &F32,
-            &VEC2,
+            S::F32,
+            C::VEC2,
         ),
-        Mf::Unpack4xI8 => over(Pattern::FromWord, &I32, &VEC4),
-        Mf::Unpack4xU8 => over(Pattern::FromWord, &U32, &VEC4),
-        Mf::Dot4I8Packed => over(Pattern::FromTwoWords, &I32, &SCALAR),
-        Mf::Dot4U8Packed => over(Pattern::FromTwoWords, &U32, &SCALAR),
-        _ => over(Pattern::Same, &FLOATS, &SHAPES),
+        Mf::Unpack4xI8 => over(Pattern::FromWord, S::I32, C::VEC4),
+        Mf::Unpack4xU8 => over(Pattern::FromWord, S::U32, C::VEC4),
+        Mf::Dot4I8Packed => over(Pattern::FromTwoWords, S::I32, C::SCALAR),
+        Mf::Dot4U8Packed => over(Pattern::FromTwoWords, S::U32, C::SCALAR),
+        _ => over(Pattern::Same, S::FLOAT, SHAPES),
     }
 }

@@ -1,10 +1,17 @@
 // Which types are converted, abstract, dynamically sized and constructible.
 use crate::samples::{array_of, struct_of, types, vector};
-use ir_kinds::{Scalar, VectorSize};
+use ir_kinds::{Scalar, ScalarKind, VectorSize};
 use ir_types::ArraySize;
 use std::test::Fail;
-use typing_forms::{ScalarExt, conversion_rank, converted_rank};
+use typing_forms::{ScalarExt, ScalarKindExt, conversion_rank, converted_rank};
 use typing_rules::{TypeInnerExt, types_go_back};
+
+#[test]
+fn numbers(rt: HostRuntime) -> Result<(), Fail> {
+    assert!(rt; ScalarKindExt::is_numeric(ScalarKind::Float));
+    assert!(rt; !ScalarKindExt::is_numeric(ScalarKind::Bool));
+    Ok(())
+}
 
 #[test]
 fn ranks(rt: HostRuntime) -> Result<(), Fail> {

@@ -7,10 +7,10 @@ ghost use Rattle.std.specs.Prelude.{◌≡◌, [], ◌∷◌, None, Some, true, 
 ghost use Rattle.ir_kinds.specs.declared.settings.Capability.TheVariants.{ShaderFloat16};
 ghost use Rattle.ir_kinds.specs.declared.scalars.ScalarKind.TheVariants.{Float, Uint, Bool as Boolean, AbstractInt};
 ghost use Rattle.ir_kinds.specs.declared.values.SwitchValue.TheVariants.{U32, Default};
-ghost use Rattle.ir_items.specs.Plain.{emit, block, choice, switch, loop, break, return, kill, call, stop, next, no_case, case};
-ghost use Rattle.ir_items.specs.Shapes.{breaks, continues, returns, kills, inner, case_at, turn, continuing};
-ghost use Rattle.ir_items.specs.Control.{may_leave};
-ghost use Rattle.ir_items.specs.Tails.{completed};
+ghost use Rattle.ir_blocks.specs.Plain.{emit, block, choice, switch, loop, break, return, kill, call, stop, next, no_case, case};
+ghost use Rattle.ir_blocks.specs.Shapes.{breaks, continues, returns, kills, inner, case_at, turn, continuing};
+ghost use Rattle.ir_blocks.specs.Control.{may_leave};
+ghost use Rattle.ir_blocks.specs.Tails.{completed};
 ghost use Rattle.judgement.specs.Functions.{falls_at_end, case_values};
 ghost use Rattle.judgement.specs.Handles.{named, function, expression, range};
 ghost use Rattle.judgement.specs.Types.{IsScalarOK};

@@ -1,6 +1,6 @@
 use Rattle.std.proofs.Common.{◌≡◌, ◌+◌, ◌*◌, drop, map, ◌++◌, option_map}
 use Rattle.serde_json.specs.View.{items_view}
-use Rattle.ir_items.specs.View.{statement_view, case_view, statements_of}
+use Rattle.ir_blocks.specs.View.{statement_view, case_view, statements_of}
 use Rattle.document_parts.specs.Find.{each}
 use Rattle.document_statements.specs.Find.{statement_at, case_with, block_at}
 use Rattle.document_statements.proofs.statements.+statements.Given as goal

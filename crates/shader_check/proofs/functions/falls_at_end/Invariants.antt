@@ -1,5 +1,5 @@
 use Rattle.std.proofs.Common.{◌≡◌, drop, map, false}
-use Rattle.ir_items.specs.View.{case_view, cases_of}
+use Rattle.ir_blocks.specs.View.{case_view, cases_of}
 use Rattle.judgement.specs.Functions.{falls_at_end}
 use Rattle.shader_check.proofs.functions.falls_at_end.Given as goal
 

@@ -1,5 +1,5 @@
 use Rattle.std.proofs.Common.{◌≡◌, drop, map}
-use Rattle.ir_items.specs.View.{statements_view, case_view, cases_of}
+use Rattle.ir_blocks.specs.View.{statements_view, case_view, cases_of}
 use Rattle.shader_check.specs.Control.{control_view}
 use Rattle.shader_check.specs.Everywhere.{everywhere, in_cases}
 use Rattle.shader_check.proofs.walk.+walk.Given as goal

@@ -1,8 +1,20 @@
-use Rattle.std.proofs.Common.{arith}
-use Rattle.std.specs.Vec.{with_items}
+use Rattle.std.proofs.Common.{sym, ap, ◌∙◌, arith}
+use Rattle.std.specs.List.{enumerate_from}
+use Rattle.ir_arena.specs.Arenas.{with_values}
+use Rattle.ir_arena.specs.Handles.{handles_from}
+use Rattle.ir_arena.proofs.Zipped.{handles_numbered, length_with_values, spans_with_values}
 use Rattle.ir_arena.proofs.arena.Arena.iter_mut.Goals as goal
 
--- a slice keeps its length, whatever is written to it
+-- there are as many values, whatever is written to them
 pub invariant_of-self-lent : goal.invariant_of-self-lent
-invariant_of-self-lent g c =
-    λ w. omega (arith, (with_items c.self.inside.entries w).ok.0, c.self.inside.entries.ok.0, c.self.invariant)
+invariant_of-self-lent g c = λ w. omega (arith, length_with_values c.self.inside.entries w, c.self.invariant)
+
+pub returns : goal.returns
+returns g c = (
+  (sym c.new.ensures.name, λ w. ap (λ es. with_values es w) c.self.view_is),
+  record {
+    writes_back = tt;
+    keeps = spans_with_values c.args.self.now;
+    values = c.new.ensures.rest ∙ (ap (enumerate_from 0) c.values_mut.ensures.value ∙ (handles_numbered 0 c.self.inside.entries ∙ ap (handles_from 0) c.self.view_is));
+  },
+)

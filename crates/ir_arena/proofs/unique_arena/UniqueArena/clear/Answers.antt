@@ -4,4 +4,4 @@ use Rattle.ir_arena.proofs.unique_arena.UniqueArena.clear.Goals as goal
 
 pub invariant_of-self : goal.invariant_of-self
 unfolding IsDistinct
-invariant_of-self g c = rw c.clear.ensures.items (search rules)
+invariant_of-self g c = rw c.clear.ensures (search rules)

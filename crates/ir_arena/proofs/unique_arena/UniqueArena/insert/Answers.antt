@@ -24,9 +24,9 @@ returns-in-Some-clause-appends g c absent =
 pub invariant_of-self-in-None : goal.invariant_of-self-in-None
 invariant_of-self-in-None g c =
     let absent = passes_nowhere (has_value g.T.PartialEq.eq c.args.value) c.args.self.now (sym c.find.ensures.value ∙ c.in-None.is) in
-    rw (c.in_ok-push-in-None.ensures.items, c.self.view_is) (
+    rw (c.in_ok-push-in-None.ensures.ok, c.self.view_is) (
       IsDistinct-push (first_equiv g.met.T.Eq.laws) c.args.self.now (c.args.value, c.args.span) (rw c.self.view_is at c.self.invariant.0) absent,
-      rw (← c.self.view_is) (omega (arith, length_push c.self.inside.entries.items (c.args.value, c.args.span))),
+      rw (← c.self.view_is) (omega (arith, length_push c.self.inside.entries (c.args.value, c.args.span))),
     )
 
 pub returns-in_ok-push-in-None-clause-handle : goal.returns-in_ok-push-in-None-clause-handle
@@ -38,7 +38,7 @@ returns-in_ok-push-in-None-clause-handle g c =
 pub returns-in_ok-push-in-None-clause-ok : goal.returns-in_ok-push-in-None-clause-ok
 returns-in_ok-push-in-None-clause-ok g c =
     let absent = passes_nowhere (has_value g.T.PartialEq.eq c.args.value) c.args.self.now (sym c.find.ensures.value ∙ c.in-None.is) in
-    rw (absent, c.in_ok-push-in-None.ensures.items, c.self.view_is) refl
+    rw (absent, c.in_ok-push-in-None.ensures.ok, c.self.view_is) refl
 
 pub returns-then-place-ge4294967295-clause-err_absent : goal.returns-then-place-ge4294967295-clause-err_absent
 returns-then-place-ge4294967295-clause-err_absent g c =

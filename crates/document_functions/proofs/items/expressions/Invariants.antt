@@ -1,0 +1,12 @@
+use Rattle.std.proofs.Common.{◌≡◌, drop, ◌++◌, option_map, map}
+use Rattle.serde_json.specs.View.{items_view}
+use Rattle.ir_expressions.specs.Plain.{expression_view}
+use Rattle.ir_globals.specs.View.{values_of}
+use Rattle.document_parts.specs.Find.{each}
+use Rattle.document_expressions.specs.Find.{expression_of}
+use Rattle.document_functions.proofs.items.expressions.Given as goal
+
+-- what was found so far, and what the rest gives, is what all of it gives
+abbrev pub invariant-loop-item : goal.invariant-loop-item
+invariant-loop-item l =
+    option_map (λ xs. map expression_view (values_of l.found) ++ xs) (each expression_of (items_view (drop l.item-index l.item-items))) ≡ each expression_of (items_view l.item-items)

@@ -1,0 +1,5 @@
+pub mod Pairs
+pub mod GlobalLaws
+pub mod FilterLaws
+pub mod SpecialLaws
+pub mod EntryLaws

@@ -1,0 +1,3 @@
+pub mod Distinct
+pub mod Plain
+pub mod View

@@ -1,0 +1,78 @@
+-- The documents that the program checks so far, of all that it reads.
+use Rattle.std.specs.Prelude.{◌≡◌, [], None, IfSome}
+use Rattle.std.specs.List.{AllByRecursion}
+use Rattle.ir_kinds.specs.declared.values.Literal.{Literal}
+use Rattle.ir_kinds.specs.declared.values.Literal.TheVariants as literal
+use Rattle.ir_types.specs.Plain.{PlainInner, plain}
+use Rattle.ir_types.specs.declared.types.TypeInner.TheVariants as inner
+use Rattle.ir_expressions.specs.Plain.{PlainExpression, plain as computes}
+use Rattle.ir_expressions.specs.declared.expressions.Expression.TheVariants as computed
+use Rattle.ir_blocks.specs.Plain.{PlainStatement, emit, block, choice, switch, loop, break, continue, return, kill, act, call, PlainBlock, stop, next, PlainCases, no_case, case}
+use Rattle.ir_items.specs.Plain.{PlainFunction, PlainModule}
+use Rattle.ir_globals.specs.View.{no_special}
+use Rattle.document_model.specs.Plain.{PlainDocument}
+
+-- scalar types
+abbrev pub IsScalar : PlainInner → Type 0
+IsScalar (plain (inner.Scalar s)) = Unit {0}
+IsScalar _ = ⊥
+
+-- literals of three scalars
+abbrev pub IsLiteral : Literal → Type 0
+IsLiteral (literal.Bool b) = Unit {0}
+IsLiteral (literal.I32 z) = Unit {0}
+IsLiteral (literal.U32 n) = Unit {0}
+IsLiteral _ = ⊥
+
+abbrev pub IsExpression : PlainExpression → Type 0
+IsExpression (computes (computed.Literal l)) = IsLiteral l
+IsExpression _ = ⊥
+
+-- statements that steer, and calls
+abbrev mutual
+  pub IsStatement : PlainStatement → Type 0
+  IsStatement (emit first end) = ⊥
+  IsStatement (block b) = AreStatements b
+  IsStatement (choice test accept reject) = AreStatements accept × AreStatements reject
+  IsStatement (switch selector cases) = AreCases cases
+  IsStatement (loop body continuing break_if) = AreStatements body × AreStatements continuing
+  IsStatement break = Unit {0}
+  IsStatement continue = Unit {0}
+  IsStatement (return value) = Unit {0}
+  IsStatement kill = Unit {0}
+  IsStatement (act a) = ⊥
+  IsStatement (call function arguments result) = Unit {0}
+
+  pub AreStatements : PlainBlock → Type 0
+  AreStatements stop = Unit {0}
+  AreStatements (next s rest) = IsStatement s × AreStatements rest
+
+  pub AreCases : PlainCases → Type 0
+  AreCases no_case = Unit {0}
+  AreCases (case value body falls rest) = AreStatements body × AreCases rest
+
+-- A function with a result, expressions and a body alone.
+pub record IsFunction (f : PlainFunction) : Type 0 where
+  pub name : f.name ≡ None
+  pub arguments : f.arguments ≡ []
+  pub result : IfSome f.result (λ r. r.binding ≡ None)
+  pub locals : f.locals ≡ []
+  pub expressions : AllByRecursion IsExpression f.expressions
+  pub body : AreStatements f.body
+  pub leaf : f.leaf ≡ None
+
+-- A module with types and functions alone.
+pub record IsModule (m : PlainModule) : Type 0 where
+  pub types : AllByRecursion (λ t. IsScalar t.inner) m.types
+  pub special : m.special ≡ no_special
+  pub filters : m.filters ≡ []
+  pub leaf : m.leaf ≡ None
+  pub constants : m.constants ≡ []
+  pub overrides : m.overrides ≡ []
+  pub global_expressions : m.global_expressions ≡ []
+  pub globals : m.globals ≡ []
+  pub functions : AllByRecursion IsFunction m.functions
+  pub entries : m.entries ≡ []
+
+abbrev pub IsWithin : PlainDocument → Type 0
+IsWithin d = IsModule d.content

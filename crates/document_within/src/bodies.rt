@@ -1,0 +1,53 @@
+// The statements that are checked so far.
+ghost use Rattle.std.specs.Prelude.{◌≡◌, map};
+ghost use Rattle.ir_blocks.specs.View.{statement_view, block_view, case_view, cases_of};
+ghost use Rattle.document_within.specs.Tests.{plain_block, plain_statement, plain_cases};
+
+use ir_items::{Block, Statement, SwitchCase};
+
+/// Whether each statement of the block is checked so far, at every depth.
+#[cycle(bodies)]
+pub fn is_plain_block(block: &Block) -> bool
+    ensures { result ≡ plain_block (block_view block.now) }
+{
+    for statement in block.as_slice() {
+        if !is_plain_statement(statement) {
+            return false;
+        }
+    }
+    true
+}
+
+#[cycle(bodies)]
+fn is_plain_statement(statement: &Statement) -> bool
+    ensures { result ≡ plain_statement (statement_view statement.now) }
+{
+    match statement {
+        Statement::Block(block) => is_plain_block(block),
+        Statement::If { accept, reject, .. } => is_plain_block(accept) && is_plain_block(reject),
+        Statement::Switch { cases, .. } => is_plain_cases(cases),
+        Statement::Loop {
+            body,
+            continuing,
+            ..
+        } => is_plain_block(body) && is_plain_block(continuing),
+        Statement::Break => true,
+        Statement::Continue => true,
+        Statement::Return { .. } => true,
+        Statement::Kill => true,
+        Statement::Call { .. } => true,
+        _ => false,
+    }
+}
+
+#[cycle(bodies)]
+fn is_plain_cases(cases: &[SwitchCase]) -> bool
+    ensures { result ≡ plain_cases (cases_of (map case_view cases.now)) }
+{
+    for case in cases {
+        if !is_plain_block(&case.body) {
+            return false;
+        }
+    }
+    true
+}

@@ -1,0 +1,7 @@
+//! What the program checks so far, of all that a document can hold.
+#![tactic(auto)]
+
+mod bodies;
+mod scope;
+
+pub use scope::within;

@@ -1,0 +1,145 @@
+// The documents that are checked so far.
+ghost use Rattle.std.specs.Prelude.{◌≡◌, ◌↔◌, IsTrue, map};
+ghost use Rattle.ir_arena.specs.Handles.{handles_from};
+ghost use Rattle.ir_types.specs.Plain.{inner_view, type_view};
+ghost use Rattle.ir_expressions.specs.Plain.{expression_view};
+ghost use Rattle.ir_globals.specs.View.{values_of, special_view};
+ghost use Rattle.ir_items.specs.View.{function_view};
+ghost use Rattle.document_model.specs.View.{document_view};
+ghost use Rattle.document_within.specs.Scope.{IsWithin};
+ghost use Rattle.document_within.specs.Tests.{all_pass, plain_inner, plain_type, plain_literal, plain_expression, plain_result, plain_function, plain_special, thin_module, plain_module};
+
+use crate::bodies::is_plain_block;
+use document_model::Document;
+use ir_arena::arena::Arena;
+use ir_items::{Expression, Function, FunctionResult, IrType, SpecialTypes, TypeInner, key};
+use ir_kinds::Literal;
+
+fn is_plain_inner(inner: &TypeInner) -> bool
+    ensures { result ≡ plain_inner (inner_view inner.now) }
+{
+    match inner {
+        TypeInner::Scalar(_) => true,
+        _ => false,
+    }
+}
+
+fn are_plain_types(types: &[IrType]) -> bool
+    ensures { result ≡ all_pass plain_type (map type_view types.now) }
+{
+    for item in types {
+        if !is_plain_inner(&item.inner) {
+            return false;
+        }
+    }
+    true
+}
+
+fn is_plain_literal(literal: Literal) -> bool
+    ensures { result ≡ plain_literal literal }
+{
+    match literal {
+        Literal::Bool(_) => true,
+        Literal::I32(_) => true,
+        Literal::U32(_) => true,
+        _ => false,
+    }
+}
+
+fn is_plain_expression(expression: &Expression) -> bool
+    ensures { result ≡ plain_expression (expression_view expression.now) }
+{
+    match expression {
+        Expression::Literal(literal) => is_plain_literal(*literal),
+        _ => false,
+    }
+}
+
+fn is_plain_result(answer: Option<FunctionResult>) -> bool
+    ensures { result ≡ plain_result answer }
+{
+    match answer {
+        Some(answer) => answer.binding.is_none(),
+        None => true,
+    }
+}
+
+fn pass_with_handles(expressions: &Arena<Expression, key::Expression>) -> bool
+    ensures { result ≡ all_pass (λ h. plain_expression (expression_view h.1)) (handles_from 0 expressions.now) }
+{
+    for (_, expression) in expressions.iter() {
+        if !is_plain_expression(expression) {
+            return false;
+        }
+    }
+    true
+}
+
+// Whether each expression is checked so far.
+fn are_plain_expressions(expressions: &Arena<Expression, key::Expression>) -> bool
+    ensures { result ≡ all_pass plain_expression (map expression_view (values_of expressions.now)) }
+{
+    pass_with_handles(expressions)
+}
+
+fn is_plain_function(function: &Function) -> bool
+    ensures { result ≡ plain_function (function_view function.now) }
+{
+    function.name.is_none()
+        && function.arguments.is_empty()
+        && is_plain_result(function.result)
+        && function.local_variables.is_empty()
+        && function.diagnostic_filter_leaf.is_none()
+        && are_plain_expressions(&function.expressions)
+        && is_plain_block(&function.body)
+}
+
+fn are_plain_functions(functions: &[Function]) -> bool
+    ensures { result ≡ all_pass plain_function (map function_view functions.now) }
+{
+    for item in functions {
+        if !is_plain_function(item) {
+            return false;
+        }
+    }
+    true
+}
+
+fn is_plain_special(special: &SpecialTypes) -> bool
+    ensures { result ≡ plain_special (special_view special.now) }
+{
+    special.ray_desc.is_none()
+        && special.ray_intersection.is_none()
+        && special.ray_vertex_return.is_none()
+        && special.predeclared_types.is_empty()
+}
+
+// Whether there is nothing but types and functions.
+fn is_thin(document: &Document) -> bool
+    ensures { result ≡ thin_module (document_view document.now).content }
+{
+    is_plain_special(&document.special_types)
+        && document.diagnostic_filters.is_empty()
+        && document.diagnostic_filter_leaf.is_none()
+        && document.constants.is_empty()
+        && document.overrides.is_empty()
+        && document.global_expressions.is_empty()
+        && document.global_variables.is_empty()
+        && document.entry_points.is_empty()
+}
+
+fn is_plain_module(document: &Document) -> bool
+    ensures { result ≡ plain_module (document_view document.now).content }
+{
+    is_thin(document)
+        && are_plain_types(&document.types)
+        && are_plain_functions(&document.functions)
+}
+
+/// Whether the program checks such a document so far: it has scalar types, and functions that have a result without a
+/// binding, literals of `bool`, `i32` and `u32`, and a body that steers and calls; nothing else.
+pub fn within(document: &Document) -> bool
+    ensures { IsTrue result ↔ IsWithin (document_view document.now) }
+{
+    is_plain_module(document)
+}

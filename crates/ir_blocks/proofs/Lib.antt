@@ -1,0 +1,6 @@
+pub mod TerminatorLemmas
+pub mod TailLaws
+pub mod SpanLemmas
+pub mod SpanLaws
+pub mod SpanIterLemmas
+pub mod RoomLemmas

@@ -1,0 +1,284 @@
+-- Spans by place: those of the completed body.
+use Rattle.std.proofs.Common.{◌+◌, ◌-◌, min, take, drop, ◌≡◌, ◌⊎◌, inl, inr, ℕ, zero, suc, Bool, true, false, List, [], ◌∷◌, ◌++◌, Option, Some, None, refl, sym, ap, subst, ◌∙◌, ◌↔◌, map, length}
+use Rattle.std.proofs.Math.Nat.{suc_inj}
+use Rattle.std.proofs.lemmas.List.{length-append, length-take, length-drop}
+use Rattle.std.specs.List.{All, remove_range, splice}
+use Rattle.std.proofs.lemmas.List.Elements.{All-nil, All-cons, All-head, All-tail, All-same, All-push, All-append, All-take, All-drop}
+use Rattle.ir_arena.specs.declared.span.Span.{Span}
+use Rattle.ir_arena.specs.Spans.{undefined_span}
+use Rattle.ir_blocks.specs.Plain.{PlainStatement, block, choice, switch, return, PlainBlock, stop, next, PlainCases, no_case, case}
+use Rattle.ir_blocks.specs.Shapes.{shape_of, Part, inner, accepting, rejecting, case_at, turn, continuing, case_body, part_of}
+use Rattle.ir_blocks.specs.Places.{Place, here, later, inside, condition, StandsAt}
+use Rattle.ir_blocks.specs.Spans.{BlockSpans, spans, in_next, StatementSpans, no_block, in_block, in_sides, in_cases, in_turns, CaseSpans, no_more, in_case, no_spans, own_spans, within_spans, first_of, first_within, behind_first, case_spans, spans_in, span_at, InStep}
+use Rattle.ir_blocks.specs.Tails.{Ends, IsTailPart, goes_on, IsOpenEnd, empty, behind_last, further, in_tail, completed}
+use Rattle.ir_blocks.specs.TailSpans.{SpansCompleted, ending_span, ending_within, cases_within, completed_spans, finished_spans, finished_case_spans}
+use Rattle.ir_blocks.specs.View.{block_of, within_of, statement_view, statement_spans, block_view, block_spans, statements_of, spans_of, IsInStep, AllInStep, InStepWithin}
+use Rattle.ir_blocks.specs.declared.statements.Statement.{Statement}
+use Rattle.ir_blocks.specs.declared.statements.Block.{Block}
+use Rattle.ir_blocks.proofs.TerminatorLemmas.{block_view-statements}
+use Rattle.ir_blocks.proofs.SpanLemmas.{block_spans-lists}
+use Rattle.ir_blocks.proofs.TailLaws.{added, kept, only, none_in_stop}
+
+-- ---- spans in step with a body
+
+pub in_rest : {s : PlainStatement} {rest : PlainBlock} {own : BlockSpans} → InStep (next s rest) own → InStep rest (behind_first own)
+in_rest h = record { spanned = λ p t e. h.spanned (later p) t e; only = λ p x e. h.only (later p) x e }
+
+pub in_part : {s : PlainStatement} {rest : PlainBlock} {own : BlockSpans} → InStep (next s rest) own → (part : Part) → InStep (part_of (shape_of s) part) (spans_in (first_within own) part)
+in_part h part = record { spanned = λ p t e. h.spanned (inside part p) t e; only = λ p x e. h.only (inside part p) x e }
+
+pub no_span : (p : Place) (x : Span) → span_at p no_spans ≡ Some x → ⊥
+no_span here x e = cc
+no_span (later p) x e = no_span p x e
+no_span (inside part p) x e = no_span p x e
+no_span condition x e = cc
+
+nothing_at : (p : Place) → span_at p no_spans ≡ None
+nothing_at here = refl
+nothing_at (later p) = nothing_at p
+nothing_at (inside part p) = nothing_at p
+nothing_at condition = refl
+
+-- an empty block has no span anywhere
+nothing : (p : Place) (own : BlockSpans) → InStep stop own → span_at p no_spans ≡ span_at p own
+nothing p own h = nothing_at p ∙ sym (by_value (span_at p own) refl)
+  where
+    by_value : (x : Option Span) → span_at p own ≡ x → span_at p own ≡ None
+    by_value None e = e
+    by_value (Some x) e = let f = h.only p x e in absurd (none_in_stop p f.0 f.1)
+
+-- the first statement of a block that is in step has a span
+first_has : {s : PlainStatement} {rest : PlainBlock} {own : BlockSpans} → InStep (next s rest) own → (x : Span) × (span_at here own ≡ Some x)
+first_has {s = s} h = h.spanned here s refl
+
+whole : (own : BlockSpans) → spans (own_spans own) (within_spans own) ≡ own
+whole (spans own within) = refl
+
+-- ---- parts of a finished statement
+
+case_span : (cs : PlainCases) (own : CaseSpans) (k : ℕ) → ((q : ℕ) → InStep (case_body cs q) (case_spans own q))
+    → (Ends cs k × (case_spans (finished_case_spans cs own) k ≡ completed_spans (case_body cs k) (case_spans own k))) ⊎ ((p : Place) → span_at p (case_spans (finished_case_spans cs own) k) ≡ span_at p (case_spans own k))
+case_span no_case own k h = inr (λ p. nothing p (case_spans own k) (h k))
+case_span (case value body true rest) no_more zero h = inr (λ p. refl)
+case_span (case value body true rest) (in_case b bs) zero h = inr (λ p. refl)
+case_span (case value body false rest) no_more zero h = inl (refl, refl)
+case_span (case value body false rest) (in_case b bs) zero h = inl (refl, refl)
+case_span (case value body falls rest) no_more (suc k) h = case_span rest no_more k (λ q. h (suc q))
+case_span (case value body falls rest) (in_case b bs) (suc k) h = case_span rest bs k (λ q. h (suc q))
+
+case_span_tail : (cs : PlainCases) (own : CaseSpans) (k : ℕ) → Ends cs k → case_spans (finished_case_spans cs own) k ≡ completed_spans (case_body cs k) (case_spans own k)
+case_span_tail no_case own k h = absurd h
+case_span_tail (case value body falls rest) no_more zero h = subst (λ f. case_spans (finished_case_spans (case value body f rest) no_more) zero ≡ completed_spans body no_spans) (sym h) refl
+case_span_tail (case value body falls rest) (in_case b bs) zero h = subst (λ f. case_spans (finished_case_spans (case value body f rest) (in_case b bs)) zero ≡ completed_spans body b) (sym h) refl
+case_span_tail (case value body falls rest) no_more (suc k) h = case_span_tail rest no_more k h
+case_span_tail (case value body falls rest) (in_case b bs) (suc k) h = case_span_tail rest bs k h
+
+in_case_at : (own : StatementSpans) (k : ℕ) → case_spans (cases_within own) k ≡ spans_in own (case_at k)
+in_case_at no_block k = refl
+in_case_at (in_block b) k = refl
+in_case_at (in_sides accept reject) k = refl
+in_case_at (in_cases cases) k = refl
+in_case_at (in_turns body again) k = refl
+
+-- a tail part's spans are completed, and those of any other stay at their places
+span_part : (s : PlainStatement) (own : StatementSpans) (part : Part) → ((q : Part) → InStep (part_of (shape_of s) q) (spans_in own q))
+    → (IsTailPart (shape_of s) part × (spans_in (finished_spans s own) part ≡ completed_spans (part_of (shape_of s) part) (spans_in own part))) ⊎ ((p : Place) → span_at p (spans_in (finished_spans s own) part) ≡ span_at p (spans_in own part))
+span_part (block b) own inner h = inl (tt, refl)
+span_part (block b) own accepting h = inr (λ p. nothing p _ (h accepting))
+span_part (block b) own rejecting h = inr (λ p. nothing p _ (h rejecting))
+span_part (block b) own (case_at k) h = inr (λ p. nothing p _ (h (case_at k)))
+span_part (block b) own turn h = inr (λ p. nothing p _ (h turn))
+span_part (block b) own continuing h = inr (λ p. nothing p _ (h continuing))
+span_part (choice test accept reject) own accepting h = inl (tt, refl)
+span_part (choice test accept reject) own rejecting h = inl (tt, refl)
+span_part (choice test accept reject) own inner h = inr (λ p. nothing p _ (h inner))
+span_part (choice test accept reject) own (case_at k) h = inr (λ p. nothing p _ (h (case_at k)))
+span_part (choice test accept reject) own turn h = inr (λ p. nothing p _ (h turn))
+span_part (choice test accept reject) own continuing h = inr (λ p. nothing p _ (h continuing))
+span_part (switch selector cases) own (case_at k) h =
+    elim (case_span cases (cases_within own) k (λ q. subst (InStep (case_body cases q)) (sym (in_case_at own q)) (h (case_at q)))) [
+      | inl tail ↦ inl (tail.0, tail.1 ∙ ap (completed_spans (case_body cases k)) (in_case_at own k))
+      | inr same ↦ inr (λ p. same p ∙ ap (span_at p) (in_case_at own k))
+    ]
+span_part (switch selector cases) own inner h = inr (λ p. nothing p _ (h inner))
+span_part (switch selector cases) own accepting h = inr (λ p. nothing p _ (h accepting))
+span_part (switch selector cases) own rejecting h = inr (λ p. nothing p _ (h rejecting))
+span_part (switch selector cases) own turn h = inr (λ p. nothing p _ (h turn))
+span_part (switch selector cases) own continuing h = inr (λ p. nothing p _ (h continuing))
+span_part _ own part h = inr (λ p. refl)
+
+span_tail : (s : PlainStatement) (own : StatementSpans) (part : Part) → IsTailPart (shape_of s) part → spans_in (finished_spans s own) part ≡ completed_spans (part_of (shape_of s) part) (spans_in own part)
+span_tail (block b) own inner h = refl
+span_tail (block b) own _ h = absurd h
+span_tail (choice test accept reject) own accepting h = refl
+span_tail (choice test accept reject) own rejecting h = refl
+span_tail (choice test accept reject) own _ h = absurd h
+span_tail (switch selector cases) own (case_at k) h = case_span_tail cases (cases_within own) k h ∙ ap (completed_spans (case_body cases k)) (in_case_at own k)
+span_tail (switch selector cases) own _ h = absurd h
+span_tail _ own part h = absurd h
+
+-- ---- places
+
+pub span_kept : (p : Place) (b : PlainBlock) (own : BlockSpans) → InStep b own → (s : PlainStatement) → StandsAt b p s → span_at p (completed_spans b own) ≡ span_at p own
+span_kept p stop own h s e = absurd (none_in_stop p s e)
+span_kept condition (next u rest) own h s e = let x = e in cc
+span_kept p (next u rest) (spans [] within) h s e = let f = (first_has h).1 in cc
+span_kept here (next u stop) (spans (x ∷ own) within) h s e = refl
+span_kept here (next u (next v rest)) (spans (x ∷ own) within) h s e = refl
+span_kept (later p) (next u stop) own h s e = absurd (none_in_stop p s e)
+span_kept (later p) (next u (next v rest)) (spans (x ∷ own) within) h s e =
+    ap (span_at p) (whole (completed_spans (next v rest) (behind_first (spans (x ∷ own) within)))) ∙ span_kept p (next v rest) (behind_first (spans (x ∷ own) within)) (in_rest h) s e
+span_kept (inside part p) (next u (next v rest)) own h s e = refl
+span_kept (inside part p) (next u stop) own h s e =
+    elim (span_part u (first_within own) part (in_part h)) [
+      | inl tail ↦ ap (span_at p) tail.1 ∙ span_kept p (part_of (shape_of u) part) (spans_in (first_within own) part) (in_part h part) s e
+      | inr same ↦ same p
+    ]
+
+pub span_added : (b : PlainBlock) (p : Place) → IsOpenEnd b p → (own : BlockSpans) → InStep b own → span_at p (completed_spans b own) ≡ Some undefined_span
+span_added _ _ empty (spans [] within) h = refl
+span_added _ _ empty (spans (x ∷ own) within) h = let f = (h.only here x refl).1 in cc
+span_added _ _ (behind_last g) (spans [] within) h = let f = (first_has h).1 in cc
+span_added _ _ (behind_last {s = s} g) (spans (x ∷ []) within) h = ap (λ e. span_at (later here) (spans (x ∷ ending_span e) (in_next (finished_spans s (first_of within)) (ending_within e)))) g
+span_added _ _ (behind_last g) (spans (x ∷ y ∷ own) within) h = let f = (h.only (later here) y refl).1 in cc
+span_added _ _ (further {s = s} {t = t} {rest = rest} {p = p} ends) (spans [] within) h = let f = (first_has h).1 in cc
+span_added _ _ (further {s = s} {t = t} {rest = rest} {p = p} ends) (spans (x ∷ own) within) h =
+    ap (span_at p) (whole (completed_spans (next t rest) (behind_first (spans (x ∷ own) within)))) ∙ span_added (next t rest) p ends (behind_first (spans (x ∷ own) within)) (in_rest h)
+span_added _ _ (in_tail {s = s} {p = p} part tail ends) own h =
+    ap (span_at p) (span_tail s (first_within own) part tail) ∙ span_added (part_of (shape_of s) part) p ends (spans_in (first_within own) part) (in_part h part)
+
+pub span_only : (p : Place) (b : PlainBlock) (own : BlockSpans) → InStep b own → (x : Span) → span_at p (completed_spans b own) ≡ Some x → IsOpenEnd b p ⊎ ((s : PlainStatement) × StandsAt b p s)
+span_only condition b own h x e = cc
+span_only here stop own h x e = inl empty
+span_only (later p) stop (spans [] within) h x e = absurd (no_span p x e)
+span_only (later p) stop (spans (y ∷ own) within) h x e = let f = (h.only here y refl).1 in cc
+span_only (inside part p) stop own h x e = absurd (no_span p x e)
+span_only here (next s rest) own h x e = inr (s, refl)
+span_only (later p) (next s rest) (spans [] within) h x e = let f = (first_has h).1 in cc
+span_only (later p) (next s stop) (spans (y ∷ z ∷ own) within) h x e = let f = (h.only (later here) z refl).1 in cc
+span_only (later p) (next s stop) (spans (y ∷ []) within) h x e = inl (behind (goes_on (shape_of s)) refl p e)
+  where
+    behind : (g : Bool) → goes_on (shape_of s) ≡ g → (p : Place) → span_at p (spans (ending_span g) (ending_within g)) ≡ Some x → IsOpenEnd (next s stop) (later p)
+    behind true is here e = behind_last is
+    behind true is (later p) e = absurd (no_span p x e)
+    behind true is (inside part p) e = absurd (no_span p x e)
+    behind true is condition e = cc
+    behind false is p e = absurd (no_span p x e)
+span_only (later p) (next s (next t rest)) (spans (y ∷ own) within) h x e =
+    elim (span_only p (next t rest) (behind_first (spans (y ∷ own) within)) (in_rest h) x (sym (ap (span_at p) (whole (completed_spans (next t rest) (behind_first (spans (y ∷ own) within))))) ∙ e)) [
+      | inl ends ↦ inl (further ends)
+      | inr stands ↦ inr stands
+    ]
+span_only (inside part p) (next s (next t rest)) own h x e = inr (h.only (inside part p) x e)
+span_only (inside part p) (next s stop) own h x e =
+    elim (span_part s (first_within own) part (in_part h)) [
+      | inl tail ↦ elim (span_only p (part_of (shape_of s) part) (spans_in (first_within own) part) (in_part h part) x (sym (ap (span_at p) tail.1) ∙ e)) [
+        | inl ends ↦ inl (in_tail part tail.0 ends)
+        | inr stands ↦ inr stands
+      ]
+      | inr same ↦ inr (h.only (inside part p) x (sym (same p) ∙ e))
+    ]
+
+stays_in_step : (b : PlainBlock) (own : BlockSpans) → InStep b own → InStep (completed b) (completed_spans b own)
+stays_in_step b own h = record {
+  spanned = λ p s e. elim (only p b s e) [
+    | inl ends ↦ (undefined_span, span_added b p ends own h)
+    | inr stands ↦ (let k = h.spanned p stands.0 stands.1 in (k.0, span_kept p b own h stands.0 stands.1 ∙ k.1))
+  ];
+  only = λ p x e. elim (span_only p b own h x e) [
+    | inl ends ↦ (return None, added b p ends)
+    | inr stands ↦ (let k = kept p b stands.0 stands.1 in (k.0, k.1))
+  ];
+}
+
+pub spans_completed : (b : PlainBlock) (own : BlockSpans) → InStep b own → SpansCompleted b own (completed_spans b own)
+spans_completed b own h = record { kept = λ p s e. span_kept p b own h s e; added = λ p ends. span_added b p ends own h; in_step = stays_in_step b own h }
+
+-- ---- in step, block by block
+
+before_rest : (x : Statement) (xs : List Statement) (y : Span) (own : List Span) → InStepWithin x → InStep (block_of (map statement_view xs)) (spans own (within_of (map statement_spans xs)))
+    → InStep (block_of (map statement_view (x ∷ xs))) (spans (y ∷ own) (within_of (map statement_spans (x ∷ xs))))
+before_rest x xs y own first rest = record { spanned = spanned; only = only_there }
+  where
+    spanned : (p : Place) (s : PlainStatement) → StandsAt (block_of (map statement_view (x ∷ xs))) p s → (z : Span) × (span_at p (spans (y ∷ own) (within_of (map statement_spans (x ∷ xs)))) ≡ Some z)
+    spanned here s e = (y, refl)
+    spanned (later p) s e = rest.spanned p s e
+    spanned (inside part p) s e = (first part).spanned p s e
+    spanned condition s e = let z = e in cc
+
+    only_there : (p : Place) (z : Span) → span_at p (spans (y ∷ own) (within_of (map statement_spans (x ∷ xs)))) ≡ Some z → (s : PlainStatement) × StandsAt (block_of (map statement_view (x ∷ xs))) p s
+    only_there here z e = (statement_view x, refl)
+    only_there (later p) z e = rest.only p z e
+    only_there (inside part p) z e = (first part).only p z e
+    only_there condition z e = cc
+
+lists_in_step : (xs : List Statement) (own : List Span) → length own ≡ length xs → All InStepWithin xs → InStep (block_of (map statement_view xs)) (spans own (within_of (map statement_spans xs)))
+lists_in_step [] [] e all = record { spanned = λ p s e. absurd (none_in_stop p s e); only = λ p x e. absurd (no_span p x e) }
+lists_in_step [] (y ∷ own) e all = cc
+lists_in_step (x ∷ xs) [] e all = cc
+lists_in_step (x ∷ xs) (y ∷ own) e all = before_rest x xs y own (All-head InStepWithin x xs all) (lists_in_step xs own (suc_inj e) (All-tail InStepWithin x xs all))
+
+in_step_lists : (xs : List Statement) (own : List Span) → InStep (block_of (map statement_view xs)) (spans own (within_of (map statement_spans xs))) → (length own ≡ length xs) × All InStepWithin xs
+in_step_lists [] [] h = (refl, All-nil InStepWithin)
+in_step_lists [] (y ∷ own) h = let f = (h.only here y refl).1 in cc
+in_step_lists (x ∷ xs) [] h = let f = (first_has h).1 in cc
+in_step_lists (x ∷ xs) (y ∷ own) h =
+    let k = in_step_lists xs own (in_rest h) in
+    (ap suc k.0, All-cons InStepWithin x xs (in_part h) k.1)
+
+pub in_step_throughout : (b : Block) → IsInStep b → All InStepWithin (statements_of b) → AllInStep b
+in_step_throughout b e all =
+    let h : InStep (block_of (map statement_view (statements_of b))) (spans (spans_of b) (within_of (map statement_spans (statements_of b)))) = lists_in_step (statements_of b) (spans_of b) e all in
+    let views : InStep (block_view b) (spans (spans_of b) (within_of (map statement_spans (statements_of b)))) = subst (λ v. InStep v (spans (spans_of b) (within_of (map statement_spans (statements_of b))))) (sym (block_view-statements b)) h in
+    subst (InStep (block_view b)) (sym (block_spans-lists b)) views
+
+pub in_step_each : (b : Block) → AllInStep b → IsInStep b × All InStepWithin (statements_of b)
+in_step_each b h =
+    let views : InStep (block_of (map statement_view (statements_of b))) (block_spans b) = subst (λ v. InStep v (block_spans b)) (block_view-statements b) h in
+    in_step_lists (statements_of b) (spans_of b) (subst (InStep (block_of (map statement_view (statements_of b)))) (block_spans-lists b) views)
+
+pub in_step_by_statements : (b : Block) → AllInStep b ↔ (IsInStep b × All InStepWithin (statements_of b))
+in_step_by_statements b = (in_step_each b, λ h. in_step_throughout b h.0 h.1)
+
+-- a statement that is in step within, put behind a block that is in step
+pub in_step_behind : (old new : Block) (s : Statement) (x : Span) → statements_of new ≡ statements_of old ++ s ∷ [] → spans_of new ≡ spans_of old ++ x ∷ [] → AllInStep old → InStepWithin s → AllInStep new
+in_step_behind old new s x statements own h first =
+    let each = in_step_each old h in
+    let count : IsInStep new = ap length own ∙ (length-append (spans_of old) (x ∷ []) ∙ (ap (λ n. n + 1) each.0 ∙ (sym (length-append (statements_of old) (s ∷ [])) ∙ sym (ap length statements)))) in
+    in_step_throughout new count (All-same InStepWithin (statements_of new) _ statements (All-push InStepWithin (statements_of old) s each.1 first))
+
+-- two blocks that are in step, one behind the other
+pub in_step_joined : (old other new : Block) → statements_of new ≡ statements_of old ++ statements_of other → spans_of new ≡ spans_of old ++ spans_of other → AllInStep old → AllInStep other → AllInStep new
+in_step_joined old other new statements own h k =
+    let left = in_step_each old h in
+    let right = in_step_each other k in
+    let count : IsInStep new = ap length own ∙ (length-append (spans_of old) (spans_of other) ∙ ((λ i. left.0 i + right.0 i) ∙ (sym (length-append (statements_of old) (statements_of other)) ∙ sym (ap length statements)))) in
+    in_step_throughout new count (All-same InStepWithin (statements_of new) _ statements (All-append InStepWithin (statements_of old) (statements_of other) left.1 right.1))
+
+count_without : {X Y : Type 0} (xs : List X) (ys : List Y) (i j : ℕ) → length xs ≡ length ys → length (take i xs ++ drop j xs) ≡ length (take i ys ++ drop j ys)
+count_without xs ys i j e =
+    length-append (take i xs) (drop j xs) ∙ ((λ k. length-take i xs k + length-drop j xs k) ∙ (ap (λ n. min i n + (n - j)) e ∙ (sym (λ k. length-take i ys k + length-drop j ys k) ∙ sym (length-append (take i ys) (drop j ys)))))
+
+-- a block that is in step, without a run of it
+pub in_step_without : (old new : Block) (i j : ℕ) → statements_of new ≡ remove_range (statements_of old) i j → spans_of new ≡ remove_range (spans_of old) i j → AllInStep old → AllInStep new
+in_step_without old new i j statements own h =
+    let each = in_step_each old h in
+    let xs : List Statement = statements_of old in
+    let count : IsInStep new = ap length own ∙ (count_without (spans_of old) xs i j each.0 ∙ sym (ap length statements)) in
+    in_step_throughout new count (All-same InStepWithin (statements_of new) _ statements (All-append InStepWithin (take i xs) (drop j xs) (All-take InStepWithin i xs each.1) (All-drop InStepWithin j xs each.1)))
+
+length_spliced : {X : Type 0} (xs ys : List X) (i j : ℕ) → length (splice xs i j ys) ≡ min i (length xs) + (length ys + (length xs - j))
+length_spliced xs ys i j =
+    length-append (take i xs) (ys ++ drop j xs) ∙ (λ k. length-take i xs k + (length-append ys (drop j xs) ∙ ap (λ n. length ys + n) (length-drop j xs)) k)
+
+-- a block that is in step, with another in the place of a run of it
+pub in_step_spliced : (old other new : Block) (i j : ℕ) → statements_of new ≡ splice (statements_of old) i j (statements_of other) → spans_of new ≡ splice (spans_of old) i j (spans_of other) → AllInStep old → AllInStep other → AllInStep new
+in_step_spliced old other new i j statements own h k =
+    let left = in_step_each old h in
+    let right = in_step_each other k in
+    let xs : List Statement = statements_of old in
+    let ys : List Statement = statements_of other in
+    let count : IsInStep new =
+    ap length own ∙ (length_spliced (spans_of old) (spans_of other) i j ∙ ((λ n. (min i (left.0 n)) + (right.0 n + (left.0 n - j))) ∙ (sym (length_spliced xs ys i j) ∙ sym (ap length statements)))) in
+    in_step_throughout new count (All-same InStepWithin (statements_of new) _ statements
+    (All-append InStepWithin (take i xs) (ys ++ drop j xs) (All-take InStepWithin i xs left.1) (All-append InStepWithin ys (drop j xs) right.1 (All-drop InStepWithin j xs left.1))))

@@ -1,0 +1,87 @@
+-- The spans of the completed body, as the code makes them.
+use Rattle.std.proofs.Common.{Result, Ok, Err, IfOk, ◌≡◌, ◌≤◌, ℕ, List, [], ◌∷◌, ◌++◌, map, take, length, Bool, true, false, refl, sym, ap, ◌∙◌, rules}
+use Rattle.std.proofs.lemmas.List.{map-append, take_all, append-nil, append_assoc}
+use Rattle.ir_arena.specs.declared.span.Span.{Span}
+use Rattle.ir_arena.specs.Spans.{undefined_span}
+use Rattle.ir_blocks.specs.Shapes.{shape_of}
+use Rattle.ir_blocks.specs.Spans.{BlockSpans, spans, InnerSpans, in_next, StatementSpans, no_block, in_case, tail_of}
+use Rattle.ir_blocks.specs.Tails.{goes_on}
+use Rattle.ir_blocks.specs.TailSpans.{ending_span, ending_within, with_first, completed_spans, finished_spans, finished_case_spans, finished_case_body}
+use Rattle.ir_blocks.specs.View.{block_of, cases_of, within_of, case_spans_of, statement_view, block_view, case_view, statement_spans, block_spans, case_block_spans, statements_of, spans_of}
+use Rattle.ir_blocks.specs.declared.statements.Statement.{Statement, the_lemmas}
+use Rattle.ir_blocks.specs.declared.statements.Block.{Block}
+use Rattle.ir_blocks.specs.declared.statements.SwitchCase.{SwitchCase}
+use Rattle.ir_blocks.proofs.TerminatorLemmas.{block_view-statements}
+
+pub block_spans-lists : (b : Block) → block_spans b ≡ spans (spans_of b) (within_of (map statement_spans (statements_of b)))
+block_spans-lists b = search (rules, the_lemmas)
+
+abbrev endings : Bool → List StatementSpans
+endings true = no_block ∷ []
+endings false = []
+
+first_and_rest : (own more : List Span) → take 1 own ++ (tail_of own ++ more) ≡ own ++ more
+first_and_rest [] more = refl
+first_and_rest (x ∷ own) more = refl
+
+behind : (own more : List Span) (s : StatementSpans) (rest after : InnerSpans) (found : BlockSpans) → found ≡ spans (tail_of own ++ more) after → with_first (spans own (in_next s rest)) found ≡ spans (own ++ more) (in_next s after)
+behind own more s rest after found e = ap (with_first (spans own (in_next s rest))) e ∙ ap (λ o. spans o (in_next s after)) (first_and_rest own more)
+
+completed_lists : (on : Bool) (own : List Span) (xs : List Statement) (x : Statement) → goes_on (shape_of (statement_view x)) ≡ on
+    → completed_spans (block_of (map statement_view xs ++ statement_view x ∷ [])) (spans own (within_of (map statement_spans xs ++ statement_spans x ∷ [])))
+    ≡ spans (own ++ ending_span on) (within_of (map statement_spans xs ++ finished_spans (statement_view x) (statement_spans x) ∷ endings on))
+completed_lists true own [] x e = ap (λ g. spans (own ++ ending_span g) (in_next (finished_spans (statement_view x) (statement_spans x)) (ending_within g))) e
+completed_lists false own [] x e = ap (λ g. spans (own ++ ending_span g) (in_next (finished_spans (statement_view x) (statement_spans x)) (ending_within g))) e
+completed_lists on own (y ∷ []) x e = behind own (ending_span on) (statement_spans y) (within_of (statement_spans x ∷ [])) _ _ (completed_lists on (tail_of own) [] x e)
+completed_lists on own (y ∷ z ∷ zs) x e = behind own (ending_span on) (statement_spans y) (within_of (map statement_spans (z ∷ zs) ++ statement_spans x ∷ [])) _ _ (completed_lists on (tail_of own) (z ∷ zs) x e)
+
+-- the spans of a block that holds these lists
+lists : (b : Block) (front : List Statement) (last : Statement) → statements_of b ≡ front ++ last ∷ []
+    → completed_spans (block_view b) (block_spans b)
+    ≡ completed_spans (block_of (map statement_view front ++ statement_view last ∷ [])) (spans (spans_of b) (within_of (map statement_spans front ++ statement_spans last ∷ [])))
+lists b front last parts =
+    let views : block_view b ≡ block_of (map statement_view front ++ statement_view last ∷ []) =
+    block_view-statements b ∙ (ap (λ z. block_of (map statement_view z)) parts ∙ ap block_of (map-append statement_view front (last ∷ []))) in
+    let within : block_spans b ≡ spans (spans_of b) (within_of (map statement_spans front ++ statement_spans last ∷ [])) =
+    block_spans-lists b ∙ (ap (λ z. spans (spans_of b) (within_of (map statement_spans z))) parts ∙ ap (λ z. spans (spans_of b) (within_of z)) (map-append statement_spans front (last ∷ []))) in
+    λ i. completed_spans (views i) (within i)
+
+pub spans_stay : (b : Block) (front body items : List Statement) (last whole : Statement) (kept : List Span) → statements_of b ≡ front ++ last ∷ [] → map statement_spans body ≡ map statement_spans front
+    → statement_spans whole ≡ finished_spans (statement_view last) (statement_spans last) → goes_on (shape_of (statement_view last)) ≡ false → items ≡ body ++ whole ∷ [] → kept ≡ spans_of b
+    → spans kept (within_of (map statement_spans items)) ≡ completed_spans (block_view b) (block_spans b)
+spans_stay b front body items last whole kept parts copies end on made same =
+    let left : map statement_spans items ≡ map statement_spans front ++ finished_spans (statement_view last) (statement_spans last) ∷ [] =
+    ap (map statement_spans) made ∙ (map-append statement_spans body (whole ∷ []) ∙ (ap (λ z. z ++ statement_spans whole ∷ []) copies ∙ ap (λ z. map statement_spans front ++ z ∷ []) end)) in
+    let own : kept ≡ spans_of b ++ [] = same ∙ sym (append-nil (spans_of b)) in
+    let both : spans kept (within_of (map statement_spans items)) ≡ spans (spans_of b ++ []) (within_of (map statement_spans front ++ finished_spans (statement_view last) (statement_spans last) ∷ [])) =
+    (λ i. spans (own i) (within_of (left i))) in
+    both ∙ (sym (completed_lists false (spans_of b) front last on) ∙ sym (lists b front last parts))
+
+pub spans_added : (b : Block) (front body more items : List Statement) (last whole : Statement) (kept : List Span) → statements_of b ≡ front ++ last ∷ [] → map statement_spans body ≡ map statement_spans front
+    → statement_spans whole ≡ finished_spans (statement_view last) (statement_spans last) → goes_on (shape_of (statement_view last)) ≡ true → more ≡ body ++ whole ∷ []
+    → map statement_spans items ≡ map statement_spans more ++ no_block ∷ [] → kept ≡ spans_of b ++ undefined_span ∷ []
+    → spans kept (within_of (map statement_spans items)) ≡ completed_spans (block_view b) (block_spans b)
+spans_added b front body more items last whole kept parts copies end on made all same =
+    let F : List StatementSpans = map statement_spans front in
+    let w : StatementSpans = finished_spans (statement_view last) (statement_spans last) in
+    let more_is : map statement_spans more ≡ F ++ w ∷ [] =
+    ap (map statement_spans) made ∙ (map-append statement_spans body (whole ∷ []) ∙ (ap (λ z. z ++ statement_spans whole ∷ []) copies ∙ ap (λ z. F ++ z ∷ []) end)) in
+    let left : map statement_spans items ≡ F ++ w ∷ no_block ∷ [] =
+    all ∙ (ap (λ z. z ++ no_block ∷ []) more_is ∙ append_assoc F (w ∷ []) (no_block ∷ [])) in
+    let both : spans kept (within_of (map statement_spans items)) ≡ spans (spans_of b ++ undefined_span ∷ []) (within_of (F ++ w ∷ no_block ∷ [])) =
+    (λ i. spans (same i) (within_of (left i))) in
+    both ∙ (sym (completed_lists true (spans_of b) front last on) ∙ sym (lists b front last parts))
+
+finished_all_spans : (cs : List SwitchCase) → finished_case_spans (cases_of (map case_view cs)) (case_spans_of (map case_block_spans cs)) ≡ case_spans_of (map (λ c. finished_case_body (case_view c) (case_block_spans c)) cs)
+finished_all_spans [] = refl
+finished_all_spans (c ∷ cs) = ap (in_case (finished_case_body (case_view c) (case_block_spans c))) (finished_all_spans cs)
+
+pub case_spans_same : (items cases : List SwitchCase) (n : ℕ) → length cases ≤ n → map case_block_spans items ≡ map (λ c. finished_case_body (case_view c) (case_block_spans c)) (take n cases)
+    → case_spans_of (map case_block_spans items) ≡ finished_case_spans (cases_of (map case_view cases)) (case_spans_of (map case_block_spans cases))
+case_spans_same items cases n past made =
+    (ap case_spans_of made ∙ ap (λ z. case_spans_of (map (λ c. finished_case_body (case_view c) (case_block_spans c)) z)) (take_all n cases past)) ∙ sym (finished_all_spans cases)
+
+-- what two clauses say of an answer
+pub ok_both : {X E : Type 0} (r : Result X E) (P Q R : X → Type 0) → ((x : X) → P x → Q x → R x) → IfOk r P → IfOk r Q → IfOk r R
+ok_both (Ok x) P Q R f p q = f x p q
+ok_both (Err e) P Q R f p q = p

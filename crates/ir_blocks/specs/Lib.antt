@@ -1,0 +1,11 @@
+pub mod Plain
+pub mod Shapes
+pub mod Places
+pub mod Spans
+pub mod View
+pub mod Tails
+pub mod TailSpans
+pub mod Control
+pub mod SpanIters
+pub mod Lends
+pub mod Room

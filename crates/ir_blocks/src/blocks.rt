@@ -1,0 +1,220 @@
+// The calls of a block.
+ghost use Rattle.std.specs.Prelude.{◌≡◌, ◌≤◌, ◌==◌, ◌++◌, ◌∷◌, [], length, map, replicate, IsOk, IfOk, IfSome, OnOk, OnErr, option_to_list};
+ghost use Rattle.std.specs.List.{remove_range, splice, zip};
+ghost use Rattle.std.specs.Range.Bound.{start_index, end_index};
+ghost use Rattle.ir_arena.specs.Spans.{undefined_span};
+ghost use Rattle.std.specs.Borrow.{sem};
+ghost use Rattle.ir_blocks.specs.Lends.{LendsStatements};
+ghost use Rattle.ir_blocks.specs.Room.{HasOwnRoom};
+ghost use Rattle.ir_blocks.specs.SpanIters.{pairs_to_come};
+ghost use Rattle.ir_blocks.specs.View.{statements_of, spans_of, room_for_statements, room_for_spans, IsInStep, AllInStep, InStepWithin};
+
+use crate::runs::{cut, move_behind, put_in};
+use crate::span_iter::{SpanIter, SpanIterMut};
+use crate::statements::{Block, Statement};
+use ir_arena::span::Span;
+use std::alloc::{AllocError, Global};
+use std::ops::RangeBounds;
+use std::slice;
+
+impl Block {
+    /// A block without statements.
+    pub fn new(alloc: Global) -> Block
+        ensures statements { statements_of result ≡ [] }
+        ensures spans { spans_of result ≡ [] }
+    {
+        Block {
+            body: Vec::new(alloc),
+            span_info: Vec::new(alloc),
+        }
+    }
+
+    /// A block of these statements, each with [`Span::UNDEFINED`] (also naga's `From<Vec<Statement>>`). The error is
+    /// want of memory for the spans.
+    pub fn from_vec(alloc: Global, body: Vec<Statement>) -> Result<Block, AllocError>
+        ensures statements { IfOk result (λ block. statements_of block ≡ body.items) }
+        ensures spans { IfOk result (λ block. spans_of block ≡ replicate (length body.items) undefined_span) }
+        ensures in_step { IfOk result (λ block. IsInStep block) }
+    {
+        let span_info = Vec::from_elem(alloc, Span::UNDEFINED, body.len())?;
+        Ok(Block { body, span_info })
+    }
+
+    /// A block without statements, with room for `count` of them. The error is want of memory.
+    pub fn with_capacity(alloc: Global, count: usize) -> Result<Block, AllocError>
+        ensures statements { IfOk result (λ block. statements_of block ≡ []) }
+        ensures spans { IfOk result (λ block. spans_of block ≡ []) }
+        ensures room { IfOk result (λ block. count ≤ room_for_statements block) }
+        ensures span_room { IfOk result (λ block. count ≤ room_for_spans block) }
+    {
+        Ok(Block {
+            body: Vec::with_capacity(alloc, count)?,
+            span_info: Vec::with_capacity(alloc, count)?,
+        })
+    }
+
+    /// How many statements the block has, those inside them not counted.
+    pub fn len(&self) -> usize
+        ensures { result ≡ length (statements_of self.now) }
+    {
+        self.body.len()
+    }
+
+    /// Whether the block has no statement.
+    pub fn is_empty(&self) -> bool
+        ensures { result ≡ (length (statements_of self.now) == 0) }
+    {
+        self.body.is_empty()
+    }
+
+    /// The statements in order (naga's `Deref` of a block).
+    pub fn as_slice(&self) -> &[Statement]
+        ensures { result.now ≡ statements_of self.now }
+    {
+        &self.body
+    }
+
+    /// The statements' spans in order (the second half of naga's `span_iter`).
+    pub fn spans(&self) -> &[Span]
+        ensures { result.now ≡ spans_of self.now }
+    {
+        &self.span_info
+    }
+
+    /// The statements in order, each with its span.
+    pub fn span_iter(&self) -> SpanIter<'_>
+        ensures { result ≡ zip (statements_of self.now) (spans_of self.now) }
+    {
+        SpanIter::new(&self.body, &self.span_info)
+    }
+
+    /// The statements in order, each with its span, to be changed. No contract says what the block holds once they
+    /// were changed so; that of [`Block::as_mut_slice`] does.
+    pub fn span_iter_mut(&mut self) -> SpanIterMut<'_>
+        ensures { pairs_to_come result ≡ zip (statements_of self.old) (spans_of self.old) }
+    {
+        SpanIterMut::new(&mut self.body, &mut self.span_info)
+    }
+
+    /// The statements in order, to be changed (naga's `DerefMut` of a block). The spans stay.
+    pub fn as_mut_slice(&mut self) -> &mut [Statement]
+        ensures* writes_back { sem 𝓛 (LendsStatements self.entry result) }
+        ensures value { result.now ≡ statements_of self.old }
+    {
+        self.body.as_mut_slice()
+    }
+
+    /// Adds a statement at the end, with its span. The error is want of memory, and leaves the block as it was. There
+    /// is none where the block has room.
+    #[tactic(auto, using(crate::proofs::SpanLaws::in_step_behind))]
+    pub fn push(&mut self, statement: Statement, span: Span) -> Result<(), AllocError>
+        ensures statements { OnOk result (statements_of self.new ≡ statements_of self.old ++ statement ∷ []) }
+        ensures spans { OnOk result (spans_of self.new ≡ spans_of self.old ++ span ∷ []) }
+        ensures err_statements { OnErr result (statements_of self.new ≡ statements_of self.old) }
+        ensures err_spans { OnErr result (spans_of self.new ≡ spans_of self.old) }
+        ensures in_step { IsInStep self.old → IsInStep self.new }
+        ensures all_in_step { AllInStep self.old → InStepWithin statement → AllInStep self.new }
+        ensures succeeds { HasOwnRoom self.old → IsOk result }
+    {
+        self.span_info.reserve(1)?;
+        self.body.push(statement)?;
+        self.span_info.push_reserved(span);
+        Ok(())
+    }
+
+    /// Adds a statement at the end, with its span, where there is one. The error is want of memory, and leaves the
+    /// block as it was.
+    pub fn extend(&mut self, item: Option<(Statement, Span)>) -> Result<(), AllocError>
+        ensures statements { OnOk result (statements_of self.new ≡ statements_of self.old ++ map (λ e. e.0) (option_to_list item)) }
+        ensures spans { OnOk result (spans_of self.new ≡ spans_of self.old ++ map (λ e. e.1) (option_to_list item)) }
+        ensures err_statements { OnErr result (statements_of self.new ≡ statements_of self.old) }
+        ensures err_spans { OnErr result (spans_of self.new ≡ spans_of self.old) }
+        ensures in_step { IsInStep self.old → IsInStep self.new }
+        ensures all_in_step { AllInStep self.old → IfSome item (λ e. InStepWithin e.0) → AllInStep self.new }
+    {
+        match item {
+            Some((statement, span)) => self.push(statement, span),
+            None => Ok(()),
+        }
+    }
+
+    /// Adds the statements of another block at the end, with their spans. The error is want of memory, and leaves the
+    /// block as it was; the other one is let go.
+    pub fn extend_block(&mut self, other: Block) -> Result<(), AllocError>
+        ensures statements { OnOk result (statements_of self.new ≡ statements_of self.old ++ statements_of other) }
+        ensures spans { OnOk result (spans_of self.new ≡ spans_of self.old ++ spans_of other) }
+        ensures err_statements { OnErr result (statements_of self.new ≡ statements_of self.old) }
+        ensures err_spans { OnErr result (spans_of self.new ≡ spans_of self.old) }
+        ensures in_step { IsInStep self.old → IsInStep other → IsInStep self.new }
+        ensures all_in_step { AllInStep self.old → AllInStep other → AllInStep self.new }
+    {
+        let mut other = other;
+        self.append(&mut other)
+    }
+
+    /// Moves the statements of another block to the end of this one, with their spans, and leaves the other empty.
+    /// The error is want of memory, and leaves both as they were.
+    #[tactic(auto, using(crate::proofs::SpanLaws::in_step_joined))]
+    pub fn append(&mut self, other: &mut Block) -> Result<(), AllocError>
+        ensures statements { OnOk result (statements_of self.new ≡ statements_of self.old ++ statements_of other.old) }
+        ensures spans { OnOk result (spans_of self.new ≡ spans_of self.old ++ spans_of other.old) }
+        ensures rest { OnOk result (statements_of other.new ≡ []) }
+        ensures rest_spans { OnOk result (spans_of other.new ≡ []) }
+        ensures err_statements { OnErr result (statements_of self.new ≡ statements_of self.old) }
+        ensures err_spans { OnErr result (spans_of self.new ≡ spans_of self.old) }
+        ensures err_rest { OnErr result (statements_of other.new ≡ statements_of other.old) }
+        ensures err_rest_spans { OnErr result (spans_of other.new ≡ spans_of other.old) }
+        ensures in_step { IsInStep self.old → IsInStep other.old → IsInStep self.new }
+        ensures all_in_step { AllInStep self.old → AllInStep other.old → AllInStep self.new }
+    {
+        self.span_info.reserve(other.span_info.len())?;
+        self.body.append(&mut other.body)?;
+        move_behind(&mut self.span_info, &mut other.span_info);
+        Ok(())
+    }
+
+    /// Takes the statements in `range` out, with their spans. It asks by contract for a range within the block's
+    /// statements, where naga panics.
+    #[tactic(auto, using(crate::proofs::SpanLaws::in_step_without))]
+    pub fn cull<R: RangeBounds<usize>>(&mut self, range: R)
+        requires known { R.has_bounds range }
+        requires start_le_end { start_index (R.start_bound range) ≤ end_index (R.end_bound range) (length (statements_of self.old)) }
+        requires in_bounds { end_index (R.end_bound range) (length (statements_of self.old)) ≤ length (statements_of self.old) }
+        ensures statements { statements_of self.new ≡ remove_range (statements_of self.old) (start_index (R.start_bound range)) (end_index (R.end_bound range) (length (statements_of self.old))) }
+        ensures spans { spans_of self.new ≡ remove_range (spans_of self.old) (start_index (R.start_bound range)) (end_index (R.end_bound range) (length (statements_of self.old))) }
+        ensures in_step { IsInStep self.old → IsInStep self.new }
+        ensures all_in_step { AllInStep self.old → AllInStep self.new }
+    {
+        let range = slice::range(range, ..self.body.len());
+        cut(&mut self.body, range.start, range.end);
+        cut(&mut self.span_info, range.start, range.end);
+    }
+
+    /// Puts the statements of another block in the place of those in `range`, with their spans. It asks by contract
+    /// for a range within the block's statements, where naga panics. The error is want of memory, and leaves the block
+    /// as it was; the other one is let go.
+    #[tactic(auto, using(crate::proofs::SpanLaws::in_step_spliced))]
+    pub fn splice<R: RangeBounds<usize>>(
+        &mut self,
+        range: R,
+        other: Block,
+    ) -> Result<(), AllocError>
+        requires known { R.has_bounds range }
+        requires start_le_end { start_index (R.start_bound range) ≤ end_index (R.end_bound range) (length (statements_of self.old)) }
+        requires in_bounds { end_index (R.end_bound range) (length (statements_of self.old)) ≤ length (statements_of self.old) }
+        ensures statements { OnOk result (statements_of self.new ≡ splice (statements_of self.old) (start_index (R.start_bound range)) (end_index (R.end_bound range) (length (statements_of self.old))) (statements_of other)) }
+        ensures spans { OnOk result (spans_of self.new ≡ splice (spans_of self.old) (start_index (R.start_bound range)) (end_index (R.end_bound range) (length (statements_of self.old))) (spans_of other)) }
+        ensures err_statements { OnErr result (statements_of self.new ≡ statements_of self.old) }
+        ensures err_spans { OnErr result (spans_of self.new ≡ spans_of self.old) }
+        ensures in_step { IsInStep self.old → IsInStep other → IsInStep self.new }
+        ensures all_in_step { AllInStep self.old → AllInStep other → AllInStep self.new }
+    {
+        let range = slice::range(range, ..self.body.len());
+        self.body.reserve(other.body.len())?;
+        self.span_info.reserve(other.span_info.len())?;
+        let Block { body, span_info } = other;
+        put_in(&mut self.body, range.start, range.end, body);
+        put_in(&mut self.span_info, range.start, range.end, span_info);
+        Ok(())
+    }
+}

@@ -1,0 +1,20 @@
+// Statements and the blocks that hold them: the calls of a block, and returns at the ends of a body. It hands on the
+// types and the expressions.
+#![tactic(auto)]
+
+mod acts;
+mod blocks;
+pub mod laws;
+mod returns;
+mod runs;
+mod span_iter;
+mod statements;
+mod terminator;
+
+pub use acts::{AtomicFunction, GatherMode, RayPipelineFunction, RayQueryFunction};
+pub use ir_expressions::{CooperativeData, Expression, ImageQuery, SampleLevel};
+pub use ir_types::{ArraySize, IrType, StructMember, TypeInner, key};
+pub use returns::ensure_block_returns;
+pub use span_iter::{SpanIter, SpanIterMut};
+pub use statements::{Block, Statement, SwitchCase};
+pub use terminator::complete;

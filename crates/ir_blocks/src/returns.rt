@@ -1,0 +1,165 @@
+// Returns at the ends of what a function does (naga's `proc::terminator`).
+ghost use Rattle.std.specs.Prelude.{◌≡◌, ◌++◌, ◌∷◌, [], None, map, IsOk, OnOk, OnErr};
+ghost use Rattle.ir_blocks.specs.Plain.{return};
+ghost use Rattle.ir_blocks.specs.Spans.{no_block};
+ghost use Rattle.ir_arena.specs.Spans.{undefined_span};
+ghost use Rattle.ir_blocks.specs.Room.{HasOwnRoom, HasRoom, HasRoomWithin, HasRoomInCase, HasRoomInCases};
+ghost use Rattle.ir_blocks.specs.Tails.{completed, finished, finished_cases, finished_case};
+ghost use Rattle.ir_blocks.specs.TailSpans.{completed_spans, finished_spans, finished_case_spans, finished_case_body};
+ghost use Rattle.ir_blocks.specs.View.{statement_view, block_view, case_view, cases_of, statement_spans, block_spans, case_block_spans, case_spans_of, statements_of, spans_of};
+
+use crate::statements::{Block, Statement, SwitchCase};
+use crate::terminator::goes_on;
+use ir_arena::span::Span;
+use std::alloc::{AllocError, Global};
+
+/// Puts a return without value at each end of the body that control can reach by itself: into the body and each of
+/// its tail blocks that is empty, or ends in a statement behind which control goes on. What stands is neither changed
+/// nor moved. The error is want of memory, and leaves the body's statements and spans as they were, since room is made
+/// for every return before the first is put in. The blocks grow in their own allocator.
+pub fn ensure_block_returns(_alloc: Global, block: &mut Block) -> Result<(), AllocError>
+    ensures ok { OnOk result (block_view block.new ≡ completed (block_view block.old)) }
+    ensures spans { OnOk result (block_spans block.new ≡ completed_spans (block_view block.old) (block_spans block.old)) }
+    ensures err { OnErr result (block_view block.new ≡ block_view block.old) }
+    ensures err_spans { OnErr result (block_spans block.new ≡ block_spans block.old) }
+{
+    reserve_returns(block)?;
+    add_returns(block)
+}
+
+// Makes room for a return in each block that wants one.
+#[cycle(reserves)]
+fn reserve_returns(block: &mut Block) -> Result<(), AllocError>
+    ensures statements { block_view block.new ≡ block_view block.old }
+    ensures spans { block_spans block.new ≡ block_spans block.old }
+    ensures room { OnOk result (HasRoom block.new) }
+{
+    let len = block.body.len();
+    if len == 0 {
+        return reserve_one(block);
+    }
+    if goes_on(&block.body[len - 1]) {
+        return reserve_one(block);
+    }
+    reserve_within(&mut block.body[len - 1])
+}
+
+// Makes room for one more statement and its span.
+fn reserve_one(block: &mut Block) -> Result<(), AllocError>
+    ensures statements { statements_of block.new ≡ statements_of block.old }
+    ensures spans { spans_of block.new ≡ spans_of block.old }
+    ensures room { OnOk result (HasOwnRoom block.new) }
+{
+    block.span_info.reserve(1)?;
+    block.body.reserve(1)
+}
+
+#[cycle(reserves)]
+fn reserve_within(statement: &mut Statement) -> Result<(), AllocError>
+    ensures statement { statement_view statement.new ≡ statement_view statement.old }
+    ensures spans { statement_spans statement.new ≡ statement_spans statement.old }
+    ensures room { OnOk result (HasRoomWithin statement.new) }
+{
+    match statement {
+        Statement::Block(block) => reserve_returns(block),
+        Statement::If { accept, reject, .. } => {
+            reserve_returns(accept)?;
+            reserve_returns(reject)
+        }
+        Statement::Switch { cases, .. } => reserve_cases(cases),
+        _ => Ok(()),
+    }
+}
+
+#[cycle(reserves)]
+fn reserve_cases(cases: &mut Vec<SwitchCase>) -> Result<(), AllocError>
+    ensures cases { map case_view cases.new.items ≡ map case_view cases.old.items }
+    ensures spans { map case_block_spans cases.new.items ≡ map case_block_spans cases.old.items }
+    ensures room { OnOk result (HasRoomInCases cases.new.items) }
+{
+    for index in 0..cases.len() {
+        reserve_case(&mut cases[index])?;
+    }
+    Ok(())
+}
+
+#[cycle(reserves)]
+fn reserve_case(case: &mut SwitchCase) -> Result<(), AllocError>
+    ensures case { case_view case.new ≡ case_view case.old }
+    ensures spans { case_block_spans case.new ≡ case_block_spans case.old }
+    ensures room { OnOk result (HasRoomInCase case.new) }
+{
+    if case.fall_through {
+        return Ok(());
+    }
+    reserve_returns(&mut case.body)
+}
+
+// Puts a return into each block that wants one. Where they have room this can't fail.
+#[cycle(adds)]
+fn add_returns(block: &mut Block) -> Result<(), AllocError>
+    ensures statements { OnOk result (block_view block.new ≡ completed (block_view block.old)) }
+    ensures spans { OnOk result (block_spans block.new ≡ completed_spans (block_view block.old) (block_spans block.old)) }
+    ensures succeeds { HasRoom block.old → IsOk result }
+{
+    let len = block.body.len();
+    if len == 0 {
+        return add_one(block);
+    }
+    let open = goes_on(&block.body[len - 1]);
+    if open {
+        return add_one(block);
+    }
+    add_within(&mut block.body[len - 1])
+}
+
+fn add_one(block: &mut Block) -> Result<(), AllocError>
+    ensures statements { OnOk result (map statement_view (statements_of block.new) ≡ map statement_view (statements_of block.old) ++ return None ∷ []) }
+    ensures within { OnOk result (map statement_spans (statements_of block.new) ≡ map statement_spans (statements_of block.old) ++ no_block ∷ []) }
+    ensures spans { OnOk result (spans_of block.new ≡ spans_of block.old ++ undefined_span ∷ []) }
+    ensures succeeds { HasOwnRoom block.old → IsOk result }
+{
+    block.push(Statement::Return { value: None }, Span::UNDEFINED)
+}
+
+#[cycle(adds)]
+#[tactic(auto, using(crate::proofs::RoomLemmas::left_true, crate::proofs::RoomLemmas::right_true))]
+fn add_within(statement: &mut Statement) -> Result<(), AllocError>
+    ensures statement { OnOk result (statement_view statement.new ≡ finished (statement_view statement.old)) }
+    ensures spans { OnOk result (statement_spans statement.new ≡ finished_spans (statement_view statement.old) (statement_spans statement.old)) }
+    ensures succeeds { HasRoomWithin statement.old → IsOk result }
+{
+    match statement {
+        Statement::Block(block) => add_returns(block),
+        Statement::If { accept, reject, .. } => {
+            add_returns(accept)?;
+            add_returns(reject)
+        }
+        Statement::Switch { cases, .. } => add_to_cases(cases),
+        _ => Ok(()),
+    }
+}
+
+#[cycle(adds)]
+fn add_to_cases(cases: &mut Vec<SwitchCase>) -> Result<(), AllocError>
+    ensures cases { OnOk result (cases_of (map case_view cases.new.items) ≡ finished_cases (cases_of (map case_view cases.old.items))) }
+    ensures spans { OnOk result (case_spans_of (map case_block_spans cases.new.items) ≡ finished_case_spans (cases_of (map case_view cases.old.items)) (case_spans_of (map case_block_spans cases.old.items))) }
+    ensures succeeds { HasRoomInCases cases.old.items → IsOk result }
+{
+    for index in 0..cases.len() {
+        add_to_case(&mut cases[index])?;
+    }
+    Ok(())
+}
+
+#[cycle(adds)]
+fn add_to_case(case: &mut SwitchCase) -> Result<(), AllocError>
+    ensures case { OnOk result (case_view case.new ≡ finished_case (case_view case.old)) }
+    ensures spans { OnOk result (case_block_spans case.new ≡ finished_case_body (case_view case.old) (case_block_spans case.old)) }
+    ensures succeeds { HasRoomInCase case.old → IsOk result }
+{
+    if case.fall_through {
+        return Ok(());
+    }
+    add_returns(&mut case.body)
+}

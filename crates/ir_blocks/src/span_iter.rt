@@ -1,0 +1,96 @@
+// Going over the statements of a block with their spans.
+ghost use Rattle.std.specs.Prelude.{◌≡◌};
+ghost use Rattle.std.specs.List.{zip};
+ghost use Rattle.ir_blocks.specs.SpanIters.{pairs_to_come};
+
+use crate::statements::Statement;
+use ir_arena::span::Span;
+use std::marker::Model;
+use std::slice;
+
+/// The statements of a block in order, each with its span. In a contract it is the list of those that are still to
+/// come.
+#[derive(Drop)]
+pub struct SpanIter<'a> {
+    statements: &'a [Statement],
+    spans: &'a [Span],
+}
+
+impl<'a> Model for SpanIter<'a> {
+    ghost use Rattle.std.specs.Prelude.{List};
+    ghost use Rattle.std.specs.List.{zip};
+    ghost use Rattle.ir_arena.specs.declared.span.Span.{Span};
+    ghost use Rattle.ir_blocks.specs.declared.statements.Statement.{Statement};
+    ghost use Rattle.ir_blocks.specs.contracts.statements.Statement as e;
+    ghost use Rattle.std.specs.Coded.{codes};
+
+    ghost Value = { List (Statement × Span) };
+
+    ghost coded = { Prim.hlevel (codes, e.the_row.coded) };
+
+    ghost view = { λ i. zip i.statements.now i.spans.now };
+}
+
+impl<'a> SpanIter<'a> {
+    /// An iterator over `statements` and `spans`, as far as both reach.
+    pub(crate) fn new(statements: &'a [Statement], spans: &'a [Span]) -> Self
+        ensures { result ≡ zip statements.now spans.now }
+    {
+        SpanIter { statements, spans }
+    }
+}
+
+impl<'a> Iterator for SpanIter<'a> {
+    ghost use Rattle.std.specs.Iterator.{YieldsFirstBy, item_count};
+    ghost use Rattle.ir_blocks.specs.SpanIters.{with_span};
+
+    type Item = (&'a Statement, &'a Span);
+
+    ghost next_gives = { YieldsFirstBy with_span (λ i. i) };
+
+    ghost remaining = { item_count (λ i. i) };
+
+    fn next(&mut self) -> Option<(&'a Statement, &'a Span)> {
+        let (statement, statements) = self.statements.split_first()?;
+        let (span, spans) = self.spans.split_first()?;
+        self.statements = statements;
+        self.spans = spans;
+        Some((statement, span))
+    }
+}
+
+/// The statements of a block in order, each with its span, to be changed.
+#[derive(Drop)]
+pub struct SpanIterMut<'a> {
+    statements: slice::IterMut<'a, Statement>,
+    spans: slice::IterMut<'a, Span>,
+}
+
+impl<'a> SpanIterMut<'a> {
+    /// An iterator over `statements` and `spans`, as far as both reach.
+    pub(crate) fn new(statements: &'a mut [Statement], spans: &'a mut [Span]) -> Self
+        ensures { pairs_to_come result ≡ zip statements.old spans.old }
+    {
+        SpanIterMut {
+            statements: statements.iter_mut(),
+            spans: spans.iter_mut(),
+        }
+    }
+}
+
+impl<'a> Iterator for SpanIterMut<'a> {
+    ghost use Rattle.std.specs.Iterator.{YieldsFirstBy, item_count};
+    ghost use Rattle.ir_blocks.specs.SpanIters.{pairs_to_come, with_span_to_change};
+
+    type Item = (&'a mut Statement, &'a mut Span);
+
+    ghost next_gives = { YieldsFirstBy with_span_to_change pairs_to_come };
+
+    ghost remaining = { item_count pairs_to_come };
+
+    fn next(&mut self) -> Option<(&'a mut Statement, &'a mut Span)> {
+        let span = self.spans.next()?;
+        let statement = self.statements.next()?;
+        Some((statement, span))
+    }
+}

@@ -1,0 +1,378 @@
+// Statements and the blocks that hold them.
+ghost use Rattle.std.specs.Prelude.{◌≡◌, map, IfOk};
+ghost use Rattle.ir_blocks.specs.View.{statement_view, block_view, case_view, statement_spans, block_spans, case_block_spans, IsAct, IsSharedAct};
+ghost use Rattle.ir_blocks.specs.Spans.{no_block};
+
+use crate::acts::{AtomicFunction, GatherMode, RayPipelineFunction, RayQueryFunction};
+use ir_arena::handle::Handle;
+use ir_arena::range::Range;
+use ir_arena::span::Span;
+use ir_expressions::CooperativeData;
+use ir_flags::Barrier;
+use ir_kinds::{CollectiveOperation, SubgroupOperation, SwitchValue};
+use ir_types::key;
+use std::alloc::{AllocError, Global};
+
+/// Statements in order, each with its span (naga's `Block`).
+#[cycle(body)]
+#[derive(PartialEq, Eq, Hash, Debug, Drop)]
+pub struct Block {
+    pub(crate) body: Vec<Statement>,
+    pub(crate) span_info: Vec<Span>,
+}
+
+/// A case of a switch (naga's `SwitchCase`).
+#[cycle(body)]
+#[derive(PartialEq, Eq, Hash, Debug, Drop)]
+pub struct SwitchCase {
+    /// The value that chooses it.
+    pub value: SwitchValue,
+    /// What it does.
+    pub body: Block,
+    /// Whether the next case goes on where it ends.
+    pub fall_through: bool,
+}
+
+/// One step of a function's body (naga's `Statement`).
+#[cycle(body)]
+#[derive(PartialEq, Eq, Hash, Debug, Drop)]
+pub enum Statement {
+    /// Computes a range of expressions.
+    Emit(Range<key::Expression>),
+    /// Statements with a scope of their own.
+    Block(Block),
+    /// Does one of two blocks.
+    If {
+        /// What chooses: a boolean scalar.
+        condition: Handle<key::Expression>,
+        /// What is done where it holds.
+        accept: Block,
+        /// What is done where it doesn't.
+        reject: Block,
+    },
+    /// Does the case that a value chooses.
+    Switch {
+        /// What chooses: an integer scalar.
+        selector: Handle<key::Expression>,
+        /// The cases in order, one of them the default.
+        cases: Vec<SwitchCase>,
+    },
+    /// Does a body and then a continuing part, again and again.
+    Loop {
+        /// What is done first in each turn.
+        body: Block,
+        /// What is done after it, also where the body is left by `Continue`.
+        continuing: Block,
+        /// What ends the loop after the continuing part where it holds: a boolean scalar.
+        break_if: Option<Handle<key::Expression>>,
+    },
+    /// Leaves the nearest loop or switch.
+    Break,
+    /// Goes on to the continuing part of the nearest loop.
+    Continue,
+    /// Ends the function.
+    Return {
+        /// What the function answers, if it answers something.
+        value: Option<Handle<key::Expression>>,
+    },
+    /// Ends the fragment.
+    Kill,
+    /// Waits for the other invocations, and orders memory.
+    ControlBarrier(Barrier),
+    /// Orders memory.
+    MemoryBarrier(Barrier),
+    /// Writes where a pointer points.
+    Store {
+        /// The pointer.
+        pointer: Handle<key::Expression>,
+        /// What is written.
+        value: Handle<key::Expression>,
+    },
+    /// Writes a texel.
+    ImageStore {
+        /// The image.
+        image: Handle<key::Expression>,
+        /// Which texel.
+        coordinate: Handle<key::Expression>,
+        /// In which layer.
+        array_index: Option<Handle<key::Expression>>,
+        /// What is written.
+        value: Handle<key::Expression>,
+    },
+    /// Changes an atomic at once.
+    Atomic {
+        /// Where it lies.
+        pointer: Handle<key::Expression>,
+        /// What is done.
+        fun: AtomicFunction,
+        /// With what.
+        value: Handle<key::Expression>,
+        /// The `AtomicResult` that stands for what lay there, if it is asked for.
+        result: Option<Handle<key::Expression>>,
+    },
+    /// Changes a texel at once.
+    ImageAtomic {
+        /// The image.
+        image: Handle<key::Expression>,
+        /// Which texel.
+        coordinate: Handle<key::Expression>,
+        /// In which layer.
+        array_index: Option<Handle<key::Expression>>,
+        /// What is done.
+        fun: AtomicFunction,
+        /// With what.
+        value: Handle<key::Expression>,
+    },
+    /// Reads workgroup memory, the same for all of a workgroup.
+    WorkGroupUniformLoad {
+        /// Where it lies.
+        pointer: Handle<key::Expression>,
+        /// The `WorkGroupUniformLoadResult` that stands for what lies there.
+        result: Handle<key::Expression>,
+    },
+    /// Runs another function.
+    Call {
+        /// The function that is run.
+        function: Handle<key::Function>,
+        /// What is passed to it, in order.
+        arguments: Vec<Handle<key::Expression>>,
+        /// The `CallResult` that stands for its answer, if it has one.
+        result: Option<Handle<key::Expression>>,
+    },
+    /// Does something with a ray query.
+    RayQuery {
+        /// A pointer to the query.
+        query: Handle<key::Expression>,
+        /// What is done.
+        fun: RayQueryFunction,
+    },
+    /// Asks all of a subgroup.
+    SubgroupBallot {
+        /// The `SubgroupBallotResult` that stands for the answer.
+        result: Handle<key::Expression>,
+        /// What each says; `true` where there is none.
+        predicate: Option<Handle<key::Expression>>,
+    },
+    /// Computes one thing of what all of a subgroup have.
+    SubgroupCollectiveOperation {
+        /// What is computed.
+        op: SubgroupOperation,
+        /// Of all, or of those before.
+        collective_op: CollectiveOperation,
+        /// What each has.
+        argument: Handle<key::Expression>,
+        /// The `SubgroupOperationResult` that stands for the answer.
+        result: Handle<key::Expression>,
+    },
+    /// Takes what another of the subgroup has.
+    SubgroupGather {
+        /// From which.
+        mode: GatherMode,
+        /// What each has.
+        argument: Handle<key::Expression>,
+        /// The `SubgroupOperationResult` that stands for the answer.
+        result: Handle<key::Expression>,
+    },
+    /// Writes a cooperative matrix to memory.
+    CooperativeStore {
+        /// The matrix.
+        target: Handle<key::Expression>,
+        /// The memory (naga's `data`).
+        block: CooperativeData,
+    },
+    /// Asks something of a pipeline of ray tracing.
+    RayPipelineFunction(RayPipelineFunction),
+}
+
+impl Block {
+    /// An equal block in memory of its own. The error is want of memory.
+    #[cycle(copies)]
+    pub fn clone(&self, alloc: Global) -> Result<Block, AllocError>
+        ensures statements { IfOk result (λ copy. block_view copy ≡ block_view self.now) }
+        ensures spans { IfOk result (λ copy. block_spans copy ≡ block_spans self.now) }
+    {
+        let mut body = Vec::with_capacity(alloc, self.body.len())?;
+        for statement in &self.body {
+            body.push(statement.clone(alloc)?)?;
+        }
+        let span_info = Vec::from_slice(alloc, &self.span_info)?;
+        Ok(Block { body, span_info })
+    }
+}
+
+impl SwitchCase {
+    /// An equal case in memory of its own. The error is want of memory.
+    #[cycle(copies)]
+    pub fn clone(&self, alloc: Global) -> Result<SwitchCase, AllocError>
+        ensures case { IfOk result (λ copy. case_view copy ≡ case_view self.now) }
+        ensures spans { IfOk result (λ copy. case_block_spans copy ≡ case_block_spans self.now) }
+    {
+        Ok(SwitchCase {
+            value: self.value,
+            body: self.body.clone(alloc)?,
+            fall_through: self.fall_through,
+        })
+    }
+}
+
+impl Statement {
+    /// An equal statement in memory of its own. The error is want of memory.
+    #[cycle(copies)]
+    pub fn clone(&self, alloc: Global) -> Result<Statement, AllocError>
+        ensures statement { IfOk result (λ copy. statement_view copy ≡ statement_view self.now) }
+        ensures spans { IfOk result (λ copy. statement_spans copy ≡ statement_spans self.now) }
+    {
+        match self {
+            Statement::Emit(range) => Ok(Statement::Emit(range.clone()?)),
+            Statement::Block(block) => Ok(Statement::Block(block.clone(alloc)?)),
+            Statement::If {
+                condition,
+                accept,
+                reject,
+            } => Ok(Statement::If {
+                condition: *condition,
+                accept: accept.clone(alloc)?,
+                reject: reject.clone(alloc)?,
+            }),
+            Statement::Switch { selector, cases } => Ok(Statement::Switch {
+                selector: *selector,
+                cases: clone_cases(alloc, cases)?,
+            }),
+            Statement::Loop {
+                body,
+                continuing,
+                break_if,
+            } => Ok(Statement::Loop {
+                body: body.clone(alloc)?,
+                continuing: continuing.clone(alloc)?,
+                break_if: *break_if,
+            }),
+            Statement::Break => Ok(Statement::Break),
+            Statement::Continue => Ok(Statement::Continue),
+            Statement::Return { value } => Ok(Statement::Return { value: *value }),
+            Statement::Kill => Ok(Statement::Kill),
+            Statement::Call {
+                function,
+                arguments,
+                result,
+            } => Ok(Statement::Call {
+                function: *function,
+                arguments: Vec::from_slice(alloc, arguments)?,
+                result: *result,
+            }),
+            act => Ok(act.copy_act()),
+        }
+    }
+
+    // An equal statement, where it steers nothing and holds no list.
+    fn copy_act(&self) -> Statement
+        requires { IsAct (statement_view self.now) }
+        ensures statement { statement_view result ≡ statement_view self.now }
+        ensures spans { statement_spans result ≡ no_block }
+    {
+        match *self {
+            Statement::ControlBarrier(barrier) => Statement::ControlBarrier(barrier),
+            Statement::MemoryBarrier(barrier) => Statement::MemoryBarrier(barrier),
+            Statement::Store { pointer, value } => Statement::Store { pointer, value },
+            Statement::ImageStore {
+                image,
+                coordinate,
+                array_index,
+                value,
+            } => Statement::ImageStore {
+                image,
+                coordinate,
+                array_index,
+                value,
+            },
+            Statement::Atomic {
+                pointer,
+                fun,
+                value,
+                result: answer,
+            } => Statement::Atomic {
+                pointer,
+                fun,
+                value,
+                result: answer,
+            },
+            Statement::ImageAtomic {
+                image,
+                coordinate,
+                array_index,
+                fun,
+                value,
+            } => Statement::ImageAtomic {
+                image,
+                coordinate,
+                array_index,
+                fun,
+                value,
+            },
+            Statement::WorkGroupUniformLoad {
+                pointer,
+                result: answer,
+            } => Statement::WorkGroupUniformLoad {
+                pointer,
+                result: answer,
+            },
+            _ => self.copy_shared_act(),
+        }
+    }
+
+    // An equal act of rays, of subgroups or of cooperative matrices.
+    fn copy_shared_act(&self) -> Statement
+        requires { IsSharedAct (statement_view self.now) }
+        ensures statement { statement_view result ≡ statement_view self.now }
+        ensures spans { statement_spans result ≡ no_block }
+    {
+        match *self {
+            Statement::RayQuery { query, fun } => Statement::RayQuery { query, fun },
+            Statement::SubgroupBallot {
+                result: answer,
+                predicate,
+            } => Statement::SubgroupBallot {
+                result: answer,
+                predicate,
+            },
+            Statement::SubgroupCollectiveOperation {
+                op,
+                collective_op,
+                argument,
+                result: answer,
+            } => Statement::SubgroupCollectiveOperation {
+                op,
+                collective_op,
+                argument,
+                result: answer,
+            },
+            Statement::SubgroupGather {
+                mode,
+                argument,
+                result: answer,
+            } => Statement::SubgroupGather {
+                mode,
+                argument,
+                result: answer,
+            },
+            Statement::CooperativeStore { target, block } => Statement::CooperativeStore {
+                target,
+                block,
+            },
+            Statement::RayPipelineFunction(fun) => Statement::RayPipelineFunction(fun),
+            _ => unreachable!(),
+        }
+    }
+}
+
+#[cycle(copies)]
+fn clone_cases(alloc: Global, cases: &[SwitchCase]) -> Result<Vec<SwitchCase>, AllocError>
+    ensures cases { IfOk result (λ copies. map case_view copies.items ≡ map case_view cases.now) }
+    ensures spans { IfOk result (λ copies. map case_block_spans copies.items ≡ map case_block_spans cases.now) }
+{
+    let mut copies = Vec::with_capacity(alloc, cases.len())?;
+    for case in cases {
+        copies.push(case.clone(alloc)?)?;
+    }
+    Ok(copies)
+}

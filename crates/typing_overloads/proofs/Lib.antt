@@ -1,0 +1,3 @@
+pub mod Arity
+pub mod Kept
+pub mod Masks

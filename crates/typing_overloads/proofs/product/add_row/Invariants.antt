@@ -1,0 +1,7 @@
+use Rattle.std.proofs.Common.{◌≡◌, ◌++◌}
+use Rattle.overload_tables.specs.Tables.{row}
+use Rattle.constructor_sets.specs.Members.{scalars_in}
+use Rattle.typing_overloads.proofs.product.add_row.Given as goal
+
+abbrev pub invariant-loop-scalar : goal.invariant-loop-scalar
+invariant-loop-scalar l = l.rules.items ++ row l.pattern l.scalar-iterator l.size ≡ l.initial.rules.items ++ row l.pattern (scalars_in l.fn.scalars.0) l.size

@@ -1,0 +1,74 @@
+-- Rules that are made of each of some shapes with each of some scalars, and what each asks for at a place.
+use Rattle.std.specs.Prelude.{List, [], ◌∷◌, Bool, true, not}
+use Rattle.ir_kinds.specs.declared.scalars.Scalar.{Scalar}
+use Rattle.overload_tables.specs.declared.patterns.Pattern.{Pattern}
+use Rattle.overload_tables.specs.declared.patterns.Pattern.TheVariants as pattern
+use Rattle.overload_tables.specs.declared.rules.ConstructorSize.{ConstructorSize}
+use Rattle.overload_tables.specs.declared.rules.ConstructorSize.TheVariants as size
+use Rattle.overload_tables.specs.declared.rules.Rule.{Rule}
+use Rattle.overload_tables.specs.declared.rules.ValueType.{ValueType}
+use Rattle.overload_tables.specs.Ranks.{is_abstract_kind}
+use Rattle.overload_tables.specs.Tables.{i32, u32, column_size, row_size, rules_over}
+use Rattle.overload_tables.specs.Types.{value_type}
+use Rattle.constructor_sets.specs.Members.{scalars_in, sizes_in}
+use Rattle.typing_overloads.specs.declared.asked.Asked.{Asked}
+use Rattle.typing_overloads.specs.declared.asked.AskedScalar.{AskedScalar}
+use Rattle.typing_overloads.specs.declared.asked.AskedScalar.TheVariants as scalars
+use Rattle.typing_overloads.specs.declared.asked.AskedSize.{AskedSize}
+use Rattle.typing_overloads.specs.declared.asked.AskedSize.TheVariants as sizes
+use Rattle.typing_overloads.specs.declared.product.Product.{Product}
+
+-- ---- what a rule asks for
+
+-- the shape, of the shape that the rule is made of
+abbrev pub asked_size : AskedSize → ConstructorSize → ConstructorSize
+asked_size sizes.Same n = n
+asked_size sizes.Scalar n = size.Scalar
+asked_size sizes.Column n = column_size n
+asked_size sizes.Row n = row_size n
+
+-- the scalar, of the scalar that the rule is made of
+abbrev pub asked_scalar : AskedScalar → Scalar → Scalar
+asked_scalar scalars.Same s = s
+asked_scalar scalars.I32 s = i32
+asked_scalar scalars.U32 s = u32
+
+abbrev pub asked_type : ConstructorSize → Scalar → Asked → ValueType
+asked_type n s a = value_type (asked_size a.size n) (asked_scalar a.scalar s)
+
+abbrev pub own : Asked
+own = record { size = sizes.Same; scalar = scalars.Same }
+
+abbrev pub word : Asked
+word = record { size = sizes.Scalar; scalar = scalars.U32 }
+
+-- what the rules of a pattern ask for, in order
+abbrev pub asked_by : Pattern → List Asked
+asked_by pattern.Same = own ∷ []
+asked_by pattern.SameTwo = own ∷ own ∷ []
+asked_by pattern.SameThree = own ∷ own ∷ own ∷ []
+asked_by pattern.ToScalar = own ∷ []
+asked_by pattern.TwoToScalar = own ∷ own ∷ []
+asked_by pattern.WithScalar = own ∷ own ∷ record { size = sizes.Scalar; scalar = scalars.Same } ∷ []
+asked_by pattern.WithExponent = own ∷ record { size = sizes.Same; scalar = scalars.I32 } ∷ []
+asked_by pattern.WithRange = own ∷ word ∷ word ∷ []
+asked_by pattern.TwoWithRange = own ∷ own ∷ word ∷ word ∷ []
+asked_by pattern.ToFraction = own ∷ []
+asked_by pattern.ToExponent = own ∷ []
+asked_by pattern.ToOuter = record { size = sizes.Column; scalar = scalars.Same } ∷ record { size = sizes.Row; scalar = scalars.Same } ∷ []
+asked_by pattern.ToTransposed = own ∷ []
+asked_by pattern.ToWord = own ∷ []
+asked_by pattern.FromWord = word ∷ []
+asked_by pattern.FromTwoWords = word ∷ word ∷ []
+
+-- whether a rule of the pattern that is made of the scalar asks for no abstract one
+abbrev pub all_concrete : Pattern → Scalar → Bool
+all_concrete pattern.FromWord s = true
+all_concrete pattern.FromTwoWords s = true
+all_concrete p s = not (is_abstract_kind s.kind)
+
+-- ---- the rules of a product
+
+-- each of the shapes with each of the scalars: by shape, then by scalar
+abbrev pub rules_of : Product → List Rule
+rules_of p = rules_over p.pattern (scalars_in p.scalars.0) (sizes_in p.sizes.0)

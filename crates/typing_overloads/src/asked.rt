@@ -1,0 +1,258 @@
+//! What the rules of a pattern ask for at each place, and which of them take a type there.
+
+ghost use Rattle.std.specs.Prelude.{◌≡◌, ◌==◌, is_some, length, map, slice_get};
+ghost use Rattle.overload_tables.specs.Tables.{column_size, row_size};
+ghost use Rattle.overload_tables.specs.Types.{constructor_place};
+ghost use Rattle.typing_forms.specs.Ranks.{rank};
+ghost use Rattle.constructor_sets.specs.Bits.{marks};
+ghost use Rattle.constructor_sets.specs.Members.{scalars, sizes};
+ghost use Rattle.typing_overloads.specs.Products.{asked_size, asked_scalar, asked_by, all_concrete};
+
+use constructor_sets::{ConstructorSet, ScalarSet};
+use ir_kinds::{Scalar, VectorSize};
+use overload_tables::{ConstructorSize, Pattern};
+use typing_forms::conversion_rank;
+
+/// The shape that a rule asks for.
+#[derive(Clone, Copy, Debug)]
+pub(crate) enum AskedSize {
+    /// The one that it is made of.
+    Same,
+    /// One scalar.
+    Scalar,
+    /// A vector with one component for each column.
+    Column,
+    /// A vector with one component for each row.
+    Row,
+}
+
+/// The scalar that a rule asks for.
+#[derive(Clone, Copy, Debug)]
+pub(crate) enum AskedScalar {
+    /// The one that it is made of.
+    Same,
+    /// A 32-bit signed integer.
+    I32,
+    /// A 32-bit unsigned integer.
+    U32,
+}
+
+/// The type that a rule asks for at a place.
+#[derive(Clone, Copy, Debug)]
+pub(crate) struct Asked {
+    /// Its shape.
+    pub size: AskedSize,
+    /// Its scalar.
+    pub scalar: AskedScalar,
+}
+
+const OWN: Asked = Asked {
+    size: AskedSize::Same,
+    scalar: AskedScalar::Same,
+};
+
+const FACTOR: Asked = Asked {
+    size: AskedSize::Scalar,
+    scalar: AskedScalar::Same,
+};
+
+const EXPONENT: Asked = Asked {
+    size: AskedSize::Same,
+    scalar: AskedScalar::I32,
+};
+
+const WORD: Asked = Asked {
+    size: AskedSize::Scalar,
+    scalar: AskedScalar::U32,
+};
+
+const COLUMN: Asked = Asked {
+    size: AskedSize::Column,
+    scalar: AskedScalar::Same,
+};
+
+const ROW: Asked = Asked {
+    size: AskedSize::Row,
+    scalar: AskedScalar::Same,
+};
+
+const ONE: [Asked; 1] = [OWN];
+
+const TWO: [Asked; 2] = [OWN, OWN];
+
+const THREE: [Asked; 3] = [OWN, OWN, OWN];
+
+const WITH_SCALAR: [Asked; 3] = [OWN, OWN, FACTOR];
+
+const WITH_EXPONENT: [Asked; 2] = [OWN, EXPONENT];
+
+const WITH_RANGE: [Asked; 3] = [OWN, WORD, WORD];
+
+const TWO_WITH_RANGE: [Asked; 4] = [OWN, OWN, WORD, WORD];
+
+const OUTER: [Asked; 2] = [COLUMN, ROW];
+
+const ONE_WORD: [Asked; 1] = [WORD];
+
+const TWO_WORDS: [Asked; 2] = [WORD, WORD];
+
+/// What the rules of a pattern ask for, in order.
+pub(crate) const fn asked_by(pattern: Pattern) -> &'static [Asked]
+    ensures { result.now ≡ asked_by pattern }
+{
+    match pattern {
+        Pattern::Same
+        | Pattern::ToScalar
+        | Pattern::ToFraction
+        | Pattern::ToExponent
+        | Pattern::ToTransposed
+        | Pattern::ToWord => &ONE,
+        Pattern::SameTwo | Pattern::TwoToScalar => &TWO,
+        Pattern::SameThree => &THREE,
+        Pattern::WithScalar => &WITH_SCALAR,
+        Pattern::WithExponent => &WITH_EXPONENT,
+        Pattern::WithRange => &WITH_RANGE,
+        Pattern::TwoWithRange => &TWO_WITH_RANGE,
+        Pattern::ToOuter => &OUTER,
+        Pattern::FromWord => &ONE_WORD,
+        Pattern::FromTwoWords => &TWO_WORDS,
+    }
+}
+
+/// What the rules of a pattern ask for at a place, counted from 0, or `None` where they have no such argument.
+pub(crate) fn asked_at(pattern: Pattern, place: usize) -> Option<Asked>
+    ensures { result ≡ slice_get (asked_by pattern) place }
+{
+    asked_by(pattern).get(place).copied()
+}
+
+const NO_SCALAR: ScalarSet = ScalarSet(0);
+
+const ALL_SCALARS: ScalarSet = ScalarSet(ScalarSet::NUMERIC.0 | ScalarSet::BOOL.0);
+
+const NO_SIZE: ConstructorSet = ConstructorSet(0);
+
+// All shapes: the thirteen lowest bits.
+const ALL_SIZES: ConstructorSet = ConstructorSet(8191);
+
+const TWO_COLUMNS: ConstructorSet = ConstructorSet(
+    ConstructorSet::VEC2.0
+        | ConstructorSet::MAT2X2.0
+        | ConstructorSet::MAT2X3.0
+        | ConstructorSet::MAT2X4.0,
+);
+
+const THREE_COLUMNS: ConstructorSet = ConstructorSet(
+    ConstructorSet::VEC3.0
+        | ConstructorSet::MAT3X2.0
+        | ConstructorSet::MAT3X3.0
+        | ConstructorSet::MAT3X4.0,
+);
+
+const FOUR_COLUMNS: ConstructorSet = ConstructorSet(
+    ConstructorSet::VEC4.0
+        | ConstructorSet::MAT4X2.0
+        | ConstructorSet::MAT4X3.0
+        | ConstructorSet::MAT4X4.0,
+);
+
+const TWO_ROWS: ConstructorSet = ConstructorSet(
+    ConstructorSet::VEC2.0
+        | ConstructorSet::MAT2X2.0
+        | ConstructorSet::MAT3X2.0
+        | ConstructorSet::MAT4X2.0,
+);
+
+const THREE_ROWS: ConstructorSet = ConstructorSet(
+    ConstructorSet::VEC3.0
+        | ConstructorSet::MAT2X3.0
+        | ConstructorSet::MAT3X3.0
+        | ConstructorSet::MAT4X3.0,
+);
+
+const FOUR_ROWS: ConstructorSet = ConstructorSet(
+    ConstructorSet::VEC4.0
+        | ConstructorSet::MAT2X4.0
+        | ConstructorSet::MAT3X4.0
+        | ConstructorSet::MAT4X4.0,
+);
+
+impl AskedSize {
+    /// The shapes of which rules are made that ask for the shape `given` here.
+    pub const fn taking(self, given: ConstructorSize) -> ConstructorSet
+        ensures { marks result.0 sizes ≡ map (λ n. constructor_place given == constructor_place (asked_size self n)) sizes }
+    {
+        match self {
+            AskedSize::Same => ConstructorSet(1 << given.place()),
+            AskedSize::Scalar => all_or_none(given),
+            AskedSize::Column => with_columns(given),
+            AskedSize::Row => with_rows(given),
+        }
+    }
+}
+
+// All shapes where the one that is given is a scalar.
+const fn all_or_none(given: ConstructorSize) -> ConstructorSet
+    ensures { marks result.0 sizes ≡ map (λ n. constructor_place given == 0) sizes }
+{
+    match given {
+        ConstructorSize::Scalar => ALL_SIZES,
+        ConstructorSize::Vector(_) | ConstructorSize::Matrix { .. } => NO_SIZE,
+    }
+}
+
+// The shapes with so many columns.
+const fn with_columns(given: ConstructorSize) -> ConstructorSet
+    ensures { marks result.0 sizes ≡ map (λ n. constructor_place given == constructor_place (column_size n)) sizes }
+{
+    match given {
+        ConstructorSize::Scalar => ConstructorSet::SCALAR,
+        ConstructorSize::Vector(VectorSize::Bi) => TWO_COLUMNS,
+        ConstructorSize::Vector(VectorSize::Tri) => THREE_COLUMNS,
+        ConstructorSize::Vector(VectorSize::Quad) => FOUR_COLUMNS,
+        ConstructorSize::Matrix { .. } => NO_SIZE,
+    }
+}
+
+// The shapes with so many rows.
+const fn with_rows(given: ConstructorSize) -> ConstructorSet
+    ensures { marks result.0 sizes ≡ map (λ n. constructor_place given == constructor_place (row_size n)) sizes }
+{
+    match given {
+        ConstructorSize::Scalar => ConstructorSet::SCALAR,
+        ConstructorSize::Vector(VectorSize::Bi) => TWO_ROWS,
+        ConstructorSize::Vector(VectorSize::Tri) => THREE_ROWS,
+        ConstructorSize::Vector(VectorSize::Quad) => FOUR_ROWS,
+        ConstructorSize::Matrix { .. } => NO_SIZE,
+    }
+}
+
+impl AskedScalar {
+    /// The scalars of which rules are made that take the scalar `given` here.
+    pub fn taking(self, given: Scalar) -> ScalarSet
+        ensures { marks result.0 scalars ≡ map (λ s. is_some (rank given (asked_scalar self s))) scalars }
+    {
+        match self {
+            AskedScalar::Same => ScalarSet::convertible_from(given),
+            AskedScalar::I32 => all_if(conversion_rank(given, Scalar::I32).is_some()),
+            AskedScalar::U32 => all_if(conversion_rank(given, Scalar::U32).is_some()),
+        }
+    }
+}
+
+// All scalars, or none.
+const fn all_if(holds: bool) -> ScalarSet
+    ensures { marks result.0 scalars ≡ map (λ s. holds) scalars }
+{
+    if holds { ALL_SCALARS } else { NO_SCALAR }
+}
+
+/// The scalars of which rules of the pattern are made that have no abstract argument.
+pub(crate) const fn concrete_scalars(pattern: Pattern) -> ScalarSet
+    ensures { marks result.0 scalars ≡ map (λ s. all_concrete pattern s) scalars }
+{
+    match pattern {
+        Pattern::FromWord | Pattern::FromTwoWords => ALL_SCALARS,
+        _ => ScalarSet::CONCRETE,
+    }
+}
