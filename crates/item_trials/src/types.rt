@@ -36,8 +36,8 @@ pub fn struct_type(alloc: Global) -> Result<IrType, AllocError> {
     named(alloc, "Lights", TypeInner::Struct { members, span: 32 })
 }
 
-fn plain_inners(alloc: Global) -> Result<Vec<TypeInner>, AllocError> {
-    let mut inners = Vec::new(alloc);
+// Two numbers, a matrix and a matrix of a group.
+fn of_scalars(inners: &mut Vec<TypeInner>) -> Result<(), AllocError> {
     inners.push(TypeInner::Scalar(Scalar::F32))?;
     inners.push(TypeInner::Vector {
         size: VectorSize::Tri,
@@ -54,6 +54,11 @@ fn plain_inners(alloc: Global) -> Result<Vec<TypeInner>, AllocError> {
         scalar: Scalar::F32,
         role: CooperativeRole::B,
     })?;
+    Ok(())
+}
+
+// What lies in memory, and what points there.
+fn of_memory(inners: &mut Vec<TypeInner>) -> Result<(), AllocError> {
     inners.push(TypeInner::Atomic(Scalar::U32))?;
     inners.push(TypeInner::Pointer {
         base: Handle::at(3),
@@ -66,6 +71,10 @@ fn plain_inners(alloc: Global) -> Result<Vec<TypeInner>, AllocError> {
             access: StorageAccess::LOAD,
         },
     })?;
+    Ok(())
+}
+
+fn arrays(inners: &mut Vec<TypeInner>) -> Result<(), AllocError> {
     inners.push(TypeInner::Array {
         base: Handle::at(0),
         size: ArraySize::Constant(4),
@@ -76,6 +85,15 @@ fn plain_inners(alloc: Global) -> Result<Vec<TypeInner>, AllocError> {
         size: ArraySize::Dynamic,
         stride: 16,
     })?;
+    inners.push(TypeInner::BindingArray {
+        base: Handle::at(2),
+        size: ArraySize::Pending(Handle::at(1)),
+    })?;
+    Ok(())
+}
+
+// What a host hands over.
+fn resources(inners: &mut Vec<TypeInner>) -> Result<(), AllocError> {
     inners.push(TypeInner::Image {
         dim: ImageDimension::D2,
         arrayed: true,
@@ -91,10 +109,16 @@ fn plain_inners(alloc: Global) -> Result<Vec<TypeInner>, AllocError> {
     inners.push(TypeInner::RayQuery {
         vertex_return: true,
     })?;
-    inners.push(TypeInner::BindingArray {
-        base: Handle::at(2),
-        size: ArraySize::Pending(Handle::at(1)),
-    })?;
+    Ok(())
+}
+
+// Every kind but a struct.
+fn plain_inners(alloc: Global) -> Result<Vec<TypeInner>, AllocError> {
+    let mut inners = Vec::new(alloc);
+    of_scalars(&mut inners)?;
+    of_memory(&mut inners)?;
+    arrays(&mut inners)?;
+    resources(&mut inners)?;
     Ok(inners)
 }
 
