@@ -6,6 +6,7 @@ mod entries;
 mod functions;
 pub mod laws;
 mod module;
+mod module_lists;
 
 pub use entries::{EntryPoint, MeshStageInfo};
 pub use functions::{Function, FunctionArgument, FunctionResult, LocalVariable};

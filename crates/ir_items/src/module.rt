@@ -5,13 +5,13 @@ ghost use Rattle.ir_items.specs.View.{module_view, empty_module};
 
 use crate::entries::EntryPoint;
 use crate::functions::Function;
+use crate::module_lists::{CodeLists, GlobalLists};
 use ir_arena::arena::Arena;
 use ir_arena::handle::Handle;
 use ir_arena::unique_arena::UniqueArena;
 use ir_expressions::Expression;
 use ir_globals::{
-    Constant, DiagnosticFilterNode, GlobalVariable, Override, SpecialTypes, copy_arena, copy_list,
-    copy_types,
+    Constant, DiagnosticFilterNode, GlobalVariable, Override, SpecialTypes, copy_types,
 };
 use ir_types::{IrType, key};
 use std::alloc::{AllocError, Global};
@@ -77,16 +77,20 @@ impl Module {
     pub fn clone(&self, alloc: Global) -> Result<Module, AllocError>
         ensures { IfOk result (λ copy. spanned_module copy ≡ spanned_module self.now) }
     {
+        let types = copy_types(alloc, &self.types)?;
+        let special_types = self.special_types.clone(alloc)?;
+        let globals = GlobalLists::of_copies(alloc, self)?;
+        let code = CodeLists::of_copies(alloc, self)?;
         Ok(Module {
-            types: copy_types(alloc, &self.types)?,
-            special_types: self.special_types.clone(alloc)?,
-            constants: copy_arena(alloc, &self.constants)?,
-            overrides: copy_arena(alloc, &self.overrides)?,
-            global_variables: copy_arena(alloc, &self.global_variables)?,
-            global_expressions: copy_arena(alloc, &self.global_expressions)?,
-            functions: copy_arena(alloc, &self.functions)?,
-            entry_points: copy_list(alloc, &self.entry_points)?,
-            diagnostic_filters: copy_arena(alloc, &self.diagnostic_filters)?,
+            types,
+            special_types,
+            constants: globals.constants,
+            overrides: globals.overrides,
+            global_variables: globals.variables,
+            global_expressions: globals.expressions,
+            functions: code.functions,
+            entry_points: code.entry_points,
+            diagnostic_filters: code.filters,
             diagnostic_filter_leaf: self.diagnostic_filter_leaf,
         })
     }

@@ -1,5 +1,4 @@
-use Rattle.std.proofs.Common.{map, refl, ap, ◌∙◌}
-use Rattle.ir_items.specs.Copies.{spanned_entry}
+use Rattle.std.proofs.Common.{refl}
 use Rattle.ir_items.specs.declared.module.Module.{Module}
 use Rattle.ir_items.proofs.CopyLemmas.{same_module}
 use Rattle.ir_items.proofs.module.Module.clone.Goals as goal
@@ -7,16 +6,16 @@ use Rattle.ir_items.proofs.module.Module.clone.Goals as goal
 pub returns : goal.returns
 returns c =
     let copy : Module = record {
-      types = c.in_ok-copy_types.field-0;
-      special_types = c.in_ok-clone.field-0;
-      constants = c.in_ok-copy_arena.field-0;
-      overrides = c.in_ok-copy_arena-2.field-0;
-      global_variables = c.in_ok-copy_arena-3.field-0;
-      global_expressions = c.in_ok-copy_arena-4.field-0;
-      functions = c.in_ok-copy_arena-5.field-0;
-      entry_points = c.in_ok-copy_list.field-0;
-      diagnostic_filters = c.in_ok-copy_arena-6.field-0;
+      types = c.in_ok-types.types;
+      special_types = c.in_ok-special_types.special_types;
+      constants = c.in_ok-globals.globals.constants;
+      overrides = c.in_ok-globals.globals.overrides;
+      global_variables = c.in_ok-globals.globals.variables;
+      global_expressions = c.in_ok-globals.globals.expressions;
+      functions = c.in_ok-code.code.functions;
+      entry_points = c.in_ok-code.code.entry_points;
+      diagnostic_filters = c.in_ok-code.code.filters;
       diagnostic_filter_leaf = c.args.self.now.diagnostic_filter_leaf;
     } in
-    same_module copy c.args.self.now c.in_ok-copy_types.ensures c.in_ok-clone.ensures c.in_ok-copy_arena.ensures c.in_ok-copy_arena-2.ensures c.in_ok-copy_arena-3.ensures c.in_ok-copy_arena-4.ensures
-    c.in_ok-copy_arena-5.ensures (c.in_ok-copy_list.ensures ∙ ap (map spanned_entry) c.deref.ensures.value) c.in_ok-copy_arena-6.ensures refl
+    same_module copy c.args.self.now c.in_ok-types.ensures c.in_ok-special_types.ensures c.in_ok-globals.ensures.constants c.in_ok-globals.ensures.overrides c.in_ok-globals.ensures.variables
+    c.in_ok-globals.ensures.expressions c.in_ok-code.ensures.functions c.in_ok-code.ensures.entries c.in_ok-code.ensures.filters refl

@@ -1,0 +1,64 @@
+// The lists of a module in two parts, each of which is copied by itself.
+ghost use Rattle.std.specs.Prelude.{◌≡◌, IfOk, map};
+ghost use Rattle.ir_expressions.specs.Plain.{expression_view};
+ghost use Rattle.ir_globals.specs.Copies.{entry_of};
+ghost use Rattle.ir_globals.specs.View.{constant_view, override_view, global_view, node_view};
+ghost use Rattle.ir_items.specs.Copies.{spanned_function, spanned_entry};
+
+use crate::entries::EntryPoint;
+use crate::functions::Function;
+use crate::module::Module;
+use ir_arena::arena::Arena;
+use ir_expressions::Expression;
+use ir_globals::{Constant, DiagnosticFilterNode, GlobalVariable, Override, copy_arena, copy_list};
+use ir_types::key;
+use std::alloc::{AllocError, Global};
+
+// The constants, overrides and variables, and what they begin as.
+#[derive(Drop)]
+pub(crate) struct GlobalLists {
+    pub(crate) constants: Arena<Constant, key::Constant>,
+    pub(crate) overrides: Arena<Override, key::Override>,
+    pub(crate) variables: Arena<GlobalVariable, key::GlobalVariable>,
+    pub(crate) expressions: Arena<Expression, key::Expression>,
+}
+
+// The functions, the entry points, and the filters of diagnostics.
+#[derive(Drop)]
+pub(crate) struct CodeLists {
+    pub(crate) functions: Arena<Function, key::Function>,
+    pub(crate) entry_points: Vec<EntryPoint>,
+    pub(crate) filters: Arena<DiagnosticFilterNode, key::DiagnosticFilterNode>,
+}
+
+impl GlobalLists {
+    // Those of `source` in memory of their own, with the same spans. The error is want of memory.
+    pub(crate) fn of_copies(alloc: Global, source: &Module) -> Result<GlobalLists, AllocError>
+        ensures constants { IfOk result (λ l. map (entry_of constant_view) l.constants ≡ map (entry_of constant_view) source.now.constants) }
+        ensures overrides { IfOk result (λ l. map (entry_of override_view) l.overrides ≡ map (entry_of override_view) source.now.overrides) }
+        ensures variables { IfOk result (λ l. map (entry_of global_view) l.variables ≡ map (entry_of global_view) source.now.global_variables) }
+        ensures expressions { IfOk result (λ l. map (entry_of expression_view) l.expressions ≡ map (entry_of expression_view) source.now.global_expressions) }
+    {
+        Ok(GlobalLists {
+            constants: copy_arena(alloc, &source.constants)?,
+            overrides: copy_arena(alloc, &source.overrides)?,
+            variables: copy_arena(alloc, &source.global_variables)?,
+            expressions: copy_arena(alloc, &source.global_expressions)?,
+        })
+    }
+}
+
+impl CodeLists {
+    // Those of `source` in memory of their own, with the same spans. The error is want of memory.
+    pub(crate) fn of_copies(alloc: Global, source: &Module) -> Result<CodeLists, AllocError>
+        ensures functions { IfOk result (λ l. map (entry_of spanned_function) l.functions ≡ map (entry_of spanned_function) source.now.functions) }
+        ensures entries { IfOk result (λ l. map spanned_entry l.entry_points.items ≡ map spanned_entry source.now.entry_points.items) }
+        ensures filters { IfOk result (λ l. map (entry_of node_view) l.filters ≡ map (entry_of node_view) source.now.diagnostic_filters) }
+    {
+        Ok(CodeLists {
+            functions: copy_arena(alloc, &source.functions)?,
+            entry_points: copy_list(alloc, &source.entry_points)?,
+            filters: copy_arena(alloc, &source.diagnostic_filters)?,
+        })
+    }
+}
