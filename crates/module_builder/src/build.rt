@@ -5,6 +5,7 @@ ghost use Rattle.document_model.specs.Distinct.{AreDistinct};
 ghost use Rattle.document_model.specs.View.{settings_view, document_view};
 
 use crate::arenas::{arena_of, types_of};
+use crate::global_arenas::GlobalArenas;
 use document_model::{Document, Settings};
 use ir_items::Module;
 use std::alloc::{AllocError, Global};
@@ -17,16 +18,26 @@ pub fn into_module(alloc: Global, document: Document) -> Result<(Settings, Modul
     ensures settings { IfOk result (λ t. settings_view t.0 ≡ (document_view document).settings) }
     ensures content { IfOk result (λ t. module_view t.1 ≡ (document_view document).content) }
 {
+    let types = types_of(alloc, &document.types)?;
+    let globals = GlobalArenas::new(
+        alloc,
+        document.constants,
+        document.overrides,
+        document.global_variables,
+        document.global_expressions,
+    )?;
+    let functions = arena_of(alloc, document.functions)?;
+    let diagnostic_filters = arena_of(alloc, document.diagnostic_filters)?;
     let module = Module {
-        types: types_of(alloc, &document.types)?,
+        types,
         special_types: document.special_types,
-        constants: arena_of(alloc, document.constants)?,
-        overrides: arena_of(alloc, document.overrides)?,
-        global_variables: arena_of(alloc, document.global_variables)?,
-        global_expressions: arena_of(alloc, document.global_expressions)?,
-        functions: arena_of(alloc, document.functions)?,
+        constants: globals.constants,
+        overrides: globals.overrides,
+        global_variables: globals.variables,
+        global_expressions: globals.expressions,
+        functions,
         entry_points: document.entry_points,
-        diagnostic_filters: arena_of(alloc, document.diagnostic_filters)?,
+        diagnostic_filters,
         diagnostic_filter_leaf: document.diagnostic_filter_leaf,
     };
     Ok((document.settings, module))

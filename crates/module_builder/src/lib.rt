@@ -3,5 +3,6 @@
 
 mod arenas;
 mod build;
+mod global_arenas;
 
 pub use build::{build_module, into_module};
