@@ -53,16 +53,26 @@ pub struct Document {
     pub entry_points: Vec<EntryPoint>,
 }
 
+fn copy_words<T: Copy>(alloc: Global, words: &[T]) -> Result<Vec<T>, AllocError>
+    ensures { IfOk result (λ copy. copy.items ≡ words.now) }
+{
+    let mut copy = Vec::with_capacity(alloc, words.len())?;
+    for word in words {
+        copy.push(*word)?;
+    }
+    Ok(copy)
+}
+
 impl Settings {
     /// The same in memory of its own. The error is want of memory.
     pub fn clone(&self, alloc: Global) -> Result<Settings, AllocError>
         ensures { IfOk result (λ copy. settings_view copy ≡ settings_view self.now) }
     {
         Ok(Settings {
-            flags: self.flags.as_slice().to_vec(alloc)?,
-            capabilities: self.capabilities.as_slice().to_vec(alloc)?,
-            stages: self.stages.as_slice().to_vec(alloc)?,
-            operations: self.operations.as_slice().to_vec(alloc)?,
+            flags: copy_words(alloc, &self.flags)?,
+            capabilities: copy_words(alloc, &self.capabilities)?,
+            stages: copy_words(alloc, &self.stages)?,
+            operations: copy_words(alloc, &self.operations)?,
             returns: self.returns,
         })
     }
