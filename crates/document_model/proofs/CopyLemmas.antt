@@ -1,29 +1,12 @@
 -- A document is copied list by list.
-use Rattle.std.proofs.Common.{◌≡◌, List, [], ◌∷◌, map, refl, sym, ap, ◌∙◌}
+use Rattle.std.proofs.Common.{◌≡◌, map}
 use Rattle.ir_types.specs.Plain.{type_view}
 use Rattle.ir_expressions.specs.Plain.{expression_view}
 use Rattle.ir_globals.specs.View.{special_view, node_view, constant_view, override_view, global_view}
-use Rattle.ir_items.specs.View.{function_view, entry_view}
-use Rattle.ir_items.specs.Copies.{SpannedFunction, spanned_function, SpannedEntry, spanned_entry}
-use Rattle.ir_items.specs.declared.entries.EntryPoint.{EntryPoint}
-use Rattle.ir_items.specs.declared.functions.Function.{Function}
+use Rattle.ir_items.specs.Copies.{spanned_function, spanned_entry}
+use Rattle.ir_items.proofs.CopyLemmas.{same_functions, same_entries}
 use Rattle.document_model.specs.View.{settings_view, document_view}
 use Rattle.document_model.specs.declared.document.Document.{Document}
-
-plain_functions : (fs : List Function) → map function_view fs ≡ map (λ (s : SpannedFunction). s.plain) (map spanned_function fs)
-plain_functions [] = refl
-plain_functions (f ∷ fs) = ap (λ rest. function_view f ∷ rest) (plain_functions fs)
-
-plain_entries : (es : List EntryPoint) → map entry_view es ≡ map (λ (s : SpannedEntry). s.plain) (map spanned_entry es)
-plain_entries [] = refl
-plain_entries (e ∷ es) = ap (λ rest. entry_view e ∷ rest) (plain_entries es)
-
--- functions and entry points that hold the same with their spans hold the same
-same_functions : (xs ys : List Function) → map spanned_function xs ≡ map spanned_function ys → map function_view xs ≡ map function_view ys
-same_functions xs ys e = plain_functions xs ∙ (ap (map (λ (s : SpannedFunction). s.plain)) e ∙ sym (plain_functions ys))
-
-same_entries : (xs ys : List EntryPoint) → map spanned_entry xs ≡ map spanned_entry ys → map entry_view xs ≡ map entry_view ys
-same_entries xs ys e = plain_entries xs ∙ (ap (map (λ (s : SpannedEntry). s.plain)) e ∙ sym (plain_entries ys))
 
 pub same_document : (a b : Document) → settings_view a.settings ≡ settings_view b.settings → map type_view a.types.items ≡ map type_view b.types.items → special_view a.special_types ≡ special_view b.special_types
     → map node_view a.diagnostic_filters.items ≡ map node_view b.diagnostic_filters.items → a.diagnostic_filter_leaf ≡ b.diagnostic_filter_leaf

@@ -41,12 +41,12 @@ plain_entries : (es : List EntryPoint) → map entry_view es ≡ map (λ (s : Sp
 plain_entries [] = refl
 plain_entries (e ∷ es) = ap (λ rest. entry_view e ∷ rest) (plain_entries es)
 
-same_plain_functions : (xs ys : List (Function × Span)) → map (entry_of spanned_function) xs ≡ map (entry_of spanned_function) ys → map function_view (values_of xs) ≡ map function_view (values_of ys)
-same_plain_functions xs ys e =
-    plain_functions (values_of xs) ∙ (ap (map (λ (s : SpannedFunction). s.plain)) (same_values spanned_function xs ys e) ∙ sym (plain_functions (values_of ys)))
+-- functions and entry points that hold the same with their spans hold the same
+pub same_functions : (xs ys : List Function) → map spanned_function xs ≡ map spanned_function ys → map function_view xs ≡ map function_view ys
+same_functions xs ys e = plain_functions xs ∙ (ap (map (λ (s : SpannedFunction). s.plain)) e ∙ sym (plain_functions ys))
 
-same_plain_entries : (xs ys : List EntryPoint) → map spanned_entry xs ≡ map spanned_entry ys → map entry_view xs ≡ map entry_view ys
-same_plain_entries xs ys e = plain_entries xs ∙ (ap (map (λ (s : SpannedEntry). s.plain)) e ∙ sym (plain_entries ys))
+pub same_entries : (xs ys : List EntryPoint) → map spanned_entry xs ≡ map spanned_entry ys → map entry_view xs ≡ map entry_view ys
+same_entries xs ys e = plain_entries xs ∙ (ap (map (λ (s : SpannedEntry). s.plain)) e ∙ sym (plain_entries ys))
 
 -- a module is copied list by list
 pub same_module : (m n : Module) → map (entry_of type_view) m.types ≡ map (entry_of type_view) n.types → special_view m.special_types ≡ special_view n.special_types
@@ -64,8 +64,8 @@ same_module m n types special constants overrides globals expressions functions 
     overrides = same_values override_view m.overrides n.overrides overrides i;
     global_expressions = same_values expression_view m.global_expressions n.global_expressions expressions i;
     globals = same_values global_view m.global_variables n.global_variables globals i;
-    functions = same_plain_functions m.functions n.functions functions i;
-    entries = same_plain_entries m.entry_points.items n.entry_points.items entries i;
+    functions = same_functions (values_of m.functions) (values_of n.functions) (same_values spanned_function m.functions n.functions functions) i;
+    entries = same_entries m.entry_points.items n.entry_points.items entries i;
   };
   types = types i;
   filters = filters i;
