@@ -5,6 +5,10 @@
 #[cfg(test)]
 mod arenas;
 #[cfg(test)]
+mod copies;
+#[cfg(test)]
+mod equality;
+#[cfg(test)]
 mod faults;
 #[cfg(test)]
 mod handles;

@@ -10,7 +10,7 @@ ghost use Rattle.ir_blocks.specs.SpanIters.{pairs_to_come};
 ghost use Rattle.ir_blocks.specs.View.{statements_of, spans_of, room_for_statements, room_for_spans, IsInStep, AllInStep, InStepWithin};
 
 use crate::runs::{cut, move_behind, put_in};
-use crate::span_iter::{SpanIter, SpanIterMut};
+use crate::span_iter::{SpanIntoIter, SpanIter, SpanIterMut};
 use crate::statements::{Block, Statement};
 use ir_arena::span::Span;
 use std::alloc::{AllocError, Global};
@@ -94,6 +94,14 @@ impl Block {
         ensures { pairs_to_come result ≡ zip (statements_of self.old) (spans_of self.old) }
     {
         SpanIterMut::new(&mut self.body, &mut self.span_info)
+    }
+
+    /// The statements in order, each with its span, taken out of the block.
+    pub fn span_into_iter(self) -> SpanIntoIter
+        ensures { result ≡ zip (statements_of self) (spans_of self) }
+    {
+        let Block { body, span_info } = self;
+        SpanIntoIter::new(body, span_info)
     }
 
     /// The statements in order, to be changed (naga's `DerefMut` of a block). The spans stay.

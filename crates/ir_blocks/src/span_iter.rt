@@ -6,7 +6,7 @@ ghost use Rattle.ir_blocks.specs.SpanIters.{pairs_to_come};
 use crate::statements::Statement;
 use ir_arena::span::Span;
 use std::marker::Model;
-use std::slice;
+use std::{slice, vec};
 
 /// The statements of a block in order, each with its span. In a contract it is the list of those that are still to
 /// come.
@@ -92,5 +92,56 @@ impl<'a> Iterator for SpanIterMut<'a> {
         let span = self.spans.next()?;
         let statement = self.statements.next()?;
         Some((statement, span))
+    }
+}
+
+/// The statements that were taken out of a block, in order, each with its span. In a contract it is the list of those
+/// that are still to come.
+#[derive(Drop)]
+pub struct SpanIntoIter {
+    statements: vec::IntoIter<Statement>,
+    spans: vec::IntoIter<Span>,
+}
+
+impl Model for SpanIntoIter {
+    ghost use Rattle.std.specs.Prelude.{List};
+    ghost use Rattle.std.specs.List.{zip};
+    ghost use Rattle.std.specs.Vec.Iter.{into_iter_items};
+    ghost use Rattle.ir_arena.specs.declared.span.Span.{Span};
+    ghost use Rattle.ir_blocks.specs.declared.statements.Statement.{Statement};
+    ghost use Rattle.ir_blocks.specs.contracts.statements.Statement as e;
+    ghost use Rattle.std.specs.Coded.{codes};
+
+    ghost Value = { List (Statement × Span) };
+
+    ghost coded = { Prim.hlevel (codes, e.the_row.coded) };
+
+    ghost view = { λ i. zip (into_iter_items i.statements) (into_iter_items i.spans) };
+}
+
+impl SpanIntoIter {
+    /// An iterator over `statements` and `spans`, as far as both reach.
+    pub(crate) fn new(statements: Vec<Statement>, spans: Vec<Span>) -> Self
+        ensures { result ≡ zip statements.items spans.items }
+    {
+        SpanIntoIter {
+            statements: statements.into_iter(),
+            spans: spans.into_iter(),
+        }
+    }
+}
+
+impl Iterator for SpanIntoIter {
+    ghost use Rattle.std.specs.Iterator.{YieldsFirst, item_count};
+
+    type Item = (Statement, Span);
+
+    ghost next_gives = { YieldsFirst (λ i. i) };
+
+    ghost remaining = { item_count (λ i. i) };
+
+    fn next(&mut self) -> Option<(Statement, Span)> {
+        let span = self.spans.next()?;
+        Some((self.statements.next()?, span))
     }
 }

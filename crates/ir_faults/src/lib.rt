@@ -3,5 +3,6 @@
 //! The names are those of naga's `span`; [`refusal::Refusal`] is this project's own.
 #![tactic(auto)]
 
+mod contexts;
 pub mod refusal;
 pub mod with_span;

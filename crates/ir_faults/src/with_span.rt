@@ -1,12 +1,13 @@
 //! Errors with the parts of the source that they speak of.
 
-ghost use Rattle.std.specs.Prelude.{◌≡◌, ◌++◌, [], map, string_bytes, IsTrue, IfOk, IfErr, OnErr};
+ghost use Rattle.std.specs.Prelude.{◌≡◌, ◌++◌, [], map, string_bytes, IsTrue, IsOk, IfOk, IfErr, OnErr};
 ghost use Rattle.std.specs.List.{AllPass};
 ghost use Rattle.std.specs.Slice.Iter.{iter_rest};
 ghost use Rattle.ir_arena.specs.Spans.{is_defined_span};
 
+use crate::contexts::copy_contexts;
 use ir_arena::span::Span;
-use std::alloc::{AllocFailed, Global};
+use std::alloc::{AllocError, AllocFailed, Global};
 use std::error::Error;
 use std::fmt::{self, Display};
 use std::slice;
@@ -34,6 +35,25 @@ impl<E> WithSpan<E> {
             inner,
             spans: Vec::new(alloc),
         }
+    }
+
+    /// An error with the same spans and the same descriptions, in memory of its own, whose inner error is a clone of
+    /// this one's.
+    ///
+    /// # Errors
+    ///
+    /// Where there is no memory. An error with no span needs none beyond what the clone of the inner one needs.
+    #[tactic(auto, using(crate::proofs::Known::known_alike))]
+    pub fn clone(&self, alloc: Global) -> Result<Self, AllocError>
+    where
+        E: Clone,
+        ensures error { IfOk result (λ copy. E.is_clone (error_of self.now) (error_of copy)) }
+        ensures spans { IfOk result (λ copy. spans_of copy ≡ spans_of self.now) }
+        ensures succeeds { E.is_infallible (error_of self.now) → spans_of self.now ≡ [] → IsOk result }
+    {
+        let inner = self.inner.clone()?;
+        let spans = copy_contexts(alloc, &self.spans)?;
+        Ok(WithSpan { inner, spans })
     }
 
     /// The error itself.

@@ -11,8 +11,8 @@ mod module_lists;
 pub use entries::{EntryPoint, MeshStageInfo};
 pub use functions::{Function, FunctionArgument, FunctionResult, LocalVariable};
 pub use ir_blocks::{
-    AtomicFunction, Block, GatherMode, RayPipelineFunction, RayQueryFunction, SpanIter,
-    SpanIterMut, Statement, SwitchCase, complete, ensure_block_returns,
+    AtomicFunction, Block, GatherMode, RayPipelineFunction, RayQueryFunction, SpanIntoIter,
+    SpanIter, SpanIterMut, Statement, SwitchCase, complete, ensure_block_returns,
 };
 pub use ir_expressions::{CooperativeData, Expression, ImageQuery, SampleLevel};
 pub use ir_globals::{

@@ -3,7 +3,11 @@
 #![tactic(auto)]
 
 #[cfg(test)]
+mod blocks;
+#[cfg(test)]
 mod emitters;
+#[cfg(test)]
+mod equality;
 #[cfg(test)]
 mod expressions;
 #[cfg(test)]

@@ -58,6 +58,7 @@ pub use ir_items::Override;
 pub use ir_items::RayPipelineFunction;
 pub use ir_items::RayQueryFunction;
 pub use ir_items::SampleLevel;
+pub use ir_items::SpanIntoIter;
 pub use ir_items::SpanIter;
 pub use ir_items::SpanIterMut;
 pub use ir_items::SpecialTypes;
