@@ -4,12 +4,12 @@ use Rattle.serde_json.specs.Data.{Data, null, boolean, number, string, array, ob
 use Rattle.serde_json.specs.Find.{as_array, as_str}
 use Rattle.ir_items.specs.Plain.{PlainEntry}
 use Rattle.document_parts.specs.Find.{handle_of, optional, first, only}
-use Rattle.document_parts.proofs.Inverse.{bind_some, some_is, as_array_some}
-use Rattle.document_parts.proofs.PartLaws.{text_exact}
+use Rattle.document_parts.proofs.Inverse.{bind_some, some_is, as_array_some, first_some, only_some}
+use Rattle.document_parts.proofs.PartLaws.{text_exact, maybe_handle_exact}
 use Rattle.document_globals.specs.Find.{stage_of, early_of, sizes_of, mesh_of}
 use Rattle.document_globals.proofs.EntryLaws.{stage_exact, maybe_early_exact, sizes_exact, maybe_mesh_exact}
 use Rattle.document_functions.specs.Find.{max_depth, function_of}
-use Rattle.document_functions.proofs.FunctionLaws.{maybe_handle_exact, first_some, only_some, function_sound, function_complete}
+use Rattle.document_functions.proofs.FunctionLaws.{function_sound, function_complete}
 use Rattle.document_entries.specs.Form.{AnEntry}
 use Rattle.document_entries.specs.Find.{EntryParts, entry_parts, entry_of}
 

@@ -9,14 +9,14 @@ use Rattle.ir_expressions.specs.declared.expressions.Expression.TheVariants as c
 use Rattle.document_words.specs.Tables.{letters, cooperative_roles, unary_operators, binary_operators, derivative_axes, derivative_controls, relational_functions, math_functions, scalar_kinds}
 use Rattle.document_parts.specs.Form.{ANumber, AHandle, AU32, ASize, ASide, ABool, AWord, Maybe, AList, Ends, ◌▸◌}
 use Rattle.document_parts.specs.Find.{number_of, handle_of, u32_of, size_of, side_of, word_in, optional, all_of, one, two, three, five, six, nine, of_kind}
-use Rattle.document_parts.proofs.PartLaws.{handle_exact, u32_exact, size_exact, side_exact, bool_exact, word_exact}
+use Rattle.document_parts.proofs.PartLaws.{handle_exact, u32_exact, size_exact, side_exact, bool_exact, word_exact, maybe_handle_exact}
 use Rattle.document_parts.proofs.RowLaws.{IsExactRow, at_end_sound, at_end_complete, one_exact, two_exact, three_exact, five_exact, six_exact, nine_exact, IsSpelled, kind_sound, kind_complete, made_sound, made_complete}
 use Rattle.document_expressions.specs.Kinds.{expression_word, expression_kinds}
 use Rattle.document_expressions.specs.Find.{literal_of, level_of, query_of, pattern_of, expression_with, expression_of}
 use Rattle.document_expressions.specs.Form.{ALiteral, ALevel, AQuery, APattern, AnExpression}
 use Rattle.document_expressions.specs.declared.kinds.ExpressionKind.{ExpressionKind}
-use Rattle.document_expressions.specs.declared.kinds.ExpressionKind.TheVariants as exk
-use Rattle.document_expressions.proofs.ExpressionParts.{maybe_handle_exact, handles_exact, maybe_width_exact, maybe_letter_exact, literal_exact, level_exact, query_exact, pattern_exact}
+use Rattle.document_expressions.specs.declared.kinds.ExpressionKind.TheVariants as expression_kind
+use Rattle.document_expressions.proofs.ExpressionParts.{handles_exact, maybe_width_exact, maybe_letter_exact, literal_exact, level_exact, query_exact, pattern_exact}
 use Rattle.document_expressions.specs.Find.{constant_of, override_value_of, zero_value_of, composition_of, access_of, access_index_of, splat_of, swizzle_of, function_argument_of, global_variable_of, local_variable_of, load_of, image_sample_of, image_load_of, image_query_of, unary_of, binary_of, select_of, derivative_of, relational_of, math_of, conversion_of, call_result_of, atomic_result_of, uniform_load_result_of, array_length_of, vertex_positions_of, proceed_result_of, get_intersection_of, ballot_result_of, operation_result_of, cooperative_load_of, multiply_add_of}
 
 literal_sound : (ds : Items) (x : PlainExpression) → option_map (λ l. computes (computed.Literal l)) (literal_of ds) ≡ Some x → AnExpression x (array (item (string (codes "Literal")) ds))
@@ -256,40 +256,40 @@ expressions_spelled = search rules
 
 each_kind : (k : ExpressionKind) (ds : Items) (x : PlainExpression) → expression_with k ds ≡ Some x → AnExpression x (array (item (string (expression_word k)) ds))
 unfolding expression_with
-each_kind exk.Literal = literal_sound
-each_kind exk.Constant = constant_sound
-each_kind exk.Override = override_value_sound
-each_kind exk.ZeroValue = zero_value_sound
-each_kind exk.Compose = composition_sound
-each_kind exk.Access = access_sound
-each_kind exk.AccessIndex = access_index_sound
-each_kind exk.Splat = splat_sound
-each_kind exk.Swizzle = swizzle_sound
-each_kind exk.FunctionArgument = function_argument_sound
-each_kind exk.GlobalVariable = global_variable_sound
-each_kind exk.LocalVariable = local_variable_sound
-each_kind exk.Load = load_sound
-each_kind exk.ImageSample = image_sample_sound
-each_kind exk.ImageLoad = image_load_sound
-each_kind exk.ImageQuery = image_query_sound
-each_kind exk.Unary = unary_sound
-each_kind exk.Binary = binary_sound
-each_kind exk.Select = select_sound
-each_kind exk.Derivative = derivative_sound
-each_kind exk.Relational = relational_sound
-each_kind exk.Math = math_sound
-each_kind exk.As = conversion_sound
-each_kind exk.CallResult = call_result_sound
-each_kind exk.AtomicResult = atomic_result_sound
-each_kind exk.WorkGroupUniformLoadResult = uniform_load_result_sound
-each_kind exk.ArrayLength = array_length_sound
-each_kind exk.RayQueryVertexPositions = vertex_positions_sound
-each_kind exk.RayQueryProceedResult = proceed_result_sound
-each_kind exk.RayQueryGetIntersection = get_intersection_sound
-each_kind exk.SubgroupBallotResult = ballot_result_sound
-each_kind exk.SubgroupOperationResult = operation_result_sound
-each_kind exk.CooperativeLoad = cooperative_load_sound
-each_kind exk.CooperativeMultiplyAdd = multiply_add_sound
+each_kind expression_kind.Literal = literal_sound
+each_kind expression_kind.Constant = constant_sound
+each_kind expression_kind.Override = override_value_sound
+each_kind expression_kind.ZeroValue = zero_value_sound
+each_kind expression_kind.Compose = composition_sound
+each_kind expression_kind.Access = access_sound
+each_kind expression_kind.AccessIndex = access_index_sound
+each_kind expression_kind.Splat = splat_sound
+each_kind expression_kind.Swizzle = swizzle_sound
+each_kind expression_kind.FunctionArgument = function_argument_sound
+each_kind expression_kind.GlobalVariable = global_variable_sound
+each_kind expression_kind.LocalVariable = local_variable_sound
+each_kind expression_kind.Load = load_sound
+each_kind expression_kind.ImageSample = image_sample_sound
+each_kind expression_kind.ImageLoad = image_load_sound
+each_kind expression_kind.ImageQuery = image_query_sound
+each_kind expression_kind.Unary = unary_sound
+each_kind expression_kind.Binary = binary_sound
+each_kind expression_kind.Select = select_sound
+each_kind expression_kind.Derivative = derivative_sound
+each_kind expression_kind.Relational = relational_sound
+each_kind expression_kind.Math = math_sound
+each_kind expression_kind.As = conversion_sound
+each_kind expression_kind.CallResult = call_result_sound
+each_kind expression_kind.AtomicResult = atomic_result_sound
+each_kind expression_kind.WorkGroupUniformLoadResult = uniform_load_result_sound
+each_kind expression_kind.ArrayLength = array_length_sound
+each_kind expression_kind.RayQueryVertexPositions = vertex_positions_sound
+each_kind expression_kind.RayQueryProceedResult = proceed_result_sound
+each_kind expression_kind.RayQueryGetIntersection = get_intersection_sound
+each_kind expression_kind.SubgroupBallotResult = ballot_result_sound
+each_kind expression_kind.SubgroupOperationResult = operation_result_sound
+each_kind expression_kind.CooperativeLoad = cooperative_load_sound
+each_kind expression_kind.CooperativeMultiplyAdd = multiply_add_sound
 
 pub expression_sound : (d : Data) (x : PlainExpression) → expression_of d ≡ Some x → AnExpression x d
 unfolding expression_of
@@ -297,41 +297,41 @@ expression_sound = kind_sound expression_word expression_kinds expressions_spell
 
 there : (d : Data) (x : PlainExpression) → AnExpression x d → of_kind expression_kinds expression_with d ≡ Some x
 unfolding AnExpression expression_with
-there d (computes (computed.Literal l)) h = kind_complete expression_kinds expression_with (codes "Literal") exk.Literal refl (ALiteral l) (computes (computed.Literal l)) (λ ds h. literal_there ds l h) d h
+there d (computes (computed.Literal l)) h = kind_complete expression_kinds expression_with (codes "Literal") expression_kind.Literal refl (ALiteral l) (computes (computed.Literal l)) (λ ds h. literal_there ds l h) d h
 there d (computes (computed.Compose ty components)) h = absurd h
-there d (computes (computed.Constant handle)) h = kind_complete expression_kinds expression_with (codes "Constant") exk.Constant refl (AHandle handle ▸ Ends) (computes (computed.Constant handle)) (λ ds h. made_complete (λ t. computes (computed.Constant t)) (one handle_of) _ constant_row ds handle h) d h
-there d (computes (computed.Override handle)) h = kind_complete expression_kinds expression_with (codes "Override") exk.Override refl (AHandle handle ▸ Ends) (computes (computed.Override handle)) (λ ds h. made_complete (λ t. computes (computed.Override t)) (one handle_of) _ override_value_row ds handle h) d h
-there d (computes (computed.ZeroValue ty)) h = kind_complete expression_kinds expression_with (codes "ZeroValue") exk.ZeroValue refl (AHandle ty ▸ Ends) (computes (computed.ZeroValue ty)) (λ ds h. made_complete (λ t. computes (computed.ZeroValue t)) (one handle_of) _ zero_value_row ds ty h) d h
-there d (compose ty components) h = kind_complete expression_kinds expression_with (codes "Compose") exk.Compose refl (AHandle ty ▸ AList AHandle components ▸ Ends) (compose ty components) (λ ds h. made_complete (λ t. compose t.0 t.1) (two handle_of (all_of handle_of)) _ composition_row ds (ty, components) h) d h
-there d (computes (computed.Access base index)) h = kind_complete expression_kinds expression_with (codes "Access") exk.Access refl (AHandle base ▸ AHandle index ▸ Ends) (computes (computed.Access base index)) (λ ds h. made_complete (λ t. computes (computed.Access t.0 t.1)) (two handle_of handle_of) _ access_row ds (base, index) h) d h
-there d (computes (computed.AccessIndex base index)) h = kind_complete expression_kinds expression_with (codes "AccessIndex") exk.AccessIndex refl (AHandle base ▸ AU32 index ▸ Ends) (computes (computed.AccessIndex base index)) (λ ds h. made_complete (λ t. computes (computed.AccessIndex t.0 t.1)) (two handle_of u32_of) _ access_index_row ds (base, index) h) d h
-there d (computes (computed.Splat size value)) h = kind_complete expression_kinds expression_with (codes "Splat") exk.Splat refl (ASize size ▸ AHandle value ▸ Ends) (computes (computed.Splat size value)) (λ ds h. made_complete (λ t. computes (computed.Splat t.0 t.1)) (two size_of handle_of) _ splat_row ds (size, value) h) d h
-there d (computes (computed.Swizzle size vector pattern)) h = kind_complete expression_kinds expression_with (codes "Swizzle") exk.Swizzle refl (ASize size ▸ AHandle vector ▸ APattern pattern ▸ Ends) (computes (computed.Swizzle size vector pattern)) (λ ds h. made_complete (λ t. computes (computed.Swizzle t.0 t.1 t.2)) (three size_of handle_of pattern_of) _ swizzle_row ds (size, vector, pattern) h) d h
-there d (computes (computed.FunctionArgument index)) h = kind_complete expression_kinds expression_with (codes "FunctionArgument") exk.FunctionArgument refl (AU32 index ▸ Ends) (computes (computed.FunctionArgument index)) (λ ds h. made_complete (λ t. computes (computed.FunctionArgument t)) (one u32_of) _ function_argument_row ds index h) d h
-there d (computes (computed.GlobalVariable handle)) h = kind_complete expression_kinds expression_with (codes "GlobalVariable") exk.GlobalVariable refl (AHandle handle ▸ Ends) (computes (computed.GlobalVariable handle)) (λ ds h. made_complete (λ t. computes (computed.GlobalVariable t)) (one handle_of) _ global_variable_row ds handle h) d h
-there d (computes (computed.LocalVariable handle)) h = kind_complete expression_kinds expression_with (codes "LocalVariable") exk.LocalVariable refl (AHandle handle ▸ Ends) (computes (computed.LocalVariable handle)) (λ ds h. made_complete (λ t. computes (computed.LocalVariable t)) (one handle_of) _ local_variable_row ds handle h) d h
-there d (computes (computed.Load pointer)) h = kind_complete expression_kinds expression_with (codes "Load") exk.Load refl (AHandle pointer ▸ Ends) (computes (computed.Load pointer)) (λ ds h. made_complete (λ t. computes (computed.Load t)) (one handle_of) _ load_row ds pointer h) d h
-there d (computes (computed.ImageSample image sampler gather coordinate array_index offset level depth_ref clamp_to_edge)) h = kind_complete expression_kinds expression_with (codes "ImageSample") exk.ImageSample refl (AHandle image ▸ AHandle sampler ▸ Maybe (AWord letters) gather ▸ AHandle coordinate ▸ Maybe AHandle array_index ▸ Maybe AHandle offset ▸ ALevel level ▸ Maybe AHandle depth_ref ▸ ABool clamp_to_edge ▸ Ends) (computes (computed.ImageSample image sampler gather coordinate array_index offset level depth_ref clamp_to_edge)) (λ ds h. made_complete (λ t. computes (computed.ImageSample t.0 t.1 t.2 t.3 t.4 t.5 t.6 t.7 t.8)) (nine handle_of handle_of (optional (word_in letters)) handle_of (optional handle_of) (optional handle_of) level_of (optional handle_of) as_bool) _ image_sample_row ds (image, sampler, gather, coordinate, array_index, offset, level, depth_ref, clamp_to_edge) h) d h
-there d (computes (computed.ImageLoad image coordinate array_index sample level)) h = kind_complete expression_kinds expression_with (codes "ImageLoad") exk.ImageLoad refl (AHandle image ▸ AHandle coordinate ▸ Maybe AHandle array_index ▸ Maybe AHandle sample ▸ Maybe AHandle level ▸ Ends) (computes (computed.ImageLoad image coordinate array_index sample level)) (λ ds h. made_complete (λ t. computes (computed.ImageLoad t.0 t.1 t.2 t.3 t.4)) (five handle_of handle_of (optional handle_of) (optional handle_of) (optional handle_of)) _ image_load_row ds (image, coordinate, array_index, sample, level) h) d h
-there d (computes (computed.ImageQuery image query)) h = kind_complete expression_kinds expression_with (codes "ImageQuery") exk.ImageQuery refl (AHandle image ▸ AQuery query ▸ Ends) (computes (computed.ImageQuery image query)) (λ ds h. made_complete (λ t. computes (computed.ImageQuery t.0 t.1)) (two handle_of query_of) _ image_query_row ds (image, query) h) d h
-there d (computes (computed.Unary op expr)) h = kind_complete expression_kinds expression_with (codes "Unary") exk.Unary refl (AWord unary_operators op ▸ AHandle expr ▸ Ends) (computes (computed.Unary op expr)) (λ ds h. made_complete (λ t. computes (computed.Unary t.0 t.1)) (two (word_in unary_operators) handle_of) _ unary_row ds (op, expr) h) d h
-there d (computes (computed.Binary op left right)) h = kind_complete expression_kinds expression_with (codes "Binary") exk.Binary refl (AWord binary_operators op ▸ AHandle left ▸ AHandle right ▸ Ends) (computes (computed.Binary op left right)) (λ ds h. made_complete (λ t. computes (computed.Binary t.0 t.1 t.2)) (three (word_in binary_operators) handle_of handle_of) _ binary_row ds (op, left, right) h) d h
-there d (computes (computed.Select condition accept reject)) h = kind_complete expression_kinds expression_with (codes "Select") exk.Select refl (AHandle condition ▸ AHandle accept ▸ AHandle reject ▸ Ends) (computes (computed.Select condition accept reject)) (λ ds h. made_complete (λ t. computes (computed.Select t.0 t.1 t.2)) (three handle_of handle_of handle_of) _ select_row ds (condition, accept, reject) h) d h
-there d (computes (computed.Derivative axis ctrl expr)) h = kind_complete expression_kinds expression_with (codes "Derivative") exk.Derivative refl (AWord derivative_axes axis ▸ AWord derivative_controls ctrl ▸ AHandle expr ▸ Ends) (computes (computed.Derivative axis ctrl expr)) (λ ds h. made_complete (λ t. computes (computed.Derivative t.0 t.1 t.2)) (three (word_in derivative_axes) (word_in derivative_controls) handle_of) _ derivative_row ds (axis, ctrl, expr) h) d h
-there d (computes (computed.Relational fun argument)) h = kind_complete expression_kinds expression_with (codes "Relational") exk.Relational refl (AWord relational_functions fun ▸ AHandle argument ▸ Ends) (computes (computed.Relational fun argument)) (λ ds h. made_complete (λ t. computes (computed.Relational t.0 t.1)) (two (word_in relational_functions) handle_of) _ relational_row ds (fun, argument) h) d h
-there d (computes (computed.Math fun arg arg1 arg2 arg3)) h = kind_complete expression_kinds expression_with (codes "Math") exk.Math refl (AWord math_functions fun ▸ AHandle arg ▸ Maybe AHandle arg1 ▸ Maybe AHandle arg2 ▸ Maybe AHandle arg3 ▸ Ends) (computes (computed.Math fun arg arg1 arg2 arg3)) (λ ds h. made_complete (λ t. computes (computed.Math t.0 t.1 t.2 t.3 t.4)) (five (word_in math_functions) handle_of (optional handle_of) (optional handle_of) (optional handle_of)) _ math_row ds (fun, arg, arg1, arg2, arg3) h) d h
-there d (computes (computed.As expr kind convert)) h = kind_complete expression_kinds expression_with (codes "As") exk.As refl (AHandle expr ▸ AWord scalar_kinds kind ▸ Maybe (ANumber 255) convert ▸ Ends) (computes (computed.As expr kind convert)) (λ ds h. made_complete (λ t. computes (computed.As t.0 t.1 t.2)) (three handle_of (word_in scalar_kinds) (optional (number_of 255))) _ conversion_row ds (expr, kind, convert) h) d h
-there d (computes (computed.CallResult function)) h = kind_complete expression_kinds expression_with (codes "CallResult") exk.CallResult refl (AHandle function ▸ Ends) (computes (computed.CallResult function)) (λ ds h. made_complete (λ t. computes (computed.CallResult t)) (one handle_of) _ call_result_row ds function h) d h
-there d (computes (computed.AtomicResult ty comparison)) h = kind_complete expression_kinds expression_with (codes "AtomicResult") exk.AtomicResult refl (AHandle ty ▸ ABool comparison ▸ Ends) (computes (computed.AtomicResult ty comparison)) (λ ds h. made_complete (λ t. computes (computed.AtomicResult t.0 t.1)) (two handle_of as_bool) _ atomic_result_row ds (ty, comparison) h) d h
-there d (computes (computed.WorkGroupUniformLoadResult ty)) h = kind_complete expression_kinds expression_with (codes "WorkGroupUniformLoadResult") exk.WorkGroupUniformLoadResult refl (AHandle ty ▸ Ends) (computes (computed.WorkGroupUniformLoadResult ty)) (λ ds h. made_complete (λ t. computes (computed.WorkGroupUniformLoadResult t)) (one handle_of) _ uniform_load_result_row ds ty h) d h
-there d (computes (computed.ArrayLength pointer)) h = kind_complete expression_kinds expression_with (codes "ArrayLength") exk.ArrayLength refl (AHandle pointer ▸ Ends) (computes (computed.ArrayLength pointer)) (λ ds h. made_complete (λ t. computes (computed.ArrayLength t)) (one handle_of) _ array_length_row ds pointer h) d h
-there d (computes (computed.RayQueryVertexPositions query committed)) h = kind_complete expression_kinds expression_with (codes "RayQueryVertexPositions") exk.RayQueryVertexPositions refl (AHandle query ▸ ABool committed ▸ Ends) (computes (computed.RayQueryVertexPositions query committed)) (λ ds h. made_complete (λ t. computes (computed.RayQueryVertexPositions t.0 t.1)) (two handle_of as_bool) _ vertex_positions_row ds (query, committed) h) d h
-there d (computes computed.RayQueryProceedResult) h = kind_complete expression_kinds expression_with (codes "RayQueryProceedResult") exk.RayQueryProceedResult refl Ends (computes computed.RayQueryProceedResult) (λ ds h. at_end_complete (computes computed.RayQueryProceedResult) ds h) d h
-there d (computes (computed.RayQueryGetIntersection query committed)) h = kind_complete expression_kinds expression_with (codes "RayQueryGetIntersection") exk.RayQueryGetIntersection refl (AHandle query ▸ ABool committed ▸ Ends) (computes (computed.RayQueryGetIntersection query committed)) (λ ds h. made_complete (λ t. computes (computed.RayQueryGetIntersection t.0 t.1)) (two handle_of as_bool) _ get_intersection_row ds (query, committed) h) d h
-there d (computes computed.SubgroupBallotResult) h = kind_complete expression_kinds expression_with (codes "SubgroupBallotResult") exk.SubgroupBallotResult refl Ends (computes computed.SubgroupBallotResult) (λ ds h. at_end_complete (computes computed.SubgroupBallotResult) ds h) d h
-there d (computes (computed.SubgroupOperationResult ty)) h = kind_complete expression_kinds expression_with (codes "SubgroupOperationResult") exk.SubgroupOperationResult refl (AHandle ty ▸ Ends) (computes (computed.SubgroupOperationResult ty)) (λ ds h. made_complete (λ t. computes (computed.SubgroupOperationResult t)) (one handle_of) _ operation_result_row ds ty h) d h
-there d (computes (computed.CooperativeLoad columns rows role block)) h = kind_complete expression_kinds expression_with (codes "CooperativeLoad") exk.CooperativeLoad refl (ASide columns ▸ ASide rows ▸ AWord cooperative_roles role ▸ AHandle block.pointer ▸ AHandle block.stride ▸ ABool block.row_major ▸ Ends) (computes (computed.CooperativeLoad columns rows role block)) (λ ds h. made_complete (λ t. computes (computed.CooperativeLoad t.0 t.1 t.2 (record { pointer = t.3; stride = t.4; row_major = t.5 }))) (six side_of side_of (word_in cooperative_roles) handle_of handle_of as_bool) _ cooperative_load_row ds (columns, rows, role, block.pointer, block.stride, block.row_major) h) d h
-there d (computes (computed.CooperativeMultiplyAdd a b c)) h = kind_complete expression_kinds expression_with (codes "CooperativeMultiplyAdd") exk.CooperativeMultiplyAdd refl (AHandle a ▸ AHandle b ▸ AHandle c ▸ Ends) (computes (computed.CooperativeMultiplyAdd a b c)) (λ ds h. made_complete (λ t. computes (computed.CooperativeMultiplyAdd t.0 t.1 t.2)) (three handle_of handle_of handle_of) _ multiply_add_row ds (a, b, c) h) d h
+there d (computes (computed.Constant handle)) h = kind_complete expression_kinds expression_with (codes "Constant") expression_kind.Constant refl (AHandle handle ▸ Ends) (computes (computed.Constant handle)) (λ ds h. made_complete (λ t. computes (computed.Constant t)) (one handle_of) _ constant_row ds handle h) d h
+there d (computes (computed.Override handle)) h = kind_complete expression_kinds expression_with (codes "Override") expression_kind.Override refl (AHandle handle ▸ Ends) (computes (computed.Override handle)) (λ ds h. made_complete (λ t. computes (computed.Override t)) (one handle_of) _ override_value_row ds handle h) d h
+there d (computes (computed.ZeroValue ty)) h = kind_complete expression_kinds expression_with (codes "ZeroValue") expression_kind.ZeroValue refl (AHandle ty ▸ Ends) (computes (computed.ZeroValue ty)) (λ ds h. made_complete (λ t. computes (computed.ZeroValue t)) (one handle_of) _ zero_value_row ds ty h) d h
+there d (compose ty components) h = kind_complete expression_kinds expression_with (codes "Compose") expression_kind.Compose refl (AHandle ty ▸ AList AHandle components ▸ Ends) (compose ty components) (λ ds h. made_complete (λ t. compose t.0 t.1) (two handle_of (all_of handle_of)) _ composition_row ds (ty, components) h) d h
+there d (computes (computed.Access base index)) h = kind_complete expression_kinds expression_with (codes "Access") expression_kind.Access refl (AHandle base ▸ AHandle index ▸ Ends) (computes (computed.Access base index)) (λ ds h. made_complete (λ t. computes (computed.Access t.0 t.1)) (two handle_of handle_of) _ access_row ds (base, index) h) d h
+there d (computes (computed.AccessIndex base index)) h = kind_complete expression_kinds expression_with (codes "AccessIndex") expression_kind.AccessIndex refl (AHandle base ▸ AU32 index ▸ Ends) (computes (computed.AccessIndex base index)) (λ ds h. made_complete (λ t. computes (computed.AccessIndex t.0 t.1)) (two handle_of u32_of) _ access_index_row ds (base, index) h) d h
+there d (computes (computed.Splat size value)) h = kind_complete expression_kinds expression_with (codes "Splat") expression_kind.Splat refl (ASize size ▸ AHandle value ▸ Ends) (computes (computed.Splat size value)) (λ ds h. made_complete (λ t. computes (computed.Splat t.0 t.1)) (two size_of handle_of) _ splat_row ds (size, value) h) d h
+there d (computes (computed.Swizzle size vector pattern)) h = kind_complete expression_kinds expression_with (codes "Swizzle") expression_kind.Swizzle refl (ASize size ▸ AHandle vector ▸ APattern pattern ▸ Ends) (computes (computed.Swizzle size vector pattern)) (λ ds h. made_complete (λ t. computes (computed.Swizzle t.0 t.1 t.2)) (three size_of handle_of pattern_of) _ swizzle_row ds (size, vector, pattern) h) d h
+there d (computes (computed.FunctionArgument index)) h = kind_complete expression_kinds expression_with (codes "FunctionArgument") expression_kind.FunctionArgument refl (AU32 index ▸ Ends) (computes (computed.FunctionArgument index)) (λ ds h. made_complete (λ t. computes (computed.FunctionArgument t)) (one u32_of) _ function_argument_row ds index h) d h
+there d (computes (computed.GlobalVariable handle)) h = kind_complete expression_kinds expression_with (codes "GlobalVariable") expression_kind.GlobalVariable refl (AHandle handle ▸ Ends) (computes (computed.GlobalVariable handle)) (λ ds h. made_complete (λ t. computes (computed.GlobalVariable t)) (one handle_of) _ global_variable_row ds handle h) d h
+there d (computes (computed.LocalVariable handle)) h = kind_complete expression_kinds expression_with (codes "LocalVariable") expression_kind.LocalVariable refl (AHandle handle ▸ Ends) (computes (computed.LocalVariable handle)) (λ ds h. made_complete (λ t. computes (computed.LocalVariable t)) (one handle_of) _ local_variable_row ds handle h) d h
+there d (computes (computed.Load pointer)) h = kind_complete expression_kinds expression_with (codes "Load") expression_kind.Load refl (AHandle pointer ▸ Ends) (computes (computed.Load pointer)) (λ ds h. made_complete (λ t. computes (computed.Load t)) (one handle_of) _ load_row ds pointer h) d h
+there d (computes (computed.ImageSample image sampler gather coordinate array_index offset level depth_ref clamp_to_edge)) h = kind_complete expression_kinds expression_with (codes "ImageSample") expression_kind.ImageSample refl (AHandle image ▸ AHandle sampler ▸ Maybe (AWord letters) gather ▸ AHandle coordinate ▸ Maybe AHandle array_index ▸ Maybe AHandle offset ▸ ALevel level ▸ Maybe AHandle depth_ref ▸ ABool clamp_to_edge ▸ Ends) (computes (computed.ImageSample image sampler gather coordinate array_index offset level depth_ref clamp_to_edge)) (λ ds h. made_complete (λ t. computes (computed.ImageSample t.0 t.1 t.2 t.3 t.4 t.5 t.6 t.7 t.8)) (nine handle_of handle_of (optional (word_in letters)) handle_of (optional handle_of) (optional handle_of) level_of (optional handle_of) as_bool) _ image_sample_row ds (image, sampler, gather, coordinate, array_index, offset, level, depth_ref, clamp_to_edge) h) d h
+there d (computes (computed.ImageLoad image coordinate array_index sample level)) h = kind_complete expression_kinds expression_with (codes "ImageLoad") expression_kind.ImageLoad refl (AHandle image ▸ AHandle coordinate ▸ Maybe AHandle array_index ▸ Maybe AHandle sample ▸ Maybe AHandle level ▸ Ends) (computes (computed.ImageLoad image coordinate array_index sample level)) (λ ds h. made_complete (λ t. computes (computed.ImageLoad t.0 t.1 t.2 t.3 t.4)) (five handle_of handle_of (optional handle_of) (optional handle_of) (optional handle_of)) _ image_load_row ds (image, coordinate, array_index, sample, level) h) d h
+there d (computes (computed.ImageQuery image query)) h = kind_complete expression_kinds expression_with (codes "ImageQuery") expression_kind.ImageQuery refl (AHandle image ▸ AQuery query ▸ Ends) (computes (computed.ImageQuery image query)) (λ ds h. made_complete (λ t. computes (computed.ImageQuery t.0 t.1)) (two handle_of query_of) _ image_query_row ds (image, query) h) d h
+there d (computes (computed.Unary op expr)) h = kind_complete expression_kinds expression_with (codes "Unary") expression_kind.Unary refl (AWord unary_operators op ▸ AHandle expr ▸ Ends) (computes (computed.Unary op expr)) (λ ds h. made_complete (λ t. computes (computed.Unary t.0 t.1)) (two (word_in unary_operators) handle_of) _ unary_row ds (op, expr) h) d h
+there d (computes (computed.Binary op left right)) h = kind_complete expression_kinds expression_with (codes "Binary") expression_kind.Binary refl (AWord binary_operators op ▸ AHandle left ▸ AHandle right ▸ Ends) (computes (computed.Binary op left right)) (λ ds h. made_complete (λ t. computes (computed.Binary t.0 t.1 t.2)) (three (word_in binary_operators) handle_of handle_of) _ binary_row ds (op, left, right) h) d h
+there d (computes (computed.Select condition accept reject)) h = kind_complete expression_kinds expression_with (codes "Select") expression_kind.Select refl (AHandle condition ▸ AHandle accept ▸ AHandle reject ▸ Ends) (computes (computed.Select condition accept reject)) (λ ds h. made_complete (λ t. computes (computed.Select t.0 t.1 t.2)) (three handle_of handle_of handle_of) _ select_row ds (condition, accept, reject) h) d h
+there d (computes (computed.Derivative axis ctrl expr)) h = kind_complete expression_kinds expression_with (codes "Derivative") expression_kind.Derivative refl (AWord derivative_axes axis ▸ AWord derivative_controls ctrl ▸ AHandle expr ▸ Ends) (computes (computed.Derivative axis ctrl expr)) (λ ds h. made_complete (λ t. computes (computed.Derivative t.0 t.1 t.2)) (three (word_in derivative_axes) (word_in derivative_controls) handle_of) _ derivative_row ds (axis, ctrl, expr) h) d h
+there d (computes (computed.Relational fun argument)) h = kind_complete expression_kinds expression_with (codes "Relational") expression_kind.Relational refl (AWord relational_functions fun ▸ AHandle argument ▸ Ends) (computes (computed.Relational fun argument)) (λ ds h. made_complete (λ t. computes (computed.Relational t.0 t.1)) (two (word_in relational_functions) handle_of) _ relational_row ds (fun, argument) h) d h
+there d (computes (computed.Math fun arg arg1 arg2 arg3)) h = kind_complete expression_kinds expression_with (codes "Math") expression_kind.Math refl (AWord math_functions fun ▸ AHandle arg ▸ Maybe AHandle arg1 ▸ Maybe AHandle arg2 ▸ Maybe AHandle arg3 ▸ Ends) (computes (computed.Math fun arg arg1 arg2 arg3)) (λ ds h. made_complete (λ t. computes (computed.Math t.0 t.1 t.2 t.3 t.4)) (five (word_in math_functions) handle_of (optional handle_of) (optional handle_of) (optional handle_of)) _ math_row ds (fun, arg, arg1, arg2, arg3) h) d h
+there d (computes (computed.As expr kind convert)) h = kind_complete expression_kinds expression_with (codes "As") expression_kind.As refl (AHandle expr ▸ AWord scalar_kinds kind ▸ Maybe (ANumber 255) convert ▸ Ends) (computes (computed.As expr kind convert)) (λ ds h. made_complete (λ t. computes (computed.As t.0 t.1 t.2)) (three handle_of (word_in scalar_kinds) (optional (number_of 255))) _ conversion_row ds (expr, kind, convert) h) d h
+there d (computes (computed.CallResult function)) h = kind_complete expression_kinds expression_with (codes "CallResult") expression_kind.CallResult refl (AHandle function ▸ Ends) (computes (computed.CallResult function)) (λ ds h. made_complete (λ t. computes (computed.CallResult t)) (one handle_of) _ call_result_row ds function h) d h
+there d (computes (computed.AtomicResult ty comparison)) h = kind_complete expression_kinds expression_with (codes "AtomicResult") expression_kind.AtomicResult refl (AHandle ty ▸ ABool comparison ▸ Ends) (computes (computed.AtomicResult ty comparison)) (λ ds h. made_complete (λ t. computes (computed.AtomicResult t.0 t.1)) (two handle_of as_bool) _ atomic_result_row ds (ty, comparison) h) d h
+there d (computes (computed.WorkGroupUniformLoadResult ty)) h = kind_complete expression_kinds expression_with (codes "WorkGroupUniformLoadResult") expression_kind.WorkGroupUniformLoadResult refl (AHandle ty ▸ Ends) (computes (computed.WorkGroupUniformLoadResult ty)) (λ ds h. made_complete (λ t. computes (computed.WorkGroupUniformLoadResult t)) (one handle_of) _ uniform_load_result_row ds ty h) d h
+there d (computes (computed.ArrayLength pointer)) h = kind_complete expression_kinds expression_with (codes "ArrayLength") expression_kind.ArrayLength refl (AHandle pointer ▸ Ends) (computes (computed.ArrayLength pointer)) (λ ds h. made_complete (λ t. computes (computed.ArrayLength t)) (one handle_of) _ array_length_row ds pointer h) d h
+there d (computes (computed.RayQueryVertexPositions query committed)) h = kind_complete expression_kinds expression_with (codes "RayQueryVertexPositions") expression_kind.RayQueryVertexPositions refl (AHandle query ▸ ABool committed ▸ Ends) (computes (computed.RayQueryVertexPositions query committed)) (λ ds h. made_complete (λ t. computes (computed.RayQueryVertexPositions t.0 t.1)) (two handle_of as_bool) _ vertex_positions_row ds (query, committed) h) d h
+there d (computes computed.RayQueryProceedResult) h = kind_complete expression_kinds expression_with (codes "RayQueryProceedResult") expression_kind.RayQueryProceedResult refl Ends (computes computed.RayQueryProceedResult) (λ ds h. at_end_complete (computes computed.RayQueryProceedResult) ds h) d h
+there d (computes (computed.RayQueryGetIntersection query committed)) h = kind_complete expression_kinds expression_with (codes "RayQueryGetIntersection") expression_kind.RayQueryGetIntersection refl (AHandle query ▸ ABool committed ▸ Ends) (computes (computed.RayQueryGetIntersection query committed)) (λ ds h. made_complete (λ t. computes (computed.RayQueryGetIntersection t.0 t.1)) (two handle_of as_bool) _ get_intersection_row ds (query, committed) h) d h
+there d (computes computed.SubgroupBallotResult) h = kind_complete expression_kinds expression_with (codes "SubgroupBallotResult") expression_kind.SubgroupBallotResult refl Ends (computes computed.SubgroupBallotResult) (λ ds h. at_end_complete (computes computed.SubgroupBallotResult) ds h) d h
+there d (computes (computed.SubgroupOperationResult ty)) h = kind_complete expression_kinds expression_with (codes "SubgroupOperationResult") expression_kind.SubgroupOperationResult refl (AHandle ty ▸ Ends) (computes (computed.SubgroupOperationResult ty)) (λ ds h. made_complete (λ t. computes (computed.SubgroupOperationResult t)) (one handle_of) _ operation_result_row ds ty h) d h
+there d (computes (computed.CooperativeLoad columns rows role block)) h = kind_complete expression_kinds expression_with (codes "CooperativeLoad") expression_kind.CooperativeLoad refl (ASide columns ▸ ASide rows ▸ AWord cooperative_roles role ▸ AHandle block.pointer ▸ AHandle block.stride ▸ ABool block.row_major ▸ Ends) (computes (computed.CooperativeLoad columns rows role block)) (λ ds h. made_complete (λ t. computes (computed.CooperativeLoad t.0 t.1 t.2 (record { pointer = t.3; stride = t.4; row_major = t.5 }))) (six side_of side_of (word_in cooperative_roles) handle_of handle_of as_bool) _ cooperative_load_row ds (columns, rows, role, block.pointer, block.stride, block.row_major) h) d h
+there d (computes (computed.CooperativeMultiplyAdd a b c)) h = kind_complete expression_kinds expression_with (codes "CooperativeMultiplyAdd") expression_kind.CooperativeMultiplyAdd refl (AHandle a ▸ AHandle b ▸ AHandle c ▸ Ends) (computes (computed.CooperativeMultiplyAdd a b c)) (λ ds h. made_complete (λ t. computes (computed.CooperativeMultiplyAdd t.0 t.1 t.2)) (three handle_of handle_of handle_of) _ multiply_add_row ds (a, b, c) h) d h
 
 pub expression_complete : (d : Data) (x : PlainExpression) → AnExpression x d → expression_of d ≡ Some x
 unfolding expression_of

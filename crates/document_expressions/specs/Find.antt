@@ -16,46 +16,46 @@ use Rattle.document_words.specs.Tables.{letters, cooperative_roles, unary_operat
 use Rattle.document_parts.specs.Find.{◌>>=◌, number_of, handle_of, u32_of, signed_of, size_of, side_of, word_in, optional, all_of, at_end, one, two, three, five, six, nine, of_kind, of_word}
 use Rattle.document_expressions.specs.Kinds.{expression_kinds, literal_kinds, level_kinds, query_kinds}
 use Rattle.document_expressions.specs.declared.kinds.ExpressionKind.{ExpressionKind}
-use Rattle.document_expressions.specs.declared.kinds.ExpressionKind.TheVariants as exk
+use Rattle.document_expressions.specs.declared.kinds.ExpressionKind.TheVariants as expression_kind
 use Rattle.document_expressions.specs.declared.kinds.LiteralKind.{LiteralKind}
-use Rattle.document_expressions.specs.declared.kinds.LiteralKind.TheVariants as lik
+use Rattle.document_expressions.specs.declared.kinds.LiteralKind.TheVariants as literal_kind
 use Rattle.document_expressions.specs.declared.kinds.LevelKind.{LevelKind}
-use Rattle.document_expressions.specs.declared.kinds.LevelKind.TheVariants as lek
+use Rattle.document_expressions.specs.declared.kinds.LevelKind.TheVariants as level_kind
 use Rattle.document_expressions.specs.declared.kinds.QueryKind.{QueryKind}
-use Rattle.document_expressions.specs.declared.kinds.QueryKind.TheVariants as quk
+use Rattle.document_expressions.specs.declared.kinds.QueryKind.TheVariants as query_kind
 
 abbrev pub literal_with : LiteralKind → Items → Option Literal
-literal_with lik.Bool ds = option_map literal.Bool (one as_bool ds)
-literal_with lik.I16 ds = option_map literal.I16 (one (signed_of 32767) ds)
-literal_with lik.U16 ds = option_map literal.U16 (one (number_of 65535) ds)
-literal_with lik.I32 ds = option_map literal.I32 (one (signed_of 2147483647) ds)
-literal_with lik.U32 ds = option_map literal.U32 (one (number_of 4294967295) ds)
-literal_with lik.I64 ds = option_map literal.I64 (one (signed_of 9223372036854775807) ds)
-literal_with lik.U64 ds = option_map literal.U64 (one (number_of 18446744073709551615) ds)
-literal_with lik.F16 ds = option_map literal.F16 (one (number_of 65535) ds)
-literal_with lik.F32 ds = option_map literal.F32 (one (number_of 4294967295) ds)
-literal_with lik.F64 ds = option_map literal.F64 (one (number_of 18446744073709551615) ds)
-literal_with lik.AbstractInt ds = option_map literal.AbstractInt (one (signed_of 9223372036854775807) ds)
-literal_with lik.AbstractFloat ds = option_map literal.AbstractFloat (one (number_of 18446744073709551615) ds)
+literal_with literal_kind.Bool ds = option_map literal.Bool (one as_bool ds)
+literal_with literal_kind.I16 ds = option_map literal.I16 (one (signed_of 32767) ds)
+literal_with literal_kind.U16 ds = option_map literal.U16 (one (number_of 65535) ds)
+literal_with literal_kind.I32 ds = option_map literal.I32 (one (signed_of 2147483647) ds)
+literal_with literal_kind.U32 ds = option_map literal.U32 (one (number_of 4294967295) ds)
+literal_with literal_kind.I64 ds = option_map literal.I64 (one (signed_of 9223372036854775807) ds)
+literal_with literal_kind.U64 ds = option_map literal.U64 (one (number_of 18446744073709551615) ds)
+literal_with literal_kind.F16 ds = option_map literal.F16 (one (number_of 65535) ds)
+literal_with literal_kind.F32 ds = option_map literal.F32 (one (number_of 4294967295) ds)
+literal_with literal_kind.F64 ds = option_map literal.F64 (one (number_of 18446744073709551615) ds)
+literal_with literal_kind.AbstractInt ds = option_map literal.AbstractInt (one (signed_of 9223372036854775807) ds)
+literal_with literal_kind.AbstractFloat ds = option_map literal.AbstractFloat (one (number_of 18446744073709551615) ds)
 
 abbrev pub literal_of : Items → Option Literal
 literal_of ds = of_word literal_kinds literal_with ds
 
 abbrev pub level_with : LevelKind → Items → Option SampleLevel
-level_with lek.Auto ds = at_end level.Auto ds
-level_with lek.Zero ds = at_end level.Zero ds
-level_with lek.Exact ds = option_map level.Exact (one handle_of ds)
-level_with lek.Bias ds = option_map level.Bias (one handle_of ds)
-level_with lek.Gradient ds = option_map (λ t. level.Gradient t.0 t.1) (two handle_of handle_of ds)
+level_with level_kind.Auto ds = at_end level.Auto ds
+level_with level_kind.Zero ds = at_end level.Zero ds
+level_with level_kind.Exact ds = option_map level.Exact (one handle_of ds)
+level_with level_kind.Bias ds = option_map level.Bias (one handle_of ds)
+level_with level_kind.Gradient ds = option_map (λ t. level.Gradient t.0 t.1) (two handle_of handle_of ds)
 
 abbrev pub level_of : Data → Option SampleLevel
 level_of d = of_kind level_kinds level_with d
 
 abbrev pub query_with : QueryKind → Items → Option ImageQuery
-query_with quk.Size ds = option_map query.Size (one (optional handle_of) ds)
-query_with quk.NumLevels ds = at_end query.NumLevels ds
-query_with quk.NumLayers ds = at_end query.NumLayers ds
-query_with quk.NumSamples ds = at_end query.NumSamples ds
+query_with query_kind.Size ds = option_map query.Size (one (optional handle_of) ds)
+query_with query_kind.NumLevels ds = at_end query.NumLevels ds
+query_with query_kind.NumLayers ds = at_end query.NumLayers ds
+query_with query_kind.NumSamples ds = at_end query.NumSamples ds
 
 abbrev pub query_of : Data → Option ImageQuery
 query_of d = of_kind query_kinds query_with d
@@ -184,40 +184,40 @@ abbrev pub multiply_add_of : Items → Option PlainExpression
 multiply_add_of ds = option_map (λ t. computes (computed.CooperativeMultiplyAdd t.0 t.1 t.2)) (three handle_of handle_of handle_of ds)
 
 unfoldable pub expression_with : ExpressionKind → Items → Option PlainExpression
-expression_with exk.Literal ds = option_map (λ l. computes (computed.Literal l)) (literal_of ds)
-expression_with exk.Constant ds = constant_of ds
-expression_with exk.Override ds = override_value_of ds
-expression_with exk.ZeroValue ds = zero_value_of ds
-expression_with exk.Compose ds = composition_of ds
-expression_with exk.Access ds = access_of ds
-expression_with exk.AccessIndex ds = access_index_of ds
-expression_with exk.Splat ds = splat_of ds
-expression_with exk.Swizzle ds = swizzle_of ds
-expression_with exk.FunctionArgument ds = function_argument_of ds
-expression_with exk.GlobalVariable ds = global_variable_of ds
-expression_with exk.LocalVariable ds = local_variable_of ds
-expression_with exk.Load ds = load_of ds
-expression_with exk.ImageSample ds = image_sample_of ds
-expression_with exk.ImageLoad ds = image_load_of ds
-expression_with exk.ImageQuery ds = image_query_of ds
-expression_with exk.Unary ds = unary_of ds
-expression_with exk.Binary ds = binary_of ds
-expression_with exk.Select ds = select_of ds
-expression_with exk.Derivative ds = derivative_of ds
-expression_with exk.Relational ds = relational_of ds
-expression_with exk.Math ds = math_of ds
-expression_with exk.As ds = conversion_of ds
-expression_with exk.CallResult ds = call_result_of ds
-expression_with exk.AtomicResult ds = atomic_result_of ds
-expression_with exk.WorkGroupUniformLoadResult ds = uniform_load_result_of ds
-expression_with exk.ArrayLength ds = array_length_of ds
-expression_with exk.RayQueryVertexPositions ds = vertex_positions_of ds
-expression_with exk.RayQueryProceedResult ds = proceed_result_of ds
-expression_with exk.RayQueryGetIntersection ds = get_intersection_of ds
-expression_with exk.SubgroupBallotResult ds = ballot_result_of ds
-expression_with exk.SubgroupOperationResult ds = operation_result_of ds
-expression_with exk.CooperativeLoad ds = cooperative_load_of ds
-expression_with exk.CooperativeMultiplyAdd ds = multiply_add_of ds
+expression_with expression_kind.Literal ds = option_map (λ l. computes (computed.Literal l)) (literal_of ds)
+expression_with expression_kind.Constant ds = constant_of ds
+expression_with expression_kind.Override ds = override_value_of ds
+expression_with expression_kind.ZeroValue ds = zero_value_of ds
+expression_with expression_kind.Compose ds = composition_of ds
+expression_with expression_kind.Access ds = access_of ds
+expression_with expression_kind.AccessIndex ds = access_index_of ds
+expression_with expression_kind.Splat ds = splat_of ds
+expression_with expression_kind.Swizzle ds = swizzle_of ds
+expression_with expression_kind.FunctionArgument ds = function_argument_of ds
+expression_with expression_kind.GlobalVariable ds = global_variable_of ds
+expression_with expression_kind.LocalVariable ds = local_variable_of ds
+expression_with expression_kind.Load ds = load_of ds
+expression_with expression_kind.ImageSample ds = image_sample_of ds
+expression_with expression_kind.ImageLoad ds = image_load_of ds
+expression_with expression_kind.ImageQuery ds = image_query_of ds
+expression_with expression_kind.Unary ds = unary_of ds
+expression_with expression_kind.Binary ds = binary_of ds
+expression_with expression_kind.Select ds = select_of ds
+expression_with expression_kind.Derivative ds = derivative_of ds
+expression_with expression_kind.Relational ds = relational_of ds
+expression_with expression_kind.Math ds = math_of ds
+expression_with expression_kind.As ds = conversion_of ds
+expression_with expression_kind.CallResult ds = call_result_of ds
+expression_with expression_kind.AtomicResult ds = atomic_result_of ds
+expression_with expression_kind.WorkGroupUniformLoadResult ds = uniform_load_result_of ds
+expression_with expression_kind.ArrayLength ds = array_length_of ds
+expression_with expression_kind.RayQueryVertexPositions ds = vertex_positions_of ds
+expression_with expression_kind.RayQueryProceedResult ds = proceed_result_of ds
+expression_with expression_kind.RayQueryGetIntersection ds = get_intersection_of ds
+expression_with expression_kind.SubgroupBallotResult ds = ballot_result_of ds
+expression_with expression_kind.SubgroupOperationResult ds = operation_result_of ds
+expression_with expression_kind.CooperativeLoad ds = cooperative_load_of ds
+expression_with expression_kind.CooperativeMultiplyAdd ds = multiply_add_of ds
 
 unfoldable pub expression_of : Data → Option PlainExpression
 expression_of d = of_kind expression_kinds expression_with d

@@ -1,13 +1,13 @@
 -- What is found for a function is what its form says.
-use Rattle.std.proofs.Common.{◌≡◌, ◌≤◌, ℕ, List, [], ◌∷◌, Option, Some, option_and_then, refl, sym, ap, subst, ◌∙◌, arith}
+use Rattle.std.proofs.Common.{◌≡◌, ◌≤◌, Some, option_and_then, refl, sym, ap, subst, ◌∙◌, arith}
 use Rattle.serde_json.specs.Data.{Data, null, boolean, number, string, array, object, Items, no_items, item, depth, items_depth}
 use Rattle.serde_json.specs.Find.{as_array, as_str}
 use Rattle.ir_items.specs.Plain.{PlainArgument, PlainLocal, PlainFunction}
 use Rattle.ir_items.specs.declared.functions.FunctionResult.{FunctionResult}
-use Rattle.document_parts.specs.Form.{AHandle, AText, Maybe, AnArray, EachOf, AList, Ends, ◌▸◌}
-use Rattle.document_parts.specs.Find.{handle_of, optional, each, all_of, first, only, is_end, two, three}
-use Rattle.document_parts.proofs.Inverse.{bind_some, guarded, some_is, as_array_some, is_end_true}
-use Rattle.document_parts.proofs.PartLaws.{IsExact, handle_exact, text_exact, optional_exact, list_exact}
+use Rattle.document_parts.specs.Form.{AHandle, AText, Maybe, AnArray, AList, Ends, ◌▸◌}
+use Rattle.document_parts.specs.Find.{handle_of, optional, all_of, first, only, two, three}
+use Rattle.document_parts.proofs.Inverse.{bind_some, some_is, as_array_some, first_some, only_some}
+use Rattle.document_parts.proofs.PartLaws.{IsExact, handle_exact, optional_exact, maybe_text_exact, maybe_handle_exact, list_exact}
 use Rattle.document_parts.proofs.RowLaws.{two_exact, three_exact, array_exact, made_at_sound, made_at_complete}
 use Rattle.document_items.specs.Form.{ABinding}
 use Rattle.document_items.specs.Find.{binding_of}
@@ -19,12 +19,6 @@ use Rattle.document_statements.specs.Find.{block_at}
 use Rattle.document_statements.proofs.StatementLaws.{block_sound, block_complete}
 use Rattle.document_functions.specs.Form.{AnArgument, AResult, ALocal, AFunction}
 use Rattle.document_functions.specs.Find.{max_depth, argument_of, result_of, local_of, FunctionParts, function_parts, function_of}
-
-pub maybe_text_exact : IsExact (optional as_str) (Maybe AText)
-maybe_text_exact = optional_exact as_str AText refl text_exact
-
-pub maybe_handle_exact : IsExact (optional handle_of) (Maybe AHandle)
-maybe_handle_exact = optional_exact handle_of AHandle refl handle_exact
 
 maybe_binding_exact : IsExact (optional binding_of) (Maybe ABinding)
 unfolding binding_of
@@ -87,16 +81,6 @@ locals_exact = list_exact local_of ALocal local_exact
 
 expressions_exact : IsExact (all_of expression_of) (AList AnExpression)
 expressions_exact = list_exact expression_of AnExpression (record { sound = expression_sound; complete = expression_complete })
-
-pub first_some : (ds : Items) (t : Data × Items) → first ds ≡ Some t → ds ≡ item t.0 t.1
-first_some no_items t e = cc
-first_some (item d ds) t e = let x = some_is (d, ds) t e in subst (λ u. item d ds ≡ item u.0 u.1) x refl
-
-pub only_some : (ds : Items) (d : Data) → only ds ≡ Some d → ds ≡ item d no_items
-only_some ds d e =
-    let t = bind_some _ (first ds) d e in
-    let g = guarded (is_end t.0.1) (Some t.0.0) d t.2 in
-    first_some ds t.0 t.1 ∙ (ap (λ r. item t.0.0 r) (is_end_true t.0.1 g.0) ∙ ap (λ x. item x no_items) (some_is t.0.0 d g.1))
 
 -- the value that has these parts
 abbrev parts_data : FunctionParts → Data
@@ -177,22 +161,3 @@ function_complete (number n) f h le = absurd h
 function_complete (string s) f h le = absurd h
 function_complete (array ds) f h le = items_complete f ds h (omega arith)
 function_complete (object ms) f h le = absurd h
-
--- ---- lists of what may nest
-
--- each of a list is found where each is found that is nested no deeper
-pub each_within : {A : Type 0} (f : Data → Option A) (P : A → Data → Type 0) (n : ℕ) → ((d : Data) (x : A) → P x d → depth d ≤ n → f d ≡ Some x)
-    → (ds : Items) (xs : List A) → EachOf P xs ds → items_depth ds ≤ n → each f ds ≡ Some xs
-each_within f P n one no_items [] h le = refl
-each_within f P n one no_items (x ∷ xs) h le = absurd h
-each_within f P n one (item d ds) [] h le = absurd h
-each_within f P n one (item d ds) (x ∷ xs) h le = rw (one d x h.0 (omega arith)) (rw (each_within f P n one ds xs h.1 (omega arith)) refl)
-
-pub list_within : {A : Type 0} (f : Data → Option A) (P : A → Data → Type 0) (n : ℕ) → ((d : Data) (x : A) → P x d → depth d ≤ n → f d ≡ Some x)
-    → (d : Data) (xs : List A) → AList P xs d → depth d ≤ n → all_of f d ≡ Some xs
-list_within f P n one null xs h le = absurd h
-list_within f P n one (boolean b) xs h le = absurd h
-list_within f P n one (number m) xs h le = absurd h
-list_within f P n one (string s) xs h le = absurd h
-list_within f P n one (array ds) xs h le = each_within f P n one ds xs h (omega arith)
-list_within f P n one (object ms) xs h le = absurd h

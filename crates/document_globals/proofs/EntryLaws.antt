@@ -9,14 +9,13 @@ use Rattle.ir_items.specs.declared.entries.MeshStageInfo.{MeshStageInfo}
 use Rattle.document_words.specs.Tables.{conservative_depths, topologies, entry_stages}
 use Rattle.document_parts.specs.Form.{AHandle, AU32, AWord, Maybe, AnArray, Ends, ◌▸◌}
 use Rattle.document_parts.specs.Find.{handle_of, u32_of, word_in, optional, one, three, eight, of_kind}
-use Rattle.document_parts.proofs.PartLaws.{IsExact, handle_exact, u32_exact, word_exact, optional_exact}
+use Rattle.document_parts.proofs.PartLaws.{IsExact, handle_exact, u32_exact, word_exact, optional_exact, maybe_handle_exact}
 use Rattle.document_parts.proofs.RowLaws.{IsExactRow, at_end_sound, at_end_complete, one_exact, three_exact, eight_exact, IsSpelled, kind_sound, kind_complete, made_sound, made_complete, array_exact, made_at_sound, made_at_complete}
 use Rattle.document_globals.specs.Kinds.{early_kinds, early_word}
 use Rattle.document_globals.specs.Form.{AStage, AnEarly, TheSizes, AMesh}
 use Rattle.document_globals.specs.Find.{stage_of, early_with, early_of, sizes_of, mesh_of}
 use Rattle.document_globals.specs.declared.kinds.EarlyKind.{EarlyKind}
-use Rattle.document_globals.specs.declared.kinds.EarlyKind.TheVariants as eak
-use Rattle.document_globals.proofs.GlobalLaws.{maybe_handle_exact}
+use Rattle.document_globals.specs.declared.kinds.EarlyKind.TheVariants as early_kind
 
 pub stage_exact : IsExact stage_of AStage
 stage_exact = word_exact entry_stages
@@ -26,25 +25,25 @@ stage_exact = word_exact entry_stages
 early_spelled : IsSpelled early_word early_kinds
 early_spelled = search rules
 
-force_sound : (ds : Items) (x : EarlyDepthTest) → early_with eak.Force ds ≡ Some x → AnEarly x (array (item (string (codes "Force")) ds))
+force_sound : (ds : Items) (x : EarlyDepthTest) → early_with early_kind.Force ds ≡ Some x → AnEarly x (array (item (string (codes "Force")) ds))
 unfolding early_with AnEarly
 force_sound ds x e = let a = at_end_sound early.Force x ds e in subst (λ y. AnEarly y (array (item (string (codes "Force")) ds))) a.0 (refl, a.1)
 
 allow_row : IsExactRow (one (word_in conservative_depths)) (λ t. AWord conservative_depths t ▸ Ends)
 allow_row = one_exact (word_in conservative_depths) (AWord conservative_depths) (word_exact conservative_depths)
 
-allow_sound : (ds : Items) (x : EarlyDepthTest) → early_with eak.Allow ds ≡ Some x → AnEarly x (array (item (string (codes "Allow")) ds))
+allow_sound : (ds : Items) (x : EarlyDepthTest) → early_with early_kind.Allow ds ≡ Some x → AnEarly x (array (item (string (codes "Allow")) ds))
 unfolding early_with AnEarly
 allow_sound ds x e = made_sound (λ t. early.Allow t) (one (word_in conservative_depths)) _ allow_row ds x e (λ y. AnEarly y (array (item (string (codes "Allow")) ds))) (λ v h. (refl, h))
 
 each_early : (k : EarlyKind) (ds : Items) (x : EarlyDepthTest) → early_with k ds ≡ Some x → AnEarly x (array (item (string (early_word k)) ds))
-each_early eak.Force = force_sound
-each_early eak.Allow = allow_sound
+each_early early_kind.Force = force_sound
+each_early early_kind.Allow = allow_sound
 
 early_there : (d : Data) (x : EarlyDepthTest) → AnEarly x d → of_kind early_kinds early_with d ≡ Some x
 unfolding AnEarly early_with
-early_there d early.Force h = kind_complete early_kinds early_with (codes "Force") eak.Force refl Ends early.Force (λ ds h. at_end_complete early.Force ds h) d h
-early_there d (early.Allow conservative) h = kind_complete early_kinds early_with (codes "Allow") eak.Allow refl (AWord conservative_depths conservative ▸ Ends) (early.Allow conservative) (λ ds h. made_complete (λ t. early.Allow t) (one (word_in conservative_depths)) _ allow_row ds conservative h) d h
+early_there d early.Force h = kind_complete early_kinds early_with (codes "Force") early_kind.Force refl Ends early.Force (λ ds h. at_end_complete early.Force ds h) d h
+early_there d (early.Allow conservative) h = kind_complete early_kinds early_with (codes "Allow") early_kind.Allow refl (AWord conservative_depths conservative ▸ Ends) (early.Allow conservative) (λ ds h. made_complete (λ t. early.Allow t) (one (word_in conservative_depths)) _ allow_row ds conservative h) d h
 
 pub early_exact : IsExact early_of AnEarly
 unfolding early_of

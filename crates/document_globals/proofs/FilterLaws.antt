@@ -7,14 +7,13 @@ use Rattle.ir_globals.specs.Plain.{PlainRule, standard, unknown, user, PlainNode
 use Rattle.document_words.specs.Tables.{severities, standard_rules}
 use Rattle.document_parts.specs.Form.{AHandle, AText, AWord, Maybe, AnArray, AList, Ends, ◌▸◌}
 use Rattle.document_parts.specs.Find.{handle_of, word_in, optional, all_of, one, two, three, of_kind}
-use Rattle.document_parts.proofs.PartLaws.{IsExact, text_exact, word_exact, list_exact}
+use Rattle.document_parts.proofs.PartLaws.{IsExact, text_exact, word_exact, list_exact, maybe_handle_exact}
 use Rattle.document_parts.proofs.RowLaws.{IsExactRow, one_exact, two_exact, three_exact, IsSpelled, kind_sound, kind_complete, made_sound, made_complete, array_exact, made_at_sound, made_at_complete}
 use Rattle.document_globals.specs.Kinds.{rule_kinds, rule_word}
 use Rattle.document_globals.specs.Form.{ARule, AFilter, AllFilters}
 use Rattle.document_globals.specs.Find.{rule_with, rule_of, filter_of, filters_of}
 use Rattle.document_globals.specs.declared.kinds.RuleKind.{RuleKind}
-use Rattle.document_globals.specs.declared.kinds.RuleKind.TheVariants as ruk
-use Rattle.document_globals.proofs.GlobalLaws.{maybe_handle_exact}
+use Rattle.document_globals.specs.declared.kinds.RuleKind.TheVariants as rule_kind
 
 -- ---- rules
 
@@ -24,34 +23,34 @@ rule_spelled = search rules
 standard_row : IsExactRow (one (word_in standard_rules)) (λ t. AWord standard_rules t ▸ Ends)
 standard_row = one_exact (word_in standard_rules) (AWord standard_rules) (word_exact standard_rules)
 
-standard_sound : (ds : Items) (x : PlainRule) → rule_with ruk.Standard ds ≡ Some x → ARule x (array (item (string (codes "Standard")) ds))
+standard_sound : (ds : Items) (x : PlainRule) → rule_with rule_kind.Standard ds ≡ Some x → ARule x (array (item (string (codes "Standard")) ds))
 unfolding rule_with ARule
 standard_sound ds x e = made_sound (λ t. standard t) (one (word_in standard_rules)) _ standard_row ds x e (λ y. ARule y (array (item (string (codes "Standard")) ds))) (λ v h. (refl, h))
 
 unknown_row : IsExactRow (one as_str) (λ t. AText t ▸ Ends)
 unknown_row = one_exact as_str AText text_exact
 
-unknown_sound : (ds : Items) (x : PlainRule) → rule_with ruk.Unknown ds ≡ Some x → ARule x (array (item (string (codes "Unknown")) ds))
+unknown_sound : (ds : Items) (x : PlainRule) → rule_with rule_kind.Unknown ds ≡ Some x → ARule x (array (item (string (codes "Unknown")) ds))
 unfolding rule_with ARule
 unknown_sound ds x e = made_sound (λ t. unknown t) (one as_str) _ unknown_row ds x e (λ y. ARule y (array (item (string (codes "Unknown")) ds))) (λ v h. (refl, h))
 
 user_row : IsExactRow (two as_str as_str) (λ t. AText t.0 ▸ AText t.1 ▸ Ends)
 user_row = two_exact as_str AText text_exact as_str AText text_exact
 
-user_sound : (ds : Items) (x : PlainRule) → rule_with ruk.User ds ≡ Some x → ARule x (array (item (string (codes "User")) ds))
+user_sound : (ds : Items) (x : PlainRule) → rule_with rule_kind.User ds ≡ Some x → ARule x (array (item (string (codes "User")) ds))
 unfolding rule_with ARule
 user_sound ds x e = made_sound (λ t. user t.0 t.1) (two as_str as_str) _ user_row ds x e (λ y. ARule y (array (item (string (codes "User")) ds))) (λ v h. (refl, h))
 
 each_rule : (k : RuleKind) (ds : Items) (x : PlainRule) → rule_with k ds ≡ Some x → ARule x (array (item (string (rule_word k)) ds))
-each_rule ruk.Standard = standard_sound
-each_rule ruk.Unknown = unknown_sound
-each_rule ruk.User = user_sound
+each_rule rule_kind.Standard = standard_sound
+each_rule rule_kind.Unknown = unknown_sound
+each_rule rule_kind.User = user_sound
 
 rule_there : (d : Data) (x : PlainRule) → ARule x d → of_kind rule_kinds rule_with d ≡ Some x
 unfolding ARule rule_with
-rule_there d (standard rule) h = kind_complete rule_kinds rule_with (codes "Standard") ruk.Standard refl (AWord standard_rules rule ▸ Ends) (standard rule) (λ ds h. made_complete (λ t. standard t) (one (word_in standard_rules)) _ standard_row ds rule h) d h
-rule_there d (unknown name) h = kind_complete rule_kinds rule_with (codes "Unknown") ruk.Unknown refl (AText name ▸ Ends) (unknown name) (λ ds h. made_complete (λ t. unknown t) (one as_str) _ unknown_row ds name h) d h
-rule_there d (user tool name) h = kind_complete rule_kinds rule_with (codes "User") ruk.User refl (AText tool ▸ AText name ▸ Ends) (user tool name) (λ ds h. made_complete (λ t. user t.0 t.1) (two as_str as_str) _ user_row ds (tool, name) h) d h
+rule_there d (standard rule) h = kind_complete rule_kinds rule_with (codes "Standard") rule_kind.Standard refl (AWord standard_rules rule ▸ Ends) (standard rule) (λ ds h. made_complete (λ t. standard t) (one (word_in standard_rules)) _ standard_row ds rule h) d h
+rule_there d (unknown name) h = kind_complete rule_kinds rule_with (codes "Unknown") rule_kind.Unknown refl (AText name ▸ Ends) (unknown name) (λ ds h. made_complete (λ t. unknown t) (one as_str) _ unknown_row ds name h) d h
+rule_there d (user tool name) h = kind_complete rule_kinds rule_with (codes "User") rule_kind.User refl (AText tool ▸ AText name ▸ Ends) (user tool name) (λ ds h. made_complete (λ t. user t.0 t.1) (two as_str as_str) _ user_row ds (tool, name) h) d h
 
 rule_exact : IsExact rule_of ARule
 unfolding rule_of

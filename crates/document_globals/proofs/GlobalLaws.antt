@@ -7,19 +7,13 @@ use Rattle.document_words.specs.Unions.{decoration_union}
 use Rattle.document_words.specs.Tables.{memory_decorations}
 use Rattle.document_parts.specs.Form.{AHandle, AText, ASet, Maybe, AnArray, AList, Ends, ◌▸◌}
 use Rattle.document_parts.specs.Find.{handle_of, set_of, optional, all_of, three, four, six}
-use Rattle.document_parts.proofs.PartLaws.{IsExact, number_exact, handle_exact, text_exact, optional_exact, list_exact, set_exact}
+use Rattle.document_parts.proofs.PartLaws.{IsExact, number_exact, handle_exact, optional_exact, maybe_text_exact, maybe_handle_exact, list_exact, set_exact}
 use Rattle.document_parts.proofs.RowLaws.{three_exact, four_exact, six_exact, array_exact, made_at_sound, made_at_complete}
 use Rattle.document_items.specs.Form.{ASpace, AResource}
 use Rattle.document_items.specs.Find.{space_of, resource_of}
 use Rattle.document_items.proofs.PartTypeLaws.{space_exact, resource_exact}
 use Rattle.document_globals.specs.Form.{AConstant, AnId, AnOverride, AGlobal}
 use Rattle.document_globals.specs.Find.{constant_of, id_of, override_of, global_of}
-
-pub maybe_text_exact : IsExact (optional as_str) (Maybe AText)
-maybe_text_exact = optional_exact as_str AText refl text_exact
-
-pub maybe_handle_exact : IsExact (optional handle_of) (Maybe AHandle)
-maybe_handle_exact = optional_exact handle_of AHandle refl handle_exact
 
 maybe_id_exact : IsExact (optional id_of) (Maybe AnId)
 maybe_id_exact = optional_exact id_of AnId refl (number_exact 65535)

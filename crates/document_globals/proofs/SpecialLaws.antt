@@ -10,7 +10,7 @@ use Rattle.std.proofs.lemmas.Map.Made.{is_some-lookup, AllPairs-from_IsDistinct,
 use Rattle.serde_json.specs.Data.{Data, string, array, Items, no_items, item}
 use Rattle.serde_json.specs.Find.{as_array}
 use Rattle.ir_kinds.specs.declared.predeclared.PredeclaredType.{PredeclaredType}
-use Rattle.ir_kinds.specs.declared.predeclared.PredeclaredType.TheVariants as pre
+use Rattle.ir_kinds.specs.declared.predeclared.PredeclaredType.TheVariants as predeclared_types
 use Rattle.ir_kinds.specs.contracts.predeclared.PredeclaredTypePartialEq.TheImpl as same
 use Rattle.ir_kinds.specs.contracts.predeclared.PredeclaredTypeEq.TheImpl.Laws as laws
 use Rattle.ir_globals.specs.Plain.{PlainSpecial}
@@ -18,14 +18,13 @@ use Rattle.document_words.specs.Tables.{scalars}
 use Rattle.document_parts.specs.Form.{AHandle, ASize, AWord, Maybe, AnArray, AList, Ends, ◌▸◌}
 use Rattle.document_parts.specs.Find.{handle_of, size_of, word_in, optional, each, all_of, one, two, four, of_kind}
 use Rattle.document_parts.proofs.Inverse.{bind_some, chosen, some_is}
-use Rattle.document_parts.proofs.PartLaws.{IsExact, handle_exact, size_exact, word_exact, optional_exact, list_exact}
+use Rattle.document_parts.proofs.PartLaws.{IsExact, handle_exact, size_exact, word_exact, optional_exact, list_exact, maybe_handle_exact}
 use Rattle.document_parts.proofs.RowLaws.{IsExactRow, one_exact, two_exact, four_exact, IsSpelled, kind_sound, kind_complete, made_sound, made_complete, array_exact, made_at_sound, made_at_complete}
 use Rattle.document_globals.specs.Kinds.{predeclared_kinds, predeclared_word}
 use Rattle.document_globals.specs.Form.{APredeclared, APair, ThePairs, ASpecial}
 use Rattle.document_globals.specs.Find.{predeclared_with, predeclared_of, pair_of, pairs_with, pairs_of, special_of}
 use Rattle.document_globals.specs.declared.kinds.PredeclaredKind.{PredeclaredKind}
-use Rattle.document_globals.specs.declared.kinds.PredeclaredKind.TheVariants as prk
-use Rattle.document_globals.proofs.GlobalLaws.{maybe_handle_exact}
+use Rattle.document_globals.specs.declared.kinds.PredeclaredKind.TheVariants as predeclared_kind
 
 -- ---- predeclared types
 
@@ -38,31 +37,31 @@ predeclared_spelled = search rules
 exchange_row : IsExactRow (one (word_in scalars)) (λ t. AWord scalars t ▸ Ends)
 exchange_row = one_exact (word_in scalars) (AWord scalars) (word_exact scalars)
 
-exchange_sound : (ds : Items) (x : PredeclaredType) → predeclared_with prk.AtomicCompareExchangeWeakResult ds ≡ Some x → APredeclared x (array (item (string (codes "AtomicCompareExchangeWeakResult")) ds))
+exchange_sound : (ds : Items) (x : PredeclaredType) → predeclared_with predeclared_kind.AtomicCompareExchangeWeakResult ds ≡ Some x → APredeclared x (array (item (string (codes "AtomicCompareExchangeWeakResult")) ds))
 unfolding predeclared_with APredeclared
-exchange_sound ds x e = made_sound (λ t. pre.AtomicCompareExchangeWeakResult t) (one (word_in scalars)) _ exchange_row ds x e (λ y. APredeclared y (array (item (string (codes "AtomicCompareExchangeWeakResult")) ds))) (λ v h. (refl, h))
+exchange_sound ds x e = made_sound (λ t. predeclared_types.AtomicCompareExchangeWeakResult t) (one (word_in scalars)) _ exchange_row ds x e (λ y. APredeclared y (array (item (string (codes "AtomicCompareExchangeWeakResult")) ds))) (λ v h. (refl, h))
 
 parts_row : IsExactRow (two (optional size_of) (word_in scalars)) (λ t. Maybe ASize t.0 ▸ AWord scalars t.1 ▸ Ends)
 parts_row = two_exact (optional size_of) (Maybe ASize) maybe_size_exact (word_in scalars) (AWord scalars) (word_exact scalars)
 
-modf_sound : (ds : Items) (x : PredeclaredType) → predeclared_with prk.ModfResult ds ≡ Some x → APredeclared x (array (item (string (codes "ModfResult")) ds))
+modf_sound : (ds : Items) (x : PredeclaredType) → predeclared_with predeclared_kind.ModfResult ds ≡ Some x → APredeclared x (array (item (string (codes "ModfResult")) ds))
 unfolding predeclared_with APredeclared
-modf_sound ds x e = made_sound (λ t. pre.ModfResult t.0 t.1) (two (optional size_of) (word_in scalars)) _ parts_row ds x e (λ y. APredeclared y (array (item (string (codes "ModfResult")) ds))) (λ v h. (refl, h))
+modf_sound ds x e = made_sound (λ t. predeclared_types.ModfResult t.0 t.1) (two (optional size_of) (word_in scalars)) _ parts_row ds x e (λ y. APredeclared y (array (item (string (codes "ModfResult")) ds))) (λ v h. (refl, h))
 
-frexp_sound : (ds : Items) (x : PredeclaredType) → predeclared_with prk.FrexpResult ds ≡ Some x → APredeclared x (array (item (string (codes "FrexpResult")) ds))
+frexp_sound : (ds : Items) (x : PredeclaredType) → predeclared_with predeclared_kind.FrexpResult ds ≡ Some x → APredeclared x (array (item (string (codes "FrexpResult")) ds))
 unfolding predeclared_with APredeclared
-frexp_sound ds x e = made_sound (λ t. pre.FrexpResult t.0 t.1) (two (optional size_of) (word_in scalars)) _ parts_row ds x e (λ y. APredeclared y (array (item (string (codes "FrexpResult")) ds))) (λ v h. (refl, h))
+frexp_sound ds x e = made_sound (λ t. predeclared_types.FrexpResult t.0 t.1) (two (optional size_of) (word_in scalars)) _ parts_row ds x e (λ y. APredeclared y (array (item (string (codes "FrexpResult")) ds))) (λ v h. (refl, h))
 
 each_predeclared : (k : PredeclaredKind) (ds : Items) (x : PredeclaredType) → predeclared_with k ds ≡ Some x → APredeclared x (array (item (string (predeclared_word k)) ds))
-each_predeclared prk.AtomicCompareExchangeWeakResult = exchange_sound
-each_predeclared prk.ModfResult = modf_sound
-each_predeclared prk.FrexpResult = frexp_sound
+each_predeclared predeclared_kind.AtomicCompareExchangeWeakResult = exchange_sound
+each_predeclared predeclared_kind.ModfResult = modf_sound
+each_predeclared predeclared_kind.FrexpResult = frexp_sound
 
 predeclared_there : (d : Data) (x : PredeclaredType) → APredeclared x d → of_kind predeclared_kinds predeclared_with d ≡ Some x
 unfolding APredeclared predeclared_with
-predeclared_there d (pre.AtomicCompareExchangeWeakResult scalar) h = kind_complete predeclared_kinds predeclared_with (codes "AtomicCompareExchangeWeakResult") prk.AtomicCompareExchangeWeakResult refl (AWord scalars scalar ▸ Ends) (pre.AtomicCompareExchangeWeakResult scalar) (λ ds h. made_complete (λ t. pre.AtomicCompareExchangeWeakResult t) (one (word_in scalars)) _ exchange_row ds scalar h) d h
-predeclared_there d (pre.ModfResult size scalar) h = kind_complete predeclared_kinds predeclared_with (codes "ModfResult") prk.ModfResult refl (Maybe ASize size ▸ AWord scalars scalar ▸ Ends) (pre.ModfResult size scalar) (λ ds h. made_complete (λ t. pre.ModfResult t.0 t.1) (two (optional size_of) (word_in scalars)) _ parts_row ds (size, scalar) h) d h
-predeclared_there d (pre.FrexpResult size scalar) h = kind_complete predeclared_kinds predeclared_with (codes "FrexpResult") prk.FrexpResult refl (Maybe ASize size ▸ AWord scalars scalar ▸ Ends) (pre.FrexpResult size scalar) (λ ds h. made_complete (λ t. pre.FrexpResult t.0 t.1) (two (optional size_of) (word_in scalars)) _ parts_row ds (size, scalar) h) d h
+predeclared_there d (predeclared_types.AtomicCompareExchangeWeakResult scalar) h = kind_complete predeclared_kinds predeclared_with (codes "AtomicCompareExchangeWeakResult") predeclared_kind.AtomicCompareExchangeWeakResult refl (AWord scalars scalar ▸ Ends) (predeclared_types.AtomicCompareExchangeWeakResult scalar) (λ ds h. made_complete (λ t. predeclared_types.AtomicCompareExchangeWeakResult t) (one (word_in scalars)) _ exchange_row ds scalar h) d h
+predeclared_there d (predeclared_types.ModfResult size scalar) h = kind_complete predeclared_kinds predeclared_with (codes "ModfResult") predeclared_kind.ModfResult refl (Maybe ASize size ▸ AWord scalars scalar ▸ Ends) (predeclared_types.ModfResult size scalar) (λ ds h. made_complete (λ t. predeclared_types.ModfResult t.0 t.1) (two (optional size_of) (word_in scalars)) _ parts_row ds (size, scalar) h) d h
+predeclared_there d (predeclared_types.FrexpResult size scalar) h = kind_complete predeclared_kinds predeclared_with (codes "FrexpResult") predeclared_kind.FrexpResult refl (Maybe ASize size ▸ AWord scalars scalar ▸ Ends) (predeclared_types.FrexpResult size scalar) (λ ds h. made_complete (λ t. predeclared_types.FrexpResult t.0 t.1) (two (optional size_of) (word_in scalars)) _ parts_row ds (size, scalar) h) d h
 
 predeclared_exact : IsExact predeclared_of APredeclared
 unfolding predeclared_of

@@ -4,7 +4,7 @@ use Rattle.std.specs.Map.{lookup as value_at}
 use Rattle.serde_json.specs.Data.{Data, Items, no_items, item}
 use Rattle.serde_json.specs.Find.{as_array, as_str}
 use Rattle.ir_kinds.specs.declared.predeclared.PredeclaredType.{PredeclaredType}
-use Rattle.ir_kinds.specs.declared.predeclared.PredeclaredType.TheVariants as pre
+use Rattle.ir_kinds.specs.declared.predeclared.PredeclaredType.TheVariants as predeclared_types
 use Rattle.ir_kinds.specs.contracts.predeclared.PredeclaredTypePartialEq.TheImpl as same
 use Rattle.ir_kinds.specs.declared.settings.ShaderStage.{ShaderStage}
 use Rattle.ir_kinds.specs.declared.stages.EarlyDepthTest.{EarlyDepthTest}
@@ -17,11 +17,11 @@ use Rattle.document_parts.specs.Find.{◌>>=◌, number_of, handle_of, u32_of, s
 use Rattle.document_items.specs.Find.{space_of, resource_of}
 use Rattle.document_globals.specs.Kinds.{rule_kinds, predeclared_kinds, early_kinds}
 use Rattle.document_globals.specs.declared.kinds.RuleKind.{RuleKind}
-use Rattle.document_globals.specs.declared.kinds.RuleKind.TheVariants as ruk
+use Rattle.document_globals.specs.declared.kinds.RuleKind.TheVariants as rule_kind
 use Rattle.document_globals.specs.declared.kinds.PredeclaredKind.{PredeclaredKind}
-use Rattle.document_globals.specs.declared.kinds.PredeclaredKind.TheVariants as prk
+use Rattle.document_globals.specs.declared.kinds.PredeclaredKind.TheVariants as predeclared_kind
 use Rattle.document_globals.specs.declared.kinds.EarlyKind.{EarlyKind}
-use Rattle.document_globals.specs.declared.kinds.EarlyKind.TheVariants as eak
+use Rattle.document_globals.specs.declared.kinds.EarlyKind.TheVariants as early_kind
 
 -- ---- constants, overrides and global variables
 
@@ -40,9 +40,9 @@ global_of d = option_map (λ t. record { name = t.0; space = t.1; binding = t.2;
 -- ---- filters
 
 unfoldable pub rule_with : RuleKind → Items → Option PlainRule
-rule_with ruk.Standard ds = option_map (λ t. standard t) (one (word_in standard_rules) ds)
-rule_with ruk.Unknown ds = option_map (λ t. unknown t) (one as_str ds)
-rule_with ruk.User ds = option_map (λ t. user t.0 t.1) (two as_str as_str ds)
+rule_with rule_kind.Standard ds = option_map (λ t. standard t) (one (word_in standard_rules) ds)
+rule_with rule_kind.Unknown ds = option_map (λ t. unknown t) (one as_str ds)
+rule_with rule_kind.User ds = option_map (λ t. user t.0 t.1) (two as_str as_str ds)
 
 unfoldable pub rule_of : Data → Option PlainRule
 rule_of d = of_kind rule_kinds rule_with d
@@ -56,9 +56,9 @@ filters_of d = as_array d >>= two (all_of filter_of) (optional handle_of)
 -- ---- special types
 
 unfoldable pub predeclared_with : PredeclaredKind → Items → Option PredeclaredType
-predeclared_with prk.AtomicCompareExchangeWeakResult ds = option_map (λ t. pre.AtomicCompareExchangeWeakResult t) (one (word_in scalars) ds)
-predeclared_with prk.ModfResult ds = option_map (λ t. pre.ModfResult t.0 t.1) (two (optional size_of) (word_in scalars) ds)
-predeclared_with prk.FrexpResult ds = option_map (λ t. pre.FrexpResult t.0 t.1) (two (optional size_of) (word_in scalars) ds)
+predeclared_with predeclared_kind.AtomicCompareExchangeWeakResult ds = option_map (λ t. predeclared_types.AtomicCompareExchangeWeakResult t) (one (word_in scalars) ds)
+predeclared_with predeclared_kind.ModfResult ds = option_map (λ t. predeclared_types.ModfResult t.0 t.1) (two (optional size_of) (word_in scalars) ds)
+predeclared_with predeclared_kind.FrexpResult ds = option_map (λ t. predeclared_types.FrexpResult t.0 t.1) (two (optional size_of) (word_in scalars) ds)
 
 unfoldable pub predeclared_of : Data → Option PredeclaredType
 predeclared_of d = of_kind predeclared_kinds predeclared_with d
@@ -85,8 +85,8 @@ abbrev pub stage_of : Data → Option ShaderStage
 stage_of d = word_in entry_stages d
 
 unfoldable pub early_with : EarlyKind → Items → Option EarlyDepthTest
-early_with eak.Force ds = at_end early.Force ds
-early_with eak.Allow ds = option_map (λ t. early.Allow t) (one (word_in conservative_depths) ds)
+early_with early_kind.Force ds = at_end early.Force ds
+early_with early_kind.Allow ds = option_map (λ t. early.Allow t) (one (word_in conservative_depths) ds)
 
 unfoldable pub early_of : Data → Option EarlyDepthTest
 early_of d = of_kind early_kinds early_with d

@@ -3,7 +3,7 @@ use Rattle.std.specs.Prelude.{◌≢◌, ℕ, List, [], ◌∷◌, Option, codes
 use Rattle.std.specs.Map.{keys_of}
 use Rattle.serde_json.specs.Data.{Data}
 use Rattle.ir_kinds.specs.declared.predeclared.PredeclaredType.{PredeclaredType}
-use Rattle.ir_kinds.specs.declared.predeclared.PredeclaredType.TheVariants as pre
+use Rattle.ir_kinds.specs.declared.predeclared.PredeclaredType.TheVariants as predeclared_types
 use Rattle.ir_kinds.specs.declared.settings.ShaderStage.{ShaderStage}
 use Rattle.ir_kinds.specs.declared.stages.EarlyDepthTest.{EarlyDepthTest}
 use Rattle.ir_kinds.specs.declared.stages.EarlyDepthTest.TheVariants as early
@@ -46,9 +46,9 @@ AllFilters t = AnArray (AList AFilter t.0 ▸ Maybe AHandle t.1 ▸ Ends)
 -- ---- special types
 
 unfoldable pub APredeclared : PredeclaredType → Data → Type 0
-APredeclared (pre.AtomicCompareExchangeWeakResult scalar) = Tagged (codes "AtomicCompareExchangeWeakResult") (AWord scalars scalar ▸ Ends)
-APredeclared (pre.ModfResult size scalar) = Tagged (codes "ModfResult") (Maybe ASize size ▸ AWord scalars scalar ▸ Ends)
-APredeclared (pre.FrexpResult size scalar) = Tagged (codes "FrexpResult") (Maybe ASize size ▸ AWord scalars scalar ▸ Ends)
+APredeclared (predeclared_types.AtomicCompareExchangeWeakResult scalar) = Tagged (codes "AtomicCompareExchangeWeakResult") (AWord scalars scalar ▸ Ends)
+APredeclared (predeclared_types.ModfResult size scalar) = Tagged (codes "ModfResult") (Maybe ASize size ▸ AWord scalars scalar ▸ Ends)
+APredeclared (predeclared_types.FrexpResult size scalar) = Tagged (codes "FrexpResult") (Maybe ASize size ▸ AWord scalars scalar ▸ Ends)
 
 -- a predeclared type, and the handle of the type that the module has for it
 abbrev pub APair : PredeclaredType × ℕ → Data → Type 0

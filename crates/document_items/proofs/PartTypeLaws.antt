@@ -7,16 +7,16 @@ use Rattle.std.specs.List.{AllByRecursion}
 use Rattle.serde_json.specs.Data.{Data, null, boolean, number, string, array, object, Items, no_items, item}
 use Rattle.serde_json.specs.Find.{as_array, as_bool, as_str}
 use Rattle.ir_kinds.specs.declared.bindings.BuiltIn.{BuiltIn}
-use Rattle.ir_kinds.specs.declared.bindings.BuiltIn.TheVariants as b
+use Rattle.ir_kinds.specs.declared.bindings.BuiltIn.TheVariants as built_in_kinds
 use Rattle.ir_kinds.specs.declared.bindings.Binding.{Binding}
-use Rattle.ir_kinds.specs.declared.bindings.Binding.TheVariants as bnd
+use Rattle.ir_kinds.specs.declared.bindings.Binding.TheVariants as bindings
 use Rattle.ir_kinds.specs.declared.bindings.ResourceBinding.{ResourceBinding}
 use Rattle.ir_kinds.specs.declared.images.ImageClass.{ImageClass}
-use Rattle.ir_kinds.specs.declared.images.ImageClass.TheVariants as cls
+use Rattle.ir_kinds.specs.declared.images.ImageClass.TheVariants as image_classes
 use Rattle.ir_kinds.specs.declared.spaces.AddressSpace.{AddressSpace}
 use Rattle.ir_kinds.specs.declared.spaces.AddressSpace.TheVariants as space
 use Rattle.ir_types.specs.declared.types.ArraySize.{ArraySize}
-use Rattle.ir_types.specs.declared.types.ArraySize.TheVariants as asz
+use Rattle.ir_types.specs.declared.types.ArraySize.TheVariants as array_sizes
 use Rattle.ir_flags.specs.declared.memory.StorageAccess.{StorageAccess}
 use Rattle.document_words.specs.Unions.{access_union}
 use Rattle.document_words.specs.Lookup.{lookup}
@@ -30,11 +30,11 @@ use Rattle.document_items.specs.Kinds.{array_size_kinds, array_size_word, class_
 use Rattle.document_items.specs.Form.{APositive, ABuiltIn, ABinding, AResource, ASpace, AnArraySize, AClass}
 use Rattle.document_items.specs.Find.{positive_of, marked_of, built_in_of, resource_of, storage_of, space_of, binding_with, binding_of, array_size_with, array_size_of, class_with, class_of}
 use Rattle.document_items.specs.declared.kinds.SizeKind.{SizeKind}
-use Rattle.document_items.specs.declared.kinds.SizeKind.TheVariants as ark
+use Rattle.document_items.specs.declared.kinds.SizeKind.TheVariants as size_kind
 use Rattle.document_items.specs.declared.kinds.ClassKind.{ClassKind}
-use Rattle.document_items.specs.declared.kinds.ClassKind.TheVariants as clk
+use Rattle.document_items.specs.declared.kinds.ClassKind.TheVariants as class_kind
 use Rattle.document_items.specs.declared.kinds.BindingKind.{BindingKind}
-use Rattle.document_items.specs.declared.kinds.BindingKind.TheVariants as bik
+use Rattle.document_items.specs.declared.kinds.BindingKind.TheVariants as binding_kind
 
 pub positive_exact : IsExact positive_of APositive
 positive_exact = record { sound = found; complete = there }
@@ -74,10 +74,10 @@ built_in_exact = record { sound = found; complete = there }
     marked : (w : List ℕ) (rest : Items) (x : BuiltIn) → marked_of w rest ≡ Some x → ABuiltIn x (item (string w) rest)
     marked w rest x e =
         elim (chosen (bytes_eq w (codes "Position")) _ _ _ e) [
-          | inl a ↦ made_sound b.Position (one as_bool) _ (one_exact as_bool ABool bool_exact) rest x a.1 (λ y. ABuiltIn y (item (string w) rest)) (λ v h. (ap string (is_word w (codes "Position") a.0), h))
+          | inl a ↦ made_sound built_in_kinds.Position (one as_bool) _ (one_exact as_bool ABool bool_exact) rest x a.1 (λ y. ABuiltIn y (item (string w) rest)) (λ v h. (ap string (is_word w (codes "Position") a.0), h))
           | inr a ↦
               let g = guarded (bytes_eq w (codes "Barycentric")) _ x a.1 in
-              made_sound b.Barycentric (one as_bool) _ (one_exact as_bool ABool bool_exact) rest x g.1 (λ y. ABuiltIn y (item (string w) rest)) (λ v h. (ap string (is_word w (codes "Barycentric") g.0), h))
+              made_sound built_in_kinds.Barycentric (one as_bool) _ (one_exact as_bool ABool bool_exact) rest x g.1 (λ y. ABuiltIn y (item (string w) rest)) (λ v h. (ap string (is_word w (codes "Barycentric") g.0), h))
         ]
 
     alone : (w : List ℕ) (rest : Items) (x y : BuiltIn) → lookup w built_ins ≡ Some y → at_end y rest ≡ Some x → ABuiltIn x (item (string w) rest)
@@ -102,64 +102,64 @@ built_in_exact = record { sound = found; complete = there }
     word_alone (item (array xs) rest) x h = absurd h.0
     word_alone (item (object ms) rest) x h = absurd h.0
 
-    position : (ds : Items) (v : Bool) → (AText (codes "Position") ▸ ABool v ▸ Ends) ds → built_in_of ds ≡ Some (b.Position v)
+    position : (ds : Items) (v : Bool) → (AText (codes "Position") ▸ ABool v ▸ Ends) ds → built_in_of ds ≡ Some (built_in_kinds.Position v)
     position no_items v h = absurd h
-    position (item e rest) v h = rw h.0 (made_complete b.Position (one as_bool) _ (one_exact as_bool ABool bool_exact) rest v h.1)
+    position (item e rest) v h = rw h.0 (made_complete built_in_kinds.Position (one as_bool) _ (one_exact as_bool ABool bool_exact) rest v h.1)
 
-    barycentric : (ds : Items) (v : Bool) → (AText (codes "Barycentric") ▸ ABool v ▸ Ends) ds → built_in_of ds ≡ Some (b.Barycentric v)
+    barycentric : (ds : Items) (v : Bool) → (AText (codes "Barycentric") ▸ ABool v ▸ Ends) ds → built_in_of ds ≡ Some (built_in_kinds.Barycentric v)
     barycentric no_items v h = absurd h
-    barycentric (item e rest) v h = rw h.0 (made_complete b.Barycentric (one as_bool) _ (one_exact as_bool ABool bool_exact) rest v h.1)
+    barycentric (item e rest) v h = rw h.0 (made_complete built_in_kinds.Barycentric (one as_bool) _ (one_exact as_bool ABool bool_exact) rest v h.1)
 
     there : (ds : Items) (x : BuiltIn) → ABuiltIn x ds → built_in_of ds ≡ Some x
-    there ds (b.Position v) h = position ds v h
-    there ds (b.Barycentric v) h = barycentric ds v h
-    there ds b.PrimitiveIndex h = word_alone ds b.PrimitiveIndex h
-    there ds b.ViewIndex h = word_alone ds b.ViewIndex h
-    there ds b.BaseInstance h = word_alone ds b.BaseInstance h
-    there ds b.BaseVertex h = word_alone ds b.BaseVertex h
-    there ds b.ClipDistances h = word_alone ds b.ClipDistances h
-    there ds b.CullDistance h = word_alone ds b.CullDistance h
-    there ds b.InstanceIndex h = word_alone ds b.InstanceIndex h
-    there ds b.PointSize h = word_alone ds b.PointSize h
-    there ds b.VertexIndex h = word_alone ds b.VertexIndex h
-    there ds b.DrawIndex h = word_alone ds b.DrawIndex h
-    there ds b.FragDepth h = word_alone ds b.FragDepth h
-    there ds b.PointCoord h = word_alone ds b.PointCoord h
-    there ds b.FrontFacing h = word_alone ds b.FrontFacing h
-    there ds b.SampleIndex h = word_alone ds b.SampleIndex h
-    there ds b.SampleMask h = word_alone ds b.SampleMask h
-    there ds b.GlobalInvocationId h = word_alone ds b.GlobalInvocationId h
-    there ds b.LocalInvocationId h = word_alone ds b.LocalInvocationId h
-    there ds b.LocalInvocationIndex h = word_alone ds b.LocalInvocationIndex h
-    there ds b.WorkGroupId h = word_alone ds b.WorkGroupId h
-    there ds b.WorkGroupSize h = word_alone ds b.WorkGroupSize h
-    there ds b.NumWorkGroups h = word_alone ds b.NumWorkGroups h
-    there ds b.NumSubgroups h = word_alone ds b.NumSubgroups h
-    there ds b.SubgroupId h = word_alone ds b.SubgroupId h
-    there ds b.SubgroupSize h = word_alone ds b.SubgroupSize h
-    there ds b.SubgroupInvocationId h = word_alone ds b.SubgroupInvocationId h
-    there ds b.MeshTaskSize h = word_alone ds b.MeshTaskSize h
-    there ds b.CullPrimitive h = word_alone ds b.CullPrimitive h
-    there ds b.PointIndex h = word_alone ds b.PointIndex h
-    there ds b.LineIndices h = word_alone ds b.LineIndices h
-    there ds b.TriangleIndices h = word_alone ds b.TriangleIndices h
-    there ds b.VertexCount h = word_alone ds b.VertexCount h
-    there ds b.Vertices h = word_alone ds b.Vertices h
-    there ds b.PrimitiveCount h = word_alone ds b.PrimitiveCount h
-    there ds b.Primitives h = word_alone ds b.Primitives h
-    there ds b.RayInvocationId h = word_alone ds b.RayInvocationId h
-    there ds b.NumRayInvocations h = word_alone ds b.NumRayInvocations h
-    there ds b.InstanceCustomData h = word_alone ds b.InstanceCustomData h
-    there ds b.GeometryIndex h = word_alone ds b.GeometryIndex h
-    there ds b.WorldRayOrigin h = word_alone ds b.WorldRayOrigin h
-    there ds b.WorldRayDirection h = word_alone ds b.WorldRayDirection h
-    there ds b.ObjectRayOrigin h = word_alone ds b.ObjectRayOrigin h
-    there ds b.ObjectRayDirection h = word_alone ds b.ObjectRayDirection h
-    there ds b.RayTmin h = word_alone ds b.RayTmin h
-    there ds b.RayTCurrentMax h = word_alone ds b.RayTCurrentMax h
-    there ds b.ObjectToWorld h = word_alone ds b.ObjectToWorld h
-    there ds b.WorldToObject h = word_alone ds b.WorldToObject h
-    there ds b.HitKind h = word_alone ds b.HitKind h
+    there ds (built_in_kinds.Position v) h = position ds v h
+    there ds (built_in_kinds.Barycentric v) h = barycentric ds v h
+    there ds built_in_kinds.PrimitiveIndex h = word_alone ds built_in_kinds.PrimitiveIndex h
+    there ds built_in_kinds.ViewIndex h = word_alone ds built_in_kinds.ViewIndex h
+    there ds built_in_kinds.BaseInstance h = word_alone ds built_in_kinds.BaseInstance h
+    there ds built_in_kinds.BaseVertex h = word_alone ds built_in_kinds.BaseVertex h
+    there ds built_in_kinds.ClipDistances h = word_alone ds built_in_kinds.ClipDistances h
+    there ds built_in_kinds.CullDistance h = word_alone ds built_in_kinds.CullDistance h
+    there ds built_in_kinds.InstanceIndex h = word_alone ds built_in_kinds.InstanceIndex h
+    there ds built_in_kinds.PointSize h = word_alone ds built_in_kinds.PointSize h
+    there ds built_in_kinds.VertexIndex h = word_alone ds built_in_kinds.VertexIndex h
+    there ds built_in_kinds.DrawIndex h = word_alone ds built_in_kinds.DrawIndex h
+    there ds built_in_kinds.FragDepth h = word_alone ds built_in_kinds.FragDepth h
+    there ds built_in_kinds.PointCoord h = word_alone ds built_in_kinds.PointCoord h
+    there ds built_in_kinds.FrontFacing h = word_alone ds built_in_kinds.FrontFacing h
+    there ds built_in_kinds.SampleIndex h = word_alone ds built_in_kinds.SampleIndex h
+    there ds built_in_kinds.SampleMask h = word_alone ds built_in_kinds.SampleMask h
+    there ds built_in_kinds.GlobalInvocationId h = word_alone ds built_in_kinds.GlobalInvocationId h
+    there ds built_in_kinds.LocalInvocationId h = word_alone ds built_in_kinds.LocalInvocationId h
+    there ds built_in_kinds.LocalInvocationIndex h = word_alone ds built_in_kinds.LocalInvocationIndex h
+    there ds built_in_kinds.WorkGroupId h = word_alone ds built_in_kinds.WorkGroupId h
+    there ds built_in_kinds.WorkGroupSize h = word_alone ds built_in_kinds.WorkGroupSize h
+    there ds built_in_kinds.NumWorkGroups h = word_alone ds built_in_kinds.NumWorkGroups h
+    there ds built_in_kinds.NumSubgroups h = word_alone ds built_in_kinds.NumSubgroups h
+    there ds built_in_kinds.SubgroupId h = word_alone ds built_in_kinds.SubgroupId h
+    there ds built_in_kinds.SubgroupSize h = word_alone ds built_in_kinds.SubgroupSize h
+    there ds built_in_kinds.SubgroupInvocationId h = word_alone ds built_in_kinds.SubgroupInvocationId h
+    there ds built_in_kinds.MeshTaskSize h = word_alone ds built_in_kinds.MeshTaskSize h
+    there ds built_in_kinds.CullPrimitive h = word_alone ds built_in_kinds.CullPrimitive h
+    there ds built_in_kinds.PointIndex h = word_alone ds built_in_kinds.PointIndex h
+    there ds built_in_kinds.LineIndices h = word_alone ds built_in_kinds.LineIndices h
+    there ds built_in_kinds.TriangleIndices h = word_alone ds built_in_kinds.TriangleIndices h
+    there ds built_in_kinds.VertexCount h = word_alone ds built_in_kinds.VertexCount h
+    there ds built_in_kinds.Vertices h = word_alone ds built_in_kinds.Vertices h
+    there ds built_in_kinds.PrimitiveCount h = word_alone ds built_in_kinds.PrimitiveCount h
+    there ds built_in_kinds.Primitives h = word_alone ds built_in_kinds.Primitives h
+    there ds built_in_kinds.RayInvocationId h = word_alone ds built_in_kinds.RayInvocationId h
+    there ds built_in_kinds.NumRayInvocations h = word_alone ds built_in_kinds.NumRayInvocations h
+    there ds built_in_kinds.InstanceCustomData h = word_alone ds built_in_kinds.InstanceCustomData h
+    there ds built_in_kinds.GeometryIndex h = word_alone ds built_in_kinds.GeometryIndex h
+    there ds built_in_kinds.WorldRayOrigin h = word_alone ds built_in_kinds.WorldRayOrigin h
+    there ds built_in_kinds.WorldRayDirection h = word_alone ds built_in_kinds.WorldRayDirection h
+    there ds built_in_kinds.ObjectRayOrigin h = word_alone ds built_in_kinds.ObjectRayOrigin h
+    there ds built_in_kinds.ObjectRayDirection h = word_alone ds built_in_kinds.ObjectRayDirection h
+    there ds built_in_kinds.RayTmin h = word_alone ds built_in_kinds.RayTmin h
+    there ds built_in_kinds.RayTCurrentMax h = word_alone ds built_in_kinds.RayTCurrentMax h
+    there ds built_in_kinds.ObjectToWorld h = word_alone ds built_in_kinds.ObjectToWorld h
+    there ds built_in_kinds.WorldToObject h = word_alone ds built_in_kinds.WorldToObject h
+    there ds built_in_kinds.HitKind h = word_alone ds built_in_kinds.HitKind h
 
 -- ---- address spaces
 
@@ -236,25 +236,25 @@ resource_exact = record { sound = found; complete = there }
 binding_spelled : IsSpelled binding_word binding_kinds
 binding_spelled = search rules
 
-binding_built_in_sound : (ds : Items) (x : Binding) → binding_with bik.BuiltIn ds ≡ Some x → ABinding x (array (item (string (codes "BuiltIn")) ds))
+binding_built_in_sound : (ds : Items) (x : Binding) → binding_with binding_kind.BuiltIn ds ≡ Some x → ABinding x (array (item (string (codes "BuiltIn")) ds))
 unfolding binding_with ABinding
-binding_built_in_sound ds x e = made_sound bnd.BuiltIn built_in_of _ built_in_exact ds x e (λ y. ABinding y (array (item (string (codes "BuiltIn")) ds))) (λ v h. (refl, h))
+binding_built_in_sound ds x e = made_sound bindings.BuiltIn built_in_of _ built_in_exact ds x e (λ y. ABinding y (array (item (string (codes "BuiltIn")) ds))) (λ v h. (refl, h))
 
 binding_location_row : IsExactRow (five u32_of (optional (word_in interpolations)) (optional (word_in samplings)) (optional u32_of) as_bool) (λ t. AU32 t.0 ▸ Maybe (AWord interpolations) t.1 ▸ Maybe (AWord samplings) t.2 ▸ Maybe AU32 t.3 ▸ ABool t.4 ▸ Ends)
 binding_location_row = five_exact u32_of AU32 u32_exact (optional (word_in interpolations)) (Maybe (AWord interpolations)) maybe_interpolation_exact (optional (word_in samplings)) (Maybe (AWord samplings)) maybe_sampling_exact (optional u32_of) (Maybe AU32) maybe_u32_exact as_bool ABool bool_exact
 
-binding_location_sound : (ds : Items) (x : Binding) → binding_with bik.Location ds ≡ Some x → ABinding x (array (item (string (codes "Location")) ds))
+binding_location_sound : (ds : Items) (x : Binding) → binding_with binding_kind.Location ds ≡ Some x → ABinding x (array (item (string (codes "Location")) ds))
 unfolding binding_with ABinding
-binding_location_sound ds x e = made_sound (λ t. (bnd.Location t.0 t.1 t.2 t.3 t.4)) (five u32_of (optional (word_in interpolations)) (optional (word_in samplings)) (optional u32_of) as_bool) _ binding_location_row ds x e (λ y. ABinding y (array (item (string (codes "Location")) ds))) (λ v h. (refl, h))
+binding_location_sound ds x e = made_sound (λ t. (bindings.Location t.0 t.1 t.2 t.3 t.4)) (five u32_of (optional (word_in interpolations)) (optional (word_in samplings)) (optional u32_of) as_bool) _ binding_location_row ds x e (λ y. ABinding y (array (item (string (codes "Location")) ds))) (λ v h. (refl, h))
 
 each_binding : (k : BindingKind) (ds : Items) (x : Binding) → binding_with k ds ≡ Some x → ABinding x (array (item (string (binding_word k)) ds))
-each_binding bik.BuiltIn = binding_built_in_sound
-each_binding bik.Location = binding_location_sound
+each_binding binding_kind.BuiltIn = binding_built_in_sound
+each_binding binding_kind.Location = binding_location_sound
 
 binding_there : (d : Data) (x : Binding) → ABinding x d → of_kind binding_kinds binding_with d ≡ Some x
 unfolding ABinding binding_with
-binding_there d (bnd.BuiltIn b) h = kind_complete binding_kinds binding_with (codes "BuiltIn") bik.BuiltIn refl (ABuiltIn b) (bnd.BuiltIn b) (λ ds h. made_complete bnd.BuiltIn built_in_of _ built_in_exact ds b h) d h
-binding_there d (bnd.Location location interpolation sampling blend_src per_primitive) h = kind_complete binding_kinds binding_with (codes "Location") bik.Location refl (AU32 location ▸ Maybe (AWord interpolations) interpolation ▸ Maybe (AWord samplings) sampling ▸ Maybe AU32 blend_src ▸ ABool per_primitive ▸ Ends) (bnd.Location location interpolation sampling blend_src per_primitive) (λ ds h. made_complete (λ t. (bnd.Location t.0 t.1 t.2 t.3 t.4)) (five u32_of (optional (word_in interpolations)) (optional (word_in samplings)) (optional u32_of) as_bool) _ binding_location_row ds (location, interpolation, sampling, blend_src, per_primitive) h) d h
+binding_there d (bindings.BuiltIn b) h = kind_complete binding_kinds binding_with (codes "BuiltIn") binding_kind.BuiltIn refl (ABuiltIn b) (bindings.BuiltIn b) (λ ds h. made_complete bindings.BuiltIn built_in_of _ built_in_exact ds b h) d h
+binding_there d (bindings.Location location interpolation sampling blend_src per_primitive) h = kind_complete binding_kinds binding_with (codes "Location") binding_kind.Location refl (AU32 location ▸ Maybe (AWord interpolations) interpolation ▸ Maybe (AWord samplings) sampling ▸ Maybe AU32 blend_src ▸ ABool per_primitive ▸ Ends) (bindings.Location location interpolation sampling blend_src per_primitive) (λ ds h. made_complete (λ t. (bindings.Location t.0 t.1 t.2 t.3 t.4)) (five u32_of (optional (word_in interpolations)) (optional (word_in samplings)) (optional u32_of) as_bool) _ binding_location_row ds (location, interpolation, sampling, blend_src, per_primitive) h) d h
 
 pub binding_exact : IsExact binding_of ABinding
 unfolding binding_of
@@ -266,31 +266,31 @@ array_size_spelled = search rules
 array_size_constant_row : IsExactRow (one positive_of) (λ t. APositive t ▸ Ends)
 array_size_constant_row = one_exact positive_of APositive positive_exact
 
-array_size_constant_sound : (ds : Items) (x : ArraySize) → array_size_with ark.Constant ds ≡ Some x → AnArraySize x (array (item (string (codes "Constant")) ds))
+array_size_constant_sound : (ds : Items) (x : ArraySize) → array_size_with size_kind.Constant ds ≡ Some x → AnArraySize x (array (item (string (codes "Constant")) ds))
 unfolding array_size_with AnArraySize
-array_size_constant_sound ds x e = made_sound (λ t. (asz.Constant t)) (one positive_of) _ array_size_constant_row ds x e (λ y. AnArraySize y (array (item (string (codes "Constant")) ds))) (λ v h. (refl, h))
+array_size_constant_sound ds x e = made_sound (λ t. (array_sizes.Constant t)) (one positive_of) _ array_size_constant_row ds x e (λ y. AnArraySize y (array (item (string (codes "Constant")) ds))) (λ v h. (refl, h))
 
 array_size_pending_row : IsExactRow (one handle_of) (λ t. AHandle t ▸ Ends)
 array_size_pending_row = one_exact handle_of AHandle handle_exact
 
-array_size_pending_sound : (ds : Items) (x : ArraySize) → array_size_with ark.Pending ds ≡ Some x → AnArraySize x (array (item (string (codes "Pending")) ds))
+array_size_pending_sound : (ds : Items) (x : ArraySize) → array_size_with size_kind.Pending ds ≡ Some x → AnArraySize x (array (item (string (codes "Pending")) ds))
 unfolding array_size_with AnArraySize
-array_size_pending_sound ds x e = made_sound (λ t. (asz.Pending t)) (one handle_of) _ array_size_pending_row ds x e (λ y. AnArraySize y (array (item (string (codes "Pending")) ds))) (λ v h. (refl, h))
+array_size_pending_sound ds x e = made_sound (λ t. (array_sizes.Pending t)) (one handle_of) _ array_size_pending_row ds x e (λ y. AnArraySize y (array (item (string (codes "Pending")) ds))) (λ v h. (refl, h))
 
-array_size_dynamic_sound : (ds : Items) (x : ArraySize) → array_size_with ark.Dynamic ds ≡ Some x → AnArraySize x (array (item (string (codes "Dynamic")) ds))
+array_size_dynamic_sound : (ds : Items) (x : ArraySize) → array_size_with size_kind.Dynamic ds ≡ Some x → AnArraySize x (array (item (string (codes "Dynamic")) ds))
 unfolding array_size_with AnArraySize
-array_size_dynamic_sound ds x e = let a = at_end_sound asz.Dynamic x ds e in subst (λ y. AnArraySize y (array (item (string (codes "Dynamic")) ds))) a.0 (refl, a.1)
+array_size_dynamic_sound ds x e = let a = at_end_sound array_sizes.Dynamic x ds e in subst (λ y. AnArraySize y (array (item (string (codes "Dynamic")) ds))) a.0 (refl, a.1)
 
 each_array_size : (k : SizeKind) (ds : Items) (x : ArraySize) → array_size_with k ds ≡ Some x → AnArraySize x (array (item (string (array_size_word k)) ds))
-each_array_size ark.Constant = array_size_constant_sound
-each_array_size ark.Pending = array_size_pending_sound
-each_array_size ark.Dynamic = array_size_dynamic_sound
+each_array_size size_kind.Constant = array_size_constant_sound
+each_array_size size_kind.Pending = array_size_pending_sound
+each_array_size size_kind.Dynamic = array_size_dynamic_sound
 
 array_size_there : (d : Data) (x : ArraySize) → AnArraySize x d → of_kind array_size_kinds array_size_with d ≡ Some x
 unfolding AnArraySize array_size_with
-array_size_there d (asz.Constant count) h = kind_complete array_size_kinds array_size_with (codes "Constant") ark.Constant refl (APositive count ▸ Ends) (asz.Constant count) (λ ds h. made_complete (λ t. (asz.Constant t)) (one positive_of) _ array_size_constant_row ds count h) d h
-array_size_there d (asz.Pending length) h = kind_complete array_size_kinds array_size_with (codes "Pending") ark.Pending refl (AHandle length ▸ Ends) (asz.Pending length) (λ ds h. made_complete (λ t. (asz.Pending t)) (one handle_of) _ array_size_pending_row ds length h) d h
-array_size_there d asz.Dynamic h = kind_complete array_size_kinds array_size_with (codes "Dynamic") ark.Dynamic refl Ends asz.Dynamic (λ ds h. at_end_complete asz.Dynamic ds h) d h
+array_size_there d (array_sizes.Constant count) h = kind_complete array_size_kinds array_size_with (codes "Constant") size_kind.Constant refl (APositive count ▸ Ends) (array_sizes.Constant count) (λ ds h. made_complete (λ t. (array_sizes.Constant t)) (one positive_of) _ array_size_constant_row ds count h) d h
+array_size_there d (array_sizes.Pending length) h = kind_complete array_size_kinds array_size_with (codes "Pending") size_kind.Pending refl (AHandle length ▸ Ends) (array_sizes.Pending length) (λ ds h. made_complete (λ t. (array_sizes.Pending t)) (one handle_of) _ array_size_pending_row ds length h) d h
+array_size_there d array_sizes.Dynamic h = kind_complete array_size_kinds array_size_with (codes "Dynamic") size_kind.Dynamic refl Ends array_sizes.Dynamic (λ ds h. at_end_complete array_sizes.Dynamic ds h) d h
 
 pub array_size_exact : IsExact array_size_of AnArraySize
 unfolding array_size_of
@@ -302,40 +302,40 @@ class_spelled = search rules
 class_sampled_row : IsExactRow (two (word_in scalar_kinds) as_bool) (λ t. AWord scalar_kinds t.0 ▸ ABool t.1 ▸ Ends)
 class_sampled_row = two_exact (word_in scalar_kinds) (AWord scalar_kinds) (word_exact scalar_kinds) as_bool ABool bool_exact
 
-class_sampled_sound : (ds : Items) (x : ImageClass) → class_with clk.Sampled ds ≡ Some x → AClass x (array (item (string (codes "Sampled")) ds))
+class_sampled_sound : (ds : Items) (x : ImageClass) → class_with class_kind.Sampled ds ≡ Some x → AClass x (array (item (string (codes "Sampled")) ds))
 unfolding class_with AClass
-class_sampled_sound ds x e = made_sound (λ t. (cls.Sampled t.0 t.1)) (two (word_in scalar_kinds) as_bool) _ class_sampled_row ds x e (λ y. AClass y (array (item (string (codes "Sampled")) ds))) (λ v h. (refl, h))
+class_sampled_sound ds x e = made_sound (λ t. (image_classes.Sampled t.0 t.1)) (two (word_in scalar_kinds) as_bool) _ class_sampled_row ds x e (λ y. AClass y (array (item (string (codes "Sampled")) ds))) (λ v h. (refl, h))
 
 class_depth_row : IsExactRow (one as_bool) (λ t. ABool t ▸ Ends)
 class_depth_row = one_exact as_bool ABool bool_exact
 
-class_depth_sound : (ds : Items) (x : ImageClass) → class_with clk.Depth ds ≡ Some x → AClass x (array (item (string (codes "Depth")) ds))
+class_depth_sound : (ds : Items) (x : ImageClass) → class_with class_kind.Depth ds ≡ Some x → AClass x (array (item (string (codes "Depth")) ds))
 unfolding class_with AClass
-class_depth_sound ds x e = made_sound (λ t. (cls.Depth t)) (one as_bool) _ class_depth_row ds x e (λ y. AClass y (array (item (string (codes "Depth")) ds))) (λ v h. (refl, h))
+class_depth_sound ds x e = made_sound (λ t. (image_classes.Depth t)) (one as_bool) _ class_depth_row ds x e (λ y. AClass y (array (item (string (codes "Depth")) ds))) (λ v h. (refl, h))
 
-class_external_sound : (ds : Items) (x : ImageClass) → class_with clk.External ds ≡ Some x → AClass x (array (item (string (codes "External")) ds))
+class_external_sound : (ds : Items) (x : ImageClass) → class_with class_kind.External ds ≡ Some x → AClass x (array (item (string (codes "External")) ds))
 unfolding class_with AClass
-class_external_sound ds x e = let a = at_end_sound cls.External x ds e in subst (λ y. AClass y (array (item (string (codes "External")) ds))) a.0 (refl, a.1)
+class_external_sound ds x e = let a = at_end_sound image_classes.External x ds e in subst (λ y. AClass y (array (item (string (codes "External")) ds))) a.0 (refl, a.1)
 
 class_storage_row : IsExactRow (two (word_in storage_formats) (set_of storage_access (record { 0 = 0 }) access_union)) (λ t. AWord storage_formats t.0 ▸ ASet storage_access (record { 0 = 0 }) access_union t.1 ▸ Ends)
 class_storage_row = two_exact (word_in storage_formats) (AWord storage_formats) (word_exact storage_formats) (set_of storage_access (record { 0 = 0 }) access_union) (ASet storage_access (record { 0 = 0 }) access_union) (set_exact storage_access (record { 0 = 0 }) access_union)
 
-class_storage_sound : (ds : Items) (x : ImageClass) → class_with clk.Storage ds ≡ Some x → AClass x (array (item (string (codes "Storage")) ds))
+class_storage_sound : (ds : Items) (x : ImageClass) → class_with class_kind.Storage ds ≡ Some x → AClass x (array (item (string (codes "Storage")) ds))
 unfolding class_with AClass
-class_storage_sound ds x e = made_sound (λ t. (cls.Storage t.0 t.1)) (two (word_in storage_formats) (set_of storage_access (record { 0 = 0 }) access_union)) _ class_storage_row ds x e (λ y. AClass y (array (item (string (codes "Storage")) ds))) (λ v h. (refl, h))
+class_storage_sound ds x e = made_sound (λ t. (image_classes.Storage t.0 t.1)) (two (word_in storage_formats) (set_of storage_access (record { 0 = 0 }) access_union)) _ class_storage_row ds x e (λ y. AClass y (array (item (string (codes "Storage")) ds))) (λ v h. (refl, h))
 
 each_class : (k : ClassKind) (ds : Items) (x : ImageClass) → class_with k ds ≡ Some x → AClass x (array (item (string (class_word k)) ds))
-each_class clk.Sampled = class_sampled_sound
-each_class clk.Depth = class_depth_sound
-each_class clk.External = class_external_sound
-each_class clk.Storage = class_storage_sound
+each_class class_kind.Sampled = class_sampled_sound
+each_class class_kind.Depth = class_depth_sound
+each_class class_kind.External = class_external_sound
+each_class class_kind.Storage = class_storage_sound
 
 class_there : (d : Data) (x : ImageClass) → AClass x d → of_kind class_kinds class_with d ≡ Some x
 unfolding AClass class_with
-class_there d (cls.Sampled kind multi) h = kind_complete class_kinds class_with (codes "Sampled") clk.Sampled refl (AWord scalar_kinds kind ▸ ABool multi ▸ Ends) (cls.Sampled kind multi) (λ ds h. made_complete (λ t. (cls.Sampled t.0 t.1)) (two (word_in scalar_kinds) as_bool) _ class_sampled_row ds (kind, multi) h) d h
-class_there d (cls.Depth multi) h = kind_complete class_kinds class_with (codes "Depth") clk.Depth refl (ABool multi ▸ Ends) (cls.Depth multi) (λ ds h. made_complete (λ t. (cls.Depth t)) (one as_bool) _ class_depth_row ds multi h) d h
-class_there d cls.External h = kind_complete class_kinds class_with (codes "External") clk.External refl Ends cls.External (λ ds h. at_end_complete cls.External ds h) d h
-class_there d (cls.Storage format access) h = kind_complete class_kinds class_with (codes "Storage") clk.Storage refl (AWord storage_formats format ▸ ASet storage_access (record { 0 = 0 }) access_union access ▸ Ends) (cls.Storage format access) (λ ds h. made_complete (λ t. (cls.Storage t.0 t.1)) (two (word_in storage_formats) (set_of storage_access (record { 0 = 0 }) access_union)) _ class_storage_row ds (format, access) h) d h
+class_there d (image_classes.Sampled kind multi) h = kind_complete class_kinds class_with (codes "Sampled") class_kind.Sampled refl (AWord scalar_kinds kind ▸ ABool multi ▸ Ends) (image_classes.Sampled kind multi) (λ ds h. made_complete (λ t. (image_classes.Sampled t.0 t.1)) (two (word_in scalar_kinds) as_bool) _ class_sampled_row ds (kind, multi) h) d h
+class_there d (image_classes.Depth multi) h = kind_complete class_kinds class_with (codes "Depth") class_kind.Depth refl (ABool multi ▸ Ends) (image_classes.Depth multi) (λ ds h. made_complete (λ t. (image_classes.Depth t)) (one as_bool) _ class_depth_row ds multi h) d h
+class_there d image_classes.External h = kind_complete class_kinds class_with (codes "External") class_kind.External refl Ends image_classes.External (λ ds h. at_end_complete image_classes.External ds h) d h
+class_there d (image_classes.Storage format access) h = kind_complete class_kinds class_with (codes "Storage") class_kind.Storage refl (AWord storage_formats format ▸ ASet storage_access (record { 0 = 0 }) access_union access ▸ Ends) (image_classes.Storage format access) (λ ds h. made_complete (λ t. (image_classes.Storage t.0 t.1)) (two (word_in storage_formats) (set_of storage_access (record { 0 = 0 }) access_union)) _ class_storage_row ds (format, access) h) d h
 
 pub class_exact : IsExact class_of AClass
 unfolding class_of

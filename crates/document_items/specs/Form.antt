@@ -2,16 +2,16 @@
 use Rattle.std.specs.Prelude.{ℕ, ◌≤◌, codes}
 use Rattle.serde_json.specs.Data.{Data, Items}
 use Rattle.ir_kinds.specs.declared.bindings.BuiltIn.{BuiltIn}
-use Rattle.ir_kinds.specs.declared.bindings.BuiltIn.TheVariants as b
+use Rattle.ir_kinds.specs.declared.bindings.BuiltIn.TheVariants as built_in_kinds
 use Rattle.ir_kinds.specs.declared.bindings.Binding.{Binding}
-use Rattle.ir_kinds.specs.declared.bindings.Binding.TheVariants as bnd
+use Rattle.ir_kinds.specs.declared.bindings.Binding.TheVariants as bindings
 use Rattle.ir_kinds.specs.declared.bindings.ResourceBinding.{ResourceBinding}
 use Rattle.ir_kinds.specs.declared.images.ImageClass.{ImageClass}
-use Rattle.ir_kinds.specs.declared.images.ImageClass.TheVariants as cls
+use Rattle.ir_kinds.specs.declared.images.ImageClass.TheVariants as image_classes
 use Rattle.ir_kinds.specs.declared.spaces.AddressSpace.{AddressSpace}
 use Rattle.ir_kinds.specs.declared.spaces.AddressSpace.TheVariants as space
 use Rattle.ir_types.specs.declared.types.ArraySize.{ArraySize}
-use Rattle.ir_types.specs.declared.types.ArraySize.TheVariants as asz
+use Rattle.ir_types.specs.declared.types.ArraySize.TheVariants as array_sizes
 use Rattle.ir_types.specs.declared.types.TypeInner.TheVariants as inner
 use Rattle.ir_types.specs.Plain.{PlainMember, PlainInner, struct, plain, PlainType}
 use Rattle.document_words.specs.Unions.{access_union}
@@ -26,13 +26,13 @@ APositive n d = AU32 n d × (1 ≤ n)
 
 -- a built-in by its word; two of them with a truth value behind it
 unfoldable pub ABuiltIn : BuiltIn → Items → Type 0
-ABuiltIn (b.Position invariant) = AText (codes "Position") ▸ ABool invariant ▸ Ends
-ABuiltIn (b.Barycentric perspective) = AText (codes "Barycentric") ▸ ABool perspective ▸ Ends
+ABuiltIn (built_in_kinds.Position invariant) = AText (codes "Position") ▸ ABool invariant ▸ Ends
+ABuiltIn (built_in_kinds.Barycentric perspective) = AText (codes "Barycentric") ▸ ABool perspective ▸ Ends
 ABuiltIn other = AWord built_ins other ▸ Ends
 
 unfoldable pub ABinding : Binding → Data → Type 0
-ABinding (bnd.BuiltIn built_in) = Tagged (codes "BuiltIn") (ABuiltIn built_in)
-ABinding (bnd.Location location interpolation sampling blend_src per_primitive) = Tagged (codes "Location") (AU32 location ▸ Maybe (AWord interpolations) interpolation ▸ Maybe (AWord samplings) sampling ▸ Maybe AU32 blend_src ▸ ABool per_primitive ▸ Ends)
+ABinding (bindings.BuiltIn built_in) = Tagged (codes "BuiltIn") (ABuiltIn built_in)
+ABinding (bindings.Location location interpolation sampling blend_src per_primitive) = Tagged (codes "Location") (AU32 location ▸ Maybe (AWord interpolations) interpolation ▸ Maybe (AWord samplings) sampling ▸ Maybe AU32 blend_src ▸ ABool per_primitive ▸ Ends)
 
 -- the group and the place in it
 abbrev pub AResource : ResourceBinding → Data → Type 0
@@ -46,15 +46,15 @@ ASpace (space.Storage access) = Tagged (codes "Storage") (ASet storage_access (r
 ASpace other = AWord spaces other
 
 unfoldable pub AnArraySize : ArraySize → Data → Type 0
-AnArraySize (asz.Constant count) = Tagged (codes "Constant") (APositive count ▸ Ends)
-AnArraySize (asz.Pending length) = Tagged (codes "Pending") (AHandle length ▸ Ends)
-AnArraySize asz.Dynamic = Tagged (codes "Dynamic") Ends
+AnArraySize (array_sizes.Constant count) = Tagged (codes "Constant") (APositive count ▸ Ends)
+AnArraySize (array_sizes.Pending length) = Tagged (codes "Pending") (AHandle length ▸ Ends)
+AnArraySize array_sizes.Dynamic = Tagged (codes "Dynamic") Ends
 
 unfoldable pub AClass : ImageClass → Data → Type 0
-AClass (cls.Sampled kind multi) = Tagged (codes "Sampled") (AWord scalar_kinds kind ▸ ABool multi ▸ Ends)
-AClass (cls.Depth multi) = Tagged (codes "Depth") (ABool multi ▸ Ends)
-AClass cls.External = Tagged (codes "External") Ends
-AClass (cls.Storage format access) = Tagged (codes "Storage") (AWord storage_formats format ▸ ASet storage_access (record { 0 = 0 }) access_union access ▸ Ends)
+AClass (image_classes.Sampled kind multi) = Tagged (codes "Sampled") (AWord scalar_kinds kind ▸ ABool multi ▸ Ends)
+AClass (image_classes.Depth multi) = Tagged (codes "Depth") (ABool multi ▸ Ends)
+AClass image_classes.External = Tagged (codes "External") Ends
+AClass (image_classes.Storage format access) = Tagged (codes "Storage") (AWord storage_formats format ▸ ASet storage_access (record { 0 = 0 }) access_union access ▸ Ends)
 
 abbrev pub AMember : PlainMember → Data → Type 0
 AMember m = AnArray (Maybe AText m.name ▸ AHandle m.ty ▸ Maybe ABinding m.binding ▸ AU32 m.offset ▸ Ends)

@@ -1,10 +1,10 @@
 -- What a step of `Find` that found something says of the value.
-use Rattle.std.proofs.Common.{◌≡◌, ◌⊎◌, inl, inr, ℕ, List, Option, Some, None, option_map, option_and_then, Bool, true, false, ◌&&◌, cond, refl, ap, ◌∙◌}
+use Rattle.std.proofs.Common.{◌≡◌, ◌⊎◌, inl, inr, ℕ, List, Option, Some, None, option_map, option_and_then, Bool, true, false, ◌&&◌, cond, refl, ap, subst, ◌∙◌}
 use Rattle.std.specs.Str.{bytes_eq}
 use Rattle.std.proofs.lemmas.Slice.Eq.{bytes_eq-Decides}
 use Rattle.serde_json.specs.Data.{Num, unsigned, negative, float, Data, null, boolean, number, string, array, object, Items, no_items, item}
 use Rattle.serde_json.specs.Find.{as_array, as_str, as_number, as_u64, as_bool}
-use Rattle.document_parts.specs.Find.{whole_of, is_end, is_null}
+use Rattle.document_parts.specs.Find.{whole_of, first, only, is_end, is_null}
 
 pub bind_some : {A B : Type 0} (f : A → Option B) (o : Option A) (y : B) → option_and_then f o ≡ Some y → (x : A) × (o ≡ Some x) × (f x ≡ Some y)
 bind_some f None y e = cc
@@ -85,3 +85,13 @@ is_null_true (object ms) e = cc
 pub is_end_true : (ds : Items) → is_end ds ≡ true → ds ≡ no_items
 is_end_true no_items e = refl
 is_end_true (item d ds) e = cc
+
+pub first_some : (ds : Items) (t : Data × Items) → first ds ≡ Some t → ds ≡ item t.0 t.1
+first_some no_items t e = cc
+first_some (item d ds) t e = let x = some_is (d, ds) t e in subst (λ u. item d ds ≡ item u.0 u.1) x refl
+
+pub only_some : (ds : Items) (d : Data) → only ds ≡ Some d → ds ≡ item d no_items
+only_some ds d e =
+    let t = bind_some _ (first ds) d e in
+    let g = guarded (is_end t.0.1) (Some t.0.0) d t.2 in
+    first_some ds t.0 t.1 ∙ (ap (λ r. item t.0.0 r) (is_end_true t.0.1 g.0) ∙ ap (λ x. item x no_items) (some_is t.0.0 d g.1))

@@ -1,7 +1,7 @@
 -- What `Find` finds is what `Form` says: numbers, words, what may be missing, lists and sets.
 use Rattle.std.proofs.Common.{◌≡◌, ◌⊎◌, inl, inr, ◌≤◌, ◌<◌, ℕ, ℤ, pos, negsuc, List, [], ◌∷◌, Option, Some, None, option_map, option_and_then, ◌&&◌, nat_le, nat_eq, int_lt, int_le, refl, sym, ap, subst, ◌∙◌, arith}
 use borrow.Author.Tests.{ltb-true, leb-true, le-leb, eqb-true}
-use Rattle.serde_json.specs.Data.{Num, unsigned, negative, float, Data, null, boolean, number, string, array, object, Items, no_items, item}
+use Rattle.serde_json.specs.Data.{Num, unsigned, negative, float, Data, null, boolean, number, string, array, object, Items, no_items, item, depth, items_depth}
 use Rattle.serde_json.specs.Find.{as_array, as_str, as_bool, as_number, as_u64, as_i64, of_integer}
 use Rattle.ir_kinds.specs.declared.scalars.VectorSize.{VectorSize}
 use Rattle.ir_kinds.specs.declared.scalars.VectorSize.TheVariants.{Bi, Tri, Quad}
@@ -178,28 +178,35 @@ optional_exact {A} f P not_null exact = record { sound = found; complete = there
     there (array xs) (Some x) h = ap (option_map Some) (exact.complete (array xs) x h)
     there (object ms) (Some x) h = ap (option_map Some) (exact.complete (object ms) x h)
 
-pub list_exact : {A : Type 0} (f : Data → Option A) (P : A → Data → Type 0) → IsExact f P → IsExact (all_of f) (AList P)
-list_exact {A} f P exact = record { sound = found; complete = there }
-  where
-    each_found : (ds : Items) (xs : List A) → each f ds ≡ Some xs → EachOf P xs ds
-    each_found no_items [] e = tt
-    each_found no_items (x ∷ xs) e = cc
-    each_found (item d ds) ys e =
-        let a = bind_some _ (f d) ys e in
-        let b = bind_some _ (each f ds) ys a.2 in
-        let ys_is : (a.0 ∷ b.0) ≡ ys = some_is _ _ b.2 in
-        subst (λ zs. EachOf P zs (item d ds)) ys_is (exact.sound d a.0 a.1, each_found ds b.0 b.1)
+pub maybe_text_exact : IsExact (optional as_str) (Maybe AText)
+maybe_text_exact = optional_exact as_str AText refl text_exact
 
+pub maybe_handle_exact : IsExact (optional handle_of) (Maybe AHandle)
+maybe_handle_exact = optional_exact handle_of AHandle refl handle_exact
+
+each_sound : {A : Type 0} (f : Data → Option A) (P : A → Data → Type 0) → ((d : Data) (x : A) → f d ≡ Some x → P x d) → (ds : Items) (xs : List A) → each f ds ≡ Some xs → EachOf P xs ds
+each_sound f P one no_items [] e = tt
+each_sound f P one no_items (x ∷ xs) e = cc
+each_sound f P one (item d ds) ys e =
+    let a = bind_some _ (f d) ys e in
+    let b = bind_some _ (each f ds) ys a.2 in
+    let ys_is : (a.0 ∷ b.0) ≡ ys = some_is _ _ b.2 in
+    subst (λ zs. EachOf P zs (item d ds)) ys_is (one d a.0 a.1, each_sound f P one ds b.0 b.1)
+
+-- what is found for a list is what the items are written for
+pub list_sound : {A : Type 0} (f : Data → Option A) (P : A → Data → Type 0) → ((d : Data) (x : A) → f d ≡ Some x → P x d) → (d : Data) (xs : List A) → all_of f d ≡ Some xs → AList P xs d
+list_sound f P one d xs e =
+    let a = bind_some (each f) (as_array d) xs e in
+    subst (AList P xs) (sym (as_array_some d a.0 a.1)) (each_sound f P one a.0 xs a.2)
+
+pub list_exact : {A : Type 0} (f : Data → Option A) (P : A → Data → Type 0) → IsExact f P → IsExact (all_of f) (AList P)
+list_exact {A} f P exact = record { sound = list_sound f P exact.sound; complete = there }
+  where
     each_there : (ds : Items) (xs : List A) → EachOf P xs ds → each f ds ≡ Some xs
     each_there no_items [] h = refl
     each_there no_items (x ∷ xs) h = absurd h
     each_there (item d ds) [] h = absurd h
     each_there (item d ds) (x ∷ xs) h = rw (exact.complete d x h.0) (rw (each_there ds xs h.1) refl)
-
-    found : (d : Data) (xs : List A) → all_of f d ≡ Some xs → AList P xs d
-    found d xs e =
-        let a = bind_some (each f) (as_array d) xs e in
-        subst (AList P xs) (sym (as_array_some d a.0 a.1)) (each_found a.0 xs a.2)
 
     there : (d : Data) (xs : List A) → AList P xs d → all_of f d ≡ Some xs
     there null xs h = absurd h
@@ -220,3 +227,22 @@ set_exact {A} table none union = record { sound = found; complete = there }
     there : (d : Data) (x : A) → ASet table none union x d → set_of table none union d ≡ Some x
     there d x h =
         ap (option_map (joined union none)) ((list_exact (word_in table) (AWord table) (word_exact table)).complete d h.0 h.1) ∙ ap Some h.2
+
+-- ---- lists of what may nest
+
+-- each of a list is found where each is found that is nested no deeper
+each_within : {A : Type 0} (f : Data → Option A) (P : A → Data → Type 0) (n : ℕ) → ((d : Data) (x : A) → P x d → depth d ≤ n → f d ≡ Some x)
+    → (ds : Items) (xs : List A) → EachOf P xs ds → items_depth ds ≤ n → each f ds ≡ Some xs
+each_within f P n one no_items [] h le = refl
+each_within f P n one no_items (x ∷ xs) h le = absurd h
+each_within f P n one (item d ds) [] h le = absurd h
+each_within f P n one (item d ds) (x ∷ xs) h le = rw (one d x h.0 (omega arith)) (rw (each_within f P n one ds xs h.1 (omega arith)) refl)
+
+pub list_within : {A : Type 0} (f : Data → Option A) (P : A → Data → Type 0) (n : ℕ) → ((d : Data) (x : A) → P x d → depth d ≤ n → f d ≡ Some x)
+    → (d : Data) (xs : List A) → AList P xs d → depth d ≤ n → all_of f d ≡ Some xs
+list_within f P n one null xs h le = absurd h
+list_within f P n one (boolean b) xs h le = absurd h
+list_within f P n one (number m) xs h le = absurd h
+list_within f P n one (string s) xs h le = absurd h
+list_within f P n one (array ds) xs h le = each_within f P n one ds xs h (omega arith)
+list_within f P n one (object ms) xs h le = absurd h

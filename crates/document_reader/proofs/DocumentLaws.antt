@@ -1,5 +1,5 @@
 -- What is found for a document is what its form says.
-use Rattle.std.proofs.Common.{◌≡◌, ◌≤◌, ℕ, zero, suc, List, [], ◌∷◌, Option, Some, None, true, refl, sym, ap, subst, ◌∙◌, arith}
+use Rattle.std.proofs.Common.{◌≡◌, ◌≤◌, ℕ, zero, suc, List, Option, Some, None, true, refl, sym, ap, subst, ◌∙◌, arith}
 use borrow.Author.Tests.{eqb-true}
 use Rattle.serde_json.specs.Data.{Data, null, boolean, number, string, array, object, Items, no_items, item, depth, items_depth}
 use Rattle.serde_json.specs.Find.{as_array, as_bool}
@@ -8,10 +8,10 @@ use Rattle.ir_kinds.specs.declared.settings.SubgroupFlag.{SubgroupFlag}
 use Rattle.ir_kinds.specs.Settings.{PlainSettings}
 use Rattle.ir_items.specs.Plain.{PlainModule}
 use Rattle.document_words.specs.Tables.{flags, capabilities, stages, subgroup_flags}
-use Rattle.document_parts.specs.Form.{ABool, AWord, AnArray, EachOf, AList, Ends, ◌▸◌}
-use Rattle.document_parts.specs.Find.{whole_of, word_in, each, all_of, first, only}
-use Rattle.document_parts.proofs.Inverse.{bind_some, map_some, guarded, some_is, as_array_some, whole_some}
-use Rattle.document_parts.proofs.PartLaws.{IsExact, bool_exact, word_exact, list_exact}
+use Rattle.document_parts.specs.Form.{ABool, AWord, AnArray, AList, Ends, ◌▸◌}
+use Rattle.document_parts.specs.Find.{whole_of, word_in, all_of, first, only}
+use Rattle.document_parts.proofs.Inverse.{bind_some, map_some, guarded, some_is, as_array_some, whole_some, first_some, only_some}
+use Rattle.document_parts.proofs.PartLaws.{IsExact, bool_exact, word_exact, list_exact, list_sound, list_within}
 use Rattle.document_items.specs.Form.{AType}
 use Rattle.document_items.specs.Find.{type_of}
 use Rattle.document_items.proofs.TypeLaws.{type_sound, type_complete}
@@ -25,7 +25,7 @@ use Rattle.document_globals.proofs.FilterLaws.{filters_exact}
 use Rattle.document_globals.proofs.SpecialLaws.{special_exact}
 use Rattle.document_functions.specs.Form.{AFunction}
 use Rattle.document_functions.specs.Find.{max_depth, function_of}
-use Rattle.document_functions.proofs.FunctionLaws.{first_some, only_some, function_sound, function_complete, list_within}
+use Rattle.document_functions.proofs.FunctionLaws.{function_sound, function_complete}
 use Rattle.document_entries.specs.Form.{AnEntry}
 use Rattle.document_entries.specs.Find.{entry_of}
 use Rattle.document_entries.proofs.EntryLaws.{entry_sound, entry_complete}
@@ -156,18 +156,6 @@ globals_complete p g h =
     (rw (overrides_exact.complete p.overrides g.overrides h.1.0)
     (rw (expressions_exact.complete p.global_expressions g.expressions h.1.1.0)
     (rw (globals_exact.complete p.globals g.variables h.1.1.1) refl)))
-
-each_sound : {A : Type 0} (f : Data → Option A) (P : A → Data → Type 0) → ((d : Data) (x : A) → f d ≡ Some x → P x d) → (ds : Items) (xs : List A) → each f ds ≡ Some xs → EachOf P xs ds
-each_sound f P one no_items xs e = subst (λ ys. EachOf P ys no_items) (some_is [] xs e) tt
-each_sound f P one (item d ds) xs e =
-    let a = bind_some _ (f d) xs e in
-    let b = bind_some _ (each f ds) xs a.2 in
-    subst (λ ys. EachOf P ys (item d ds)) (some_is (a.0 ∷ b.0) xs b.2) (one d a.0 a.1, each_sound f P one ds b.0 b.1)
-
-list_sound : {A : Type 0} (f : Data → Option A) (P : A → Data → Type 0) → ((d : Data) (x : A) → f d ≡ Some x → P x d) → (d : Data) (xs : List A) → all_of f d ≡ Some xs → AList P xs d
-list_sound f P one d xs e =
-    let a = bind_some _ (as_array d) xs e in
-    subst (AList P xs) (sym (as_array_some d a.0 a.1)) (each_sound f P one a.0 xs a.2)
 
 -- the types, the special types, the filters, what stands for the module, the functions, the entry points
 abbrev TheContent : PlainModule → ContentParts → Type 0

@@ -10,15 +10,15 @@ use Rattle.document_words.specs.Tables.{barriers, subgroup_operations, collectiv
 use Rattle.document_parts.specs.Form.{AHandle, AU32, ABool, AWord, ASet, Maybe, AnArray, AList, Ends, Starts, ◌▸◌, Tagged}
 use Rattle.document_parts.specs.Form.{EachOf}
 use Rattle.document_parts.specs.Find.{handle_of, u32_of, word_in, set_of, optional, each, all_of, one, two, three, four, five, of_kind}
-use Rattle.document_parts.proofs.PartLaws.{IsExact, handle_exact, u32_exact, bool_exact, word_exact, list_exact, set_exact}
+use Rattle.document_parts.proofs.PartLaws.{IsExact, handle_exact, u32_exact, bool_exact, word_exact, list_exact, set_exact, maybe_handle_exact}
 use Rattle.document_parts.proofs.RowLaws.{IsExactRow, at_end_sound, at_end_complete, one_exact, two_exact, three_exact, four_exact, five_exact, IsSpelled, kind_sound, kind_complete, made_sound, made_complete, array_exact, made_at_sound, made_at_complete}
 use Rattle.document_statements.specs.Kinds.{statement_kinds, statement_word}
 use Rattle.document_statements.specs.Form.{AValue, AnAtomic, AGather, AQueryFunction, APipeline, AnAct, AStatement, TheStatements, TheCases}
 use Rattle.document_statements.specs.Find.{value_of, atomic_of, gather_of, query_of, pipeline_of, case_with, statement_with, statement_at, block_at}
 use Rattle.document_statements.specs.declared.kinds.StatementKind.{StatementKind}
-use Rattle.document_statements.specs.declared.kinds.StatementKind.TheVariants as stk
+use Rattle.document_statements.specs.declared.kinds.StatementKind.TheVariants as statement_kind
 use Rattle.document_statements.specs.Find.{st_emit_of, st_break_of, st_continue_of, st_return_of, st_kill_of, st_control_barrier_of, st_memory_barrier_of, st_store_of, st_image_store_of, st_atomic_of, st_image_atomic_of, st_work_group_uniform_load_of, st_call_of, st_ray_query_of, st_subgroup_ballot_of, st_subgroup_collective_operation_of, st_subgroup_gather_of, st_cooperative_store_of, st_ray_pipeline_function_of}
-use Rattle.document_statements.proofs.StatementParts.{maybe_handle_exact, handles_exact, value_exact, atomic_exact, gather_exact, query_exact, pipeline_exact}
+use Rattle.document_statements.proofs.StatementParts.{handles_exact, value_exact, atomic_exact, gather_exact, query_exact, pipeline_exact}
 
 statements_spelled : IsSpelled statement_word statement_kinds
 statements_spelled = search rules
@@ -197,25 +197,25 @@ module _ (inside : Data → Option PlainBlock) (sound : (d : Data) (b : PlainBlo
   cases_found (x ∷ xs) no_items h = absurd h
   cases_found (x ∷ xs) (item d ds) h = (case_sound d x h.0, cases_found xs ds h.1)
 
-  block_kind : (ds : Items) (x : PlainStatement) → statement_with inside stk.Block ds ≡ Some x → AStatement x (array (item (string (codes "Block")) ds))
+  block_kind : (ds : Items) (x : PlainStatement) → statement_with inside statement_kind.Block ds ≡ Some x → AStatement x (array (item (string (codes "Block")) ds))
   unfolding statement_with
   block_kind ds x e =
       made_sound block (one inside) _ (one_exact inside (Found inside) (found_exact inside)) ds x e (λ y. AStatement y (array (item (string (codes "Block")) ds)))
       (λ b h. (refl, starts_all _ _ _ _ ds h (λ d k. sound d b k) (λ es k. k)))
 
-  if_kind : (ds : Items) (x : PlainStatement) → statement_with inside stk.If ds ≡ Some x → AStatement x (array (item (string (codes "If")) ds))
+  if_kind : (ds : Items) (x : PlainStatement) → statement_with inside statement_kind.If ds ≡ Some x → AStatement x (array (item (string (codes "If")) ds))
   unfolding statement_with
   if_kind ds x e =
       made_sound (λ t. choice t.0 t.1 t.2) (three handle_of inside inside) _ (three_exact handle_of AHandle handle_exact inside (Found inside) (found_exact inside) inside (Found inside) (found_exact inside)) ds x e (λ y. AStatement y (array (item (string (codes "If")) ds)))
       (λ t h. (refl, starts_all _ _ _ _ ds h (λ d k. k) (λ es k. starts_all _ _ _ _ es k (λ d k. sound d t.1 k) (λ fs k. starts_all _ _ _ _ fs k (λ d k. sound d t.2 k) (λ gs k. k)))))
 
-  switch_kind : (ds : Items) (x : PlainStatement) → statement_with inside stk.Switch ds ≡ Some x → AStatement x (array (item (string (codes "Switch")) ds))
+  switch_kind : (ds : Items) (x : PlainStatement) → statement_with inside statement_kind.Switch ds ≡ Some x → AStatement x (array (item (string (codes "Switch")) ds))
   unfolding statement_with
   switch_kind ds x e =
       made_sound (λ t. switch t.0 (cases_of t.1)) (two handle_of (all_of (case_with inside))) _ (two_exact handle_of AHandle handle_exact (all_of (case_with inside)) (AList (Found (case_with inside))) (list_exact (case_with inside) (Found (case_with inside)) (found_exact (case_with inside)))) ds x e (λ y. AStatement y (array (item (string (codes "Switch")) ds)))
       (λ t h. (refl, starts_all _ _ _ _ ds h (λ d k. k) (λ es k. starts_all _ _ _ _ es k (λ d k. array_map _ _ d k (cases_found t.1)) (λ fs k. k))))
 
-  loop_kind : (ds : Items) (x : PlainStatement) → statement_with inside stk.Loop ds ≡ Some x → AStatement x (array (item (string (codes "Loop")) ds))
+  loop_kind : (ds : Items) (x : PlainStatement) → statement_with inside statement_kind.Loop ds ≡ Some x → AStatement x (array (item (string (codes "Loop")) ds))
   unfolding statement_with
   loop_kind ds x e =
       made_sound (λ t. loop t.0 t.1 t.2) (three inside inside (optional handle_of)) _ (three_exact inside (Found inside) (found_exact inside) inside (Found inside) (found_exact inside) (optional handle_of) (Maybe AHandle) maybe_handle_exact) ds x e (λ y. AStatement y (array (item (string (codes "Loop")) ds)))
@@ -223,29 +223,29 @@ module _ (inside : Data → Option PlainBlock) (sound : (d : Data) (b : PlainBlo
 
   each_kind : (k : StatementKind) (ds : Items) (x : PlainStatement) → statement_with inside k ds ≡ Some x → AStatement x (array (item (string (statement_word k)) ds))
   unfolding statement_with
-  each_kind stk.Block = block_kind
-  each_kind stk.If = if_kind
-  each_kind stk.Switch = switch_kind
-  each_kind stk.Loop = loop_kind
-  each_kind stk.Emit = st_emit_sound
-  each_kind stk.Break = st_break_sound
-  each_kind stk.Continue = st_continue_sound
-  each_kind stk.Return = st_return_sound
-  each_kind stk.Kill = st_kill_sound
-  each_kind stk.ControlBarrier = st_control_barrier_sound
-  each_kind stk.MemoryBarrier = st_memory_barrier_sound
-  each_kind stk.Store = st_store_sound
-  each_kind stk.ImageStore = st_image_store_sound
-  each_kind stk.Atomic = st_atomic_sound
-  each_kind stk.ImageAtomic = st_image_atomic_sound
-  each_kind stk.WorkGroupUniformLoad = st_work_group_uniform_load_sound
-  each_kind stk.Call = st_call_sound
-  each_kind stk.RayQuery = st_ray_query_sound
-  each_kind stk.SubgroupBallot = st_subgroup_ballot_sound
-  each_kind stk.SubgroupCollectiveOperation = st_subgroup_collective_operation_sound
-  each_kind stk.SubgroupGather = st_subgroup_gather_sound
-  each_kind stk.CooperativeStore = st_cooperative_store_sound
-  each_kind stk.RayPipelineFunction = st_ray_pipeline_function_sound
+  each_kind statement_kind.Block = block_kind
+  each_kind statement_kind.If = if_kind
+  each_kind statement_kind.Switch = switch_kind
+  each_kind statement_kind.Loop = loop_kind
+  each_kind statement_kind.Emit = st_emit_sound
+  each_kind statement_kind.Break = st_break_sound
+  each_kind statement_kind.Continue = st_continue_sound
+  each_kind statement_kind.Return = st_return_sound
+  each_kind statement_kind.Kill = st_kill_sound
+  each_kind statement_kind.ControlBarrier = st_control_barrier_sound
+  each_kind statement_kind.MemoryBarrier = st_memory_barrier_sound
+  each_kind statement_kind.Store = st_store_sound
+  each_kind statement_kind.ImageStore = st_image_store_sound
+  each_kind statement_kind.Atomic = st_atomic_sound
+  each_kind statement_kind.ImageAtomic = st_image_atomic_sound
+  each_kind statement_kind.WorkGroupUniformLoad = st_work_group_uniform_load_sound
+  each_kind statement_kind.Call = st_call_sound
+  each_kind statement_kind.RayQuery = st_ray_query_sound
+  each_kind statement_kind.SubgroupBallot = st_subgroup_ballot_sound
+  each_kind statement_kind.SubgroupCollectiveOperation = st_subgroup_collective_operation_sound
+  each_kind statement_kind.SubgroupGather = st_subgroup_gather_sound
+  each_kind statement_kind.CooperativeStore = st_cooperative_store_sound
+  each_kind statement_kind.RayPipelineFunction = st_ray_pipeline_function_sound
 
 block_sound-of : (n : ℕ) → ((d : Data) (s : PlainStatement) → statement_at n d ≡ Some s → AStatement s d) → (d : Data) (b : PlainBlock) → block_at n d ≡ Some b → ABlock b d
 block_sound-of n sound d b e =
@@ -318,26 +318,26 @@ module _ (n : ℕ) (complete_at : (d : Data) (s : PlainStatement) → AStatement
   block_kind_there : (d : Data) (b : PlainBlock) → AStatement (block b) d → depth d ≤ suc n → of_kind statement_kinds (statement_with (block_at n)) d ≡ Some (block b)
   unfolding statement_with
   block_kind_there d b h le =
-      kind_complete statement_kinds (statement_with (block_at n)) (codes "Block") stk.Block refl (Found (block_at n) b ▸ Ends) (block b) (λ ds h. made_complete block (one (block_at n)) _ (one_exact (block_at n) (Found (block_at n)) (found_exact (block_at n))) ds b h) d
+      kind_complete statement_kinds (statement_with (block_at n)) (codes "Block") statement_kind.Block refl (Found (block_at n) b ▸ Ends) (block b) (λ ds h. made_complete block (one (block_at n)) _ (one_exact (block_at n) (Found (block_at n)) (found_exact (block_at n))) ds b h) d
       (tagged_within _ _ _ n d le h (λ es l row. starts_map _ _ _ _ n es l row (λ x m k. block_there x b k m) (λ fs l k. k)))
 
   if_there : (d : Data) (test : ℕ) (a r : PlainBlock) → AStatement (choice test a r) d → depth d ≤ suc n → of_kind statement_kinds (statement_with (block_at n)) d ≡ Some (choice test a r)
   unfolding statement_with
   if_there d test a r h le =
-      kind_complete statement_kinds (statement_with (block_at n)) (codes "If") stk.If refl (AHandle test ▸ Found (block_at n) a ▸ Found (block_at n) r ▸ Ends) (choice test a r) (λ ds h. made_complete (λ t. choice t.0 t.1 t.2) (three handle_of (block_at n) (block_at n)) _ (three_exact handle_of AHandle handle_exact (block_at n) (Found (block_at n)) (found_exact (block_at n)) (block_at n) (Found (block_at n)) (found_exact (block_at n))) ds (test, a, r) h) d
+      kind_complete statement_kinds (statement_with (block_at n)) (codes "If") statement_kind.If refl (AHandle test ▸ Found (block_at n) a ▸ Found (block_at n) r ▸ Ends) (choice test a r) (λ ds h. made_complete (λ t. choice t.0 t.1 t.2) (three handle_of (block_at n) (block_at n)) _ (three_exact handle_of AHandle handle_exact (block_at n) (Found (block_at n)) (found_exact (block_at n)) (block_at n) (Found (block_at n)) (found_exact (block_at n))) ds (test, a, r) h) d
       (tagged_within _ _ _ n d le h (λ es l row. starts_map _ _ _ _ n es l row (λ x m k. k) (λ fs l k. starts_map _ _ _ _ n fs l k (λ x m k. block_there x a k m) (λ gs l k. starts_map _ _ _ _ n gs l k (λ x m k. block_there x r k m) (λ hs l k. k)))))
 
   switch_there : (d : Data) (selector : ℕ) (cs : PlainCases) → AStatement (switch selector cs) d → depth d ≤ suc n → of_kind statement_kinds (statement_with (block_at n)) d ≡ Some (switch selector cs)
   unfolding statement_with
   switch_there d selector cs h le =
-      kind_complete statement_kinds (statement_with (block_at n)) (codes "Switch") stk.Switch refl (AHandle selector ▸ AList (Found (case_with (block_at n))) (cases_list cs) ▸ Ends) (switch selector (cases_of (cases_list cs))) (λ ds h. made_complete (λ t. switch t.0 (cases_of t.1)) (two handle_of (all_of (case_with (block_at n)))) _ (two_exact handle_of AHandle handle_exact (all_of (case_with (block_at n))) (AList (Found (case_with (block_at n)))) (list_exact (case_with (block_at n)) (Found (case_with (block_at n))) (found_exact (case_with (block_at n))))) ds (selector, cases_list cs) h) d
+      kind_complete statement_kinds (statement_with (block_at n)) (codes "Switch") statement_kind.Switch refl (AHandle selector ▸ AList (Found (case_with (block_at n))) (cases_list cs) ▸ Ends) (switch selector (cases_of (cases_list cs))) (λ ds h. made_complete (λ t. switch t.0 (cases_of t.1)) (two handle_of (all_of (case_with (block_at n)))) _ (two_exact handle_of AHandle handle_exact (all_of (case_with (block_at n))) (AList (Found (case_with (block_at n)))) (list_exact (case_with (block_at n)) (Found (case_with (block_at n))) (found_exact (case_with (block_at n))))) ds (selector, cases_list cs) h) d
       (tagged_within _ _ _ n d le h (λ es l row. starts_map _ _ _ _ n es l row (λ x m k. k) (λ fs l k. starts_map _ _ _ _ n fs l k (λ x m k. array_within _ _ n x (omega arith) k (λ gs l k. cases_there cs gs k l)) (λ gs l k. k))))
       ∙ ap (λ c. Some (switch selector c)) (cases_back cs)
 
   loop_there : (d : Data) (b c : PlainBlock) (o : Option ℕ) → AStatement (loop b c o) d → depth d ≤ suc n → of_kind statement_kinds (statement_with (block_at n)) d ≡ Some (loop b c o)
   unfolding statement_with
   loop_there d b c o h le =
-      kind_complete statement_kinds (statement_with (block_at n)) (codes "Loop") stk.Loop refl (Found (block_at n) b ▸ Found (block_at n) c ▸ Maybe AHandle o ▸ Ends) (loop b c o) (λ ds h. made_complete (λ t. loop t.0 t.1 t.2) (three (block_at n) (block_at n) (optional handle_of)) _ (three_exact (block_at n) (Found (block_at n)) (found_exact (block_at n)) (block_at n) (Found (block_at n)) (found_exact (block_at n)) (optional handle_of) (Maybe AHandle) maybe_handle_exact) ds (b, c, o) h) d
+      kind_complete statement_kinds (statement_with (block_at n)) (codes "Loop") statement_kind.Loop refl (Found (block_at n) b ▸ Found (block_at n) c ▸ Maybe AHandle o ▸ Ends) (loop b c o) (λ ds h. made_complete (λ t. loop t.0 t.1 t.2) (three (block_at n) (block_at n) (optional handle_of)) _ (three_exact (block_at n) (Found (block_at n)) (found_exact (block_at n)) (block_at n) (Found (block_at n)) (found_exact (block_at n)) (optional handle_of) (Maybe AHandle) maybe_handle_exact) ds (b, c, o) h) d
       (tagged_within _ _ _ n d le h (λ es l row. starts_map _ _ _ _ n es l row (λ x m k. block_there x b k m) (λ fs l k. starts_map _ _ _ _ n fs l k (λ x m k. block_there x c k m) (λ gs l k. k))))
 
   there : (d : Data) (s : PlainStatement) → AStatement s d → depth d ≤ suc n → of_kind statement_kinds (statement_with (block_at n)) d ≡ Some s
@@ -346,25 +346,25 @@ module _ (n : ℕ) (complete_at : (d : Data) (s : PlainStatement) → AStatement
   there d (choice test a r) h le = if_there d test a r h le
   there d (switch selector cs) h le = switch_there d selector cs h le
   there d (loop b c o) h le = loop_there d b c o h le
-  there d (emit first end) h le = kind_complete statement_kinds (statement_with (block_at n)) (codes "Emit") stk.Emit refl (AU32 first ▸ AU32 end ▸ Ends) (emit first end) (λ ds h. made_complete (λ t. emit t.0 t.1) (two u32_of u32_of) _ st_emit_row ds (first, end) h) d h
-  there d break h le = kind_complete statement_kinds (statement_with (block_at n)) (codes "Break") stk.Break refl Ends break (λ ds h. at_end_complete break ds h) d h
-  there d continue h le = kind_complete statement_kinds (statement_with (block_at n)) (codes "Continue") stk.Continue refl Ends continue (λ ds h. at_end_complete continue ds h) d h
-  there d (return value) h le = kind_complete statement_kinds (statement_with (block_at n)) (codes "Return") stk.Return refl (Maybe AHandle value ▸ Ends) (return value) (λ ds h. made_complete (λ t. return t) (one (optional handle_of)) _ st_return_row ds value h) d h
-  there d kill h le = kind_complete statement_kinds (statement_with (block_at n)) (codes "Kill") stk.Kill refl Ends kill (λ ds h. at_end_complete kill ds h) d h
-  there d (act (control_barrier barrier)) h le = kind_complete statement_kinds (statement_with (block_at n)) (codes "ControlBarrier") stk.ControlBarrier refl (ASet barriers (record { 0 = 0 }) barrier_union barrier ▸ Ends) (act (control_barrier barrier)) (λ ds h. made_complete (λ t. act (control_barrier t)) (one (set_of barriers (record { 0 = 0 }) barrier_union)) _ st_control_barrier_row ds barrier h) d h
-  there d (act (memory_barrier barrier)) h le = kind_complete statement_kinds (statement_with (block_at n)) (codes "MemoryBarrier") stk.MemoryBarrier refl (ASet barriers (record { 0 = 0 }) barrier_union barrier ▸ Ends) (act (memory_barrier barrier)) (λ ds h. made_complete (λ t. act (memory_barrier t)) (one (set_of barriers (record { 0 = 0 }) barrier_union)) _ st_memory_barrier_row ds barrier h) d h
-  there d (act (store pointer value)) h le = kind_complete statement_kinds (statement_with (block_at n)) (codes "Store") stk.Store refl (AHandle pointer ▸ AHandle value ▸ Ends) (act (store pointer value)) (λ ds h. made_complete (λ t. act (store t.0 t.1)) (two handle_of handle_of) _ st_store_row ds (pointer, value) h) d h
-  there d (act (image_store image coordinate array_index value)) h le = kind_complete statement_kinds (statement_with (block_at n)) (codes "ImageStore") stk.ImageStore refl (AHandle image ▸ AHandle coordinate ▸ Maybe AHandle array_index ▸ AHandle value ▸ Ends) (act (image_store image coordinate array_index value)) (λ ds h. made_complete (λ t. act (image_store t.0 t.1 t.2 t.3)) (four handle_of handle_of (optional handle_of) handle_of) _ st_image_store_row ds (image, coordinate, array_index, value) h) d h
-  there d (act (atomic pointer fun value result)) h le = kind_complete statement_kinds (statement_with (block_at n)) (codes "Atomic") stk.Atomic refl (AHandle pointer ▸ AnAtomic fun ▸ AHandle value ▸ Maybe AHandle result ▸ Ends) (act (atomic pointer fun value result)) (λ ds h. made_complete (λ t. act (atomic t.0 t.1 t.2 t.3)) (four handle_of atomic_of handle_of (optional handle_of)) _ st_atomic_row ds (pointer, fun, value, result) h) d h
-  there d (act (image_atomic image coordinate array_index fun value)) h le = kind_complete statement_kinds (statement_with (block_at n)) (codes "ImageAtomic") stk.ImageAtomic refl (AHandle image ▸ AHandle coordinate ▸ Maybe AHandle array_index ▸ AnAtomic fun ▸ AHandle value ▸ Ends) (act (image_atomic image coordinate array_index fun value)) (λ ds h. made_complete (λ t. act (image_atomic t.0 t.1 t.2 t.3 t.4)) (five handle_of handle_of (optional handle_of) atomic_of handle_of) _ st_image_atomic_row ds (image, coordinate, array_index, fun, value) h) d h
-  there d (act (uniform_load pointer result)) h le = kind_complete statement_kinds (statement_with (block_at n)) (codes "WorkGroupUniformLoad") stk.WorkGroupUniformLoad refl (AHandle pointer ▸ AHandle result ▸ Ends) (act (uniform_load pointer result)) (λ ds h. made_complete (λ t. act (uniform_load t.0 t.1)) (two handle_of handle_of) _ st_work_group_uniform_load_row ds (pointer, result) h) d h
-  there d (call function arguments result) h le = kind_complete statement_kinds (statement_with (block_at n)) (codes "Call") stk.Call refl (AHandle function ▸ AList AHandle arguments ▸ Maybe AHandle result ▸ Ends) (call function arguments result) (λ ds h. made_complete (λ t. call t.0 t.1 t.2) (three handle_of (all_of handle_of) (optional handle_of)) _ st_call_row ds (function, arguments, result) h) d h
-  there d (act (ray_query query fun)) h le = kind_complete statement_kinds (statement_with (block_at n)) (codes "RayQuery") stk.RayQuery refl (AHandle query ▸ AQueryFunction fun ▸ Ends) (act (ray_query query fun)) (λ ds h. made_complete (λ t. act (ray_query t.0 t.1)) (two handle_of query_of) _ st_ray_query_row ds (query, fun) h) d h
-  there d (act (ballot result predicate)) h le = kind_complete statement_kinds (statement_with (block_at n)) (codes "SubgroupBallot") stk.SubgroupBallot refl (AHandle result ▸ Maybe AHandle predicate ▸ Ends) (act (ballot result predicate)) (λ ds h. made_complete (λ t. act (ballot t.0 t.1)) (two handle_of (optional handle_of)) _ st_subgroup_ballot_row ds (result, predicate) h) d h
-  there d (act (collective op collective_op argument result)) h le = kind_complete statement_kinds (statement_with (block_at n)) (codes "SubgroupCollectiveOperation") stk.SubgroupCollectiveOperation refl (AWord subgroup_operations op ▸ AWord collective_operations collective_op ▸ AHandle argument ▸ AHandle result ▸ Ends) (act (collective op collective_op argument result)) (λ ds h. made_complete (λ t. act (collective t.0 t.1 t.2 t.3)) (four (word_in subgroup_operations) (word_in collective_operations) handle_of handle_of) _ st_subgroup_collective_operation_row ds (op, collective_op, argument, result) h) d h
-  there d (act (gather mode argument result)) h le = kind_complete statement_kinds (statement_with (block_at n)) (codes "SubgroupGather") stk.SubgroupGather refl (AGather mode ▸ AHandle argument ▸ AHandle result ▸ Ends) (act (gather mode argument result)) (λ ds h. made_complete (λ t. act (gather t.0 t.1 t.2)) (three gather_of handle_of handle_of) _ st_subgroup_gather_row ds (mode, argument, result) h) d h
-  there d (act (cooperative_store target place)) h le = kind_complete statement_kinds (statement_with (block_at n)) (codes "CooperativeStore") stk.CooperativeStore refl (AHandle target ▸ AHandle place.pointer ▸ AHandle place.stride ▸ ABool place.row_major ▸ Ends) (act (cooperative_store target place)) (λ ds h. made_complete (λ t. act (cooperative_store t.0 (record { pointer = t.1; stride = t.2; row_major = t.3 }))) (four handle_of handle_of handle_of as_bool) _ st_cooperative_store_row ds (target, place.pointer, place.stride, place.row_major) h) d h
-  there d (act (ray_pipeline fun)) h le = kind_complete statement_kinds (statement_with (block_at n)) (codes "RayPipelineFunction") stk.RayPipelineFunction refl (APipeline fun ▸ Ends) (act (ray_pipeline fun)) (λ ds h. made_complete (λ t. act (ray_pipeline t)) (one pipeline_of) _ st_ray_pipeline_function_row ds fun h) d h
+  there d (emit first end) h le = kind_complete statement_kinds (statement_with (block_at n)) (codes "Emit") statement_kind.Emit refl (AU32 first ▸ AU32 end ▸ Ends) (emit first end) (λ ds h. made_complete (λ t. emit t.0 t.1) (two u32_of u32_of) _ st_emit_row ds (first, end) h) d h
+  there d break h le = kind_complete statement_kinds (statement_with (block_at n)) (codes "Break") statement_kind.Break refl Ends break (λ ds h. at_end_complete break ds h) d h
+  there d continue h le = kind_complete statement_kinds (statement_with (block_at n)) (codes "Continue") statement_kind.Continue refl Ends continue (λ ds h. at_end_complete continue ds h) d h
+  there d (return value) h le = kind_complete statement_kinds (statement_with (block_at n)) (codes "Return") statement_kind.Return refl (Maybe AHandle value ▸ Ends) (return value) (λ ds h. made_complete (λ t. return t) (one (optional handle_of)) _ st_return_row ds value h) d h
+  there d kill h le = kind_complete statement_kinds (statement_with (block_at n)) (codes "Kill") statement_kind.Kill refl Ends kill (λ ds h. at_end_complete kill ds h) d h
+  there d (act (control_barrier barrier)) h le = kind_complete statement_kinds (statement_with (block_at n)) (codes "ControlBarrier") statement_kind.ControlBarrier refl (ASet barriers (record { 0 = 0 }) barrier_union barrier ▸ Ends) (act (control_barrier barrier)) (λ ds h. made_complete (λ t. act (control_barrier t)) (one (set_of barriers (record { 0 = 0 }) barrier_union)) _ st_control_barrier_row ds barrier h) d h
+  there d (act (memory_barrier barrier)) h le = kind_complete statement_kinds (statement_with (block_at n)) (codes "MemoryBarrier") statement_kind.MemoryBarrier refl (ASet barriers (record { 0 = 0 }) barrier_union barrier ▸ Ends) (act (memory_barrier barrier)) (λ ds h. made_complete (λ t. act (memory_barrier t)) (one (set_of barriers (record { 0 = 0 }) barrier_union)) _ st_memory_barrier_row ds barrier h) d h
+  there d (act (store pointer value)) h le = kind_complete statement_kinds (statement_with (block_at n)) (codes "Store") statement_kind.Store refl (AHandle pointer ▸ AHandle value ▸ Ends) (act (store pointer value)) (λ ds h. made_complete (λ t. act (store t.0 t.1)) (two handle_of handle_of) _ st_store_row ds (pointer, value) h) d h
+  there d (act (image_store image coordinate array_index value)) h le = kind_complete statement_kinds (statement_with (block_at n)) (codes "ImageStore") statement_kind.ImageStore refl (AHandle image ▸ AHandle coordinate ▸ Maybe AHandle array_index ▸ AHandle value ▸ Ends) (act (image_store image coordinate array_index value)) (λ ds h. made_complete (λ t. act (image_store t.0 t.1 t.2 t.3)) (four handle_of handle_of (optional handle_of) handle_of) _ st_image_store_row ds (image, coordinate, array_index, value) h) d h
+  there d (act (atomic pointer fun value result)) h le = kind_complete statement_kinds (statement_with (block_at n)) (codes "Atomic") statement_kind.Atomic refl (AHandle pointer ▸ AnAtomic fun ▸ AHandle value ▸ Maybe AHandle result ▸ Ends) (act (atomic pointer fun value result)) (λ ds h. made_complete (λ t. act (atomic t.0 t.1 t.2 t.3)) (four handle_of atomic_of handle_of (optional handle_of)) _ st_atomic_row ds (pointer, fun, value, result) h) d h
+  there d (act (image_atomic image coordinate array_index fun value)) h le = kind_complete statement_kinds (statement_with (block_at n)) (codes "ImageAtomic") statement_kind.ImageAtomic refl (AHandle image ▸ AHandle coordinate ▸ Maybe AHandle array_index ▸ AnAtomic fun ▸ AHandle value ▸ Ends) (act (image_atomic image coordinate array_index fun value)) (λ ds h. made_complete (λ t. act (image_atomic t.0 t.1 t.2 t.3 t.4)) (five handle_of handle_of (optional handle_of) atomic_of handle_of) _ st_image_atomic_row ds (image, coordinate, array_index, fun, value) h) d h
+  there d (act (uniform_load pointer result)) h le = kind_complete statement_kinds (statement_with (block_at n)) (codes "WorkGroupUniformLoad") statement_kind.WorkGroupUniformLoad refl (AHandle pointer ▸ AHandle result ▸ Ends) (act (uniform_load pointer result)) (λ ds h. made_complete (λ t. act (uniform_load t.0 t.1)) (two handle_of handle_of) _ st_work_group_uniform_load_row ds (pointer, result) h) d h
+  there d (call function arguments result) h le = kind_complete statement_kinds (statement_with (block_at n)) (codes "Call") statement_kind.Call refl (AHandle function ▸ AList AHandle arguments ▸ Maybe AHandle result ▸ Ends) (call function arguments result) (λ ds h. made_complete (λ t. call t.0 t.1 t.2) (three handle_of (all_of handle_of) (optional handle_of)) _ st_call_row ds (function, arguments, result) h) d h
+  there d (act (ray_query query fun)) h le = kind_complete statement_kinds (statement_with (block_at n)) (codes "RayQuery") statement_kind.RayQuery refl (AHandle query ▸ AQueryFunction fun ▸ Ends) (act (ray_query query fun)) (λ ds h. made_complete (λ t. act (ray_query t.0 t.1)) (two handle_of query_of) _ st_ray_query_row ds (query, fun) h) d h
+  there d (act (ballot result predicate)) h le = kind_complete statement_kinds (statement_with (block_at n)) (codes "SubgroupBallot") statement_kind.SubgroupBallot refl (AHandle result ▸ Maybe AHandle predicate ▸ Ends) (act (ballot result predicate)) (λ ds h. made_complete (λ t. act (ballot t.0 t.1)) (two handle_of (optional handle_of)) _ st_subgroup_ballot_row ds (result, predicate) h) d h
+  there d (act (collective op collective_op argument result)) h le = kind_complete statement_kinds (statement_with (block_at n)) (codes "SubgroupCollectiveOperation") statement_kind.SubgroupCollectiveOperation refl (AWord subgroup_operations op ▸ AWord collective_operations collective_op ▸ AHandle argument ▸ AHandle result ▸ Ends) (act (collective op collective_op argument result)) (λ ds h. made_complete (λ t. act (collective t.0 t.1 t.2 t.3)) (four (word_in subgroup_operations) (word_in collective_operations) handle_of handle_of) _ st_subgroup_collective_operation_row ds (op, collective_op, argument, result) h) d h
+  there d (act (gather mode argument result)) h le = kind_complete statement_kinds (statement_with (block_at n)) (codes "SubgroupGather") statement_kind.SubgroupGather refl (AGather mode ▸ AHandle argument ▸ AHandle result ▸ Ends) (act (gather mode argument result)) (λ ds h. made_complete (λ t. act (gather t.0 t.1 t.2)) (three gather_of handle_of handle_of) _ st_subgroup_gather_row ds (mode, argument, result) h) d h
+  there d (act (cooperative_store target place)) h le = kind_complete statement_kinds (statement_with (block_at n)) (codes "CooperativeStore") statement_kind.CooperativeStore refl (AHandle target ▸ AHandle place.pointer ▸ AHandle place.stride ▸ ABool place.row_major ▸ Ends) (act (cooperative_store target place)) (λ ds h. made_complete (λ t. act (cooperative_store t.0 (record { pointer = t.1; stride = t.2; row_major = t.3 }))) (four handle_of handle_of handle_of as_bool) _ st_cooperative_store_row ds (target, place.pointer, place.stride, place.row_major) h) d h
+  there d (act (ray_pipeline fun)) h le = kind_complete statement_kinds (statement_with (block_at n)) (codes "RayPipelineFunction") statement_kind.RayPipelineFunction refl (APipeline fun ▸ Ends) (act (ray_pipeline fun)) (λ ds h. made_complete (λ t. act (ray_pipeline t)) (one pipeline_of) _ st_ray_pipeline_function_row ds fun h) d h
 
 deep : (s : PlainStatement) (d : Data) → AStatement s d → depth d ≤ 0 → ⊥
 unfolding AnAct

@@ -4,79 +4,79 @@ use Rattle.serde_json.specs.Data.{Data, Items}
 use Rattle.serde_json.specs.Find.{as_array, as_bool}
 use Rattle.ir_blocks.specs.View.{PlainCase, block_of, cases_of}
 use Rattle.ir_kinds.specs.declared.values.SwitchValue.{SwitchValue}
-use Rattle.ir_kinds.specs.declared.values.SwitchValue.TheVariants as val
+use Rattle.ir_kinds.specs.declared.values.SwitchValue.TheVariants as switch_values
 use Rattle.ir_blocks.specs.declared.acts.AtomicFunction.{AtomicFunction}
-use Rattle.ir_blocks.specs.declared.acts.AtomicFunction.TheVariants as atm
+use Rattle.ir_blocks.specs.declared.acts.AtomicFunction.TheVariants as atomic_functions
 use Rattle.ir_blocks.specs.declared.acts.GatherMode.{GatherMode}
-use Rattle.ir_blocks.specs.declared.acts.GatherMode.TheVariants as gat
+use Rattle.ir_blocks.specs.declared.acts.GatherMode.TheVariants as gather_modes
 use Rattle.ir_blocks.specs.declared.acts.RayQueryFunction.{RayQueryFunction}
-use Rattle.ir_blocks.specs.declared.acts.RayQueryFunction.TheVariants as ray
+use Rattle.ir_blocks.specs.declared.acts.RayQueryFunction.TheVariants as query_functions
 use Rattle.ir_blocks.specs.declared.acts.RayPipelineFunction.{RayPipelineFunction}
-use Rattle.ir_blocks.specs.declared.acts.RayPipelineFunction.TheVariants as pip
+use Rattle.ir_blocks.specs.declared.acts.RayPipelineFunction.TheVariants as pipeline_functions
 use Rattle.ir_blocks.specs.Plain.{control_barrier, memory_barrier, store, image_store, atomic, image_atomic, uniform_load, ray_query, ballot, collective, gather, cooperative_store, ray_pipeline, PlainStatement, emit, block, choice, switch, loop, break, continue, return, kill, act, call, PlainBlock}
 use Rattle.document_words.specs.Unions.{barrier_union}
 use Rattle.document_words.specs.Tables.{barriers, subgroup_operations, collective_operations, directions}
 use Rattle.document_parts.specs.Find.{◌>>=◌, handle_of, u32_of, signed_of, word_in, set_of, optional, all_of, at_end, one, two, three, four, five, of_kind}
 use Rattle.document_statements.specs.Kinds.{value_kinds, atomic_kinds, gather_kinds, query_kinds, pipeline_kinds, statement_kinds}
 use Rattle.document_statements.specs.declared.kinds.ValueKind.{ValueKind}
-use Rattle.document_statements.specs.declared.kinds.ValueKind.TheVariants as vak
+use Rattle.document_statements.specs.declared.kinds.ValueKind.TheVariants as value_kind
 use Rattle.document_statements.specs.declared.kinds.AtomicKind.{AtomicKind}
-use Rattle.document_statements.specs.declared.kinds.AtomicKind.TheVariants as atk
+use Rattle.document_statements.specs.declared.kinds.AtomicKind.TheVariants as atomic_kind
 use Rattle.document_statements.specs.declared.kinds.GatherKind.{GatherKind}
-use Rattle.document_statements.specs.declared.kinds.GatherKind.TheVariants as gak
+use Rattle.document_statements.specs.declared.kinds.GatherKind.TheVariants as gather_kind
 use Rattle.document_statements.specs.declared.kinds.QueryKind.{QueryKind}
-use Rattle.document_statements.specs.declared.kinds.QueryKind.TheVariants as quk
+use Rattle.document_statements.specs.declared.kinds.QueryKind.TheVariants as query_kind
 use Rattle.document_statements.specs.declared.kinds.PipelineKind.{PipelineKind}
-use Rattle.document_statements.specs.declared.kinds.PipelineKind.TheVariants as pik
+use Rattle.document_statements.specs.declared.kinds.PipelineKind.TheVariants as pipeline_kind
 use Rattle.document_statements.specs.declared.kinds.StatementKind.{StatementKind}
-use Rattle.document_statements.specs.declared.kinds.StatementKind.TheVariants as stk
+use Rattle.document_statements.specs.declared.kinds.StatementKind.TheVariants as statement_kind
 
 unfoldable pub value_with : ValueKind → Items → Option SwitchValue
-value_with vak.I32 ds = option_map (λ t. val.I32 t) (one (signed_of 2147483647) ds)
-value_with vak.U32 ds = option_map (λ t. val.U32 t) (one u32_of ds)
-value_with vak.Default ds = at_end val.Default ds
+value_with value_kind.I32 ds = option_map (λ t. switch_values.I32 t) (one (signed_of 2147483647) ds)
+value_with value_kind.U32 ds = option_map (λ t. switch_values.U32 t) (one u32_of ds)
+value_with value_kind.Default ds = at_end switch_values.Default ds
 
 unfoldable pub value_of : Data → Option SwitchValue
 value_of d = of_kind value_kinds value_with d
 
 unfoldable pub atomic_with : AtomicKind → Items → Option AtomicFunction
-atomic_with atk.Add ds = at_end atm.Add ds
-atomic_with atk.Subtract ds = at_end atm.Subtract ds
-atomic_with atk.And ds = at_end atm.And ds
-atomic_with atk.ExclusiveOr ds = at_end atm.ExclusiveOr ds
-atomic_with atk.InclusiveOr ds = at_end atm.InclusiveOr ds
-atomic_with atk.Min ds = at_end atm.Min ds
-atomic_with atk.Max ds = at_end atm.Max ds
-atomic_with atk.Exchange ds = option_map (λ t. atm.Exchange t) (one (optional handle_of) ds)
+atomic_with atomic_kind.Add ds = at_end atomic_functions.Add ds
+atomic_with atomic_kind.Subtract ds = at_end atomic_functions.Subtract ds
+atomic_with atomic_kind.And ds = at_end atomic_functions.And ds
+atomic_with atomic_kind.ExclusiveOr ds = at_end atomic_functions.ExclusiveOr ds
+atomic_with atomic_kind.InclusiveOr ds = at_end atomic_functions.InclusiveOr ds
+atomic_with atomic_kind.Min ds = at_end atomic_functions.Min ds
+atomic_with atomic_kind.Max ds = at_end atomic_functions.Max ds
+atomic_with atomic_kind.Exchange ds = option_map (λ t. atomic_functions.Exchange t) (one (optional handle_of) ds)
 
 unfoldable pub atomic_of : Data → Option AtomicFunction
 atomic_of d = of_kind atomic_kinds atomic_with d
 
 unfoldable pub gather_with : GatherKind → Items → Option GatherMode
-gather_with gak.BroadcastFirst ds = at_end gat.BroadcastFirst ds
-gather_with gak.Broadcast ds = option_map (λ t. gat.Broadcast t) (one handle_of ds)
-gather_with gak.Shuffle ds = option_map (λ t. gat.Shuffle t) (one handle_of ds)
-gather_with gak.ShuffleDown ds = option_map (λ t. gat.ShuffleDown t) (one handle_of ds)
-gather_with gak.ShuffleUp ds = option_map (λ t. gat.ShuffleUp t) (one handle_of ds)
-gather_with gak.ShuffleXor ds = option_map (λ t. gat.ShuffleXor t) (one handle_of ds)
-gather_with gak.QuadBroadcast ds = option_map (λ t. gat.QuadBroadcast t) (one handle_of ds)
-gather_with gak.QuadSwap ds = option_map (λ t. gat.QuadSwap t) (one (word_in directions) ds)
+gather_with gather_kind.BroadcastFirst ds = at_end gather_modes.BroadcastFirst ds
+gather_with gather_kind.Broadcast ds = option_map (λ t. gather_modes.Broadcast t) (one handle_of ds)
+gather_with gather_kind.Shuffle ds = option_map (λ t. gather_modes.Shuffle t) (one handle_of ds)
+gather_with gather_kind.ShuffleDown ds = option_map (λ t. gather_modes.ShuffleDown t) (one handle_of ds)
+gather_with gather_kind.ShuffleUp ds = option_map (λ t. gather_modes.ShuffleUp t) (one handle_of ds)
+gather_with gather_kind.ShuffleXor ds = option_map (λ t. gather_modes.ShuffleXor t) (one handle_of ds)
+gather_with gather_kind.QuadBroadcast ds = option_map (λ t. gather_modes.QuadBroadcast t) (one handle_of ds)
+gather_with gather_kind.QuadSwap ds = option_map (λ t. gather_modes.QuadSwap t) (one (word_in directions) ds)
 
 unfoldable pub gather_of : Data → Option GatherMode
 gather_of d = of_kind gather_kinds gather_with d
 
 unfoldable pub query_with : QueryKind → Items → Option RayQueryFunction
-query_with quk.Initialize ds = option_map (λ t. ray.Initialize t.0 t.1) (two handle_of handle_of ds)
-query_with quk.Proceed ds = option_map (λ t. ray.Proceed t) (one handle_of ds)
-query_with quk.GenerateIntersection ds = option_map (λ t. ray.GenerateIntersection t) (one handle_of ds)
-query_with quk.ConfirmIntersection ds = at_end ray.ConfirmIntersection ds
-query_with quk.Terminate ds = at_end ray.Terminate ds
+query_with query_kind.Initialize ds = option_map (λ t. query_functions.Initialize t.0 t.1) (two handle_of handle_of ds)
+query_with query_kind.Proceed ds = option_map (λ t. query_functions.Proceed t) (one handle_of ds)
+query_with query_kind.GenerateIntersection ds = option_map (λ t. query_functions.GenerateIntersection t) (one handle_of ds)
+query_with query_kind.ConfirmIntersection ds = at_end query_functions.ConfirmIntersection ds
+query_with query_kind.Terminate ds = at_end query_functions.Terminate ds
 
 unfoldable pub query_of : Data → Option RayQueryFunction
 query_of d = of_kind query_kinds query_with d
 
 unfoldable pub pipeline_with : PipelineKind → Items → Option RayPipelineFunction
-pipeline_with pik.TraceRay ds = option_map (λ t. pip.TraceRay t.0 t.1 t.2) (three handle_of handle_of handle_of ds)
+pipeline_with pipeline_kind.TraceRay ds = option_map (λ t. pipeline_functions.TraceRay t.0 t.1 t.2) (three handle_of handle_of handle_of ds)
 
 unfoldable pub pipeline_of : Data → Option RayPipelineFunction
 pipeline_of d = of_kind pipeline_kinds pipeline_with d
@@ -144,29 +144,29 @@ case_with inside d = option_map (λ t. record { value = t.0; body = t.1; falls =
 
 -- a statement of this kind, where `inside` finds the blocks inside
 unfoldable pub statement_with : (Data → Option PlainBlock) → StatementKind → Items → Option PlainStatement
-statement_with inside stk.Block ds = option_map block (one inside ds)
-statement_with inside stk.If ds = option_map (λ t. choice t.0 t.1 t.2) (three handle_of inside inside ds)
-statement_with inside stk.Switch ds = option_map (λ t. switch t.0 (cases_of t.1)) (two handle_of (all_of (case_with inside)) ds)
-statement_with inside stk.Loop ds = option_map (λ t. loop t.0 t.1 t.2) (three inside inside (optional handle_of) ds)
-statement_with inside stk.Emit ds = st_emit_of ds
-statement_with inside stk.Break ds = st_break_of ds
-statement_with inside stk.Continue ds = st_continue_of ds
-statement_with inside stk.Return ds = st_return_of ds
-statement_with inside stk.Kill ds = st_kill_of ds
-statement_with inside stk.ControlBarrier ds = st_control_barrier_of ds
-statement_with inside stk.MemoryBarrier ds = st_memory_barrier_of ds
-statement_with inside stk.Store ds = st_store_of ds
-statement_with inside stk.ImageStore ds = st_image_store_of ds
-statement_with inside stk.Atomic ds = st_atomic_of ds
-statement_with inside stk.ImageAtomic ds = st_image_atomic_of ds
-statement_with inside stk.WorkGroupUniformLoad ds = st_work_group_uniform_load_of ds
-statement_with inside stk.Call ds = st_call_of ds
-statement_with inside stk.RayQuery ds = st_ray_query_of ds
-statement_with inside stk.SubgroupBallot ds = st_subgroup_ballot_of ds
-statement_with inside stk.SubgroupCollectiveOperation ds = st_subgroup_collective_operation_of ds
-statement_with inside stk.SubgroupGather ds = st_subgroup_gather_of ds
-statement_with inside stk.CooperativeStore ds = st_cooperative_store_of ds
-statement_with inside stk.RayPipelineFunction ds = st_ray_pipeline_function_of ds
+statement_with inside statement_kind.Block ds = option_map block (one inside ds)
+statement_with inside statement_kind.If ds = option_map (λ t. choice t.0 t.1 t.2) (three handle_of inside inside ds)
+statement_with inside statement_kind.Switch ds = option_map (λ t. switch t.0 (cases_of t.1)) (two handle_of (all_of (case_with inside)) ds)
+statement_with inside statement_kind.Loop ds = option_map (λ t. loop t.0 t.1 t.2) (three inside inside (optional handle_of) ds)
+statement_with inside statement_kind.Emit ds = st_emit_of ds
+statement_with inside statement_kind.Break ds = st_break_of ds
+statement_with inside statement_kind.Continue ds = st_continue_of ds
+statement_with inside statement_kind.Return ds = st_return_of ds
+statement_with inside statement_kind.Kill ds = st_kill_of ds
+statement_with inside statement_kind.ControlBarrier ds = st_control_barrier_of ds
+statement_with inside statement_kind.MemoryBarrier ds = st_memory_barrier_of ds
+statement_with inside statement_kind.Store ds = st_store_of ds
+statement_with inside statement_kind.ImageStore ds = st_image_store_of ds
+statement_with inside statement_kind.Atomic ds = st_atomic_of ds
+statement_with inside statement_kind.ImageAtomic ds = st_image_atomic_of ds
+statement_with inside statement_kind.WorkGroupUniformLoad ds = st_work_group_uniform_load_of ds
+statement_with inside statement_kind.Call ds = st_call_of ds
+statement_with inside statement_kind.RayQuery ds = st_ray_query_of ds
+statement_with inside statement_kind.SubgroupBallot ds = st_subgroup_ballot_of ds
+statement_with inside statement_kind.SubgroupCollectiveOperation ds = st_subgroup_collective_operation_of ds
+statement_with inside statement_kind.SubgroupGather ds = st_subgroup_gather_of ds
+statement_with inside statement_kind.CooperativeStore ds = st_cooperative_store_of ds
+statement_with inside statement_kind.RayPipelineFunction ds = st_ray_pipeline_function_of ds
 
 -- n bounds how deep statements nest
 unfoldable pub statement_at : ℕ → Data → Option PlainStatement

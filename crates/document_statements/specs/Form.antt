@@ -2,54 +2,54 @@
 use Rattle.std.specs.Prelude.{codes}
 use Rattle.serde_json.specs.Data.{Data, Items}
 use Rattle.ir_kinds.specs.declared.values.SwitchValue.{SwitchValue}
-use Rattle.ir_kinds.specs.declared.values.SwitchValue.TheVariants as val
+use Rattle.ir_kinds.specs.declared.values.SwitchValue.TheVariants as switch_values
 use Rattle.ir_blocks.specs.declared.acts.AtomicFunction.{AtomicFunction}
-use Rattle.ir_blocks.specs.declared.acts.AtomicFunction.TheVariants as atm
+use Rattle.ir_blocks.specs.declared.acts.AtomicFunction.TheVariants as atomic_functions
 use Rattle.ir_blocks.specs.declared.acts.GatherMode.{GatherMode}
-use Rattle.ir_blocks.specs.declared.acts.GatherMode.TheVariants as gat
+use Rattle.ir_blocks.specs.declared.acts.GatherMode.TheVariants as gather_modes
 use Rattle.ir_blocks.specs.declared.acts.RayQueryFunction.{RayQueryFunction}
-use Rattle.ir_blocks.specs.declared.acts.RayQueryFunction.TheVariants as ray
+use Rattle.ir_blocks.specs.declared.acts.RayQueryFunction.TheVariants as query_functions
 use Rattle.ir_blocks.specs.declared.acts.RayPipelineFunction.{RayPipelineFunction}
-use Rattle.ir_blocks.specs.declared.acts.RayPipelineFunction.TheVariants as pip
+use Rattle.ir_blocks.specs.declared.acts.RayPipelineFunction.TheVariants as pipeline_functions
 use Rattle.ir_blocks.specs.Plain.{PlainAct, control_barrier, memory_barrier, store, image_store, atomic, image_atomic, uniform_load, ray_query, ballot, collective, gather, cooperative_store, ray_pipeline, PlainStatement, emit, block, choice, switch, loop, break, continue, return, kill, act, call, PlainBlock, stop, next, PlainCases, no_case, case}
 use Rattle.document_words.specs.Unions.{barrier_union}
 use Rattle.document_words.specs.Tables.{barriers, subgroup_operations, collective_operations, directions}
 use Rattle.document_parts.specs.Form.{AHandle, AU32, ASigned, ABool, AWord, ASet, Maybe, AnArray, AList, Ends, Starts, ◌▸◌, Tagged}
 
 unfoldable pub AValue : SwitchValue → Data → Type 0
-AValue (val.I32 amount) = Tagged (codes "I32") (ASigned 2147483647 amount ▸ Ends)
-AValue (val.U32 amount) = Tagged (codes "U32") (AU32 amount ▸ Ends)
-AValue val.Default = Tagged (codes "Default") Ends
+AValue (switch_values.I32 amount) = Tagged (codes "I32") (ASigned 2147483647 amount ▸ Ends)
+AValue (switch_values.U32 amount) = Tagged (codes "U32") (AU32 amount ▸ Ends)
+AValue switch_values.Default = Tagged (codes "Default") Ends
 
 unfoldable pub AnAtomic : AtomicFunction → Data → Type 0
-AnAtomic atm.Add = Tagged (codes "Add") Ends
-AnAtomic atm.Subtract = Tagged (codes "Subtract") Ends
-AnAtomic atm.And = Tagged (codes "And") Ends
-AnAtomic atm.ExclusiveOr = Tagged (codes "ExclusiveOr") Ends
-AnAtomic atm.InclusiveOr = Tagged (codes "InclusiveOr") Ends
-AnAtomic atm.Min = Tagged (codes "Min") Ends
-AnAtomic atm.Max = Tagged (codes "Max") Ends
-AnAtomic (atm.Exchange compare) = Tagged (codes "Exchange") (Maybe AHandle compare ▸ Ends)
+AnAtomic atomic_functions.Add = Tagged (codes "Add") Ends
+AnAtomic atomic_functions.Subtract = Tagged (codes "Subtract") Ends
+AnAtomic atomic_functions.And = Tagged (codes "And") Ends
+AnAtomic atomic_functions.ExclusiveOr = Tagged (codes "ExclusiveOr") Ends
+AnAtomic atomic_functions.InclusiveOr = Tagged (codes "InclusiveOr") Ends
+AnAtomic atomic_functions.Min = Tagged (codes "Min") Ends
+AnAtomic atomic_functions.Max = Tagged (codes "Max") Ends
+AnAtomic (atomic_functions.Exchange compare) = Tagged (codes "Exchange") (Maybe AHandle compare ▸ Ends)
 
 unfoldable pub AGather : GatherMode → Data → Type 0
-AGather gat.BroadcastFirst = Tagged (codes "BroadcastFirst") Ends
-AGather (gat.Broadcast index) = Tagged (codes "Broadcast") (AHandle index ▸ Ends)
-AGather (gat.Shuffle index) = Tagged (codes "Shuffle") (AHandle index ▸ Ends)
-AGather (gat.ShuffleDown index) = Tagged (codes "ShuffleDown") (AHandle index ▸ Ends)
-AGather (gat.ShuffleUp index) = Tagged (codes "ShuffleUp") (AHandle index ▸ Ends)
-AGather (gat.ShuffleXor index) = Tagged (codes "ShuffleXor") (AHandle index ▸ Ends)
-AGather (gat.QuadBroadcast index) = Tagged (codes "QuadBroadcast") (AHandle index ▸ Ends)
-AGather (gat.QuadSwap direction) = Tagged (codes "QuadSwap") (AWord directions direction ▸ Ends)
+AGather gather_modes.BroadcastFirst = Tagged (codes "BroadcastFirst") Ends
+AGather (gather_modes.Broadcast index) = Tagged (codes "Broadcast") (AHandle index ▸ Ends)
+AGather (gather_modes.Shuffle index) = Tagged (codes "Shuffle") (AHandle index ▸ Ends)
+AGather (gather_modes.ShuffleDown index) = Tagged (codes "ShuffleDown") (AHandle index ▸ Ends)
+AGather (gather_modes.ShuffleUp index) = Tagged (codes "ShuffleUp") (AHandle index ▸ Ends)
+AGather (gather_modes.ShuffleXor index) = Tagged (codes "ShuffleXor") (AHandle index ▸ Ends)
+AGather (gather_modes.QuadBroadcast index) = Tagged (codes "QuadBroadcast") (AHandle index ▸ Ends)
+AGather (gather_modes.QuadSwap direction) = Tagged (codes "QuadSwap") (AWord directions direction ▸ Ends)
 
 unfoldable pub AQueryFunction : RayQueryFunction → Data → Type 0
-AQueryFunction (ray.Initialize acceleration_structure descriptor) = Tagged (codes "Initialize") (AHandle acceleration_structure ▸ AHandle descriptor ▸ Ends)
-AQueryFunction (ray.Proceed result) = Tagged (codes "Proceed") (AHandle result ▸ Ends)
-AQueryFunction (ray.GenerateIntersection hit_t) = Tagged (codes "GenerateIntersection") (AHandle hit_t ▸ Ends)
-AQueryFunction ray.ConfirmIntersection = Tagged (codes "ConfirmIntersection") Ends
-AQueryFunction ray.Terminate = Tagged (codes "Terminate") Ends
+AQueryFunction (query_functions.Initialize acceleration_structure descriptor) = Tagged (codes "Initialize") (AHandle acceleration_structure ▸ AHandle descriptor ▸ Ends)
+AQueryFunction (query_functions.Proceed result) = Tagged (codes "Proceed") (AHandle result ▸ Ends)
+AQueryFunction (query_functions.GenerateIntersection hit_t) = Tagged (codes "GenerateIntersection") (AHandle hit_t ▸ Ends)
+AQueryFunction query_functions.ConfirmIntersection = Tagged (codes "ConfirmIntersection") Ends
+AQueryFunction query_functions.Terminate = Tagged (codes "Terminate") Ends
 
 unfoldable pub APipeline : RayPipelineFunction → Data → Type 0
-APipeline (pip.TraceRay acceleration_structure descriptor payload) = Tagged (codes "TraceRay") (AHandle acceleration_structure ▸ AHandle descriptor ▸ AHandle payload ▸ Ends)
+APipeline (pipeline_functions.TraceRay acceleration_structure descriptor payload) = Tagged (codes "TraceRay") (AHandle acceleration_structure ▸ AHandle descriptor ▸ AHandle payload ▸ Ends)
 
 -- what steers nothing, computes no range and calls nothing
 unfoldable pub AnAct : PlainAct → Data → Type 0

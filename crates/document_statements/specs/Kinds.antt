@@ -1,152 +1,152 @@
 -- The kinds of statements and of their parts, by their words.
 use Rattle.std.specs.Prelude.{ℕ, List, [], ◌∷◌, codes}
 use Rattle.document_statements.specs.declared.kinds.ValueKind.{ValueKind}
-use Rattle.document_statements.specs.declared.kinds.ValueKind.TheVariants as vak
+use Rattle.document_statements.specs.declared.kinds.ValueKind.TheVariants as value_kind
 use Rattle.document_statements.specs.declared.kinds.AtomicKind.{AtomicKind}
-use Rattle.document_statements.specs.declared.kinds.AtomicKind.TheVariants as atk
+use Rattle.document_statements.specs.declared.kinds.AtomicKind.TheVariants as atomic_kind
 use Rattle.document_statements.specs.declared.kinds.GatherKind.{GatherKind}
-use Rattle.document_statements.specs.declared.kinds.GatherKind.TheVariants as gak
+use Rattle.document_statements.specs.declared.kinds.GatherKind.TheVariants as gather_kind
 use Rattle.document_statements.specs.declared.kinds.QueryKind.{QueryKind}
-use Rattle.document_statements.specs.declared.kinds.QueryKind.TheVariants as quk
+use Rattle.document_statements.specs.declared.kinds.QueryKind.TheVariants as query_kind
 use Rattle.document_statements.specs.declared.kinds.PipelineKind.{PipelineKind}
-use Rattle.document_statements.specs.declared.kinds.PipelineKind.TheVariants as pik
+use Rattle.document_statements.specs.declared.kinds.PipelineKind.TheVariants as pipeline_kind
 use Rattle.document_statements.specs.declared.kinds.StatementKind.{StatementKind}
-use Rattle.document_statements.specs.declared.kinds.StatementKind.TheVariants as stk
+use Rattle.document_statements.specs.declared.kinds.StatementKind.TheVariants as statement_kind
 
 -- the kinds of values of a switch
 abbrev pub value_word : ValueKind → List ℕ
-value_word vak.I32 = codes "I32"
-value_word vak.U32 = codes "U32"
-value_word vak.Default = codes "Default"
+value_word value_kind.I32 = codes "I32"
+value_word value_kind.U32 = codes "U32"
+value_word value_kind.Default = codes "Default"
 
 abbrev pub value_kinds : List (List ℕ × ValueKind)
 value_kinds =
-    (codes "I32", vak.I32) ∷
-    (codes "U32", vak.U32) ∷
-    (codes "Default", vak.Default) ∷
+    (codes "I32", value_kind.I32) ∷
+    (codes "U32", value_kind.U32) ∷
+    (codes "Default", value_kind.Default) ∷
     []
 
 -- the kinds of atomic functions
 abbrev pub atomic_word : AtomicKind → List ℕ
-atomic_word atk.Add = codes "Add"
-atomic_word atk.Subtract = codes "Subtract"
-atomic_word atk.And = codes "And"
-atomic_word atk.ExclusiveOr = codes "ExclusiveOr"
-atomic_word atk.InclusiveOr = codes "InclusiveOr"
-atomic_word atk.Min = codes "Min"
-atomic_word atk.Max = codes "Max"
-atomic_word atk.Exchange = codes "Exchange"
+atomic_word atomic_kind.Add = codes "Add"
+atomic_word atomic_kind.Subtract = codes "Subtract"
+atomic_word atomic_kind.And = codes "And"
+atomic_word atomic_kind.ExclusiveOr = codes "ExclusiveOr"
+atomic_word atomic_kind.InclusiveOr = codes "InclusiveOr"
+atomic_word atomic_kind.Min = codes "Min"
+atomic_word atomic_kind.Max = codes "Max"
+atomic_word atomic_kind.Exchange = codes "Exchange"
 
 abbrev pub atomic_kinds : List (List ℕ × AtomicKind)
 atomic_kinds =
-    (codes "Add", atk.Add) ∷
-    (codes "Subtract", atk.Subtract) ∷
-    (codes "And", atk.And) ∷
-    (codes "ExclusiveOr", atk.ExclusiveOr) ∷
-    (codes "InclusiveOr", atk.InclusiveOr) ∷
-    (codes "Min", atk.Min) ∷
-    (codes "Max", atk.Max) ∷
-    (codes "Exchange", atk.Exchange) ∷
+    (codes "Add", atomic_kind.Add) ∷
+    (codes "Subtract", atomic_kind.Subtract) ∷
+    (codes "And", atomic_kind.And) ∷
+    (codes "ExclusiveOr", atomic_kind.ExclusiveOr) ∷
+    (codes "InclusiveOr", atomic_kind.InclusiveOr) ∷
+    (codes "Min", atomic_kind.Min) ∷
+    (codes "Max", atomic_kind.Max) ∷
+    (codes "Exchange", atomic_kind.Exchange) ∷
     []
 
 -- the kinds of gathers
 abbrev pub gather_word : GatherKind → List ℕ
-gather_word gak.BroadcastFirst = codes "BroadcastFirst"
-gather_word gak.Broadcast = codes "Broadcast"
-gather_word gak.Shuffle = codes "Shuffle"
-gather_word gak.ShuffleDown = codes "ShuffleDown"
-gather_word gak.ShuffleUp = codes "ShuffleUp"
-gather_word gak.ShuffleXor = codes "ShuffleXor"
-gather_word gak.QuadBroadcast = codes "QuadBroadcast"
-gather_word gak.QuadSwap = codes "QuadSwap"
+gather_word gather_kind.BroadcastFirst = codes "BroadcastFirst"
+gather_word gather_kind.Broadcast = codes "Broadcast"
+gather_word gather_kind.Shuffle = codes "Shuffle"
+gather_word gather_kind.ShuffleDown = codes "ShuffleDown"
+gather_word gather_kind.ShuffleUp = codes "ShuffleUp"
+gather_word gather_kind.ShuffleXor = codes "ShuffleXor"
+gather_word gather_kind.QuadBroadcast = codes "QuadBroadcast"
+gather_word gather_kind.QuadSwap = codes "QuadSwap"
 
 abbrev pub gather_kinds : List (List ℕ × GatherKind)
 gather_kinds =
-    (codes "BroadcastFirst", gak.BroadcastFirst) ∷
-    (codes "Broadcast", gak.Broadcast) ∷
-    (codes "Shuffle", gak.Shuffle) ∷
-    (codes "ShuffleDown", gak.ShuffleDown) ∷
-    (codes "ShuffleUp", gak.ShuffleUp) ∷
-    (codes "ShuffleXor", gak.ShuffleXor) ∷
-    (codes "QuadBroadcast", gak.QuadBroadcast) ∷
-    (codes "QuadSwap", gak.QuadSwap) ∷
+    (codes "BroadcastFirst", gather_kind.BroadcastFirst) ∷
+    (codes "Broadcast", gather_kind.Broadcast) ∷
+    (codes "Shuffle", gather_kind.Shuffle) ∷
+    (codes "ShuffleDown", gather_kind.ShuffleDown) ∷
+    (codes "ShuffleUp", gather_kind.ShuffleUp) ∷
+    (codes "ShuffleXor", gather_kind.ShuffleXor) ∷
+    (codes "QuadBroadcast", gather_kind.QuadBroadcast) ∷
+    (codes "QuadSwap", gather_kind.QuadSwap) ∷
     []
 
 -- what may be done with a ray query
 abbrev pub query_word : QueryKind → List ℕ
-query_word quk.Initialize = codes "Initialize"
-query_word quk.Proceed = codes "Proceed"
-query_word quk.GenerateIntersection = codes "GenerateIntersection"
-query_word quk.ConfirmIntersection = codes "ConfirmIntersection"
-query_word quk.Terminate = codes "Terminate"
+query_word query_kind.Initialize = codes "Initialize"
+query_word query_kind.Proceed = codes "Proceed"
+query_word query_kind.GenerateIntersection = codes "GenerateIntersection"
+query_word query_kind.ConfirmIntersection = codes "ConfirmIntersection"
+query_word query_kind.Terminate = codes "Terminate"
 
 abbrev pub query_kinds : List (List ℕ × QueryKind)
 query_kinds =
-    (codes "Initialize", quk.Initialize) ∷
-    (codes "Proceed", quk.Proceed) ∷
-    (codes "GenerateIntersection", quk.GenerateIntersection) ∷
-    (codes "ConfirmIntersection", quk.ConfirmIntersection) ∷
-    (codes "Terminate", quk.Terminate) ∷
+    (codes "Initialize", query_kind.Initialize) ∷
+    (codes "Proceed", query_kind.Proceed) ∷
+    (codes "GenerateIntersection", query_kind.GenerateIntersection) ∷
+    (codes "ConfirmIntersection", query_kind.ConfirmIntersection) ∷
+    (codes "Terminate", query_kind.Terminate) ∷
     []
 
 -- what a ray pipeline may do
 abbrev pub pipeline_word : PipelineKind → List ℕ
-pipeline_word pik.TraceRay = codes "TraceRay"
+pipeline_word pipeline_kind.TraceRay = codes "TraceRay"
 
 abbrev pub pipeline_kinds : List (List ℕ × PipelineKind)
 pipeline_kinds =
-    (codes "TraceRay", pik.TraceRay) ∷
+    (codes "TraceRay", pipeline_kind.TraceRay) ∷
     []
 
 -- the kinds of statements
 abbrev pub statement_word : StatementKind → List ℕ
-statement_word stk.Emit = codes "Emit"
-statement_word stk.Block = codes "Block"
-statement_word stk.If = codes "If"
-statement_word stk.Switch = codes "Switch"
-statement_word stk.Loop = codes "Loop"
-statement_word stk.Break = codes "Break"
-statement_word stk.Continue = codes "Continue"
-statement_word stk.Return = codes "Return"
-statement_word stk.Kill = codes "Kill"
-statement_word stk.ControlBarrier = codes "ControlBarrier"
-statement_word stk.MemoryBarrier = codes "MemoryBarrier"
-statement_word stk.Store = codes "Store"
-statement_word stk.ImageStore = codes "ImageStore"
-statement_word stk.Atomic = codes "Atomic"
-statement_word stk.ImageAtomic = codes "ImageAtomic"
-statement_word stk.WorkGroupUniformLoad = codes "WorkGroupUniformLoad"
-statement_word stk.Call = codes "Call"
-statement_word stk.RayQuery = codes "RayQuery"
-statement_word stk.SubgroupBallot = codes "SubgroupBallot"
-statement_word stk.SubgroupCollectiveOperation = codes "SubgroupCollectiveOperation"
-statement_word stk.SubgroupGather = codes "SubgroupGather"
-statement_word stk.CooperativeStore = codes "CooperativeStore"
-statement_word stk.RayPipelineFunction = codes "RayPipelineFunction"
+statement_word statement_kind.Emit = codes "Emit"
+statement_word statement_kind.Block = codes "Block"
+statement_word statement_kind.If = codes "If"
+statement_word statement_kind.Switch = codes "Switch"
+statement_word statement_kind.Loop = codes "Loop"
+statement_word statement_kind.Break = codes "Break"
+statement_word statement_kind.Continue = codes "Continue"
+statement_word statement_kind.Return = codes "Return"
+statement_word statement_kind.Kill = codes "Kill"
+statement_word statement_kind.ControlBarrier = codes "ControlBarrier"
+statement_word statement_kind.MemoryBarrier = codes "MemoryBarrier"
+statement_word statement_kind.Store = codes "Store"
+statement_word statement_kind.ImageStore = codes "ImageStore"
+statement_word statement_kind.Atomic = codes "Atomic"
+statement_word statement_kind.ImageAtomic = codes "ImageAtomic"
+statement_word statement_kind.WorkGroupUniformLoad = codes "WorkGroupUniformLoad"
+statement_word statement_kind.Call = codes "Call"
+statement_word statement_kind.RayQuery = codes "RayQuery"
+statement_word statement_kind.SubgroupBallot = codes "SubgroupBallot"
+statement_word statement_kind.SubgroupCollectiveOperation = codes "SubgroupCollectiveOperation"
+statement_word statement_kind.SubgroupGather = codes "SubgroupGather"
+statement_word statement_kind.CooperativeStore = codes "CooperativeStore"
+statement_word statement_kind.RayPipelineFunction = codes "RayPipelineFunction"
 
 abbrev pub statement_kinds : List (List ℕ × StatementKind)
 statement_kinds =
-    (codes "Emit", stk.Emit) ∷
-    (codes "Block", stk.Block) ∷
-    (codes "If", stk.If) ∷
-    (codes "Switch", stk.Switch) ∷
-    (codes "Loop", stk.Loop) ∷
-    (codes "Break", stk.Break) ∷
-    (codes "Continue", stk.Continue) ∷
-    (codes "Return", stk.Return) ∷
-    (codes "Kill", stk.Kill) ∷
-    (codes "ControlBarrier", stk.ControlBarrier) ∷
-    (codes "MemoryBarrier", stk.MemoryBarrier) ∷
-    (codes "Store", stk.Store) ∷
-    (codes "ImageStore", stk.ImageStore) ∷
-    (codes "Atomic", stk.Atomic) ∷
-    (codes "ImageAtomic", stk.ImageAtomic) ∷
-    (codes "WorkGroupUniformLoad", stk.WorkGroupUniformLoad) ∷
-    (codes "Call", stk.Call) ∷
-    (codes "RayQuery", stk.RayQuery) ∷
-    (codes "SubgroupBallot", stk.SubgroupBallot) ∷
-    (codes "SubgroupCollectiveOperation", stk.SubgroupCollectiveOperation) ∷
-    (codes "SubgroupGather", stk.SubgroupGather) ∷
-    (codes "CooperativeStore", stk.CooperativeStore) ∷
-    (codes "RayPipelineFunction", stk.RayPipelineFunction) ∷
+    (codes "Emit", statement_kind.Emit) ∷
+    (codes "Block", statement_kind.Block) ∷
+    (codes "If", statement_kind.If) ∷
+    (codes "Switch", statement_kind.Switch) ∷
+    (codes "Loop", statement_kind.Loop) ∷
+    (codes "Break", statement_kind.Break) ∷
+    (codes "Continue", statement_kind.Continue) ∷
+    (codes "Return", statement_kind.Return) ∷
+    (codes "Kill", statement_kind.Kill) ∷
+    (codes "ControlBarrier", statement_kind.ControlBarrier) ∷
+    (codes "MemoryBarrier", statement_kind.MemoryBarrier) ∷
+    (codes "Store", statement_kind.Store) ∷
+    (codes "ImageStore", statement_kind.ImageStore) ∷
+    (codes "Atomic", statement_kind.Atomic) ∷
+    (codes "ImageAtomic", statement_kind.ImageAtomic) ∷
+    (codes "WorkGroupUniformLoad", statement_kind.WorkGroupUniformLoad) ∷
+    (codes "Call", statement_kind.Call) ∷
+    (codes "RayQuery", statement_kind.RayQuery) ∷
+    (codes "SubgroupBallot", statement_kind.SubgroupBallot) ∷
+    (codes "SubgroupCollectiveOperation", statement_kind.SubgroupCollectiveOperation) ∷
+    (codes "SubgroupGather", statement_kind.SubgroupGather) ∷
+    (codes "CooperativeStore", statement_kind.CooperativeStore) ∷
+    (codes "RayPipelineFunction", statement_kind.RayPipelineFunction) ∷
     []

@@ -1,6 +1,5 @@
 -- Functions and modules are copied part by part.
 use Rattle.std.proofs.Common.{◌≡◌, List, [], ◌∷◌, map, option_map, string_bytes, refl, sym, ap, ◌∙◌}
-use Rattle.ir_arena.specs.declared.span.Span.{Span}
 use Rattle.ir_expressions.specs.Plain.{expression_view}
 use Rattle.ir_types.specs.Plain.{type_view}
 use Rattle.ir_blocks.specs.View.{block_view, block_spans}
