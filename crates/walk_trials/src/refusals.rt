@@ -60,6 +60,25 @@ fn see_handles(rt: &impl Abort, handles: &mut FlattenCompose, literals: &Handles
     assert_eq!(rt; handles.next(), None);
 }
 
+// Whether so much memory is enough for the parts. They then come to the first literal and three times the second.
+fn is_enough(
+    rt: &impl Abort,
+    alloc: Global,
+    room: usize,
+    ty: Handle<key::IrType>,
+    given: &(Handles, Handles),
+    es: &Expressions,
+    types: &Types,
+) -> Result<bool, Fail> {
+    match flat_within(alloc, room, ty, &given.1, es, types)? {
+        Some(mut handles) => {
+            see_handles(rt, &mut handles, &given.0);
+            Ok(true)
+        }
+        None => Ok(false),
+    }
+}
+
 // Tries with more and more memory, and answers how often it was refused.
 fn count_refusals(
     rt: &impl Abort,
@@ -69,16 +88,13 @@ fn count_refusals(
 ) -> Result<u32, Fail> {
     let two = vector(types, VectorSize::Bi)?;
     let four = vector(types, VectorSize::Quad)?;
-    let (literals, parts) = add_parts(alloc, es, two)?;
+    let given = add_parts(alloc, es, two)?;
     let mut refusals = 0u32;
     for step in 0..300usize {
-        match flat_within(alloc, step * 8, four, &parts, es, types)? {
-            Some(mut handles) => {
-                see_handles(rt, &mut handles, &literals);
-                return Ok(refusals);
-            }
-            None => refusals = refusals.wrapping_add(1),
+        if is_enough(rt, alloc, step * 8, four, &given, es, types)? {
+            return Ok(refusals);
         }
+        refusals = refusals.wrapping_add(1);
     }
     Err(Fail::new("no run was given enough memory"))
 }
