@@ -1,11 +1,13 @@
 // What pointers lead to.
 use crate::checks;
+use crate::compositions::Expressions;
 use anyhow::Result;
 use ir_arena::arena::Arena;
 use ir_arena::handle::Handle;
 use ir_arena::span::Span;
 use ir_items::{Block, Expression, Function, key};
 use ir_walks::originating_global;
+use std::alloc::{AllocError, Global};
 
 fn print_origin(
     rt: &HostRuntime,
@@ -24,9 +26,8 @@ fn print_origin(
     Ok(())
 }
 
-pub fn run(rt: &HostRuntime) -> Result<()> {
-    let alloc = rt.alloc();
-    let mut function = Function {
+fn empty_function(alloc: Global) -> Function {
+    Function {
         name: None,
         arguments: Vec::new(alloc),
         result: None,
@@ -34,42 +35,38 @@ pub fn run(rt: &HostRuntime) -> Result<()> {
         expressions: Arena::new(alloc),
         body: Block::new(alloc),
         diagnostic_filter_leaf: None,
-    };
-    let global = function
-        .expressions
-        .append(Expression::GlobalVariable(Handle::at(5)), Span::UNDEFINED)?;
-    let local = function
-        .expressions
-        .append(Expression::LocalVariable(Handle::at(0)), Span::UNDEFINED)?;
-    let member = function.expressions.append(
-        Expression::AccessIndex {
-            base: global,
-            index: 2,
-        },
-        Span::UNDEFINED,
-    )?;
-    let element = function.expressions.append(
-        Expression::Access {
-            base: member,
-            index: local,
-        },
-        Span::UNDEFINED,
-    )?;
-    let of_local = function.expressions.append(
-        Expression::Access {
-            base: local,
-            index: element,
-        },
-        Span::UNDEFINED,
-    )?;
-    let loaded = function
-        .expressions
-        .append(Expression::Load { pointer: element }, Span::UNDEFINED)?;
-    print_origin(rt, &function, global)?;
-    print_origin(rt, &function, local)?;
-    print_origin(rt, &function, member)?;
-    print_origin(rt, &function, element)?;
-    print_origin(rt, &function, of_local)?;
-    print_origin(rt, &function, loaded)?;
+    }
+}
+
+fn access(base: Handle<key::Expression>, index: Handle<key::Expression>) -> Expression {
+    Expression::Access { base, index }
+}
+
+fn add(
+    expressions: &mut Expressions,
+    expression: Expression,
+) -> Result<Handle<key::Expression>, AllocError> {
+    expressions.append(expression, Span::UNDEFINED)
+}
+
+// A global, a local, a member of the global, an element of that, an element of the local, and what is loaded from the
+// first element.
+fn add_all(expressions: &mut Expressions) -> Result<[Handle<key::Expression>; 6], AllocError> {
+    let global = add(expressions, Expression::GlobalVariable(Handle::at(5)))?;
+    let local = add(expressions, Expression::LocalVariable(Handle::at(0)))?;
+    let base = global;
+    let member = add(expressions, Expression::AccessIndex { base, index: 2 })?;
+    let element = add(expressions, access(member, local))?;
+    let of_local = add(expressions, access(local, element))?;
+    let loaded = add(expressions, Expression::Load { pointer: element })?;
+    Ok([global, local, member, element, of_local, loaded])
+}
+
+pub fn run(rt: &HostRuntime) -> Result<()> {
+    let mut function = empty_function(rt.alloc());
+    let pointers = add_all(&mut function.expressions)?;
+    for pointer in pointers {
+        print_origin(rt, &function, pointer)?;
+    }
     Ok(())
 }
