@@ -25,23 +25,34 @@ impl Hog {
     pub fn fill(&mut self, alloc: Global) -> bool {
         let mut size = GREATEST;
         for _ in 0..MOST_BLOCKS {
-            match Vec::with_capacity(alloc, size) {
-                Ok(block) => {
-                    if self.blocks.push(block).is_err() {
-                        return false;
-                    }
-                }
-                Err(_) => {
-                    if size > SMALL {
-                        size /= 2;
-                    } else if size > 8 {
-                        size = size.saturating_sub(8);
-                    } else {
-                        return true;
-                    }
-                }
+            match self.take(alloc, size) {
+                Some(true) => {}
+                Some(false) => return false,
+                None => match smaller(size) {
+                    Some(next) => size = next,
+                    None => return true,
+                },
             }
         }
         false
+    }
+
+    // Takes a block of this size, and answers whether it was kept: `None` where it was refused.
+    fn take(&mut self, alloc: Global, size: usize) -> Option<bool> {
+        match Vec::with_capacity(alloc, size) {
+            Ok(block) => Some(self.blocks.push(block).is_ok()),
+            Err(_) => None,
+        }
+    }
+}
+
+// The size to try where this one is refused, or `None` after the least.
+fn smaller(size: usize) -> Option<usize> {
+    if size > SMALL {
+        Some(size / 2)
+    } else if size > 8 {
+        Some(size.saturating_sub(8))
+    } else {
+        None
     }
 }
