@@ -10,7 +10,7 @@ ghost use Rattle.document_functions.specs.Find.{argument_of, result_of, local_of
 
 use document_expressions::read_expression;
 use document_items::optional_binding;
-use document_parts::{first, front, is_null, name, one, only};
+use document_parts::{ItemReader, first, front, is_null, name, one, only, read_items};
 use ir_arena::arena::Arena;
 use ir_arena::span::Span;
 use ir_expressions::Expression;
@@ -42,21 +42,32 @@ pub fn read_argument(alloc: Global, value: &Value) -> Result<Option<FunctionArgu
     Ok(Some(FunctionArgument { name, ty, binding }))
 }
 
+// Reads arguments one by one.
+struct ArgumentReader;
+
+impl ItemReader for ArgumentReader {
+    type Item = FunctionArgument;
+
+    ghost use Rattle.ir_items.specs.Plain.{PlainArgument};
+    ghost use Rattle.ir_items.specs.View.{argument_view};
+    ghost use Rattle.document_functions.specs.Find.{argument_of};
+
+    ghost Plain = { PlainArgument };
+
+    ghost view = { argument_view };
+
+    ghost find = { argument_of };
+
+    fn read(alloc: Global, value: &Value) -> Result<Option<FunctionArgument>, AllocError> {
+        read_argument(alloc, value)
+    }
+}
+
 /// The arguments, or `None` where one is written in another way. The error is want of memory.
 pub fn arguments(alloc: Global, value: &Value) -> Result<Option<Vec<FunctionArgument>>, AllocError>
     ensures { IfOk result (λ found. option_map (λ v. map argument_view v.items) found ≡ all_of argument_of (data_of value.now)) }
 {
-    let Some(items) = value.as_array() else {
-        return Ok(None);
-    };
-    let mut found = Vec::with_capacity(alloc, items.len())?;
-    for item in items {
-        let Some(next) = read_argument(alloc, item)? else {
-            return Ok(None);
-        };
-        found.push(next)?;
-    }
-    Ok(Some(found))
+    read_items::<ArgumentReader>(alloc, value)
 }
 
 // A result with its type and binding.

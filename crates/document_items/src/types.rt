@@ -11,7 +11,9 @@ ghost use Rattle.document_items.specs.Find.{array_size_of, class_of, space_of, m
 use crate::bindings::optional_binding;
 use crate::kinds::InnerKind;
 use crate::spaces::{array_size, image_class, space};
-use document_parts::{first, four, front, name, one, only, tagged, three, two};
+use document_parts::{
+    ItemReader, first, four, front, name, one, only, read_items, tagged, three, two,
+};
 use document_words::find_word;
 use ir_types::{IrType, StructMember, TypeInner};
 use serde_json::Value;
@@ -180,20 +182,30 @@ fn member(alloc: Global, value: &Value) -> Result<Option<StructMember>, AllocErr
     }))
 }
 
+// Reads members one by one.
+struct MemberReader;
+
+impl ItemReader for MemberReader {
+    type Item = StructMember;
+
+    ghost use Rattle.ir_types.specs.Plain.{PlainMember, member_view};
+    ghost use Rattle.document_items.specs.Find.{member_of};
+
+    ghost Plain = { PlainMember };
+
+    ghost view = { member_view };
+
+    ghost find = { member_of };
+
+    fn read(alloc: Global, value: &Value) -> Result<Option<StructMember>, AllocError> {
+        member(alloc, value)
+    }
+}
+
 fn members(alloc: Global, value: &Value) -> Result<Option<Vec<StructMember>>, AllocError>
     ensures { IfOk result (λ found. option_map (λ v. map member_view v.items) found ≡ all_of member_of (data_of value.now)) }
 {
-    let Some(items) = value.as_array() else {
-        return Ok(None);
-    };
-    let mut found = Vec::with_capacity(alloc, items.len())?;
-    for item in items {
-        let Some(next) = member(alloc, item)? else {
-            return Ok(None);
-        };
-        found.push(next)?;
-    }
-    Ok(Some(found))
+    read_items::<MemberReader>(alloc, value)
 }
 
 fn structure(alloc: Global, items: &[Value]) -> Result<Option<TypeInner>, AllocError>
@@ -270,19 +282,29 @@ pub fn read_type(alloc: Global, value: &Value) -> Result<Option<IrType>, AllocEr
     Ok(Some(IrType { name, inner }))
 }
 
+// Reads types one by one.
+struct TypeReader;
+
+impl ItemReader for TypeReader {
+    type Item = IrType;
+
+    ghost use Rattle.ir_types.specs.Plain.{PlainType, type_view};
+    ghost use Rattle.document_items.specs.Find.{type_of};
+
+    ghost Plain = { PlainType };
+
+    ghost view = { type_view };
+
+    ghost find = { type_of };
+
+    fn read(alloc: Global, value: &Value) -> Result<Option<IrType>, AllocError> {
+        read_type(alloc, value)
+    }
+}
+
 /// The types, or `None` where one is written in another way. Equal ones are kept. The error is want of memory.
 pub fn read_types(alloc: Global, value: &Value) -> Result<Option<Vec<IrType>>, AllocError>
     ensures { IfOk result (λ found. option_map (λ v. map type_view v.items) found ≡ all_of type_of (data_of value.now)) }
 {
-    let Some(items) = value.as_array() else {
-        return Ok(None);
-    };
-    let mut found = Vec::with_capacity(alloc, items.len())?;
-    for item in items {
-        let Some(next) = read_type(alloc, item)? else {
-            return Ok(None);
-        };
-        found.push(next)?;
-    }
-    Ok(Some(found))
+    read_items::<TypeReader>(alloc, value)
 }

@@ -13,6 +13,8 @@ mod expressions;
 #[cfg(test)]
 mod hog;
 #[cfg(test)]
+mod little_memory;
+#[cfg(test)]
 mod modules;
 #[cfg(test)]
 mod refusals;
