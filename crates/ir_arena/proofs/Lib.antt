@@ -1,3 +1,4 @@
+pub mod Noted
 pub mod Zipped
 pub mod Distinct
 pub mod Entries

@@ -15,6 +15,7 @@ pub mod handle;
 pub mod iter;
 pub mod iter_mut;
 pub mod laws;
+pub mod places;
 pub mod range;
 pub mod span;
 mod spanned;

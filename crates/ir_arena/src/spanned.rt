@@ -61,6 +61,11 @@ impl<T> Spanned<T> {
         self.values.len()
     }
 
+    /// What the lists take memory from.
+    pub fn allocator(&self) -> Global {
+        *self.values.allocator()
+    }
+
     /// The values in order.
     pub fn values(&self) -> &[T]
         ensures { result.now ≡ map value_of_entry self.now }
@@ -178,7 +183,7 @@ impl<T> Spanned<T> {
         ensures taken { result ≡ self.old }
         ensures emptied { self.new ≡ [] }
     {
-        let empty = Spanned::new(*self.values.allocator());
+        let empty = Spanned::new(self.allocator());
         mem::replace(self, empty)
     }
 

@@ -7,11 +7,13 @@ ghost use Rattle.ir_arena.specs.Handles.{handles_from, entries_from};
 use crate::drain::Drain;
 use crate::handle::{BadHandle, Handle};
 use crate::iter::Iter;
+use crate::places::{Places, find_from, hash_of, note_from};
 use crate::span::Span;
 use crate::spanned::Spanned;
 use std::alloc::{AllocError, Global};
 use std::hash::Hash;
 use std::marker::{Model, PhantomData};
+use std::mem;
 use std::ops::Index;
 
 /// A list of values with their spans, no two of the values equal. A value's handle is its place, so
@@ -25,19 +27,23 @@ use std::ops::Index;
 #[derive_where(Debug; T)]
 pub struct UniqueArena<T: Eq + Hash, K = T> {
     entries: Spanned<T>,
+    // where the values stand, by their hashes; of those from `known` on not all are noted
+    places: Places,
+    known: usize,
     key: PhantomData<K>,
 }
 
 impl<T: Eq + Hash, K> Model for UniqueArena<T, K> {
-    ghost use Rattle.std.specs.Prelude.{List, ◌≤◌, length};
+    ghost use Rattle.std.specs.Prelude.{List, ◌≤◌, length, map};
     ghost use Rattle.ir_arena.specs.declared.span.Span.{Span};
-    ghost use Rattle.ir_arena.specs.Arenas.{IsDistinctBy};
+    ghost use Rattle.ir_arena.specs.Arenas.{IsDistinctBy, value_of_entry};
+    ghost use Rattle.ir_arena.specs.Places.{AreNoted};
 
     ghost Value = { List (T × Span) };
 
     ghost view = { λ a. a.entries };
 
-    ghost invariant = { λ a. IsDistinctBy T.eq a.entries × (length a.entries ≤ 4294967295) };
+    ghost invariant = { λ a. IsDistinctBy T.eq a.entries × (length a.entries ≤ 4294967295) × (a.known ≤ length a.entries) × AreNoted T.hash_input a.places (map value_of_entry a.entries) a.known };
 }
 
 /// Two arenas are equal where they have as many values, and each is equal to the other's at its place and has the same
@@ -67,6 +73,8 @@ impl<T: Eq + Hash, K> UniqueArena<T, K> {
     {
         UniqueArena {
             entries: Spanned::new(alloc),
+            places: Places::new(alloc),
+            known: 0,
             key: PhantomData,
         }
     }
@@ -99,7 +107,11 @@ impl<T: Eq + Hash, K> UniqueArena<T, K> {
         ensures value { result ≡ found_at T.eq self.now value.now }
         ensures in_range { IfSome result (λ place. (place < length self.now) × (place < 4294967295)) }
     {
-        self.entries.find(value)
+        let values = self.entries.values();
+        match self.places.find(hash_of(value), values, value) {
+            Some(place) => Some(place),
+            None => find_from(values, self.known, value),
+        }
     }
 
     /// The handle of the value that is equal to `value`. Where there is none, adds `value` at the
@@ -130,6 +142,7 @@ impl<T: Eq + Hash, K> UniqueArena<T, K> {
                     return Err(AllocError);
                 }
                 self.entries.push(value, span)?;
+                self.known = note_from(&mut self.places, self.entries.values(), self.known);
                 Ok(Handle::at(place))
             }
         }
@@ -143,7 +156,19 @@ impl<T: Eq + Hash, K> UniqueArena<T, K> {
         requires absent { has_equal T.eq self.old new ≡ false }
         ensures { self.new ≡ with_value self.old old new }
     {
-        self.entries.replace(old.index(), new);
+        let place = old.index();
+        let hash = hash_of(&new);
+        self.places
+            .forget(hash_of(self.entries.value(place)), place as u32);
+        self.entries.replace(place, new);
+        match self.places.note(hash, place as u32) {
+            Ok(()) => {}
+            Err(_) => {
+                // until the next insert notes them, all values are looked at
+                self.places.clear();
+                self.known = 0;
+            }
+        }
     }
 
     /// The handle of the value that is equal to `value`, if there is one.
@@ -205,6 +230,8 @@ impl<T: Eq + Hash, K> UniqueArena<T, K> {
         ensures { self.new ≡ [] }
     {
         self.entries.clear();
+        self.places.clear();
+        self.known = 0;
     }
 
     /// Takes all values into an arena of their own, and leaves this one empty. Their handles stay.
@@ -212,8 +239,11 @@ impl<T: Eq + Hash, K> UniqueArena<T, K> {
         ensures taken { result ≡ self.old }
         ensures emptied { self.new ≡ [] }
     {
+        let alloc = self.entries.allocator();
         UniqueArena {
             entries: self.entries.take(),
+            places: self.places.take(alloc),
+            known: mem::replace(&mut self.known, 0),
             key: PhantomData,
         }
     }
@@ -223,6 +253,8 @@ impl<T: Eq + Hash, K> UniqueArena<T, K> {
         ensures taken { result ≡ entries_from 0 self.old }
         ensures emptied { self.new ≡ [] }
     {
+        self.places.clear();
+        self.known = 0;
         Drain::new(self.entries.take())
     }
 }

@@ -1,9 +1,14 @@
-use Rattle.std.proofs.Common.{arith, sym, ◌∙◌, refl}
+use Rattle.std.proofs.Common.{◌≡◌, false, length, map, arith, ap, sym, subst, ◌∙◌, refl}
+use Rattle.std.specs.List.{list_any}
 use Rattle.std.proofs.lemmas.List.{length_push}
 use Rattle.std.proofs.lemmas.Map.Keys.{IsDistinct-push}
 use Rattle.ir_arena.proofs.Entries.{OnErr-always}
 use Rattle.ir_arena.proofs.Found.{passes_at, passes_nowhere, none_passes, first_equiv}
-use Rattle.ir_arena.specs.Arenas.{has_value}
+use Rattle.ir_arena.proofs.Noted.{noted_before}
+use Rattle.ir_arena.proofs.Zipped.{length_map}
+use Rattle.ir_arena.specs.declared.span.Span.{Span}
+use Rattle.ir_arena.specs.Arenas.{value_of_entry, has_value, IsDistinctBy}
+use Rattle.ir_arena.specs.Places.{AreNoted}
 use Rattle.ir_arena.proofs.unique_arena.UniqueArena.insert.Goals as goal
 
 pub returns-in-Some-clause-ok : goal.returns-in-Some-clause-ok
@@ -23,10 +28,20 @@ returns-in-Some-clause-appends g c absent =
 
 pub invariant_of-self-in-None : goal.invariant_of-self-in-None
 invariant_of-self-in-None g c =
-    let absent = passes_nowhere (has_value g.T.PartialEq.eq c.args.value) c.args.self.now (sym c.find.ensures.value ∙ c.in-None.is) in
-    rw (c.in_ok-push-in-None.ensures.ok, c.self.view_is) (
-      IsDistinct-push (first_equiv g.met.T.Eq.laws) c.args.self.now (c.args.value, c.args.span) (rw c.self.view_is at c.self.invariant.0) absent,
-      rw (← c.self.view_is) (omega (arith, length_push c.self.inside.entries (c.args.value, c.args.span))),
+    let eq = g.T.PartialEq.eq in
+    let input = g.T.Hash.hash_input in
+    let held = c.self.inside in
+    let entry : g.row.T.Denot × Span = (c.args.value, c.args.span) in
+    let grown = c.in_ok-push-in-None.ensures.ok in
+    let absent = passes_nowhere (has_value eq c.args.value) c.args.self.now (sym c.find.ensures.value ∙ c.in-None.is) in
+    let distinct = IsDistinct-push (first_equiv g.met.T.Eq.laws) held.entries entry c.self.invariant.0 (subst (λ es. list_any (has_value eq c.args.value) es ≡ false) (sym c.self.view_is) absent) in
+    let before = noted_before input held.places held.entries entry held.known c.self.invariant.2 c.self.invariant.3 in
+    let known = subst (λ es. AreNoted input held.places (map value_of_entry es) held.known) (sym grown) before in
+    let noted = c.note_from-self-inside.ensures.noted (subst (λ vs. AreNoted input held.places vs held.known) (sym c.values.ensures) known) in (
+      subst (IsDistinctBy eq) (sym grown) distinct,
+      omega (arith, ap length grown, length_push held.entries entry, c.len-place.ensures, c.if-place-ge4294967295.false),
+      omega (arith, c.note_from-self-inside.ensures.in_range, ap length c.values.ensures, length_map value_of_entry c.push.new.self),
+      subst (λ vs. AreNoted input c.note_from-self-inside.new.places vs c.note_from-self-inside.result) c.values.ensures noted,
     )
 
 pub returns-in_ok-push-in-None-clause-handle : goal.returns-in_ok-push-in-None-clause-handle
