@@ -17,7 +17,7 @@ use ir_types::{IrType, key};
 use std::alloc::{AllocError, Global};
 
 /// A shader module (naga's `Module`).
-#[derive(PartialEq, Eq, Debug, Drop)]
+#[derive(PartialEq, Debug, Drop)]
 pub struct Module {
     /// The types, no two of them equal.
     pub types: UniqueArena<IrType, key::IrType>,
