@@ -13,7 +13,7 @@ use ir_types::TypeInner;
 use overload_tables::{ConstructorSize, ValueType};
 
 /// A set of shapes (naga's `ConstructorSet`). A contract sees the number of its bits, as `set.0`.
-#[derive(Clone, Copy, PartialEq, Eq, Hash, Debug)]
+#[derive(Clone, Copy, PartialEq, Eq, Debug)]
 pub struct ConstructorSet(
     /// The bits as a number.
     pub u16,

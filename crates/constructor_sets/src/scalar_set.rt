@@ -12,7 +12,7 @@ use ir_kinds::{Scalar, ScalarKind};
 
 /// A set of scalars, the preferred ones with the lowest bits (naga's `ScalarSet`). A contract sees the number of its
 /// bits, as `set.0`.
-#[derive(Clone, Copy, PartialEq, Eq, Hash, Debug)]
+#[derive(Clone, Copy, PartialEq, Eq, Debug)]
 pub struct ScalarSet(
     /// The bits as a number.
     pub u16,

@@ -1,3 +1,4 @@
+pub mod Behind
 pub mod TerminatorLemmas
 pub mod TailLaws
 pub mod SpanLemmas

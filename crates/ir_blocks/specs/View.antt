@@ -137,6 +137,14 @@ InStepWithin s = (part : Part) → InStep (part_of (shape_of (statement_view s))
 abbrev pub InStepByStatements : Type 0
 InStepByStatements = (b : Block) → AllInStep b ↔ (IsInStep b × All InStepWithin (statements_of b))
 
+-- no block lies inside the statement
+abbrev pub HoldsNoBlock : PlainStatement → Type 0
+HoldsNoBlock (block body) = ⊥
+HoldsNoBlock (choice condition accept reject) = ⊥
+HoldsNoBlock (switch selector cases) = ⊥
+HoldsNoBlock (loop body continuing break_if) = ⊥
+HoldsNoBlock _ = Unit {0}
+
 -- the statement steers nothing, computes no range and calls nothing
 abbrev pub IsAct : PlainStatement → Type 0
 IsAct (act a) = Unit {0}

@@ -4,7 +4,7 @@ use ir_kinds::Direction;
 use ir_types::key;
 
 /// What is done with a value in memory at once (naga's `AtomicFunction`).
-#[derive(Clone, Copy, PartialEq, Eq, Hash, Debug)]
+#[derive(Clone, Copy, PartialEq, Debug)]
 pub enum AtomicFunction {
     /// It is added to.
     Add,
@@ -28,7 +28,7 @@ pub enum AtomicFunction {
 }
 
 /// From which invocation of a subgroup a value is taken (naga's `GatherMode`).
-#[derive(Clone, Copy, PartialEq, Eq, Hash, Debug)]
+#[derive(Clone, Copy, PartialEq, Debug)]
 pub enum GatherMode {
     /// From the first that is active.
     BroadcastFirst,
@@ -49,7 +49,7 @@ pub enum GatherMode {
 }
 
 /// What is done with a ray query (naga's `RayQueryFunction`).
-#[derive(Clone, Copy, PartialEq, Eq, Hash, Debug)]
+#[derive(Clone, Copy, PartialEq, Debug)]
 pub enum RayQueryFunction {
     /// It begins.
     Initialize {
@@ -75,7 +75,7 @@ pub enum RayQueryFunction {
 }
 
 /// What a pipeline of ray tracing is asked for (naga's `RayPipelineFunction`).
-#[derive(Clone, Copy, PartialEq, Eq, Hash, Debug)]
+#[derive(Clone, Copy, PartialEq, Debug)]
 pub enum RayPipelineFunction {
     /// A ray is traced.
     TraceRay {

@@ -1,6 +1,6 @@
 // Statements and the blocks that hold them.
 ghost use Rattle.std.specs.Prelude.{◌≡◌, map, IfOk};
-ghost use Rattle.ir_blocks.specs.View.{statement_view, block_view, case_view, statement_spans, block_spans, case_block_spans, IsAct, IsSharedAct};
+ghost use Rattle.ir_blocks.specs.View.{statement_view, block_view, case_view, statement_spans, block_spans, case_block_spans, HoldsNoBlock, IsAct, IsSharedAct};
 ghost use Rattle.ir_blocks.specs.Spans.{no_block};
 
 use crate::acts::{AtomicFunction, GatherMode, RayPipelineFunction, RayQueryFunction};
@@ -15,7 +15,7 @@ use std::alloc::{AllocError, Global};
 
 /// Statements in order, each with its span (naga's `Block`).
 #[cycle(body)]
-#[derive(PartialEq, Eq, Hash, Debug, Drop)]
+#[derive(PartialEq, Debug, Drop)]
 pub struct Block {
     pub(crate) body: Vec<Statement>,
     pub(crate) span_info: Vec<Span>,
@@ -23,7 +23,7 @@ pub struct Block {
 
 /// A case of a switch (naga's `SwitchCase`).
 #[cycle(body)]
-#[derive(PartialEq, Eq, Hash, Debug, Drop)]
+#[derive(PartialEq, Debug, Drop)]
 pub struct SwitchCase {
     /// The value that chooses it.
     pub value: SwitchValue,
@@ -35,7 +35,7 @@ pub struct SwitchCase {
 
 /// One step of a function's body (naga's `Statement`).
 #[cycle(body)]
-#[derive(PartialEq, Eq, Hash, Debug, Drop)]
+#[derive(PartialEq, Debug, Drop)]
 pub enum Statement {
     /// Computes a range of expressions.
     Emit(Range<key::Expression>),
@@ -223,7 +223,6 @@ impl Statement {
         ensures spans { IfOk result (λ copy. statement_spans copy ≡ statement_spans self.now) }
     {
         match self {
-            Statement::Emit(range) => Ok(Statement::Emit(range.clone()?)),
             Statement::Block(block) => Ok(Statement::Block(block.clone(alloc)?)),
             Statement::If {
                 condition,
@@ -247,6 +246,18 @@ impl Statement {
                 continuing: continuing.clone(alloc)?,
                 break_if: *break_if,
             }),
+            step => step.clone_step(alloc),
+        }
+    }
+
+    // An equal statement, where it holds no block.
+    fn clone_step(&self, alloc: Global) -> Result<Statement, AllocError>
+        requires { HoldsNoBlock (statement_view self.now) }
+        ensures statement { IfOk result (λ copy. statement_view copy ≡ statement_view self.now) }
+        ensures spans { IfOk result (λ copy. statement_spans copy ≡ no_block) }
+    {
+        match self {
+            Statement::Emit(range) => Ok(Statement::Emit(*range)),
             Statement::Break => Ok(Statement::Break),
             Statement::Continue => Ok(Statement::Continue),
             Statement::Return { value } => Ok(Statement::Return { value: *value }),

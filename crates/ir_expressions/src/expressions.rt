@@ -1,6 +1,6 @@
 // Expressions.
 ghost use Rattle.std.specs.Prelude.{◌≡◌, IfOk};
-ghost use Rattle.ir_expressions.specs.Plain.{expression_view, implicit_derivatives, always_in_scope, is_dynamic};
+ghost use Rattle.ir_expressions.specs.Plain.{expression_view, IsPlain, IsComputed, IsFound, IsResult, implicit_derivatives, always_in_scope, is_dynamic};
 
 use ir_arena::handle::Handle;
 use ir_kinds::{
@@ -12,7 +12,7 @@ use ir_types::key;
 use std::alloc::{AllocError, Global};
 
 /// How much of an image's detail a sample takes (naga's `SampleLevel`).
-#[derive(Clone, Copy, PartialEq, Eq, Hash, Debug)]
+#[derive(Clone, Copy, PartialEq, Debug)]
 pub enum SampleLevel {
     /// By how fast the coordinate changes from fragment to fragment.
     Auto,
@@ -44,7 +44,7 @@ impl SampleLevel {
 }
 
 /// What is asked of an image (naga's `ImageQuery`).
-#[derive(Clone, Copy, PartialEq, Eq, Hash, Debug)]
+#[derive(Clone, Copy, PartialEq, Debug)]
 pub enum ImageQuery {
     /// How many texels it has each way.
     Size {
@@ -60,7 +60,7 @@ pub enum ImageQuery {
 }
 
 /// The memory that a cooperative matrix is loaded from or stored to (naga's `CooperativeData`).
-#[derive(Clone, Copy, PartialEq, Eq, Hash, Debug)]
+#[derive(Clone, Copy, PartialEq, Debug)]
 pub struct CooperativeData {
     /// Where the first scalar lies.
     pub pointer: Handle<key::Expression>,
@@ -71,7 +71,7 @@ pub struct CooperativeData {
 }
 
 /// What is computed in a function or at the module's top (naga's `Expression`).
-#[derive(Clone, PartialEq, Eq, Hash, Debug, Drop)]
+#[derive(PartialEq, Debug, Drop)]
 pub enum Expression {
     /// A value that is written.
     Literal(Literal),
@@ -323,9 +323,182 @@ impl Expression {
     }
 
     /// An equal expression in memory of its own. The error is want of memory.
-    pub fn clone(&self, _alloc: Global) -> Result<Expression, AllocError>
+    pub fn clone(&self, alloc: Global) -> Result<Expression, AllocError>
         ensures { IfOk result (λ copy. expression_view copy ≡ expression_view self.now) }
     {
-        Clone::clone(self)
+        match self {
+            Expression::Compose { ty, components } => Ok(Expression::Compose {
+                ty: *ty,
+                components: Vec::from_slice(alloc, components)?,
+            }),
+            plain => Ok(plain.copy_plain()),
+        }
+    }
+
+    // An equal expression, where it holds no list.
+    fn copy_plain(&self) -> Expression
+        requires { IsPlain (expression_view self.now) }
+        ensures { expression_view result ≡ expression_view self.now }
+    {
+        match *self {
+            Expression::Literal(value) => Expression::Literal(value),
+            Expression::Constant(handle) => Expression::Constant(handle),
+            Expression::Override(handle) => Expression::Override(handle),
+            Expression::ZeroValue(ty) => Expression::ZeroValue(ty),
+            Expression::Access { base, index } => Expression::Access { base, index },
+            Expression::AccessIndex { base, index } => Expression::AccessIndex { base, index },
+            Expression::Splat { size, value } => Expression::Splat { size, value },
+            Expression::Swizzle {
+                size,
+                vector,
+                pattern,
+            } => Expression::Swizzle {
+                size,
+                vector,
+                pattern,
+            },
+            Expression::FunctionArgument(index) => Expression::FunctionArgument(index),
+            Expression::GlobalVariable(handle) => Expression::GlobalVariable(handle),
+            Expression::LocalVariable(handle) => Expression::LocalVariable(handle),
+            Expression::Load { pointer } => Expression::Load { pointer },
+            Expression::ArrayLength(array) => Expression::ArrayLength(array),
+            _ => self.copy_computed(),
+        }
+    }
+
+    // An equal expression that computes something of its operands.
+    fn copy_computed(&self) -> Expression
+        requires { IsComputed self.now }
+        ensures { expression_view result ≡ expression_view self.now }
+    {
+        match *self {
+            Expression::Unary { op, expr } => Expression::Unary { op, expr },
+            Expression::Binary { op, left, right } => Expression::Binary { op, left, right },
+            Expression::Select {
+                condition,
+                accept,
+                reject,
+            } => Expression::Select {
+                condition,
+                accept,
+                reject,
+            },
+            Expression::Derivative { axis, ctrl, expr } => Expression::Derivative {
+                axis,
+                ctrl,
+                expr,
+            },
+            Expression::Relational { fun, argument } => Expression::Relational { fun, argument },
+            Expression::Math {
+                fun,
+                arg,
+                arg1,
+                arg2,
+                arg3,
+            } => Expression::Math {
+                fun,
+                arg,
+                arg1,
+                arg2,
+                arg3,
+            },
+            Expression::As {
+                expr,
+                kind,
+                convert,
+            } => Expression::As {
+                expr,
+                kind,
+                convert,
+            },
+            _ => self.copy_found(),
+        }
+    }
+
+    // An equal expression that is found in an image.
+    fn copy_found(&self) -> Expression
+        requires { IsFound self.now }
+        ensures { expression_view result ≡ expression_view self.now }
+    {
+        match *self {
+            Expression::ImageSample {
+                image,
+                sampler,
+                gather,
+                coordinate,
+                array_index,
+                offset,
+                level,
+                depth_ref,
+                clamp_to_edge,
+            } => Expression::ImageSample {
+                image,
+                sampler,
+                gather,
+                coordinate,
+                array_index,
+                offset,
+                level,
+                depth_ref,
+                clamp_to_edge,
+            },
+            Expression::ImageLoad {
+                image,
+                coordinate,
+                array_index,
+                sample,
+                level,
+            } => Expression::ImageLoad {
+                image,
+                coordinate,
+                array_index,
+                sample,
+                level,
+            },
+            Expression::ImageQuery { image, query } => Expression::ImageQuery { image, query },
+            _ => self.copy_result(),
+        }
+    }
+
+    // An equal expression that stands for what a statement answered, or that is of rays or of cooperative matrices.
+    fn copy_result(&self) -> Expression
+        requires { IsResult self.now }
+        ensures { expression_view result ≡ expression_view self.now }
+    {
+        match *self {
+            Expression::CallResult(function) => Expression::CallResult(function),
+            Expression::AtomicResult { ty, comparison } => Expression::AtomicResult {
+                ty,
+                comparison,
+            },
+            Expression::WorkGroupUniformLoadResult { ty } =>
+                Expression::WorkGroupUniformLoadResult { ty },
+            Expression::RayQueryVertexPositions { query, committed } =>
+                Expression::RayQueryVertexPositions { query, committed },
+            Expression::RayQueryProceedResult => Expression::RayQueryProceedResult,
+            Expression::RayQueryGetIntersection { query, committed } =>
+                Expression::RayQueryGetIntersection { query, committed },
+            Expression::SubgroupBallotResult => Expression::SubgroupBallotResult,
+            Expression::SubgroupOperationResult { ty } => Expression::SubgroupOperationResult {
+                ty,
+            },
+            Expression::CooperativeLoad {
+                columns,
+                rows,
+                role,
+                block,
+            } => Expression::CooperativeLoad {
+                columns,
+                rows,
+                role,
+                block,
+            },
+            Expression::CooperativeMultiplyAdd { a, b, c } => Expression::CooperativeMultiplyAdd {
+                a,
+                b,
+                c,
+            },
+            _ => unreachable!(),
+        }
     }
 }

@@ -48,7 +48,7 @@ impl Flags for StorageAccess {
 
 /// The memory that a barrier orders (naga's `Barrier`). A contract sees
 /// the number of its bits, as `set.0`.
-#[derive(Clone, Copy, PartialEq, Eq, Hash, Debug)]
+#[derive(Clone, Copy, PartialEq, Eq, Debug)]
 pub struct Barrier(
     /// The bits as a number.
     pub u32,
@@ -94,7 +94,7 @@ impl Flags for Barrier {
 
 /// How a storage buffer's memory is shared (naga's `MemoryDecorations`). A contract sees
 /// the number of its bits, as `set.0`.
-#[derive(Clone, Copy, PartialEq, Eq, Hash, Debug)]
+#[derive(Clone, Copy, PartialEq, Eq, Debug)]
 pub struct MemoryDecorations(
     /// The bits as a number.
     pub u8,

@@ -6,7 +6,7 @@ use bitflags::{Flag, Flags, bitflag_items};
 
 /// The checks that a validator makes (naga's `ValidationFlags`). A contract sees
 /// the number of its bits, as `set.0`.
-#[derive(Clone, Copy, PartialEq, Eq, Hash, Debug)]
+#[derive(Clone, Copy, PartialEq, Eq, Debug)]
 pub struct ValidationFlags(
     /// The bits as a number.
     pub u8,
@@ -56,7 +56,7 @@ impl Flags for ValidationFlags {
 
 /// What shaders may use beyond the common part (naga's `Capabilities`). A contract sees
 /// the number of its bits, as `set.0`.
-#[derive(Clone, Copy, PartialEq, Eq, Hash, Debug)]
+#[derive(Clone, Copy, PartialEq, Eq, Debug)]
 pub struct Capabilities(
     /// The bits as a number.
     pub u64,

@@ -4,7 +4,7 @@ use bitflags::{Flag, Flags, bitflag_items};
 
 /// A set of pipeline stages (naga's `ShaderStages`). A contract sees
 /// the number of its bits, as `set.0`.
-#[derive(Clone, Copy, PartialEq, Eq, Hash, Debug)]
+#[derive(Clone, Copy, PartialEq, Eq, Debug)]
 pub struct ShaderStages(
     /// The bits as a number.
     pub u16,
@@ -60,7 +60,7 @@ impl Flags for ShaderStages {
 
 /// The kinds of subgroup operation that a device has (naga's `SubgroupOperationSet`). A contract sees
 /// the number of its bits, as `set.0`.
-#[derive(Clone, Copy, PartialEq, Eq, Hash, Debug)]
+#[derive(Clone, Copy, PartialEq, Eq, Debug)]
 pub struct SubgroupOperationSet(
     /// The bits as a number.
     pub u8,

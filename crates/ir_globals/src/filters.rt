@@ -9,7 +9,7 @@ use ir_types::key;
 use std::alloc::{AllocError, Global};
 
 /// A rule whose faults a filter may make milder (naga's `FilterableTriggeringRule`).
-#[derive(PartialEq, Eq, Hash, Debug, Drop)]
+#[derive(PartialEq, Eq, Debug, Drop)]
 pub enum FilterableTriggeringRule {
     /// A rule of the language.
     Standard(StandardFilterableTriggeringRule),
@@ -20,7 +20,7 @@ pub enum FilterableTriggeringRule {
 }
 
 /// How severe the faults of a rule are to be (naga's `DiagnosticFilter`).
-#[derive(PartialEq, Eq, Hash, Debug, Drop)]
+#[derive(PartialEq, Debug, Drop)]
 pub struct DiagnosticFilter {
     /// How severe.
     pub new_severity: Severity,
@@ -29,7 +29,7 @@ pub struct DiagnosticFilter {
 }
 
 /// A filter, and the node whose filters stand behind it (naga's `DiagnosticFilterNode`).
-#[derive(PartialEq, Eq, Hash, Debug, Drop)]
+#[derive(PartialEq, Debug, Drop)]
 pub struct DiagnosticFilterNode {
     /// The filter.
     pub inner: DiagnosticFilter,

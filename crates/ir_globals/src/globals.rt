@@ -10,7 +10,7 @@ use ir_types::{clone_name, key};
 use std::alloc::{AllocError, Global};
 
 /// A value that is known when the module is made (naga's `Constant`).
-#[derive(PartialEq, Eq, Hash, Debug, Drop)]
+#[derive(PartialEq, Debug, Drop)]
 pub struct Constant {
     /// The name in the source, if any.
     pub name: Option<String>,
@@ -21,7 +21,7 @@ pub struct Constant {
 }
 
 /// A value that is known when a pipeline is made (naga's `Override`).
-#[derive(PartialEq, Eq, Hash, Debug, Drop)]
+#[derive(PartialEq, Debug, Drop)]
 pub struct Override {
     /// The name in the source, if any.
     pub name: Option<String>,
@@ -34,7 +34,7 @@ pub struct Override {
 }
 
 /// A variable of the module (naga's `GlobalVariable`).
-#[derive(PartialEq, Eq, Hash, Debug, Drop)]
+#[derive(PartialEq, Eq, Debug, Drop)]
 pub struct GlobalVariable {
     /// The name in the source, if any.
     pub name: Option<String>,

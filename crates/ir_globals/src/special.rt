@@ -9,7 +9,7 @@ use ir_types::key;
 use std::alloc::{AllocError, Global};
 
 /// Types that some expressions ask for by what they are (naga's `SpecialTypes`).
-#[derive(PartialEq, Eq, Debug, Drop)]
+#[derive(PartialEq, Debug, Drop)]
 pub struct SpecialTypes {
     /// The type of a ray.
     pub ray_desc: Option<Handle<key::IrType>>,

@@ -10,7 +10,7 @@ use ir_types::key;
 use std::alloc::{AllocError, Global};
 
 /// What a mesh shader gives (naga's `MeshStageInfo`).
-#[derive(Clone, Copy, PartialEq, Eq, Hash, Debug)]
+#[derive(Clone, Copy, PartialEq, Debug)]
 pub struct MeshStageInfo {
     /// What its primitives are.
     pub topology: MeshOutputTopology,
@@ -31,7 +31,7 @@ pub struct MeshStageInfo {
 }
 
 /// Where a stage of a pipeline begins (naga's `EntryPoint`).
-#[derive(PartialEq, Eq, Debug, Drop)]
+#[derive(PartialEq, Debug, Drop)]
 pub struct EntryPoint {
     /// The name that a pipeline calls it by.
     pub name: String,

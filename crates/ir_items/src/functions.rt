@@ -15,7 +15,7 @@ use ir_types::{clone_name, key};
 use std::alloc::{AllocError, Global};
 
 /// A variable of a function (naga's `LocalVariable`).
-#[derive(PartialEq, Eq, Hash, Debug, Drop)]
+#[derive(PartialEq, Debug, Drop)]
 pub struct LocalVariable {
     /// The name in the source, if any.
     pub name: Option<String>,
@@ -26,7 +26,7 @@ pub struct LocalVariable {
 }
 
 /// What a function is given (naga's `FunctionArgument`).
-#[derive(PartialEq, Eq, Hash, Debug, Drop)]
+#[derive(PartialEq, Debug, Drop)]
 pub struct FunctionArgument {
     /// The name in the source, if any.
     pub name: Option<String>,
@@ -37,7 +37,7 @@ pub struct FunctionArgument {
 }
 
 /// What a function answers (naga's `FunctionResult`).
-#[derive(Clone, Copy, PartialEq, Eq, Hash, Debug)]
+#[derive(Clone, Copy, PartialEq, Debug)]
 pub struct FunctionResult {
     /// The type of the answer.
     pub ty: Handle<key::IrType>,
@@ -46,7 +46,7 @@ pub struct FunctionResult {
 }
 
 /// A function (naga's `Function`).
-#[derive(PartialEq, Eq, Debug, Drop)]
+#[derive(PartialEq, Debug, Drop)]
 pub struct Function {
     /// The name in the source, if any.
     pub name: Option<String>,

@@ -1,23 +1,22 @@
 // The module that holds everything.
 ghost use Rattle.std.specs.Prelude.{◌≡◌, IfOk};
 ghost use Rattle.ir_items.specs.Copies.{spanned_module};
+ghost use Rattle.ir_items.specs.Lists.{module_of};
 ghost use Rattle.ir_items.specs.View.{module_view, empty_module};
 
 use crate::entries::EntryPoint;
 use crate::functions::Function;
-use crate::module_lists::{CodeLists, GlobalLists};
+use crate::module_lists::{CodeLists, GlobalLists, TypeLists};
 use ir_arena::arena::Arena;
 use ir_arena::handle::Handle;
 use ir_arena::unique_arena::UniqueArena;
 use ir_expressions::Expression;
-use ir_globals::{
-    Constant, DiagnosticFilterNode, GlobalVariable, Override, SpecialTypes, copy_types,
-};
+use ir_globals::{Constant, DiagnosticFilterNode, GlobalVariable, Override, SpecialTypes};
 use ir_types::{IrType, key};
 use std::alloc::{AllocError, Global};
 
 /// A shader module (naga's `Module`).
-#[derive(PartialEq, Eq, Debug, Drop)]
+#[derive(PartialEq, Debug, Drop)]
 pub struct Module {
     /// The types, no two of them equal.
     pub types: UniqueArena<IrType, key::IrType>,
@@ -77,22 +76,33 @@ impl Module {
     pub fn clone(&self, alloc: Global) -> Result<Module, AllocError>
         ensures { IfOk result (λ copy. spanned_module copy ≡ spanned_module self.now) }
     {
-        let types = copy_types(alloc, &self.types)?;
-        let special_types = self.special_types.clone(alloc)?;
+        let types = TypeLists::of_copies(alloc, self)?;
         let globals = GlobalLists::of_copies(alloc, self)?;
         let code = CodeLists::of_copies(alloc, self)?;
-        Ok(Module {
-            types,
-            special_types,
-            constants: globals.constants,
-            overrides: globals.overrides,
-            global_variables: globals.variables,
-            global_expressions: globals.expressions,
+        Ok(Module::of_lists(types, globals, code, self.diagnostic_filter_leaf))
+    }
+
+    // The module of these lists.
+    fn of_lists(
+        types: TypeLists,
+        globals: GlobalLists,
+        code: CodeLists,
+        leaf: Option<Handle<key::DiagnosticFilterNode>>,
+    ) -> Module
+        ensures { result ≡ module_of types globals code leaf }
+    {
+        Module {
+            types: types.types,
+            special_types: types.special,
+            constants: globals.constants.constants,
+            overrides: globals.constants.overrides,
+            global_variables: globals.variables.variables,
+            global_expressions: globals.variables.expressions,
             functions: code.functions,
             entry_points: code.entry_points,
             diagnostic_filters: code.filters,
-            diagnostic_filter_leaf: self.diagnostic_filter_leaf,
-        })
+            diagnostic_filter_leaf: leaf,
+        }
     }
 
     /// What its global expressions may name.

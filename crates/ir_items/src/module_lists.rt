@@ -1,24 +1,48 @@
-// The lists of a module in two parts, each of which is copied by itself.
+// The lists of a module in three parts, each of which is copied by itself.
 ghost use Rattle.std.specs.Prelude.{◌≡◌, IfOk, map};
 ghost use Rattle.ir_expressions.specs.Plain.{expression_view};
+ghost use Rattle.ir_types.specs.Plain.{type_view};
 ghost use Rattle.ir_globals.specs.Copies.{entry_of};
-ghost use Rattle.ir_globals.specs.View.{constant_view, override_view, global_view, node_view};
+ghost use Rattle.ir_globals.specs.View.{special_view, constant_view, override_view, global_view, node_view};
 ghost use Rattle.ir_items.specs.Copies.{spanned_function, spanned_entry};
 
 use crate::entries::EntryPoint;
 use crate::functions::Function;
 use crate::module::Module;
 use ir_arena::arena::Arena;
+use ir_arena::unique_arena::UniqueArena;
 use ir_expressions::Expression;
-use ir_globals::{Constant, DiagnosticFilterNode, GlobalVariable, Override, copy_arena, copy_list};
-use ir_types::key;
+use ir_globals::{
+    Constant, DiagnosticFilterNode, GlobalVariable, Override, SpecialTypes, copy_arena, copy_list,
+    copy_types,
+};
+use ir_types::{IrType, key};
 use std::alloc::{AllocError, Global};
+
+// The types, and those that some expressions ask for.
+#[derive(Drop)]
+pub(crate) struct TypeLists {
+    pub(crate) types: UniqueArena<IrType, key::IrType>,
+    pub(crate) special: SpecialTypes,
+}
 
 // The constants, overrides and variables, and what they begin as.
 #[derive(Drop)]
 pub(crate) struct GlobalLists {
+    pub(crate) constants: ConstantLists,
+    pub(crate) variables: VariableLists,
+}
+
+// The constants and the overrides.
+#[derive(Drop)]
+pub(crate) struct ConstantLists {
     pub(crate) constants: Arena<Constant, key::Constant>,
     pub(crate) overrides: Arena<Override, key::Override>,
+}
+
+// The variables, and what they and constants and overrides begin as.
+#[derive(Drop)]
+pub(crate) struct VariableLists {
     pub(crate) variables: Arena<GlobalVariable, key::GlobalVariable>,
     pub(crate) expressions: Arena<Expression, key::Expression>,
 }
@@ -31,17 +55,54 @@ pub(crate) struct CodeLists {
     pub(crate) filters: Arena<DiagnosticFilterNode, key::DiagnosticFilterNode>,
 }
 
+impl TypeLists {
+    // Those of `source` in memory of their own, with the same spans. The error is want of memory.
+    pub(crate) fn of_copies(alloc: Global, source: &Module) -> Result<TypeLists, AllocError>
+        ensures types { IfOk result (λ l. map (entry_of type_view) l.types ≡ map (entry_of type_view) source.now.types) }
+        ensures special { IfOk result (λ l. special_view l.special ≡ special_view source.now.special_types) }
+    {
+        Ok(TypeLists {
+            types: copy_types(alloc, &source.types)?,
+            special: source.special_types.clone(alloc)?,
+        })
+    }
+}
+
 impl GlobalLists {
     // Those of `source` in memory of their own, with the same spans. The error is want of memory.
     pub(crate) fn of_copies(alloc: Global, source: &Module) -> Result<GlobalLists, AllocError>
+        ensures constants { IfOk result (λ l. map (entry_of constant_view) l.constants.constants ≡ map (entry_of constant_view) source.now.constants) }
+        ensures overrides { IfOk result (λ l. map (entry_of override_view) l.constants.overrides ≡ map (entry_of override_view) source.now.overrides) }
+        ensures variables { IfOk result (λ l. map (entry_of global_view) l.variables.variables ≡ map (entry_of global_view) source.now.global_variables) }
+        ensures expressions { IfOk result (λ l. map (entry_of expression_view) l.variables.expressions ≡ map (entry_of expression_view) source.now.global_expressions) }
+    {
+        Ok(GlobalLists {
+            constants: ConstantLists::of_copies(alloc, source)?,
+            variables: VariableLists::of_copies(alloc, source)?,
+        })
+    }
+}
+
+impl ConstantLists {
+    // Those of `source` in memory of their own, with the same spans. The error is want of memory.
+    fn of_copies(alloc: Global, source: &Module) -> Result<ConstantLists, AllocError>
         ensures constants { IfOk result (λ l. map (entry_of constant_view) l.constants ≡ map (entry_of constant_view) source.now.constants) }
         ensures overrides { IfOk result (λ l. map (entry_of override_view) l.overrides ≡ map (entry_of override_view) source.now.overrides) }
+    {
+        Ok(ConstantLists {
+            constants: copy_arena(alloc, &source.constants)?,
+            overrides: copy_arena(alloc, &source.overrides)?,
+        })
+    }
+}
+
+impl VariableLists {
+    // Those of `source` in memory of their own, with the same spans. The error is want of memory.
+    fn of_copies(alloc: Global, source: &Module) -> Result<VariableLists, AllocError>
         ensures variables { IfOk result (λ l. map (entry_of global_view) l.variables ≡ map (entry_of global_view) source.now.global_variables) }
         ensures expressions { IfOk result (λ l. map (entry_of expression_view) l.expressions ≡ map (entry_of expression_view) source.now.global_expressions) }
     {
-        Ok(GlobalLists {
-            constants: copy_arena(alloc, &source.constants)?,
-            overrides: copy_arena(alloc, &source.overrides)?,
+        Ok(VariableLists {
             variables: copy_arena(alloc, &source.global_variables)?,
             expressions: copy_arena(alloc, &source.global_expressions)?,
         })

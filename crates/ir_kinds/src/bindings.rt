@@ -150,7 +150,7 @@ pub enum Binding {
 }
 
 /// Where a global finds its resource (naga's `ResourceBinding`).
-#[derive(Clone, Copy, PartialEq, Eq, PartialOrd, Ord, Hash, Debug)]
+#[derive(Clone, Copy, PartialEq, Eq, PartialOrd, Ord, Debug)]
 pub struct ResourceBinding {
     /// The bind group's index.
     pub group: u32,

@@ -1,7 +1,7 @@
 //! How findings of a validator are told.
 
 /// How grave a finding is (naga's `Severity`).
-#[derive(Clone, Copy, PartialEq, Eq, Hash, Debug)]
+#[derive(Clone, Copy, PartialEq, Eq, Debug)]
 pub enum Severity {
     /// It is not told.
     Off,
@@ -14,7 +14,7 @@ pub enum Severity {
 }
 
 /// A rule of WGSL's whose findings a module may rate (naga's `StandardFilterableTriggeringRule`).
-#[derive(Clone, Copy, PartialEq, Eq, Hash, Debug)]
+#[derive(Clone, Copy, PartialEq, Eq, Debug)]
 pub enum StandardFilterableTriggeringRule {
     /// Derivatives in uniform control flow.
     DerivativeUniformity,

@@ -4,7 +4,7 @@ ghost use Rattle.std.specs.Prelude.{◌≡◌};
 ghost use Rattle.ir_kinds.specs.Maths.{argument_count};
 
 /// A built-in function of numbers (naga's `MathFunction`).
-#[derive(Clone, Copy, PartialEq, Eq, Hash, Debug)]
+#[derive(Clone, Copy, PartialEq, Eq, Debug)]
 pub enum MathFunction {
     /// Without sign.
     Abs,

@@ -1,7 +1,7 @@
 //! Operators and functions of expressions.
 
 /// An operator with one operand (naga's `UnaryOperator`).
-#[derive(Clone, Copy, PartialEq, Eq, Hash, Debug)]
+#[derive(Clone, Copy, PartialEq, Eq, Debug)]
 pub enum UnaryOperator {
     /// The negative.
     Negate,
@@ -12,7 +12,7 @@ pub enum UnaryOperator {
 }
 
 /// An operator with two operands (naga's `BinaryOperator`).
-#[derive(Clone, Copy, PartialEq, Eq, Hash, Debug)]
+#[derive(Clone, Copy, PartialEq, Eq, Debug)]
 pub enum BinaryOperator {
     /// The sum.
     Add,
@@ -53,7 +53,7 @@ pub enum BinaryOperator {
 }
 
 /// A function that gives truth values (naga's `RelationalFunction`).
-#[derive(Clone, Copy, PartialEq, Eq, Hash, Debug)]
+#[derive(Clone, Copy, PartialEq, Eq, Debug)]
 pub enum RelationalFunction {
     /// Whether all components are true.
     All,
@@ -66,7 +66,7 @@ pub enum RelationalFunction {
 }
 
 /// The axis of a derivative (naga's `DerivativeAxis`).
-#[derive(Clone, Copy, PartialEq, Eq, Hash, Debug)]
+#[derive(Clone, Copy, PartialEq, Eq, Debug)]
 pub enum DerivativeAxis {
     /// Along x.
     X,
@@ -77,7 +77,7 @@ pub enum DerivativeAxis {
 }
 
 /// How finely a derivative is taken (naga's `DerivativeControl`).
-#[derive(Clone, Copy, PartialEq, Eq, Hash, Debug)]
+#[derive(Clone, Copy, PartialEq, Eq, Debug)]
 pub enum DerivativeControl {
     /// Once for a quad.
     Coarse,

@@ -64,7 +64,7 @@ pub enum CooperativeRole {
 }
 
 /// A component of a vector, as a swizzle picks it (naga's `SwizzleComponent`).
-#[derive(Clone, Copy, PartialEq, Eq, Hash, Debug)]
+#[derive(Clone, Copy, PartialEq, Eq, Debug)]
 pub enum SwizzleComponent {
     /// The first.
     X,

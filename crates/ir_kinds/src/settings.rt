@@ -3,7 +3,7 @@
 ghost use Rattle.std.specs.Prelude.{◌≡◌, ◌↔◌, ◌⊎◌, IsTrue};
 
 /// A check that the validator is asked to make (a flag of naga's `ValidationFlags`).
-#[derive(Clone, Copy, PartialEq, Eq, Hash, Debug)]
+#[derive(Clone, Copy, PartialEq, Eq, Debug)]
 pub enum Flag {
     /// Expressions.
     Expressions,
@@ -20,7 +20,7 @@ pub enum Flag {
 }
 
 /// What a shader may use beyond the common part (a flag of naga's `Capabilities`).
-#[derive(Clone, Copy, PartialEq, Eq, Hash, Debug)]
+#[derive(Clone, Copy, PartialEq, Eq, Debug)]
 pub enum Capability {
     /// Globals in the immediate address space.
     Immediates,
@@ -101,7 +101,7 @@ pub enum Capability {
 }
 
 /// A stage of a pipeline (naga's `ShaderStage`).
-#[derive(Clone, Copy, PartialEq, Eq, Hash, Debug)]
+#[derive(Clone, Copy, PartialEq, Eq, Debug)]
 pub enum ShaderStage {
     /// Vertex shading.
     Vertex,
@@ -137,7 +137,7 @@ impl ShaderStage {
 }
 
 /// A kind of subgroup operation (a flag of naga's `SubgroupOperationSet`).
-#[derive(Clone, Copy, PartialEq, Eq, Hash, Debug)]
+#[derive(Clone, Copy, PartialEq, Eq, Debug)]
 pub enum SubgroupFlag {
     /// Elections and barriers.
     Basic,

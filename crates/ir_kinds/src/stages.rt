@@ -6,7 +6,7 @@ ghost use Rattle.ir_kinds.specs.Bindings.{index_built_in};
 use crate::bindings::BuiltIn;
 
 /// How a fragment's depth may change (naga's `ConservativeDepth`).
-#[derive(Clone, Copy, PartialEq, Eq, Hash, Debug)]
+#[derive(Clone, Copy, PartialEq, Eq, Debug)]
 pub enum ConservativeDepth {
     /// It does not fall.
     GreaterEqual,
@@ -17,7 +17,7 @@ pub enum ConservativeDepth {
 }
 
 /// When depth is tested before a fragment is shaded (naga's `EarlyDepthTest`).
-#[derive(Clone, Copy, PartialEq, Eq, Hash, Debug)]
+#[derive(Clone, Copy, PartialEq, Eq, Debug)]
 pub enum EarlyDepthTest {
     /// Always.
     Force,
@@ -26,7 +26,7 @@ pub enum EarlyDepthTest {
 }
 
 /// What the primitives of a mesh shader are (naga's `MeshOutputTopology`).
-#[derive(Clone, Copy, PartialEq, Eq, Hash, Debug)]
+#[derive(Clone, Copy, PartialEq, Eq, Debug)]
 pub enum MeshOutputTopology {
     /// Points.
     Points,

@@ -1,7 +1,7 @@
 //! Operations of a subgroup.
 
 /// What a subgroup brings together (naga's `SubgroupOperation`).
-#[derive(Clone, Copy, PartialEq, Eq, Hash, Debug)]
+#[derive(Clone, Copy, PartialEq, Eq, Debug)]
 pub enum SubgroupOperation {
     /// Whether all are true.
     All,
@@ -24,7 +24,7 @@ pub enum SubgroupOperation {
 }
 
 /// Over which invocations a subgroup operation goes (naga's `CollectiveOperation`).
-#[derive(Clone, Copy, PartialEq, Eq, Hash, Debug)]
+#[derive(Clone, Copy, PartialEq, Eq, Debug)]
 pub enum CollectiveOperation {
     /// Over all.
     Reduce,
@@ -35,7 +35,7 @@ pub enum CollectiveOperation {
 }
 
 /// How values are swapped in a quad (naga's `Direction`).
-#[derive(Clone, Copy, PartialEq, Eq, Hash, Debug)]
+#[derive(Clone, Copy, PartialEq, Eq, Debug)]
 pub enum Direction {
     /// From left to right.
     X,

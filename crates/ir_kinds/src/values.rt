@@ -19,7 +19,7 @@ const F64_ONE: u64 = 0x3ff0_0000_0000_0000;
 const F64_MINUS_ONE: u64 = 0xbff0_0000_0000_0000;
 
 /// A value that is written in an expression (naga's `Literal`). A float stands as its bits: two are equal where their bits are.
-#[derive(Clone, Copy, PartialEq, Eq, Hash, Debug)]
+#[derive(Clone, Copy, PartialEq, Eq, Debug)]
 pub enum Literal {
     /// The bits of a 64-bit float.
     F64(u64),
@@ -48,7 +48,7 @@ pub enum Literal {
 }
 
 /// The value that chooses a case of a switch (naga's `SwitchValue`).
-#[derive(Clone, Copy, PartialEq, Eq, Hash, Debug)]
+#[derive(Clone, Copy, PartialEq, Eq, Debug)]
 pub enum SwitchValue {
     /// A 32-bit signed integer.
     I32(i32),

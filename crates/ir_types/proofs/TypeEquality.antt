@@ -1,5 +1,5 @@
 -- `==` of types is equality of what they hold.
-use Rattle.std.proofs.Common.{◌≡◌, ◌↔◌, IsTrue, rules, true, false, Bool, refl, ap, subst, sym, ◌∙◌, Option, Some, None, ◌&&◌, ℕ, nat_eq, List, [], ◌∷◌, map, option_map, string_bytes}
+use Rattle.std.proofs.Common.{◌≡◌, ◌↔◌, IsTrue, rules, true, false, true≢false, Bool, refl, ap, subst, sym, ◌∙◌, Option, Some, None, ◌&&◌, ℕ, nat_eq, List, [], ◌∷◌, map, option_map, string_bytes, inl, inr}
 use Rattle.std.specs.Bool.{beq}
 use Rattle.std.specs.String.{string_eq}
 use Rattle.std.specs.Option.{option_eq}
@@ -11,6 +11,7 @@ use Rattle.ir_types.specs.declared.types.StructMember.{StructMember}
 use Rattle.ir_types.specs.contracts.types.StructMemberPartialEq.TheImpl as of_member
 use Rattle.ir_types.specs.declared.types.TypeInner.{TypeInner}
 use Rattle.ir_types.specs.declared.types.TypeInner.TheVariants as inner
+use Rattle.ir_types.specs.contracts.types.TypeInner as types
 use Rattle.ir_types.specs.contracts.types.TypeInnerPartialEq.TheImpl as of_inner
 use Rattle.ir_types.specs.contracts.types.TypeInnerEq.TheImpl.Laws as inner_laws
 use Rattle.ir_types.specs.declared.types.IrType.{IrType}
@@ -19,7 +20,8 @@ use Rattle.ir_kinds.specs.declared.spaces.AddressSpace.{AddressSpace}
 use Rattle.ir_kinds.specs.contracts.spaces.AddressSpacePartialEq.TheImpl as space
 use Rattle.ir_kinds.specs.declared.images.ImageDimension.{ImageDimension}
 use Rattle.ir_kinds.specs.declared.images.ImageClass.{ImageClass}
-use Rattle.ir_types.proofs.Same.{both, same_number, same_flag, same_option, same_binding, same_class, same_list}
+use Rattle.ir_types.proofs.Choices.{Test, Laws, both, same_view}
+use Rattle.ir_types.proofs.Same.{same_number, same_binding, same_class, same_list, number, flag, handle, missing}
 use Rattle.ir_kinds.specs.declared.bindings.Binding.{Binding}
 use Rattle.ir_kinds.specs.contracts.bindings.BindingPartialEq.TheImpl as bound
 use Rattle.ir_kinds.specs.contracts.bindings.BindingEq.TheImpl.Laws as bound_laws
@@ -34,16 +36,19 @@ use Rattle.ir_kinds.specs.contracts.scalars.CooperativeRolePartialEq.TheImpl as 
 use Rattle.ir_kinds.specs.declared.scalars.Scalar.{Scalar}
 use Rattle.ir_kinds.specs.contracts.scalars.ScalarPartialEq.TheImpl as scalar
 
-same_size : (a b : ArraySize) → IsTrue (size.ghosts.eq a b) → a ≡ b
+pub same_size : (a b : ArraySize) → IsTrue (size.ghosts.eq a b) → a ≡ b
 same_size a b e = search rules
 
-same_space : (a b : AddressSpace) → IsTrue (space.ghosts.eq a b) → a ≡ b
+pub same_space : (a b : AddressSpace) → IsTrue (space.ghosts.eq a b) → a ≡ b
 same_space a b e = search rules
 
 same_name : (a b : StructMember) → IsTrue (option_eq string_eq a.name b.name) → option_map string_bytes a.name ≡ option_map string_bytes b.name
 same_name a b e = search rules
 
-pub same_member : (a b : StructMember) → IsTrue (of_member.ghosts.eq a b) → member_view a ≡ member_view b
+abbrev binding_test : Test (Option Binding)
+binding_test = missing (bound.ghosts.eq, same_binding)
+
+same_member : (a b : StructMember) → IsTrue (of_member.ghosts.eq a b) → member_view a ≡ member_view b
 same_member a b e =
     let h1 : IsTrue (option_eq string_eq a.name b.name) × IsTrue ((nat_eq a.ty b.ty && true) && (option_eq bound.ghosts.eq a.binding b.binding && nat_eq a.offset b.offset)) = both _ _ e in
     let h2 : IsTrue (nat_eq a.ty b.ty && true) × IsTrue (option_eq bound.ghosts.eq a.binding b.binding && nat_eq a.offset b.offset) = both _ _ h1.1 in
@@ -51,146 +56,99 @@ same_member a b e =
     λ i. record {
       name = same_name a b h1.0 i;
       ty = same_number a.ty b.ty (both (nat_eq a.ty b.ty) true h2.0).0 i;
-      binding = same_option bound.ghosts.eq same_binding a.binding b.binding h3.0 i;
+      binding = binding_test.1 a.binding b.binding h3.0 i;
       offset = same_number a.offset b.offset h3.1 i;
     }
 
-same_dim : (a b : ImageDimension) → IsTrue (dim.ghosts.eq a b) → a ≡ b
+pub same_dim : (a b : ImageDimension) → IsTrue (dim.ghosts.eq a b) → a ≡ b
 same_dim a b e = search rules
 
-same_vector_size : (a b : VectorSize) → IsTrue (of_size.ghosts.eq a b) → a ≡ b
+pub same_vector_size : (a b : VectorSize) → IsTrue (of_size.ghosts.eq a b) → a ≡ b
 same_vector_size a b e = search rules
 
-same_side : (a b : CooperativeSize) → IsTrue (side.ghosts.eq a b) → a ≡ b
+pub same_side : (a b : CooperativeSize) → IsTrue (side.ghosts.eq a b) → a ≡ b
 same_side a b e = search rules
 
-same_role : (a b : CooperativeRole) → IsTrue (role.ghosts.eq a b) → a ≡ b
+pub same_role : (a b : CooperativeRole) → IsTrue (role.ghosts.eq a b) → a ≡ b
 same_role a b e = search rules
 
-same_of_scalar : (a b : Scalar) → IsTrue (scalar.ghosts.eq a b) → a ≡ b
+pub same_of_scalar : (a b : Scalar) → IsTrue (scalar.ghosts.eq a b) → a ≡ b
 same_of_scalar a b e = search rules
 
-same_images : (d d2 : _) (f f2 : _) (c c2 : _) → IsTrue (of_inner.ghosts.eq (inner.Image d f c) (inner.Image d2 f2 c2)) → inner_view (inner.Image d f c) ≡ inner_view (inner.Image d2 f2 c2)
-same_images d d2 f f2 c c2 e =
-    let h1 : IsTrue (dim.ghosts.eq d d2) × IsTrue (beq f f2 && class.ghosts.eq c c2) = both _ _ e in
-    let h2 : IsTrue (beq f f2) × IsTrue (class.ghosts.eq c c2) = both _ _ h1.1 in
-    λ i. plain (inner.Image (same_dim d d2 h1.0 i) (same_flag f f2 h2.0 i) (same_class c c2 h2.1 i))
+abbrev pub size_test : Test ArraySize
+size_test = (size.ghosts.eq, same_size)
 
-same_cooperatives : (n n2 m m2 : _) (s s2 : _) (r r2 : _) → IsTrue (of_inner.ghosts.eq (inner.CooperativeMatrix n m s r) (inner.CooperativeMatrix n2 m2 s2 r2)) → inner_view (inner.CooperativeMatrix n m s r) ≡ inner_view (inner.CooperativeMatrix n2 m2 s2 r2)
-same_cooperatives n n2 m m2 s s2 r r2 e =
-    let h1 : IsTrue (side.ghosts.eq n n2) × IsTrue (side.ghosts.eq m m2 && (scalar.ghosts.eq s s2 && role.ghosts.eq r r2)) = both _ _ e in
-    let h2 : IsTrue (side.ghosts.eq m m2) × IsTrue (scalar.ghosts.eq s s2 && role.ghosts.eq r r2) = both _ _ h1.1 in
-    let h3 : IsTrue (scalar.ghosts.eq s s2) × IsTrue (role.ghosts.eq r r2) = both _ _ h2.1 in
-    λ i. plain (inner.CooperativeMatrix (same_side n n2 h1.0 i) (same_side m m2 h2.0 i) (same_of_scalar s s2 h3.0 i) (same_role r r2 h3.1 i))
+abbrev pub space_test : Test AddressSpace
+space_test = (space.ghosts.eq, same_space)
 
-same_value_pointers : (n n2 : _) (s s2 : _) (p p2 : _) → IsTrue (of_inner.ghosts.eq (inner.ValuePointer n s p) (inner.ValuePointer n2 s2 p2)) → inner_view (inner.ValuePointer n s p) ≡ inner_view (inner.ValuePointer n2 s2 p2)
-same_value_pointers n n2 s s2 p p2 e =
-    let h1 : IsTrue (option_eq of_size.ghosts.eq n n2) × IsTrue (scalar.ghosts.eq s s2 && space.ghosts.eq p p2) = both _ _ e in
-    let h2 : IsTrue (scalar.ghosts.eq s s2) × IsTrue (space.ghosts.eq p p2) = both _ _ h1.1 in
-    λ i. plain (inner.ValuePointer (same_option of_size.ghosts.eq same_vector_size n n2 h1.0 i) (same_of_scalar s s2 h2.0 i) (same_space p p2 h2.1 i))
+abbrev pub vector_test : Test VectorSize
+vector_test = (of_size.ghosts.eq, same_vector_size)
+
+abbrev pub side_test : Test CooperativeSize
+side_test = (side.ghosts.eq, same_side)
+
+abbrev pub role_test : Test CooperativeRole
+role_test = (role.ghosts.eq, same_role)
+
+abbrev pub scalar_test : Test Scalar
+scalar_test = (scalar.ghosts.eq, same_of_scalar)
+
+abbrev pub dim_test : Test ImageDimension
+dim_test = (dim.ghosts.eq, same_dim)
+
+abbrev pub class_test : Test ImageClass
+class_test = (class.ghosts.eq, same_class)
 
 same_structs : (ms ms2 : _) (n n2 : _) → IsTrue (of_inner.ghosts.eq (inner.Struct ms n) (inner.Struct ms2 n2)) → inner_view (inner.Struct ms n) ≡ inner_view (inner.Struct ms2 n2)
 same_structs ms ms2 n n2 e =
     let h1 : IsTrue (pointwise of_member.ghosts.eq ms.items ms2.items) × IsTrue (nat_eq n n2) = both _ _ e in
     λ i. struct (same_list member_view of_member.ghosts.eq same_member ms.items ms2.items h1.0 i) (same_number n n2 h1.1 i)
 
-same_cooperative : (n m s r : _) (b : TypeInner) → IsTrue (of_inner.ghosts.eq (inner.CooperativeMatrix n m s r) b) → inner_view (inner.CooperativeMatrix n m s r) ≡ inner_view b
-same_cooperative n m s r (inner.Scalar z) e = search rules
-same_cooperative n m s r (inner.Vector y z) e = search rules
-same_cooperative n m s r (inner.Matrix x y z) e = search rules
-same_cooperative n m s r (inner.CooperativeMatrix w x y z) e = same_cooperatives n w m x s y r z e
-same_cooperative n m s r (inner.Atomic z) e = search rules
-same_cooperative n m s r (inner.Pointer y z) e = search rules
-same_cooperative n m s r (inner.ValuePointer x y z) e = search rules
-same_cooperative n m s r (inner.Array x y z) e = search rules
-same_cooperative n m s r (inner.Struct y z) e = search rules
-same_cooperative n m s r (inner.Image x y z) e = search rules
-same_cooperative n m s r (inner.Sampler z) e = search rules
-same_cooperative n m s r (inner.AccelerationStructure z) e = search rules
-same_cooperative n m s r (inner.RayQuery z) e = search rules
-same_cooperative n m s r (inner.BindingArray y z) e = search rules
+-- in the order in which they are declared
+abbrev laws : Laws types.enum.parts (λ c. inner_view (types.enum.make c))
+laws = (
+  inl (scalar_test, tt),
+  (
+    inl (vector_test, (scalar_test, tt)),
+    (
+      inl (vector_test, (vector_test, (scalar_test, tt))),
+      (
+        inl (side_test, (side_test, (scalar_test, (role_test, tt)))),
+        (
+          inl (scalar_test, tt),
+          (
+            inl (handle, (space_test, tt)),
+            (
+              inl (missing vector_test, (scalar_test, (space_test, tt))),
+              (
+                inl (handle, (size_test, (number, tt))),
+                (
+                  inr ((λ x y. pointwise of_member.ghosts.eq x.0.items y.0.items && nat_eq x.1.0 y.1.0), (λ x y e. same_structs x.0 y.0 x.1.0 y.1.0 e)),
+                  (
+                    inl (dim_test, (flag, (class_test, tt))),
+                    (
+                      inl (flag, tt),
+                      (
+                        inl (flag, tt),
+                        (
+                          inl (flag, tt),
+                          (inl (handle, (size_test, tt)), tt),
+                        ),
+                      ),
+                    ),
+                  ),
+                ),
+              ),
+            ),
+          ),
+        ),
+      ),
+    ),
+  ),
+)
 
-same_value_pointer : (n s p : _) (b : TypeInner) → IsTrue (of_inner.ghosts.eq (inner.ValuePointer n s p) b) → inner_view (inner.ValuePointer n s p) ≡ inner_view b
-same_value_pointer n s p (inner.Scalar z) e = search rules
-same_value_pointer n s p (inner.Vector y z) e = search rules
-same_value_pointer n s p (inner.Matrix x y z) e = search rules
-same_value_pointer n s p (inner.CooperativeMatrix w x y z) e = search rules
-same_value_pointer n s p (inner.Atomic z) e = search rules
-same_value_pointer n s p (inner.Pointer y z) e = search rules
-same_value_pointer n s p (inner.ValuePointer x y z) e = same_value_pointers n x s y p z e
-same_value_pointer n s p (inner.Array x y z) e = search rules
-same_value_pointer n s p (inner.Struct y z) e = search rules
-same_value_pointer n s p (inner.Image x y z) e = search rules
-same_value_pointer n s p (inner.Sampler z) e = search rules
-same_value_pointer n s p (inner.AccelerationStructure z) e = search rules
-same_value_pointer n s p (inner.RayQuery z) e = search rules
-same_value_pointer n s p (inner.BindingArray y z) e = search rules
-
-same_image : (d f c : _) (b : TypeInner) → IsTrue (of_inner.ghosts.eq (inner.Image d f c) b) → inner_view (inner.Image d f c) ≡ inner_view b
-same_image d f c (inner.Scalar z) e = search rules
-same_image d f c (inner.Vector y z) e = search rules
-same_image d f c (inner.Matrix x y z) e = search rules
-same_image d f c (inner.CooperativeMatrix w x y z) e = search rules
-same_image d f c (inner.Atomic z) e = search rules
-same_image d f c (inner.Pointer y z) e = search rules
-same_image d f c (inner.ValuePointer x y z) e = search rules
-same_image d f c (inner.Array x y z) e = search rules
-same_image d f c (inner.Struct y z) e = search rules
-same_image d f c (inner.Image x y z) e = same_images d x f y c z e
-same_image d f c (inner.Sampler z) e = search rules
-same_image d f c (inner.AccelerationStructure z) e = search rules
-same_image d f c (inner.RayQuery z) e = search rules
-same_image d f c (inner.BindingArray y z) e = search rules
-
-module _ (b : TypeInner) where
-  same_scalar : (s : _) → IsTrue (of_inner.ghosts.eq (inner.Scalar s) b) → inner_view (inner.Scalar s) ≡ inner_view b
-  same_scalar s e = search rules
-
-  same_vector : (n s : _) → IsTrue (of_inner.ghosts.eq (inner.Vector n s) b) → inner_view (inner.Vector n s) ≡ inner_view b
-  same_vector n s e = search rules
-
-  same_matrix : (n m s : _) → IsTrue (of_inner.ghosts.eq (inner.Matrix n m s) b) → inner_view (inner.Matrix n m s) ≡ inner_view b
-  same_matrix n m s e = search rules
-
-  same_atomic : (s : _) → IsTrue (of_inner.ghosts.eq (inner.Atomic s) b) → inner_view (inner.Atomic s) ≡ inner_view b
-  same_atomic s e = search rules
-
-  same_pointer : (t s : _) → IsTrue (of_inner.ghosts.eq (inner.Pointer t s) b) → inner_view (inner.Pointer t s) ≡ inner_view b
-  same_pointer t s e = search (rules, same_space)
-
-  same_array : (t n s : _) → IsTrue (of_inner.ghosts.eq (inner.Array t n s) b) → inner_view (inner.Array t n s) ≡ inner_view b
-  same_array t n s e = search (rules, same_size)
-
-  same_sampler : (f : _) → IsTrue (of_inner.ghosts.eq (inner.Sampler f) b) → inner_view (inner.Sampler f) ≡ inner_view b
-  same_sampler f e = search rules
-
-  same_acceleration : (f : _) → IsTrue (of_inner.ghosts.eq (inner.AccelerationStructure f) b) → inner_view (inner.AccelerationStructure f) ≡ inner_view b
-  same_acceleration f e = search rules
-
-  same_query : (f : _) → IsTrue (of_inner.ghosts.eq (inner.RayQuery f) b) → inner_view (inner.RayQuery f) ≡ inner_view b
-  same_query f e = search rules
-
-  same_binding_array : (t n : _) → IsTrue (of_inner.ghosts.eq (inner.BindingArray t n) b) → inner_view (inner.BindingArray t n) ≡ inner_view b
-  same_binding_array t n e = search (rules, same_size)
-
-  same_struct : (ms n : _) → IsTrue (of_inner.ghosts.eq (inner.Struct ms n) b) → inner_view (inner.Struct ms n) ≡ inner_view b
-  same_struct ms n e = search (rules, same_structs)
-
-pub same_inner : (a b : TypeInner) → IsTrue (of_inner.ghosts.eq a b) → inner_view a ≡ inner_view b
-same_inner (inner.Scalar s) b e = same_scalar b s e
-same_inner (inner.Vector n s) b e = same_vector b n s e
-same_inner (inner.Matrix n m s) b e = same_matrix b n m s e
-same_inner (inner.CooperativeMatrix n m s r) b e = same_cooperative n m s r b e
-same_inner (inner.Atomic s) b e = same_atomic b s e
-same_inner (inner.Pointer t s) b e = same_pointer b t s e
-same_inner (inner.ValuePointer n s p) b e = same_value_pointer n s p b e
-same_inner (inner.Array t n s) b e = same_array b t n s e
-same_inner (inner.Struct ms n) b e = same_struct b ms n e
-same_inner (inner.Image d f c) b e = same_image d f c b e
-same_inner (inner.Sampler f) b e = same_sampler b f e
-same_inner (inner.AccelerationStructure f) b e = same_acceleration b f e
-same_inner (inner.RayQuery f) b e = same_query b f e
-same_inner (inner.BindingArray t n) b e = same_binding_array b t n e
+same_inner : (a b : TypeInner) → IsTrue (of_inner.ghosts.eq a b) → inner_view a ≡ inner_view b
+same_inner a b e = same_view types.enum inner_view laws a b e
 
 -- ---- what holds the same compares equal
 
@@ -229,7 +187,7 @@ span_of (plain t) = 0
 
 all : (x y : Bool) → IsTrue x → IsTrue y → IsTrue (x && y)
 all true y h k = k
-all false y h k = let x = h in cc
+all false y h k = absurd (true≢false (sym h))
 
 name_same : (a b : StructMember) → option_map string_bytes a.name ≡ option_map string_bytes b.name → IsTrue (option_eq string_eq a.name b.name)
 name_same a b e = search rules

@@ -10,7 +10,7 @@ use ir_types::TypeInner;
 use typing_forms::conversion_rank;
 
 /// The shape of a value, without its scalar (naga's `ConstructorSize`).
-#[derive(Clone, Copy, PartialEq, Eq, Hash, Debug)]
+#[derive(Clone, Copy, PartialEq, Eq, Debug)]
 pub enum ConstructorSize {
     /// One scalar.
     Scalar,
@@ -67,7 +67,7 @@ impl ConstructorSize {
 }
 
 /// The type of a value: a scalar, a vector or a matrix.
-#[derive(Clone, Copy, PartialEq, Eq, Hash, Debug)]
+#[derive(Clone, Copy, PartialEq, Eq, Debug)]
 pub struct ValueType {
     /// Its shape.
     pub size: ConstructorSize,
@@ -132,7 +132,7 @@ impl ValueType {
 }
 
 /// The types of a rule's arguments, in order.
-#[derive(Clone, Copy, PartialEq, Eq, Hash, Debug)]
+#[derive(Clone, Copy, PartialEq, Eq, Debug)]
 pub enum Arguments {
     /// One argument.
     One(ValueType),
@@ -179,7 +179,7 @@ impl Arguments {
 }
 
 /// What a rule gives (naga's `Conclusion`).
-#[derive(Clone, Copy, PartialEq, Eq, Hash, Debug)]
+#[derive(Clone, Copy, PartialEq, Eq, Debug)]
 pub enum Conclusion {
     /// A value of this type.
     Value(ValueType),
@@ -188,7 +188,7 @@ pub enum Conclusion {
 }
 
 /// The types that a function takes together, and what it then gives (naga's `Rule`).
-#[derive(Clone, Copy, PartialEq, Eq, Hash, Debug)]
+#[derive(Clone, Copy, PartialEq, Eq, Debug)]
 pub struct Rule {
     /// The types of its arguments.
     pub arguments: Arguments,

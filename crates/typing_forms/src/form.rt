@@ -17,7 +17,7 @@ use ir_types::{ArraySize, IrType, TypeInner, key};
 ///
 /// It is what the type is made of, but for a struct, which is its handle, and for a pointer to a scalar or a vector,
 /// which is its value pointer. Names don't count, nor whether the type is one of the module's.
-#[derive(Clone, Copy, PartialEq, Eq, Hash, Debug)]
+#[derive(Clone, Copy, PartialEq, Eq, Debug)]
 pub enum Form {
     /// A number or a truth value.
     Scalar(Scalar),
