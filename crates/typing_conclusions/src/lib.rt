@@ -2,6 +2,5 @@
 #![tactic(auto)]
 
 mod conclusion;
-mod tests;
 
 pub use conclusion::{ConclusionExt, MissingSpecialType};

@@ -1,0 +1,75 @@
+// What arenas hold here: numbers, and texts.
+use serde_json::Value;
+use std::alloc::{AllocError, Global};
+use std::fmt::Debug;
+use std::hash::Hash;
+use test_support::call::{number, text};
+
+/// A tag of handles.
+#[derive(Clone, Copy)]
+pub enum Tag {}
+
+/// A value that a line of the input can name.
+pub trait Item: Eq + Hash + Debug + Drop + Sized {
+    /// The value at a place of a line.
+    fn read(alloc: Global, call: &Value, place: usize) -> Result<Self, AllocError>;
+
+    /// A number's value, a text's length.
+    fn size(&self) -> usize;
+
+    /// Adds 1 to a number, and puts a "c" behind a text.
+    fn add(&mut self) -> Result<(), AllocError>;
+
+    /// Adds ten times its place to a number, and puts a "!" behind a text.
+    fn mark(&mut self, place: usize) -> Result<(), AllocError>;
+
+    /// Adds its place to a number, and answers whether it is neither 5 nor 9 then; of a text, whether it has one byte.
+    fn keep(&mut self, place: usize) -> bool;
+}
+
+impl Item for u32 {
+    fn read(_alloc: Global, call: &Value, place: usize) -> Result<Self, AllocError> {
+        Ok(number(call, place))
+    }
+
+    fn size(&self) -> usize {
+        *self as usize
+    }
+
+    fn add(&mut self) -> Result<(), AllocError> {
+        *self = self.wrapping_add(1);
+        Ok(())
+    }
+
+    fn mark(&mut self, place: usize) -> Result<(), AllocError> {
+        *self = self.wrapping_add((place.min(1000) as u32).wrapping_mul(10));
+        Ok(())
+    }
+
+    fn keep(&mut self, place: usize) -> bool {
+        *self = self.wrapping_add(place.min(1000) as u32);
+        *self != 5 && *self != 9
+    }
+}
+
+impl Item for String {
+    fn read(alloc: Global, call: &Value, place: usize) -> Result<Self, AllocError> {
+        String::from_str(alloc, text(call, place))
+    }
+
+    fn size(&self) -> usize {
+        self.len()
+    }
+
+    fn add(&mut self) -> Result<(), AllocError> {
+        self.push_str("c")
+    }
+
+    fn mark(&mut self, _place: usize) -> Result<(), AllocError> {
+        self.push_str("!")
+    }
+
+    fn keep(&mut self, _place: usize) -> bool {
+        self.len() == 1
+    }
+}

@@ -1,0 +1,21 @@
+use Rattle.std.proofs.Common.{◌≡◌, ◌<◌, ℕ, Some, length, slice_get, subst, arith}
+use Rattle.std.specs.Option.{ForSome}
+use Rattle.std.specs.List.{All}
+use Rattle.ir_expressions.specs.Plain.{PlainExpression, expression_view}
+use Rattle.ir_walks.specs.Bases.{expressions_of}
+use Rattle.ir_walks.specs.Flat.{parts_of}
+use Rattle.ir_walks.proofs.Places.{plain_at}
+use Rattle.test_support.proofs.CheckLemmas.{UpTo, further, everywhere}
+use Rattle.test_support.proofs.checks.parts_precede.Goals as goal
+
+pub loop-place-preserved : goal.loop-place-preserved
+loop-place-preserved c =
+    let at = plain_at expression_view c.args.arena.now c.at.result c.index.result.now c.index.ensures in
+    let stands : slice_get (expressions_of c.args.arena.now) c.loop-place.place ≡ Some (expression_view c.index.result.now) = subst (λ (n : ℕ). slice_get (expressions_of c.args.arena.now) n ≡ Some (expression_view c.index.result.now)) c.at.ensures at in
+    further (λ place (e : PlainExpression). ForSome (parts_of e) (All (λ part. part < place))) (expressions_of c.args.arena.now) c.loop-place.place (expression_view c.index.result.now) stands (c.parts_are_before.ensures c.if-not-parts_are_before.false) c.loop-place.invariant
+
+pub returns : goal.returns
+returns c =
+    let end : c.loop-place.place ≡ length c.args.arena.now = (let e = c.len-place-end.ensures.value in omega arith) in
+    let each = everywhere expression_view (λ place (e : PlainExpression). ForSome (parts_of e) (All (λ part. part < place))) c.args.arena.now (subst (λ (n : ℕ). UpTo (λ place (e : PlainExpression). ForSome (parts_of e) (All (λ part. part < place))) (expressions_of c.args.arena.now) n) end c.loop-place.invariant) in
+    λ yes handle e parts at is. each handle e at parts is

@@ -1,0 +1,110 @@
+//! Whether handles are in their arena and lead to earlier places, found out by looking at each.
+ghost use Rattle.std.specs.Prelude.{◌≡◌, ◌<◌, length, IsTrue};
+ghost use Rattle.std.specs.List.{All};
+ghost use Rattle.std.specs.Option.{ForSome};
+ghost use Rattle.ir_expressions.specs.Plain.{expression_view};
+ghost use Rattle.ir_walks.specs.Bases.{expressions_of, base_of, BasesPrecede};
+ghost use Rattle.ir_walks.specs.Filters.{nodes_of, ParentsPrecede};
+ghost use Rattle.ir_walks.specs.Flat.{parts_of, PartsPrecede};
+
+use ir_arena::arena::Arena;
+use ir_arena::handle::Handle;
+use ir_arena::unique_arena::UniqueArena;
+use ir_items::{DiagnosticFilterNode, Expression, IrType, key};
+use ir_walks::{FlattenCompose, flatten_compose};
+use std::alloc::{AllocError, Global};
+
+/// Whether the parent of each node comes before it.
+pub fn parents_precede(arena: &Arena<DiagnosticFilterNode, key::DiagnosticFilterNode>) -> bool
+    ensures { IsTrue result → ParentsPrecede (nodes_of arena.now) }
+{
+    for place in 0..arena.len() {
+        if !parent_is_before(&arena[Handle::at(place)], place) {
+            return false;
+        }
+    }
+    true
+}
+
+fn parent_is_before(node: &DiagnosticFilterNode, place: usize) -> bool
+    ensures { IsTrue result → ForSome node.now.parent (λ parent. parent < place) }
+{
+    match node.parent {
+        Some(parent) => parent.index() < place,
+        None => true,
+    }
+}
+
+/// Whether the base of each access comes before it.
+pub fn bases_precede(arena: &Arena<Expression, key::Expression>) -> bool
+    ensures { IsTrue result → BasesPrecede (expressions_of arena.now) }
+{
+    for place in 0..arena.len() {
+        if !base_is_before(&arena[Handle::at(place)], place) {
+            return false;
+        }
+    }
+    true
+}
+
+fn base_is_before(expression: &Expression, place: usize) -> bool
+    ensures { IsTrue result → ForSome (base_of (expression_view expression.now)) (λ base. base < place) }
+{
+    match *expression {
+        Expression::Access { base, .. } => base.index() < place,
+        Expression::AccessIndex { base, .. } => base.index() < place,
+        _ => true,
+    }
+}
+
+/// Whether the parts of each composition and splat come before it.
+pub fn parts_precede(arena: &Arena<Expression, key::Expression>) -> bool
+    ensures { IsTrue result → PartsPrecede (expressions_of arena.now) }
+{
+    for place in 0..arena.len() {
+        if !parts_are_before(&arena[Handle::at(place)], place) {
+            return false;
+        }
+    }
+    true
+}
+
+fn parts_are_before(expression: &Expression, place: usize) -> bool
+    ensures { IsTrue result → ForSome (parts_of (expression_view expression.now)) (All (λ part. part < place)) }
+{
+    match *expression {
+        Expression::Compose { ref components, .. } => all_before(components.as_slice(), place),
+        Expression::Splat { value, .. } => value.index() < place,
+        _ => true,
+    }
+}
+
+/// Whether each of the handles is one of a place before this.
+pub fn all_before(handles: &[Handle<key::Expression>], place: usize) -> bool
+    ensures { IsTrue result → All (λ handle. handle < place) handles.now }
+{
+    for handle in handles {
+        if handle.index() >= place {
+            return false;
+        }
+    }
+    true
+}
+
+/// The handles that a composition comes to, or `None` where a handle is not in order.
+pub fn flat(
+    alloc: Global,
+    ty: Handle<key::IrType>,
+    components: &[Handle<key::Expression>],
+    expressions: &Arena<Expression, key::Expression>,
+    types: &UniqueArena<IrType, key::IrType>,
+) -> Result<Option<FlattenCompose>, AllocError> {
+    if ty.index() < types.len()
+        && all_before(components, expressions.len())
+        && parts_precede(expressions)
+    {
+        let leaves = flatten_compose(alloc, ty, components, expressions, types)?;
+        return Ok(Some(leaves));
+    }
+    Ok(None)
+}

@@ -1,0 +1,88 @@
+// Types and scalars as a line of the input gives them.
+ghost use Rattle.std.specs.Prelude.{IsTrue, ◌<◌, length};
+ghost use Rattle.ir_types.specs.Plain.{inner_view};
+ghost use Rattle.typing_forms.specs.Forms.{NoStructValue};
+ghost use Rattle.typing_forms.specs.Resolutions.{resolution_view, IsAmong};
+ghost use Rattle.typing_rules.specs.Canonical.{NotBothStructs};
+
+use document_items::read_type;
+use ir_arena::unique_arena::UniqueArena;
+use ir_kinds::Scalar;
+use ir_types::{IrType, TypeInner, key};
+use serde_json::Value;
+use std::alloc::{AllocError, Global};
+use test_support::call::{handle, text};
+use typing_forms::TypeResolution;
+
+pub type Types = UniqueArena<IrType, key::IrType>;
+
+/// What the type at a place is made of, or `None` where none is written there.
+pub fn inner(alloc: Global, call: &Value, place: usize) -> Result<Option<TypeInner>, AllocError> {
+    let Some(value) = call.get(place) else {
+        return Ok(None);
+    };
+    match read_type(alloc, value)? {
+        Some(ty) => Ok(Some(ty.inner)),
+        None => Ok(None),
+    }
+}
+
+/// A type by its handle, where a number stands at a place, or by what it is made of.
+pub fn resolution(
+    alloc: Global,
+    call: &Value,
+    place: usize,
+) -> Result<Option<TypeResolution>, AllocError> {
+    match call.get(place) {
+        Some(value) if value.is_u64() => Ok(Some(TypeResolution::Handle(handle(call, place)))),
+        _ => match inner(alloc, call, place)? {
+            Some(inner) => Ok(Some(TypeResolution::Value(inner))),
+            None => Ok(None),
+        },
+    }
+}
+
+/// The scalar at a place, by its word.
+pub fn scalar(call: &Value, place: usize) -> Scalar {
+    match text(call, place) {
+        "bool" => Scalar::BOOL,
+        "i16" => Scalar::I16,
+        "u16" => Scalar::U16,
+        "i32" => Scalar::I32,
+        "u32" => Scalar::U32,
+        "i64" => Scalar::I64,
+        "u64" => Scalar::U64,
+        "f16" => Scalar::F16,
+        "f32" => Scalar::F32,
+        "f64" => Scalar::F64,
+        "aint" => Scalar::ABSTRACT_INT,
+        _ => Scalar::ABSTRACT_FLOAT,
+    }
+}
+
+/// Whether a type is not a struct that is given as a value.
+pub fn is_no_struct(resolution: &TypeResolution) -> bool
+    ensures { IsTrue result → NoStructValue (resolution_view resolution.now) }
+{
+    match resolution {
+        TypeResolution::Handle(_) => true,
+        TypeResolution::Value(inner) => !matches!(inner, TypeInner::Struct { .. }),
+    }
+}
+
+/// Whether a type that is given by a handle is among these.
+pub fn is_among(resolution: &TypeResolution, types: &Types) -> bool
+    ensures { IsTrue result → IsAmong (length types.now) (resolution_view resolution.now) }
+{
+    match resolution {
+        TypeResolution::Handle(handle) => handle.index() < types.len(),
+        TypeResolution::Value(_) => true,
+    }
+}
+
+/// Whether one of two types is no struct.
+pub fn are_not_structs(left: &TypeInner, right: &TypeInner) -> bool
+    ensures { IsTrue result → NotBothStructs (inner_view left.now) (inner_view right.now) }
+{
+    !matches!(left, TypeInner::Struct { .. }) || !matches!(right, TypeInner::Struct { .. })
+}

@@ -1,0 +1,109 @@
+// What a type is built of, how large it is, and how many elements it has.
+use crate::given::{Types, are_not_structs, inner};
+use ir_types::TypeInner;
+use serde_json::Value;
+use std::alloc::{AllocError, Global};
+use test_support::call::{no_call, number, text, told};
+use typing_forms::form_in;
+use typing_rules::{TypeInnerExt, types_go_back};
+
+// The size by both calls, where it is at most the greatest.
+fn sizes(inner: &TypeInner) -> Option<(u32, u32)> {
+    let size = inner.try_size()?;
+    Some((size, inner.size()))
+}
+
+// The answer of a call that asks for no other type.
+fn of_one(alloc: Global, inner: &TypeInner, call: &Value) -> Result<String, AllocError> {
+    match text(call, 0) {
+        "scalar" => told(
+            alloc,
+            (inner.scalar(), inner.scalar_kind(), inner.scalar_width()),
+        ),
+        "vector_size_and_scalar" => told(alloc, inner.vector_size_and_scalar()),
+        "components" => told(alloc, inner.components()),
+        "component_type" => told(alloc, inner.component_type(number(call, 2) as usize)),
+        "pointer" => told(alloc, (inner.pointer_space(), inner.pointer_base_type())),
+        "image_storage_coordinates" => told(alloc, inner.image_storage_coordinates()),
+        "size" => told(alloc, sizes(inner)),
+        _ => no_call(alloc),
+    }
+}
+
+// What the types of the module say of a type whose elements and members may be among them.
+fn of_elements(
+    alloc: Global,
+    inner: &TypeInner,
+    types: &Types,
+    call: &Value,
+) -> Result<String, AllocError> {
+    if !types_go_back(types) {
+        return no_call(alloc);
+    }
+    match text(call, 0) {
+        "scalar_for_conversions" => told(
+            alloc,
+            (
+                inner.scalar_for_conversions(types),
+                inner.is_abstract(types),
+            ),
+        ),
+        "is_dynamically_sized" => told(alloc, inner.is_dynamically_sized(types)),
+        "is_constructible" => told(alloc, inner.is_constructible(alloc, types)),
+        _ => of_one(alloc, inner, call),
+    }
+}
+
+// The answer of a call of one type.
+fn of_types(
+    alloc: Global,
+    inner: &TypeInner,
+    types: &Types,
+    call: &Value,
+) -> Result<String, AllocError> {
+    match text(call, 0) {
+        "is_atomic_pointer" => told(alloc, inner.is_atomic_pointer(types)),
+        "canonical_form" => told(alloc, inner.canonical_form(types)),
+        "indexable_length" => told(alloc, inner.indexable_length(types)),
+        "form_in" => told(alloc, form_in(types, None, inner)),
+        _ => of_elements(alloc, inner, types, call),
+    }
+}
+
+/// The answer of a call of the type that stands behind its name.
+pub fn of_type(alloc: Global, types: &Types, call: &Value) -> Result<String, AllocError> {
+    match inner(alloc, call, 1)? {
+        Some(inner) => of_types(alloc, &inner, types, call),
+        None => no_call(alloc),
+    }
+}
+
+// The answer of a call of two types.
+fn of_both(
+    alloc: Global,
+    left: &TypeInner,
+    right: &TypeInner,
+    types: &Types,
+    call: &Value,
+) -> Result<String, AllocError> {
+    match text(call, 0) {
+        "non_struct_equivalent" if are_not_structs(left, right) => {
+            told(alloc, left.non_struct_equivalent(right, types))
+        }
+        "automatically_converts_to" if types_go_back(types) => {
+            told(alloc, left.automatically_converts_to(right, types))
+        }
+        _ => no_call(alloc),
+    }
+}
+
+/// The answer of a call of the two types that stand behind its name.
+pub fn of_pair(alloc: Global, types: &Types, call: &Value) -> Result<String, AllocError> {
+    let Some(left) = inner(alloc, call, 1)? else {
+        return no_call(alloc);
+    };
+    let Some(right) = inner(alloc, call, 2)? else {
+        return no_call(alloc);
+    };
+    of_both(alloc, &left, &right, types, call)
+}
