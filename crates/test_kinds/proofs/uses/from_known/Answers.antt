@@ -2,7 +2,7 @@ use Rattle.std.proofs.Common.{◌≡◌, ◌↔◌, ◌∙◌, ℕ, IsSome, subs
 use Rattle.std.proofs.lemmas.Nat.{and_comm}
 use Rattle.std.specs.Int.RustNames.{bit_and}
 use Rattle.ir_flags.proofs.SetLaws.{all_validation_flags}
-use Rattle.kind_trials.proofs.uses.from_known.Goals as goal
+use Rattle.test_kinds.proofs.uses.from_known.Goals as goal
 
 pub returns-clause-known : goal.returns-clause-known
 returns-clause-known c =

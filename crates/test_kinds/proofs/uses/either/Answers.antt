@@ -1,6 +1,6 @@
 use Rattle.std.proofs.lemmas.Nat.Bits.{bit_at_or}
 use Rattle.ir_flags.proofs.SetLaws.{within-union_left, within-union_right}
-use Rattle.kind_trials.proofs.uses.either.Goals as goal
+use Rattle.test_kinds.proofs.uses.either.Goals as goal
 
 pub returns-clause-bits : goal.returns-clause-bits
 returns-clause-bits c = λ k. rw (c.union.ensures tt) (bit_at_or c.args.a.0 c.args.b.0 k)

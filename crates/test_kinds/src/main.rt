@@ -1,4 +1,4 @@
-//! Trials of the plain types and of the sets of words: calls each public function, and prints the answers.
+//! Calls each public function of the plain types and of the sets of words, and prints the answers.
 #![tactic(auto)]
 
 mod literals;

@@ -1,6 +1,6 @@
 use Rattle.std.proofs.Common.{◌∙◌}
 use Rattle.ir_flags.proofs.SetLaws.{all_validation_flags}
-use Rattle.kind_trials.proofs.uses.every_check.Goals as goal
+use Rattle.test_kinds.proofs.uses.every_check.Goals as goal
 
 pub returns : goal.returns
 returns c = c.all.ensures tt ∙ all_validation_flags

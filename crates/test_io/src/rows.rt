@@ -1,0 +1,34 @@
+// What is asked of a document: a text, and the verdict and the text that are due for it.
+use serde_json::Value;
+use shader_check::{Fault, Verdict};
+use test_support::call::text;
+
+/// What a check answers.
+pub type Answer = Result<Verdict, Fault>;
+
+/// A document of the input, and the line that is due for it.
+#[derive(Clone, Copy)]
+pub struct Row<'a> {
+    pub input: &'a str,
+    pub due: &'a str,
+}
+
+impl<'a> Row<'a> {
+    /// The row that stands behind a call's name.
+    pub fn of(call: &'a Value) -> Row<'a> {
+        Row {
+            input: text(call, 1),
+            due: text(call, 2),
+        }
+    }
+
+    /// Whether the answer and what was written are those that are due.
+    pub fn is_met(self, answer: Answer, written: &[u8]) -> bool {
+        let due = if self.due.starts_with("accepted") {
+            Verdict::Accepted
+        } else {
+            Verdict::Refused
+        };
+        answer == Ok(due) && written == self.due.as_bytes()
+    }
+}

@@ -1,0 +1,66 @@
+// What modules and documents hold.
+use crate::item::read_at;
+use document_reader::{Document, read_document};
+use document_within::within;
+use ir_items::Module;
+use serde_json::Value;
+use std::alloc::{AllocError, Global};
+use test_support::call::{no_call, text, told};
+
+type Counts = (usize, usize, usize, usize);
+
+fn counts_of_context(module: &Module) -> Counts {
+    let context = module.to_ctx();
+    (
+        context.types.len(),
+        context.constants.len(),
+        context.overrides.len(),
+        context.global_expressions.len(),
+    )
+}
+
+/// How much of each list the context of a module shows.
+pub fn of_context(alloc: Global, call: &Value) -> Result<String, AllocError> {
+    match read_at::<Module>(alloc, call, 1)? {
+        Some(module) => told(alloc, counts_of_context(&module)),
+        None => no_call(alloc),
+    }
+}
+
+fn counts(module: &Module) -> Counts {
+    (
+        module.types.len(),
+        module.global_variables.len(),
+        module.functions.len(),
+        module.entry_points.len(),
+    )
+}
+
+/// How much of each list a module has.
+pub fn of_module(alloc: Global, call: &Value) -> Result<String, AllocError> {
+    match read_at::<Module>(alloc, call, 1)? {
+        Some(module) => told(alloc, counts(&module)),
+        None => no_call(alloc),
+    }
+}
+
+fn counts_of_document(document: &Document) -> Counts {
+    (
+        document.types.len(),
+        document.global_variables.len(),
+        document.functions.len(),
+        document.entry_points.len(),
+    )
+}
+
+fn seen(alloc: Global, document: &Document, copy: &Document) -> Result<String, AllocError> {
+    told(alloc, (counts_of_document(copy), within(document)))
+}
+
+/// How much of each list the copy of a document has, and whether it is checked so far.
+pub fn of_document(alloc: Global, call: &Value) -> Result<String, AllocError> {
+    match read_document(alloc, text(call, 1).as_bytes())? {
+        Some(document) => seen(alloc, &document, &document.clone(alloc)?),
+        None => no_call(alloc),
+    }
+}

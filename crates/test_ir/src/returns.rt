@@ -1,0 +1,32 @@
+// Returns that are put in at the ends of bodies.
+use crate::item::read_at;
+use ir_items::{Block, complete, ensure_block_returns};
+use serde_json::Value;
+use std::alloc::{AllocError, Global};
+use test_support::call::{no_call, told};
+
+// Whether returns are put into the body as they are due, and no more when they are put in again.
+fn puts_in(alloc: Global, body: &mut Block, due: &Block) -> Result<bool, AllocError> {
+    ensure_block_returns(alloc, body)?;
+    let once = *body == *due;
+    ensure_block_returns(alloc, body)?;
+    Ok(once && *body == *due && body.spans().len() == body.len())
+}
+
+// Whether the completed body is the one that is due.
+fn completes(alloc: Global, body: &Block, due: &Block) -> Result<bool, AllocError> {
+    Ok(complete(alloc, body)? == *due)
+}
+
+/// Whether both calls that put in returns make the second body of the first, and how long it is then.
+pub fn of_returns(alloc: Global, call: &Value) -> Result<String, AllocError> {
+    let Some(mut body): Option<Block> = read_at(alloc, call, 1)? else {
+        return no_call(alloc);
+    };
+    let Some(due): Option<Block> = read_at(alloc, call, 2)? else {
+        return no_call(alloc);
+    };
+    let completes = completes(alloc, &body, &due);
+    let puts_in = puts_in(alloc, &mut body, &due);
+    told(alloc, (completes, puts_in, body.len()))
+}

@@ -1,0 +1,199 @@
+// Arenas and sets that grow until memory is refused.
+use crate::same::{leaving, same};
+use ir_arena::arena::Arena;
+use ir_arena::handle::Handle;
+use ir_arena::span::Span;
+use ir_arena::unique_arena::UniqueArena;
+use ir_sets::handle_set::HandleSet;
+use std::alloc::{AllocError, Global};
+use std::test::Fail;
+
+// A growing call is made so often at most. A list makes room for a few values at once.
+const MOST_CALLS: u32 = 1000;
+
+/// A tag of handles.
+#[derive(Clone, Copy)]
+pub enum Tag {}
+
+// What grows by a value a call.
+trait Growing: Drop {
+    fn grow(&mut self, value: u32) -> Result<(), AllocError>;
+
+    /// Whether a call that asks for no memory is answered.
+    fn answers(&mut self) -> bool;
+
+    /// Whether it holds what it held, and so many values more, where this was the first that was refused.
+    fn holds(&mut self, more: u32) -> bool;
+}
+
+// Makes the calls until one is refused, and answers how many were not.
+fn grow_all<G: Growing>(subject: &mut G) -> Option<u32> {
+    for value in 0..MOST_CALLS {
+        if subject.grow(value).is_err() {
+            return Some(value);
+        }
+    }
+    None
+}
+
+// Whether the calls are refused in the end, and a refused one leaves all as it was.
+fn is_refused<G: Growing>(alloc: Global, mut subject: G) -> Result<bool, Fail> {
+    let hog = leaving(alloc, 0)?;
+    let refused = grow_all(&mut subject);
+    let answers = subject.answers();
+    drop(hog);
+    match refused {
+        Some(more) => Ok(answers && subject.holds(more)),
+        None => Ok(false),
+    }
+}
+
+/// An arena of these numbers, each with a span from itself up to 5000.
+pub fn numbers(alloc: Global, values: &[u32]) -> Result<Arena<u32>, AllocError> {
+    let mut arena = Arena::new(alloc);
+    for value in values {
+        arena.append(*value, Span::new(*value, 5000))?;
+    }
+    Ok(arena)
+}
+
+// Whether an arena of 2000 and 3000 holds so many more values.
+fn holds_more(arena: &Arena<u32>, more: u32) -> bool {
+    arena.len().checked_sub(2) == Some(more as usize)
+        && arena.try_get(Handle::at(0)) == Ok(&2000)
+        && arena.get_span(Handle::at(1)) == Span::new(3000, 5000)
+}
+
+#[derive(Drop)]
+struct Appended(Arena<u32>);
+
+impl Growing for Appended {
+    fn grow(&mut self, value: u32) -> Result<(), AllocError> {
+        self.0.append(value, Span::new(1, 2))?;
+        Ok(())
+    }
+
+    fn answers(&mut self) -> bool {
+        true
+    }
+
+    fn holds(&mut self, more: u32) -> bool {
+        holds_more(&self.0, more) && self.0.append(9, Span::UNDEFINED).is_ok()
+    }
+}
+
+#[derive(Drop)]
+struct Fetched(Arena<u32>);
+
+impl Growing for Fetched {
+    fn grow(&mut self, value: u32) -> Result<(), AllocError> {
+        self.0.fetch_or_append(value, Span::new(1, 2))?;
+        Ok(())
+    }
+
+    fn answers(&mut self) -> bool {
+        self.0.fetch_or_append(3000, Span::UNDEFINED) == Ok(Handle::at(1))
+    }
+
+    fn holds(&mut self, more: u32) -> bool {
+        holds_more(&self.0, more)
+    }
+}
+
+#[derive(Drop)]
+struct FetchedEqual(Arena<u32>);
+
+fn fetch_equal(arena: &mut Arena<u32>, value: u32) -> Result<Handle<u32>, AllocError> {
+    arena.fetch_if_or_append(value, Span::UNDEFINED, |old, new| *old == *new)
+}
+
+impl Growing for FetchedEqual {
+    fn grow(&mut self, value: u32) -> Result<(), AllocError> {
+        fetch_equal(&mut self.0, value)?;
+        Ok(())
+    }
+
+    fn answers(&mut self) -> bool {
+        fetch_equal(&mut self.0, 2000) == Ok(Handle::at(0))
+    }
+
+    fn holds(&mut self, more: u32) -> bool {
+        holds_more(&self.0, more)
+    }
+}
+
+// It begins with 2000.
+#[derive(Drop)]
+struct Inserted(UniqueArena<u32>);
+
+impl Growing for Inserted {
+    fn grow(&mut self, value: u32) -> Result<(), AllocError> {
+        self.0.insert(value, Span::UNDEFINED)?;
+        Ok(())
+    }
+
+    fn answers(&mut self) -> bool {
+        self.0.insert(2000, Span::UNDEFINED) == Ok(Handle::at(0))
+    }
+
+    fn holds(&mut self, more: u32) -> bool {
+        self.0.len().checked_sub(1) == Some(more as usize)
+            && self.0.get(&more).is_none()
+            && self.0.get_span(Handle::at(0)) == Span::new(1, 2)
+    }
+}
+
+// It begins with 2000.
+#[derive(Drop)]
+struct Members(HandleSet<Tag>);
+
+impl Growing for Members {
+    fn grow(&mut self, value: u32) -> Result<(), AllocError> {
+        self.0.insert(Handle::at(value.min(1000) as usize))?;
+        Ok(())
+    }
+
+    fn answers(&mut self) -> bool {
+        self.0.insert(Handle::at(2000)) == Ok(false) && self.0.remove(Handle::at(2000))
+    }
+
+    fn holds(&mut self, more: u32) -> bool {
+        self.0.len() == more as usize && self.0.iter().count() == more as usize
+    }
+}
+
+fn unique(alloc: Global) -> Result<UniqueArena<u32>, AllocError> {
+    let mut arena = UniqueArena::new(alloc);
+    arena.insert(2000, Span::new(1, 2))?;
+    Ok(arena)
+}
+
+fn set_of_one(alloc: Global) -> Result<HandleSet<Tag>, AllocError> {
+    let mut set = HandleSet::new(alloc);
+    set.insert(Handle::at(2000))?;
+    Ok(set)
+}
+
+#[test]
+fn growing_calls_are_refused(rt: HostRuntime) -> Result<(), Fail> {
+    let alloc = rt.alloc();
+    let begin = [2000, 3000];
+    same(
+        &rt,
+        is_refused(alloc, Appended(numbers(alloc, &begin)?))?,
+        true,
+    );
+    same(
+        &rt,
+        is_refused(alloc, Fetched(numbers(alloc, &begin)?))?,
+        true,
+    );
+    same(
+        &rt,
+        is_refused(alloc, FetchedEqual(numbers(alloc, &begin)?))?,
+        true,
+    );
+    same(&rt, is_refused(alloc, Inserted(unique(alloc)?))?, true);
+    same(&rt, is_refused(alloc, Members(set_of_one(alloc)?))?, true);
+    Ok(())
+}
