@@ -31,6 +31,13 @@ pub trait Form {
         ensures { Answers result (λ found. option_map view found ≡ form.find (data_of value.now)) };
 }
 
+/// The item that the value is written for, which is the part at this index of an array.
+pub fn read_at<F: Form>(alloc: Global, value: &Value, index: usize) -> Result<F::Item, ReadError>
+    ensures { Answers result (λ found. option_map F.view found ≡ F.form.find (data_of value.now)) }
+{
+    F::read(alloc, value).map_err(|e| e.at(index))
+}
+
 /// The item that the value is written for, or that it is written for none, unless memory was wanting.
 pub fn read_form<F: Form>(alloc: Global, value: &Value) -> Result<F::Item, ReadError>
     ensures ok { IfOk result (λ x. F.form.Written (F.view x) (data_of value.now)) }

@@ -11,7 +11,7 @@ mod wanted;
 mod words;
 
 pub use error::{Place, ReadError};
-pub use form::{Form, Maybe, Text, Truth, is_unique, read_form};
+pub use form::{Form, Maybe, Text, Truth, is_unique, read_at, read_form};
 pub use grow::Grow;
 pub use lists::{Each, InArena, read_all};
 pub use numbers::{At, I16, I32, I64, Side, Size, U8, U16, U32, U64, signed, unsigned};

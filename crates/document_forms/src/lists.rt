@@ -6,7 +6,7 @@ ghost use Rattle.document_forms.specs.Find.{all_of};
 ghost use Rattle.document_forms.specs.Forms.{a_list};
 
 use crate::error::ReadError;
-use crate::form::Form;
+use crate::form::{Form, read_at};
 use crate::grow::Grow;
 use crate::wanted::Wanted;
 use ir_arena::arena::Arena;
@@ -24,7 +24,7 @@ pub fn read_all<F: Form, C: Grow<F>>(alloc: Global, value: &Value) -> Result<C, 
     let mut found = C::with_room(alloc, items.len())?;
     let mut index = 0usize;
     for item in items {
-        let next = F::read(alloc, item).map_err(|e| e.at(index))?;
+        let next = read_at::<F>(alloc, item, index)?;
         found.add(next)?;
         index = index.saturating_add(1);
     }

@@ -10,14 +10,14 @@ use crate::words::read_word;
 use document_words::Word;
 use serde_json::Value;
 
-/// What the word in front stands for, and what comes behind it.
-pub fn split_tag<W: Word>(items: &[Value]) -> Result<(W, &[Value]), ReadError>
+/// What the word in front stands for, and what comes behind it. The word stands at `index`.
+pub fn split_tag<W: Word>(items: &[Value], index: usize) -> Result<(W, &[Value]), ReadError>
     ensures { Answers result (λ found. option_map (λ t. (t.0, items_view t.1.now)) found ≡ tag_of W.table (items_view items.now)) }
 {
     let Some((item, rest)) = items.split_first() else {
-        return Err(ReadError::here(Wanted::FurtherPart));
+        return Err(ReadError::here(Wanted::FurtherPart).at(index));
     };
-    let kind = read_word(item).map_err(|e| e.at(0))?;
+    let kind = read_word(item).map_err(|e| e.at(index))?;
     Ok((kind, rest))
 }
 
@@ -28,5 +28,5 @@ pub fn read_tag<W: Word>(value: &Value) -> Result<(W, &[Value]), ReadError>
     let Some(items) = value.as_array() else {
         return Err(ReadError::here(Wanted::Tagged));
     };
-    split_tag(items)
+    split_tag(items, 0)
 }

@@ -6,7 +6,7 @@ ghost use Rattle.document_forms.specs.Find.{word_in, set_of};
 ghost use Rattle.document_forms.specs.Forms.{a_word, a_set};
 
 use crate::error::ReadError;
-use crate::form::Form;
+use crate::form::{Form, read_at};
 use crate::wanted::Wanted;
 use document_words::{SetWord, Word, find_word};
 use serde_json::Value;
@@ -52,14 +52,14 @@ impl<S: SetWord> Form for SetOf<S> {
 
     ghost form = { a_set S.Word.table S.none S.union };
 
-    fn read(_alloc: Global, value: &Value) -> Result<S, ReadError> {
+    fn read(alloc: Global, value: &Value) -> Result<S, ReadError> {
         let Some(items) = value.as_array() else {
             return Err(ReadError::here(Wanted::Set));
         };
         let mut found = S::none();
         let mut index = 0usize;
         for item in items {
-            let word = read_word(item).map_err(|e| e.at(index))?;
+            let word = read_at::<WordOf<S>>(alloc, item, index)?;
             found = found.with(word);
             index = index.saturating_add(1);
         }

@@ -6,7 +6,7 @@ ghost use Rattle.document_forms.specs.Exact.{RowOf};
 ghost use Rattle.document_forms.specs.Find.{array_of};
 ghost use Rattle.document_forms.specs.Forms.{ends, ◌▹◌};
 
-use document_forms::{Form, ReadError, Wanted};
+use document_forms::{Form, ReadError, Wanted, read_at};
 use serde_json::Value;
 use std::alloc::Global;
 use std::marker::PhantomData;
@@ -85,7 +85,7 @@ impl<F: Form, R: Row> Row for Then<F, R> {
         let Some((item, rest)) = items.split_first() else {
             return Err(ReadError::here(Wanted::FurtherPart).at(index));
         };
-        let part = F::read(alloc, item).map_err(|e| e.at(index))?;
+        let part = read_at::<F>(alloc, item, index)?;
         let rest = R::read(alloc, rest, index.saturating_add(1))?;
         Ok((part, rest))
     }
