@@ -66,15 +66,15 @@ module _ {A K : Type 0} (table : List (List ℕ × K)) (f : K → Items → Opti
   kinds_exact R right there = record { sound = λ ds x e. let t = bind_some _ (tag_of table ds) x e in kind_found R right ds t.0 x t.1 t.2; complete = λ ds x h le. there x ds h le }
 
   -- the same of arrays
+  pub tagged_sound : (R : A → Data → Type 0) → AreSound f (λ x ds. R x (array ds)) table → (d : Data) (x : A) → tagged_of table f d ≡ Some x → R x d
+  tagged_sound R right d x e =
+      let t = bind_some _ (tag_in table d) x e in
+      let a = bind_some (tag_of table) (as_array d) t.0 t.1 in
+      subst (R x) (sym (as_array_some d a.0 a.1)) (kind_found (λ y ds. R y (array ds)) right a.0 t.0 x a.2 t.2)
+
   pub tagged_exact : (R : A → Data → Type 0) → AreSound f (λ x ds. R x (array ds)) table → ((x : A) (d : Data) → R x d → depth d ≤ deepest → tagged_of table f d ≡ Some x)
       → IsExact (tagged_of table f) R
-  tagged_exact R right there = record { sound = found; complete = λ d x h le. there x d h le }
-    where
-      found : (d : Data) (x : A) → tagged_of table f d ≡ Some x → R x d
-      found d x e =
-          let t = bind_some _ (tag_in table d) x e in
-          let a = bind_some (tag_of table) (as_array d) t.0 t.1 in
-          subst (R x) (sym (as_array_some d a.0 a.1)) (kind_found (λ y ds. R y (array ds)) right a.0 t.0 x a.2 t.2)
+  tagged_exact R right there = record { sound = tagged_sound R right; complete = λ d x h le. there x d h le }
 
 -- what holds of each entry of a table holds of what a word stands for
 pub lookup_keeps : {A : Type 0} (P : A → Type 0) (table : List (List ℕ × A)) → AllByRecursion (λ e. P e.1) table → (w : List ℕ) (x : A) → lookup w table ≡ Some x → P x

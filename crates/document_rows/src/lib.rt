@@ -4,4 +4,4 @@
 mod row;
 mod tuples;
 
-pub use row::{End, Row, Then, read_items, read_row};
+pub use row::{End, Row, Then, read_items, read_row, split_part};

@@ -3,7 +3,7 @@ ghost use Rattle.std.specs.Prelude.{◌≡◌, option_map};
 ghost use Rattle.serde_json.specs.View.{view as data_of, items_view};
 ghost use Rattle.document_forms.specs.Answers.{Answers};
 ghost use Rattle.document_forms.specs.Exact.{RowOf};
-ghost use Rattle.document_forms.specs.Find.{array_of};
+ghost use Rattle.document_forms.specs.Find.{first, array_of};
 ghost use Rattle.document_forms.specs.Forms.{ends, ◌▹◌};
 
 use document_forms::{Form, ReadError, Wanted, read_at};
@@ -45,6 +45,15 @@ pub fn read_row<R: Row>(alloc: Global, value: &Value) -> Result<R::Items, ReadEr
     R::read(alloc, items, 0)
 }
 
+/// The first item, which stands at `index`, and those behind it.
+pub fn split_part(items: &[Value], index: usize) -> Result<(&Value, &[Value]), ReadError>
+    ensures { Answers result (λ found. option_map (λ t. (data_of t.0.now, items_view t.1.now)) found ≡ first (items_view items.now)) }
+{
+    items
+        .split_first()
+        .ok_or(ReadError::here(Wanted::FurtherPart).at(index))
+}
+
 /// Nothing.
 pub struct End;
 
@@ -82,9 +91,7 @@ impl<F: Form, R: Row> Row for Then<F, R> {
         items: &[Value],
         index: usize,
     ) -> Result<(F::Item, R::Items), ReadError> {
-        let Some((item, rest)) = items.split_first() else {
-            return Err(ReadError::here(Wanted::FurtherPart).at(index));
-        };
+        let (item, rest) = split_part(items, index)?;
         let part = read_at::<F>(alloc, item, index)?;
         let rest = R::read(alloc, rest, index.saturating_add(1))?;
         Ok((part, rest))
