@@ -4,4 +4,4 @@
 mod row;
 mod tuples;
 
-pub use row::{End, Row, Then, read_items, read_row, split_part};
+pub use row::{End, InArray, Row, Then, read_items, read_row, split_part};

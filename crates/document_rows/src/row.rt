@@ -4,7 +4,7 @@ ghost use Rattle.serde_json.specs.View.{view as data_of, items_view};
 ghost use Rattle.document_forms.specs.Answers.{Answers};
 ghost use Rattle.document_forms.specs.Exact.{RowOf};
 ghost use Rattle.document_forms.specs.Find.{first, array_of};
-ghost use Rattle.document_forms.specs.Forms.{ends, ◌▹◌};
+ghost use Rattle.document_forms.specs.Forms.{ends, ◌▹◌, an_array};
 
 use document_forms::{Form, ReadError, Wanted, read_at};
 use serde_json::Value;
@@ -95,5 +95,22 @@ impl<F: Form, R: Row> Row for Then<F, R> {
         let part = read_at::<F>(alloc, item, index)?;
         let rest = R::read(alloc, rest, index.saturating_add(1))?;
         Ok((part, rest))
+    }
+}
+
+/// An array of exactly these.
+pub struct InArray<R>(PhantomData<R>);
+
+impl<R: Row> Form for InArray<R> {
+    type Item = R::Items;
+
+    ghost Plain = { R.Plain };
+
+    ghost view = { R.view };
+
+    ghost form = { an_array R.form };
+
+    fn read(alloc: Global, value: &Value) -> Result<R::Items, ReadError> {
+        read_row::<R>(alloc, value)
     }
 }
