@@ -1,2 +1,1 @@
-pub mod DocumentLaws
 pub mod Seam

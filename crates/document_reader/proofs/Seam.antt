@@ -4,22 +4,21 @@ use Rattle.std.specs.declared.alloc.AllocError.{AllocError}
 use Rattle.serde_json.specs.Data.{Data}
 use Rattle.serde_json.specs.Read.{read}
 use Rattle.serde_json.proofs.Nesting.{depth-read}
-use Rattle.document_parts.proofs.Inverse.{some_is}
+use Rattle.document_forms.specs.Inverse.{some_is}
 use Rattle.document_model.specs.Plain.{PlainDocument}
 use Rattle.document_model.specs.View.{document_view}
 use Rattle.document_model.specs.declared.document.Document.{Document}
-use Rattle.document_reader.specs.Find.{document_of, Spells}
+use Rattle.document_reader.specs.Documents.{a_document, Spells}
 use Rattle.document_reader.specs.Form.{ADocument, max_len, Reads, OneDocument}
-use Rattle.document_reader.proofs.DocumentLaws.{document_sound, document_complete}
 
 pub reads_from_spells : (bytes : List ℕ) (v : Data) (d : PlainDocument) → length bytes ≤ max_len → IsUtf8 bytes → read bytes ≡ Some v → Spells v d → Reads bytes d
-reads_from_spells bytes v d short utf8 value s = record { short = short; utf8 = utf8; value = v; value_is = value; form = document_sound v d s.found; distinct = s.distinct }
+reads_from_spells bytes v d short utf8 value s = record { short = short; utf8 = utf8; value = v; value_is = value; form = a_document.exact.sound v d s.found; distinct = s.distinct }
 
 -- what is written for the value that was read is found
-found_in : (bytes : List ℕ) (v : Data) (d : PlainDocument) → read bytes ≡ Some v → (r : Reads bytes d) → document_of v ≡ Some d
+found_in : (bytes : List ℕ) (v : Data) (d : PlainDocument) → read bytes ≡ Some v → (r : Reads bytes d) → a_document.find v ≡ Some d
 found_in bytes v d value r =
     let same : r.value ≡ v = some_is _ _ (sym r.value_is ∙ value) in
-    document_complete v d (subst (ADocument d) same r.form) (depth-read bytes v value)
+    a_document.exact.complete v d (subst (ADocument d) same r.form) (depth-read bytes v value)
 
 pub spells_from_reads : (bytes : List ℕ) (v : Data) (d : PlainDocument) → read bytes ≡ Some v → Reads bytes d → Spells v d
 spells_from_reads bytes v d value r = record { found = found_in bytes v d value r; distinct = r.distinct }

@@ -4,12 +4,12 @@ use Rattle.serde_json.specs.Data.{Data, number, unsigned}
 use Rattle.serde_json.specs.Read.{read}
 use Rattle.ir_kinds.specs.Settings.{PlainSettings}
 use Rattle.document_words.specs.Tables.{flags, capabilities, stages, subgroup_flags}
-use Rattle.document_parts.specs.Form.{ABool, AWord, AnArray, AList, Ends, ◌▸◌}
-use Rattle.document_items.specs.Form.{AType}
-use Rattle.document_expressions.specs.Form.{AnExpression}
-use Rattle.document_globals.specs.Form.{ASpecial, AllFilters, AConstant, AnOverride, AGlobal}
-use Rattle.document_functions.specs.Form.{AFunction}
-use Rattle.document_entries.specs.Form.{AnEntry}
+use Rattle.document_forms.specs.Form.{ABool, AWord, AnArray, AList, Ends, ◌▸◌}
+use Rattle.item_forms.specs.Form.{AType}
+use Rattle.function_forms.specs.Form.{AnExpression}
+use Rattle.item_forms.specs.ItemForm.{ASpecial, AllFilters, AConstant, AnOverride, AGlobal}
+use Rattle.function_forms.specs.FunctionForm.{AFunction}
+use Rattle.function_forms.specs.EntryForm.{AnEntry}
 use Rattle.document_model.specs.Distinct.{AreDistinct}
 use Rattle.document_model.specs.Plain.{PlainDocument}
 

@@ -1,3 +1,2 @@
-pub mod Find
 pub mod Form
-pub mod Parts
+pub mod Documents

@@ -1,10 +1,10 @@
 //! From bytes to a document.
 #![tactic(auto)]
 
-mod content;
+mod document;
 pub mod laws;
 mod reading;
-mod settings;
 
+pub use document::{DocumentForm, VersionForm};
 pub use document_model::{Document, Settings};
 pub use reading::read_document;

@@ -1,24 +1,16 @@
 // Items of the IR: how a line of the input gives them, how they are copied, and what is told of them.
-use document_entries::read_entry;
-use document_expressions::read_expression;
-use document_functions::{read_function, read_local};
-use document_globals::{
-    read_constant, read_filter, read_global, read_override, read_special_types,
-};
-use document_items::read_type;
 use document_reader::read_document;
-use document_statements::block;
+use function_forms::{BodyForm, EntryForm, ExpressionForm, FunctionForm, LocalForm};
 use ir_items::{
     Block, Constant, DiagnosticFilterNode, EntryPoint, Expression, Function, GlobalVariable,
     IrType, LocalVariable, Module, Override, SpecialTypes,
 };
+use item_forms::{ConstantForm, FilterForm, GlobalForm, OverrideForm, SpecialForm, TypeForm};
 use module_builder::into_module;
 use serde_json::Value;
 use std::alloc::{AllocError, Global};
 use test_support::call::{no_call, told};
-
-/// How deep a body nests at most.
-const DEPTH: usize = 127;
+use test_support::forms::found;
 
 /// What a line can give, and what can be copied.
 pub trait Item: PartialEq + Drop + Sized {
@@ -61,7 +53,7 @@ pub fn compared<T: Item>(alloc: Global, call: &Value) -> Result<String, AllocErr
 
 impl Item for IrType {
     fn read(alloc: Global, value: &Value) -> Result<Option<Self>, AllocError> {
-        read_type(alloc, value)
+        found::<TypeForm>(alloc, value)
     }
 
     fn copy(&self, alloc: Global) -> Result<Self, AllocError> {
@@ -71,7 +63,7 @@ impl Item for IrType {
 
 impl Item for Expression {
     fn read(alloc: Global, value: &Value) -> Result<Option<Self>, AllocError> {
-        read_expression(alloc, value)
+        found::<ExpressionForm>(alloc, value)
     }
 
     fn copy(&self, alloc: Global) -> Result<Self, AllocError> {
@@ -81,7 +73,7 @@ impl Item for Expression {
 
 impl Item for Block {
     fn read(alloc: Global, value: &Value) -> Result<Option<Self>, AllocError> {
-        block(alloc, value, DEPTH)
+        found::<BodyForm>(alloc, value)
     }
 
     fn copy(&self, alloc: Global) -> Result<Self, AllocError> {
@@ -91,7 +83,7 @@ impl Item for Block {
 
 impl Item for Constant {
     fn read(alloc: Global, value: &Value) -> Result<Option<Self>, AllocError> {
-        read_constant(alloc, value)
+        found::<ConstantForm>(alloc, value)
     }
 
     fn copy(&self, alloc: Global) -> Result<Self, AllocError> {
@@ -101,7 +93,7 @@ impl Item for Constant {
 
 impl Item for Override {
     fn read(alloc: Global, value: &Value) -> Result<Option<Self>, AllocError> {
-        read_override(alloc, value)
+        found::<OverrideForm>(alloc, value)
     }
 
     fn copy(&self, alloc: Global) -> Result<Self, AllocError> {
@@ -111,7 +103,7 @@ impl Item for Override {
 
 impl Item for GlobalVariable {
     fn read(alloc: Global, value: &Value) -> Result<Option<Self>, AllocError> {
-        read_global(alloc, value)
+        found::<GlobalForm>(alloc, value)
     }
 
     fn copy(&self, alloc: Global) -> Result<Self, AllocError> {
@@ -121,7 +113,7 @@ impl Item for GlobalVariable {
 
 impl Item for LocalVariable {
     fn read(alloc: Global, value: &Value) -> Result<Option<Self>, AllocError> {
-        read_local(alloc, value)
+        found::<LocalForm>(alloc, value)
     }
 
     fn copy(&self, alloc: Global) -> Result<Self, AllocError> {
@@ -131,7 +123,7 @@ impl Item for LocalVariable {
 
 impl Item for DiagnosticFilterNode {
     fn read(alloc: Global, value: &Value) -> Result<Option<Self>, AllocError> {
-        read_filter(alloc, value)
+        found::<FilterForm>(alloc, value)
     }
 
     fn copy(&self, alloc: Global) -> Result<Self, AllocError> {
@@ -141,7 +133,7 @@ impl Item for DiagnosticFilterNode {
 
 impl Item for SpecialTypes {
     fn read(alloc: Global, value: &Value) -> Result<Option<Self>, AllocError> {
-        read_special_types(alloc, value)
+        found::<SpecialForm>(alloc, value)
     }
 
     fn copy(&self, alloc: Global) -> Result<Self, AllocError> {
@@ -151,7 +143,7 @@ impl Item for SpecialTypes {
 
 impl Item for Function {
     fn read(alloc: Global, value: &Value) -> Result<Option<Self>, AllocError> {
-        read_function(alloc, value)
+        found::<FunctionForm>(alloc, value)
     }
 
     fn copy(&self, alloc: Global) -> Result<Self, AllocError> {
@@ -161,7 +153,7 @@ impl Item for Function {
 
 impl Item for EntryPoint {
     fn read(alloc: Global, value: &Value) -> Result<Option<Self>, AllocError> {
-        read_entry(alloc, value)
+        found::<EntryForm>(alloc, value)
     }
 
     fn copy(&self, alloc: Global) -> Result<Self, AllocError> {

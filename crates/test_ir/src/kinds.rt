@@ -1,14 +1,16 @@
 // What expressions, types and special types answer.
 use crate::item::read_at;
-use document_items::read_types;
+use document_forms::Each;
 use ir_arena::handle::Handle;
 use ir_items::{Expression, IrType, SpecialTypes, TypeInner};
 use ir_kinds::{PredeclaredType, Scalar};
 use ir_types::LiteralExt;
 use ir_types::laws::type_equality;
+use item_forms::TypeForm;
 use serde_json::Value;
 use std::alloc::{AllocError, Global};
 use test_support::call::{no_call, told};
+use test_support::forms::found;
 
 // Whether an expression is always in scope, whether it is a dynamic index, and whether the level of a sample asks for
 // derivatives.
@@ -80,7 +82,7 @@ fn alike(
 
 fn list_of(alloc: Global, call: &Value) -> Result<Vec<IrType>, AllocError> {
     match call.get(1) {
-        Some(value) => Ok(read_types(alloc, value)?.unwrap_or(Vec::new(alloc))),
+        Some(value) => Ok(found::<Each<TypeForm>>(alloc, value)?.unwrap_or(Vec::new(alloc))),
         None => Ok(Vec::new(alloc)),
     }
 }

@@ -5,5 +5,6 @@
 pub mod call;
 pub mod checks;
 pub mod fakes;
+pub mod forms;
 pub mod hog;
 pub mod lines;

@@ -5,13 +5,14 @@ ghost use Rattle.typing_forms.specs.Forms.{NoStructValue};
 ghost use Rattle.typing_forms.specs.Resolutions.{resolution_view, IsAmong};
 ghost use Rattle.typing_rules.specs.Canonical.{NotBothStructs};
 
-use document_items::read_type;
 use ir_arena::unique_arena::UniqueArena;
 use ir_kinds::Scalar;
 use ir_types::{IrType, TypeInner, key};
+use item_forms::TypeForm;
 use serde_json::Value;
 use std::alloc::{AllocError, Global};
 use test_support::call::{handle, text};
+use test_support::forms::found;
 use typing_forms::TypeResolution;
 
 pub type Types = UniqueArena<IrType, key::IrType>;
@@ -21,7 +22,7 @@ pub fn inner(alloc: Global, call: &Value, place: usize) -> Result<Option<TypeInn
     let Some(value) = call.get(place) else {
         return Ok(None);
     };
-    match read_type(alloc, value)? {
+    match found::<TypeForm>(alloc, value)? {
         Some(ty) => Ok(Some(ty.inner)),
         None => Ok(None),
     }

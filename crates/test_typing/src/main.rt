@@ -10,13 +10,14 @@ mod given;
 mod parts;
 mod scalars;
 
-use document_items::read_type;
 use ir_arena::span::Span;
 use ir_items::Module;
+use item_forms::TypeForm;
 use serde_json::Value;
 use std::alloc::{AllocError, Global};
 use std::io;
 use test_support::call::{handle, list, text, told};
+use test_support::forms::found;
 use test_support::lines::{Answers, answer_lines};
 use typing_rules::laws::{
     canonical_once, compare_reflexive, compare_symmetric, compare_transitive,
@@ -33,7 +34,7 @@ impl Subject {
     // Adds the types of a line. Answers how many there are, and whether they go back.
     fn add_types(&mut self, alloc: Global, types: &[Value]) -> Result<(usize, bool), AllocError> {
         for value in types {
-            if let Some(ty) = read_type(alloc, value)? {
+            if let Some(ty) = found::<TypeForm>(alloc, value)? {
                 self.module.types.insert(ty, Span::UNDEFINED)?;
             }
         }

@@ -1,2 +1,0 @@
-pub mod ExpressionParts
-pub mod ExpressionLaws

@@ -1,0 +1,10 @@
+pub mod Form
+pub mod Exact
+pub mod Answers
+pub mod Find
+pub mod Inverse
+pub mod PartLaws
+pub mod ListLaws
+pub mod RowLaws
+pub mod KindLaws
+pub mod Forms

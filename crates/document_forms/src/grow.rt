@@ -1,0 +1,47 @@
+// What takes items one by one.
+ghost use Rattle.std.specs.Prelude.{◌≡◌, List, [], ◌∷◌, ◌++◌, map, IfOk, OnOk};
+ghost use Rattle.ir_arena.specs.declared.span.Span.{Span};
+
+use crate::form::Form;
+use ir_arena::arena::Arena;
+use ir_arena::span::Span;
+use std::alloc::{AllocError, Global};
+
+/// What takes items of a form one by one, and keeps them in that order.
+pub trait Grow<F: Form>: Drop {
+    ghost items: { Self → List F.Item };
+
+    /// With no item yet, and with room for so many.
+    fn with_room(alloc: Global, room: usize) -> Result<Self, AllocError>
+        ensures { IfOk result (λ all. items all ≡ []) };
+
+    /// Takes one more.
+    fn add(&mut self, item: F::Item) -> Result<(), AllocError>
+        ensures { OnOk result (items self.new ≡ items self.old ++ item ∷ []) };
+}
+
+impl<F: Form> Grow<F> for Vec<F::Item> {
+    ghost items = { λ v. v.items };
+
+    fn with_room(alloc: Global, room: usize) -> Result<Self, AllocError> {
+        Vec::with_capacity(alloc, room)
+    }
+
+    fn add(&mut self, item: F::Item) -> Result<(), AllocError> {
+        self.push(item)?;
+        Ok(())
+    }
+}
+
+impl<F: Form, K> Grow<F> for Arena<F::Item, K> {
+    ghost items = { λ a. map (λ e. e.0) a };
+
+    fn with_room(alloc: Global, _room: usize) -> Result<Self, AllocError> {
+        Ok(Arena::new(alloc))
+    }
+
+    fn add(&mut self, item: F::Item) -> Result<(), AllocError> {
+        self.append(item, Span::UNDEFINED)?;
+        Ok(())
+    }
+}

@@ -1,0 +1,20 @@
+//! Written forms: what a value must be to be written for something, and how that is read.
+#![tactic(auto)]
+
+mod error;
+mod form;
+mod grow;
+mod lists;
+mod numbers;
+mod tags;
+mod wanted;
+mod words;
+
+pub use error::{Place, ReadError};
+pub use form::{Form, Maybe, Text, Truth, is_unique, read_at, read_form};
+pub use grow::Grow;
+pub use lists::{Each, InArena, read_all};
+pub use numbers::{At, I16, I32, I64, Side, Size, U8, U16, U32, U64, signed, unsigned};
+pub use tags::{read_tag, split_tag};
+pub use wanted::Wanted;
+pub use words::{SetOf, WordOf, read_word};

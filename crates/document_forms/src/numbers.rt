@@ -1,0 +1,257 @@
+// Whole numbers.
+ghost use Rattle.std.specs.Prelude.{◌≡◌, ◌≤◌, ◌≤ℤ◌, ℕ, ℤ, pos, negsuc, option_map, option_and_then, IfOk};
+ghost use Rattle.serde_json.specs.Find.{as_number, as_i64};
+ghost use Rattle.serde_json.specs.View.{view as data_of};
+ghost use Rattle.ir_kinds.specs.declared.scalars.VectorSize.{VectorSize};
+ghost use Rattle.ir_kinds.specs.declared.scalars.CooperativeSize.{CooperativeSize};
+ghost use Rattle.document_forms.specs.Answers.{Answers};
+ghost use Rattle.document_forms.specs.Find.{number_of, below_zero, signed_of, size_in, side_in};
+ghost use Rattle.document_forms.specs.Forms.{a_number, a_handle, a_u32, a_signed, a_size, a_side};
+
+use crate::error::ReadError;
+use crate::form::Form;
+use crate::wanted::Wanted;
+use ir_arena::handle::Handle;
+use ir_kinds::{CooperativeSize, VectorSize};
+use serde_json::Value;
+use std::alloc::Global;
+use std::marker::PhantomData;
+
+/// A whole number up to `high`.
+pub fn unsigned(value: &Value, high: u64, wanted: Wanted) -> Result<u64, ReadError>
+    ensures found { Answers result (λ found. found ≡ number_of high (data_of value.now)) }
+    ensures in_range { IfOk result (λ n. n ≤ high) }
+{
+    match value.as_u64() {
+        Some(number) if number <= high => Ok(number),
+        _ => Err(ReadError::here(wanted)),
+    }
+}
+
+/// A whole number of 8 bits.
+pub struct U8;
+
+impl Form for U8 {
+    type Item = u8;
+
+    ghost Plain = { ℕ };
+
+    ghost view = { λ n. n };
+
+    ghost form = { a_number 255 };
+
+    fn read(_alloc: Global, value: &Value) -> Result<u8, ReadError> {
+        let number = unsigned(value, 255, Wanted::Unsigned8)?;
+        Ok(number as u8)
+    }
+}
+
+/// A whole number of 16 bits.
+pub struct U16;
+
+impl Form for U16 {
+    type Item = u16;
+
+    ghost Plain = { ℕ };
+
+    ghost view = { λ n. n };
+
+    ghost form = { a_number 65535 };
+
+    fn read(_alloc: Global, value: &Value) -> Result<u16, ReadError> {
+        let number = unsigned(value, 65535, Wanted::Unsigned16)?;
+        Ok(number as u16)
+    }
+}
+
+/// A whole number of 32 bits.
+pub struct U32;
+
+impl Form for U32 {
+    type Item = u32;
+
+    ghost Plain = { ℕ };
+
+    ghost view = { λ n. n };
+
+    ghost form = { a_u32 };
+
+    fn read(_alloc: Global, value: &Value) -> Result<u32, ReadError> {
+        let number = unsigned(value, 4294967295, Wanted::Unsigned32)?;
+        Ok(number as u32)
+    }
+}
+
+/// A whole number of 64 bits.
+pub struct U64;
+
+impl Form for U64 {
+    type Item = u64;
+
+    ghost Plain = { ℕ };
+
+    ghost view = { λ n. n };
+
+    ghost form = { a_number 18446744073709551615 };
+
+    fn read(_alloc: Global, value: &Value) -> Result<u64, ReadError> {
+        unsigned(value, u64::MAX, Wanted::Unsigned64)
+    }
+}
+
+/// The place of an item in its list, counted from 0.
+pub struct At<K>(PhantomData<K>);
+
+impl<K> Form for At<K> {
+    type Item = Handle<K>;
+
+    ghost Plain = { ℕ };
+
+    ghost view = { λ h. h };
+
+    ghost form = { a_handle };
+
+    fn read(_alloc: Global, value: &Value) -> Result<Handle<K>, ReadError> {
+        let number = unsigned(value, 4294967294, Wanted::Handle)?;
+        Ok(Handle::at(number as usize))
+    }
+}
+
+/// A whole number with a sign, from `-(high + 1)` to `high`.
+pub fn signed(value: &Value, high: u64, wanted: Wanted) -> Result<i64, ReadError>
+    requires { high ≤ 9223372036854775807 }
+    ensures found { Answers result (λ found. found ≡ signed_of high (data_of value.now)) }
+    ensures in_range { IfOk result (λ n. (negsuc high ≤ℤ n) × (n ≤ℤ pos high)) }
+{
+    match value.as_u64() {
+        Some(number) if number <= high => Ok(number as i64),
+        Some(_) => Err(ReadError::here(wanted)),
+        None => below_zero(value, high, wanted),
+    }
+}
+
+// The number where it is below zero.
+fn below_zero(value: &Value, high: u64, wanted: Wanted) -> Result<i64, ReadError>
+    requires { high ≤ 9223372036854775807 }
+    ensures found { Answers result (λ found. found ≡ option_and_then (below_zero high) (option_and_then as_i64 (as_number (data_of value.now)))) }
+    ensures in_range { IfOk result (λ n. (negsuc high ≤ℤ n) × (n ≤ℤ pos high)) }
+{
+    match value.as_i64() {
+        Some(number) if number < 0 && -(high as i64) - 1 <= number => Ok(number),
+        _ => Err(ReadError::here(wanted)),
+    }
+}
+
+/// A whole number of 16 bits with a sign.
+pub struct I16;
+
+impl Form for I16 {
+    type Item = i16;
+
+    ghost Plain = { ℤ };
+
+    ghost view = { λ n. n };
+
+    ghost form = { a_signed 32767 };
+
+    fn read(_alloc: Global, value: &Value) -> Result<i16, ReadError> {
+        let number = signed(value, 32767, Wanted::Signed16)?;
+        Ok(number as i16)
+    }
+}
+
+/// A whole number of 32 bits with a sign.
+pub struct I32;
+
+impl Form for I32 {
+    type Item = i32;
+
+    ghost Plain = { ℤ };
+
+    ghost view = { λ n. n };
+
+    ghost form = { a_signed 2147483647 };
+
+    fn read(_alloc: Global, value: &Value) -> Result<i32, ReadError> {
+        let number = signed(value, 2147483647, Wanted::Signed32)?;
+        Ok(number as i32)
+    }
+}
+
+/// A whole number of 64 bits with a sign.
+pub struct I64;
+
+impl Form for I64 {
+    type Item = i64;
+
+    ghost Plain = { ℤ };
+
+    ghost view = { λ n. n };
+
+    ghost form = { a_signed 9223372036854775807 };
+
+    fn read(_alloc: Global, value: &Value) -> Result<i64, ReadError> {
+        signed(value, 9223372036854775807, Wanted::Signed64)
+    }
+}
+
+/// How many components a vector has, or columns or rows a matrix.
+pub struct Size;
+
+fn size_in(number: u64) -> Result<VectorSize, ReadError>
+    ensures { Answers result (λ found. found ≡ size_in number) }
+{
+    match number {
+        2 => Ok(VectorSize::Bi),
+        3 => Ok(VectorSize::Tri),
+        4 => Ok(VectorSize::Quad),
+        _ => Err(ReadError::here(Wanted::VectorSize)),
+    }
+}
+
+impl Form for Size {
+    type Item = VectorSize;
+
+    ghost Plain = { VectorSize };
+
+    ghost view = { λ s. s };
+
+    ghost form = { a_size };
+
+    fn read(_alloc: Global, value: &Value) -> Result<VectorSize, ReadError> {
+        let Some(number) = value.as_u64() else {
+            return Err(ReadError::here(Wanted::VectorSize));
+        };
+        size_in(number)
+    }
+}
+
+/// How many columns or rows a cooperative matrix has.
+pub struct Side;
+
+fn side_in(number: u64) -> Result<CooperativeSize, ReadError>
+    ensures { Answers result (λ found. found ≡ side_in number) }
+{
+    match number {
+        8 => Ok(CooperativeSize::Eight),
+        16 => Ok(CooperativeSize::Sixteen),
+        _ => Err(ReadError::here(Wanted::CooperativeSize)),
+    }
+}
+
+impl Form for Side {
+    type Item = CooperativeSize;
+
+    ghost Plain = { CooperativeSize };
+
+    ghost view = { λ s. s };
+
+    ghost form = { a_side };
+
+    fn read(_alloc: Global, value: &Value) -> Result<CooperativeSize, ReadError> {
+        let Some(number) = value.as_u64() else {
+            return Err(ReadError::here(Wanted::CooperativeSize));
+        };
+        side_in(number)
+    }
+}

@@ -1,0 +1,32 @@
+// The word in front of other parts.
+ghost use Rattle.std.specs.Prelude.{◌≡◌, option_map};
+ghost use Rattle.serde_json.specs.View.{view as data_of, items_view};
+ghost use Rattle.document_forms.specs.Answers.{Answers};
+ghost use Rattle.document_forms.specs.Find.{tag_of, tag_in};
+
+use crate::error::ReadError;
+use crate::wanted::Wanted;
+use crate::words::read_word;
+use document_words::Word;
+use serde_json::Value;
+
+/// What the word in front stands for, and what comes behind it. The word stands at `index`.
+pub fn split_tag<W: Word>(items: &[Value], index: usize) -> Result<(W, &[Value]), ReadError>
+    ensures { Answers result (λ found. option_map (λ t. (t.0, items_view t.1.now)) found ≡ tag_of W.table (items_view items.now)) }
+{
+    let Some((item, rest)) = items.split_first() else {
+        return Err(ReadError::here(Wanted::FurtherPart).at(index));
+    };
+    let kind = read_word(item).map_err(|e| e.at(index))?;
+    Ok((kind, rest))
+}
+
+/// What the word at the front of an array stands for, and what comes behind it.
+pub fn read_tag<W: Word>(value: &Value) -> Result<(W, &[Value]), ReadError>
+    ensures { Answers result (λ found. option_map (λ t. (t.0, items_view t.1.now)) found ≡ tag_in W.table (data_of value.now)) }
+{
+    let Some(items) = value.as_array() else {
+        return Err(ReadError::here(Wanted::Tagged));
+    };
+    split_tag(items, 0)
+}

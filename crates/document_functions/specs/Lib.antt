@@ -1,3 +1,0 @@
-pub mod Find
-pub mod Form
-pub mod View

@@ -1,8 +1,0 @@
-use Rattle.std.proofs.Common.{◌≡◌, drop, []}
-use Rattle.serde_json.specs.View.{items_view}
-use Rattle.document_globals.specs.Find.{pairs_with}
-use Rattle.document_globals.proofs.special.pairs.Given as goal
-
--- what the rest gives behind the pairs so far is what all of it gives
-abbrev pub invariant-loop-item : goal.invariant-loop-item
-invariant-loop-item l = pairs_with l.found.entries (items_view (drop l.item-index l.item-items)) ≡ pairs_with [] (items_view l.item-items)

@@ -1,2 +1,0 @@
-pub mod PartTypeLaws
-pub mod TypeLaws

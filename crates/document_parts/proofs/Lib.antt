@@ -1,4 +1,0 @@
-pub mod Steps
-pub mod Inverse
-pub mod PartLaws
-pub mod RowLaws

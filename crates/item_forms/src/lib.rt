@@ -1,0 +1,22 @@
+//! The written forms of the items of a document that are not expressions, statements or functions.
+#![tactic(auto)]
+
+mod bindings;
+mod entry;
+mod filters;
+mod globals;
+mod kinds;
+mod spaces;
+mod special;
+mod types;
+
+pub use bindings::{BindingForm, BuiltInRow, ResourceForm};
+pub use entry::{EarlyForm, MeshForm, SizesForm, StageForm};
+pub use filters::{FilterForm, FiltersForm, RuleForm};
+pub use globals::{ConstantForm, GlobalForm, OverrideForm};
+pub use kinds::{
+    BindingKind, ClassKind, EarlyKind, InnerKind, PredeclaredKind, RuleKind, SizeKind, StorageKind,
+};
+pub use spaces::{ArraySizeForm, ClassForm, Positive, SpaceForm, StorageForm};
+pub use special::{PairForm, PairsForm, PredeclaredForm, SpecialForm};
+pub use types::{InnerForm, MemberForm, TypeForm};

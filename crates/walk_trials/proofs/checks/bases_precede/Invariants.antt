@@ -1,9 +1,0 @@
-use Rattle.std.proofs.Common.{◌<◌}
-use Rattle.std.specs.Option.{ForSome}
-use Rattle.ir_expressions.specs.Plain.{PlainExpression}
-use Rattle.ir_walks.specs.Bases.{expressions_of, base_of}
-use Rattle.walk_trials.proofs.CheckLemmas.{UpTo}
-use Rattle.walk_trials.proofs.checks.bases_precede.Given as goal
-
-abbrev pub invariant-loop-place : goal.invariant-loop-place
-invariant-loop-place l = UpTo (λ place (e : PlainExpression). ForSome (base_of e) (λ base. base < place)) (expressions_of l.arena) l.place

@@ -1,9 +1,0 @@
-use Rattle.std.proofs.Common.{◌<◌}
-use Rattle.std.specs.Option.{ForSome}
-use Rattle.ir_globals.specs.Plain.{PlainNode}
-use Rattle.ir_walks.specs.Filters.{nodes_of}
-use Rattle.walk_trials.proofs.CheckLemmas.{UpTo}
-use Rattle.walk_trials.proofs.checks.parents_precede.Given as goal
-
-abbrev pub invariant-loop-place : goal.invariant-loop-place
-invariant-loop-place l = UpTo (λ place (node : PlainNode). ForSome node.parent (λ parent. parent < place)) (nodes_of l.arena) l.place
