@@ -81,11 +81,16 @@ struct Pair {
     many: Block,
 }
 
+// A copy, which has room for just what it holds.
+fn full(alloc: Global, places: &[u32]) -> Result<Block, AllocError> {
+    block(alloc, places, &[])?.clone(alloc)
+}
+
 fn blocks(alloc: Global) -> Result<Pair, AllocError> {
-    let few = block(alloc, &FEW, &[])?;
+    let few = full(alloc, &FEW)?;
     Ok(Pair {
         few,
-        many: block(alloc, &MANY, &[])?,
+        many: full(alloc, &MANY)?,
     })
 }
 

@@ -7,6 +7,9 @@ use std::test::Fail;
 
 const STEP: usize = 64;
 
+// A module is copied with so many more bytes each time.
+const MODULE_STEP: usize = 512;
+
 const MOST_STEPS: usize = 1000;
 
 /// A document of a struct, a global composition, and a function with a local, an argument, an expression of each kind and
@@ -88,9 +91,9 @@ fn copies_within<T: Copyable>(
 }
 
 // Copies with more and more memory, and answers how often it was refused.
-fn count_refusals<T: Copyable>(alloc: Global, source: &T) -> Result<usize, Fail> {
+fn count_refusals<T: Copyable>(alloc: Global, source: &T, more: usize) -> Result<usize, Fail> {
     for step in 0..MOST_STEPS {
-        match copies_within(alloc, step * STEP, source)? {
+        match copies_within(alloc, step.saturating_mul(more), source)? {
             Some(true) => return Ok(step),
             Some(false) => return Err(Fail::new("the copy is another")),
             None => {}
@@ -104,7 +107,7 @@ fn refusals<T: Copyable>(alloc: Global) -> Result<usize, Fail> {
         return Err(Fail::new("it was not read"));
     };
     match T::of(&document) {
-        Some(source) => count_refusals(alloc, source),
+        Some(source) => count_refusals(alloc, source, STEP),
         None => Err(Fail::new("the document has none")),
     }
 }
@@ -114,7 +117,7 @@ fn refusals_of_module(alloc: Global) -> Result<usize, Fail> {
         return Err(Fail::new("it was not read"));
     };
     let module = build_module(alloc, &document)?;
-    count_refusals(alloc, &module)
+    count_refusals(alloc, &module, MODULE_STEP)
 }
 
 #[test]

@@ -8,7 +8,7 @@ use test_support::fakes::plain;
 const MOST_STEPS: usize = 300;
 
 /// How many bytes more are left at each step.
-const STEP: usize = 64;
+const STEP: usize = 128;
 
 /// A function whose block calls the function before, and a type that needs a capability, which is given; a function that
 /// calls itself, beside a type that is refused too; two equal types.
