@@ -14,7 +14,8 @@ const STEP: usize = 32;
 /// More than the calls need.
 const SPARE: usize = 1 << 15;
 
-const FEW: [u32; 3] = [1, 2, 3];
+/// As many as a list first has room for, so that one more needs memory.
+const FEW: [u32; 4] = [1, 2, 3, 4];
 
 const MANY: [u32; 12] = [11, 12, 13, 14, 15, 16, 17, 18, 19, 20, 21, 22];
 
@@ -81,16 +82,11 @@ struct Pair {
     many: Block,
 }
 
-// A copy, which has room for just what it holds.
-fn full(alloc: Global, places: &[u32]) -> Result<Block, AllocError> {
-    block(alloc, places, &[])?.clone(alloc)
-}
-
 fn blocks(alloc: Global) -> Result<Pair, AllocError> {
-    let few = full(alloc, &FEW)?;
+    let few = block(alloc, &FEW, &[])?;
     Ok(Pair {
         few,
-        many: full(alloc, &MANY)?,
+        many: block(alloc, &MANY, &[])?,
     })
 }
 

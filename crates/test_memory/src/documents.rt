@@ -66,7 +66,7 @@ fn refusals(alloc: Global, row: &(&str, Verdict, &str)) -> Result<usize, Fail> {
 #[test]
 fn little_memory_for_checks(rt: HostRuntime) -> Result<(), Fail> {
     for row in &ROWS {
-        refused_more_than(&rt, refusals(rt.alloc(), row)?, 10);
+        refused_more_than(&rt, refusals(rt.alloc(), row)?, 5);
     }
     Ok(())
 }
