@@ -6,7 +6,7 @@ use Rattle.ir_kinds.specs.Settings.{PlainSettings}
 use Rattle.document_words.specs.Tables.{flags, capabilities, stages, subgroup_flags}
 use Rattle.document_forms.specs.Form.{ABool, AWord, AnArray, AList, Ends, ◌▸◌}
 use Rattle.item_forms.specs.Form.{AType}
-use Rattle.function_forms.specs.Form.{AnExpression}
+use Rattle.expression_forms.specs.Form.{AnExpression}
 use Rattle.item_forms.specs.ItemForm.{ASpecial, AllFilters, AConstant, AnOverride, AGlobal}
 use Rattle.function_forms.specs.FunctionForm.{AFunction}
 use Rattle.function_forms.specs.EntryForm.{AnEntry}

@@ -1,6 +1,4 @@
 pub mod Kinds
-pub mod Form
-pub mod Expressions
 pub mod StatementForm
 pub mod Statements
 pub mod FunctionForm

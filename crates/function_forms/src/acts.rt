@@ -5,8 +5,8 @@ ghost use Rattle.ir_blocks.specs.View.{statement_view};
 ghost use Rattle.document_forms.specs.Answers.{Answers};
 ghost use Rattle.function_forms.specs.Statements.{no_blocks, statement_with};
 
+use crate::kinds::StatementKind;
 use crate::parts::{AtomicForm, GatherForm, PipelineForm, RayQueryForm};
-use crate::statement_kinds::StatementKind;
 use document_forms::{At, Each, Maybe, ReadError, SetOf, Truth, U32, WordOf};
 use document_rows::{End, read_items};
 use ir_arena::range::Range;

@@ -1,196 +1,197 @@
-// The kinds of expressions and of their parts, by their words.
-ghost use Rattle.function_forms.specs.Kinds.{expression_kinds, literal_kinds, level_kinds, query_kinds};
+// The kinds of statements and of their parts, by their words.
+ghost use Rattle.function_forms.specs.Kinds.{value_kinds, atomic_kinds, gather_kinds, ray_query_kinds, pipeline_kinds, statement_kinds};
 
 use document_words::Word;
 
-/// The kinds of expressions.
+/// The kinds of values of a switch.
 #[derive(Clone, Copy, PartialEq, Eq, Debug)]
-pub enum ExpressionKind {
-    Literal,
-    Constant,
-    Override,
-    ZeroValue,
-    Compose,
-    Access,
-    AccessIndex,
-    Splat,
-    Swizzle,
-    FunctionArgument,
-    GlobalVariable,
-    LocalVariable,
-    Load,
-    ImageSample,
-    ImageLoad,
-    ImageQuery,
-    Unary,
-    Binary,
-    Select,
-    Derivative,
-    Relational,
-    Math,
-    As,
-    CallResult,
-    AtomicResult,
-    WorkGroupUniformLoadResult,
-    ArrayLength,
-    RayQueryVertexPositions,
-    RayQueryProceedResult,
-    RayQueryGetIntersection,
-    SubgroupBallotResult,
-    SubgroupOperationResult,
-    CooperativeLoad,
-    CooperativeMultiplyAdd,
-}
-
-static EXPRESSION_KINDS: [(&str, ExpressionKind); 34] = [
-    ("Literal", ExpressionKind::Literal),
-    ("Constant", ExpressionKind::Constant),
-    ("Override", ExpressionKind::Override),
-    ("ZeroValue", ExpressionKind::ZeroValue),
-    ("Compose", ExpressionKind::Compose),
-    ("Access", ExpressionKind::Access),
-    ("AccessIndex", ExpressionKind::AccessIndex),
-    ("Splat", ExpressionKind::Splat),
-    ("Swizzle", ExpressionKind::Swizzle),
-    ("FunctionArgument", ExpressionKind::FunctionArgument),
-    ("GlobalVariable", ExpressionKind::GlobalVariable),
-    ("LocalVariable", ExpressionKind::LocalVariable),
-    ("Load", ExpressionKind::Load),
-    ("ImageSample", ExpressionKind::ImageSample),
-    ("ImageLoad", ExpressionKind::ImageLoad),
-    ("ImageQuery", ExpressionKind::ImageQuery),
-    ("Unary", ExpressionKind::Unary),
-    ("Binary", ExpressionKind::Binary),
-    ("Select", ExpressionKind::Select),
-    ("Derivative", ExpressionKind::Derivative),
-    ("Relational", ExpressionKind::Relational),
-    ("Math", ExpressionKind::Math),
-    ("As", ExpressionKind::As),
-    ("CallResult", ExpressionKind::CallResult),
-    ("AtomicResult", ExpressionKind::AtomicResult),
-    (
-        "WorkGroupUniformLoadResult",
-        ExpressionKind::WorkGroupUniformLoadResult,
-    ),
-    ("ArrayLength", ExpressionKind::ArrayLength),
-    (
-        "RayQueryVertexPositions",
-        ExpressionKind::RayQueryVertexPositions,
-    ),
-    (
-        "RayQueryProceedResult",
-        ExpressionKind::RayQueryProceedResult,
-    ),
-    (
-        "RayQueryGetIntersection",
-        ExpressionKind::RayQueryGetIntersection,
-    ),
-    ("SubgroupBallotResult", ExpressionKind::SubgroupBallotResult),
-    (
-        "SubgroupOperationResult",
-        ExpressionKind::SubgroupOperationResult,
-    ),
-    ("CooperativeLoad", ExpressionKind::CooperativeLoad),
-    (
-        "CooperativeMultiplyAdd",
-        ExpressionKind::CooperativeMultiplyAdd,
-    ),
-];
-
-impl Word for ExpressionKind {
-    ghost table = { expression_kinds };
-
-    fn table() -> &'static [(&'static str, ExpressionKind)] {
-        &EXPRESSION_KINDS
-    }
-}
-
-/// The scalars that a literal may be of.
-#[derive(Clone, Copy, PartialEq, Eq, Debug)]
-pub enum LiteralKind {
-    Bool,
-    I16,
-    U16,
+pub enum ValueKind {
     I32,
     U32,
-    I64,
-    U64,
-    F16,
-    F32,
-    F64,
-    AbstractInt,
-    AbstractFloat,
+    Default,
 }
 
-static LITERAL_KINDS: [(&str, LiteralKind); 12] = [
-    ("bool", LiteralKind::Bool),
-    ("i16", LiteralKind::I16),
-    ("u16", LiteralKind::U16),
-    ("i32", LiteralKind::I32),
-    ("u32", LiteralKind::U32),
-    ("i64", LiteralKind::I64),
-    ("u64", LiteralKind::U64),
-    ("f16", LiteralKind::F16),
-    ("f32", LiteralKind::F32),
-    ("f64", LiteralKind::F64),
-    ("aint", LiteralKind::AbstractInt),
-    ("afloat", LiteralKind::AbstractFloat),
+static VALUE_KINDS: [(&str, ValueKind); 3] = [
+    ("I32", ValueKind::I32),
+    ("U32", ValueKind::U32),
+    ("Default", ValueKind::Default),
 ];
 
-impl Word for LiteralKind {
-    ghost table = { literal_kinds };
+impl Word for ValueKind {
+    ghost table = { value_kinds };
 
-    fn table() -> &'static [(&'static str, LiteralKind)] {
-        &LITERAL_KINDS
+    fn table() -> &'static [(&'static str, ValueKind)] {
+        &VALUE_KINDS
     }
 }
 
-/// The kinds of levels of detail.
+/// The kinds of atomic functions.
 #[derive(Clone, Copy, PartialEq, Eq, Debug)]
-pub enum LevelKind {
-    Auto,
-    Zero,
-    Exact,
-    Bias,
-    Gradient,
+pub enum AtomicKind {
+    Add,
+    Subtract,
+    And,
+    ExclusiveOr,
+    InclusiveOr,
+    Min,
+    Max,
+    Exchange,
 }
 
-static LEVEL_KINDS: [(&str, LevelKind); 5] = [
-    ("Auto", LevelKind::Auto),
-    ("Zero", LevelKind::Zero),
-    ("Exact", LevelKind::Exact),
-    ("Bias", LevelKind::Bias),
-    ("Gradient", LevelKind::Gradient),
+static ATOMIC_KINDS: [(&str, AtomicKind); 8] = [
+    ("Add", AtomicKind::Add),
+    ("Subtract", AtomicKind::Subtract),
+    ("And", AtomicKind::And),
+    ("ExclusiveOr", AtomicKind::ExclusiveOr),
+    ("InclusiveOr", AtomicKind::InclusiveOr),
+    ("Min", AtomicKind::Min),
+    ("Max", AtomicKind::Max),
+    ("Exchange", AtomicKind::Exchange),
 ];
 
-impl Word for LevelKind {
-    ghost table = { level_kinds };
+impl Word for AtomicKind {
+    ghost table = { atomic_kinds };
 
-    fn table() -> &'static [(&'static str, LevelKind)] {
-        &LEVEL_KINDS
+    fn table() -> &'static [(&'static str, AtomicKind)] {
+        &ATOMIC_KINDS
     }
 }
 
-/// What may be asked of an image.
+/// The kinds of gathers.
 #[derive(Clone, Copy, PartialEq, Eq, Debug)]
-pub enum QueryKind {
-    Size,
-    NumLevels,
-    NumLayers,
-    NumSamples,
+pub enum GatherKind {
+    BroadcastFirst,
+    Broadcast,
+    Shuffle,
+    ShuffleDown,
+    ShuffleUp,
+    ShuffleXor,
+    QuadBroadcast,
+    QuadSwap,
 }
 
-static QUERY_KINDS: [(&str, QueryKind); 4] = [
-    ("Size", QueryKind::Size),
-    ("NumLevels", QueryKind::NumLevels),
-    ("NumLayers", QueryKind::NumLayers),
-    ("NumSamples", QueryKind::NumSamples),
+static GATHER_KINDS: [(&str, GatherKind); 8] = [
+    ("BroadcastFirst", GatherKind::BroadcastFirst),
+    ("Broadcast", GatherKind::Broadcast),
+    ("Shuffle", GatherKind::Shuffle),
+    ("ShuffleDown", GatherKind::ShuffleDown),
+    ("ShuffleUp", GatherKind::ShuffleUp),
+    ("ShuffleXor", GatherKind::ShuffleXor),
+    ("QuadBroadcast", GatherKind::QuadBroadcast),
+    ("QuadSwap", GatherKind::QuadSwap),
 ];
 
-impl Word for QueryKind {
-    ghost table = { query_kinds };
+impl Word for GatherKind {
+    ghost table = { gather_kinds };
 
-    fn table() -> &'static [(&'static str, QueryKind)] {
-        &QUERY_KINDS
+    fn table() -> &'static [(&'static str, GatherKind)] {
+        &GATHER_KINDS
+    }
+}
+
+/// What may be done with a ray query.
+#[derive(Clone, Copy, PartialEq, Eq, Debug)]
+pub enum RayQueryKind {
+    Initialize,
+    Proceed,
+    GenerateIntersection,
+    ConfirmIntersection,
+    Terminate,
+}
+
+static RAY_QUERY_KINDS: [(&str, RayQueryKind); 5] = [
+    ("Initialize", RayQueryKind::Initialize),
+    ("Proceed", RayQueryKind::Proceed),
+    ("GenerateIntersection", RayQueryKind::GenerateIntersection),
+    ("ConfirmIntersection", RayQueryKind::ConfirmIntersection),
+    ("Terminate", RayQueryKind::Terminate),
+];
+
+impl Word for RayQueryKind {
+    ghost table = { ray_query_kinds };
+
+    fn table() -> &'static [(&'static str, RayQueryKind)] {
+        &RAY_QUERY_KINDS
+    }
+}
+
+/// What a ray pipeline may do.
+#[derive(Clone, Copy, PartialEq, Eq, Debug)]
+pub enum PipelineKind {
+    TraceRay,
+}
+
+static PIPELINE_KINDS: [(&str, PipelineKind); 1] = [("TraceRay", PipelineKind::TraceRay)];
+
+impl Word for PipelineKind {
+    ghost table = { pipeline_kinds };
+
+    fn table() -> &'static [(&'static str, PipelineKind)] {
+        &PIPELINE_KINDS
+    }
+}
+
+/// The kinds of statements.
+#[derive(Clone, Copy, PartialEq, Eq, Debug)]
+pub enum StatementKind {
+    Emit,
+    Block,
+    If,
+    Switch,
+    Loop,
+    Break,
+    Continue,
+    Return,
+    Kill,
+    ControlBarrier,
+    MemoryBarrier,
+    Store,
+    ImageStore,
+    Atomic,
+    ImageAtomic,
+    WorkGroupUniformLoad,
+    Call,
+    RayQuery,
+    SubgroupBallot,
+    SubgroupCollectiveOperation,
+    SubgroupGather,
+    CooperativeStore,
+    RayPipelineFunction,
+}
+
+static STATEMENT_KINDS: [(&str, StatementKind); 23] = [
+    ("Emit", StatementKind::Emit),
+    ("Block", StatementKind::Block),
+    ("If", StatementKind::If),
+    ("Switch", StatementKind::Switch),
+    ("Loop", StatementKind::Loop),
+    ("Break", StatementKind::Break),
+    ("Continue", StatementKind::Continue),
+    ("Return", StatementKind::Return),
+    ("Kill", StatementKind::Kill),
+    ("ControlBarrier", StatementKind::ControlBarrier),
+    ("MemoryBarrier", StatementKind::MemoryBarrier),
+    ("Store", StatementKind::Store),
+    ("ImageStore", StatementKind::ImageStore),
+    ("Atomic", StatementKind::Atomic),
+    ("ImageAtomic", StatementKind::ImageAtomic),
+    ("WorkGroupUniformLoad", StatementKind::WorkGroupUniformLoad),
+    ("Call", StatementKind::Call),
+    ("RayQuery", StatementKind::RayQuery),
+    ("SubgroupBallot", StatementKind::SubgroupBallot),
+    (
+        "SubgroupCollectiveOperation",
+        StatementKind::SubgroupCollectiveOperation,
+    ),
+    ("SubgroupGather", StatementKind::SubgroupGather),
+    ("CooperativeStore", StatementKind::CooperativeStore),
+    ("RayPipelineFunction", StatementKind::RayPipelineFunction),
+];
+
+impl Word for StatementKind {
+    ghost table = { statement_kinds };
+
+    fn table() -> &'static [(&'static str, StatementKind)] {
+        &STATEMENT_KINDS
     }
 }

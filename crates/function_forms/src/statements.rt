@@ -8,8 +8,8 @@ ghost use Rattle.document_forms.specs.Find.{all_of};
 ghost use Rattle.function_forms.specs.Statements.{statement_at, statement_with, block_at, case_with, a_body};
 
 use crate::acts;
+use crate::kinds::StatementKind;
 use crate::parts::ValueForm;
-use crate::statement_kinds::StatementKind;
 use document_forms::{At, Form, Maybe, ReadError, Truth, Wanted, read_at, read_tag};
 use document_rows::{End, Row, split_part};
 use ir_arena::span::Span;

@@ -1,0 +1,12 @@
+//! The written forms of expressions.
+#![tactic(auto)]
+
+mod expressions;
+mod images;
+mod kinds;
+mod literals;
+
+pub use expressions::ExpressionForm;
+pub use images::{LevelForm, PatternForm, QueryForm};
+pub use kinds::{ExpressionKind, LevelKind, LiteralKind, QueryKind};
+pub use literals::LiteralRow;
