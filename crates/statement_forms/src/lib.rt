@@ -1,0 +1,11 @@
+//! The written forms of statements and of bodies.
+#![tactic(auto)]
+
+mod acts;
+mod kinds;
+mod parts;
+mod statements;
+
+pub use kinds::{AtomicKind, GatherKind, PipelineKind, RayQueryKind, StatementKind, ValueKind};
+pub use parts::{AtomicForm, GatherForm, PipelineForm, RayQueryForm, ValueForm};
+pub use statements::BodyForm;
