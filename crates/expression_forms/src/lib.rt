@@ -8,5 +8,4 @@ mod literals;
 
 pub use expressions::ExpressionForm;
 pub use images::{LevelForm, PatternForm, QueryForm};
-pub use kinds::{ExpressionKind, LevelKind, LiteralKind, QueryKind};
 pub use literals::LiteralRow;

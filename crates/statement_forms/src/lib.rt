@@ -6,6 +6,5 @@ mod kinds;
 mod parts;
 mod statements;
 
-pub use kinds::{AtomicKind, GatherKind, PipelineKind, RayQueryKind, StatementKind, ValueKind};
 pub use parts::{AtomicForm, GatherForm, PipelineForm, RayQueryForm, ValueForm};
 pub use statements::BodyForm;
