@@ -7,7 +7,7 @@ use Rattle.document_words.specs.Tables.{flags, capabilities, stages, operations}
 use Rattle.document_words.specs.Unions.{flag_union, capability_union, stage_union, operation_union}
 use Rattle.document_forms.specs.Form.{ABool, ASet, AnArray, AList, Ends, ◌▸◌}
 use Rattle.item_forms.specs.Form.{AType}
-use Rattle.function_forms.specs.Form.{AnExpression}
+use Rattle.expression_forms.specs.Form.{AnExpression}
 use Rattle.item_forms.specs.ItemForm.{ASpecial, AllFilters, AConstant, AnOverride, AGlobal}
 use Rattle.function_forms.specs.FunctionForm.{AFunction}
 use Rattle.function_forms.specs.EntryForm.{AnEntry}

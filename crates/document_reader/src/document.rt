@@ -19,7 +19,8 @@ use document_forms::{
 };
 use document_model::{Document, Settings};
 use document_rows::{InArray, Row, split_part};
-use function_forms::{EntryForm, ExpressionForm, FunctionForm};
+use expression_forms::ExpressionForm;
+use function_forms::{EntryForm, FunctionForm};
 use ir_arena::unique_arena::UniqueArena;
 use ir_flags::{Capabilities, ShaderStages, SubgroupOperationSet, ValidationFlags};
 use ir_items::Module;

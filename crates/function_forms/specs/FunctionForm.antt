@@ -1,12 +1,11 @@
 -- How functions are written.
 use Rattle.serde_json.specs.Data.{Data}
-use Rattle.ir_blocks.specs.Plain.{PlainBlock}
 use Rattle.ir_items.specs.Plain.{PlainArgument, PlainLocal, PlainFunction}
 use Rattle.ir_items.specs.declared.functions.FunctionResult.{FunctionResult}
 use Rattle.document_forms.specs.Form.{AHandle, AText, Maybe, AnArray, AList, Ends, ◌▸◌}
 use Rattle.item_forms.specs.Form.{ABinding}
-use Rattle.function_forms.specs.Form.{AnExpression}
-use Rattle.function_forms.specs.StatementForm.{TheStatements}
+use Rattle.expression_forms.specs.Form.{AnExpression}
+use Rattle.statement_forms.specs.StatementForm.{ABody}
 
 abbrev pub AnArgument : PlainArgument → Data → Type 0
 AnArgument a = AnArray (Maybe AText a.name ▸ AHandle a.ty ▸ Maybe ABinding a.binding ▸ Ends)
@@ -16,9 +15,6 @@ AResult r = AnArray (AHandle r.ty ▸ Maybe ABinding r.binding ▸ Ends)
 
 abbrev pub ALocal : PlainLocal → Data → Type 0
 ALocal l = AnArray (Maybe AText l.name ▸ AHandle l.ty ▸ Maybe AHandle l.init ▸ Ends)
-
-abbrev pub ABody : PlainBlock → Data → Type 0
-ABody b = AnArray (TheStatements b)
 
 abbrev pub AFunction : PlainFunction → Data → Type 0
 AFunction f =

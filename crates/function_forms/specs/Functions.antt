@@ -7,8 +7,8 @@ use Rattle.document_forms.specs.Forms.{a_handle, a_text, maybe, a_list, an_array
 use Rattle.document_rows.specs.Rows.{row2, row3, row7}
 use Rattle.item_forms.specs.Types.{a_binding}
 use Rattle.item_forms.specs.Items.{a_stage, an_early, the_sizes, a_mesh}
-use Rattle.function_forms.specs.Expressions.{an_expression}
-use Rattle.function_forms.specs.Statements.{a_body}
+use Rattle.expression_forms.specs.Expressions.{an_expression}
+use Rattle.statement_forms.specs.Statements.{a_body}
 use Rattle.function_forms.specs.FunctionForm.{AnArgument, AResult, ALocal, AFunction}
 use Rattle.function_forms.specs.EntryForm.{AnEntry}
 

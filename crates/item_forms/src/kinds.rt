@@ -4,7 +4,7 @@ ghost use Rattle.item_forms.specs.Kinds.{storage_kinds, array_size_kinds, class_
 use document_words::Word;
 
 /// The address spaces that are more than a word.
-#[derive(Clone, Copy, PartialEq, Eq, Debug)]
+#[derive(Clone, Copy)]
 pub enum StorageKind {
     Storage,
 }
@@ -20,7 +20,7 @@ impl Word for StorageKind {
 }
 
 /// The kinds of sizes of arrays.
-#[derive(Clone, Copy, PartialEq, Eq, Debug)]
+#[derive(Clone, Copy)]
 pub enum SizeKind {
     Constant,
     Pending,
@@ -42,7 +42,7 @@ impl Word for SizeKind {
 }
 
 /// The kinds of images.
-#[derive(Clone, Copy, PartialEq, Eq, Debug)]
+#[derive(Clone, Copy)]
 pub enum ClassKind {
     Sampled,
     Depth,
@@ -66,7 +66,7 @@ impl Word for ClassKind {
 }
 
 /// The kinds of bindings.
-#[derive(Clone, Copy, PartialEq, Eq, Debug)]
+#[derive(Clone, Copy)]
 pub enum BindingKind {
     BuiltIn,
     Location,
@@ -86,7 +86,7 @@ impl Word for BindingKind {
 }
 
 /// The kinds of types.
-#[derive(Clone, Copy, PartialEq, Eq, Debug)]
+#[derive(Clone, Copy)]
 pub enum InnerKind {
     Scalar,
     Vector,
@@ -130,7 +130,7 @@ impl Word for InnerKind {
 }
 
 /// The kinds of rules that filters name.
-#[derive(Clone, Copy, PartialEq, Eq, Debug)]
+#[derive(Clone, Copy)]
 pub enum RuleKind {
     Standard,
     Unknown,
@@ -152,7 +152,7 @@ impl Word for RuleKind {
 }
 
 /// The kinds of predeclared types.
-#[derive(Clone, Copy, PartialEq, Eq, Debug)]
+#[derive(Clone, Copy)]
 pub enum PredeclaredKind {
     AtomicCompareExchangeWeakResult,
     ModfResult,
@@ -177,7 +177,7 @@ impl Word for PredeclaredKind {
 }
 
 /// The kinds of early depth tests.
-#[derive(Clone, Copy, PartialEq, Eq, Debug)]
+#[derive(Clone, Copy)]
 pub enum EarlyKind {
     Force,
     Allow,

@@ -15,9 +15,6 @@ pub use bindings::{BindingForm, BuiltInRow, ResourceForm};
 pub use entry::{EarlyForm, MeshForm, SizesForm, StageForm};
 pub use filters::{FilterForm, FiltersForm, RuleForm};
 pub use globals::{ConstantForm, GlobalForm, OverrideForm};
-pub use kinds::{
-    BindingKind, ClassKind, EarlyKind, InnerKind, PredeclaredKind, RuleKind, SizeKind, StorageKind,
-};
 pub use spaces::{ArraySizeForm, ClassForm, Positive, SpaceForm, StorageForm};
 pub use special::{PairForm, PairsForm, PredeclaredForm, SpecialForm};
 pub use types::{InnerForm, MemberForm, TypeForm};

@@ -1,6 +1,7 @@
 // Items of the IR: how a line of the input gives them, how they are copied, and what is told of them.
 use document_reader::read_document;
-use function_forms::{BodyForm, EntryForm, ExpressionForm, FunctionForm, LocalForm};
+use expression_forms::ExpressionForm;
+use function_forms::{EntryForm, FunctionForm, LocalForm};
 use ir_items::{
     Block, Constant, DiagnosticFilterNode, EntryPoint, Expression, Function, GlobalVariable,
     IrType, LocalVariable, Module, Override, SpecialTypes,
@@ -8,6 +9,7 @@ use ir_items::{
 use item_forms::{ConstantForm, FilterForm, GlobalForm, OverrideForm, SpecialForm, TypeForm};
 use module_builder::into_module;
 use serde_json::Value;
+use statement_forms::BodyForm;
 use std::alloc::{AllocError, Global};
 use test_support::call::{no_call, told};
 use test_support::forms::found;

@@ -1,10 +1,10 @@
 // The kinds of statements and of their parts, by their words.
-ghost use Rattle.function_forms.specs.Kinds.{value_kinds, atomic_kinds, gather_kinds, ray_query_kinds, pipeline_kinds, statement_kinds};
+ghost use Rattle.statement_forms.specs.Kinds.{value_kinds, atomic_kinds, gather_kinds, ray_query_kinds, pipeline_kinds, statement_kinds};
 
 use document_words::Word;
 
 /// The kinds of values of a switch.
-#[derive(Clone, Copy, PartialEq, Eq, Debug)]
+#[derive(Clone, Copy)]
 pub enum ValueKind {
     I32,
     U32,
@@ -26,7 +26,7 @@ impl Word for ValueKind {
 }
 
 /// The kinds of atomic functions.
-#[derive(Clone, Copy, PartialEq, Eq, Debug)]
+#[derive(Clone, Copy)]
 pub enum AtomicKind {
     Add,
     Subtract,
@@ -58,7 +58,7 @@ impl Word for AtomicKind {
 }
 
 /// The kinds of gathers.
-#[derive(Clone, Copy, PartialEq, Eq, Debug)]
+#[derive(Clone, Copy)]
 pub enum GatherKind {
     BroadcastFirst,
     Broadcast,
@@ -90,7 +90,7 @@ impl Word for GatherKind {
 }
 
 /// What may be done with a ray query.
-#[derive(Clone, Copy, PartialEq, Eq, Debug)]
+#[derive(Clone, Copy)]
 pub enum RayQueryKind {
     Initialize,
     Proceed,
@@ -116,7 +116,7 @@ impl Word for RayQueryKind {
 }
 
 /// What a ray pipeline may do.
-#[derive(Clone, Copy, PartialEq, Eq, Debug)]
+#[derive(Clone, Copy)]
 pub enum PipelineKind {
     TraceRay,
 }
@@ -132,7 +132,7 @@ impl Word for PipelineKind {
 }
 
 /// The kinds of statements.
-#[derive(Clone, Copy, PartialEq, Eq, Debug)]
+#[derive(Clone, Copy)]
 pub enum StatementKind {
     Emit,
     Block,

@@ -89,3 +89,6 @@ abbrev mutual
   pub TheCases : PlainCases → Items → Type 0
   TheCases no_case = Ends
   TheCases (case value body falls rest) = Starts (AnArray (AValue value ▸ AnArray (TheStatements body) ▸ ABool falls ▸ Ends)) (TheCases rest)
+
+abbrev pub ABody : PlainBlock → Data → Type 0
+ABody b = AnArray (TheStatements b)

@@ -3,10 +3,10 @@ ghost use Rattle.std.specs.Prelude.{◌≡◌, option_map};
 ghost use Rattle.serde_json.specs.View.{items_view};
 ghost use Rattle.ir_blocks.specs.View.{statement_view};
 ghost use Rattle.document_forms.specs.Answers.{Answers};
-ghost use Rattle.function_forms.specs.Statements.{no_blocks, statement_with};
+ghost use Rattle.statement_forms.specs.Statements.{no_blocks, statement_with};
 
+use crate::kinds::StatementKind;
 use crate::parts::{AtomicForm, GatherForm, PipelineForm, RayQueryForm};
-use crate::statement_kinds::StatementKind;
 use document_forms::{At, Each, Maybe, ReadError, SetOf, Truth, U32, WordOf};
 use document_rows::{End, read_items};
 use ir_arena::range::Range;

@@ -23,20 +23,20 @@ use Rattle.document_forms.specs.Inverse.{map_some}
 use Rattle.document_forms.specs.KindLaws.{AreSound, kind_sound, tagged_complete, tagged_sound}
 use Rattle.document_forms.specs.Forms.{a_signed, a_handle, a_u32, a_bool, a_word, a_set, maybe, a_list, ends, an_array, by_kind}
 use Rattle.document_rows.specs.Rows.{row1, row2, row3, row4, row5}
-use Rattle.function_forms.specs.StatementForm.{AValue, AnAtomic, AGather, AQueryFunction, APipeline, AnAct, AStatement, TheStatements, TheCases}
-use Rattle.function_forms.specs.Kinds.{value_kinds, atomic_kinds, gather_kinds, ray_query_kinds, pipeline_kinds, statement_kinds}
-use Rattle.function_forms.specs.declared.statement_kinds.ValueKind.{ValueKind}
-use Rattle.function_forms.specs.declared.statement_kinds.ValueKind.TheVariants as value_kind
-use Rattle.function_forms.specs.declared.statement_kinds.AtomicKind.{AtomicKind}
-use Rattle.function_forms.specs.declared.statement_kinds.AtomicKind.TheVariants as atomic_kind
-use Rattle.function_forms.specs.declared.statement_kinds.GatherKind.{GatherKind}
-use Rattle.function_forms.specs.declared.statement_kinds.GatherKind.TheVariants as gather_kind
-use Rattle.function_forms.specs.declared.statement_kinds.RayQueryKind.{RayQueryKind}
-use Rattle.function_forms.specs.declared.statement_kinds.RayQueryKind.TheVariants as ray_query_kind
-use Rattle.function_forms.specs.declared.statement_kinds.PipelineKind.{PipelineKind}
-use Rattle.function_forms.specs.declared.statement_kinds.PipelineKind.TheVariants as pipeline_kind
-use Rattle.function_forms.specs.declared.statement_kinds.StatementKind.{StatementKind}
-use Rattle.function_forms.specs.declared.statement_kinds.StatementKind.TheVariants as statement_kind
+use Rattle.statement_forms.specs.StatementForm.{AValue, AnAtomic, AGather, AQueryFunction, APipeline, AnAct, AStatement, TheStatements, TheCases, ABody}
+use Rattle.statement_forms.specs.Kinds.{value_kinds, atomic_kinds, gather_kinds, ray_query_kinds, pipeline_kinds, statement_kinds}
+use Rattle.statement_forms.specs.declared.kinds.ValueKind.{ValueKind}
+use Rattle.statement_forms.specs.declared.kinds.ValueKind.TheVariants as value_kind
+use Rattle.statement_forms.specs.declared.kinds.AtomicKind.{AtomicKind}
+use Rattle.statement_forms.specs.declared.kinds.AtomicKind.TheVariants as atomic_kind
+use Rattle.statement_forms.specs.declared.kinds.GatherKind.{GatherKind}
+use Rattle.statement_forms.specs.declared.kinds.GatherKind.TheVariants as gather_kind
+use Rattle.statement_forms.specs.declared.kinds.RayQueryKind.{RayQueryKind}
+use Rattle.statement_forms.specs.declared.kinds.RayQueryKind.TheVariants as ray_query_kind
+use Rattle.statement_forms.specs.declared.kinds.PipelineKind.{PipelineKind}
+use Rattle.statement_forms.specs.declared.kinds.PipelineKind.TheVariants as pipeline_kind
+use Rattle.statement_forms.specs.declared.kinds.StatementKind.{StatementKind}
+use Rattle.statement_forms.specs.declared.kinds.StatementKind.TheVariants as statement_kind
 
 -- ---- the parts of statements that are tagged themselves
 
@@ -277,9 +277,6 @@ statement_at (suc n) d = tagged_of statement_kinds (statement_with (λ b. option
 abbrev pub block_at : ℕ → Data → Option PlainBlock
 block_at n d = option_map block_of (all_of (statement_at n) d)
 
-abbrev pub ABlock : PlainBlock → Data → Type 0
-ABlock b = AnArray (TheStatements b)
-
 abbrev pub ACase : PlainCase → Data → Type 0
 ACase c = AnArray (AValue c.value ▸ AnArray (TheStatements c.body) ▸ ABool c.falls ▸ Ends)
 
@@ -314,7 +311,7 @@ tagged_within w q s n d le h g = array_within _ _ n d le h (λ es l row. starts_
 
 -- ---- what is found is what the form says
 
-module _ (inside : Data → Option PlainBlock) (sound : (d : Data) (b : PlainBlock) → inside d ≡ Some b → ABlock b d) where
+module _ (inside : Data → Option PlainBlock) (sound : (d : Data) (b : PlainBlock) → inside d ≡ Some b → ABody b d) where
   case_sound : (d : Data) (c : PlainCase) → case_with inside d ≡ Some c → ACase c d
   unfolding case_with
   case_sound d c e =
@@ -401,11 +398,11 @@ module _ (inside : Data → Option PlainBlock) (sound : (d : Data) (b : PlainBlo
     ),
   )
 
-block_sound-of : (n : ℕ) → ((d : Data) (s : PlainStatement) → statement_at n d ≡ Some s → AStatement s d) → (d : Data) (b : PlainBlock) → block_at n d ≡ Some b → ABlock b d
+block_sound-of : (n : ℕ) → ((d : Data) (s : PlainStatement) → statement_at n d ≡ Some s → AStatement s d) → (d : Data) (b : PlainBlock) → block_at n d ≡ Some b → ABody b d
 block_sound-of n sound d b e =
     let f = a_list (a_found (statement_at n)) in
     let a = map_some block_of (f.find d) b e in
-    subst (λ y. ABlock y d) a.2 (array_map _ _ d (f.exact.sound d a.0 a.1) (statements_found a.0))
+    subst (λ y. ABody y d) a.2 (array_map _ _ d (f.exact.sound d a.0 a.1) (statements_found a.0))
   where
     statements_found : (xs : List PlainStatement) (ds : Items) → EachOf (Found (statement_at n)) xs ds → TheStatements (block_of xs) ds
     statements_found [] no_items h = tt
@@ -449,7 +446,7 @@ module _ (n : ℕ) (complete_at : (d : Data) (s : PlainStatement) → AStatement
       let r = statements_there rest ds h.1 (omega arith) in
       (s ∷ r.0, rw (complete_at d s h.0 (omega arith)) (rw r.1 refl), ap (next s) r.2)
 
-  block_there : (d : Data) (b : PlainBlock) → ABlock b d → depth d ≤ n → block_at n d ≡ Some b
+  block_there : (d : Data) (b : PlainBlock) → ABody b d → depth d ≤ n → block_at n d ≡ Some b
   block_there null b h le = absurd h
   block_there (boolean c) b h le = absurd h
   block_there (number m) b h le = absurd h
@@ -533,8 +530,8 @@ statement_complete (suc n) bound d s h le = there n bound (statement_complete n 
 pub block_complete : (n : ℕ) → n ≤ deepest → (d : Data) (b : PlainBlock) → AnArray (TheStatements b) d → depth d ≤ n → block_at n d ≡ Some b
 block_complete n bound d b h le = block_there n (statement_complete n bound) d b h le
 
-pub body_exact : IsExact (block_at deepest) ABlock
+pub body_exact : IsExact (block_at deepest) ABody
 body_exact = record { sound = block_sound deepest; complete = block_complete deepest (omega arith) }
 
 abbrev pub a_body : FormOf PlainBlock
-a_body = record { find = block_at deepest; Written = ABlock; exact = body_exact }
+a_body = record { find = block_at deepest; Written = ABody; exact = body_exact }

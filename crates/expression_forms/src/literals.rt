@@ -3,7 +3,7 @@ ghost use Rattle.std.specs.Prelude.{◌≡◌, option_map};
 ghost use Rattle.serde_json.specs.View.{items_view};
 ghost use Rattle.ir_kinds.specs.declared.values.Literal.{Literal};
 ghost use Rattle.document_forms.specs.Answers.{Answers};
-ghost use Rattle.function_forms.specs.Expressions.{literal_with, a_literal};
+ghost use Rattle.expression_forms.specs.Expressions.{literal_with, a_literal};
 
 use crate::kinds::LiteralKind;
 use document_forms::{I16, I32, I64, ReadError, Truth, U16, U32, U64, split_tag};

@@ -1,10 +1,10 @@
 // The kinds of expressions and of their parts, by their words.
-ghost use Rattle.function_forms.specs.Kinds.{expression_kinds, literal_kinds, level_kinds, query_kinds};
+ghost use Rattle.expression_forms.specs.Kinds.{expression_kinds, literal_kinds, level_kinds, query_kinds};
 
 use document_words::Word;
 
 /// The kinds of expressions.
-#[derive(Clone, Copy, PartialEq, Eq, Debug)]
+#[derive(Clone, Copy)]
 pub enum ExpressionKind {
     Literal,
     Constant,
@@ -106,7 +106,7 @@ impl Word for ExpressionKind {
 }
 
 /// The scalars that a literal may be of.
-#[derive(Clone, Copy, PartialEq, Eq, Debug)]
+#[derive(Clone, Copy)]
 pub enum LiteralKind {
     Bool,
     I16,
@@ -146,7 +146,7 @@ impl Word for LiteralKind {
 }
 
 /// The kinds of levels of detail.
-#[derive(Clone, Copy, PartialEq, Eq, Debug)]
+#[derive(Clone, Copy)]
 pub enum LevelKind {
     Auto,
     Zero,
@@ -172,7 +172,7 @@ impl Word for LevelKind {
 }
 
 /// What may be asked of an image.
-#[derive(Clone, Copy, PartialEq, Eq, Debug)]
+#[derive(Clone, Copy)]
 pub enum QueryKind {
     Size,
     NumLevels,

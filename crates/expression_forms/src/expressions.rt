@@ -3,7 +3,7 @@ ghost use Rattle.std.specs.Prelude.{◌≡◌, option_map};
 ghost use Rattle.serde_json.specs.View.{view as data_of, items_view};
 ghost use Rattle.ir_expressions.specs.Plain.{PlainExpression, expression_view};
 ghost use Rattle.document_forms.specs.Answers.{Answers};
-ghost use Rattle.function_forms.specs.Expressions.{expression_with, an_expression};
+ghost use Rattle.expression_forms.specs.Expressions.{expression_with, an_expression};
 
 use crate::images::{LevelForm, PatternForm, QueryForm};
 use crate::kinds::ExpressionKind;

@@ -3,7 +3,7 @@ ghost use Rattle.std.specs.Prelude.{◌≡◌, List, option_map};
 ghost use Rattle.ir_kinds.specs.declared.scalars.SwizzleComponent.{SwizzleComponent};
 ghost use Rattle.ir_expressions.specs.declared.expressions.SampleLevel.{SampleLevel};
 ghost use Rattle.ir_expressions.specs.declared.expressions.ImageQuery.{ImageQuery};
-ghost use Rattle.function_forms.specs.Expressions.{letter_in, next_letter, last_letter, pattern_in, a_level, a_query, a_pattern};
+ghost use Rattle.expression_forms.specs.Expressions.{letter_in, next_letter, last_letter, pattern_in, a_level, a_query, a_pattern};
 
 use crate::kinds::{LevelKind, QueryKind};
 use document_forms::{At, Form, Maybe, ReadError, Wanted, read_tag};
