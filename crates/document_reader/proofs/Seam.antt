@@ -17,7 +17,8 @@ use Rattle.ir_flags.specs.declared.stages.SubgroupOperationSet.{SubgroupOperatio
 use Rattle.ir_types.specs.Plain.{PlainType}
 use Rattle.ir_items.specs.Plain.{PlainModule}
 use Rattle.document_reader.specs.Documents.{ListParts, made_of, a_version, the_flags, the_capabilities, the_subgroups, the_lists, the_parts, version_of, document_made, a_document, front, content_of, content_in, parts_in, document_in, settings_of}
-use Rattle.document_reader.specs.Form.{ADocument, max_len, Reads, OneDocument}
+use Rattle.document_reader.specs.Form.{ADocument, Reads, OneDocument}
+use Rattle.document_reader.specs.declared.reading.TheConstants.{MAX_LEN}
 
 -- ---- read part by part, and as a row
 
@@ -85,7 +86,7 @@ found_in bytes v d value r =
     let same : r.value ≡ v = some_is _ _ (sym r.value_is ∙ value) in
     document_is v ∙ a_document.exact.complete v d (subst (ADocument d) same r.form) (depth-read bytes v value)
 
-pub reads_document : (bytes : List ℕ) (v : Data) (d : PlainDocument) → length bytes ≤ max_len → IsUtf8 bytes × (read bytes ≡ Some v) → Some d ≡ document_in v → AreDistinct d.content.types → Reads bytes d
+pub reads_document : (bytes : List ℕ) (v : Data) (d : PlainDocument) → length bytes ≤ MAX_LEN → IsUtf8 bytes × (read bytes ≡ Some v) → Some d ≡ document_in v → AreDistinct d.content.types → Reads bytes d
 reads_document bytes v d short u found distinct =
     record { short = short; utf8 = u.0; value = v; value_is = u.1; form = a_document.exact.sound v d (sym (document_is v) ∙ sym found); distinct = distinct }
 

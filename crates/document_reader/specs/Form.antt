@@ -11,6 +11,7 @@ use Rattle.expression_forms.specs.Form.{AnExpression}
 use Rattle.item_forms.specs.ItemForm.{ASpecial, AllFilters, AConstant, AnOverride, AGlobal}
 use Rattle.function_forms.specs.FunctionForm.{AFunction}
 use Rattle.function_forms.specs.EntryForm.{AnEntry}
+use Rattle.document_reader.specs.declared.reading.TheConstants.{MAX_LEN}
 use Rattle.document_model.specs.Distinct.{AreDistinct}
 use Rattle.document_model.specs.Plain.{PlainDocument}
 
@@ -28,13 +29,10 @@ abbrev pub ADocument : PlainDocument → Data → Type 0
 ADocument d =
     AnArray (IsVersion ▸ ASet flags (record { 0 = 0 }) flag_union d.settings.flags ▸ ASet capabilities (record { 0 = 0 }) capability_union d.settings.capabilities ▸ TheSubgroups d.settings ▸ ABool d.settings.returns ▸ AList AType d.content.types ▸ ASpecial d.content.special ▸ AllFilters (d.content.filters, d.content.leaf) ▸ AList AConstant d.content.constants ▸ AList AnOverride d.content.overrides ▸ AList AnExpression d.content.global_expressions ▸ AList AGlobal d.content.globals ▸ AList AFunction d.content.functions ▸ AList AnEntry d.content.entries ▸ Ends)
 
-abbrev pub max_len : ℕ
-max_len = 16777216
-
 -- The bytes are few enough, the JSON reader reads them as a value, that value is written for the document, and no two
 -- of its types are equal.
 pub record Reads (bytes : List ℕ) (d : PlainDocument) : Type 0 where
-  pub short : length bytes ≤ max_len
+  pub short : length bytes ≤ MAX_LEN
   pub utf8 : IsUtf8 bytes
   pub value : Data
   pub value_is : read bytes ≡ Some value

@@ -10,4 +10,4 @@ mod reading;
 pub use document::VersionForm;
 pub use document_model::{Document, Settings};
 pub use error::DocumentError;
-pub use reading::read_document;
+pub use reading::{MAX_LEN, read_document};

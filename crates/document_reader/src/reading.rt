@@ -11,7 +11,8 @@ use document_model::Document;
 use serde_json::Value;
 use std::alloc::Global;
 
-const MAX_LEN: usize = 16777216;
+/// How many bytes a document may have.
+pub const MAX_LEN: usize = 16777216;
 
 /// The document that the bytes spell. An error other than [`DocumentError::Memory`] says that they spell none, and
 /// where that shows.

@@ -9,7 +9,7 @@ use Rattle.ir_items.specs.Plain.{PlainModule}
 use Rattle.judgement.specs.Steps.{IsFinding, IsPrepared}
 use Rattle.judgement.specs.declared.finding.Finding.{Finding}
 use Rattle.judgement.specs.declared.finding.Finding.TheVariants.{Accepted, RefusedDocument, RefusedHandles, Refused}
-use Rattle.shader_check.specs.Judged.{Judged, JudgedDocument}
+use Rattle.shader_check.specs.Theorem.{Judged, JudgedDocument}
 
 found_in : (d : PlainDocument) (m : PlainModule) (f : Finding) → IsWithin d → IsPrepared d.settings.returns d.content m → IsFinding d.settings m f → JudgedDocument d f
 found_in d m RefusedDocument w p h = absurd h

@@ -10,6 +10,6 @@ pub mod RuleLaws
 pub mod FunctionLaws
 pub mod FindingLaws
 pub mod JudgedLaws
-pub mod Due
+pub mod Expected
 pub mod Once
 pub mod DistinctLemmas

@@ -1,4 +1,4 @@
--- One text is due for some bytes.
+-- One text is expected for some bytes.
 use Rattle.std.proofs.Common.{◌≡◌, inl, inr, ℕ, Bool, true, false, List, refl, sym, ap, subst, ◌∙◌, arith}
 use Rattle.std.proofs.lemmas.Bool.{cases_lt}
 use Rattle.ir_flags.specs.Settings.{PlainSettings}
@@ -11,7 +11,7 @@ use Rattle.judgement.specs.Text.{text_of}
 use Rattle.judgement.specs.declared.finding.Step.TheVariants.{«Type», Function}
 use Rattle.judgement.specs.declared.finding.Finding.{Finding}
 use Rattle.judgement.specs.declared.finding.Finding.TheVariants.{Accepted, RefusedDocument, RefusedHandles, Refused}
-use Rattle.shader_check.specs.Judged.{Finds, FindsIn, Judged, OneText}
+use Rattle.shader_check.specs.Theorem.{Finds, FindsIn, Judged, OneText}
 
 least_once : {A : Type 0} (P : A → Type 0) (xs : List A) (i j : ℕ) → IsLeastFailing P xs i → IsLeastFailing P xs j → i ≡ j
 least_once P xs i j f g =

@@ -2,8 +2,5 @@ pub mod Everywhere
 pub mod Control
 pub mod Tests
 pub mod Widths
-pub mod Judged
-pub mod Faults
-pub mod Outcome
-pub mod Checks
 pub mod Values
+pub mod Theorem

@@ -3,16 +3,19 @@ ghost use Rattle.std.specs.Prelude.{◌≡◌, false, true, List, IfOk, Err};
 ghost use Rattle.ports.specs.Calls.{Call};
 ghost use Rattle.ports.specs.Sink.{has_failed as sink_failed, writer_of};
 ghost use Rattle.ports.specs.Source.{has_failed as source_failed, reader_of, Reading, ReadingFails};
-ghost use Rattle.shader_check.specs.Checks.{verdict_of, max_taken, max_calls, Answers, AnswersInCalls, BreaksOff, BreaksOffInCalls};
-ghost use Rattle.shader_check.specs.Outcome.{status_of, message_of};
+ghost use Rattle.ports.specs.declared.source.TheConstants.{MAX_CALLS};
+ghost use Rattle.shader_check.specs.declared.check.TheConstants.{MAX_TAKEN};
+ghost use Rattle.shader_check.specs.Theorem.{verdict_of, Answers, AnswersInCalls, BreaksOff, BreaksOffInCalls};
+ghost use Rattle.shader_check.specs.Theorem.{status_of, message_of};
 
 use crate::judge::judge;
+use document_reader::MAX_LEN;
 use judgement::Finding;
-use ports::{ReadCall, Sink, Source, TakeError, WriteCall, WriteFailed};
+use ports::{MAX_CALLS, ReadCall, Sink, Source, TakeError, WriteCall, WriteFailed};
 use std::alloc::{AllocError, Global};
 
-// One byte more than a document may have.
-const MAX_TAKEN: usize = 16777217;
+/// One byte more than a document may have.
+pub const MAX_TAKEN: usize = MAX_LEN + 1;
 
 /// What the document was found to be.
 #[derive(Clone, Copy, Debug, PartialEq, Eq)]
@@ -30,7 +33,7 @@ pub enum Fault {
     Memory,
     /// The reader failed, or was interrupted too often. Nothing was written.
     Read,
-    /// The writer failed, was interrupted or took nothing. It may have taken a front of the text.
+    /// The writer failed, was interrupted or took nothing. It may have taken a prefix of the text.
     Write,
 }
 
@@ -45,7 +48,7 @@ impl From<AllocError> for Fault {
 }
 
 impl From<TakeError> for Fault {
-    ghost use Rattle.shader_check.specs.Faults.{fault_of};
+    ghost use Rattle.shader_check.specs.Theorem.{fault_of};
 
     ghost from_gives = { λ e f. f ≡ fault_of e };
 
@@ -111,11 +114,11 @@ pub fn check_document<R: ReadCall, W: WriteCall>(
     ensures ok_calls { IfOk result (AnswersInCalls R.reads (reader_of source.old)
         (reader_of source.new) W.writes (writer_of sink.old) (writer_of sink.new)) }
     ensures read_calls { result ≡ Err Fault.Read → ReadingFails R.reads (reader_of source.old)
-        (reader_of source.new) max_taken max_calls }
+        (reader_of source.new) MAX_TAKEN MAX_CALLS }
     ensures write_calls { result ≡ Err Fault.Write → BreaksOffInCalls R.reads (reader_of source.old)
         (reader_of source.new) W.writes (writer_of sink.old) (writer_of sink.new) }
     ensures reading { (calls : List Call) × Reading R.reads (reader_of source.old)
-        (reader_of source.new) max_taken max_calls calls }
+        (reader_of source.new) MAX_TAKEN MAX_CALLS calls }
 {
     let bytes = source.take_all(alloc, MAX_TAKEN)?;
     let finding = judge(alloc, &bytes)?;

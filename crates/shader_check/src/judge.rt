@@ -4,7 +4,7 @@ ghost use Rattle.ir_flags.specs.Sets.{Has};
 ghost use Rattle.ir_items.specs.View.{module_view};
 ghost use Rattle.document_model.specs.View.{document_view, settings_view};
 ghost use Rattle.judgement.specs.Steps.{IsFinding, IsPrepared};
-ghost use Rattle.shader_check.specs.Judged.{Judged, JudgedDocument};
+ghost use Rattle.shader_check.specs.Theorem.{Judged, JudgedDocument};
 
 use crate::functions::first_failing_function;
 use crate::handles::handles_in_order;

@@ -1,5 +1,5 @@
 use Rattle.judgement.specs.Text.{text_of}
-use Rattle.shader_check.proofs.Due.{due_for, verdict_is}
+use Rattle.shader_check.proofs.Expected.{expected_for, verdict_is}
 use Rattle.shader_check.proofs.check.check_document.Goals as goal
 
 pub returns-in_err-write_all-clause-write_front : goal.returns-in_err-write_all-clause-write_front
@@ -7,7 +7,7 @@ returns-in_err-write_all-clause-write_front g c = λ _.
     let judged = rw c.deref.ensures.value at c.in_ok-finding.ensures in
     record {
       text = text_of c.in_ok-finding.finding;
-      due = due_for _ _ c.in_ok-bytes.bytes.items _ c.in_ok-bytes.ensures.ok judged;
+      expected = expected_for _ _ c.in_ok-bytes.bytes.items _ c.in_ok-bytes.ensures.ok judged;
       received = rw (← c.in_ok-text.ensures) (rw (← c.as_bytes.ensures.value) c.in_err-write_all.ensures.err);
     }
 
@@ -16,7 +16,7 @@ returns-clause-ok g c =
     let judged = rw c.deref.ensures.value at c.in_ok-finding.ensures in
     record {
       text = text_of c.in_ok-finding.finding;
-      due = due_for _ _ c.in_ok-bytes.bytes.items _ c.in_ok-bytes.ensures.ok judged;
+      expected = expected_for _ _ c.in_ok-bytes.bytes.items _ c.in_ok-bytes.ensures.ok judged;
       received = rw (← c.in_ok-text.ensures) (rw (← c.as_bytes.ensures.value) c.in_ok-write_all.ensures.ok);
       verdict_is = rw c.verdict_of.ensures (verdict_is c.in_ok-finding.finding);
     }

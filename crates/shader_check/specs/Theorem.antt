@@ -1,0 +1,128 @@
+-- The theorem of the program: what is found of bytes, the text that tells it, and what a check reads, writes and answers.
+-- `check_document` and `outcome` are contracted over these words.
+use Rattle.std.specs.Prelude.{◌≡◌, ◌↔◌, ℕ, List, [], Option, IfSome, IsTrue, Result, Ok, Err, codes, nat_eq}
+use Rattle.std.specs.List.{starts_with}
+use Rattle.std.specs.Io.KnownBytes.{Appends}
+use Rattle.ports.specs.Calls.{Call}
+use Rattle.ports.specs.Source.{TakesAll, ReadsAll}
+use Rattle.ports.specs.Sink.{AppendsFront, WritesAll, WritingFails}
+use Rattle.ports.specs.declared.source.TheConstants.{MAX_CALLS}
+use Rattle.ports.specs.declared.source.TakeError.{TakeError}
+use Rattle.ports.specs.declared.source.TakeError.TheVariants as take
+use Rattle.ir_items.specs.Plain.{PlainModule}
+use Rattle.document_model.specs.Plain.{PlainDocument}
+use Rattle.document_within.specs.Scope.{IsWithin}
+use Rattle.document_reader.specs.Form.{Reads}
+use Rattle.judgement.specs.Steps.{IsFinding, IsPrepared}
+use Rattle.judgement.specs.Text.{text_of}
+use Rattle.judgement.specs.declared.finding.Finding.{Finding}
+use Rattle.judgement.specs.declared.finding.Finding.TheVariants as finding
+use Rattle.shader_check.specs.declared.check.TheConstants.{MAX_TAKEN}
+use Rattle.shader_check.specs.declared.check.Verdict.{Verdict}
+use Rattle.shader_check.specs.declared.check.Verdict.TheVariants.{Accepted, Refused}
+use Rattle.shader_check.specs.declared.check.Fault.{Fault}
+use Rattle.shader_check.specs.declared.check.Fault.TheVariants.{Memory, Read, Write}
+
+-- ---- what is found
+
+-- The document is checked so far, and this is found of its module, with returns put in where its settings ask for them.
+pub record FindsIn (d : PlainDocument) (f : Finding) : Type 0 where
+  pub within : IsWithin d
+  pub judged : PlainModule
+  pub prepared : IsPrepared d.settings.returns d.content judged
+  pub finding : IsFinding d.settings judged f
+
+-- The bytes spell a document of which this is found.
+pub record Finds (bytes : List ℕ) (f : Finding) : Type 0 where
+  pub document : PlainDocument
+  pub reads : Reads bytes document
+  pub found : FindsIn document f
+
+-- what the judgement is over a document
+abbrev pub JudgedDocument : PlainDocument → Finding → Type 0
+JudgedDocument d finding.RefusedDocument = ¬ IsWithin d
+JudgedDocument d finding.Accepted = FindsIn d finding.Accepted
+JudgedDocument d finding.RefusedHandles = FindsIn d finding.RefusedHandles
+JudgedDocument d (finding.Refused step index) = FindsIn d (finding.Refused step index)
+
+-- what the judgement is over these bytes
+abbrev pub Judged : List ℕ → Finding → Type 0
+Judged bytes finding.RefusedDocument = (d : PlainDocument) → Reads bytes d → ¬ IsWithin d
+Judged bytes finding.Accepted = Finds bytes finding.Accepted
+Judged bytes finding.RefusedHandles = Finds bytes finding.RefusedHandles
+Judged bytes (finding.Refused step index) = Finds bytes (finding.Refused step index)
+
+-- The text that is expected for these bytes.
+pub record IsExpected (bytes text : List ℕ) : Type 0 where
+  pub finding : Finding
+  pub judged : Judged bytes finding
+  pub text_is : text ≡ text_of finding
+
+-- one text is expected for some bytes
+abbrev pub OneText : Type 0
+OneText = (bytes s t : List ℕ) → IsExpected bytes s → IsExpected bytes t → s ≡ t
+
+-- ---- what a check answers, and what it reads and writes
+
+-- what is answered for a finding
+abbrev pub verdict_of : Finding → Verdict
+verdict_of finding.Accepted = Accepted
+verdict_of finding.RefusedDocument = Refused
+verdict_of finding.RefusedHandles = Refused
+verdict_of (finding.Refused step index) = Refused
+
+-- The text that is expected for what the reader gave, and for all that it had left where that is known.
+pub record IsExpectedFor (old new : Option (List ℕ)) (text : List ℕ) : Type 0 where
+  pub given : List ℕ
+  pub taken : TakesAll old new MAX_TAKEN given
+  pub expected : IsExpected given text
+  pub expected_for_all : IfSome old (λ input. IsExpected input text)
+
+-- The writer received the expected text and nothing else, and the verdict is what the text begins with.
+pub record Answers (left left' held held' : Option (List ℕ)) (verdict : Verdict) : Type 0 where
+  pub text : List ℕ
+  pub expected : IsExpectedFor left left' text
+  pub received : Appends held held' text
+  pub verdict_is : (verdict ≡ Accepted) ↔ IsTrue (starts_with nat_eq text (codes "accepted"))
+
+-- The writer received a prefix of the expected text and nothing else, and not all of it.
+pub record BreaksOff (left left' held held' : Option (List ℕ)) : Type 0 where
+  pub text : List ℕ
+  pub expected : IsExpectedFor left left' text
+  pub received : AppendsFront held held' text
+
+-- The text that is expected for the bytes that calls of the reader gave.
+pub record IsExpectedForCalls {R : Type 0} (reads : R → R → Call → Type 0) (reader reader' : R) (text : List ℕ) : Type 0 where
+  pub given : List ℕ
+  pub read : ReadsAll reads reader reader' MAX_TAKEN MAX_CALLS given
+  pub expected : IsExpected given text
+
+-- Calls of the writer took the expected text whole, and the verdict is what the text begins with.
+pub record AnswersInCalls {R W : Type 0} (reads : R → R → Call → Type 0) (reader reader' : R) (writes : W → W → Call → Type 0) (writer writer' : W) (verdict : Verdict) : Type 0 where
+  pub text : List ℕ
+  pub expected : IsExpectedForCalls reads reader reader' text
+  pub written : WritesAll writes writer writer' text
+  pub verdict_is : (verdict ≡ Accepted) ↔ IsTrue (starts_with nat_eq text (codes "accepted"))
+
+-- Calls of the writer took a prefix of the expected text, and the last of them nothing.
+pub record BreaksOffInCalls {R W : Type 0} (reads : R → R → Call → Type 0) (reader reader' : R) (writes : W → W → Call → Type 0) (writer writer' : W) : Type 0 where
+  pub text : List ℕ
+  pub expected : IsExpectedForCalls reads reader reader' text
+  pub written : WritingFails writes writer writer' text
+
+-- ---- faults, the status and the message
+
+abbrev pub fault_of : TakeError → Fault
+fault_of take.Memory = Memory
+fault_of take.Read = Read
+
+abbrev pub status_of : Result Verdict Fault → ℕ
+status_of (Ok Accepted) = 0
+status_of (Ok Refused) = 1
+status_of (Err f) = 2
+
+abbrev pub message_of : Result Verdict Fault → List ℕ
+message_of (Ok v) = []
+message_of (Err Memory) = codes "fault: memory\n"
+message_of (Err Read) = codes "fault: read\n"
+message_of (Err Write) = codes "fault: write\n"
