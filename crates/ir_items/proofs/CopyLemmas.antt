@@ -36,7 +36,7 @@ plain_functions : (fs : List Function) → map function_view fs ≡ map (λ (s :
 plain_functions [] = refl
 plain_functions (f ∷ fs) = ap (λ rest. function_view f ∷ rest) (plain_functions fs)
 
-plain_entries : (es : List EntryPoint) → map entry_view es ≡ map (λ (s : SpannedEntry). s.plain) (map spanned_entry es)
+pub plain_entries : (es : List EntryPoint) → map entry_view es ≡ map (λ (s : SpannedEntry). s.plain) (map spanned_entry es)
 plain_entries [] = refl
 plain_entries (e ∷ es) = ap (λ rest. entry_view e ∷ rest) (plain_entries es)
 

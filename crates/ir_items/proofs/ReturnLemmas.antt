@@ -11,7 +11,7 @@ use Rattle.ir_items.specs.View.{function_view, entry_view}
 use Rattle.ir_items.specs.declared.entries.EntryPoint.{EntryPoint}
 use Rattle.ir_items.specs.declared.functions.Function.{Function}
 use Rattle.ir_items.specs.declared.module.Module.{Module}
-use Rattle.ir_items.proofs.CopyLemmas.{same_module}
+use Rattle.ir_items.proofs.CopyLemmas.{plain_entries, same_module}
 
 -- the module with these functions and entry points in place of its own
 abbrev pub with_code : Module → List (Function × Span) → Vec EntryPoint Global → Module
@@ -31,10 +31,6 @@ plain_functions (f ∷ fs) = ap (λ rest. function_view f.0 ∷ rest) (plain_fun
 plain_returned : (ss : List (SpannedFunction × Span)) → map (λ (s : SpannedFunction × Span). s.0.plain) (map (entry_of returned_function_spans) ss) ≡ map returned_function (map (λ (s : SpannedFunction × Span). s.0.plain) ss)
 plain_returned [] = refl
 plain_returned (s ∷ ss) = ap (λ rest. returned_function s.0.plain ∷ rest) (plain_returned ss)
-
-plain_entries : (es : List EntryPoint) → map entry_view es ≡ map (λ (s : SpannedEntry). s.plain) (map spanned_entry es)
-plain_entries [] = refl
-plain_entries (e ∷ es) = ap (λ rest. entry_view e ∷ rest) (plain_entries es)
 
 plain_entries_returned : (ss : List SpannedEntry) → map (λ (s : SpannedEntry). s.plain) (map returned_entry_spans ss) ≡ map returned_entry (map (λ (s : SpannedEntry). s.plain) ss)
 plain_entries_returned [] = refl
