@@ -2,6 +2,8 @@
 use crate::types::{rule, value_type};
 use crate::words::{function, item, number, text};
 use anyhow::{Result, anyhow};
+use ir_kinds::MathFunction;
+use ir_types::TypeInner;
 use serde_json::Value;
 use std::alloc::{AllocError, Global};
 use typing_overloads::{AnyOverloadSet, List, MathFunctionExt, OverloadSet, Rule};
@@ -27,10 +29,51 @@ fn argument_counts(set: &AnyOverloadSet) -> Option<(usize, usize)> {
     }
 }
 
-// The rules of a set, one by one.
-fn listed(alloc: Global, set: &AnyOverloadSet) -> Result<AnyOverloadSet, AllocError> {
-    let rules = set.overload_list(alloc)?;
-    Ok(AnyOverloadSet::List(List::from_rules(alloc, rules)?))
+// The set of a function, and a list of its rules.
+#[derive(Drop)]
+struct Both {
+    set: AnyOverloadSet,
+    list: AnyOverloadSet,
+}
+
+impl Both {
+    fn of(alloc: Global, function: MathFunction) -> Result<Both, AllocError> {
+        let set = function.overloads(alloc)?;
+        let list = List::from_rules(alloc, set.overload_list(alloc)?)?;
+        Ok(Both {
+            set,
+            list: AnyOverloadSet::List(list),
+        })
+    }
+
+    fn arg(&self, alloc: Global, place: usize, given: &TypeInner) -> Result<Both, AllocError> {
+        Ok(Both {
+            set: self.set.arg(alloc, place, given)?,
+            list: self.list.arg(alloc, place, given)?,
+        })
+    }
+
+    fn concrete_only(self) -> Both {
+        Both {
+            set: self.set.concrete_only(),
+            list: self.list.concrete_only(),
+        }
+    }
+
+    // Whether both answer each call alike.
+    fn agree(&self, alloc: Global) -> Result<bool, AllocError> {
+        for place in 0..PLACES {
+            if !ask_alike(alloc, &self.set, &self.list, place)? {
+                return Ok(false);
+            }
+        }
+        if preferred(&self.set) != preferred(&self.list)
+            || argument_counts(&self.set) != argument_counts(&self.list)
+        {
+            return Ok(false);
+        }
+        have_alike(alloc, &self.set, &self.list)
+    }
 }
 
 // Whether two sets ask for the same types at a place.
@@ -54,23 +97,6 @@ fn have_alike(
     Ok(rules == right.overload_list(alloc)?)
 }
 
-// Whether two sets answer each call alike.
-fn answer_alike(
-    alloc: Global,
-    left: &AnyOverloadSet,
-    right: &AnyOverloadSet,
-) -> Result<bool, AllocError> {
-    for place in 0..PLACES {
-        if !ask_alike(alloc, left, right, place)? {
-            return Ok(false);
-        }
-    }
-    if preferred(left) != preferred(right) || argument_counts(left) != argument_counts(right) {
-        return Ok(false);
-    }
-    have_alike(alloc, left, right)
-}
-
 fn due_rule(value: &Value) -> Result<Option<Rule>> {
     match value {
         Value::Null => Ok(None),
@@ -90,51 +116,50 @@ fn rules_are(alloc: Global, set: &AnyOverloadSet, due: &Value) -> Result<bool> {
     Ok(place == rules.len())
 }
 
-fn supplied(alloc: Global, set: AnyOverloadSet, arguments: &Value) -> Result<AnyOverloadSet> {
-    let mut set = set;
+fn supplied(alloc: Global, both: Both, arguments: &Value) -> Result<Both> {
+    let mut both = both;
     for argument in arguments.as_array().into_iter().flatten() {
         let place = number(argument, 0)? as usize;
         let given = value_type(item(argument, 1)?)?;
-        set = set.arg(alloc, place, &given.to_inner())?;
+        both = both.arg(alloc, place, &given.to_inner())?;
     }
-    Ok(set)
+    Ok(both)
 }
 
 // Whether so many rules are left, and the preferred one is that of the case.
 fn left_is(alloc: Global, set: &AnyOverloadSet, case: &Value) -> Result<bool> {
     let first = due_rule(item(case, 4)?)?;
+    let due = number(case, 3)?;
     let left = set.overload_list(alloc)?.len() as u64;
-    Ok(left == number(case, 3)? && preferred(set) == first)
+    Ok(left == due && preferred(set) == first)
 }
 
-// Whether a set and a list of its rules leave what the case says, and answer alike.
-fn supplied_are(
-    alloc: Global,
-    set: AnyOverloadSet,
-    list: AnyOverloadSet,
-    case: &Value,
-) -> Result<bool> {
-    if !left_is(alloc, &set, case)? || !answer_alike(alloc, &set, &list)? {
+// Whether all rules are those of the case.
+fn all_are(alloc: Global, both: &Both, due: &Value) -> Result<bool> {
+    Ok(rules_are(alloc, &both.set, due)? && both.agree(alloc)?)
+}
+
+// Whether what is left is what the case says.
+fn leaves(alloc: Global, both: Both, case: &Value) -> Result<bool> {
+    let concrete = due_rule(item(case, 5)?)?;
+    if !left_is(alloc, &both.set, case)? || !both.agree(alloc)? {
         return Ok(false);
     }
-    let set = set.concrete_only();
-    if preferred(&set) != due_rule(item(case, 5)?)? {
-        return Ok(false);
-    }
-    Ok(answer_alike(alloc, &set, &list.concrete_only())?)
+    let both = both.concrete_only();
+    Ok(preferred(&both.set) == concrete && both.agree(alloc)?)
 }
 
 /// Whether the answers are those of the case.
 pub fn is_due(alloc: Global, case: &Value) -> Result<bool> {
-    let set = function(text(case, 1)?)?.overloads(alloc)?;
-    let list = listed(alloc, &set)?;
+    let function = function(text(case, 1)?)?;
+    let asked = item(case, 2)?;
     match text(case, 0)? {
-        "rules" => Ok(rules_are(alloc, &set, item(case, 2)?)? && answer_alike(alloc, &set, &list)?),
-        "arg" => {
-            let arguments = item(case, 2)?;
-            let set = supplied(alloc, set, arguments)?;
-            supplied_are(alloc, set, supplied(alloc, list, arguments)?, case)
-        }
+        "rules" => all_are(alloc, &Both::of(alloc, function)?, asked),
+        "arg" => leaves(
+            alloc,
+            supplied(alloc, Both::of(alloc, function)?, asked)?,
+            case,
+        ),
         other => Err(anyhow!("an unknown case: {other}")),
     }
 }

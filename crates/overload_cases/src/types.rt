@@ -1,6 +1,6 @@
 // The types and rules of the data file.
 use crate::words::{item, scalar, size, text};
-use anyhow::{Result, anyhow, ensure};
+use anyhow::{Result, anyhow};
 use ir_kinds::PredeclaredType;
 use serde_json::Value;
 use typing_overloads::{Arguments, Conclusion, ConstructorSize, Rule, ValueType};
@@ -44,27 +44,35 @@ fn conclusion(value: &Value) -> Result<Conclusion> {
     }))
 }
 
-fn arguments(value: &Value) -> Result<Arguments> {
-    let types = value
-        .as_array()
-        .ok_or_else(|| anyhow!("no list of arguments"))?;
-    ensure!(!types.is_empty(), "no argument");
-    let first = value_type(item(value, 0)?)?;
-    match types.len() {
-        1 => Ok(Arguments::One(first)),
-        2 => Ok(Arguments::Two(first, value_type(item(value, 1)?)?)),
-        3 => Ok(Arguments::Three(
-            first,
-            value_type(item(value, 1)?)?,
-            value_type(item(value, 2)?)?,
-        )),
-        4 => Ok(Arguments::Four(
-            first,
-            value_type(item(value, 1)?)?,
-            value_type(item(value, 2)?)?,
-            value_type(item(value, 3)?)?,
-        )),
-        _ => Err(anyhow!("too many arguments")),
+// The type at a place of a list.
+fn type_at(list: &Value, place: usize) -> Result<ValueType> {
+    value_type(item(list, place)?)
+}
+
+fn two_arguments(list: &Value) -> Result<Arguments> {
+    Ok(Arguments::Two(type_at(list, 0)?, type_at(list, 1)?))
+}
+
+fn three_arguments(list: &Value) -> Result<Arguments> {
+    Ok(Arguments::Three(type_at(list, 0)?, type_at(list, 1)?, type_at(list, 2)?))
+}
+
+fn four_arguments(list: &Value) -> Result<Arguments> {
+    Ok(Arguments::Four(
+        type_at(list, 0)?,
+        type_at(list, 1)?,
+        type_at(list, 2)?,
+        type_at(list, 3)?,
+    ))
+}
+
+fn arguments(list: &Value) -> Result<Arguments> {
+    match list.as_array().map_or(0, |types| types.len()) {
+        1 => Ok(Arguments::One(type_at(list, 0)?)),
+        2 => two_arguments(list),
+        3 => three_arguments(list),
+        4 => four_arguments(list),
+        _ => Err(anyhow!("no list of one to four arguments")),
     }
 }
 
