@@ -1,12 +1,11 @@
 // What the cases ask, of the set of a function and of a list of its rules.
 use crate::types::{rule, value_type};
-use crate::words::{function, item, number, text};
-use anyhow::{Result, anyhow};
+use crate::words::{function, number, text};
 use ir_kinds::MathFunction;
 use ir_types::TypeInner;
 use serde_json::Value;
 use std::alloc::{AllocError, Global};
-use typing_overloads::{AnyOverloadSet, List, MathFunctionExt, OverloadSet, Rule};
+use typing_overloads::{AnyOverloadSet, List, MathFunctionExt, OverloadSet, Rule, ValueType};
 
 /// One more than the greatest number of arguments of a rule.
 const PLACES: usize = 5;
@@ -97,18 +96,20 @@ fn have_alike(
     Ok(rules == right.overload_list(alloc)?)
 }
 
-fn due_rule(value: &Value) -> Result<Option<Rule>> {
-    match value {
-        Value::Null => Ok(None),
-        value => Ok(Some(rule(value)?)),
+// Whether a rule, or none, is what stands at a place of the case.
+fn is_rule(found: Option<Rule>, case: &Value, place: usize) -> bool {
+    match case.get(place) {
+        Some(Value::Null) => found.is_none(),
+        Some(value) => found.is_some() && found == rule(value),
+        None => false,
     }
 }
 
-fn rules_are(alloc: Global, set: &AnyOverloadSet, due: &Value) -> Result<bool> {
+fn rules_are(alloc: Global, set: &AnyOverloadSet, due: &Value) -> Result<bool, AllocError> {
     let rules = set.overload_list(alloc)?;
     let mut place = 0usize;
     for value in due.as_array().into_iter().flatten() {
-        if rules.get(place) != Some(&rule(value)?) {
+        if !is_rule(rules.get(place).copied(), due, place) {
             return Ok(false);
         }
         place = place.saturating_add(1);
@@ -116,50 +117,63 @@ fn rules_are(alloc: Global, set: &AnyOverloadSet, due: &Value) -> Result<bool> {
     Ok(place == rules.len())
 }
 
-fn supplied(alloc: Global, both: Both, arguments: &Value) -> Result<Both> {
+fn supplied(alloc: Global, both: Both, arguments: &Value) -> Result<Option<Both>, AllocError> {
     let mut both = both;
     for argument in arguments.as_array().into_iter().flatten() {
-        let place = number(argument, 0)? as usize;
-        let given = value_type(item(argument, 1)?)?;
+        let Some((place, given)) = argument_of(argument) else {
+            return Ok(None);
+        };
         both = both.arg(alloc, place, &given.to_inner())?;
     }
-    Ok(both)
+    Ok(Some(both))
+}
+
+// The place and the type of an argument.
+fn argument_of(argument: &Value) -> Option<(usize, ValueType)> {
+    let place = number(argument, 0)? as usize;
+    Some((place, value_type(argument.get(1)?)?))
 }
 
 // Whether so many rules are left, and the preferred one is that of the case.
-fn left_is(alloc: Global, set: &AnyOverloadSet, case: &Value) -> Result<bool> {
-    let first = due_rule(item(case, 4)?)?;
-    let due = number(case, 3)?;
+fn left_is(alloc: Global, set: &AnyOverloadSet, case: &Value) -> Result<bool, AllocError> {
     let left = set.overload_list(alloc)?.len() as u64;
-    Ok(left == due && preferred(set) == first)
+    Ok(number(case, 3) == Some(left) && is_rule(preferred(set), case, 4))
 }
 
 // Whether all rules are those of the case.
-fn all_are(alloc: Global, both: &Both, due: &Value) -> Result<bool> {
+fn all_are(alloc: Global, both: &Both, due: &Value) -> Result<bool, AllocError> {
     Ok(rules_are(alloc, &both.set, due)? && both.agree(alloc)?)
 }
 
 // Whether what is left is what the case says.
-fn leaves(alloc: Global, both: Both, case: &Value) -> Result<bool> {
-    let concrete = due_rule(item(case, 5)?)?;
+fn leaves(alloc: Global, both: Both, case: &Value) -> Result<bool, AllocError> {
     if !left_is(alloc, &both.set, case)? || !both.agree(alloc)? {
         return Ok(false);
     }
     let both = both.concrete_only();
-    Ok(preferred(&both.set) == concrete && both.agree(alloc)?)
+    Ok(is_rule(preferred(&both.set), case, 5) && both.agree(alloc)?)
 }
 
-/// Whether the answers are those of the case.
-pub fn is_due(alloc: Global, case: &Value) -> Result<bool> {
-    let function = function(text(case, 1)?)?;
-    let asked = item(case, 2)?;
-    match text(case, 0)? {
-        "rules" => all_are(alloc, &Both::of(alloc, function)?, asked),
-        "arg" => leaves(
-            alloc,
-            supplied(alloc, Both::of(alloc, function)?, asked)?,
-            case,
-        ),
-        other => Err(anyhow!("an unknown case: {other}")),
+// Whether what is left after the arguments is what the case says.
+fn leaves_after(alloc: Global, both: Both, case: &Value) -> Result<bool, AllocError> {
+    let Some(arguments) = case.get(2) else {
+        return Ok(false);
+    };
+    match supplied(alloc, both, arguments)? {
+        Some(both) => leaves(alloc, both, case),
+        None => Ok(false),
+    }
+}
+
+/// Whether the case is of its form, and the answers are those of the case.
+pub fn is_due(alloc: Global, case: &Value) -> Result<bool, AllocError> {
+    let Some(function) = function(case, 1) else {
+        return Ok(false);
+    };
+    let both = Both::of(alloc, function)?;
+    match (text(case, 0), case.get(2)) {
+        ("rules", Some(due)) => all_are(alloc, &both, due),
+        ("arg", Some(_)) => leaves_after(alloc, both, case),
+        _ => Ok(false),
     }
 }
