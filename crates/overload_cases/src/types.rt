@@ -1,77 +1,70 @@
-// The types and rules of the data file.
-use crate::words::{item, scalar, size, text};
-use anyhow::{Result, anyhow, ensure};
+// The types and rules of the data file. What is not of its form is `None`.
+use crate::words::{scalar, size, text};
 use ir_kinds::PredeclaredType;
 use serde_json::Value;
 use typing_overloads::{Arguments, Conclusion, ConstructorSize, Rule, ValueType};
 
+fn typed(size: ConstructorSize, list: &Value, place: usize) -> Option<ValueType> {
+    Some(ValueType {
+        size,
+        scalar: scalar(list, place)?,
+    })
+}
+
+fn matrix_size(list: &Value) -> Option<ConstructorSize> {
+    Some(ConstructorSize::Matrix {
+        columns: size(list, 1)?,
+        rows: size(list, 2)?,
+    })
+}
+
 /// A type as the data file has it.
-pub fn value_type(value: &Value) -> Result<ValueType> {
-    match text(value, 0)? {
-        "Scalar" => Ok(ValueType {
-            size: ConstructorSize::Scalar,
-            scalar: scalar(value, 1)?,
-        }),
-        "Vector" => Ok(ValueType {
-            size: ConstructorSize::Vector(size(value, 1)?),
+pub fn value_type(value: &Value) -> Option<ValueType> {
+    match text(value, 0) {
+        "Scalar" => typed(ConstructorSize::Scalar, value, 1),
+        "Vector" => typed(ConstructorSize::Vector(size(value, 1)?), value, 2),
+        "Matrix" => typed(matrix_size(value)?, value, 3),
+        _ => None,
+    }
+}
+
+fn conclusion(value: &Value) -> Option<Conclusion> {
+    match text(value, 0) {
+        "ModfResult" => Some(Conclusion::Predeclared(PredeclaredType::ModfResult {
+            size: size(value, 1),
             scalar: scalar(value, 2)?,
-        }),
-        "Matrix" => Ok(ValueType {
-            size: ConstructorSize::Matrix {
-                columns: size(value, 1)?,
-                rows: size(value, 2)?,
-            },
-            scalar: scalar(value, 3)?,
-        }),
-        other => Err(anyhow!("no type: {other}")),
+        })),
+        "FrexpResult" => Some(Conclusion::Predeclared(PredeclaredType::FrexpResult {
+            size: size(value, 1),
+            scalar: scalar(value, 2)?,
+        })),
+        _ => Some(Conclusion::Value(value_type(value)?)),
     }
 }
 
-fn conclusion(value: &Value) -> Result<Conclusion> {
-    let word = text(value, 0)?;
-    if word != "ModfResult" && word != "FrexpResult" {
-        return Ok(Conclusion::Value(value_type(value)?));
-    }
-    let size = match item(value, 1)? {
-        Value::Null => None,
-        _ => Some(size(value, 1)?),
+// The type at a place of a list.
+fn type_at(list: &Value, place: usize) -> Option<ValueType> {
+    value_type(list.get(place)?)
+}
+
+fn arguments(list: &Value) -> Option<Arguments> {
+    let first = type_at(list, 0)?;
+    let Some(second) = type_at(list, 1) else {
+        return Some(Arguments::One(first));
     };
-    let scalar = scalar(value, 2)?;
-    Ok(Conclusion::Predeclared(if word == "ModfResult" {
-        PredeclaredType::ModfResult { size, scalar }
-    } else {
-        PredeclaredType::FrexpResult { size, scalar }
-    }))
-}
-
-fn arguments(value: &Value) -> Result<Arguments> {
-    let types = value
-        .as_array()
-        .ok_or_else(|| anyhow!("no list of arguments"))?;
-    ensure!(!types.is_empty(), "no argument");
-    let first = value_type(item(value, 0)?)?;
-    match types.len() {
-        1 => Ok(Arguments::One(first)),
-        2 => Ok(Arguments::Two(first, value_type(item(value, 1)?)?)),
-        3 => Ok(Arguments::Three(
-            first,
-            value_type(item(value, 1)?)?,
-            value_type(item(value, 2)?)?,
-        )),
-        4 => Ok(Arguments::Four(
-            first,
-            value_type(item(value, 1)?)?,
-            value_type(item(value, 2)?)?,
-            value_type(item(value, 3)?)?,
-        )),
-        _ => Err(anyhow!("too many arguments")),
-    }
+    let Some(third) = type_at(list, 2) else {
+        return Some(Arguments::Two(first, second));
+    };
+    let Some(fourth) = type_at(list, 3) else {
+        return Some(Arguments::Three(first, second, third));
+    };
+    Some(Arguments::Four(first, second, third, fourth))
 }
 
 /// A rule as the data file has it.
-pub fn rule(value: &Value) -> Result<Rule> {
-    Ok(Rule {
-        arguments: arguments(item(value, 0)?)?,
-        conclusion: conclusion(item(value, 1)?)?,
+pub fn rule(value: &Value) -> Option<Rule> {
+    Some(Rule {
+        arguments: arguments(value.get(0)?)?,
+        conclusion: conclusion(value.get(1)?)?,
     })
 }

@@ -1,5 +1,4 @@
-// The words of the data file.
-use anyhow::{Result, anyhow};
+// The words of the data file. What is not of its form is `None`.
 use ir_kinds::{MathFunction, Scalar, VectorSize};
 use serde_json::Value;
 
@@ -100,51 +99,44 @@ static SCALARS: [(&str, Scalar); 12] = [
     ("afloat", Scalar::ABSTRACT_FLOAT),
 ];
 
-/// The item at a place.
-pub fn item(list: &Value, place: usize) -> Result<&Value> {
-    list.get(place)
-        .ok_or_else(|| anyhow!("a list is too short"))
-}
-
-/// The text at a place.
-pub fn text(list: &Value, place: usize) -> Result<&str> {
-    item(list, place)?
-        .as_str()
-        .ok_or_else(|| anyhow!("no text where one is due"))
+/// The text at a place, or the empty text where there is none.
+pub fn text(list: &Value, place: usize) -> &str {
+    match list.get(place) {
+        Some(item) => item.as_str().unwrap_or(""),
+        None => "",
+    }
 }
 
 /// The number at a place.
-pub fn number(list: &Value, place: usize) -> Result<u64> {
-    item(list, place)?
-        .as_u64()
-        .ok_or_else(|| anyhow!("no number where one is due"))
+pub fn number(list: &Value, place: usize) -> Option<u64> {
+    list.get(place)?.as_u64()
 }
 
-fn found<T: Copy>(words: &[(&str, T)], word: &str) -> Result<T> {
+fn found<T: Copy>(words: &[(&str, T)], word: &str) -> Option<T> {
     for entry in words {
         if entry.0 == word {
-            return Ok(entry.1);
+            return Some(entry.1);
         }
     }
-    Err(anyhow!("an unknown word: {word}"))
+    None
 }
 
-/// The function that a word names.
-pub fn function(word: &str) -> Result<MathFunction> {
-    found(&FUNCTIONS, word)
+/// The function that the word at a place names.
+pub fn function(list: &Value, place: usize) -> Option<MathFunction> {
+    found(&FUNCTIONS, text(list, place))
 }
 
 /// The scalar that the word at a place names.
-pub fn scalar(list: &Value, place: usize) -> Result<Scalar> {
-    found(&SCALARS, text(list, place)?)
+pub fn scalar(list: &Value, place: usize) -> Option<Scalar> {
+    found(&SCALARS, text(list, place))
 }
 
 /// The size that stands at a place as a number.
-pub fn size(list: &Value, place: usize) -> Result<VectorSize> {
-    match number(list, place)? {
-        2 => Ok(VectorSize::Bi),
-        3 => Ok(VectorSize::Tri),
-        4 => Ok(VectorSize::Quad),
-        other => Err(anyhow!("no size: {other}")),
+pub fn size(list: &Value, place: usize) -> Option<VectorSize> {
+    match number(list, place) {
+        Some(2) => Some(VectorSize::Bi),
+        Some(3) => Some(VectorSize::Tri),
+        Some(4) => Some(VectorSize::Quad),
+        _ => None,
     }
 }
