@@ -3,6 +3,7 @@ pub mod Exact
 pub mod Answers
 pub mod Find
 pub mod Inverse
+pub mod Refusals
 pub mod PartLaws
 pub mod ListLaws
 pub mod RowLaws

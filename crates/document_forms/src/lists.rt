@@ -1,9 +1,10 @@
 // Lists of items, in whatever takes them.
-ghost use Rattle.std.specs.Prelude.{◌≡◌, List, map, option_map};
+ghost use Rattle.std.specs.Prelude.{◌≡◌, ◌≢◌, List, [], ◌∷◌, ◌++◌, Some, map, IfOk, IfErr, OnOk};
 ghost use Rattle.serde_json.specs.View.{view as data_of};
-ghost use Rattle.document_forms.specs.Answers.{Answers};
 ghost use Rattle.document_forms.specs.Find.{all_of};
 ghost use Rattle.document_forms.specs.Forms.{a_list};
+ghost use Rattle.document_forms.specs.Refusals.{NoneTaken};
+ghost use Rattle.document_forms.specs.declared.error.ReadError.TheVariants.{Memory};
 
 use crate::error::ReadError;
 use crate::form::{Form, read_at};
@@ -14,9 +15,19 @@ use serde_json::Value;
 use std::alloc::Global;
 use std::marker::PhantomData;
 
-/// All the items of an array, in their order.
+// Takes one more, which stands at this index.
+fn add_at<F: Form, C: Grow<F>>(all: &mut C, item: F::Item, index: usize) -> Result<(), ReadError>
+    ensures added { OnOk result (C.items all.new ≡ C.items all.old ++ item ∷ []) }
+    ensures refused { IfErr result (λ e. e ≢ Memory → C.refuses (C.items all.old) item) }
+{
+    all.add(item).map_err(|e| e.at(index))
+}
+
+/// All the items of an array, in their order. An error that is not of memory says that the value is written for no such
+/// list, or that one of its items is refused behind those before it.
 pub fn read_all<F: Form, C: Grow<F>>(alloc: Global, value: &Value) -> Result<C, ReadError>
-    ensures { Answers result (λ found. option_map (λ c. map F.view (C.items c)) found ≡ all_of F.form.find (data_of value.now)) }
+    ensures found { IfOk result (λ c. Some (map F.view (C.items c)) ≡ all_of F.form.find (data_of value.now)) }
+    ensures refused { IfErr result (λ e. e ≢ Memory → NoneTaken C.refuses F.view (all_of F.form.find (data_of value.now))) }
 {
     let Some(items) = value.as_array() else {
         return Err(ReadError::here(Wanted::List));
@@ -25,7 +36,7 @@ pub fn read_all<F: Form, C: Grow<F>>(alloc: Global, value: &Value) -> Result<C, 
     let mut index = 0usize;
     for item in items {
         let next = read_at::<F>(alloc, item, index)?;
-        found.add(next)?;
+        add_at::<F, C>(&mut found, next, index)?;
         index = index.saturating_add(1);
     }
     Ok(found)

@@ -1,5 +1,5 @@
--- The document as plain data: lists, words and numbers.
-use Rattle.ir_kinds.specs.Settings.{PlainSettings}
+-- The document as plain data: sets, lists and numbers.
+use Rattle.ir_flags.specs.Settings.{PlainSettings}
 use Rattle.ir_items.specs.Plain.{PlainModule}
 
 -- The settings, and the module whose lists the document writes.

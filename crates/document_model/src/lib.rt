@@ -1,8 +1,6 @@
-//! What a document holds: what it asks of the validator, and its lists.
+//! What a document holds: what it asks of the validator, and a module.
 #![tactic(auto)]
 
-mod distinct;
 mod document;
 
-pub use distinct::are_distinct;
-pub use document::{Document, Settings};
+pub use document::{Document, Settings, build_module};

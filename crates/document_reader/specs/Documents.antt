@@ -2,27 +2,29 @@
 use Rattle.std.specs.Prelude.{◌≡◌, ℕ, Bool, List, Option, Some, None, ◌==◌, nat_eq, if◌then◌else◌, refl}
 use borrow.Author.Tests.{eqb-true}
 use Rattle.std.proofs.Common.{ap, ◌∙◌}
-use Rattle.serde_json.specs.Data.{Data, number, unsigned}
-use Rattle.ir_kinds.specs.declared.settings.ShaderStage.{ShaderStage}
-use Rattle.ir_kinds.specs.declared.settings.SubgroupFlag.{SubgroupFlag}
-use Rattle.ir_kinds.specs.declared.settings.Flag.{Flag}
-use Rattle.ir_kinds.specs.declared.settings.Capability.{Capability}
+use Rattle.serde_json.specs.Data.{Data, Items, number, unsigned}
+use Rattle.serde_json.specs.Find.{as_array, as_bool}
+use Rattle.ir_flags.specs.declared.settings.ValidationFlags.{ValidationFlags}
+use Rattle.ir_flags.specs.declared.settings.Capabilities.{Capabilities}
+use Rattle.ir_flags.specs.declared.stages.ShaderStages.{ShaderStages}
+use Rattle.ir_flags.specs.declared.stages.SubgroupOperationSet.{SubgroupOperationSet}
+use Rattle.ir_flags.specs.Settings.{PlainSettings}
 use Rattle.ir_types.specs.Plain.{PlainType}
 use Rattle.ir_expressions.specs.Plain.{PlainExpression}
 use Rattle.ir_globals.specs.Plain.{PlainConstant, PlainOverride, PlainGlobal, PlainNode, PlainSpecial}
-use Rattle.ir_items.specs.Plain.{PlainFunction, PlainEntry}
-use Rattle.document_words.specs.Tables.{flags, capabilities, stages, subgroup_flags}
+use Rattle.ir_items.specs.Plain.{PlainFunction, PlainEntry, PlainModule}
+use Rattle.document_words.specs.Tables.{flags, capabilities, stages, operations}
+use Rattle.document_words.specs.Unions.{flag_union, capability_union, stage_union, operation_union}
 use Rattle.document_forms.specs.Exact.{IsExact, FormOf, RowOf}
-use Rattle.document_forms.specs.Find.{◌>>=◌, whole_of}
+use Rattle.document_forms.specs.Find.{◌>>=◌, whole_of, first, all_of}
 use Rattle.document_forms.specs.Inverse.{bind_some, guarded, whole_some}
-use Rattle.document_forms.specs.Forms.{a_bool, a_handle, a_word, maybe, a_list, ◌▹◌, an_array, made}
-use Rattle.document_rows.specs.Rows.{row2, row9}
+use Rattle.document_forms.specs.Forms.{a_bool, a_handle, a_set, maybe, a_list, ◌▹◌, an_array, made}
+use Rattle.document_rows.specs.Rows.{row2, row8}
 use Rattle.item_forms.specs.Types.{a_type}
 use Rattle.item_forms.specs.Items.{a_constant, an_override, a_global, a_filter}
 use Rattle.item_forms.specs.Special.{the_special}
 use Rattle.expression_forms.specs.Expressions.{an_expression}
 use Rattle.function_forms.specs.Functions.{a_function, an_entry}
-use Rattle.document_model.specs.Distinct.{AreDistinct}
 use Rattle.document_model.specs.Plain.{PlainDocument}
 use Rattle.document_reader.specs.Form.{IsVersion, ADocument}
 
@@ -45,39 +47,82 @@ version_exact = record { sound = found; complete = λ d x h le. rw h refl }
 abbrev pub a_version : FormOf (Unit {0})
 a_version = record { find = version_of; Written = λ x. IsVersion; exact = version_exact }
 
+-- ---- the settings
+
+abbrev pub the_flags : FormOf ValidationFlags
+the_flags = a_set flags (record { 0 = 0 }) flag_union
+
+abbrev pub the_capabilities : FormOf Capabilities
+the_capabilities = a_set capabilities (record { 0 = 0 }) capability_union
+
+abbrev pub the_subgroups : FormOf (ShaderStages × SubgroupOperationSet)
+the_subgroups = an_array (row2 (a_set stages (record { 0 = 0 }) stage_union) (a_set operations (record { 0 = 0 }) operation_union))
+
+-- ---- the lists behind the types
+
+abbrev pub ListParts : Type 0
+ListParts = PlainSpecial × (List PlainNode × Option ℕ) × List PlainConstant × List PlainOverride × List PlainExpression × List PlainGlobal × List PlainFunction × List PlainEntry
+
+abbrev pub the_lists : RowOf ListParts
+the_lists = row8 the_special (an_array (row2 (a_list a_filter) (maybe a_handle))) (a_list a_constant) (a_list an_override) (a_list an_expression) (a_list a_global) (a_list a_function) (a_list an_entry)
+
+-- the module of these types and lists
+abbrev pub content_of : List PlainType → ListParts → PlainModule
+content_of types t = record { types = types; special = t.0; filters = t.1.0; leaf = t.1.1; constants = t.2; overrides = t.3; global_expressions = t.4; globals = t.5; functions = t.6; entries = t.7 }
+
+abbrev pub lists_of : PlainModule → ListParts
+lists_of m = (m.special, (m.filters, m.leaf), m.constants, m.overrides, m.global_expressions, m.globals, m.functions, m.entries)
+
 -- ---- the whole
 
-abbrev pub SettingsParts : Type 0
-SettingsParts = List ShaderStage × List SubgroupFlag
-
-abbrev pub ContentParts : Type 0
-ContentParts = List PlainType × PlainSpecial × (List PlainNode × Option ℕ) × List PlainConstant × List PlainOverride × List PlainExpression × List PlainGlobal × List PlainFunction × List PlainEntry
-
-abbrev pub the_content : RowOf ContentParts
-the_content = row9 (a_list a_type) the_special (an_array (row2 (a_list a_filter) (maybe a_handle))) (a_list a_constant) (a_list an_override) (a_list an_expression) (a_list a_global) (a_list a_function) (a_list an_entry)
-
 abbrev pub Parts : Type 0
-Parts = Unit {0} × (List Flag × (List Capability × (SettingsParts × (Bool × ContentParts))))
+Parts = Unit {0} × (ValidationFlags × (Capabilities × ((ShaderStages × SubgroupOperationSet) × (Bool × (List PlainType × ListParts)))))
 
 abbrev pub the_parts : RowOf Parts
-the_parts = a_version ▹ a_list (a_word flags) ▹ a_list (a_word capabilities) ▹ an_array (row2 (a_list (a_word stages)) (a_list (a_word subgroup_flags))) ▹ a_bool ▹ the_content
+the_parts = a_version ▹ the_flags ▹ the_capabilities ▹ the_subgroups ▹ a_bool ▹ a_list a_type ▹ the_lists
+
+abbrev pub settings_of : ValidationFlags → Capabilities → ShaderStages × SubgroupOperationSet → Bool → PlainSettings
+settings_of checks uses subgroups returns = record { flags = checks; capabilities = uses; stages = subgroups.0; operations = subgroups.1; returns = returns }
+
+abbrev pub made_of : ValidationFlags → Capabilities → ShaderStages × SubgroupOperationSet → Bool → PlainModule → PlainDocument
+made_of checks uses subgroups returns content = record { settings = settings_of checks uses subgroups returns; content = content }
 
 abbrev pub document_made : Parts → PlainDocument
-document_made t =
-    let rest = t.1.1.1.1.1 in
-    record {
-      settings = record { flags = t.1.0; capabilities = t.1.1.0; stages = t.1.1.1.0.0; operations = t.1.1.1.0.1; returns = t.1.1.1.1.0 };
-      content = record { types = rest.0; special = rest.1; filters = rest.2.0; leaf = rest.2.1; constants = rest.3; overrides = rest.4; global_expressions = rest.5; globals = rest.6; functions = rest.7; entries = rest.8 };
-    }
+document_made t = made_of t.1.0 t.1.1.0 t.1.1.1.0 t.1.1.1.1.0 (content_of t.1.1.1.1.1.0 t.1.1.1.1.1.1)
 
 abbrev pub parts_of : PlainDocument → Parts
-parts_of d = (tt, (d.settings.flags, (d.settings.capabilities, ((d.settings.stages, d.settings.operations), (d.settings.returns, (d.content.types, d.content.special, (d.content.filters, d.content.leaf), d.content.constants, d.content.overrides, d.content.global_expressions, d.content.globals, d.content.functions, d.content.entries))))))
+parts_of d = (tt, (d.settings.flags, (d.settings.capabilities, ((d.settings.stages, d.settings.operations), (d.settings.returns, (d.content.types, lists_of d.content))))))
 
 -- the document that a value spells, but that its types may repeat
 abbrev pub a_document : FormOf PlainDocument
 a_document = made (an_array the_parts) document_made parts_of ADocument (λ d. refl) (λ t d h. h) (λ x d h. h)
 
--- The value spells this document, whose types are distinct.
-pub record Spells (value : Data) (d : PlainDocument) : Type 0 where
-  pub found : a_document.find value ≡ Some d
-  pub distinct : AreDistinct d.content.types
+-- ---- the same, as it is read part by part
+
+-- what the first part is written for, and the parts behind it
+abbrev pub front : {A : Type 0} → (Data → Option A) → Items → Option (A × Items)
+front f ds = do
+  t ← first ds
+  x ← f t.0
+  Some (x, t.1)
+
+-- the module, of the parts behind the settings
+abbrev pub content_in : Items → Option PlainModule
+content_in ds = do
+  t ← first ds
+  types ← all_of a_type.find t.0
+  lists ← the_lists.find t.1
+  Some (content_of types lists)
+
+abbrev pub parts_in : Items → Option PlainDocument
+parts_in ds = do
+  v ← front version_of ds
+  f ← front the_flags.find v.1
+  c ← front the_capabilities.find f.1
+  s ← front the_subgroups.find c.1
+  r ← front as_bool s.1
+  m ← content_in r.1
+  Some (made_of f.0 c.0 s.0 r.0 m)
+
+abbrev pub document_in : Data → Option PlainDocument
+document_in d = as_array d >>= parts_in

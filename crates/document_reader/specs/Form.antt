@@ -2,9 +2,10 @@
 use Rattle.std.specs.Prelude.{◌≡◌, ℕ, ◌≤◌, List, length, Some, IsUtf8}
 use Rattle.serde_json.specs.Data.{Data, number, unsigned}
 use Rattle.serde_json.specs.Read.{read}
-use Rattle.ir_kinds.specs.Settings.{PlainSettings}
-use Rattle.document_words.specs.Tables.{flags, capabilities, stages, subgroup_flags}
-use Rattle.document_forms.specs.Form.{ABool, AWord, AnArray, AList, Ends, ◌▸◌}
+use Rattle.ir_flags.specs.Settings.{PlainSettings}
+use Rattle.document_words.specs.Tables.{flags, capabilities, stages, operations}
+use Rattle.document_words.specs.Unions.{flag_union, capability_union, stage_union, operation_union}
+use Rattle.document_forms.specs.Form.{ABool, ASet, AnArray, AList, Ends, ◌▸◌}
 use Rattle.item_forms.specs.Form.{AType}
 use Rattle.expression_forms.specs.Form.{AnExpression}
 use Rattle.item_forms.specs.ItemForm.{ASpecial, AllFilters, AConstant, AnOverride, AGlobal}
@@ -19,13 +20,13 @@ IsVersion d = d ≡ number (unsigned 1)
 
 -- the stages and the subgroup operations that may stand there
 abbrev pub TheSubgroups : PlainSettings → Data → Type 0
-TheSubgroups s = AnArray (AList (AWord stages) s.stages ▸ AList (AWord subgroup_flags) s.operations ▸ Ends)
+TheSubgroups s = AnArray (ASet stages (record { 0 = 0 }) stage_union s.stages ▸ ASet operations (record { 0 = 0 }) operation_union s.operations ▸ Ends)
 
 -- version, flags, capabilities, subgroup sets, returns; types, special types, filters, constants, overrides, global
 -- expressions, globals, functions, entries
 abbrev pub ADocument : PlainDocument → Data → Type 0
 ADocument d =
-    AnArray (IsVersion ▸ AList (AWord flags) d.settings.flags ▸ AList (AWord capabilities) d.settings.capabilities ▸ TheSubgroups d.settings ▸ ABool d.settings.returns ▸ AList AType d.content.types ▸ ASpecial d.content.special ▸ AllFilters (d.content.filters, d.content.leaf) ▸ AList AConstant d.content.constants ▸ AList AnOverride d.content.overrides ▸ AList AnExpression d.content.global_expressions ▸ AList AGlobal d.content.globals ▸ AList AFunction d.content.functions ▸ AList AnEntry d.content.entries ▸ Ends)
+    AnArray (IsVersion ▸ ASet flags (record { 0 = 0 }) flag_union d.settings.flags ▸ ASet capabilities (record { 0 = 0 }) capability_union d.settings.capabilities ▸ TheSubgroups d.settings ▸ ABool d.settings.returns ▸ AList AType d.content.types ▸ ASpecial d.content.special ▸ AllFilters (d.content.filters, d.content.leaf) ▸ AList AConstant d.content.constants ▸ AList AnOverride d.content.overrides ▸ AList AnExpression d.content.global_expressions ▸ AList AGlobal d.content.globals ▸ AList AFunction d.content.functions ▸ AList AnEntry d.content.entries ▸ Ends)
 
 abbrev pub max_len : ℕ
 max_len = 16777216

@@ -1,21 +1,39 @@
 // The form of a whole document.
-ghost use Rattle.std.specs.Prelude.{◌≡◌, option_map};
+ghost use Rattle.std.specs.Prelude.{◌≡◌, ◌≢◌, List, Some, map, IfOk, IfErr};
+ghost use Rattle.serde_json.specs.View.{view as data_of, items_view};
+ghost use Rattle.ir_types.specs.Plain.{PlainType, type_view};
+ghost use Rattle.ir_globals.specs.View.{values_of};
+ghost use Rattle.ir_items.specs.Plain.{PlainModule};
+ghost use Rattle.ir_items.specs.View.{module_view};
+ghost use Rattle.document_forms.specs.Find.{all_of};
+ghost use Rattle.document_forms.specs.declared.error.ReadError.TheVariants.{Memory};
+ghost use Rattle.item_forms.specs.Types.{a_type};
+ghost use Rattle.document_model.specs.Distinct.{AreDistinct};
 ghost use Rattle.document_model.specs.Plain.{PlainDocument};
 ghost use Rattle.document_model.specs.View.{document_view};
-ghost use Rattle.document_reader.specs.Documents.{a_version, a_document};
+ghost use Rattle.document_reader.specs.Documents.{a_version, content_of, content_in, document_in};
 
-use document_forms::{At, Each, Form, Maybe, ReadError, Truth, Wanted, WordOf};
+use crate::front::read_front;
+use document_forms::{
+    At, Each, Form, InArena, Maybe, ReadError, SetOf, Truth, Wanted, read_all,
+};
 use document_model::{Document, Settings};
-use document_rows::{InArray, Then, read_row};
+use document_rows::{InArray, Row, split_part};
 use expression_forms::ExpressionForm;
 use function_forms::{EntryForm, FunctionForm};
-use ir_kinds::{Capability, Flag, ShaderStage, SubgroupFlag};
-use ir_types::key;
+use ir_arena::unique_arena::UniqueArena;
+use ir_flags::{Capabilities, ShaderStages, SubgroupOperationSet, ValidationFlags};
+use ir_items::Module;
+use ir_types::{IrType, key};
 use item_forms::{ConstantForm, FilterForm, GlobalForm, OverrideForm, SpecialForm, TypeForm};
 use serde_json::Value;
 use std::alloc::Global;
 
 const VERSION: u64 = 1;
+
+// The places of a document's parts: settings lie before the types, all other lists behind them.
+const TYPES: usize = 5;
+const SPECIAL_TYPES: usize = 6;
 
 /// How the version of the format is written.
 pub struct VersionForm;
@@ -37,72 +55,101 @@ impl Form for VersionForm {
     }
 }
 
-type SubgroupsForm = InArray<(Each<WordOf<ShaderStage>>, Each<WordOf<SubgroupFlag>>)>;
+type SubgroupsForm = InArray<(SetOf<ShaderStages>, SetOf<SubgroupOperationSet>)>;
 
-type FilterListForm = InArray<(Each<FilterForm>, Maybe<At<key::DiagnosticFilterNode>>)>;
+type FilterListForm = InArray<(
+    InArena<FilterForm, key::DiagnosticFilterNode>,
+    Maybe<At<key::DiagnosticFilterNode>>,
+)>;
 
-type ContentRow = (
-    Each<TypeForm>,
+type ListsRow = (
     SpecialForm,
     FilterListForm,
-    Each<ConstantForm>,
-    Each<OverrideForm>,
-    Each<ExpressionForm>,
-    Each<GlobalForm>,
-    Each<FunctionForm>,
+    InArena<ConstantForm, key::Constant>,
+    InArena<OverrideForm, key::Override>,
+    InArena<ExpressionForm, key::Expression>,
+    InArena<GlobalForm, key::GlobalVariable>,
+    InArena<FunctionForm, key::Function>,
     Each<EntryForm>,
 );
 
-type CapabilitiesOn = Then<Each<WordOf<Capability>>, Then<SubgroupsForm, Then<Truth, ContentRow>>>;
+// That no two types of the arena are equal.
+#[tactic(auto, using(crate::proofs::Distinct::distinct_types))]
+fn distinct_types(types: &UniqueArena<IrType, key::IrType>)
+    ensures { AreDistinct (map type_view (values_of types.now)) }
+{
+    types.len();
+}
 
-type DocumentRow = Then<VersionForm, Then<Each<WordOf<Flag>>, CapabilitiesOn>>;
-
-/// How a document is written, but that its types may repeat.
-pub struct DocumentForm;
-
-impl Form for DocumentForm {
-    type Item = Document;
-
-    ghost Plain = { PlainDocument };
-
-    ghost view = { document_view };
-
-    ghost form = { a_document };
-
-    fn read(alloc: Global, value: &Value) -> Result<Document, ReadError> {
-        let ((), (flags, (capabilities, ((stages, operations), (returns, content))))) = read_row::<
-            DocumentRow,
-        >(alloc, value)?;
-        let (
-            types,
-            special_types,
-            (diagnostic_filters, diagnostic_filter_leaf),
-            constants,
-            overrides,
-            global_expressions,
-            global_variables,
-            functions,
-            entry_points,
-        ) = content;
-        let settings = Settings {
-            flags,
-            capabilities,
-            stages,
-            operations,
-            returns,
-        };
-        Ok(Document {
-            settings,
-            types,
-            special_types,
-            diagnostic_filters,
-            diagnostic_filter_leaf,
-            constants,
-            overrides,
-            global_expressions,
-            global_variables,
-            functions,
-            entry_points,
-        })
+// The types that the part at this index is written for, of which no two are equal.
+fn read_types(
+    alloc: Global,
+    value: &Value,
+    index: usize,
+) -> Result<UniqueArena<IrType, key::IrType>, ReadError>
+    ensures found { IfOk result (λ a. Some (map type_view (values_of a)) ≡ all_of a_type.find (data_of value.now)) }
+    ensures refused { IfErr result (λ e. e ≢ Memory → (ts : List PlainType) → all_of a_type.find (data_of value.now) ≡ Some ts → ¬ AreDistinct ts) }
+{
+    match read_all::<TypeForm, UniqueArena<IrType, key::IrType>>(alloc, value) {
+        Ok(types) => Ok(types),
+        Err(e) => Err(e.at(index)),
     }
+}
+
+// The module that these parts of a document are written for.
+fn read_module(alloc: Global, parts: &[Value]) -> Result<Module, ReadError>
+    ensures found { IfOk result (λ m. Some (module_view m) ≡ content_in (items_view parts.now)) }
+    ensures distinct { IfOk result (λ m. AreDistinct (module_view m).types) }
+    ensures refused { IfErr result (λ e. e ≢ Memory → (m : PlainModule) → content_in (items_view parts.now) ≡ Some m → ¬ AreDistinct m.types) }
+{
+    let (first, rest) = split_part(parts, TYPES)?;
+    let types = read_types(alloc, first, TYPES)?;
+    distinct_types(&types);
+    let (
+        special_types,
+        (diagnostic_filters, diagnostic_filter_leaf),
+        constants,
+        overrides,
+        global_expressions,
+        global_variables,
+        functions,
+        entry_points,
+    ) = <ListsRow as Row>::read(alloc, rest, SPECIAL_TYPES)?;
+    Ok(Module {
+        types,
+        special_types,
+        constants,
+        overrides,
+        global_variables,
+        global_expressions,
+        functions,
+        entry_points,
+        diagnostic_filters,
+        diagnostic_filter_leaf,
+    })
+}
+
+/// The document that the value is written for.
+pub fn read_value(alloc: Global, value: &Value) -> Result<Document, ReadError>
+    ensures found { IfOk result (λ d. Some (document_view d) ≡ document_in (data_of value.now)) }
+    ensures distinct { IfOk result (λ d. AreDistinct (document_view d).content.types) }
+    ensures refused { IfErr result (λ e. e ≢ Memory → (d : PlainDocument) → document_in (data_of value.now) ≡ Some d → ¬ AreDistinct d.content.types) }
+{
+    let Some(parts) = value.as_array() else {
+        return Err(ReadError::here(Wanted::Row));
+    };
+    let ((), parts) = read_front::<VersionForm>(alloc, parts, 0)?;
+    let (flags, parts) = read_front::<SetOf<ValidationFlags>>(alloc, parts, 1)?;
+    let (capabilities, parts) = read_front::<SetOf<Capabilities>>(alloc, parts, 2)?;
+    let ((subgroup_stages, subgroup_operations), parts) = read_front::<SubgroupsForm>(alloc, parts, 3)?;
+    let (returns, parts) = read_front::<Truth>(alloc, parts, 4)?;
+    let module = read_module(alloc, parts)?;
+    let settings = Settings {
+        flags,
+        capabilities,
+        subgroup_stages,
+        subgroup_operations,
+        returns,
+    };
+    Ok(Document { settings, module })
 }

@@ -1,49 +1,33 @@
 // From bytes to a document.
-ghost use Rattle.std.specs.Prelude.{IfOk, IfSome, IfNone};
-ghost use Rattle.serde_json.specs.View.{view as data_of};
+ghost use Rattle.std.specs.Prelude.{◌≢◌, IfOk, IfErr};
 ghost use Rattle.document_model.specs.Plain.{PlainDocument};
 ghost use Rattle.document_model.specs.View.{document_view};
-ghost use Rattle.document_reader.specs.Documents.{Spells};
 ghost use Rattle.document_reader.specs.Form.{Reads};
+ghost use Rattle.document_reader.specs.declared.error.DocumentError.TheVariants.{Memory};
 
-use crate::document::DocumentForm;
-use document_forms::{Form, ReadError};
-use document_model::{Document, are_distinct};
+use crate::document::read_value;
+use crate::error::DocumentError;
+use document_model::Document;
 use serde_json::Value;
-use std::alloc::{AllocError, Global};
+use std::alloc::Global;
 
 const MAX_LEN: usize = 16777216;
 
-// The document that the value spells, unless two of its types are equal.
-fn distinct_document(alloc: Global, value: &Value) -> Result<Option<Document>, AllocError>
-    ensures found { IfOk result (λ found. IfSome found (λ d. Spells (data_of value.now) (document_view d))) }
-    ensures refused { IfOk result (λ found. IfNone found ((d : PlainDocument) → ¬ Spells (data_of value.now) d)) }
-{
-    match DocumentForm::read(alloc, value) {
-        Ok(document) if are_distinct(&document.types) => Ok(Some(document)),
-        Ok(_) => Ok(None),
-        Err(ReadError::Memory) => Err(AllocError),
-        Err(ReadError::Malformed { .. }) => Ok(None),
-    }
-}
-
-/// The document that the bytes spell, or `None` where they spell none: they are no UTF-8, more than 16777216, no
-/// JSON, nested deeper than 127, or not of a document's form. The error is want of memory.
-pub fn read_document(alloc: Global, bytes: &[u8]) -> Result<Option<Document>, AllocError>
-    ensures found { IfOk result (λ found. IfSome found (λ d. Reads bytes.now (document_view d))) }
-    ensures refused { IfOk result (λ found. IfNone found ((d : PlainDocument) → ¬ Reads bytes.now d)) }
+/// The document that the bytes spell. An error other than [`DocumentError::Memory`] says that they spell none, and
+/// where that shows.
+pub fn read_document(alloc: Global, bytes: &[u8]) -> Result<Document, DocumentError>
+    ensures found { IfOk result (λ d. Reads bytes.now (document_view d)) }
+    ensures refused { IfErr result (λ e. e ≢ Memory → (d : PlainDocument) → ¬ Reads bytes.now d) }
 {
     if bytes.len() > MAX_LEN {
-        return Ok(None);
+        return Err(DocumentError::TooLong);
     }
     match Value::from_slice(alloc, bytes) {
-        Ok(value) => distinct_document(alloc, &value),
-        Err(e) => {
-            if e.is_memory() {
-                Err(AllocError)
-            } else {
-                Ok(None)
-            }
-        }
+        Ok(value) => Ok(read_value(alloc, &value)?),
+        Err(e) if e.is_memory() => Err(DocumentError::Memory),
+        Err(e) => Err(DocumentError::NotJson {
+            line: e.line(),
+            column: e.column(),
+        }),
     }
 }

@@ -4,7 +4,7 @@ ghost use Rattle.ir_arena.specs.Handles.{handles_from};
 ghost use Rattle.ir_types.specs.Plain.{inner_view, type_view};
 ghost use Rattle.ir_expressions.specs.Plain.{expression_view};
 ghost use Rattle.ir_globals.specs.View.{values_of, special_view};
-ghost use Rattle.ir_items.specs.View.{function_view};
+ghost use Rattle.ir_items.specs.View.{function_view, module_view};
 ghost use Rattle.document_model.specs.View.{document_view};
 ghost use Rattle.document_within.specs.Scope.{IsWithin};
 ghost use Rattle.document_within.specs.Tests.{all_pass, plain_inner, plain_type, plain_literal, plain_expression, plain_result, plain_function, plain_special, thin_module, plain_module};
@@ -12,7 +12,8 @@ ghost use Rattle.document_within.specs.Tests.{all_pass, plain_inner, plain_type,
 use crate::bodies::is_plain_block;
 use document_model::Document;
 use ir_arena::arena::Arena;
-use ir_items::{Expression, Function, FunctionResult, IrType, SpecialTypes, TypeInner, key};
+use ir_arena::unique_arena::UniqueArena;
+use ir_items::{Expression, Function, FunctionResult, IrType, Module, SpecialTypes, TypeInner, key};
 use ir_kinds::Literal;
 
 fn is_plain_inner(inner: &TypeInner) -> bool
@@ -24,15 +25,23 @@ fn is_plain_inner(inner: &TypeInner) -> bool
     }
 }
 
-fn are_plain_types(types: &[IrType]) -> bool
-    ensures { result ≡ all_pass plain_type (map type_view types.now) }
+fn types_pass_with_handles(types: &UniqueArena<IrType, key::IrType>) -> bool
+    ensures { result ≡ all_pass (λ h. plain_type (type_view h.1)) (handles_from 0 types.now) }
 {
-    for item in types {
+    for (_, item) in types.iter() {
         if !is_plain_inner(&item.inner) {
             return false;
         }
     }
     true
+}
+
+// Whether each type is checked so far.
+#[tactic(auto, using(crate::proofs::ScopeLaws::handles_pass))]
+fn are_plain_types(types: &UniqueArena<IrType, key::IrType>) -> bool
+    ensures { result ≡ all_pass plain_type (map type_view (values_of types.now)) }
+{
+    types_pass_with_handles(types)
 }
 
 fn is_plain_literal(literal: Literal) -> bool
@@ -64,7 +73,7 @@ fn is_plain_result(answer: Option<FunctionResult>) -> bool
     }
 }
 
-fn pass_with_handles(expressions: &Arena<Expression, key::Expression>) -> bool
+fn expressions_pass_with_handles(expressions: &Arena<Expression, key::Expression>) -> bool
     ensures { result ≡ all_pass (λ h. plain_expression (expression_view h.1)) (handles_from 0 expressions.now) }
 {
     for (_, expression) in expressions.iter() {
@@ -76,10 +85,11 @@ fn pass_with_handles(expressions: &Arena<Expression, key::Expression>) -> bool
 }
 
 // Whether each expression is checked so far.
+#[tactic(auto, using(crate::proofs::ScopeLaws::handles_pass))]
 fn are_plain_expressions(expressions: &Arena<Expression, key::Expression>) -> bool
     ensures { result ≡ all_pass plain_expression (map expression_view (values_of expressions.now)) }
 {
-    pass_with_handles(expressions)
+    expressions_pass_with_handles(expressions)
 }
 
 fn is_plain_function(function: &Function) -> bool
@@ -94,15 +104,23 @@ fn is_plain_function(function: &Function) -> bool
         && is_plain_block(&function.body)
 }
 
-fn are_plain_functions(functions: &[Function]) -> bool
-    ensures { result ≡ all_pass plain_function (map function_view functions.now) }
+fn functions_pass_with_handles(functions: &Arena<Function, key::Function>) -> bool
+    ensures { result ≡ all_pass (λ h. plain_function (function_view h.1)) (handles_from 0 functions.now) }
 {
-    for item in functions {
+    for (_, item) in functions.iter() {
         if !is_plain_function(item) {
             return false;
         }
     }
     true
+}
+
+// Whether each function is checked so far.
+#[tactic(auto, using(crate::proofs::ScopeLaws::handles_pass))]
+fn are_plain_functions(functions: &Arena<Function, key::Function>) -> bool
+    ensures { result ≡ all_pass plain_function (map function_view (values_of functions.now)) }
+{
+    functions_pass_with_handles(functions)
 }
 
 fn is_plain_special(special: &SpecialTypes) -> bool
@@ -115,25 +133,23 @@ fn is_plain_special(special: &SpecialTypes) -> bool
 }
 
 // Whether there is nothing but types and functions.
-fn is_thin(document: &Document) -> bool
-    ensures { result ≡ thin_module (document_view document.now).content }
+fn is_thin(module: &Module) -> bool
+    ensures { result ≡ thin_module (module_view «module».now) }
 {
-    is_plain_special(&document.special_types)
-        && document.diagnostic_filters.is_empty()
-        && document.diagnostic_filter_leaf.is_none()
-        && document.constants.is_empty()
-        && document.overrides.is_empty()
-        && document.global_expressions.is_empty()
-        && document.global_variables.is_empty()
-        && document.entry_points.is_empty()
+    is_plain_special(&module.special_types)
+        && module.diagnostic_filters.is_empty()
+        && module.diagnostic_filter_leaf.is_none()
+        && module.constants.is_empty()
+        && module.overrides.is_empty()
+        && module.global_expressions.is_empty()
+        && module.global_variables.is_empty()
+        && module.entry_points.is_empty()
 }
 
-fn is_plain_module(document: &Document) -> bool
-    ensures { result ≡ plain_module (document_view document.now).content }
+fn is_plain_module(module: &Module) -> bool
+    ensures { result ≡ plain_module (module_view «module».now) }
 {
-    is_thin(document)
-        && are_plain_types(&document.types)
-        && are_plain_functions(&document.functions)
+    is_thin(module) && are_plain_types(&module.types) && are_plain_functions(&module.functions)
 }
 
 /// Whether the program checks such a document so far: it has scalar types, and functions that have a result without a
@@ -141,5 +157,5 @@ fn is_plain_module(document: &Document) -> bool
 pub fn within(document: &Document) -> bool
     ensures { IsTrue result ↔ IsWithin (document_view document.now) }
 {
-    is_plain_module(document)
+    is_plain_module(&document.module)
 }

@@ -1,13 +1,7 @@
 -- The words of a document: each set of words beside what its words stand for.
-use Rattle.std.specs.Prelude.{ℕ, List, [], ◌∷◌, codes}
-use Rattle.ir_kinds.specs.declared.settings.Flag.{Flag}
-use Rattle.ir_kinds.specs.declared.settings.Flag.TheVariants as flags_of
-use Rattle.ir_kinds.specs.declared.settings.Capability.{Capability}
-use Rattle.ir_kinds.specs.declared.settings.Capability.TheVariants as capabilities_of
-use Rattle.ir_kinds.specs.declared.settings.ShaderStage.{ShaderStage}
-use Rattle.ir_kinds.specs.declared.settings.ShaderStage.TheVariants as stages_of
-use Rattle.ir_kinds.specs.declared.settings.SubgroupFlag.{SubgroupFlag}
-use Rattle.ir_kinds.specs.declared.settings.SubgroupFlag.TheVariants as subgroup_flags_of
+use Rattle.std.specs.Prelude.{ℕ, List, [], ◌∷◌, map, codes}
+use Rattle.ir_kinds.specs.declared.stages.ShaderStage.{ShaderStage}
+use Rattle.ir_kinds.specs.declared.stages.ShaderStage.TheVariants as stages_of
 use Rattle.ir_kinds.specs.declared.scalars.ScalarKind.{ScalarKind}
 use Rattle.ir_kinds.specs.declared.scalars.ScalarKind.TheVariants as scalar_kinds_of
 use Rattle.ir_kinds.specs.declared.scalars.CooperativeRole.{CooperativeRole}
@@ -56,86 +50,11 @@ use Rattle.ir_kinds.specs.declared.spaces.AddressSpace.TheVariants as spaces_of
 use Rattle.ir_flags.specs.declared.memory.StorageAccess.{StorageAccess}
 use Rattle.ir_flags.specs.declared.memory.Barrier.{Barrier}
 use Rattle.ir_flags.specs.declared.memory.MemoryDecorations.{MemoryDecorations}
-
--- the checks
-abbrev pub flags : List (List ℕ × Flag)
-flags =
-    (codes "EXPRESSIONS", flags_of.Expressions) ∷
-    (codes "BLOCKS", flags_of.Blocks) ∷
-    (codes "CONTROL_FLOW_UNIFORMITY", flags_of.ControlFlowUniformity) ∷
-    (codes "STRUCT_LAYOUTS", flags_of.StructLayouts) ∷
-    (codes "CONSTANTS", flags_of.Constants) ∷
-    (codes "BINDINGS", flags_of.Bindings) ∷
-    []
-
--- the capabilities
-abbrev pub capabilities : List (List ℕ × Capability)
-capabilities =
-    (codes "IMMEDIATES", capabilities_of.Immediates) ∷
-    (codes "FLOAT64", capabilities_of.Float64) ∷
-    (codes "SHADER_FLOAT16", capabilities_of.ShaderFloat16) ∷
-    (codes "SHADER_INT16", capabilities_of.ShaderInt16) ∷
-    (codes "SHADER_INT64", capabilities_of.ShaderInt64) ∷
-    (codes "PRIMITIVE_INDEX", capabilities_of.PrimitiveIndex) ∷
-    (codes "BUFFER_BINDING_ARRAY", capabilities_of.BufferBindingArray) ∷
-    (codes "STORAGE_BUFFER_BINDING_ARRAY", capabilities_of.StorageBufferBindingArray) ∷
-    (codes "TEXTURE_AND_SAMPLER_BINDING_ARRAY", capabilities_of.TextureAndSamplerBindingArray) ∷
-    (codes "STORAGE_TEXTURE_BINDING_ARRAY", capabilities_of.StorageTextureBindingArray) ∷
-    (codes "ACCELERATION_STRUCTURE_BINDING_ARRAY", capabilities_of.AccelerationStructureBindingArray) ∷
-    (codes "STORAGE_TEXTURE_16BIT_NORM_FORMATS", capabilities_of.StorageTexture16BitNormFormats) ∷
-    (codes "CUBE_ARRAY_TEXTURES", capabilities_of.CubeArrayTextures) ∷
-    (codes "CLIP_DISTANCES", capabilities_of.ClipDistances) ∷
-    (codes "CULL_DISTANCE", capabilities_of.CullDistance) ∷
-    (codes "MULTIVIEW", capabilities_of.Multiview) ∷
-    (codes "EARLY_DEPTH_TEST", capabilities_of.EarlyDepthTest) ∷
-    (codes "MULTISAMPLED_SHADING", capabilities_of.MultisampledShading) ∷
-    (codes "DUAL_SOURCE_BLENDING", capabilities_of.DualSourceBlending) ∷
-    (codes "SUBGROUP", capabilities_of.Subgroup) ∷
-    (codes "SUBGROUP_BARRIER", capabilities_of.SubgroupBarrier) ∷
-    (codes "SHADER_INT64_ATOMIC_MIN_MAX", capabilities_of.ShaderInt64AtomicMinMax) ∷
-    (codes "SHADER_INT64_ATOMIC_ALL_OPS", capabilities_of.ShaderInt64AtomicAllOps) ∷
-    (codes "SHADER_FLOAT32_ATOMIC", capabilities_of.ShaderFloat32Atomic) ∷
-    (codes "TEXTURE_ATOMIC", capabilities_of.TextureAtomic) ∷
-    (codes "TEXTURE_INT64_ATOMIC", capabilities_of.TextureInt64Atomic) ∷
-    (codes "TEXTURE_EXTERNAL", capabilities_of.TextureExternal) ∷
-    (codes "RAY_QUERY", capabilities_of.RayQuery) ∷
-    (codes "RAY_HIT_VERTEX_POSITION", capabilities_of.RayHitVertexPosition) ∷
-    (codes "RAY_TRACING_PIPELINE", capabilities_of.RayTracingPipeline) ∷
-    (codes "SHADER_BARYCENTRICS", capabilities_of.ShaderBarycentrics) ∷
-    (codes "MESH_SHADER", capabilities_of.MeshShader) ∷
-    (codes "MESH_SHADER_POINT_TOPOLOGY", capabilities_of.MeshShaderPointTopology) ∷
-    (codes "PER_VERTEX", capabilities_of.PerVertex) ∷
-    (codes "DRAW_INDEX", capabilities_of.DrawIndex) ∷
-    (codes "COOPERATIVE_MATRIX", capabilities_of.CooperativeMatrix) ∷
-    (codes "MEMORY_DECORATION_COHERENT", capabilities_of.MemoryDecorationCoherent) ∷
-    (codes "MEMORY_DECORATION_VOLATILE", capabilities_of.MemoryDecorationVolatile) ∷
-    []
-
--- the stages of a stage set
-abbrev pub stages : List (List ℕ × ShaderStage)
-stages =
-    (codes "VERTEX", stages_of.Vertex) ∷
-    (codes "FRAGMENT", stages_of.Fragment) ∷
-    (codes "COMPUTE", stages_of.Compute) ∷
-    (codes "MESH", stages_of.Mesh) ∷
-    (codes "TASK", stages_of.Task) ∷
-    (codes "RAY_GENERATION", stages_of.RayGeneration) ∷
-    (codes "ANY_HIT", stages_of.AnyHit) ∷
-    (codes "CLOSEST_HIT", stages_of.ClosestHit) ∷
-    (codes "MISS", stages_of.Miss) ∷
-    []
-
--- the kinds of subgroup operation
-abbrev pub subgroup_flags : List (List ℕ × SubgroupFlag)
-subgroup_flags =
-    (codes "BASIC", subgroup_flags_of.Basic) ∷
-    (codes "VOTE", subgroup_flags_of.Vote) ∷
-    (codes "ARITHMETIC", subgroup_flags_of.Arithmetic) ∷
-    (codes "BALLOT", subgroup_flags_of.Ballot) ∷
-    (codes "SHUFFLE", subgroup_flags_of.Shuffle) ∷
-    (codes "SHUFFLE_RELATIVE", subgroup_flags_of.ShuffleRelative) ∷
-    (codes "QUAD", subgroup_flags_of.Quad) ∷
-    []
+use Rattle.ir_flags.specs.declared.settings.ValidationFlags.{ValidationFlags}
+use Rattle.ir_flags.specs.declared.settings.Capabilities.{Capabilities}
+use Rattle.ir_flags.specs.declared.stages.ShaderStages.{ShaderStages}
+use Rattle.ir_flags.specs.declared.stages.SubgroupOperationSet.{SubgroupOperationSet}
+use Rattle.ir_flags.specs.Words as bits
 
 -- the kinds of scalar
 abbrev pub scalar_kinds : List (List ℕ × ScalarKind)
@@ -537,26 +456,32 @@ entry_stages =
     (codes "Miss", stages_of.Miss) ∷
     []
 
--- how a storage may be accessed
+-- ---- sets: each word beside the set of its one bit, as the set's own table of words has it
+
+-- what may be done with a storage buffer or a storage texture
 abbrev pub storage_access : List (List ℕ × StorageAccess)
-storage_access =
-    (codes "LOAD", record { 0 = 1 }) ∷
-    (codes "STORE", record { 0 = 2 }) ∷
-    (codes "ATOMIC", record { 0 = 4 }) ∷
-    []
+storage_access = map (λ row. (row.0, record { 0 = row.1 })) bits.storage_access
 
 -- what a barrier waits for
 abbrev pub barriers : List (List ℕ × Barrier)
-barriers =
-    (codes "STORAGE", record { 0 = 1 }) ∷
-    (codes "WORK_GROUP", record { 0 = 2 }) ∷
-    (codes "SUB_GROUP", record { 0 = 4 }) ∷
-    (codes "TEXTURE", record { 0 = 8 }) ∷
-    []
+barriers = map (λ row. (row.0, record { 0 = row.1 })) bits.barrier
 
 -- how memory is seen by others
 abbrev pub memory_decorations : List (List ℕ × MemoryDecorations)
-memory_decorations =
-    (codes "COHERENT", record { 0 = 1 }) ∷
-    (codes "VOLATILE", record { 0 = 2 }) ∷
-    []
+memory_decorations = map (λ row. (row.0, record { 0 = row.1 })) bits.memory_decorations
+
+-- the checks
+abbrev pub flags : List (List ℕ × ValidationFlags)
+flags = map (λ row. (row.0, record { 0 = row.1 })) bits.validation_flags
+
+-- the capabilities
+abbrev pub capabilities : List (List ℕ × Capabilities)
+capabilities = map (λ row. (row.0, record { 0 = row.1 })) bits.capabilities
+
+-- the stages at which subgroup operations may stand
+abbrev pub stages : List (List ℕ × ShaderStages)
+stages = map (λ row. (row.0, record { 0 = row.1 })) bits.shader_stages
+
+-- the kinds of subgroup operation
+abbrev pub operations : List (List ℕ × SubgroupOperationSet)
+operations = map (λ row. (row.0, record { 0 = row.1 })) bits.subgroup_operations

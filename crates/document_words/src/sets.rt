@@ -1,4 +1,4 @@
-// The words of sets that are made of bits.
+// The words of sets that are made of bits: each word stands for the set of its one bit.
 ghost use Rattle.std.specs.Prelude.{◌≡◌};
 ghost use Rattle.document_words.specs.Tables.{storage_access, barriers, memory_decorations};
 ghost use Rattle.document_words.specs.Unions.{access_union, barrier_union, decoration_union};
@@ -7,9 +7,9 @@ use crate::words::{SetWord, Word};
 use ir_flags::{Barrier, MemoryDecorations, StorageAccess};
 
 static STORAGE_ACCESS: [(&str, StorageAccess); 3] = [
-    ("LOAD", StorageAccess(1)),
-    ("STORE", StorageAccess(2)),
-    ("ATOMIC", StorageAccess(4)),
+    ("LOAD", StorageAccess::LOAD),
+    ("STORE", StorageAccess::STORE),
+    ("ATOMIC", StorageAccess::ATOMIC),
 ];
 
 impl Word for StorageAccess {
@@ -35,10 +35,10 @@ impl SetWord for StorageAccess {
 }
 
 static BARRIERS: [(&str, Barrier); 4] = [
-    ("STORAGE", Barrier(1)),
-    ("WORK_GROUP", Barrier(2)),
-    ("SUB_GROUP", Barrier(4)),
-    ("TEXTURE", Barrier(8)),
+    ("STORAGE", Barrier::STORAGE),
+    ("WORK_GROUP", Barrier::WORK_GROUP),
+    ("SUB_GROUP", Barrier::SUB_GROUP),
+    ("TEXTURE", Barrier::TEXTURE),
 ];
 
 impl Word for Barrier {
@@ -64,8 +64,8 @@ impl SetWord for Barrier {
 }
 
 static MEMORY_DECORATIONS: [(&str, MemoryDecorations); 2] = [
-    ("COHERENT", MemoryDecorations(1)),
-    ("VOLATILE", MemoryDecorations(2)),
+    ("COHERENT", MemoryDecorations::COHERENT),
+    ("VOLATILE", MemoryDecorations::VOLATILE),
 ];
 
 impl Word for MemoryDecorations {

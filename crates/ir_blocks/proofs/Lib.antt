@@ -1,6 +1,7 @@
 pub mod Behind
 pub mod TerminatorLemmas
 pub mod TailLaws
+pub mod OneCompleted
 pub mod SpanLemmas
 pub mod SpanLaws
 pub mod SpanIterLemmas

@@ -166,7 +166,7 @@ room_of_case [] i c n e all = absurd (omega arith)
 room_of_case (d ∷ ds) zero c n e all = ap case_room e ∙ left_true _ _ all
 room_of_case (d ∷ ds) (suc i) c n e all = room_of_case ds i c (omega arith) e (right_true _ _ all)
 
-length_set : {A : Type 0} (vs : List A) (i : ℕ) (x : A) → length (set vs i x) ≡ length vs
+pub length_set : {A : Type 0} (vs : List A) (i : ℕ) (x : A) → length (set vs i x) ≡ length vs
 length_set [] i x = refl
 length_set (v ∷ vs) zero x = refl
 length_set (v ∷ vs) (suc i) x = ap suc (length_set vs i x)
@@ -191,7 +191,7 @@ take_suc (v ∷ vs) (suc i) x n e = ap (λ z. v ∷ z) (take_suc vs i x (omega a
 one_more : (i : ℕ) → i + 1 ≡ suc i
 one_more i = omega arith
 
-take_set : {A : Type 0} (vs : List A) (i : ℕ) (x : A) → i < length vs → take (i + 1) (set vs i x) ≡ take i vs ++ x ∷ []
+pub take_set : {A : Type 0} (vs : List A) (i : ℕ) (x : A) → i < length vs → take (i + 1) (set vs i x) ≡ take i vs ++ x ∷ []
 take_set vs i x n = ap (λ k. take k (set vs i x)) (one_more i) ∙ take_set_suc vs i x n
 
 take_next : {A : Type 0} (vs : List A) (i : ℕ) (x : A) → i < length vs → x ≡ get_or vs i x → take (i + 1) vs ≡ take i vs ++ x ∷ []

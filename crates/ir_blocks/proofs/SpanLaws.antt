@@ -10,14 +10,14 @@ use Rattle.ir_blocks.specs.Plain.{PlainStatement, block, choice, switch, return,
 use Rattle.ir_blocks.specs.Shapes.{shape_of, Part, inner, accepting, rejecting, case_at, turn, continuing, case_body, part_of}
 use Rattle.ir_blocks.specs.Places.{Place, here, later, inside, condition, StandsAt}
 use Rattle.ir_blocks.specs.Spans.{BlockSpans, spans, in_next, StatementSpans, no_block, in_block, in_sides, in_cases, in_turns, CaseSpans, no_more, in_case, no_spans, own_spans, within_spans, first_of, first_within, behind_first, case_spans, spans_in, span_at, InStep}
-use Rattle.ir_blocks.specs.Tails.{Ends, IsTailPart, goes_on, IsOpenEnd, empty, behind_last, further, in_tail, completed}
+use Rattle.ir_blocks.specs.Tails.{IsCompleted, Ends, IsTailPart, goes_on, IsOpenEnd, empty, behind_last, further, in_tail, completed}
 use Rattle.ir_blocks.specs.TailSpans.{SpansCompleted, ending_span, ending_within, cases_within, completed_spans, finished_spans, finished_case_spans}
 use Rattle.ir_blocks.specs.View.{block_of, within_of, statement_view, statement_spans, block_view, block_spans, statements_of, spans_of, IsInStep, AllInStep, InStepWithin}
 use Rattle.ir_blocks.specs.declared.statements.Statement.{Statement}
 use Rattle.ir_blocks.specs.declared.statements.Block.{Block}
 use Rattle.ir_blocks.proofs.TerminatorLemmas.{block_view-statements}
 use Rattle.ir_blocks.proofs.SpanLemmas.{block_spans-lists}
-use Rattle.ir_blocks.proofs.TailLaws.{added, kept, only, none_in_stop}
+use Rattle.ir_blocks.proofs.TailLaws.{added, kept, only, none_in_stop, is_completed}
 
 -- ---- spans in step with a body
 
@@ -191,8 +191,15 @@ stays_in_step b own h = record {
   ];
 }
 
-pub spans_completed : (b : PlainBlock) (own : BlockSpans) → InStep b own → SpansCompleted b own (completed_spans b own)
+pub spans_completed : (b : PlainBlock) (own : BlockSpans) → InStep b own → SpansCompleted b (completed b) own (completed_spans b own)
 spans_completed b own h = record { kept = λ p s e. span_kept p b own h s e; added = λ p ends. span_added b p ends own h; in_step = stays_in_step b own h }
+
+-- what is found is the body completed with returns, and its spans
+pub completed_is : (b c : PlainBlock) → c ≡ completed b → IsCompleted b c
+completed_is b c e = subst (IsCompleted b) (sym e) (is_completed b)
+
+pub spans_completed_is : (b c : PlainBlock) (before after : BlockSpans) → c ≡ completed b → after ≡ completed_spans b before → InStep b before → SpansCompleted b c before after
+spans_completed_is b c before after e f h = subst (λ z. SpansCompleted b z before after) (sym e) (subst (SpansCompleted b (completed b) before) (sym f) (spans_completed b before h))
 
 -- ---- in step, block by block
 

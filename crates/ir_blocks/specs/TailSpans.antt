@@ -9,12 +9,12 @@ use Rattle.ir_blocks.specs.Spans.{BlockSpans, spans, InnerSpans, no_statement, i
 use Rattle.ir_blocks.specs.View.{PlainCase}
 use Rattle.ir_blocks.specs.Tails.{IsOpenEnd, goes_on, completed}
 
--- The spans `after` are those of b completed with returns, where those of b are `before`: each statement that stood
--- keeps its span at its place, each return that is added has the undefined span, and there is no other.
-pub record SpansCompleted (b : PlainBlock) (before after : BlockSpans) : Type 0 where
+-- The spans `after` are those of c, which is b completed with returns, where those of b are `before`: each statement
+-- that stood keeps its span at its place, each return that is added has the undefined span, and there is no other.
+pub record SpansCompleted (b c : PlainBlock) (before after : BlockSpans) : Type 0 where
   pub kept : (p : Place) (s : PlainStatement) → StandsAt b p s → span_at p after ≡ span_at p before
   pub added : (p : Place) → IsOpenEnd b p → span_at p after ≡ Some undefined_span
-  pub in_step : InStep (completed b) after
+  pub in_step : InStep c after
 
 -- ---- the spans of the completed body, found step by step
 
@@ -68,4 +68,4 @@ finished_case_body c kept = if c.falls then kept else completed_spans c.body kep
 
 -- where the spans are in step with the body, what is found is the spans of the completed body
 abbrev pub SpansCompletedByTails : Type 0
-SpansCompletedByTails = (b : PlainBlock) (kept : BlockSpans) → InStep b kept → SpansCompleted b kept (completed_spans b kept)
+SpansCompletedByTails = (b : PlainBlock) (kept : BlockSpans) → InStep b kept → SpansCompleted b (completed b) kept (completed_spans b kept)

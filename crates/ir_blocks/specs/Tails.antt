@@ -93,6 +93,10 @@ finished_case c = record { value = c.value; body = if c.falls then c.body else c
 abbrev pub CompletedByTails : Type 0
 CompletedByTails = (b : PlainBlock) → IsCompleted b (completed b)
 
+-- there is one body that is a given one completed with returns
+abbrev pub OneCompleted : Type 0
+OneCompleted = (b c : PlainBlock) → IsCompleted b c → c ≡ completed b
+
 -- to put returns in twice is to put them in once
 abbrev pub CompletedOnce : Type 0
 CompletedOnce = (b : PlainBlock) → completed (completed b) ≡ completed b

@@ -1,6 +1,6 @@
 // Laws of the items.
 ghost use Rattle.std.specs.Prelude.{◌≡◌};
-ghost use Rattle.ir_blocks.specs.Tails.{CompletedByTails, CompletedOnce};
+ghost use Rattle.ir_blocks.specs.Tails.{CompletedByTails, CompletedOnce, OneCompleted};
 ghost use Rattle.ir_blocks.specs.TailSpans.{SpansCompletedByTails};
 ghost use Rattle.ir_blocks.specs.View.{InStepByStatements};
 
@@ -21,6 +21,11 @@ pub fn in_step_by_statements()
 /// step at every depth.
 pub fn spans_completed_by_tails()
     ensures { SpansCompletedByTails }
+{}
+
+/// There is one body that is a given one completed with returns.
+pub fn one_completed()
+    ensures { OneCompleted }
 {}
 
 /// To put returns in twice is to put them in once.

@@ -14,7 +14,7 @@ mod terminator;
 pub use acts::{AtomicFunction, GatherMode, RayPipelineFunction, RayQueryFunction};
 pub use ir_expressions::{CooperativeData, Expression, ImageQuery, SampleLevel};
 pub use ir_types::{ArraySize, IrType, StructMember, TypeInner, key};
-pub use returns::ensure_block_returns;
+pub use returns::{ensure_block_returns, put_returns, reserve_returns};
 pub use span_iter::{SpanIntoIter, SpanIter, SpanIterMut};
 pub use statements::{Block, Statement, SwitchCase};
 pub use terminator::complete;

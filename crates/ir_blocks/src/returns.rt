@@ -4,9 +4,9 @@ ghost use Rattle.ir_blocks.specs.Plain.{return};
 ghost use Rattle.ir_blocks.specs.Spans.{no_block};
 ghost use Rattle.ir_arena.specs.Spans.{undefined_span};
 ghost use Rattle.ir_blocks.specs.Room.{HasOwnRoom, HasRoom, HasRoomWithin, HasRoomInCase, HasRoomInCases};
-ghost use Rattle.ir_blocks.specs.Tails.{completed, finished, finished_cases, finished_case};
-ghost use Rattle.ir_blocks.specs.TailSpans.{completed_spans, finished_spans, finished_case_spans, finished_case_body};
-ghost use Rattle.ir_blocks.specs.View.{statement_view, block_view, case_view, cases_of, statement_spans, block_spans, case_block_spans, case_spans_of, statements_of, spans_of};
+ghost use Rattle.ir_blocks.specs.Tails.{IsCompleted, completed, finished, finished_cases, finished_case};
+ghost use Rattle.ir_blocks.specs.TailSpans.{SpansCompleted, completed_spans, finished_spans, finished_case_spans, finished_case_body};
+ghost use Rattle.ir_blocks.specs.View.{AllInStep, statement_view, block_view, case_view, cases_of, statement_spans, block_spans, case_block_spans, case_spans_of, statements_of, spans_of};
 
 use crate::statements::{Block, Statement, SwitchCase};
 use crate::terminator::goes_on;
@@ -18,18 +18,22 @@ use std::alloc::{AllocError, Global};
 /// nor moved. The error is want of memory, and leaves the body's statements and spans as they were, since room is made
 /// for every return before the first is put in. The blocks grow in their own allocator.
 pub fn ensure_block_returns(_alloc: Global, block: &mut Block) -> Result<(), AllocError>
-    ensures ok { OnOk result (block_view block.new ≡ completed (block_view block.old)) }
-    ensures spans { OnOk result (block_spans block.new ≡ completed_spans (block_view block.old) (block_spans block.old)) }
+    ensures ok { OnOk result (IsCompleted (block_view block.old) (block_view block.new)) }
+    ensures spans { OnOk result (AllInStep block.old → SpansCompleted (block_view block.old) (block_view block.new) (block_spans block.old) (block_spans block.new)) }
+    ensures found { OnOk result (block_view block.new ≡ completed (block_view block.old)) }
+    ensures found_spans { OnOk result (block_spans block.new ≡ completed_spans (block_view block.old) (block_spans block.old)) }
     ensures err { OnErr result (block_view block.new ≡ block_view block.old) }
     ensures err_spans { OnErr result (block_spans block.new ≡ block_spans block.old) }
 {
     reserve_returns(block)?;
-    add_returns(block)
+    put_returns(block);
+    Ok(())
 }
 
-// Makes room for a return in each block that wants one.
+/// Makes room for a return and its span in each block of a body that wants one, and changes nothing else. The error is
+/// want of memory. It is the first half of [`ensure_block_returns`], for who completes several bodies or none.
 #[cycle(reserves)]
-fn reserve_returns(block: &mut Block) -> Result<(), AllocError>
+pub fn reserve_returns(block: &mut Block) -> Result<(), AllocError>
     ensures statements { block_view block.new ≡ block_view block.old }
     ensures spans { block_spans block.new ≡ block_spans block.old }
     ensures room { OnOk result (HasRoom block.new) }
@@ -67,7 +71,26 @@ fn reserve_within(statement: &mut Statement) -> Result<(), AllocError>
             reserve_returns(reject)
         }
         Statement::Switch { cases, .. } => reserve_cases(cases),
-        _ => Ok(()),
+        Statement::Emit(_)
+        | Statement::Loop { .. }
+        | Statement::Break
+        | Statement::Continue
+        | Statement::Return { .. }
+        | Statement::Kill
+        | Statement::ControlBarrier(_)
+        | Statement::MemoryBarrier(_)
+        | Statement::Store { .. }
+        | Statement::ImageStore { .. }
+        | Statement::Atomic { .. }
+        | Statement::ImageAtomic { .. }
+        | Statement::WorkGroupUniformLoad { .. }
+        | Statement::Call { .. }
+        | Statement::RayQuery { .. }
+        | Statement::SubgroupBallot { .. }
+        | Statement::SubgroupCollectiveOperation { .. }
+        | Statement::SubgroupGather { .. }
+        | Statement::CooperativeStore { .. }
+        | Statement::RayPipelineFunction(_) => Ok(()),
     }
 }
 
@@ -93,6 +116,19 @@ fn reserve_case(case: &mut SwitchCase) -> Result<(), AllocError>
         return Ok(());
     }
     reserve_returns(&mut case.body)
+}
+
+/// Puts a return into each block of a body that wants one, all of which have room for it. It is the second half of
+/// [`ensure_block_returns`].
+pub fn put_returns(block: &mut Block)
+    requires { HasRoom block.old }
+    ensures statements { block_view block.new ≡ completed (block_view block.old) }
+    ensures spans { block_spans block.new ≡ completed_spans (block_view block.old) (block_spans block.old) }
+{
+    match add_returns(block) {
+        Ok(()) => {}
+        Err(_) => unreachable!(),
+    }
 }
 
 // Puts a return into each block that wants one. Where they have room this can't fail.
@@ -136,7 +172,26 @@ fn add_within(statement: &mut Statement) -> Result<(), AllocError>
             add_returns(reject)
         }
         Statement::Switch { cases, .. } => add_to_cases(cases),
-        _ => Ok(()),
+        Statement::Emit(_)
+        | Statement::Loop { .. }
+        | Statement::Break
+        | Statement::Continue
+        | Statement::Return { .. }
+        | Statement::Kill
+        | Statement::ControlBarrier(_)
+        | Statement::MemoryBarrier(_)
+        | Statement::Store { .. }
+        | Statement::ImageStore { .. }
+        | Statement::Atomic { .. }
+        | Statement::ImageAtomic { .. }
+        | Statement::WorkGroupUniformLoad { .. }
+        | Statement::Call { .. }
+        | Statement::RayQuery { .. }
+        | Statement::SubgroupBallot { .. }
+        | Statement::SubgroupCollectiveOperation { .. }
+        | Statement::SubgroupGather { .. }
+        | Statement::CooperativeStore { .. }
+        | Statement::RayPipelineFunction(_) => Ok(()),
     }
 }
 

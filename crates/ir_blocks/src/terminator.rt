@@ -21,7 +21,22 @@ pub(crate) fn goes_on(statement: &Statement) -> bool
         Statement::Break | Statement::Continue | Statement::Return { .. } | Statement::Kill => {
             false
         }
-        _ => true,
+        Statement::Emit(_)
+        | Statement::Loop { .. }
+        | Statement::ControlBarrier(_)
+        | Statement::MemoryBarrier(_)
+        | Statement::Store { .. }
+        | Statement::ImageStore { .. }
+        | Statement::Atomic { .. }
+        | Statement::ImageAtomic { .. }
+        | Statement::WorkGroupUniformLoad { .. }
+        | Statement::Call { .. }
+        | Statement::RayQuery { .. }
+        | Statement::SubgroupBallot { .. }
+        | Statement::SubgroupCollectiveOperation { .. }
+        | Statement::SubgroupGather { .. }
+        | Statement::CooperativeStore { .. }
+        | Statement::RayPipelineFunction(_) => true,
     }
 }
 

@@ -1,1 +1,4 @@
 pub mod CopyLemmas
+pub mod Returned
+pub mod EachLemmas
+pub mod ReturnLemmas

@@ -1,7 +1,7 @@
 -- Functions, entry points and the module as plain data, without the memory and the spans that they have.
 use Rattle.std.specs.Prelude.{ℕ, List, Option}
 use Rattle.ir_kinds.specs.declared.bindings.Binding.{Binding}
-use Rattle.ir_kinds.specs.declared.settings.ShaderStage.{ShaderStage}
+use Rattle.ir_kinds.specs.declared.stages.ShaderStage.{ShaderStage}
 use Rattle.ir_kinds.specs.declared.stages.EarlyDepthTest.{EarlyDepthTest}
 use Rattle.ir_types.specs.Plain.{PlainType}
 use Rattle.ir_expressions.specs.Plain.{PlainExpression}

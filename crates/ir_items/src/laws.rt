@@ -1,4 +1,17 @@
 // Laws of the items.
+ghost use Rattle.ir_items.specs.Returned.{OneReturned, ReturnedByBodies};
+
 pub use ir_blocks::laws::{
-    completed_by_tails, completed_once, in_step_by_statements, spans_completed_by_tails,
+    completed_by_tails, completed_once, in_step_by_statements, one_completed,
+    spans_completed_by_tails,
 };
+
+/// The module whose bodies are each completed is the module with returns put in.
+pub fn returned_by_bodies()
+    ensures { ReturnedByBodies }
+{}
+
+/// There is one module that is a given one with returns put in.
+pub fn one_returned()
+    ensures { OneReturned }
+{}

@@ -7,6 +7,7 @@ mod functions;
 pub mod laws;
 mod module;
 mod module_lists;
+mod returns;
 
 pub use entries::{EntryPoint, MeshStageInfo};
 pub use functions::{Function, FunctionArgument, FunctionResult, LocalVariable};

@@ -2,6 +2,5 @@ pub mod Bindings
 pub mod Images
 pub mod Maths
 pub mod Scalars
-pub mod Settings
 pub mod Spaces
 pub mod Values

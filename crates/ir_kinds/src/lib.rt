@@ -1,4 +1,4 @@
-//! The plain enums and structs of the IR and of a validator's settings: words that hold no list, no text and no handle.
+//! The plain enums and structs of the IR: words that hold no list, no text and no handle.
 #![tactic(auto)]
 
 mod bindings;
@@ -9,7 +9,6 @@ mod maths;
 mod operators;
 mod predeclared;
 mod scalars;
-mod settings;
 mod spaces;
 mod stages;
 mod subgroups;
@@ -27,8 +26,7 @@ pub use scalars::{
     ABSTRACT_WIDTH, BOOL_WIDTH, Bytes, CooperativeRole, CooperativeSize, Scalar, ScalarKind,
     SwizzleComponent, VectorSize,
 };
-pub use settings::{Capability, Flag, ShaderStage, SubgroupFlag};
 pub use spaces::AddressSpace;
-pub use stages::{ConservativeDepth, EarlyDepthTest, MeshOutputTopology};
+pub use stages::{ConservativeDepth, EarlyDepthTest, MeshOutputTopology, ShaderStage};
 pub use subgroups::{CollectiveOperation, Direction, SubgroupOperation};
 pub use values::{Literal, SwitchValue};

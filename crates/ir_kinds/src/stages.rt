@@ -1,9 +1,45 @@
-//! What belongs to entry points of some stages.
+//! The stages of a pipeline, and what belongs to entry points of some of them.
 
-ghost use Rattle.std.specs.Prelude.{◌≡◌};
+ghost use Rattle.std.specs.Prelude.{◌≡◌, ◌↔◌, ◌⊎◌, IsTrue};
 ghost use Rattle.ir_kinds.specs.Bindings.{index_built_in};
 
 use crate::bindings::BuiltIn;
+
+/// A stage of a pipeline (naga's `ShaderStage`).
+#[derive(Clone, Copy, PartialEq, Eq, Debug)]
+pub enum ShaderStage {
+    /// Vertex shading.
+    Vertex,
+    /// Fragment shading.
+    Fragment,
+    /// Compute shading.
+    Compute,
+    /// Mesh shading.
+    Mesh,
+    /// Task shading.
+    Task,
+    /// Generation of rays.
+    RayGeneration,
+    /// Any hit of a ray.
+    AnyHit,
+    /// The closest hit of a ray.
+    ClosestHit,
+    /// A ray that hits nothing.
+    Miss,
+}
+
+impl ShaderStage {
+    /// Whether the stage runs in workgroups: compute, task or mesh (naga's `ShaderStage::compute_like`).
+    pub const fn compute_like(self) -> bool
+        ensures { IsTrue result
+            ↔ ((self ≡ ShaderStage.Compute) ⊎ (self ≡ ShaderStage.Task) ⊎ (self ≡ ShaderStage.Mesh)) }
+    {
+        matches!(
+            self,
+            ShaderStage::Compute | ShaderStage::Task | ShaderStage::Mesh
+        )
+    }
+}
 
 /// How a fragment's depth may change (naga's `ConservativeDepth`).
 #[derive(Clone, Copy, PartialEq, Eq, Debug)]

@@ -2,7 +2,7 @@
 use Rattle.std.specs.Prelude.{◌≡◌, ◌≤◌, ℕ, List, [], ◌∷◌, Option, Some, option_map, codes, refl}
 use Rattle.std.proofs.Common.{subst, ap}
 use Rattle.serde_json.specs.Data.{Data, array, Items, depth}
-use Rattle.ir_kinds.specs.declared.settings.ShaderStage.{ShaderStage}
+use Rattle.ir_kinds.specs.declared.stages.ShaderStage.{ShaderStage}
 use Rattle.ir_kinds.specs.declared.stages.EarlyDepthTest.{EarlyDepthTest}
 use Rattle.ir_kinds.specs.declared.stages.EarlyDepthTest.TheVariants as early
 use Rattle.ir_items.specs.declared.entries.MeshStageInfo.{MeshStageInfo}

@@ -1,7 +1,7 @@
 // What an entry point has beside its function.
 ghost use Rattle.std.specs.Prelude.{◌≡◌, ℕ, List, option_map};
 ghost use Rattle.ir_items.specs.declared.entries.MeshStageInfo.{MeshStageInfo};
-ghost use Rattle.ir_kinds.specs.declared.settings.ShaderStage.{ShaderStage};
+ghost use Rattle.ir_kinds.specs.declared.stages.ShaderStage.{ShaderStage};
 ghost use Rattle.ir_kinds.specs.declared.stages.EarlyDepthTest.{EarlyDepthTest};
 ghost use Rattle.item_forms.specs.Items.{a_stage, an_early, the_sizes, a_mesh};
 

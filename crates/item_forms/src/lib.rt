@@ -8,6 +8,7 @@ mod globals;
 mod kinds;
 mod spaces;
 mod special;
+mod type_list;
 mod types;
 
 pub use bindings::{BindingForm, BuiltInRow, ResourceForm};

@@ -1,12 +1,12 @@
 use Rattle.std.proofs.Common.{arith}
-use Rattle.serde_json.specs.View.{view as data_of}
-use Rattle.document_reader.proofs.Seam.{found_if, refused_if}
+use Rattle.document_reader.proofs.Seam.{err_if, reads_document, reads_none}
 use Rattle.document_reader.proofs.reading.read_document.Goals as goal
 
-pub returns-in-Ok-clause-found : goal.returns-in-Ok-clause-found
-returns-in-Ok-clause-found c =
-    found_if c.args.bytes.now (data_of c.in-Ok.value) c.distinct_document.result (omega arith) c.in-Ok.ensures.ok c.distinct_document.ensures.found
+pub returns-in_err-read_value-in-Ok-clause-refused : goal.returns-in_err-read_value-in-Ok-clause-refused
+returns-in_err-read_value-in-Ok-clause-refused c =
+    err_if _ _ _ c.from_residual.ensures
+    (λ e gives other. reads_none c.args.bytes.now _ c.in-Ok.ensures.ok (c.in_err-read_value-in-Ok.ensures.refused (λ lack. other (gives.1 lack))))
 
-pub returns-in-Ok-clause-refused : goal.returns-in-Ok-clause-refused
-returns-in-Ok-clause-refused c =
-    refused_if c.args.bytes.now (data_of c.in-Ok.value) c.distinct_document.result c.in-Ok.ensures.ok c.distinct_document.ensures.refused
+pub returns-in_ok-read_value-in-Ok-clause-found : goal.returns-in_ok-read_value-in-Ok-clause-found
+returns-in_ok-read_value-in-Ok-clause-found c =
+    reads_document c.args.bytes.now _ _ (omega arith) c.in-Ok.ensures.ok c.in_ok-read_value-in-Ok.ensures.found c.in_ok-read_value-in-Ok.ensures.distinct

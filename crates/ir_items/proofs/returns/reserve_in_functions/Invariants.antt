@@ -1,0 +1,9 @@
+use Rattle.std.proofs.Common.{◌≡◌, length, map, take}
+use Rattle.ir_globals.specs.Copies.{entry_of}
+use Rattle.ir_items.specs.Copies.{spanned_function}
+use Rattle.ir_items.specs.Returned.{FunctionsHaveRoom}
+use Rattle.ir_items.proofs.returns.reserve_in_functions.Given as goal
+
+abbrev pub invariant-loop-place : goal.invariant-loop-place
+invariant-loop-place l =
+    (length l.functions ≡ length l.fn.functions) × (map (entry_of spanned_function) l.functions ≡ map (entry_of spanned_function) l.fn.functions) × FunctionsHaveRoom (take l.place l.functions)

@@ -1,0 +1,112 @@
+// Returns at the ends of what a module's functions do.
+ghost use Rattle.std.specs.Prelude.{◌≡◌, map, OnOk, OnErr};
+ghost use Rattle.ir_globals.specs.Copies.{entry_of};
+ghost use Rattle.ir_items.specs.Copies.{spanned_function, spanned_entry, spanned_module};
+ghost use Rattle.ir_items.specs.Returned.{IsReturned, KeepsModuleSpans, returned_module, returned_module_spans, returned_function_spans, returned_entry_spans, FunctionHasRoom, EntryHasRoom, FunctionsHaveRoom, EntriesHaveRoom};
+ghost use Rattle.ir_items.specs.View.{module_view};
+
+use crate::entries::EntryPoint;
+use crate::functions::Function;
+use crate::module::Module;
+use ir_arena::arena::Arena;
+use ir_arena::handle::Handle;
+use ir_blocks::{put_returns, reserve_returns};
+use ir_types::key;
+use std::alloc::{AllocError, Global};
+
+impl Module {
+    /// Puts the returns that are missing into the body of each function and of each entry point's function, as
+    /// [`ir_blocks::ensure_block_returns`] does for one body. The error is want of memory, and leaves all that the
+    /// module holds as it was, spans too, since room is made in every body before the first return is put in.
+    pub fn ensure_block_returns(&mut self, _alloc: Global) -> Result<(), AllocError>
+        ensures ok { OnOk result (IsReturned (module_view self.old) (module_view self.new)) }
+        ensures spans { OnOk result (KeepsModuleSpans (spanned_module self.old) (spanned_module self.new)) }
+        ensures found { OnOk result (module_view self.new ≡ returned_module (module_view self.old)) }
+        ensures found_spans { OnOk result (spanned_module self.new ≡ returned_module_spans (spanned_module self.old)) }
+        ensures err { OnErr result (spanned_module self.new ≡ spanned_module self.old) }
+    {
+        reserve_in_functions(&mut self.functions)?;
+        reserve_in_entries(&mut self.entry_points)?;
+        put_into_functions(&mut self.functions);
+        put_into_entries(&mut self.entry_points);
+        Ok(())
+    }
+}
+
+impl Function {
+    // Makes room for the returns that its body wants.
+    fn reserve_returns(&mut self) -> Result<(), AllocError>
+        ensures same { spanned_function self.new ≡ spanned_function self.old }
+        ensures room { OnOk result (FunctionHasRoom self.new) }
+    {
+        reserve_returns(&mut self.body)
+    }
+
+    // Puts the returns that its body wants into the room for them.
+    fn put_returns(&mut self)
+        requires { FunctionHasRoom self.old }
+        ensures { spanned_function self.new ≡ returned_function_spans (spanned_function self.old) }
+    {
+        put_returns(&mut self.body);
+    }
+}
+
+impl EntryPoint {
+    // Makes room for the returns that its function's body wants.
+    fn reserve_returns(&mut self) -> Result<(), AllocError>
+        ensures same { spanned_entry self.new ≡ spanned_entry self.old }
+        ensures room { OnOk result (EntryHasRoom self.new) }
+    {
+        self.function.reserve_returns()
+    }
+
+    // Puts the returns that its function's body wants into the room for them.
+    fn put_returns(&mut self)
+        requires { EntryHasRoom self.old }
+        ensures { spanned_entry self.new ≡ returned_entry_spans (spanned_entry self.old) }
+    {
+        self.function.put_returns();
+    }
+}
+
+// Makes room in each function.
+fn reserve_in_functions(functions: &mut Arena<Function, key::Function>) -> Result<(), AllocError>
+    ensures same { map (entry_of spanned_function) functions.new ≡ map (entry_of spanned_function) functions.old }
+    ensures room { OnOk result (FunctionsHaveRoom functions.new) }
+{
+    for place in 0..functions.len() {
+        functions.get_mut(Handle::at(place)).reserve_returns()?;
+    }
+    Ok(())
+}
+
+// Makes room in each entry point.
+fn reserve_in_entries(entries: &mut Vec<EntryPoint>) -> Result<(), AllocError>
+    ensures same { map spanned_entry entries.new.items ≡ map spanned_entry entries.old.items }
+    ensures room { OnOk result (EntriesHaveRoom entries.new.items) }
+{
+    for place in 0..entries.len() {
+        entries[place].reserve_returns()?;
+    }
+    Ok(())
+}
+
+// Puts returns into each function.
+fn put_into_functions(functions: &mut Arena<Function, key::Function>)
+    requires { FunctionsHaveRoom functions.old }
+    ensures { map (entry_of spanned_function) functions.new ≡ map (entry_of returned_function_spans) (map (entry_of spanned_function) functions.old) }
+{
+    for place in 0..functions.len() {
+        functions.get_mut(Handle::at(place)).put_returns();
+    }
+}
+
+// Puts returns into each entry point.
+fn put_into_entries(entries: &mut Vec<EntryPoint>)
+    requires { EntriesHaveRoom entries.old.items }
+    ensures { map spanned_entry entries.new.items ≡ map returned_entry_spans (map spanned_entry entries.old.items) }
+{
+    for place in 0..entries.len() {
+        entries[place].put_returns();
+    }
+}
