@@ -55,7 +55,8 @@ fn is_plain_literal(literal: Literal) -> bool
     }
 }
 
-fn is_plain_expression(expression: &Expression) -> bool
+/// Whether the expression is checked so far.
+pub fn is_plain_expression(expression: &Expression) -> bool
     ensures { result ≡ plain_expression (expression_view expression.now) }
 {
     match expression {

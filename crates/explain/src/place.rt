@@ -4,6 +4,7 @@ use crate::parts::{Part, Row};
 use std::fmt::{self, Display};
 
 /// The indexes that lead to a place of a document, from the outermost on, as the names of the parts that have one.
+#[derive(Clone, Copy)]
 pub struct Told<'a>(pub &'a [Option<usize>]);
 
 // One step into a part, and what is there.
