@@ -3,7 +3,7 @@ use crate::padded::Padded;
 use anyhow::{Result, anyhow};
 use base64::engine::general_purpose::STANDARD;
 use serde_json::Value;
-use shader_check::{Sink, Source, Verdict, check_document, read_document};
+use shader_check::{DocumentError, Sink, Source, Verdict, check_document, read_document};
 use std::alloc::{AllocError, Global};
 
 /// A document, and the text that is due for it.
@@ -54,7 +54,11 @@ fn first_line(text: &str) -> &str {
 
 // Reads the case's bytes as a document. Answers how that differs from what is due, or `None` where it does not.
 fn judge_form(alloc: Global, case: &Case<'_>, form: bool) -> Result<Option<String>, AllocError> {
-    let read = read_document(alloc, case.input.as_slice())?.is_some();
+    let read = match read_document(alloc, case.input.as_slice()) {
+        Ok(_) => true,
+        Err(DocumentError::Memory) => return Err(AllocError),
+        Err(_) => false,
+    };
     if read == form {
         return Ok(None);
     }

@@ -1,1 +1,2 @@
+pub mod MemberBits
 pub mod Ones

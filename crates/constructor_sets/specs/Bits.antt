@@ -1,5 +1,6 @@
 -- The one bits of a number.
-use Rattle.std.specs.Prelude.{◌≡◌, ◌<◌, ◌*◌, ◌/◌, ◌%◌, ◌^◌, ◌==◌, ℕ, zero, suc, List, [], ◌∷◌, Bool, true, false}
+use Rattle.std.specs.Prelude.{◌≡◌, ◌↔◌, ◌<◌, ◌*◌, ◌/◌, ◌%◌, ◌^◌, ◌==◌, ℕ, zero, suc, List, [], ◌∷◌, Some, Bool, true, false, Contains, slice_get}
+use Rattle.ir_flags.specs.Sets.{Has}
 
 abbrev pub put_if : {A : Type 0} → Bool → A → List A → List A
 put_if true x xs = x ∷ xs
@@ -32,3 +33,7 @@ IsRisingFrom n (x ∷ xs) = (n < x) × IsRisingFrom x xs
 abbrev pub ArePowersOfTwo : List ℕ → Type 0
 ArePowersOfTwo [] = Unit {0}
 ArePowersOfTwo (x ∷ xs) = ((k : ℕ) × (x ≡ 2 ^ k)) × ArePowersOfTwo xs
+
+-- a set of what stands in this list has an item exactly where it has the bit of the item's place
+abbrev pub MembersByBits : {A : Type 0} → List A → Type 0
+MembersByBits {A} items = (set place : ℕ) (item : A) → slice_get items place ≡ Some item → Contains (chosen set items) item ↔ Has set (2 ^ place)

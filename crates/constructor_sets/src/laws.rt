@@ -3,8 +3,8 @@
 ghost use Rattle.std.specs.Prelude.{◌≡◌, ◌++◌, [], ◌∷◌, sum};
 ghost use Rattle.ir_kinds.specs.Scalars.{boolean, abstract_int, abstract_float};
 ghost use Rattle.overload_tables.specs.Tables.{numbers, floats, integers, vectors};
-ghost use Rattle.constructor_sets.specs.Bits.{one_bits, IsRisingFrom, ArePowersOfTwo};
-ghost use Rattle.constructor_sets.specs.Members.{scalars_in, sizes_in};
+ghost use Rattle.constructor_sets.specs.Bits.{one_bits, IsRisingFrom, ArePowersOfTwo, MembersByBits};
+ghost use Rattle.constructor_sets.specs.Members.{scalars, scalars_in, sizes, sizes_in};
 
 use crate::{ConstructorSet, ScalarSet};
 
@@ -13,6 +13,12 @@ pub fn ones_of_a_number(bits: u64)
     ensures sum { sum (one_bits bits) ≡ bits }
     ensures rising { IsRisingFrom 0 (one_bits bits) }
     ensures powers { ArePowersOfTwo (one_bits bits) }
+{}
+
+/// A set has a scalar, or a shape, exactly where it has the bit of its place among the twelve, or the thirteen.
+pub fn members_by_bits()
+    ensures scalars { MembersByBits scalars }
+    ensures sizes { MembersByBits sizes }
 {}
 
 /// The scalars of the named sets.

@@ -1,16 +1,15 @@
 -- The spans of the completed body, as the code makes them.
-use Rattle.std.proofs.Common.{Result, Ok, Err, IfOk, ◌≡◌, ◌≤◌, ℕ, List, [], ◌∷◌, ◌++◌, map, take, length, Bool, true, false, refl, sym, ap, ◌∙◌, rules}
-use Rattle.std.proofs.lemmas.List.{map-append, take_all, append-nil, append_assoc}
+use Rattle.std.proofs.Common.{◌≡◌, List, [], ◌∷◌, ◌++◌, map, take, Bool, true, false, refl, sym, ap, ◌∙◌, rules}
+use Rattle.std.proofs.lemmas.List.{map-append, append-nil, append_assoc}
 use Rattle.ir_arena.specs.declared.span.Span.{Span}
 use Rattle.ir_arena.specs.Spans.{undefined_span}
 use Rattle.ir_blocks.specs.Shapes.{shape_of}
-use Rattle.ir_blocks.specs.Spans.{BlockSpans, spans, InnerSpans, in_next, StatementSpans, no_block, in_case, tail_of}
+use Rattle.ir_blocks.specs.Spans.{BlockSpans, spans, InnerSpans, in_next, StatementSpans, no_block, tail_of}
 use Rattle.ir_blocks.specs.Tails.{goes_on}
-use Rattle.ir_blocks.specs.TailSpans.{ending_span, ending_within, with_first, completed_spans, finished_spans, finished_case_spans, finished_case_body}
-use Rattle.ir_blocks.specs.View.{block_of, cases_of, within_of, case_spans_of, statement_view, block_view, case_view, statement_spans, block_spans, case_block_spans, statements_of, spans_of}
+use Rattle.ir_blocks.specs.TailSpans.{ending_span, ending_within, with_first, completed_spans, finished_spans}
+use Rattle.ir_blocks.specs.View.{block_of, within_of, statement_view, block_view, statement_spans, block_spans, statements_of, spans_of}
 use Rattle.ir_blocks.specs.declared.statements.Statement.{Statement, the_lemmas}
 use Rattle.ir_blocks.specs.declared.statements.Block.{Block}
-use Rattle.ir_blocks.specs.declared.statements.SwitchCase.{SwitchCase}
 use Rattle.ir_blocks.proofs.TerminatorLemmas.{block_view-statements}
 
 pub block_spans-lists : (b : Block) → block_spans b ≡ spans (spans_of b) (within_of (map statement_spans (statements_of b)))
@@ -71,17 +70,3 @@ spans_added b front body more items last whole kept parts copies end on made all
     let both : spans kept (within_of (map statement_spans items)) ≡ spans (spans_of b ++ undefined_span ∷ []) (within_of (F ++ w ∷ no_block ∷ [])) =
     (λ i. spans (same i) (within_of (left i))) in
     both ∙ (sym (completed_lists true (spans_of b) front last on) ∙ sym (lists b front last parts))
-
-finished_all_spans : (cs : List SwitchCase) → finished_case_spans (cases_of (map case_view cs)) (case_spans_of (map case_block_spans cs)) ≡ case_spans_of (map (λ c. finished_case_body (case_view c) (case_block_spans c)) cs)
-finished_all_spans [] = refl
-finished_all_spans (c ∷ cs) = ap (in_case (finished_case_body (case_view c) (case_block_spans c))) (finished_all_spans cs)
-
-pub case_spans_same : (items cases : List SwitchCase) (n : ℕ) → length cases ≤ n → map case_block_spans items ≡ map (λ c. finished_case_body (case_view c) (case_block_spans c)) (take n cases)
-    → case_spans_of (map case_block_spans items) ≡ finished_case_spans (cases_of (map case_view cases)) (case_spans_of (map case_block_spans cases))
-case_spans_same items cases n past made =
-    (ap case_spans_of made ∙ ap (λ z. case_spans_of (map (λ c. finished_case_body (case_view c) (case_block_spans c)) z)) (take_all n cases past)) ∙ sym (finished_all_spans cases)
-
--- what two clauses say of an answer
-pub ok_both : {X E : Type 0} (r : Result X E) (P Q R : X → Type 0) → ((x : X) → P x → Q x → R x) → IfOk r P → IfOk r Q → IfOk r R
-ok_both (Ok x) P Q R f p q = f x p q
-ok_both (Err e) P Q R f p q = p

@@ -1,17 +1,12 @@
 -- The completed body, as the code makes it.
-use Rattle.std.proofs.Common.{◌≡◌, ◌≤◌, ℕ, List, [], ◌∷◌, ◌++◌, map, take, length, true, false, None, refl, sym, ap, ◌∙◌, rules}
-use Rattle.std.proofs.lemmas.List.{map-append, take_all}
-use Rattle.ir_blocks.specs.Plain.{PlainStatement, return, next, case}
+use Rattle.std.proofs.Common.{◌≡◌, List, [], ◌∷◌, ◌++◌, map, true, false, None, sym, ap, ◌∙◌, rules}
+use Rattle.std.proofs.lemmas.List.{map-append}
+use Rattle.ir_blocks.specs.Plain.{PlainStatement, return, next}
 use Rattle.ir_blocks.specs.Shapes.{shape_of}
-use Rattle.ir_blocks.specs.Tails.{goes_on, ending, completed, finished, finished_cases, finished_case}
-use Rattle.ir_blocks.specs.View.{PlainCase, block_of, cases_of, statement_view, block_view, case_view, statements_view, statements_of}
+use Rattle.ir_blocks.specs.Tails.{goes_on, ending, completed, finished}
+use Rattle.ir_blocks.specs.View.{block_of, statement_view, block_view, statements_view, statements_of}
 use Rattle.ir_blocks.specs.declared.statements.Statement.{Statement, the_lemmas}
 use Rattle.ir_blocks.specs.declared.statements.Block.{Block}
-use Rattle.ir_blocks.specs.declared.statements.SwitchCase.{SwitchCase}
-
-pub finished_all : (cs : List PlainCase) → finished_cases (cases_of cs) ≡ cases_of (map finished_case cs)
-finished_all [] = refl
-finished_all (c ∷ cs) = ap (λ rest. case c.value (finished_case c).body c.falls rest) (finished_all cs)
 
 completed_stays : (xs : List PlainStatement) (x : PlainStatement) → goes_on (shape_of x) ≡ false → completed (block_of (xs ++ x ∷ [])) ≡ block_of (xs ++ finished x ∷ [])
 completed_stays [] x e = ap (λ b. next (finished x) (ending b)) e
@@ -47,7 +42,3 @@ complete_adds b front body more items last whole parts copies end on made all =
     let right : block_view b ≡ block_of (map statement_view front ++ statement_view last ∷ []) =
     block_view-statements b ∙ (ap statements_view parts ∙ ap block_of (map-append statement_view front (last ∷ []))) in
     left ∙ (sym (completed_adds (map statement_view front) (statement_view last) on) ∙ sym (ap completed right))
-
-pub cases_same : (items cases : List SwitchCase) (n : ℕ) → length cases ≤ n → map case_view items ≡ map finished_case (map case_view (take n cases)) → cases_of (map case_view items) ≡ finished_cases (cases_of (map case_view cases))
-cases_same items cases n past made =
-    (ap cases_of made ∙ ap (λ z. cases_of (map finished_case (map case_view z))) (take_all n cases past)) ∙ sym (finished_all (map case_view cases))

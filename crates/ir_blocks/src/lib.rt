@@ -17,4 +17,3 @@ pub use ir_types::{ArraySize, IrType, StructMember, TypeInner, key};
 pub use returns::{ensure_block_returns, put_returns, reserve_returns};
 pub use span_iter::{SpanIntoIter, SpanIter, SpanIterMut};
 pub use statements::{Block, Statement, SwitchCase};
-pub use terminator::complete;

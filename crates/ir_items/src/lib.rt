@@ -13,7 +13,7 @@ pub use entries::{EntryPoint, MeshStageInfo};
 pub use functions::{Function, FunctionArgument, FunctionResult, LocalVariable};
 pub use ir_blocks::{
     AtomicFunction, Block, GatherMode, RayPipelineFunction, RayQueryFunction, SpanIntoIter,
-    SpanIter, SpanIterMut, Statement, SwitchCase, complete, ensure_block_returns,
+    SpanIter, SpanIterMut, Statement, SwitchCase, ensure_block_returns,
 };
 pub use ir_expressions::{CooperativeData, Expression, ImageQuery, SampleLevel};
 pub use ir_globals::{

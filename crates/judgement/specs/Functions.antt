@@ -1,9 +1,10 @@
 -- The rules of functions.
-use Rattle.std.specs.Prelude.{◌≡◌, ◌≢◌, ◌⊎◌, ℕ, ◌≤◌, List, [], ◌∷◌, length, Bool, true, false, if◌then◌else◌, Option, Some, None, option_map, option_and_then, IfSome, Contains, slice_get}
+use Rattle.std.specs.Prelude.{◌≡◌, ◌≢◌, ◌⊎◌, ℕ, ◌≤◌, List, [], ◌∷◌, length, Bool, true, false, Option, Some, None, option_map, option_and_then, IfSome, Contains, slice_get}
 use Rattle.std.specs.List.{AllPairs}
-use Rattle.ir_kinds.specs.Settings.{PlainSettings}
+use Rattle.ir_flags.specs.Sets.{Has}
+use Rattle.ir_flags.specs.Settings.{PlainSettings}
+use Rattle.ir_flags.specs.declared.settings.TheConstants.ValidationFlags.{BLOCKS}
 use Rattle.ir_kinds.specs.Values.{literal_scalar}
-use Rattle.ir_kinds.specs.declared.settings.Flag.TheVariants.{Blocks}
 use Rattle.ir_kinds.specs.declared.scalars.Scalar.{Scalar}
 use Rattle.ir_kinds.specs.declared.scalars.ScalarKind.{ScalarKind}
 use Rattle.ir_kinds.specs.declared.scalars.ScalarKind.TheVariants.{Sint, Uint, Bool as Boolean}
@@ -18,7 +19,6 @@ use Rattle.ir_items.specs.Plain.{PlainFunction, PlainModule}
 use Rattle.ir_items.specs.declared.functions.FunctionResult.{FunctionResult}
 use Rattle.ir_blocks.specs.Places.{Place, StandsAt}
 use Rattle.ir_blocks.specs.Control.{ControlOK}
-use Rattle.ir_blocks.specs.Tails.{completed}
 
 -- ---- types of expressions
 
@@ -111,13 +111,9 @@ StatementOK m f kill = Unit {0}
 StatementOK m f (act a) = ⊥
 StatementOK m f (call callee arguments result) = CallResultOK m callee result
 
--- the body that is looked at: completed with returns where the document says so
-abbrev pub body_of : Bool → PlainFunction → PlainBlock
-body_of returns f = if returns then completed f.body else f.body
-
 -- The arity of calls is asked under every set of flags, control and the rules of statements under BLOCKS. The type of
 -- a result, a scalar so far, is always one that can be answered.
 pub record FunctionOK (s : PlainSettings) (m : PlainModule) (f : PlainFunction) : Type 0 where
-  pub arity : ArityOK m (body_of s.returns f)
-  pub control : Contains s.flags Blocks → ControlOK (body_of s.returns f)
-  pub statements : Contains s.flags Blocks → (p : Place) (u : PlainStatement) → StandsAt (body_of s.returns f) p u → StatementOK m f u
+  pub arity : ArityOK m f.body
+  pub control : Has s.flags.0 BLOCKS.0 → ControlOK f.body
+  pub statements : Has s.flags.0 BLOCKS.0 → (p : Place) (u : PlainStatement) → StandsAt f.body p u → StatementOK m f u

@@ -1,7 +1,8 @@
 -- The steps of the judgement over a module, and what is found by them.
-use Rattle.std.specs.Prelude.{◌≡◌, ℕ, ◌<◌, List, Some, slice_get}
-use Rattle.ir_kinds.specs.Settings.{PlainSettings}
+use Rattle.std.specs.Prelude.{◌≡◌, ℕ, ◌<◌, Bool, true, false, List, Some, slice_get}
+use Rattle.ir_flags.specs.Settings.{PlainSettings}
 use Rattle.ir_items.specs.Plain.{PlainModule}
+use Rattle.ir_items.specs.Returned.{IsReturned}
 use Rattle.judgement.specs.Handles.{HandlesOK}
 use Rattle.judgement.specs.Types.{TypeOK}
 use Rattle.judgement.specs.Functions.{FunctionOK}
@@ -20,7 +21,12 @@ pub record IsLeastFailing {A : Type 0} (P : A → Type 0) (xs : List A) (i : ℕ
   pub fails : ¬ P item
   pub before : (j : ℕ) (x : A) → j < i → slice_get xs j ≡ Some x → P x
 
--- What is found of a module under the settings: the first step that fails, and the least index that fails it.
+-- The module n that is judged is m, with returns put in first where that is asked.
+abbrev pub IsPrepared : (returns : Bool) → PlainModule → PlainModule → Type 0
+IsPrepared true m n = IsReturned m n
+IsPrepared false m n = n ≡ m
+
+-- What is found of the module that is judged, under the settings: the first step that fails, and the least index that fails it.
 abbrev pub IsFinding : PlainSettings → PlainModule → Finding → Type 0
 IsFinding s m Accepted = HandlesOK m × AllMeet (TypeOK s.capabilities) m.types × AllMeet (FunctionOK s m) m.functions
 IsFinding s m RefusedDocument = ⊥

@@ -1,73 +1,13 @@
-// What the cases and the rows ask.
-use crate::types::{rule, value_type};
-use crate::words::{function, item, number, text};
-use anyhow::{Result, anyhow, ensure};
+// Each call once.
+use crate::asked::preferred;
+use anyhow::{Result, ensure};
 use ir_kinds::{MathFunction, Scalar, VectorSize};
 use ir_types::TypeInner;
-use serde_json::Value;
 use std::alloc::{AllocError, Global};
 use typing_overloads::{
     AnyOverloadSet, Arguments, Conclusion, ConstructorSet, ConstructorSize, MathFunctionExt,
     OneBitsIter, OverloadSet, Rule, ScalarSet, ValueType,
 };
-
-// The preferred rule, if one is left.
-fn preferred<S: OverloadSet>(set: &S) -> Option<Rule> {
-    if set.is_empty() {
-        None
-    } else {
-        Some(set.most_preferred())
-    }
-}
-
-fn due_rule(value: &Value) -> Result<Option<Rule>> {
-    match value {
-        Value::Null => Ok(None),
-        value => Ok(Some(rule(value)?)),
-    }
-}
-
-fn rules_are<S: OverloadSet>(alloc: Global, set: &S, due: &Value) -> Result<bool> {
-    let rules = set.overload_list(alloc)?;
-    let mut place = 0usize;
-    for value in due.as_array().into_iter().flatten() {
-        if rules.get(place) != Some(&rule(value)?) {
-            return Ok(false);
-        }
-        place = place.saturating_add(1);
-    }
-    Ok(place == rules.len())
-}
-
-fn supplied<S: OverloadSet>(alloc: Global, set: S, arguments: &Value) -> Result<S> {
-    let mut set = set;
-    for argument in arguments.as_array().into_iter().flatten() {
-        let place = number(argument, 0)? as usize;
-        let given = value_type(item(argument, 1)?)?;
-        set = set.arg(alloc, place, &given.to_inner())?;
-    }
-    Ok(set)
-}
-
-/// Whether the answers are those of the case.
-pub fn is_due(alloc: Global, case: &Value) -> Result<bool> {
-    let set = function(text(case, 1)?)?.overloads(alloc)?;
-    match text(case, 0)? {
-        "rules" => rules_are(alloc, &set, item(case, 2)?),
-        "arg" => {
-            let set = supplied(alloc, set, item(case, 2)?)?;
-            let left = set.overload_list(alloc)?.len() as u64;
-            let first = preferred(&set);
-            let concrete = preferred(&set.concrete_only());
-            Ok(
-                left == number(case, 3)?
-                    && first == due_rule(item(case, 4)?)?
-                    && concrete == due_rule(item(case, 5)?)?,
-            )
-        }
-        other => Err(anyhow!("an unknown case: {other}")),
-    }
-}
 
 const VEC2: ConstructorSize = ConstructorSize::Vector(VectorSize::Bi);
 
@@ -81,6 +21,7 @@ const fn one(scalar: Scalar) -> ValueType {
     of(ConstructorSize::Scalar, scalar)
 }
 
+// What is left of the rules of a function after these arguments.
 fn after(
     alloc: Global,
     function: MathFunction,
@@ -100,183 +41,156 @@ const fn gives(arguments: Arguments, value: ValueType) -> Option<Rule> {
     })
 }
 
-fn rows_of_one(alloc: Global) -> Result<()> {
+// Whether the rule that is preferred after these arguments is the due one.
+fn prefers(
+    alloc: Global,
+    function: MathFunction,
+    arguments: &[(usize, ValueType)],
+    due: Option<Rule>,
+) -> Result<bool, AllocError> {
+    let set = after(alloc, function, arguments)?;
+    Ok(preferred(&set) == due)
+}
+
+// The same among those without abstract arguments.
+fn prefers_concrete(
+    alloc: Global,
+    function: MathFunction,
+    arguments: &[(usize, ValueType)],
+    due: Option<Rule>,
+) -> Result<bool, AllocError> {
+    let set = after(alloc, function, arguments)?;
+    Ok(preferred(&set.concrete_only()) == due)
+}
+
+fn rows_of_one(alloc: Global) -> Result<bool, AllocError> {
+    let given = [(0, one(Scalar::ABSTRACT_INT))];
     let float = one(Scalar::ABSTRACT_FLOAT);
     let real = one(Scalar::F32);
-    let sin = after(alloc, MathFunction::Sin, &[(0, one(Scalar::ABSTRACT_INT))])?;
-    ensure!(
-        preferred(&sin) == gives(Arguments::One(float), float),
-        "sin"
-    );
-    let sin = sin.concrete_only();
-    ensure!(
-        preferred(&sin) == gives(Arguments::One(real), real),
-        "concrete sin"
-    );
-    let sign = after(alloc, MathFunction::Sign, &[(0, one(Scalar::U32))])?;
-    ensure!(sign.is_empty(), "sign");
-    Ok(())
+    let sin = gives(Arguments::One(float), float);
+    let concrete = gives(Arguments::One(real), real);
+    Ok(
+        prefers(alloc, MathFunction::Sin, &given, sin)?
+            && prefers_concrete(alloc, MathFunction::Sin, &given, concrete)?
+            && prefers(alloc, MathFunction::Sign, &[(0, one(Scalar::U32))], None)?,
+    )
 }
 
-fn rows_of_two(alloc: Global) -> Result<()> {
+fn rows_of_more(alloc: Global) -> Result<bool, AllocError> {
     let int = one(Scalar::ABSTRACT_INT);
     let word = one(Scalar::U32);
-    let max = after(alloc, MathFunction::Max, &[(0, int), (1, word)])?;
-    ensure!(
-        preferred(&max) == gives(Arguments::Two(word, word), word),
-        "max"
-    );
     let pair = of(VEC2, Scalar::ABSTRACT_INT);
-    let dot = after(alloc, MathFunction::Dot, &[(0, pair), (1, pair)])?;
-    ensure!(
-        preferred(&dot) == gives(Arguments::Two(pair, pair), int),
-        "dot"
-    );
-    Ok(())
-}
-
-fn rows_of_three(alloc: Global) -> Result<()> {
     let triple = of(VEC3, Scalar::F32);
     let real = one(Scalar::F32);
-    let mix = after(alloc, MathFunction::Mix, &[(0, triple), (2, real)])?;
-    ensure!(
-        preferred(&mix) == gives(Arguments::Three(triple, triple, real), triple),
-        "mix"
-    );
-    Ok(())
+    let max = gives(Arguments::Two(word, word), word);
+    let dot = gives(Arguments::Two(pair, pair), int);
+    let mix = gives(Arguments::Three(triple, triple, real), triple);
+    Ok(
+        prefers(alloc, MathFunction::Max, &[(0, int), (1, word)], max)?
+            && prefers(alloc, MathFunction::Dot, &[(0, pair), (1, pair)], dot)?
+            && prefers(alloc, MathFunction::Mix, &[(0, triple), (2, real)], mix)?,
+    )
 }
 
-fn one_bits() -> Result<()> {
+fn one_bits() -> bool {
     let mut ones = OneBitsIter::new(11);
-    ensure!(
-        ones.next() == Some(1) && ones.next() == Some(2),
-        "the low bits of 11"
-    );
-    ensure!(
-        ones.next() == Some(8) && ones.next().is_none(),
-        "the high bit of 11"
-    );
-    Ok(())
+    ones.next() == Some(1)
+        && ones.next() == Some(2)
+        && ones.next() == Some(8)
+        && ones.next().is_none()
 }
 
-fn sets() -> Result<()> {
+fn sets() -> bool {
     let two = ScalarSet(ScalarSet::F32.0 | ScalarSet::U32.0);
     let mut members = two.members();
-    ensure!(members.next() == Some(ScalarSet::U32), "the first member");
-    ensure!(members.next() == Some(ScalarSet::F32), "the second member");
-    ensure!(members.next().is_none(), "a third member");
-    ensure!(
-        two.scalars().next() == Some(Scalar::U32),
-        "the first scalar"
-    );
-    let wider = ScalarSet::convertible_from(Scalar::ABSTRACT_FLOAT);
-    ensure!(
-        wider == ScalarSet::FLOAT,
-        "what an abstract float converts to"
-    );
-    ensure!(
-        wider.most_general_scalar() == Scalar::ABSTRACT_FLOAT,
-        "the most general float"
-    );
-    ensure!(
-        ScalarSet::singleton(Scalar::I16) == ScalarSet::I16,
-        "the set of one scalar"
-    );
-    Ok(())
+    members.next() == Some(ScalarSet::U32)
+        && members.next() == Some(ScalarSet::F32)
+        && members.next().is_none()
+        && two.scalars().next() == Some(Scalar::U32)
 }
 
-fn shapes() -> Result<()> {
+fn wider_sets() -> bool {
+    let wider = ScalarSet::convertible_from(Scalar::ABSTRACT_FLOAT);
+    wider == ScalarSet::FLOAT
+        && wider.most_general_scalar() == Scalar::ABSTRACT_FLOAT
+        && ScalarSet::singleton(Scalar::I16) == ScalarSet::I16
+}
+
+fn one_shape() -> bool {
     let inner = of(VEC3, Scalar::F32).to_inner();
     let shape = ConstructorSet::singleton(&inner);
-    ensure!(shape == ConstructorSet::VEC3, "the set of one shape");
-    ensure!(
-        shape.is_singleton() && shape.size() == VEC3,
-        "the one shape"
-    );
-    ensure!(!ConstructorSet::VECN.is_singleton(), "three shapes");
-    ensure!(
-        ConstructorSet::VECN.sizes().next() == Some(VEC2),
-        "the first shape"
-    );
-    ensure!(
-        ConstructorSet::VECN.members().next() == Some(ConstructorSet::VEC2),
-        "the first set"
-    );
-    let sampler = TypeInner::Sampler { comparison: false };
-    ensure!(
-        ConstructorSet::singleton(&sampler) == ConstructorSet(0),
-        "no shape"
-    );
-    Ok(())
+    shape == ConstructorSet::VEC3 && shape.is_singleton() && shape.size() == VEC3
 }
 
-fn small_calls(alloc: Global) -> Result<()> {
-    let mix = MathFunction::Mix.overloads(alloc)?;
-    let same = mix.clone()?;
-    ensure!(
-        same.overload_list(alloc)?.len() == 28,
-        "a clone has all rules"
-    );
-    ensure!(!mix.is_empty(), "Mix has rules");
-    ensure!(
-        mix.min_arguments() == 3 && mix.max_arguments() == 3,
-        "three arguments"
-    );
-    let asked = mix.allowed_args(alloc, 2)?;
-    ensure!(
-        asked.len() == 28 && asked.first() == Some(&one(Scalar::ABSTRACT_FLOAT)),
-        "third ones"
-    );
-    ensure!(mix.allowed_args(alloc, 3)?.is_empty(), "no fourth argument");
-    Ok(())
+fn shapes() -> bool {
+    let sampler = TypeInner::Sampler { comparison: false };
+    !ConstructorSet::VECN.is_singleton()
+        && ConstructorSet::VECN.sizes().next() == Some(VEC2)
+        && ConstructorSet::VECN.members().next() == Some(ConstructorSet::VEC2)
+        && ConstructorSet::singleton(&sampler) == ConstructorSet(0)
 }
 
-fn other_calls(alloc: Global) -> Result<()> {
+// How many rules a clone has.
+fn cloned(set: &AnyOverloadSet, alloc: Global) -> Result<usize, AllocError> {
+    let same = set.clone()?;
+    Ok(same.overload_list(alloc)?.len())
+}
+
+// Whether the types that are asked for at a third place are the due ones.
+fn asked_third(set: &AnyOverloadSet, alloc: Global) -> Result<bool, AllocError> {
+    let asked = set.allowed_args(alloc, 2)?;
+    Ok(asked.len() == 28 && asked.first() == Some(&one(Scalar::ABSTRACT_FLOAT)))
+}
+
+fn of_mix(alloc: Global) -> Result<bool, AllocError> {
     let mix = MathFunction::Mix.overloads(alloc)?;
+    let counts = !mix.is_empty() && mix.min_arguments() == 3 && mix.max_arguments() == 3;
+    Ok(counts && cloned(&mix, alloc)? == 28 && asked_third(&mix, alloc)?)
+}
+
+fn nothing_of_mix(alloc: Global) -> Result<bool, AllocError> {
     let sampler = TypeInner::Sampler { comparison: false };
-    ensure!(
-        mix.arg(alloc, 0, &sampler)?.is_empty(),
-        "a sampler is no number"
-    );
+    let mix = MathFunction::Mix.overloads(alloc)?;
+    let none = mix.arg(alloc, 0, &sampler)?;
+    Ok(none.is_empty() && mix.allowed_args(alloc, 3)?.is_empty())
+}
+
+fn rules() -> bool {
     let real = one(Scalar::F32);
     let rule = Rule {
         arguments: Arguments::Two(real, real),
         conclusion: Conclusion::Value(real),
     };
-    ensure!(
-        rule.arguments.len() == 2 && rule.arguments.get(2).is_none(),
-        "two arguments"
-    );
-    ensure!(
-        rule.rank_at(1, one(Scalar::ABSTRACT_INT)) == Some(11),
-        "an integer for a float"
-    );
-    ensure!(
-        rule.accepts(0, &real.to_inner()) && rule.is_concrete(),
-        "a float for a float"
-    );
-    ensure!(
-        real.rank_to(one(Scalar::F16)).is_none(),
-        "a float for a shorter one"
-    );
-    ensure!(
-        ValueType::of(&VEC2.to_inner(Scalar::F32)) == Some(of(VEC2, Scalar::F32)),
-        "a pair"
-    );
-    ensure!(VEC3.place() == 2, "the place of three");
+    rule.arguments.len() == 2
+        && rule.arguments.get(2).is_none()
+        && rule.rank_at(1, one(Scalar::ABSTRACT_INT)) == Some(11)
+        && rule.accepts(0, &real.to_inner())
+        && rule.is_concrete()
+}
+
+fn value_types() -> bool {
+    let real = one(Scalar::F32);
+    real.rank_to(one(Scalar::F16)).is_none()
+        && ValueType::of(&VEC2.to_inner(Scalar::F32)) == Some(of(VEC2, Scalar::F32))
+        && VEC3.place() == 2
+}
+
+// Those that need no memory.
+fn without_memory() -> Result<()> {
+    ensure!(one_bits(), "the one bits of 11");
+    ensure!(sets() && wider_sets(), "sets of scalars");
+    ensure!(one_shape() && shapes(), "sets of shapes");
+    ensure!(rules() && value_types(), "rules and types");
     Ok(())
 }
 
-/// Runs each call once.
+/// Makes each call once.
 pub fn every_call(rt: &HostRuntime) -> Result<()> {
-    rows_of_one(rt.alloc())?;
-    rows_of_two(rt.alloc())?;
-    rows_of_three(rt.alloc())?;
-    one_bits()?;
-    sets()?;
-    shapes()?;
-    small_calls(rt.alloc())?;
-    other_calls(rt.alloc())?;
+    without_memory()?;
+    ensure!(rows_of_one(rt.alloc())?, "functions of one argument");
+    ensure!(rows_of_more(rt.alloc())?, "functions of more");
+    ensure!(of_mix(rt.alloc())?, "all rules of a function");
+    ensure!(nothing_of_mix(rt.alloc())?, "rules that nothing leaves");
     println!(rt; "each call answers what is due")?;
     Ok(())
 }

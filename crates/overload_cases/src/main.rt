@@ -3,16 +3,19 @@
 //
 // A line of the data file is `["rules", function, [rule..]]`, the rules of a function in order, or
 // `["arg", function, [[place, type]..], left, preferred, concrete]`: after these arguments the number of rules that are
-// left, the preferred one, and the preferred one among those without abstract arguments. The answers come from two
-// implementations that were written independently of this one.
+// left, the preferred one, and the preferred one among those without abstract arguments. These answers come from two
+// implementations that were written independently of this one. A list of the function's rules, one by one, is asked the
+// same, and has to answer every call as the set does.
 #![tactic(auto)]
 
+mod asked;
 mod calls;
 mod types;
 mod words;
 
 use anyhow::{Context, Result, ensure};
-use calls::{every_call, is_due};
+use asked::is_due;
+use calls::every_call;
 use serde_json::Value;
 use std::fs;
 

@@ -1,3 +1,4 @@
+pub mod Counts
 pub mod Filters
 pub mod Order
 pub mod TableOrder

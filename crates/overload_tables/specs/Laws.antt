@@ -1,10 +1,11 @@
 -- What holds of the rules that are left of a function's table.
-use Rattle.std.specs.Prelude.{◌≡◌, ◌≤◌, ◌⊎◌, ℕ, List, [], ◌∷◌, Some, Bool, filter, slice_get}
+use Rattle.std.specs.Prelude.{◌≡◌, ◌≤◌, ◌⊎◌, ℕ, List, [], ◌∷◌, Some, Bool, All, filter, length, slice_get}
+use Rattle.ir_kinds.specs.Maths.{argument_count}
 use Rattle.ir_kinds.specs.declared.maths.MathFunction.{MathFunction}
 use Rattle.ir_types.specs.Plain.{PlainInner}
 use Rattle.overload_tables.specs.declared.rules.Rule.{Rule}
 use Rattle.overload_tables.specs.declared.rules.ValueType.{ValueType}
-use Rattle.overload_tables.specs.Types.{value_type_of}
+use Rattle.overload_tables.specs.Types.{value_type_of, listed}
 use Rattle.overload_tables.specs.Ranks.{rank_at, accepts_inner, is_concrete}
 use Rattle.overload_tables.specs.Tables.{table}
 
@@ -41,3 +42,11 @@ DemandsCommute = (a b : Demand) (rules : List Rule) → filter (meets b) (filter
 -- a demand that is made again changes nothing
 abbrev pub DemandsRepeat : Type 0
 DemandsRepeat = (a : Demand) (rules : List Rule) → filter (meets a) (filter (meets a) rules) ≡ filter (meets a) rules
+
+-- how many arguments a rule has
+abbrev pub arity : Rule → ℕ
+arity rule = length (listed rule.arguments)
+
+-- each rule of a function has as many arguments as the function
+abbrev pub ArgumentCounts : Type 0
+ArgumentCounts = (function : MathFunction) → All (λ rule. arity rule ≡ argument_count function) (table function)

@@ -1,6 +1,12 @@
 //! What holds of rules, whatever arguments are supplied.
 
-ghost use Rattle.overload_tables.specs.Laws.{PreferredIsBest, DemandsCommute, DemandsRepeat};
+ghost use Rattle.overload_tables.specs.Laws.{ArgumentCounts, PreferredIsBest, DemandsCommute, DemandsRepeat};
+
+/// Each rule of a math function has as many arguments as `MathFunction::argument_count` says.
+#[tactic(auto, using(crate::proofs::Counts::argument_counts))]
+pub fn argument_counts()
+    ensures { ArgumentCounts }
+{}
 
 /// Of the rules of a function that any arguments leave, and any call for concrete ones, none has a smaller rank than
 /// the first one at an argument that was supplied.

@@ -146,7 +146,16 @@ impl Pattern {
             }),
             Pattern::ToTransposed => Conclusion::Value(typed(size.transposed(), scalar)),
             Pattern::ToWord => Conclusion::Value(WORD),
-            _ => Conclusion::Value(typed(size, scalar)),
+            Pattern::Same
+            | Pattern::SameTwo
+            | Pattern::SameThree
+            | Pattern::WithScalar
+            | Pattern::WithExponent
+            | Pattern::WithRange
+            | Pattern::TwoWithRange
+            | Pattern::ToOuter
+            | Pattern::FromWord
+            | Pattern::FromTwoWords => Conclusion::Value(typed(size, scalar)),
         }
     }
 

@@ -114,7 +114,7 @@ impl ValueType {
     {
         match self.scalar.kind {
             ScalarKind::AbstractInt | ScalarKind::AbstractFloat => true,
-            _ => false,
+            ScalarKind::Sint | ScalarKind::Uint | ScalarKind::Float | ScalarKind::Bool => false,
         }
     }
 

@@ -1,10 +1,11 @@
 -- What the tests of the steps find is what the judgement says.
-use Rattle.std.proofs.Common.{◌≡◌, ◌↔◌, ℕ, List, length, Bool, true, false, true≢false, Option, Some, None, Contains, IsTrue, is_none, refl, sym, ap, subst, ◌∙◌, arith}
+use Rattle.std.proofs.Common.{◌≡◌, ◌↔◌, ℕ, List, length, Bool, true, false, true≢false, Option, Some, None, IsTrue, is_none, refl, sym, ap, subst, ◌∙◌, arith}
 use Rattle.std.proofs.lemmas.List.{length-map}
 use Rattle.std.specs.List.{enumerate_from}
-use Rattle.ir_kinds.specs.declared.settings.Capability.{Capability}
-use Rattle.ir_kinds.specs.Settings.{PlainSettings}
-use Rattle.ir_kinds.specs.declared.settings.Flag.TheVariants.{Blocks}
+use Rattle.ir_flags.specs.Sets.{Has}
+use Rattle.ir_flags.specs.Settings.{PlainSettings}
+use Rattle.ir_flags.specs.declared.settings.Capabilities.{Capabilities}
+use Rattle.ir_flags.specs.declared.settings.TheConstants.ValidationFlags.{BLOCKS}
 use Rattle.ir_arena.specs.Handles.{handles_from}
 use Rattle.ir_types.specs.Plain.{inner_view, type_view}
 use Rattle.ir_globals.specs.View.{values_of}
@@ -40,7 +41,7 @@ handles_tested m ok =
 
 -- ---- types
 
-module _ (capabilities : List Capability) (w : Widths) (of : AreWidthsOf capabilities w) (ts : List PlainType) where
+module _ (capabilities : Capabilities) (w : Widths) (of : AreWidthsOf capabilities w) (ts : List PlainType) where
   types_meet : first_failing (λ _ t. is_inner_ok w t.inner) (enumerate_from 0 ts) ≡ None → AllMeet (TypeOK capabilities) ts
   types_meet e i t here = inner_sound capabilities w of t.inner (all_pass (λ _ t. is_inner_ok w t.inner) 0 ts e i t here)
 
@@ -57,13 +58,13 @@ module _ (capabilities : List Capability) (w : Widths) (of : AreWidthsOf capabil
 
 -- ---- functions
 
-module _ (s : PlainSettings) (blocks : Bool) (of : IsTrue blocks ↔ Contains s.flags Blocks) (m : PlainModule) where
-  functions_meet : first_failing (λ _ f. function_ok blocks s.returns m f) (enumerate_from 0 m.functions) ≡ None → AllMeet (FunctionOK s m) m.functions
-  functions_meet e i f found = function_sound s blocks of m f (all_pass (λ _ g. function_ok blocks s.returns m g) 0 m.functions e i f found)
+module _ (s : PlainSettings) (blocks : Bool) (of : IsTrue blocks ↔ Has s.flags.0 BLOCKS.0) (m : PlainModule) where
+  functions_meet : first_failing (λ _ f. function_ok blocks m f) (enumerate_from 0 m.functions) ≡ None → AllMeet (FunctionOK s m) m.functions
+  functions_meet e i f found = function_sound s blocks of m f (all_pass (λ _ g. function_ok blocks m g) 0 m.functions e i f found)
 
-  function_fails : (r : ℕ) → first_failing (λ _ f. function_ok blocks s.returns m f) (enumerate_from 0 m.functions) ≡ Some r → IsLeastFailing (FunctionOK s m) m.functions r
+  function_fails : (r : ℕ) → first_failing (λ _ f. function_ok blocks m f) (enumerate_from 0 m.functions) ≡ Some r → IsLeastFailing (FunctionOK s m) m.functions r
   function_fails r e =
-      let f = one_fails (λ _ g. function_ok blocks s.returns m g) 0 m.functions r e in
+      let f = one_fails (λ _ g. function_ok blocks m g) 0 m.functions r e in
       let at : f.0 ≡ r = (let k = f.1 in omega arith) in
       subst (IsLeastFailing (FunctionOK s m) m.functions) at (record {
         item = f.2.item;
@@ -93,22 +94,22 @@ tested_false m b e h = λ ok.
     let none = in_order_as m ∙ handles_tested (module_view m) ok in
     true≢false (sym (e ∙ ap is_none none) ∙ h)
 
-pub types_pass : (capabilities : List Capability) (w : Widths) (m : Module) → AreWidthsOf capabilities w → (o : Option ℕ) → o ≡ first_failing (λ _ t. is_inner_ok w (inner_view t.inner)) (handles_from 0 m.types)
+pub types_pass : (capabilities : Capabilities) (w : Widths) (m : Module) → AreWidthsOf capabilities w → (o : Option ℕ) → o ≡ first_failing (λ _ t. is_inner_ok w (inner_view t.inner)) (handles_from 0 m.types)
     → o ≡ None → AllMeet (TypeOK capabilities) (module_view m).types
 types_pass capabilities w m of o e h =
     types_meet capabilities w of (module_view m).types (sym (first_failing-view type_view (λ _ t. is_inner_ok w t.inner) 0 m.types) ∙ (sym e ∙ h))
 
-pub types_fail : (capabilities : List Capability) (w : Widths) (m : Module) → AreWidthsOf capabilities w → (o : Option ℕ) → o ≡ first_failing (λ _ t. is_inner_ok w (inner_view t.inner)) (handles_from 0 m.types)
+pub types_fail : (capabilities : Capabilities) (w : Widths) (m : Module) → AreWidthsOf capabilities w → (o : Option ℕ) → o ≡ first_failing (λ _ t. is_inner_ok w (inner_view t.inner)) (handles_from 0 m.types)
     → (r : ℕ) → o ≡ Some r → IsLeastFailing (TypeOK capabilities) (module_view m).types r
 types_fail capabilities w m of o e r h =
     type_fails capabilities w of (module_view m).types r (sym (first_failing-view type_view (λ _ t. is_inner_ok w t.inner) 0 m.types) ∙ (sym e ∙ h))
 
-module _ (s : PlainSettings) (blocks : Bool) (of : IsTrue blocks ↔ Contains s.flags Blocks) (m : Module) (o : Option ℕ)
-    (is : o ≡ first_failing (λ _ f. function_ok blocks s.returns (module_view m) (function_view f)) (handles_from 0 m.functions)) where
+module _ (s : PlainSettings) (blocks : Bool) (of : IsTrue blocks ↔ Has s.flags.0 BLOCKS.0) (m : Module) (o : Option ℕ)
+    (is : o ≡ first_failing (λ _ f. function_ok blocks (module_view m) (function_view f)) (handles_from 0 m.functions)) where
   pub functions_pass : o ≡ None → AllMeet (FunctionOK s (module_view m)) (module_view m).functions
   functions_pass h =
-      functions_meet s blocks of (module_view m) (sym (first_failing-view function_view (λ _ f. function_ok blocks s.returns (module_view m) f) 0 m.functions) ∙ (sym is ∙ h))
+      functions_meet s blocks of (module_view m) (sym (first_failing-view function_view (λ _ f. function_ok blocks (module_view m) f) 0 m.functions) ∙ (sym is ∙ h))
 
   pub functions_fail : (r : ℕ) → o ≡ Some r → IsLeastFailing (FunctionOK s (module_view m)) (module_view m).functions r
   functions_fail r h =
-      function_fails s blocks of (module_view m) r (sym (first_failing-view function_view (λ _ f. function_ok blocks s.returns (module_view m) f) 0 m.functions) ∙ (sym is ∙ h))
+      function_fails s blocks of (module_view m) r (sym (first_failing-view function_view (λ _ f. function_ok blocks (module_view m) f) 0 m.functions) ∙ (sym is ∙ h))

@@ -1,9 +1,10 @@
 -- The test of a function says its rules.
-use Rattle.std.proofs.Common.{◌≡◌, ◌↔◌, Bool, true, false, if◌then◌else◌, Contains, IsTrue, refl}
-use Rattle.ir_kinds.specs.Settings.{PlainSettings}
-use Rattle.ir_kinds.specs.declared.settings.Flag.TheVariants.{Blocks}
+use Rattle.std.proofs.Common.{◌≡◌, ◌↔◌, Bool, true, false, if◌then◌else◌, IsTrue, refl}
+use Rattle.ir_flags.specs.Sets.{Has}
+use Rattle.ir_flags.specs.Settings.{PlainSettings}
+use Rattle.ir_flags.specs.declared.settings.TheConstants.ValidationFlags.{BLOCKS}
 use Rattle.ir_items.specs.Plain.{PlainFunction, PlainModule}
-use Rattle.judgement.specs.Functions.{body_of, FunctionOK}
+use Rattle.judgement.specs.Functions.{FunctionOK}
 use Rattle.shader_check.specs.Everywhere.{control_of_body, everywhere}
 use Rattle.shader_check.specs.Tests.{rule_ok, function_ok}
 use Rattle.shader_check.proofs.EverywhereLaws.{both_true, true_both}
@@ -17,10 +18,10 @@ if_asked : (blocks x : Bool) → (blocks ≡ true → x ≡ true) → (if blocks
 if_asked true x h = h refl
 if_asked false x h = refl
 
-module _ (s : PlainSettings) (blocks : Bool) (of : IsTrue blocks ↔ Contains s.flags Blocks) (m : PlainModule) (f : PlainFunction) where
-  pub function_sound : function_ok blocks s.returns m f ≡ true → FunctionOK s m f
+module _ (s : PlainSettings) (blocks : Bool) (of : IsTrue blocks ↔ Has s.flags.0 BLOCKS.0) (m : PlainModule) (f : PlainFunction) where
+  pub function_sound : function_ok blocks m f ≡ true → FunctionOK s m f
   function_sound e =
-      let b = body_of s.returns f in
+      let b = f.body in
       let p = both_true _ _ e in
       let rules : blocks ≡ true → everywhere (rule_ok m f) control_of_body b ≡ true = where_asked blocks _ p.1 in
       record {
@@ -29,8 +30,8 @@ module _ (s : PlainSettings) (blocks : Bool) (of : IsTrue blocks ↔ Contains s.
         statements = λ asked. (rules_sound m f b (rules (of.1 asked))).1;
       }
 
-  pub function_complete : FunctionOK s m f → function_ok blocks s.returns m f ≡ true
+  pub function_complete : FunctionOK s m f → function_ok blocks m f ≡ true
   function_complete ok =
-      let b = body_of s.returns f in
+      let b = f.body in
       true_both _ _ (arity_complete m b ok.arity)
       (if_asked blocks _ (λ on. let asked = of.0 on in rules_complete m f b (ok.control asked) (ok.statements asked)))

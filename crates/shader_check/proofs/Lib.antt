@@ -12,3 +12,4 @@ pub mod FindingLaws
 pub mod JudgedLaws
 pub mod Due
 pub mod Once
+pub mod DistinctLemmas

@@ -1,7 +1,8 @@
 -- The test of types says that the capabilities allow them.
-use Rattle.std.proofs.Common.{◌≡◌, inl, inr, IsTrue, ℕ, List, Bool, true, nat_eq, Contains, refl, sym, subst}
+use Rattle.std.proofs.Common.{◌≡◌, inl, inr, IsTrue, ℕ, Bool, true, nat_eq, refl, sym, subst}
 use borrow.Author.Tests.{eqb-true, eq-eqb}
-use Rattle.ir_kinds.specs.declared.settings.Capability.{Capability}
+use Rattle.ir_flags.specs.Sets.{Has}
+use Rattle.ir_flags.specs.declared.settings.Capabilities.{Capabilities}
 use Rattle.ir_kinds.specs.declared.scalars.ScalarKind.{ScalarKind}
 use Rattle.ir_kinds.specs.declared.scalars.ScalarKind.TheVariants.{Sint, Uint, Float, Bool as Boolean, AbstractInt, AbstractFloat}
 use Rattle.ir_types.specs.Plain.{PlainInner, struct, plain}
@@ -11,7 +12,7 @@ use Rattle.shader_check.specs.Tests.{Widths, is_width_ok, is_scalar_ok, is_inner
 use Rattle.shader_check.specs.Widths.{AreWidthsOf}
 use Rattle.shader_check.proofs.StepLaws.{chosen}
 
-width_sound : (capabilities : List Capability) (two eight : Capability) (t e : Bool) → (IsTrue t → Contains capabilities two) → (IsTrue e → Contains capabilities eight)
+width_sound : (capabilities two eight : Capabilities) (t e : Bool) → (IsTrue t → Has capabilities.0 two.0) → (IsTrue e → Has capabilities.0 eight.0)
     → (width : ℕ) → is_width_ok t e width ≡ true → IsWidthOK capabilities two eight width
 width_sound capabilities two eight t e for_two for_eight width h =
     elim (chosen (nat_eq width 4) _ _ _ h) [
@@ -25,13 +26,13 @@ width_sound capabilities two eight t e for_two for_eight width h =
       ]
     ]
 
-width_complete : (capabilities : List Capability) (two eight : Capability) (t e : Bool) → (Contains capabilities two → IsTrue t) → (Contains capabilities eight → IsTrue e)
+width_complete : (capabilities two eight : Capabilities) (t e : Bool) → (Has capabilities.0 two.0 → IsTrue t) → (Has capabilities.0 eight.0 → IsTrue e)
     → (width : ℕ) → IsWidthOK capabilities two eight width → is_width_ok t e width ≡ true
 width_complete capabilities two eight t e for_two for_eight width (inl h) = subst (λ w. is_width_ok t e w ≡ true) (sym h) refl
 width_complete capabilities two eight t e for_two for_eight width (inr (inl h)) = subst (λ w. is_width_ok t e w ≡ true) (sym h.0) (for_two h.1)
 width_complete capabilities two eight t e for_two for_eight width (inr (inr h)) = subst (λ w. is_width_ok t e w ≡ true) (sym h.0) (for_eight h.1)
 
-module _ (capabilities : List Capability) (w : Widths) (of : AreWidthsOf capabilities w) where
+module _ (capabilities : Capabilities) (w : Widths) (of : AreWidthsOf capabilities w) where
   scalar_sound : (k : ScalarKind) (width : ℕ) → is_scalar_ok w k width ≡ true → IsScalarOK capabilities k width
   scalar_sound Boolean width h = eqb-true width 1 h
   scalar_sound Sint width h = width_sound _ _ _ w.int16 w.int64 of.int16.0 of.int64.0 width h

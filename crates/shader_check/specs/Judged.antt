@@ -1,19 +1,33 @@
 -- The judgement over bytes.
 use Rattle.std.specs.Prelude.{◌≡◌, ℕ, List}
+use Rattle.ir_items.specs.Plain.{PlainModule}
 use Rattle.document_model.specs.Plain.{PlainDocument}
 use Rattle.document_within.specs.Scope.{IsWithin}
 use Rattle.document_reader.specs.Form.{Reads}
-use Rattle.judgement.specs.Steps.{IsFinding}
+use Rattle.judgement.specs.Steps.{IsFinding, IsPrepared}
 use Rattle.judgement.specs.Text.{text_of}
 use Rattle.judgement.specs.declared.finding.Finding.{Finding}
 use Rattle.judgement.specs.declared.finding.Finding.TheVariants.{Accepted, RefusedDocument, RefusedHandles, Refused}
 
--- The bytes spell a document that is checked so far, and this is found of its module.
+-- The document is checked so far, and this is found of its module, with returns put in where its settings ask for them.
+pub record FindsIn (d : PlainDocument) (f : Finding) : Type 0 where
+  pub within : IsWithin d
+  pub judged : PlainModule
+  pub prepared : IsPrepared d.settings.returns d.content judged
+  pub finding : IsFinding d.settings judged f
+
+-- The bytes spell a document of which this is found.
 pub record Finds (bytes : List ℕ) (f : Finding) : Type 0 where
   pub document : PlainDocument
   pub reads : Reads bytes document
-  pub within : IsWithin document
-  pub finding : IsFinding document.settings document.content f
+  pub found : FindsIn document f
+
+-- what the judgement is over a document
+abbrev pub JudgedDocument : PlainDocument → Finding → Type 0
+JudgedDocument d RefusedDocument = ¬ IsWithin d
+JudgedDocument d Accepted = FindsIn d Accepted
+JudgedDocument d RefusedHandles = FindsIn d RefusedHandles
+JudgedDocument d (Refused step index) = FindsIn d (Refused step index)
 
 -- what the judgement is over these bytes
 abbrev pub Judged : List ℕ → Finding → Type 0

@@ -11,7 +11,7 @@ use Rattle.ir_blocks.specs.Plain.{PlainStatement, emit, block, choice, switch, l
 use Rattle.ir_items.specs.Plain.{PlainFunction, PlainModule}
 use Rattle.ir_blocks.specs.Shapes.{Exit, breaks, continues, returns, kills, exit_of, shape_of}
 use Rattle.ir_types.specs.declared.types.TypeInner.TheVariants as inner
-use Rattle.judgement.specs.Functions.{scalar_at, answer_of, argument_count, falls_at_end, body_of}
+use Rattle.judgement.specs.Functions.{scalar_at, answer_of, argument_count, falls_at_end}
 use Rattle.ir_kinds.specs.contracts.values.SwitchValuePartialEq.TheImpl as value
 use Rattle.ir_kinds.specs.contracts.scalars.ScalarPartialEq.TheImpl as scalar
 use Rattle.shader_check.specs.Everywhere.{PlainControl, control_of_body, everywhere}
@@ -155,10 +155,6 @@ may_leave_by c kills = true
 abbrev pub rule_ok : PlainModule → PlainFunction → PlainControl → PlainStatement → Bool
 rule_ok m f c s = if_some (may_leave_by c) (exit_of (shape_of s)) && statement_ok m f s
 
--- the arity of calls, and the rules where they are asked
-abbrev pub body_ok : Bool → PlainModule → PlainFunction → PlainBlock → Bool
-body_ok blocks m f b =
-    everywhere (λ _ s. arity_ok m s) control_of_body b && (if blocks then everywhere (rule_ok m f) control_of_body b else true)
-
-abbrev pub function_ok : (blocks completes : Bool) → PlainModule → PlainFunction → Bool
-function_ok blocks completes m f = body_ok blocks m f (body_of completes f)
+abbrev pub function_ok : (blocks : Bool) → PlainModule → PlainFunction → Bool
+function_ok blocks m f =
+    everywhere (λ _ s. arity_ok m s) control_of_body f.body && (if blocks then everywhere (rule_ok m f) control_of_body f.body else true)

@@ -3,18 +3,18 @@ ghost use Rattle.std.specs.Prelude.{◌≡◌, ◌||◌, false, map, option_map,
 ghost use Rattle.ir_types.specs.Plain.{inner_view};
 ghost use Rattle.ir_expressions.specs.Plain.{expression_view};
 ghost use Rattle.ir_arena.specs.Handles.{handles_from};
-ghost use Rattle.ir_blocks.specs.View.{block_view, case_view, cases_of};
+ghost use Rattle.ir_blocks.specs.View.{case_view, cases_of};
 ghost use Rattle.ir_items.specs.View.{function_view, module_view};
 ghost use Rattle.judgement.specs.Functions.{scalar_at, answer_of, expression_scalar, inner_scalar, falls_at_end};
 ghost use Rattle.judgement.specs.Handles.{HandlesOK};
 ghost use Rattle.shader_check.specs.Values.{value_key};
-ghost use Rattle.shader_check.specs.Tests.{first_failing, is_sint, is_uint, is_condition, fits_kind, values_fit, has_value, values_differ, switch_ok, return_ok, call_result_ok, body_ok, function_ok};
+ghost use Rattle.shader_check.specs.Tests.{first_failing, is_sint, is_uint, is_condition, fits_kind, values_fit, has_value, values_differ, switch_ok, return_ok, call_result_ok, function_ok};
 
 use crate::control::Control;
 use crate::walk::{StatementTest, everywhere};
 use ir_arena::handle::Handle;
 use ir_items::{
-    Block, Expression, Function, Module, Statement, SwitchCase, TypeInner, complete, key,
+    Expression, Function, Module, Statement, SwitchCase, TypeInner, key,
 };
 use ir_kinds::{Scalar, ScalarKind, SwitchValue};
 use std::alloc::{AllocError, Global};
@@ -300,40 +300,22 @@ impl StatementTest for RuleTest<'_> {
     }
 }
 
-fn is_body_ok(
-    alloc: Global,
-    blocks: bool,
-    module: &Module,
-    function: &Function,
-    body: &Block,
-) -> Result<bool, AllocError>
-    ensures { IfOk result (λ ok. ok ≡ body_ok blocks (module_view «module».now) (function_view function.now) (block_view body.now)) }
-{
-    if !everywhere(alloc, &ArityTest { module }, Control::BODY, body)? {
-        return Ok(false);
-    }
-    if blocks {
-        everywhere(alloc, &RuleTest { module, function }, Control::BODY, body)
-    } else {
-        Ok(true)
-    }
-}
-
-// Whether the function meets its rules, with returns put in first where they are asked for.
+// Whether the function meets its rules.
 fn is_function_ok(
     alloc: Global,
     blocks: bool,
-    returns: bool,
     module: &Module,
     function: &Function,
 ) -> Result<bool, AllocError>
-    ensures { IfOk result (λ ok. ok ≡ function_ok blocks returns (module_view «module».now) (function_view function.now)) }
+    ensures { IfOk result (λ ok. ok ≡ function_ok blocks (module_view «module».now) (function_view function.now)) }
 {
-    if returns {
-        let body = complete(alloc, &function.body)?;
-        is_body_ok(alloc, blocks, module, function, &body)
+    if !everywhere(alloc, &ArityTest { module }, Control::BODY, &function.body)? {
+        return Ok(false);
+    }
+    if blocks {
+        everywhere(alloc, &RuleTest { module, function }, Control::BODY, &function.body)
     } else {
-        is_body_ok(alloc, blocks, module, function, &function.body)
+        Ok(true)
     }
 }
 
@@ -342,14 +324,13 @@ fn is_function_ok(
 pub fn first_failing_function(
     alloc: Global,
     blocks: bool,
-    returns: bool,
     module: &Module,
 ) -> Result<Option<usize>, AllocError>
     requires { HandlesOK (module_view «module».now) }
-    ensures { IfOk result (λ found. found ≡ first_failing (λ _ f. function_ok blocks returns (module_view «module».now) (function_view f)) (handles_from 0 «module».now.functions)) }
+    ensures { IfOk result (λ found. found ≡ first_failing (λ _ f. function_ok blocks (module_view «module».now) (function_view f)) (handles_from 0 «module».now.functions)) }
 {
     for (handle, function) in module.functions.iter() {
-        if !is_function_ok(alloc, blocks, returns, module, function)? {
+        if !is_function_ok(alloc, blocks, module, function)? {
             return Ok(Some(handle.index()));
         }
     }

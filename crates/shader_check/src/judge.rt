@@ -1,27 +1,27 @@
 // The judgement over bytes.
-ghost use Rattle.std.specs.Prelude.{◌↔◌, IfOk, IsTrue, Contains};
-ghost use Rattle.ir_kinds.specs.declared.settings.Flag.TheVariants.{Blocks};
+ghost use Rattle.std.specs.Prelude.{◌↔◌, IfOk, IsTrue, OnOk};
+ghost use Rattle.ir_flags.specs.Sets.{Has};
 ghost use Rattle.ir_items.specs.View.{module_view};
-ghost use Rattle.document_model.specs.View.{settings_view};
-ghost use Rattle.judgement.specs.Steps.{IsFinding};
-ghost use Rattle.shader_check.specs.Judged.{Judged};
+ghost use Rattle.document_model.specs.View.{document_view, settings_view};
+ghost use Rattle.judgement.specs.Steps.{IsFinding, IsPrepared};
+ghost use Rattle.shader_check.specs.Judged.{Judged, JudgedDocument};
 
 use crate::functions::first_failing_function;
 use crate::handles::handles_in_order;
 use crate::types::{first_failing_type, widths_of};
-use document_model::Settings;
-use document_reader::read_document;
+use bitflags::Flags;
+use document_model::{Document, Settings};
+use document_reader::{DocumentError, read_document};
 use document_within::within;
+use ir_flags::ValidationFlags;
 use ir_items::Module;
-use ir_kinds::Flag;
 use judgement::{Finding, Step};
-use module_builder::into_module;
 use std::alloc::{AllocError, Global};
 
-fn has_blocks(flags: &[Flag]) -> bool
-    ensures { IsTrue result ↔ Contains flags.now Blocks }
+fn has_blocks(flags: ValidationFlags) -> bool
+    ensures { IsTrue result ↔ Has flags.0 ValidationFlags.BLOCKS.0 }
 {
-    flags.contains(&Flag::Blocks)
+    flags.contains(ValidationFlags::BLOCKS)
 }
 
 // The steps over a module. A step looks only at what those before it have passed.
@@ -32,27 +32,48 @@ fn judge_module(alloc: Global, settings: &Settings, module: &Module) -> Result<F
     if !is_in_order {
         return Ok(Finding::RefusedHandles);
     }
-    if let Some(index) = first_failing_type(&module.types, widths_of(&settings.capabilities)) {
+    if let Some(index) = first_failing_type(&module.types, widths_of(settings.capabilities)) {
         return Ok(Finding::Refused(Step::Type, index));
     }
-    let blocks = has_blocks(&settings.flags);
-    match first_failing_function(alloc, blocks, settings.returns, module)? {
+    let blocks = has_blocks(settings.flags);
+    match first_failing_function(alloc, blocks, module)? {
         Some(index) => Ok(Finding::Refused(Step::Function, index)),
         None => Ok(Finding::Accepted),
     }
 }
 
+// Puts returns in where they are asked for.
+fn prepare(alloc: Global, returns: bool, module: &mut Module) -> Result<(), AllocError>
+    ensures { OnOk result (IsPrepared returns (module_view «module».old) (module_view «module».new)) }
+{
+    if returns {
+        module.ensure_block_returns(alloc)
+    } else {
+        Ok(())
+    }
+}
+
+/// What is found of the document. Returns are put into its module where its settings ask for them.
+pub fn judge_document(alloc: Global, document: &mut Document) -> Result<Finding, AllocError>
+    ensures { IfOk result (JudgedDocument (document_view document.old)) }
+{
+    if !within(document) {
+        return Ok(Finding::RefusedDocument);
+    }
+    prepare(alloc, document.settings.returns, &mut document.module)?;
+    judge_module(alloc, &document.settings, &document.module)
+}
+
 /// What is found of the document that the bytes spell: the first step that fails, and in it the least index. Where they
-/// spell none, or one that is not checked so far, the document is refused. The error is want of memory.
+/// spell none, or one that is not checked so far, the document is refused. The error says that there is no memory.
 pub fn judge(alloc: Global, bytes: &[u8]) -> Result<Finding, AllocError>
     ensures { IfOk result (Judged bytes.now) }
 {
-    let Some(document) = read_document(alloc, bytes)? else {
-        return Ok(Finding::RefusedDocument);
-    };
-    if !within(&document) {
-        return Ok(Finding::RefusedDocument);
+    match read_document(alloc, bytes) {
+        Ok(mut document) => judge_document(alloc, &mut document),
+        Err(DocumentError::Memory) => Err(AllocError),
+        Err(DocumentError::TooLong)
+        | Err(DocumentError::NotJson { .. })
+        | Err(DocumentError::Malformed { .. }) => Ok(Finding::RefusedDocument),
     }
-    let (settings, module) = into_module(alloc, document)?;
-    judge_module(alloc, &settings, &module)
 }

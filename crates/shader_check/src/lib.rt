@@ -11,9 +11,9 @@ mod types;
 mod walk;
 
 pub use check::{Fault, Verdict, check_document, outcome};
-pub use document_model::{Document, Settings};
-pub use document_reader::read_document;
+pub use document_model::{Document, Settings, build_module};
+pub use document_reader::{DocumentError, read_document};
 pub use document_within::within;
+pub use judge::judge_document;
 pub use judgement::{Finding, Step};
-pub use module_builder::build_module;
 pub use ports::{ReadCall, Sink, Source, WriteCall};

@@ -1,14 +1,16 @@
 // The step that tests types.
-ghost use Rattle.std.specs.Prelude.{◌≡◌, ◌↔◌, IsTrue, Contains};
+ghost use Rattle.std.specs.Prelude.{◌≡◌, ◌↔◌, IsTrue};
+ghost use Rattle.ir_flags.specs.Sets.{Has};
 ghost use Rattle.ir_arena.specs.Handles.{handles_from};
-ghost use Rattle.ir_kinds.specs.declared.settings.Capability.TheVariants.{ShaderInt16, ShaderInt64, ShaderFloat16, Float64};
 ghost use Rattle.ir_types.specs.Plain.{inner_view, type_view};
 ghost use Rattle.shader_check.specs.Tests.{first_failing, is_width_ok, is_scalar_ok, is_inner_ok};
 ghost use Rattle.shader_check.specs.Widths.{widths_view, AreWidthsOf};
 
+use bitflags::Flags;
 use ir_arena::unique_arena::UniqueArena;
+use ir_flags::Capabilities;
 use ir_items::{IrType, TypeInner, key};
-use ir_kinds::{Bytes, Capability, Scalar, ScalarKind};
+use ir_kinds::{Bytes, Scalar, ScalarKind};
 
 /// The widths of scalars that capabilities allow beside those that always stand.
 #[derive(Clone, Copy, Debug, PartialEq, Eq)]
@@ -19,15 +21,21 @@ pub struct Widths {
     float64: bool,
 }
 
+fn has_capability(capabilities: Capabilities, capability: Capabilities) -> bool
+    ensures { IsTrue result ↔ Has capabilities.0 capability.0 }
+{
+    capabilities.contains(capability)
+}
+
 /// The widths that these capabilities allow.
-pub fn widths_of(capabilities: &[Capability]) -> Widths
-    ensures { AreWidthsOf capabilities.now (widths_view result) }
+pub fn widths_of(capabilities: Capabilities) -> Widths
+    ensures { AreWidthsOf capabilities (widths_view result) }
 {
     Widths {
-        int16: capabilities.contains(&Capability::ShaderInt16),
-        int64: capabilities.contains(&Capability::ShaderInt64),
-        float16: capabilities.contains(&Capability::ShaderFloat16),
-        float64: capabilities.contains(&Capability::Float64),
+        int16: has_capability(capabilities, Capabilities::SHADER_INT16),
+        int64: has_capability(capabilities, Capabilities::SHADER_INT64),
+        float16: has_capability(capabilities, Capabilities::SHADER_FLOAT16),
+        float64: has_capability(capabilities, Capabilities::FLOAT64),
     }
 }
 

@@ -66,7 +66,6 @@ pub use ir_items::Statement;
 pub use ir_items::StructMember;
 pub use ir_items::SwitchCase;
 pub use ir_items::TypeInner;
-pub use ir_items::complete;
 pub use ir_items::copy_arena;
 pub use ir_items::copy_list;
 pub use ir_items::copy_types;

@@ -1,7 +1,7 @@
 //! What holds of types, forms and overload sets for all values.
 
-pub use constructor_sets::laws::{named_sets, ones_of_a_number};
-pub use overload_tables::laws::{arguments_filter, preferred_is_best};
+pub use constructor_sets::laws::{members_by_bits, named_sets, ones_of_a_number};
+pub use overload_tables::laws::{argument_counts, arguments_filter, preferred_is_best};
 pub use typing_forms::laws::form_equality;
 pub use typing_rules::laws::{
     canonical_once, compare_reflexive, compare_symmetric, compare_transitive,

@@ -1,5 +1,5 @@
 // Items of the IR: how a line of the input gives them, how they are copied, and what is told of them.
-use document_reader::read_document;
+use crate::modules::document_of;
 use expression_forms::ExpressionForm;
 use function_forms::{EntryForm, FunctionForm, LocalForm};
 use ir_items::{
@@ -7,7 +7,6 @@ use ir_items::{
     IrType, LocalVariable, Module, Override, SpecialTypes,
 };
 use item_forms::{ConstantForm, FilterForm, GlobalForm, OverrideForm, SpecialForm, TypeForm};
-use module_builder::into_module;
 use serde_json::Value;
 use statement_forms::BodyForm;
 use std::alloc::{AllocError, Global};
@@ -167,11 +166,10 @@ impl Item for EntryPoint {
 impl Item for Module {
     fn read(alloc: Global, value: &Value) -> Result<Option<Self>, AllocError> {
         let text = value.as_str().unwrap_or("");
-        let Some(document) = read_document(alloc, text.as_bytes())? else {
-            return Ok(None);
-        };
-        let (_, module) = into_module(alloc, document)?;
-        Ok(Some(module))
+        match document_of(alloc, text.as_bytes())? {
+            Some(document) => Ok(Some(document.module)),
+            None => Ok(None),
+        }
     }
 
     fn copy(&self, alloc: Global) -> Result<Self, AllocError> {

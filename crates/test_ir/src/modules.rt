@@ -1,6 +1,6 @@
 // What modules and documents hold.
 use crate::item::read_at;
-use document_reader::{Document, read_document};
+use document_reader::{Document, DocumentError, read_document};
 use document_within::within;
 use ir_items::Module;
 use serde_json::Value;
@@ -8,6 +8,15 @@ use std::alloc::{AllocError, Global};
 use test_support::call::{no_call, text, told};
 
 type Counts = (usize, usize, usize, usize);
+
+/// The document that the bytes spell, if they spell one.
+pub fn document_of(alloc: Global, bytes: &[u8]) -> Result<Option<Document>, AllocError> {
+    match read_document(alloc, bytes) {
+        Ok(document) => Ok(Some(document)),
+        Err(DocumentError::Memory) => Err(AllocError),
+        Err(_) => Ok(None),
+    }
+}
 
 fn counts_of_context(module: &Module) -> Counts {
     let context = module.to_ctx();
@@ -44,22 +53,13 @@ pub fn of_module(alloc: Global, call: &Value) -> Result<String, AllocError> {
     }
 }
 
-fn counts_of_document(document: &Document) -> Counts {
-    (
-        document.types.len(),
-        document.global_variables.len(),
-        document.functions.len(),
-        document.entry_points.len(),
-    )
-}
-
 fn seen(alloc: Global, document: &Document, copy: &Document) -> Result<String, AllocError> {
-    told(alloc, (counts_of_document(copy), within(document)))
+    told(alloc, (counts(&copy.module), within(document)))
 }
 
 /// How much of each list the copy of a document has, and whether it is checked so far.
 pub fn of_document(alloc: Global, call: &Value) -> Result<String, AllocError> {
-    match read_document(alloc, text(call, 1).as_bytes())? {
+    match document_of(alloc, text(call, 1).as_bytes())? {
         Some(document) => seen(alloc, &document, &document.clone(alloc)?),
         None => no_call(alloc),
     }

@@ -1,6 +1,6 @@
 // Returns that are put in at the ends of bodies.
 use crate::item::read_at;
-use ir_items::{Block, complete, ensure_block_returns};
+use ir_items::{Block, ensure_block_returns};
 use serde_json::Value;
 use std::alloc::{AllocError, Global};
 use test_support::call::{no_call, told};
@@ -13,12 +13,14 @@ fn puts_in(alloc: Global, body: &mut Block, due: &Block) -> Result<bool, AllocEr
     Ok(once && *body == *due && body.spans().len() == body.len())
 }
 
-// Whether the completed body is the one that is due.
+// Whether a copy of the body with returns put in is the one that is due.
 fn completes(alloc: Global, body: &Block, due: &Block) -> Result<bool, AllocError> {
-    Ok(complete(alloc, body)? == *due)
+    let mut copy = body.clone(alloc)?;
+    ensure_block_returns(alloc, &mut copy)?;
+    Ok(copy == *due)
 }
 
-/// Whether both calls that put in returns make the second body of the first, and how long it is then.
+/// Whether returns put into a copy and in place make the second body of the first, and how long it is then.
 pub fn of_returns(alloc: Global, call: &Value) -> Result<String, AllocError> {
     let Some(mut body): Option<Block> = read_at(alloc, call, 1)? else {
         return no_call(alloc);

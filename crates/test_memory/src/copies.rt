@@ -1,7 +1,8 @@
 // Copies with little memory, and a little more each time.
 use crate::same::{leaving, refused_more_than};
 use ir_items::{Block, Expression, Function, IrType, Module};
-use shader_check::{Document, build_module, read_document};
+use ir_arena::handle::Handle;
+use shader_check::{Document, read_document};
 use std::alloc::{AllocError, Global};
 use std::test::Fail;
 
@@ -31,7 +32,7 @@ impl Copyable for IrType {
     }
 
     fn of(document: &Document) -> Option<&Self> {
-        document.types.first()
+        document.module.types.get_handle(Handle::at(0)).ok()
     }
 }
 
@@ -41,7 +42,7 @@ impl Copyable for Expression {
     }
 
     fn of(document: &Document) -> Option<&Self> {
-        document.global_expressions.first()
+        document.module.global_expressions.try_get(Handle::at(0)).ok()
     }
 }
 
@@ -51,7 +52,7 @@ impl Copyable for Block {
     }
 
     fn of(document: &Document) -> Option<&Self> {
-        Some(&document.functions.first()?.body)
+        Some(&Function::of(document)?.body)
     }
 }
 
@@ -61,7 +62,7 @@ impl Copyable for Function {
     }
 
     fn of(document: &Document) -> Option<&Self> {
-        document.functions.first()
+        document.module.functions.try_get(Handle::at(0)).ok()
     }
 }
 
@@ -70,8 +71,8 @@ impl Copyable for Module {
         self.clone(alloc)
     }
 
-    fn of(_document: &Document) -> Option<&Self> {
-        None
+    fn of(document: &Document) -> Option<&Self> {
+        Some(&document.module)
     }
 }
 
@@ -102,50 +103,42 @@ fn count_refusals<T: Copyable>(alloc: Global, source: &T, more: usize) -> Result
     Err(Fail::new("no run was given enough memory"))
 }
 
-fn refusals<T: Copyable>(alloc: Global) -> Result<usize, Fail> {
-    let Some(document) = read_document(alloc, SOURCES.as_bytes())? else {
+fn refusals<T: Copyable>(alloc: Global, more: usize) -> Result<usize, Fail> {
+    let Ok(document) = read_document(alloc, SOURCES.as_bytes()) else {
         return Err(Fail::new("it was not read"));
     };
     match T::of(&document) {
-        Some(source) => count_refusals(alloc, source, STEP),
+        Some(source) => count_refusals(alloc, source, more),
         None => Err(Fail::new("the document has none")),
     }
 }
 
-fn refusals_of_module(alloc: Global) -> Result<usize, Fail> {
-    let Some(document) = read_document(alloc, SOURCES.as_bytes())? else {
-        return Err(Fail::new("it was not read"));
-    };
-    let module = build_module(alloc, &document)?;
-    count_refusals(alloc, &module, MODULE_STEP)
-}
-
 #[test]
 fn a_type_is_copied(rt: HostRuntime) -> Result<(), Fail> {
-    refused_more_than(&rt, refusals::<IrType>(rt.alloc())?, 1);
+    refused_more_than(&rt, refusals::<IrType>(rt.alloc(), STEP)?, 1);
     Ok(())
 }
 
 #[test]
 fn an_expression_is_copied(rt: HostRuntime) -> Result<(), Fail> {
-    refused_more_than(&rt, refusals::<Expression>(rt.alloc())?, 0);
+    refused_more_than(&rt, refusals::<Expression>(rt.alloc(), STEP)?, 0);
     Ok(())
 }
 
 #[test]
 fn a_block_is_copied(rt: HostRuntime) -> Result<(), Fail> {
-    refused_more_than(&rt, refusals::<Block>(rt.alloc())?, 1);
+    refused_more_than(&rt, refusals::<Block>(rt.alloc(), STEP)?, 1);
     Ok(())
 }
 
 #[test]
 fn a_function_is_copied(rt: HostRuntime) -> Result<(), Fail> {
-    refused_more_than(&rt, refusals::<Function>(rt.alloc())?, 1);
+    refused_more_than(&rt, refusals::<Function>(rt.alloc(), STEP)?, 1);
     Ok(())
 }
 
 #[test]
 fn a_module_is_copied(rt: HostRuntime) -> Result<(), Fail> {
-    refused_more_than(&rt, refusals_of_module(rt.alloc())?, 1);
+    refused_more_than(&rt, refusals::<Module>(rt.alloc(), MODULE_STEP)?, 1);
     Ok(())
 }

@@ -3,7 +3,7 @@ use crate::same::{leaving_of, refused_more_than};
 use ir_arena::handle::Handle;
 use ir_arena::range::Range;
 use ir_arena::span::Span;
-use ir_items::{Block, Statement, complete, ensure_block_returns};
+use ir_items::{Block, Statement, ensure_block_returns};
 use std::alloc::{AllocError, Global};
 use std::test::Fail;
 
@@ -60,10 +60,17 @@ fn is_enough(alloc: Global, step: usize, before: &Block, after: &Block) -> Resul
     }
 }
 
-// Whether there is enough memory at a step for the completed body, in memory of its own.
+// A copy of the body with returns put in.
+fn completed(alloc: Global, body: &Block) -> Result<Block, AllocError> {
+    let mut copy = body.clone(alloc)?;
+    ensure_block_returns(alloc, &mut copy)?;
+    Ok(copy)
+}
+
+// Whether there is enough memory at a step for a copy and its returns.
 fn completes(alloc: Global, step: usize, before: &Block, after: &Block) -> Result<bool, Fail> {
     let hog = leaving_of(alloc, SPARE, step.saturating_mul(STEP))?;
-    let answer = complete(alloc, before);
+    let answer = completed(alloc, before);
     drop(hog);
     let Ok(body) = answer else {
         return Ok(false);
@@ -75,7 +82,7 @@ fn completes(alloc: Global, step: usize, before: &Block, after: &Block) -> Resul
     }
 }
 
-// How many steps are refused memory, by the call that completes in place or by the other.
+// How many steps are refused memory, where returns are put in place or into a copy.
 fn refusals(alloc: Global, in_place: bool) -> Result<usize, Fail> {
     let before = sides(alloc, false)?;
     let after = sides(alloc, true)?;

@@ -1,5 +1,5 @@
 // Types by their handles or by what they are made of: their forms, and which of them are equivalent.
-use crate::given::{Types, inner, is_among, is_no_struct, resolution};
+use crate::given::{Types, inner, is_no_struct, resolution};
 use ir_arena::handle::Handle;
 use ir_items::Module;
 use serde_json::Value;
@@ -16,7 +16,7 @@ fn see_inner(
     resolution: &TypeResolution,
     types: &Types,
 ) -> Result<String, AllocError> {
-    if is_among(resolution, types) {
+    if resolution.is_among(types) {
         told(alloc, resolution.inner_with(types))
     } else {
         no_call(alloc)

@@ -1,8 +1,8 @@
 // Types and scalars as a line of the input gives them.
-ghost use Rattle.std.specs.Prelude.{IsTrue, ◌<◌, length};
+ghost use Rattle.std.specs.Prelude.{IsTrue};
 ghost use Rattle.ir_types.specs.Plain.{inner_view};
 ghost use Rattle.typing_forms.specs.Forms.{NoStructValue};
-ghost use Rattle.typing_forms.specs.Resolutions.{resolution_view, IsAmong};
+ghost use Rattle.typing_forms.specs.Resolutions.{resolution_view};
 ghost use Rattle.typing_rules.specs.Canonical.{NotBothStructs};
 
 use ir_arena::unique_arena::UniqueArena;
@@ -68,16 +68,6 @@ pub fn is_no_struct(resolution: &TypeResolution) -> bool
     match resolution {
         TypeResolution::Handle(_) => true,
         TypeResolution::Value(inner) => !matches!(inner, TypeInner::Struct { .. }),
-    }
-}
-
-/// Whether a type that is given by a handle is among these.
-pub fn is_among(resolution: &TypeResolution, types: &Types) -> bool
-    ensures { IsTrue result → IsAmong (length types.now) (resolution_view resolution.now) }
-{
-    match resolution {
-        TypeResolution::Handle(handle) => handle.index() < types.len(),
-        TypeResolution::Value(_) => true,
     }
 }
 

@@ -7,10 +7,9 @@ use test_support::call::{no_call, number, text, told};
 use typing_forms::form_in;
 use typing_rules::{TypeInnerExt, types_go_back};
 
-// The size by both calls, where it is at most the greatest.
-fn sizes(inner: &TypeInner) -> Option<(u32, u32)> {
-    let size = inner.try_size()?;
-    Some((size, inner.size()))
+// The size where it is at most the greatest, and the size however large.
+fn sizes(inner: &TypeInner) -> (Option<u64>, u64) {
+    (inner.try_size(), inner.size())
 }
 
 // The answer of a call that asks for no other type.

@@ -1,10 +1,11 @@
 //! Comparing types by what has them: a module, or what a global expression may name.
 #![tactic(auto)]
 
-ghost use Rattle.std.specs.Prelude.{◌≡◌, ◌↔◌, IsTrue, List};
+ghost use Rattle.std.specs.Prelude.{◌↔◌, IsTrue, List};
 ghost use Rattle.ir_types.specs.Plain.{PlainType};
 ghost use Rattle.typing_forms.specs.Resolutions.{types_view, resolution_view};
-ghost use Rattle.typing_forms.specs.Forms.{form_of, NoStructValue};
+ghost use Rattle.typing_forms.specs.Forms.{NoStructValue};
+ghost use Rattle.typing_rules.specs.Equivalence.{AreEquivalent};
 
 use ir_items::{GlobalCtx, Module};
 use typing_forms::TypeResolution;
@@ -20,8 +21,7 @@ pub trait CompareTypes {
         requires left { NoStructValue (resolution_view lhs.now) }
         requires right { NoStructValue (resolution_view rhs.now) }
         ensures { IsTrue result
-            ↔ (form_of (types_of self.now) (resolution_view lhs.now)
-            ≡ form_of (types_of self.now) (resolution_view rhs.now)) };
+            ↔ AreEquivalent (types_of self.now) (resolution_view lhs.now) (resolution_view rhs.now) };
 }
 
 impl CompareTypes for Module {

@@ -1,6 +1,6 @@
 //! What the type of an expression is given as.
 
-ghost use Rattle.std.specs.Prelude.{◌≡◌, ◌<◌, Some, length, IfOk};
+ghost use Rattle.std.specs.Prelude.{◌≡◌, ◌↔◌, IsTrue, Some, length, IfOk};
 ghost use Rattle.ir_types.specs.Plain.{inner_view};
 ghost use Rattle.typing_forms.specs.Resolutions.{types_view, resolution_view, handle_of, resolved, IsAmong};
 
@@ -26,6 +26,16 @@ impl TypeResolution {
         match *self {
             TypeResolution::Handle(handle) => Some(handle),
             TypeResolution::Value(_) => None,
+        }
+    }
+
+    /// Whether the type is there: given by a handle, it is one of `types`.
+    pub fn is_among(&self, types: &UniqueArena<IrType, key::IrType>) -> bool
+        ensures { IsTrue result ↔ IsAmong (length types.now) (resolution_view self.now) }
+    {
+        match *self {
+            TypeResolution::Handle(handle) => handle.index() < types.len(),
+            TypeResolution::Value(_) => true,
         }
     }
 

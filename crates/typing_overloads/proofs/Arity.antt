@@ -1,13 +1,13 @@
 -- How many arguments the rules of a product have: all as many.
 use Rattle.std.proofs.Common.{◌≡◌, ◌∙◌, ◌++◌, ℕ, suc, Some, None, List, [], ◌∷◌, refl, ap, sym, arith, fold, length, map, max, min, slice_get}
-use Rattle.std.proofs.lemmas.List.Sums.{fold-append}
 use Rattle.ir_kinds.specs.declared.scalars.Scalar.{Scalar}
 use Rattle.overload_tables.specs.declared.patterns.Pattern.{Pattern}
 use Rattle.overload_tables.specs.declared.rules.ConstructorSize.{ConstructorSize}
 use Rattle.overload_tables.specs.declared.rules.Rule.{Rule}
 use Rattle.overload_tables.specs.Tables.{rule_of, row, rules_over}
 use Rattle.typing_overloads.specs.Products.{asked_type, asked_by}
-use Rattle.typing_overloads.specs.Sets.{arity, fewest_arguments, most_arguments}
+use Rattle.overload_tables.specs.Laws.{arity}
+use Rattle.typing_overloads.specs.Sets.{fewest_arguments, most_arguments}
 use Rattle.typing_overloads.proofs.Kept.{asked_are}
 
 length_mapped : {A B : Type 0} (f : A → B) (xs : List A) → length (map f xs) ≡ length xs
@@ -80,16 +80,12 @@ most_from : (rs : List Rule) (q : Rule) → slice_get rs 0 ≡ Some q → fold (
 most_from [] q e = absurd (cc)
 most_from (r ∷ rs) q e = let same : q ≡ r = cc in ap (λ i. fold (λ m j. max m (arity j)) (max (arity i) (arity r)) rs) same ∙ ap (λ i. fold (λ m j. max m (arity j)) i rs) (max_same (arity r))
 
-pub fewest_of_both : (xs ys rs : List Rule) (q : Rule) (own first second : ℕ) → xs ++ ys ≡ rs → slice_get rs 0 ≡ Some q → own ≡ arity q
-    → first ≡ fold (λ m r. min m (arity r)) own xs → second ≡ fold (λ m r. min m (arity r)) first ys → second ≡ fewest_arguments rs
-fewest_of_both xs ys rs q own first second whole e a b c =
-    let start : first ≡ fold (λ m r. min m (arity r)) (arity q) xs = b ∙ ap (λ n. fold (λ m r. min m (arity r)) n xs) a in
-    c ∙ ap (λ n. fold (λ m r. min m (arity r)) n ys) start ∙ sym (fold-append (λ m r. min m (arity r)) (arity q) xs ys)
-    ∙ ap (fold (λ m r. min m (arity r)) (arity q)) whole ∙ fewest_from rs q e
+pub fewest_given : (rs xs : List Rule) (q : Rule) (own found : ℕ) → xs ≡ rs → slice_get rs 0 ≡ Some q → own ≡ arity q → found ≡ fold (λ m r. min m (arity r)) own xs
+    → found ≡ fewest_arguments rs
+fewest_given rs xs q own found whole e a b =
+    b ∙ ap (λ n. fold (λ m r. min m (arity r)) n xs) a ∙ ap (fold (λ m r. min m (arity r)) (arity q)) whole ∙ fewest_from rs q e
 
-pub most_of_both : (xs ys rs : List Rule) (q : Rule) (own first second : ℕ) → xs ++ ys ≡ rs → slice_get rs 0 ≡ Some q → own ≡ arity q
-    → first ≡ fold (λ m r. max m (arity r)) own xs → second ≡ fold (λ m r. max m (arity r)) first ys → second ≡ most_arguments rs
-most_of_both xs ys rs q own first second whole e a b c =
-    let start : first ≡ fold (λ m r. max m (arity r)) (arity q) xs = b ∙ ap (λ n. fold (λ m r. max m (arity r)) n xs) a in
-    c ∙ ap (λ n. fold (λ m r. max m (arity r)) n ys) start ∙ sym (fold-append (λ m r. max m (arity r)) (arity q) xs ys)
-    ∙ ap (fold (λ m r. max m (arity r)) (arity q)) whole ∙ most_from rs q e
+pub most_given : (rs xs : List Rule) (q : Rule) (own found : ℕ) → xs ≡ rs → slice_get rs 0 ≡ Some q → own ≡ arity q → found ≡ fold (λ m r. max m (arity r)) own xs
+    → found ≡ most_arguments rs
+most_given rs xs q own found whole e a b =
+    b ∙ ap (λ n. fold (λ m r. max m (arity r)) n xs) a ∙ ap (fold (λ m r. max m (arity r)) (arity q)) whole ∙ most_from rs q e

@@ -1,13 +1,10 @@
 -- What lists of rules have.
-use Rattle.std.specs.Prelude.{ℕ, List, [], ◌∷◌, Option, Some, None, length, slice_get, min, max}
+use Rattle.std.specs.Prelude.{ℕ, List, [], ◌∷◌, Option, Some, None, slice_get, min, max}
 use Rattle.std.specs.List.{fold, flat_map}
 use Rattle.overload_tables.specs.declared.rules.Rule.{Rule}
 use Rattle.overload_tables.specs.declared.rules.ValueType.{ValueType}
+use Rattle.overload_tables.specs.Laws.{arity}
 use Rattle.overload_tables.specs.Types.{listed}
-
--- how many arguments a rule has
-abbrev pub arity : Rule → ℕ
-arity rule = length (listed rule.arguments)
 
 -- the least number of arguments, and 0 where there is no rule
 abbrev pub fewest_arguments : List Rule → ℕ

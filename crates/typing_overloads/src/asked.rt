@@ -253,6 +253,19 @@ pub(crate) const fn concrete_scalars(pattern: Pattern) -> ScalarSet
 {
     match pattern {
         Pattern::FromWord | Pattern::FromTwoWords => ALL_SCALARS,
-        _ => ScalarSet::CONCRETE,
+        Pattern::Same
+        | Pattern::SameTwo
+        | Pattern::SameThree
+        | Pattern::ToScalar
+        | Pattern::TwoToScalar
+        | Pattern::WithScalar
+        | Pattern::WithExponent
+        | Pattern::WithRange
+        | Pattern::TwoWithRange
+        | Pattern::ToFraction
+        | Pattern::ToExponent
+        | Pattern::ToOuter
+        | Pattern::ToTransposed
+        | Pattern::ToWord => ScalarSet::CONCRETE,
     }
 }

@@ -1,8 +1,9 @@
-//! The overload sets of the functions of numbers.
+//! The overload sets of the math functions.
 
-ghost use Rattle.std.specs.Prelude.{◌≡◌, List, IfOk};
+ghost use Rattle.std.specs.Prelude.{◌≡◌, ◌++◌, List, IfOk};
 ghost use Rattle.overload_tables.specs.declared.rules.Rule.{Rule};
 ghost use Rattle.typing_overloads.specs.Either.{any_rules};
+ghost use Rattle.typing_overloads.specs.Products.{rules_of};
 
 use crate::any::AnyOverloadSet;
 use crate::list::List;
@@ -21,7 +22,41 @@ const BLENDS: Product = Product {
     sizes: ConstructorSet::VECN,
 };
 
-/// What a function of numbers has that needs overload sets (a call of naga's `MathFunction`).
+// The rules of one product, and then those of another, one by one.
+fn both(alloc: Global, first: Product, second: Product) -> Result<AnyOverloadSet, AllocError>
+    ensures { IfOk result (λ set. any_rules set ≡ rules_of first ++ rules_of second) }
+{
+    let mut rules = Vec::new(alloc);
+    first.add_to(&mut rules)?;
+    second.add_to(&mut rules)?;
+    Ok(AnyOverloadSet::List(List::from_rules(alloc, rules)?))
+}
+
+// The rules of one product, one by one where naga keeps them so.
+fn one(alloc: Global, rules: Product) -> Result<AnyOverloadSet, AllocError>
+    ensures { IfOk result (λ set. any_rules set ≡ rules_of rules) }
+{
+    match rules.pattern {
+        Pattern::WithScalar
+        | Pattern::WithExponent
+        | Pattern::WithRange
+        | Pattern::TwoWithRange
+        | Pattern::ToOuter
+        | Pattern::ToTransposed => both(alloc, rules, Product::NONE),
+        Pattern::Same
+        | Pattern::SameTwo
+        | Pattern::SameThree
+        | Pattern::ToScalar
+        | Pattern::TwoToScalar
+        | Pattern::ToFraction
+        | Pattern::ToExponent
+        | Pattern::ToWord
+        | Pattern::FromWord
+        | Pattern::FromTwoWords => Ok(AnyOverloadSet::Regular(Regular::new(rules))),
+    }
+}
+
+/// What a math function has that needs overload sets (a call of naga's `MathFunction`).
 pub trait MathFunctionExt: Sized {
     // The rules of the function, in order.
     ghost table: { Self → List Rule };
@@ -36,17 +71,10 @@ impl MathFunctionExt for MathFunction {
 
     ghost table = { tables.table };
 
-    fn overloads(self, _alloc: Global) -> Result<AnyOverloadSet, AllocError> {
-        let rules = row_of(self);
+    fn overloads(self, alloc: Global) -> Result<AnyOverloadSet, AllocError> {
         match self {
-            MathFunction::Mix => Ok(AnyOverloadSet::List(List::new(rules, BLENDS))),
-            MathFunction::Refract
-            | MathFunction::ExtractBits
-            | MathFunction::InsertBits
-            | MathFunction::Ldexp
-            | MathFunction::Outer
-            | MathFunction::Transpose => Ok(AnyOverloadSet::List(List::new(rules, Product::NONE))),
-            _ => Ok(AnyOverloadSet::Regular(Regular::new(rules))),
+            MathFunction::Mix => both(alloc, row_of(self), BLENDS),
+            _ => one(alloc, row_of(self)),
         }
     }
 }

@@ -9,6 +9,7 @@ mod overload_set;
 mod product;
 mod regular;
 mod rows;
+mod rule_lists;
 
 pub use any::AnyOverloadSet;
 pub use constructor_sets::{ConstructorSet, Members, OneBitsIter, ScalarSet};

@@ -1,49 +1,39 @@
-//! Overload sets of rules of two forms.
+//! Overload sets that keep their rules one by one.
 
-ghost use Rattle.std.specs.Prelude.{◌≡◌, ◌++◌, slice_get};
-ghost use Rattle.typing_overloads.specs.Products.{rules_of};
+ghost use Rattle.std.specs.Prelude.{◌≡◌, IfOk};
 
 use crate::overload_set::OverloadSet;
-use crate::product::Product;
+use crate::rule_lists::{accepting, asked_for, concrete, fewest, most};
 use ir_types::TypeInner;
 use overload_tables::{Rule, ValueType};
 use std::alloc::{AllocError, Global};
 use std::marker::Model;
 
-/// An overload set of functions whose rules may be of two forms (naga's `List`). In a contract it is the list of the
-/// rules that are left.
+/// An overload set of any rules, kept one by one (naga's `List`). In a contract it is the list of the rules that are
+/// left.
 #[derive(Debug, Drop)]
 pub struct List {
-    first: Product,
-    second: Product,
+    rules: Vec<Rule>,
 }
 
 impl Model for List {
-    ghost use Rattle.std.specs.Prelude.{◌++◌, List};
+    ghost use Rattle.std.specs.Prelude.{List};
     ghost use Rattle.overload_tables.specs.declared.rules.Rule.{Rule};
-    ghost use Rattle.typing_overloads.specs.Products.{rules_of};
 
     ghost Value = { List Rule };
 
-    ghost view = { λ l. rules_of l.first ++ rules_of l.second };
+    ghost view = { λ l. l.rules.items };
 }
 
 impl List {
-    /// The rules of one product, and then those of another.
-    pub(crate) const fn new(first: Product, second: Product) -> List
-        ensures { result ≡ rules_of first ++ rules_of second }
+    /// The set of these rules, the preferred one first (naga's `List::from_rules`), in memory of `alloc` without spare
+    /// room. The error is want of memory.
+    pub fn from_rules(alloc: Global, rules: Vec<Rule>) -> Result<List, AllocError>
+        ensures { IfOk result (λ list. list ≡ rules.items) }
     {
-        List { first, second }
-    }
-
-    // The first rule that is left, if there is one.
-    fn preferred(&self) -> Option<Rule>
-        ensures { result ≡ slice_get self.now 0 }
-    {
-        match self.first.first() {
-            Some(rule) => Some(rule),
-            None => self.second.first(),
-        }
+        Ok(List {
+            rules: Vec::from_slice(alloc, rules.as_slice())?,
+        })
     }
 }
 
@@ -54,8 +44,7 @@ impl Clone for List {
 
     fn clone(&self) -> Result<List, AllocError> {
         Ok(List {
-            first: self.first,
-            second: self.second,
+            rules: Vec::from_slice(*self.rules.allocator(), self.rules.as_slice())?,
         })
     }
 }
@@ -64,52 +53,42 @@ impl OverloadSet for List {
     ghost rules = { λ l. l };
 
     fn is_empty(&self) -> bool {
-        self.preferred().is_none()
+        self.rules.is_empty()
     }
 
     fn min_arguments(&self) -> usize {
-        let found = self.most_preferred().arguments.len();
-        self.second.fewest(self.first.fewest(found))
+        fewest(self.rules.as_slice(), self.most_preferred().arguments.len())
     }
 
     fn max_arguments(&self) -> usize {
-        let found = self.most_preferred().arguments.len();
-        self.second.most(self.first.most(found))
+        most(self.rules.as_slice(), self.most_preferred().arguments.len())
     }
 
-    fn arg(&self, _alloc: Global, i: usize, ty: &TypeInner) -> Result<Self, AllocError> {
+    fn arg(&self, alloc: Global, i: usize, ty: &TypeInner) -> Result<Self, AllocError> {
         Ok(List {
-            first: self.first.accepting(i, ty),
-            second: self.second.accepting(i, ty),
+            rules: accepting(alloc, self.rules.as_slice(), i, ty)?,
         })
     }
 
     fn concrete_only(self) -> Self {
         List {
-            first: self.first.concrete_only(),
-            second: self.second.concrete_only(),
+            rules: concrete(self.rules),
         }
     }
 
     fn most_preferred(&self) -> Rule {
-        match self.preferred() {
-            Some(rule) => rule,
+        match self.rules.first() {
+            Some(rule) => *rule,
             None => unreachable!(),
         }
     }
 
     fn overload_list(&self, alloc: Global) -> Result<Vec<Rule>, AllocError> {
-        let mut rules = Vec::new(alloc);
-        self.first.add_to(&mut rules)?;
-        self.second.add_to(&mut rules)?;
-        Ok(rules)
+        Vec::from_slice(alloc, self.rules.as_slice())
     }
 
     fn allowed_args(&self, alloc: Global, i: usize) -> Result<Vec<ValueType>, AllocError> {
-        let mut types = Vec::new(alloc);
-        self.first.add_types_to(&mut types, i)?;
-        self.second.add_types_to(&mut types, i)?;
-        Ok(types)
+        asked_for(alloc, self.rules.as_slice(), i)
     }
 
     ghost clones = { λ set copy same. same };

@@ -3,11 +3,12 @@
 ghost use Rattle.std.specs.Prelude.{◌≡◌, ◌++◌, OnOk, filter, max, min, slice_get};
 ghost use Rattle.std.specs.List.{fold};
 ghost use Rattle.ir_types.specs.Plain.{inner_view};
+ghost use Rattle.overload_tables.specs.Laws.{arity};
 ghost use Rattle.overload_tables.specs.Ranks.{accepts_inner, is_concrete};
 ghost use Rattle.overload_tables.specs.Tables.{row};
 ghost use Rattle.constructor_sets.specs.Members.{scalars_in};
 ghost use Rattle.typing_overloads.specs.Products.{rules_of};
-ghost use Rattle.typing_overloads.specs.Sets.{arity, one_or_none, arguments_at};
+ghost use Rattle.typing_overloads.specs.Sets.{one_or_none, arguments_at};
 
 use crate::asked::{asked_at, asked_by, concrete_scalars};
 use constructor_sets::{ConstructorSet, ScalarSet};
@@ -132,8 +133,11 @@ fn add_row(
     Ok(())
 }
 
-// Adds a type, if there is one.
-fn add_type(types: &mut Vec<ValueType>, wanted: Option<ValueType>) -> Result<(), AllocError>
+/// Adds a type, if there is one. The error is want of memory.
+pub(crate) fn add_type(
+    types: &mut Vec<ValueType>,
+    wanted: Option<ValueType>,
+) -> Result<(), AllocError>
     ensures { OnOk result (types.new.items ≡ types.old.items ++ one_or_none wanted) }
 {
     if let Some(wanted) = wanted {

@@ -50,6 +50,32 @@ pub(crate) const fn row_of(function: Mf) -> Product
         Mf::Min | Mf::Max => over(Pattern::SameTwo, S::NUMERIC, SHAPES),
         Mf::Clamp => over(Pattern::SameThree, S::NUMERIC, SHAPES),
         Mf::Sign => over(Pattern::Same, SIGNED_NUMBERS, SHAPES),
+        Mf::Saturate
+        | Mf::Cos
+        | Mf::Cosh
+        | Mf::Sin
+        | Mf::Sinh
+        | Mf::Tan
+        | Mf::Tanh
+        | Mf::Acos
+        | Mf::Asin
+        | Mf::Atan
+        | Mf::Asinh
+        | Mf::Acosh
+        | Mf::Atanh
+        | Mf::Radians
+        | Mf::Degrees
+        | Mf::Ceil
+        | Mf::Floor
+        | Mf::Round
+        | Mf::Fract
+        | Mf::Trunc
+        | Mf::Exp
+        | Mf::Exp2
+        | Mf::Log
+        | Mf::Log2
+        | Mf::Sqrt
+        | Mf::InverseSqrt => over(Pattern::Same, S::FLOAT, SHAPES),
         Mf::Atan2 | Mf::Pow | Mf::Step => over(Pattern::SameTwo, S::FLOAT, SHAPES),
         Mf::Fma | Mf::SmoothStep | Mf::Mix => over(Pattern::SameThree, S::FLOAT, SHAPES),
         Mf::QuantizeToF16 => over(Pattern::Same, S::F32, SHAPES),
@@ -94,6 +120,5 @@ pub(crate) const fn row_of(function: Mf) -> Product
         Mf::Unpack4xU8 => over(Pattern::FromWord, S::U32, C::VEC4),
         Mf::Dot4I8Packed => over(Pattern::FromTwoWords, S::I32, C::SCALAR),
         Mf::Dot4U8Packed => over(Pattern::FromTwoWords, S::U32, C::SCALAR),
-        _ => over(Pattern::Same, S::FLOAT, SHAPES),
     }
 }

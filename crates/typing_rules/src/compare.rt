@@ -10,8 +10,9 @@ use ir_types::{IrType, key};
 use typing_forms::laws::form_equality;
 use typing_forms::{TypeResolution, form_of};
 
-/// Whether two types are equivalent: their canonical forms are equal (naga's `compare_types`). Names don't count, nor
-/// whether a type is given by its handle, but for structs: a struct is its handle, and none may be given as a value.
+/// Whether two types are equivalent: both are there, and their canonical forms are equal (naga's `compare_types`). Names
+/// don't count, nor whether a type is given by its handle, but for structs: a struct is its handle, and none may be given
+/// as a value. A handle that is none of a type is equivalent to nothing.
 pub fn compare_types(
     lhs: &TypeResolution,
     rhs: &TypeResolution,
@@ -21,5 +22,5 @@ pub fn compare_types(
     requires right { NoStructValue (resolution_view rhs.now) }
     ensures { IsTrue result ↔ AreEquivalent (types_view types.now) (resolution_view lhs.now) (resolution_view rhs.now) }
 {
-    form_equality(form_of(types, lhs), form_of(types, rhs))
+    lhs.is_among(types) && form_equality(form_of(types, lhs), form_of(types, rhs))
 }

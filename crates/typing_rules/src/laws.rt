@@ -3,7 +3,7 @@ ghost use Rattle.std.specs.Prelude.{◌≡◌};
 ghost use Rattle.typing_rules.specs.Canonical.{CanonicalOnce};
 ghost use Rattle.typing_rules.specs.Equivalence.{EquivalentToItself, EquivalentBothWays, EquivalentAlong};
 
-/// A type is equivalent to itself, so that [`crate::compare_types`] is true of it and itself.
+/// A type that is there is equivalent to itself, so that [`crate::compare_types`] is true of it and itself.
 pub fn compare_reflexive()
     ensures { EquivalentToItself }
 {}

@@ -25,7 +25,16 @@ fn names_below(inner: &TypeInner, bound: usize) -> bool
         | TypeInner::Array { base, .. }
         | TypeInner::BindingArray { base, .. } => base.index() < bound,
         TypeInner::Struct { ref members, .. } => members_below(members.as_slice(), bound),
-        _ => true,
+        TypeInner::Scalar(_)
+        | TypeInner::Vector { .. }
+        | TypeInner::Matrix { .. }
+        | TypeInner::CooperativeMatrix { .. }
+        | TypeInner::Atomic(_)
+        | TypeInner::ValuePointer { .. }
+        | TypeInner::Image { .. }
+        | TypeInner::Sampler { .. }
+        | TypeInner::AccelerationStructure { .. }
+        | TypeInner::RayQuery { .. } => true,
     }
 }
 

@@ -1,6 +1,6 @@
 //! The calls of types: what a type is built of, and what can be done with it.
 
-ghost use Rattle.std.specs.Prelude.{◌≡◌, ◌≤◌, ◌↔◌, IsTrue, IfSome, IfNone, IfOk, None, option_map};
+ghost use Rattle.std.specs.Prelude.{◌≡◌, ◌↔◌, IsTrue, IfSome, IfNone, IfOk, None, option_map};
 ghost use Rattle.ir_kinds.specs.declared.scalars.Scalar.{Scalar};
 ghost use Rattle.ir_types.specs.Plain.{PlainInner, inner_view};
 ghost use Rattle.typing_forms.specs.Forms.{form_in};
@@ -13,7 +13,7 @@ ghost use Rattle.typing_rules.specs.Conversions.{SameShape, Converts};
 ghost use Rattle.typing_rules.specs.Elements.{ConvertsBy, IsAbstract, IsDynamicallySized};
 ghost use Rattle.typing_rules.specs.Lengths.{length_of};
 ghost use Rattle.typing_rules.specs.Parts.{scalar_of, scalar_kind_of, scalar_width_of, size_and_scalar, components_of, component_at, space_of, pointee_of, points_to_atomic, storage_dimension, dimension_of};
-ghost use Rattle.typing_rules.specs.Sizes.{type_size, allowed, greatest_size};
+ghost use Rattle.typing_rules.specs.Sizes.{type_size, allowed};
 
 use crate::constructible::is_constructible;
 use crate::conversions::automatically_converts_to;
@@ -80,12 +80,12 @@ pub trait TypeInnerExt: Sized {
 
     /// The size of a value in bytes, where it is at most [`MAX_TYPE_SIZE`] (naga's `TypeInner::try_size`). An array
     /// counts one element where their number isn't known.
-    fn try_size(&self) -> Option<u32>
+    fn try_size(&self) -> Option<u64>
         ensures { result ≡ allowed (type_size (made_of self.now)) };
 
-    /// The same, of a type that is known to be no larger (naga's `TypeInner::size`).
-    fn size(&self) -> u32
-        requires { type_size (made_of self.now) ≤ greatest_size }
+    /// The size of a value in bytes, however large (naga's `TypeInner::size`). An array counts one element where their
+    /// number isn't known.
+    fn size(&self) -> u64
         ensures { result ≡ type_size (made_of self.now) };
 
     /// The canonical form of a type that isn't in it: of a pointer to a scalar or a vector its value pointer (naga's
@@ -269,17 +269,17 @@ impl TypeInnerExt for TypeInner {
         }
     }
 
-    fn try_size(&self) -> Option<u32> {
+    fn try_size(&self) -> Option<u64> {
         let size = type_size(self);
         if size <= MAX_TYPE_SIZE as u64 {
-            Some(size as u32)
+            Some(size)
         } else {
             None
         }
     }
 
-    fn size(&self) -> u32 {
-        type_size(self) as u32
+    fn size(&self) -> u64 {
+        type_size(self)
     }
 
     fn canonical_form(&self, types: &UniqueArena<IrType, key::IrType>) -> Option<TypeInner> {

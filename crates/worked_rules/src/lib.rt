@@ -4,7 +4,7 @@
 #![tactic(auto)]
 
 ghost use Rattle.std.specs.Prelude.{◌≡◌, [], ◌∷◌, None, Some, true, false, codes, nat_eq};
-ghost use Rattle.ir_kinds.specs.declared.settings.Capability.TheVariants.{ShaderFloat16};
+ghost use Rattle.ir_flags.specs.declared.settings.TheConstants.Capabilities.{SHADER_FLOAT16};
 ghost use Rattle.ir_kinds.specs.declared.scalars.ScalarKind.TheVariants.{Float, Uint, Bool as Boolean, AbstractInt};
 ghost use Rattle.ir_kinds.specs.declared.values.SwitchValue.TheVariants.{U32, Default};
 ghost use Rattle.ir_blocks.specs.Plain.{emit, block, choice, switch, loop, break, return, kill, call, stop, next, no_case, case};
@@ -40,12 +40,12 @@ pub fn references()
 
 /// Which scalars may be types.
 pub fn scalars()
-    ensures half_with_its_capability { IsScalarOK (ShaderFloat16 ∷ []) Float 2 }
-    ensures half_without_it { ¬ IsScalarOK [] Float 2 }
-    ensures plain_unsigned { IsScalarOK [] Uint 4 }
-    ensures truth_value { IsScalarOK [] Boolean 1 }
-    ensures wide_truth_value { ¬ IsScalarOK [] Boolean 4 }
-    ensures abstract_integer { ¬ IsScalarOK [] AbstractInt 8 }
+    ensures half_with_its_capability { IsScalarOK SHADER_FLOAT16 Float 2 }
+    ensures half_without_it { ¬ IsScalarOK (record { 0 = 0 }) Float 2 }
+    ensures plain_unsigned { IsScalarOK (record { 0 = 0 }) Uint 4 }
+    ensures truth_value { IsScalarOK (record { 0 = 0 }) Boolean 1 }
+    ensures wide_truth_value { ¬ IsScalarOK (record { 0 = 0 }) Boolean 4 }
+    ensures abstract_integer { ¬ IsScalarOK (record { 0 = 0 }) AbstractInt 8 }
 {}
 
 /// Where a statement may leave by, from the innermost part outward.

@@ -6,4 +6,4 @@ use Rattle.shader_check.proofs.functions.first_failing_function.Given as goal
 
 abbrev pub invariant-loop-handle : goal.invariant-loop-handle
 invariant-loop-handle l =
-    first_failing (λ _ f. function_ok l.blocks l.returns (module_view l.«module») (function_view f)) l.handle-iterator ≡ first_failing (λ _ f. function_ok l.blocks l.returns (module_view l.«module») (function_view f)) (handles_from 0 l.«module».functions)
+    first_failing (λ _ f. function_ok l.blocks (module_view l.«module») (function_view f)) l.handle-iterator ≡ first_failing (λ _ f. function_ok l.blocks (module_view l.«module») (function_view f)) (handles_from 0 l.«module».functions)

@@ -1,7 +1,7 @@
 use Rattle.std.proofs.Common.{◌≡◌, Bool, true, false, not, Contains, map, take, true≢false, refl, sym, ◌∙◌, arith}
 use Rattle.std.specs.BTreeSet.{contains}
 use Rattle.shader_check.specs.Values.{value_key}
-use Rattle.document_model.proofs.DistinctLemmas.{distinct_more, not_distinct, distinct_all}
+use Rattle.shader_check.proofs.DistinctLemmas.{distinct_more, not_distinct, distinct_all}
 use Rattle.shader_check.proofs.ValueLaws.{key_cmp, value_of, held, found, more_keys, differ_is, repeat_is}
 use Rattle.shader_check.proofs.functions.values_differ.Goals as goal
 

@@ -1,7 +1,5 @@
-use Rattle.std.proofs.Common.{◌↔◌, Contains, IsTrue, subst}
-use Rattle.ir_kinds.specs.declared.settings.Flag.TheVariants.{Blocks}
 use Rattle.document_model.specs.View.{settings_view}
-use Rattle.shader_check.specs.Widths.{AreWidthsOf, widths_view}
+use Rattle.shader_check.specs.Widths.{widths_view}
 use Rattle.shader_check.proofs.FindingLaws.{tested_true, tested_false, types_pass, types_fail, functions_pass, functions_fail}
 use Rattle.shader_check.proofs.judge.judge_module.Goals as goal
 
@@ -10,9 +8,9 @@ returns-then-not-is_in_order c = tested_false c.args.«module».now c.in_ok-is_i
 
 pub returns-in-Some : goal.returns-in-Some
 returns-in-Some c =
-    let of = subst (λ cs. AreWidthsOf cs (widths_view c.widths_of.result)) c.deref.ensures.value c.widths_of.ensures in (
+    let of = c.widths_of.ensures in (
       tested_true c.args.«module».now c.in_ok-is_in_order.is_in_order c.in_ok-is_in_order.ensures c.if-not-is_in_order.false,
-      types_fail c.args.settings.now.capabilities.items (widths_view c.widths_of.result) c.args.«module».now of c.first_failing_type.result c.first_failing_type.ensures c.in-Some.index c.in-Some.is,
+      types_fail c.args.settings.now.capabilities (widths_view c.widths_of.result) c.args.«module».now of c.first_failing_type.result c.first_failing_type.ensures c.in-Some.index c.in-Some.is,
     )
 
 pub first_failing_function-requires : goal.first_failing_function-requires
@@ -20,18 +18,18 @@ first_failing_function-requires c = tested_true c.args.«module».now c.in_ok-is
 
 pub returns-in-Some-2 : goal.returns-in-Some-2
 returns-in-Some-2 c =
-    let of = subst (λ cs. AreWidthsOf cs (widths_view c.widths_of.result)) c.deref.ensures.value c.widths_of.ensures in
-    let asked = subst (λ fs. IsTrue c.has_blocks-blocks.result ↔ Contains fs Blocks) c.deref-2.ensures.value c.has_blocks-blocks.ensures in (
+    let of = c.widths_of.ensures in
+    let asked = c.has_blocks-blocks.ensures in (
       tested_true c.args.«module».now c.in_ok-is_in_order.is_in_order c.in_ok-is_in_order.ensures c.if-not-is_in_order.false,
-      types_pass c.args.settings.now.capabilities.items (widths_view c.widths_of.result) c.args.«module».now of c.first_failing_type.result c.first_failing_type.ensures c.in_default.is,
+      types_pass c.args.settings.now.capabilities (widths_view c.widths_of.result) c.args.«module».now of c.first_failing_type.result c.first_failing_type.ensures c.in_default.is,
       functions_fail (settings_view c.args.settings.now) c.has_blocks-blocks.result asked c.args.«module».now c.in_ok-index.field-0 c.in_ok-index.ensures c.in-Some-2.index c.in-Some-2.is,
     )
 
 pub returns-in-None : goal.returns-in-None
 returns-in-None c =
-    let of = subst (λ cs. AreWidthsOf cs (widths_view c.widths_of.result)) c.deref.ensures.value c.widths_of.ensures in
-    let asked = subst (λ fs. IsTrue c.has_blocks-blocks.result ↔ Contains fs Blocks) c.deref-2.ensures.value c.has_blocks-blocks.ensures in (
+    let of = c.widths_of.ensures in
+    let asked = c.has_blocks-blocks.ensures in (
       tested_true c.args.«module».now c.in_ok-is_in_order.is_in_order c.in_ok-is_in_order.ensures c.if-not-is_in_order.false,
-      types_pass c.args.settings.now.capabilities.items (widths_view c.widths_of.result) c.args.«module».now of c.first_failing_type.result c.first_failing_type.ensures c.in_default.is,
+      types_pass c.args.settings.now.capabilities (widths_view c.widths_of.result) c.args.«module».now of c.first_failing_type.result c.first_failing_type.ensures c.in_default.is,
       functions_pass (settings_view c.args.settings.now) c.has_blocks-blocks.result asked c.args.«module».now c.in_ok-index.field-0 c.in_ok-index.ensures c.in-None.is,
     )

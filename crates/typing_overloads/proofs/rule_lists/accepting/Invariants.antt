@@ -1,0 +1,7 @@
+use Rattle.std.proofs.Common.{◌≡◌, filter, take}
+use Rattle.ir_types.specs.Plain.{inner_view}
+use Rattle.overload_tables.specs.Ranks.{accepts_inner}
+use Rattle.typing_overloads.proofs.rule_lists.accepting.Given as goal
+
+abbrev pub invariant-loop-rule : goal.invariant-loop-rule
+invariant-loop-rule l = l.left.items ≡ filter (accepts_inner l.place (inner_view l.given)) (take l.rule-index l.rules)
