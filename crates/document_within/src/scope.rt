@@ -13,7 +13,9 @@ use crate::bodies::is_plain_block;
 use document_model::Document;
 use ir_arena::arena::Arena;
 use ir_arena::unique_arena::UniqueArena;
-use ir_items::{Expression, Function, FunctionResult, IrType, Module, SpecialTypes, TypeInner, key};
+use ir_items::{
+    Expression, Function, FunctionResult, IrType, Module, SpecialTypes, TypeInner, key,
+};
 use ir_kinds::Literal;
 
 fn is_plain_inner(inner: &TypeInner) -> bool

@@ -50,10 +50,7 @@ static DOCUMENT: [Named; 14] = [
     ("entry points", Part::ListOf(Row::EntryPoint)),
 ];
 
-static SUBGROUPS: [Named; 2] = [
-    ("stages", Part::Plain),
-    ("operations", Part::Plain),
-];
+static SUBGROUPS: [Named; 2] = [("stages", Part::Plain), ("operations", Part::Plain)];
 
 static DIAGNOSTICS: [Named; 2] = [
     ("filters", Part::ListOf(Row::Filter)),
@@ -66,10 +63,7 @@ static FILTER: [Named; 3] = [
     ("parent", Part::Plain),
 ];
 
-static TYPE: [Named; 2] = [
-    ("name", Part::Plain),
-    ("inner", Part::Plain),
-];
+static TYPE: [Named; 2] = [("name", Part::Plain), ("inner", Part::Plain)];
 
 static SPECIAL_TYPES: [Named; 4] = [
     ("ray descriptor", Part::Plain),
@@ -100,10 +94,7 @@ static GLOBAL: [Named; 6] = [
     ("decorations", Part::Plain),
 ];
 
-static RESOURCE: [Named; 2] = [
-    ("group", Part::Plain),
-    ("binding", Part::Plain),
-];
+static RESOURCE: [Named; 2] = [("group", Part::Plain), ("binding", Part::Plain)];
 
 static FUNCTION: [Named; 7] = [
     ("name", Part::Plain),
@@ -121,10 +112,7 @@ static ARGUMENT: [Named; 3] = [
     ("binding", Part::Plain),
 ];
 
-static OUTPUT: [Named; 2] = [
-    ("type", Part::Plain),
-    ("binding", Part::Plain),
-];
+static OUTPUT: [Named; 2] = [("type", Part::Plain), ("binding", Part::Plain)];
 
 static LOCAL: [Named; 3] = [
     ("name", Part::Plain),
@@ -142,11 +130,7 @@ static ENTRY_POINT: [Named; 7] = [
     ("function", Part::Row(Row::Function)),
 ];
 
-static WORKGROUP_SIZE: [Named; 3] = [
-    ("x", Part::Plain),
-    ("y", Part::Plain),
-    ("z", Part::Plain),
-];
+static WORKGROUP_SIZE: [Named; 3] = [("x", Part::Plain), ("y", Part::Plain), ("z", Part::Plain)];
 
 static MESH: [Named; 8] = [
     ("topology", Part::Plain),
