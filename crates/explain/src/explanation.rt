@@ -56,7 +56,13 @@ pub fn explain(alloc: Global, bytes: &[u8]) -> Result<Explanation, AllocError>
             told(alloc, finding, &document.module)
         }
         Err(DocumentError::Memory) => Err(AllocError),
-        Err(e) => Ok(Explanation::NoDocument(e)),
+        Err(DocumentError::TooLong) => Ok(Explanation::NoDocument(DocumentError::TooLong)),
+        Err(DocumentError::NotJson { line, column }) => {
+            Ok(Explanation::NoDocument(DocumentError::NotJson { line, column }))
+        }
+        Err(DocumentError::Malformed { place, wanted }) => {
+            Ok(Explanation::NoDocument(DocumentError::Malformed { place, wanted }))
+        }
     }
 }
 

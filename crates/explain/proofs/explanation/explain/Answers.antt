@@ -1,0 +1,6 @@
+use Rattle.document_model.specs.View.{document_view}
+use Rattle.explain.proofs.ToldLaws.{told_if}
+use Rattle.explain.proofs.explanation.explain.Goals as goal
+
+pub returns-in_ok-finding-in-Ok : goal.returns-in_ok-finding-in-Ok
+returns-in_ok-finding-in-Ok c = told_if c.args.bytes.now (document_view c.in-Ok.document) c.in_ok-finding-in-Ok.finding c.told.result c.in-Ok.ensures.found c.in_ok-finding-in-Ok.ensures c.told.ensures
