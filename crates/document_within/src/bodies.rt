@@ -18,8 +18,9 @@ pub fn is_plain_block(block: &Block) -> bool
     true
 }
 
+/// Whether the statement is checked so far, with all that it holds.
 #[cycle(bodies)]
-fn is_plain_statement(statement: &Statement) -> bool
+pub fn is_plain_statement(statement: &Statement) -> bool
     ensures { result ≡ plain_statement (statement_view statement.now) }
 {
     match statement {

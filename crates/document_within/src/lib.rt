@@ -4,4 +4,5 @@
 mod bodies;
 mod scope;
 
-pub use scope::within;
+pub use bodies::is_plain_statement;
+pub use scope::{is_plain_expression, within};

@@ -13,7 +13,9 @@ use crate::bodies::is_plain_block;
 use document_model::Document;
 use ir_arena::arena::Arena;
 use ir_arena::unique_arena::UniqueArena;
-use ir_items::{Expression, Function, FunctionResult, IrType, Module, SpecialTypes, TypeInner, key};
+use ir_items::{
+    Expression, Function, FunctionResult, IrType, Module, SpecialTypes, TypeInner, key,
+};
 use ir_kinds::Literal;
 
 fn is_plain_inner(inner: &TypeInner) -> bool
@@ -55,7 +57,8 @@ fn is_plain_literal(literal: Literal) -> bool
     }
 }
 
-fn is_plain_expression(expression: &Expression) -> bool
+/// Whether the expression is checked so far.
+pub fn is_plain_expression(expression: &Expression) -> bool
     ensures { result ≡ plain_expression (expression_view expression.now) }
 {
     match expression {

@@ -13,9 +13,7 @@ ghost use Rattle.shader_check.specs.Tests.{first_failing, is_sint, is_uint, is_c
 use crate::control::Control;
 use crate::walk::{StatementTest, everywhere};
 use ir_arena::handle::Handle;
-use ir_items::{
-    Expression, Function, Module, Statement, SwitchCase, TypeInner, key,
-};
+use ir_items::{Expression, Function, Module, Statement, SwitchCase, TypeInner, key};
 use ir_kinds::{Scalar, ScalarKind, SwitchValue};
 use std::alloc::{AllocError, Global};
 use std::collections::BTreeSet;
@@ -313,7 +311,12 @@ fn is_function_ok(
         return Ok(false);
     }
     if blocks {
-        everywhere(alloc, &RuleTest { module, function }, Control::BODY, &function.body)
+        everywhere(
+            alloc,
+            &RuleTest { module, function },
+            Control::BODY,
+            &function.body,
+        )
     } else {
         Ok(true)
     }

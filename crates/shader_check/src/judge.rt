@@ -53,8 +53,8 @@ fn prepare(alloc: Global, returns: bool, module: &mut Module) -> Result<(), Allo
     }
 }
 
-// What is found of the document. Returns are put into its module where its settings ask for them.
-fn judge_document(alloc: Global, document: &mut Document) -> Result<Finding, AllocError>
+/// What is found of the document. Returns are put into its module where its settings ask for them.
+pub fn judge_document(alloc: Global, document: &mut Document) -> Result<Finding, AllocError>
     ensures { IfOk result (JudgedDocument (document_view document.old)) }
 {
     if !within(document) {

@@ -14,5 +14,6 @@ pub use check::{Fault, Verdict, check_document, outcome};
 pub use document_model::{Document, Settings, build_module};
 pub use document_reader::{DocumentError, read_document};
 pub use document_within::within;
+pub use judge::judge_document;
 pub use judgement::{Finding, Step};
 pub use ports::{ReadCall, Sink, Source, WriteCall};

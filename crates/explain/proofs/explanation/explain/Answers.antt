@@ -1,0 +1,15 @@
+use Rattle.document_model.specs.View.{document_view}
+use Rattle.explain.proofs.ToldLaws.{told_if}
+use Rattle.explain.proofs.explanation.explain.Goals as goal
+
+pub returns-in_ok-finding-in-Ok : goal.returns-in_ok-finding-in-Ok
+returns-in_ok-finding-in-Ok c = told_if c.args.bytes.now (document_view c.in-Ok.document) c.in_ok-finding-in-Ok.finding c.told.result c.in-Ok.ensures.found c.in_ok-finding-in-Ok.ensures c.told.ensures
+
+pub returns-in-Err-TooLong : goal.returns-in-Err-TooLong
+returns-in-Err-TooLong c = λ d reads within. c.in-Err-TooLong.ensures.refused (λ e. let x = e in cc) d reads
+
+pub returns-in-Err-NotJson : goal.returns-in-Err-NotJson
+returns-in-Err-NotJson c = λ d reads within. c.in-Err-NotJson.ensures.refused (λ e. let x = e in cc) d reads
+
+pub returns-in-Err-Malformed : goal.returns-in-Err-Malformed
+returns-in-Err-Malformed c = λ d reads within. c.in-Err-Malformed.ensures.refused (λ e. let x = e in cc) d reads
