@@ -14,9 +14,7 @@ ghost use Rattle.document_model.specs.View.{document_view};
 ghost use Rattle.document_reader.specs.Documents.{a_version, content_of, content_in, document_in};
 
 use crate::front::read_front;
-use document_forms::{
-    At, Each, Form, InArena, Maybe, ReadError, SetOf, Truth, Wanted, read_all,
-};
+use document_forms::{At, Each, Form, InArena, Maybe, ReadError, SetOf, Truth, Wanted, read_all};
 use document_model::{Document, Settings};
 use document_rows::{InArray, Row, split_part};
 use expression_forms::ExpressionForm;
@@ -33,6 +31,7 @@ const VERSION: u64 = 1;
 
 // The places of a document's parts: settings lie before the types, all other lists behind them.
 const TYPES: usize = 5;
+
 const SPECIAL_TYPES: usize = 6;
 
 /// How the version of the format is written.
@@ -57,10 +56,12 @@ impl Form for VersionForm {
 
 type SubgroupsForm = InArray<(SetOf<ShaderStages>, SetOf<SubgroupOperationSet>)>;
 
-type FilterListForm = InArray<(
-    InArena<FilterForm, key::DiagnosticFilterNode>,
-    Maybe<At<key::DiagnosticFilterNode>>,
-)>;
+type FilterListForm = InArray<
+    (
+        InArena<FilterForm, key::DiagnosticFilterNode>,
+        Maybe<At<key::DiagnosticFilterNode>>,
+    ),
+>;
 
 type ListsRow = (
     SpecialForm,
@@ -141,7 +142,9 @@ pub fn read_value(alloc: Global, value: &Value) -> Result<Document, ReadError>
     let ((), parts) = read_front::<VersionForm>(alloc, parts, 0)?;
     let (flags, parts) = read_front::<SetOf<ValidationFlags>>(alloc, parts, 1)?;
     let (capabilities, parts) = read_front::<SetOf<Capabilities>>(alloc, parts, 2)?;
-    let ((subgroup_stages, subgroup_operations), parts) = read_front::<SubgroupsForm>(alloc, parts, 3)?;
+    let ((subgroup_stages, subgroup_operations), parts) = read_front::<SubgroupsForm>(
+        alloc, parts, 3,
+    )?;
     let (returns, parts) = read_front::<Truth>(alloc, parts, 4)?;
     let module = read_module(alloc, parts)?;
     let settings = Settings {

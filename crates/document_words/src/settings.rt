@@ -9,7 +9,10 @@ use ir_flags::{Capabilities, ShaderStages, SubgroupOperationSet, ValidationFlags
 static FLAGS: [(&str, ValidationFlags); 6] = [
     ("EXPRESSIONS", ValidationFlags::EXPRESSIONS),
     ("BLOCKS", ValidationFlags::BLOCKS),
-    ("CONTROL_FLOW_UNIFORMITY", ValidationFlags::CONTROL_FLOW_UNIFORMITY),
+    (
+        "CONTROL_FLOW_UNIFORMITY",
+        ValidationFlags::CONTROL_FLOW_UNIFORMITY,
+    ),
     ("STRUCT_LAYOUTS", ValidationFlags::STRUCT_LAYOUTS),
     ("CONSTANTS", ValidationFlags::CONSTANTS),
     ("BINDINGS", ValidationFlags::BINDINGS),
@@ -45,11 +48,26 @@ static CAPABILITIES: [(&str, Capabilities); 38] = [
     ("SHADER_INT64", Capabilities::SHADER_INT64),
     ("PRIMITIVE_INDEX", Capabilities::PRIMITIVE_INDEX),
     ("BUFFER_BINDING_ARRAY", Capabilities::BUFFER_BINDING_ARRAY),
-    ("STORAGE_BUFFER_BINDING_ARRAY", Capabilities::STORAGE_BUFFER_BINDING_ARRAY),
-    ("TEXTURE_AND_SAMPLER_BINDING_ARRAY", Capabilities::TEXTURE_AND_SAMPLER_BINDING_ARRAY),
-    ("STORAGE_TEXTURE_BINDING_ARRAY", Capabilities::STORAGE_TEXTURE_BINDING_ARRAY),
-    ("ACCELERATION_STRUCTURE_BINDING_ARRAY", Capabilities::ACCELERATION_STRUCTURE_BINDING_ARRAY),
-    ("STORAGE_TEXTURE_16BIT_NORM_FORMATS", Capabilities::STORAGE_TEXTURE_16BIT_NORM_FORMATS),
+    (
+        "STORAGE_BUFFER_BINDING_ARRAY",
+        Capabilities::STORAGE_BUFFER_BINDING_ARRAY,
+    ),
+    (
+        "TEXTURE_AND_SAMPLER_BINDING_ARRAY",
+        Capabilities::TEXTURE_AND_SAMPLER_BINDING_ARRAY,
+    ),
+    (
+        "STORAGE_TEXTURE_BINDING_ARRAY",
+        Capabilities::STORAGE_TEXTURE_BINDING_ARRAY,
+    ),
+    (
+        "ACCELERATION_STRUCTURE_BINDING_ARRAY",
+        Capabilities::ACCELERATION_STRUCTURE_BINDING_ARRAY,
+    ),
+    (
+        "STORAGE_TEXTURE_16BIT_NORM_FORMATS",
+        Capabilities::STORAGE_TEXTURE_16BIT_NORM_FORMATS,
+    ),
     ("CUBE_ARRAY_TEXTURES", Capabilities::CUBE_ARRAY_TEXTURES),
     ("CLIP_DISTANCES", Capabilities::CLIP_DISTANCES),
     ("CULL_DISTANCE", Capabilities::CULL_DISTANCE),
@@ -59,23 +77,41 @@ static CAPABILITIES: [(&str, Capabilities); 38] = [
     ("DUAL_SOURCE_BLENDING", Capabilities::DUAL_SOURCE_BLENDING),
     ("SUBGROUP", Capabilities::SUBGROUP),
     ("SUBGROUP_BARRIER", Capabilities::SUBGROUP_BARRIER),
-    ("SHADER_INT64_ATOMIC_MIN_MAX", Capabilities::SHADER_INT64_ATOMIC_MIN_MAX),
-    ("SHADER_INT64_ATOMIC_ALL_OPS", Capabilities::SHADER_INT64_ATOMIC_ALL_OPS),
+    (
+        "SHADER_INT64_ATOMIC_MIN_MAX",
+        Capabilities::SHADER_INT64_ATOMIC_MIN_MAX,
+    ),
+    (
+        "SHADER_INT64_ATOMIC_ALL_OPS",
+        Capabilities::SHADER_INT64_ATOMIC_ALL_OPS,
+    ),
     ("SHADER_FLOAT32_ATOMIC", Capabilities::SHADER_FLOAT32_ATOMIC),
     ("TEXTURE_ATOMIC", Capabilities::TEXTURE_ATOMIC),
     ("TEXTURE_INT64_ATOMIC", Capabilities::TEXTURE_INT64_ATOMIC),
     ("TEXTURE_EXTERNAL", Capabilities::TEXTURE_EXTERNAL),
     ("RAY_QUERY", Capabilities::RAY_QUERY),
-    ("RAY_HIT_VERTEX_POSITION", Capabilities::RAY_HIT_VERTEX_POSITION),
+    (
+        "RAY_HIT_VERTEX_POSITION",
+        Capabilities::RAY_HIT_VERTEX_POSITION,
+    ),
     ("RAY_TRACING_PIPELINE", Capabilities::RAY_TRACING_PIPELINE),
     ("SHADER_BARYCENTRICS", Capabilities::SHADER_BARYCENTRICS),
     ("MESH_SHADER", Capabilities::MESH_SHADER),
-    ("MESH_SHADER_POINT_TOPOLOGY", Capabilities::MESH_SHADER_POINT_TOPOLOGY),
+    (
+        "MESH_SHADER_POINT_TOPOLOGY",
+        Capabilities::MESH_SHADER_POINT_TOPOLOGY,
+    ),
     ("PER_VERTEX", Capabilities::PER_VERTEX),
     ("DRAW_INDEX", Capabilities::DRAW_INDEX),
     ("COOPERATIVE_MATRIX", Capabilities::COOPERATIVE_MATRIX),
-    ("MEMORY_DECORATION_COHERENT", Capabilities::MEMORY_DECORATION_COHERENT),
-    ("MEMORY_DECORATION_VOLATILE", Capabilities::MEMORY_DECORATION_VOLATILE),
+    (
+        "MEMORY_DECORATION_COHERENT",
+        Capabilities::MEMORY_DECORATION_COHERENT,
+    ),
+    (
+        "MEMORY_DECORATION_VOLATILE",
+        Capabilities::MEMORY_DECORATION_VOLATILE,
+    ),
 ];
 
 impl Word for Capabilities {

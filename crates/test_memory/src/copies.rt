@@ -1,7 +1,7 @@
 // Copies with little memory, and a little more each time.
 use crate::same::{leaving, refused_more_than};
-use ir_items::{Block, Expression, Function, IrType, Module};
 use ir_arena::handle::Handle;
+use ir_items::{Block, Expression, Function, IrType, Module};
 use shader_check::{Document, read_document};
 use std::alloc::{AllocError, Global};
 use std::test::Fail;
@@ -42,7 +42,11 @@ impl Copyable for Expression {
     }
 
     fn of(document: &Document) -> Option<&Self> {
-        document.module.global_expressions.try_get(Handle::at(0)).ok()
+        document
+            .module
+            .global_expressions
+            .try_get(Handle::at(0))
+            .ok()
     }
 }
 
