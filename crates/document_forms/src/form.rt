@@ -38,7 +38,7 @@ pub fn read_at<F: Form>(alloc: Global, value: &Value, index: usize) -> Result<F:
     F::read(alloc, value).map_err(|e| e.at(index))
 }
 
-/// The item that the value is written for, or that it is written for none, unless memory was wanting.
+/// The item that the value is written for, or that it is written for none, unless memory ran out.
 pub fn read_form<F: Form>(alloc: Global, value: &Value) -> Result<F::Item, ReadError>
     ensures ok { IfOk result (λ x. F.form.Written (F.view x) (data_of value.now)) }
     ensures malformed { IfErr result (λ e. e ≢ Memory → depth (data_of value.now) ≤ deepest → (x : F.Plain) → ¬ F.form.Written x (data_of value.now)) }

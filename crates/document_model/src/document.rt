@@ -32,7 +32,7 @@ pub struct Document {
     pub module: Module,
 }
 
-/// The module that the document writes, in memory of its own, with the same spans. The error is want of memory.
+/// The module that the document writes, in memory of its own, with the same spans. The error is out of memory.
 pub fn build_module(alloc: Global, document: &Document) -> Result<Module, AllocError>
     ensures content { IfOk result (λ m. module_view m ≡ (document_view document.now).content) }
     ensures spans { IfOk result (λ m. spanned_module m ≡ spanned_module document.now.«module») }
@@ -41,7 +41,7 @@ pub fn build_module(alloc: Global, document: &Document) -> Result<Module, AllocE
 }
 
 impl Document {
-    /// The same in memory of its own. The error is want of memory.
+    /// The same in memory of its own. The error is out of memory.
     pub fn clone(&self, alloc: Global) -> Result<Document, AllocError>
         ensures document { IfOk result (λ copy. document_view copy ≡ document_view self.now) }
         ensures spans { IfOk result (λ copy. spanned_module copy.«module» ≡ spanned_module self.now.«module») }

@@ -36,7 +36,7 @@ impl Places {
         }
     }
 
-    /// Notes a place under a hash. The error is want of memory, and leaves the places as they were.
+    /// Notes a place under a hash. The error is out of memory, and leaves the places as they were.
     pub fn note(&mut self, hash: u64, place: u32) -> Result<(), AllocError>
         ensures ok { OnOk result (IsNotedAlso self.old self.new hash place) }
         ensures err { OnErr result (self.new ≡ self.old) }

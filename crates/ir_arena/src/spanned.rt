@@ -108,7 +108,7 @@ impl<T> Spanned<T> {
         first_equal(self.values.as_slice(), value)
     }
 
-    /// Adds one at the end. The error is want of memory, and leaves values and spans as they were.
+    /// Adds one at the end. The error is out of memory, and leaves values and spans as they were.
     pub fn push(&mut self, value: T, span: Span) -> Result<(), AllocError>
     where
         T: Drop,

@@ -30,7 +30,7 @@ impl Block {
     }
 
     /// A block of these statements, each with [`Span::UNDEFINED`] (also naga's `From<Vec<Statement>>`). The error is
-    /// want of memory for the spans.
+    /// out of memory for the spans.
     pub fn from_vec(alloc: Global, body: Vec<Statement>) -> Result<Block, AllocError>
         ensures statements { IfOk result (λ block. statements_of block ≡ body.items) }
         ensures spans { IfOk result (λ block. spans_of block ≡ replicate (length body.items) undefined_span) }
@@ -40,7 +40,7 @@ impl Block {
         Ok(Block { body, span_info })
     }
 
-    /// A block without statements, with room for `count` of them. The error is want of memory.
+    /// A block without statements, with room for `count` of them. The error is out of memory.
     pub fn with_capacity(alloc: Global, count: usize) -> Result<Block, AllocError>
         ensures statements { IfOk result (λ block. statements_of block ≡ []) }
         ensures spans { IfOk result (λ block. spans_of block ≡ []) }
@@ -112,7 +112,7 @@ impl Block {
         self.body.as_mut_slice()
     }
 
-    /// Adds a statement at the end, with its span. The error is want of memory, and leaves the block as it was. There
+    /// Adds a statement at the end, with its span. The error is out of memory, and leaves the block as it was. There
     /// is none where the block has room.
     #[tactic(auto, using(crate::proofs::SpanLaws::in_step_behind))]
     pub fn push(&mut self, statement: Statement, span: Span) -> Result<(), AllocError>
@@ -130,7 +130,7 @@ impl Block {
         Ok(())
     }
 
-    /// Adds a statement at the end, with its span, where there is one. The error is want of memory, and leaves the
+    /// Adds a statement at the end, with its span, where there is one. The error is out of memory, and leaves the
     /// block as it was.
     pub fn extend(&mut self, item: Option<(Statement, Span)>) -> Result<(), AllocError>
         ensures statements { OnOk result (statements_of self.new ≡ statements_of self.old ++ map (λ e. e.0) (option_to_list item)) }
@@ -146,7 +146,7 @@ impl Block {
         }
     }
 
-    /// Adds the statements of another block at the end, with their spans. The error is want of memory, and leaves the
+    /// Adds the statements of another block at the end, with their spans. The error is out of memory, and leaves the
     /// block as it was; the other one is let go.
     pub fn extend_block(&mut self, other: Block) -> Result<(), AllocError>
         ensures statements { OnOk result (statements_of self.new ≡ statements_of self.old ++ statements_of other) }
@@ -161,7 +161,7 @@ impl Block {
     }
 
     /// Moves the statements of another block to the end of this one, with their spans, and leaves the other empty.
-    /// The error is want of memory, and leaves both as they were.
+    /// The error is out of memory, and leaves both as they were.
     #[tactic(auto, using(crate::proofs::SpanLaws::in_step_joined))]
     pub fn append(&mut self, other: &mut Block) -> Result<(), AllocError>
         ensures statements { OnOk result (statements_of self.new ≡ statements_of self.old ++ statements_of other.old) }
@@ -199,7 +199,7 @@ impl Block {
     }
 
     /// Puts the statements of another block in the place of those in `range`, with their spans. It asks by contract
-    /// for a range within the block's statements, where naga panics. The error is want of memory, and leaves the block
+    /// for a range within the block's statements, where naga panics. The error is out of memory, and leaves the block
     /// as it was; the other one is let go.
     #[tactic(auto, using(crate::proofs::SpanLaws::in_step_spliced))]
     pub fn splice<R: RangeBounds<usize>>(

@@ -15,7 +15,7 @@ use std::alloc::{AllocError, Global};
 
 /// Puts a return without value at each end of the body that control can reach by itself: into the body and each of
 /// its tail blocks that is empty, or ends in a statement behind which control goes on. What stands is neither changed
-/// nor moved. The error is want of memory, and leaves the body's statements and spans as they were, since room is made
+/// nor moved. The error is out of memory, and leaves the body's statements and spans as they were, since room is made
 /// for every return before the first is put in. The blocks grow in their own allocator.
 pub fn ensure_block_returns(_alloc: Global, block: &mut Block) -> Result<(), AllocError>
     ensures ok { OnOk result (IsCompleted (block_view block.old) (block_view block.new)) }
@@ -31,7 +31,7 @@ pub fn ensure_block_returns(_alloc: Global, block: &mut Block) -> Result<(), All
 }
 
 /// Makes room for a return and its span in each block of a body that wants one, and changes nothing else. The error is
-/// want of memory. It is the first half of [`ensure_block_returns`], for who completes several bodies or none.
+/// out of memory. It is the first half of [`ensure_block_returns`], for who completes several bodies or none.
 #[cycle(reserves)]
 pub fn reserve_returns(block: &mut Block) -> Result<(), AllocError>
     ensures statements { block_view block.new ≡ block_view block.old }

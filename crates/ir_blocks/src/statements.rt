@@ -185,7 +185,7 @@ pub enum Statement {
 }
 
 impl Block {
-    /// An equal block in memory of its own. The error is want of memory.
+    /// An equal block in memory of its own. The error is out of memory.
     #[cycle(copies)]
     pub fn clone(&self, alloc: Global) -> Result<Block, AllocError>
         ensures statements { IfOk result (λ copy. block_view copy ≡ block_view self.now) }
@@ -201,7 +201,7 @@ impl Block {
 }
 
 impl SwitchCase {
-    /// An equal case in memory of its own. The error is want of memory.
+    /// An equal case in memory of its own. The error is out of memory.
     #[cycle(copies)]
     pub fn clone(&self, alloc: Global) -> Result<SwitchCase, AllocError>
         ensures case { IfOk result (λ copy. case_view copy ≡ case_view self.now) }
@@ -216,7 +216,7 @@ impl SwitchCase {
 }
 
 impl Statement {
-    /// An equal statement in memory of its own. The error is want of memory.
+    /// An equal statement in memory of its own. The error is out of memory.
     #[cycle(copies)]
     pub fn clone(&self, alloc: Global) -> Result<Statement, AllocError>
         ensures statement { IfOk result (λ copy. statement_view copy ≡ statement_view self.now) }

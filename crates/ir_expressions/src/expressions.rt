@@ -322,7 +322,7 @@ impl Expression {
         )
     }
 
-    /// An equal expression in memory of its own. The error is want of memory.
+    /// An equal expression in memory of its own. The error is out of memory.
     pub fn clone(&self, alloc: Global) -> Result<Expression, AllocError>
         ensures { IfOk result (λ copy. expression_view copy ≡ expression_view self.now) }
     {

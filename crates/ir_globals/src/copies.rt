@@ -18,12 +18,12 @@ pub trait Copied: Sized {
 
     ghost view: { Self → View };
 
-    /// One that holds the same. The error is want of memory.
+    /// One that holds the same. The error is out of memory.
     fn copied(&self, alloc: Global) -> Result<Self, AllocError>
         ensures { IfOk result (λ copy. view copy ≡ view self.now) };
 }
 
-/// An arena that holds the same, each value with its span. The error is want of memory.
+/// An arena that holds the same, each value with its span. The error is out of memory.
 pub fn copy_arena<T: Copied + Drop, K>(
     alloc: Global,
     arena: &Arena<T, K>,
@@ -40,7 +40,7 @@ pub fn copy_arena<T: Copied + Drop, K>(
     Ok(copy)
 }
 
-/// A list that holds the same. The error is want of memory.
+/// A list that holds the same. The error is out of memory.
 pub fn copy_list<T: Copied + Drop>(alloc: Global, items: &[T]) -> Result<Vec<T>, AllocError>
     ensures { IfOk result (λ copy. map T.view copy.items ≡ map T.view items.now) }
 {
@@ -51,7 +51,7 @@ pub fn copy_list<T: Copied + Drop>(alloc: Global, items: &[T]) -> Result<Vec<T>,
     Ok(copy)
 }
 
-/// An arena that holds the same types, each with its span. The error is want of memory.
+/// An arena that holds the same types, each with its span. The error is out of memory.
 pub fn copy_types(
     alloc: Global,
     types: &UniqueArena<IrType, key::IrType>,

@@ -38,7 +38,7 @@ pub struct DiagnosticFilterNode {
 }
 
 impl FilterableTriggeringRule {
-    /// An equal rule in memory of its own. The error is want of memory.
+    /// An equal rule in memory of its own. The error is out of memory.
     pub fn clone(&self, alloc: Global) -> Result<FilterableTriggeringRule, AllocError>
         ensures { IfOk result (λ copy. rule_view copy ≡ rule_view self.now) }
     {
@@ -60,7 +60,7 @@ impl FilterableTriggeringRule {
 }
 
 impl DiagnosticFilter {
-    /// An equal filter in memory of its own. The error is want of memory.
+    /// An equal filter in memory of its own. The error is out of memory.
     pub fn clone(&self, alloc: Global) -> Result<DiagnosticFilter, AllocError>
         ensures severity { IfOk result (λ copy. copy.new_severity ≡ self.now.new_severity) }
         ensures rule { IfOk result (λ copy. rule_view copy.triggering_rule ≡ rule_view self.now.triggering_rule) }
@@ -73,7 +73,7 @@ impl DiagnosticFilter {
 }
 
 impl DiagnosticFilterNode {
-    /// An equal node in memory of its own. The error is want of memory.
+    /// An equal node in memory of its own. The error is out of memory.
     pub fn clone(&self, alloc: Global) -> Result<DiagnosticFilterNode, AllocError>
         ensures { IfOk result (λ copy. node_view copy ≡ node_view self.now) }
     {

@@ -51,7 +51,7 @@ pub struct GlobalVariable {
 }
 
 impl Constant {
-    /// An equal constant in memory of its own. The error is want of memory.
+    /// An equal constant in memory of its own. The error is out of memory.
     pub fn clone(&self, alloc: Global) -> Result<Constant, AllocError>
         ensures { IfOk result (λ copy. constant_view copy ≡ constant_view self.now) }
     {
@@ -64,7 +64,7 @@ impl Constant {
 }
 
 impl Override {
-    /// An equal override in memory of its own. The error is want of memory.
+    /// An equal override in memory of its own. The error is out of memory.
     pub fn clone(&self, alloc: Global) -> Result<Override, AllocError>
         ensures { IfOk result (λ copy. override_view copy ≡ override_view self.now) }
     {
@@ -78,7 +78,7 @@ impl Override {
 }
 
 impl GlobalVariable {
-    /// An equal variable in memory of its own. The error is want of memory.
+    /// An equal variable in memory of its own. The error is out of memory.
     pub fn clone(&self, alloc: Global) -> Result<GlobalVariable, AllocError>
         ensures { IfOk result (λ copy. global_view copy ≡ global_view self.now) }
     {

@@ -34,7 +34,7 @@ impl SpecialTypes {
         }
     }
 
-    /// The same in memory of its own. The error is want of memory.
+    /// The same in memory of its own. The error is out of memory.
     pub fn clone(&self, _alloc: Global) -> Result<SpecialTypes, AllocError>
         ensures { IfOk result (λ copy. special_view copy ≡ special_view self.now) }
     {

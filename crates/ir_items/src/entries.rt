@@ -50,7 +50,7 @@ pub struct EntryPoint {
 }
 
 impl EntryPoint {
-    /// An equal entry point in memory of its own, with the same spans. The error is want of memory.
+    /// An equal entry point in memory of its own, with the same spans. The error is out of memory.
     pub fn clone(&self, alloc: Global) -> Result<EntryPoint, AllocError>
         ensures { IfOk result (λ copy. spanned_entry copy ≡ spanned_entry self.now) }
     {

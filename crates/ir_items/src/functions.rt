@@ -65,7 +65,7 @@ pub struct Function {
 }
 
 impl LocalVariable {
-    /// An equal variable in memory of its own. The error is want of memory.
+    /// An equal variable in memory of its own. The error is out of memory.
     pub fn clone(&self, alloc: Global) -> Result<LocalVariable, AllocError>
         ensures { IfOk result (λ copy. local_view copy ≡ local_view self.now) }
     {
@@ -78,7 +78,7 @@ impl LocalVariable {
 }
 
 impl FunctionArgument {
-    /// An equal argument in memory of its own. The error is want of memory.
+    /// An equal argument in memory of its own. The error is out of memory.
     pub fn clone(&self, alloc: Global) -> Result<FunctionArgument, AllocError>
         ensures { IfOk result (λ copy. argument_view copy ≡ argument_view self.now) }
     {
@@ -107,7 +107,7 @@ impl Function {
         }
     }
 
-    /// An equal function in memory of its own, with the same spans. The error is want of memory.
+    /// An equal function in memory of its own, with the same spans. The error is out of memory.
     pub fn clone(&self, alloc: Global) -> Result<Function, AllocError>
         ensures { IfOk result (λ copy. spanned_function copy ≡ spanned_function self.now) }
     {

@@ -72,7 +72,7 @@ impl Module {
         }
     }
 
-    /// An equal module in memory of its own, with the same spans. The error is want of memory.
+    /// An equal module in memory of its own, with the same spans. The error is out of memory.
     pub fn clone(&self, alloc: Global) -> Result<Module, AllocError>
         ensures { IfOk result (λ copy. spanned_module copy ≡ spanned_module self.now) }
     {

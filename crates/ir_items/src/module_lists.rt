@@ -56,7 +56,7 @@ pub(crate) struct CodeLists {
 }
 
 impl TypeLists {
-    // Those of `source` in memory of their own, with the same spans. The error is want of memory.
+    // Those of `source` in memory of their own, with the same spans. The error is out of memory.
     pub(crate) fn of_copies(alloc: Global, source: &Module) -> Result<TypeLists, AllocError>
         ensures types { IfOk result (λ l. map (entry_of type_view) l.types ≡ map (entry_of type_view) source.now.types) }
         ensures special { IfOk result (λ l. special_view l.special ≡ special_view source.now.special_types) }
@@ -69,7 +69,7 @@ impl TypeLists {
 }
 
 impl GlobalLists {
-    // Those of `source` in memory of their own, with the same spans. The error is want of memory.
+    // Those of `source` in memory of their own, with the same spans. The error is out of memory.
     pub(crate) fn of_copies(alloc: Global, source: &Module) -> Result<GlobalLists, AllocError>
         ensures constants { IfOk result (λ l. map (entry_of constant_view) l.constants.constants ≡ map (entry_of constant_view) source.now.constants) }
         ensures overrides { IfOk result (λ l. map (entry_of override_view) l.constants.overrides ≡ map (entry_of override_view) source.now.overrides) }
@@ -84,7 +84,7 @@ impl GlobalLists {
 }
 
 impl ConstantLists {
-    // Those of `source` in memory of their own, with the same spans. The error is want of memory.
+    // Those of `source` in memory of their own, with the same spans. The error is out of memory.
     fn of_copies(alloc: Global, source: &Module) -> Result<ConstantLists, AllocError>
         ensures constants { IfOk result (λ l. map (entry_of constant_view) l.constants ≡ map (entry_of constant_view) source.now.constants) }
         ensures overrides { IfOk result (λ l. map (entry_of override_view) l.overrides ≡ map (entry_of override_view) source.now.overrides) }
@@ -97,7 +97,7 @@ impl ConstantLists {
 }
 
 impl VariableLists {
-    // Those of `source` in memory of their own, with the same spans. The error is want of memory.
+    // Those of `source` in memory of their own, with the same spans. The error is out of memory.
     fn of_copies(alloc: Global, source: &Module) -> Result<VariableLists, AllocError>
         ensures variables { IfOk result (λ l. map (entry_of global_view) l.variables ≡ map (entry_of global_view) source.now.global_variables) }
         ensures expressions { IfOk result (λ l. map (entry_of expression_view) l.expressions ≡ map (entry_of expression_view) source.now.global_expressions) }
@@ -110,7 +110,7 @@ impl VariableLists {
 }
 
 impl CodeLists {
-    // Those of `source` in memory of their own, with the same spans. The error is want of memory.
+    // Those of `source` in memory of their own, with the same spans. The error is out of memory.
     pub(crate) fn of_copies(alloc: Global, source: &Module) -> Result<CodeLists, AllocError>
         ensures functions { IfOk result (λ l. map (entry_of spanned_function) l.functions ≡ map (entry_of spanned_function) source.now.functions) }
         ensures entries { IfOk result (λ l. map spanned_entry l.entry_points.items ≡ map spanned_entry source.now.entry_points.items) }

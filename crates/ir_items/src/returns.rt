@@ -16,7 +16,7 @@ use std::alloc::{AllocError, Global};
 
 impl Module {
     /// Puts the returns that are missing into the body of each function and of each entry point's function, as
-    /// [`ir_blocks::ensure_block_returns`] does for one body. The error is want of memory, and leaves all that the
+    /// [`ir_blocks::ensure_block_returns`] does for one body. The error is out of memory, and leaves all that the
     /// module holds as it was, spans too, since room is made in every body before the first return is put in.
     pub fn ensure_block_returns(&mut self, _alloc: Global) -> Result<(), AllocError>
         ensures ok { OnOk result (IsReturned (module_view self.old) (module_view self.new)) }

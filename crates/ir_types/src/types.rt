@@ -142,7 +142,7 @@ pub struct IrType {
     pub inner: TypeInner,
 }
 
-/// An equal name in memory of its own. The error is want of memory.
+/// An equal name in memory of its own. The error is out of memory.
 pub fn clone_name(alloc: Global, name: &Option<String>) -> Result<Option<String>, AllocError>
     ensures { IfOk result (λ copy. option_map string_bytes copy ≡ option_map string_bytes name.now) }
 {
@@ -153,7 +153,7 @@ pub fn clone_name(alloc: Global, name: &Option<String>) -> Result<Option<String>
 }
 
 impl StructMember {
-    /// An equal member in memory of its own. The error is want of memory.
+    /// An equal member in memory of its own. The error is out of memory.
     pub fn clone(&self, alloc: Global) -> Result<StructMember, AllocError>
         ensures { IfOk result (λ copy. member_view copy ≡ member_view self.now) }
     {
@@ -177,7 +177,7 @@ fn clone_members(alloc: Global, members: &[StructMember]) -> Result<Vec<StructMe
 }
 
 impl TypeInner {
-    /// An equal inner form in memory of its own. The error is want of memory.
+    /// An equal inner form in memory of its own. The error is out of memory.
     pub fn clone(&self, alloc: Global) -> Result<TypeInner, AllocError>
         ensures { IfOk result (λ copy. inner_view copy ≡ inner_view self.now) }
     {
@@ -240,7 +240,7 @@ impl TypeInner {
 }
 
 impl IrType {
-    /// An equal type in memory of its own. The error is want of memory.
+    /// An equal type in memory of its own. The error is out of memory.
     pub fn clone(&self, alloc: Global) -> Result<IrType, AllocError>
         ensures { IfOk result (λ copy. type_view copy ≡ type_view self.now) }
     {

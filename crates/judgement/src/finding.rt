@@ -44,7 +44,7 @@ pub enum Finding {
 impl Finding {
     ghost use Rattle.judgement.specs.Text.{text_of};
 
-    /// The line that tells it, ended by a line feed. The error is want of memory.
+    /// The line that tells it, ended by a line feed. The error is out of memory.
     pub fn text(self, alloc: Global) -> Result<String, AllocError>
         ensures { IfOk result (λ text. string_bytes text ≡ text_of self) }
     {

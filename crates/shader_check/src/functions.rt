@@ -98,7 +98,7 @@ fn value_key(value: SwitchValue) -> (u8, i64)
     }
 }
 
-// Whether no value stands twice. The error is want of memory.
+// Whether no value stands twice. The error is out of memory.
 fn values_differ(alloc: Global, cases: &[SwitchCase]) -> Result<bool, AllocError>
     ensures { IfOk result (λ ok. ok ≡ values_differ (cases_of (map case_view cases.now))) }
 {

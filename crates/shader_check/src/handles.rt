@@ -96,7 +96,7 @@ fn function_in_order(
     everywhere(alloc, &tested, Control::BODY, &function.body)
 }
 
-/// Whether every handle of every function is in order. It follows none. The error is want of memory.
+/// Whether every handle of every function is in order. It follows none. The error is out of memory.
 pub fn handles_in_order(alloc: Global, module: &Module) -> Result<bool, AllocError>
     ensures { IfOk result (λ ok. ok ≡ is_none (first_failing (λ i f. function_in_order (length «module».now.types) i (function_view f)) (handles_from 0 «module».now.functions))) }
 {

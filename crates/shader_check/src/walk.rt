@@ -13,7 +13,7 @@ use std::alloc::{AllocError, Global};
 pub trait StatementTest {
     ghost test: { Self → PlainControl → PlainStatement → Bool };
 
-    /// Whether the statement passes at a place with this control. The error is want of memory.
+    /// Whether the statement passes at a place with this control. The error is out of memory.
     fn test(
         &self,
         alloc: Global,
@@ -23,7 +23,7 @@ pub trait StatementTest {
         ensures { IfOk result (λ passes. passes ≡ test self.now (control_view control) (statement_view statement.now)) };
 }
 
-/// Whether every statement of the block passes, at any depth. The error is want of memory.
+/// Whether every statement of the block passes, at any depth. The error is out of memory.
 #[cycle(walk)]
 pub fn everywhere<T: StatementTest>(
     alloc: Global,

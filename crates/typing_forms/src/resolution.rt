@@ -52,7 +52,7 @@ impl TypeResolution {
         }
     }
 
-    /// An equal resolution in memory of its own (naga's `TypeResolution::clone`). The error is want of memory.
+    /// An equal resolution in memory of its own (naga's `TypeResolution::clone`). The error is out of memory.
     pub fn clone(&self, alloc: Global) -> Result<TypeResolution, AllocError>
         ensures { IfOk result (λ copy. resolution_view copy ≡ resolution_view self.now) }
     {

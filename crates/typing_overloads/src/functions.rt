@@ -61,7 +61,7 @@ pub trait MathFunctionExt: Sized {
     // The rules of the function, in order.
     ghost table: { Self → List Rule };
 
-    /// The overload set with all rules of the function (naga's `MathFunction::overloads`). The error is want of memory.
+    /// The overload set with all rules of the function (naga's `MathFunction::overloads`). The error is out of memory.
     fn overloads(self, alloc: Global) -> Result<AnyOverloadSet, AllocError>
         ensures { IfOk result (λ set. any_rules set ≡ table self) };
 }

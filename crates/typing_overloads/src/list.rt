@@ -27,7 +27,7 @@ impl Model for List {
 
 impl List {
     /// The set of these rules, the preferred one first (naga's `List::from_rules`), in memory of `alloc` without spare
-    /// room. The error is want of memory.
+    /// room. The error is out of memory.
     pub fn from_rules(alloc: Global, rules: Vec<Rule>) -> Result<List, AllocError>
         ensures { IfOk result (λ list. list ≡ rules.items) }
     {

@@ -30,7 +30,7 @@ pub trait OverloadSet: Clone {
         requires { 0 < length (rules self.now) }
         ensures { result ≡ most_arguments (rules self.now) };
 
-    /// The rules that accept an argument of the type `ty` at the place `i`, counted from 0. The error is want of memory.
+    /// The rules that accept an argument of the type `ty` at the place `i`, counted from 0. The error is out of memory.
     fn arg(&self, alloc: Global, i: usize, ty: &TypeInner) -> Result<Self, AllocError>
         ensures { IfOk result (λ set. rules set ≡ filter (accepts_inner i (inner_view ty.now)) (rules self.now)) };
 
@@ -43,12 +43,12 @@ pub trait OverloadSet: Clone {
         requires { 0 < length (rules self.now) }
         ensures { slice_get (rules self.now) 0 ≡ Some result };
 
-    /// The rules, the preferred one first. The error is want of memory.
+    /// The rules, the preferred one first. The error is out of memory.
     fn overload_list(&self, alloc: Global) -> Result<Vec<Rule>, AllocError>
         ensures { IfOk result (λ list. list.items ≡ rules self.now) };
 
     /// The types that the rules ask for at the place `i`, counted from 0: one for each rule that has an argument there,
-    /// in their order. The error is want of memory.
+    /// in their order. The error is out of memory.
     fn allowed_args(&self, alloc: Global, i: usize) -> Result<Vec<ValueType>, AllocError>
         ensures { IfOk result (λ types. types.items ≡ arguments_at i (rules self.now)) };
 

@@ -97,7 +97,7 @@ impl Product {
         }
     }
 
-    /// Adds the rules to a list. The error is want of memory.
+    /// Adds the rules to a list. The error is out of memory.
     pub fn add_to(self, rules: &mut Vec<Rule>) -> Result<(), AllocError>
         ensures { OnOk result (rules.new.items ≡ rules.old.items ++ rules_of self) }
     {
@@ -107,7 +107,7 @@ impl Product {
         Ok(())
     }
 
-    /// Adds the types that the rules ask for at a place, counted from 0, to a list. The error is want of memory.
+    /// Adds the types that the rules ask for at a place, counted from 0, to a list. The error is out of memory.
     pub fn add_types_to(self, types: &mut Vec<ValueType>, place: usize) -> Result<(), AllocError>
         ensures { OnOk result (types.new.items ≡ types.old.items ++ arguments_at place (rules_of self)) }
     {
@@ -133,7 +133,7 @@ fn add_row(
     Ok(())
 }
 
-/// Adds a type, if there is one. The error is want of memory.
+/// Adds a type, if there is one. The error is out of memory.
 pub(crate) fn add_type(
     types: &mut Vec<ValueType>,
     wanted: Option<ValueType>,

@@ -12,7 +12,7 @@ use ir_types::TypeInner;
 use overload_tables::{Rule, ValueType};
 use std::alloc::{AllocError, Global};
 
-/// The rules that accept an argument of the type `given` at a place, counted from 0. The error is want of memory.
+/// The rules that accept an argument of the type `given` at a place, counted from 0. The error is out of memory.
 pub(crate) fn accepting(
     alloc: Global,
     rules: &[Rule],
@@ -61,7 +61,7 @@ pub(crate) fn most(rules: &[Rule], found: usize) -> usize
     greatest
 }
 
-/// The types that the rules ask for at a place, counted from 0. The error is want of memory.
+/// The types that the rules ask for at a place, counted from 0. The error is out of memory.
 pub(crate) fn asked_for(
     alloc: Global,
     rules: &[Rule],

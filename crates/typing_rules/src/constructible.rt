@@ -66,7 +66,7 @@ fn constructible_types(
     Ok(known)
 }
 
-// Whether the type is constructible. The error is want of memory.
+// Whether the type is constructible. The error is out of memory.
 pub(crate) fn is_constructible(
     alloc: Global,
     types: &UniqueArena<IrType, key::IrType>,
