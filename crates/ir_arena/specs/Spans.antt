@@ -14,7 +14,7 @@ undefined_span = span_from 0 0
 abbrev pub is_defined_span : Span → Bool
 is_defined_span s = not ((s.start == 0) && (s.end == 0))
 
--- the least span that holds both
+-- from the lesser start to the greater end where both say a part, else the one that does
 abbrev pub joined_span : Span → Span → Span
 joined_span a b =
     if is_defined_span a then (if is_defined_span b then span_from (min a.start b.start) (max a.end b.end) else a) else b
@@ -23,6 +23,6 @@ joined_span a b =
 abbrev pub span_until : Span → Span → Span
 span_until a b = span_from a.start b.end
 
--- the least span that holds all of these, one after the other
+-- all of these joined, one after the other
 abbrev pub total_span : List Span → Span
 total_span spans = fold joined_span undefined_span spans

@@ -70,7 +70,7 @@ impl Span {
         total
     }
 
-    /// Grows to the least span that holds `other` too. A part that is not known adds nothing.
+    /// Grows to reach from the lesser start to the greater end of the two. A part that is not known adds nothing.
     pub fn subsume(&mut self, other: Span)
         ensures { self.new ≡ joined_span self.old other }
     {
