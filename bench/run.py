@@ -17,7 +17,7 @@ CHECK = TOP / "crates/checker/out/checker"
 ALONE = TOP / "crates/json_alone/out/json_alone"
 SIZES = [1 << 20, 1 << 24]
 RUNS = 5
-MOST_RATIO = 1.6
+MOST_RATIO = 1.4
 MOST_MEMORY = 32
 
 FRONT = ('[1,["EXPRESSIONS","BLOCKS","CONTROL_FLOW_UNIFORMITY","STRUCT_LAYOUTS","CONSTANTS","BINDINGS"],[],[[],[]],false,'

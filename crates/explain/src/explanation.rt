@@ -7,7 +7,7 @@ use crate::names::{function_name, type_name};
 use crate::place::Told;
 use crate::unchecked::{Steps, first_unchecked};
 use document_forms::Place;
-use document_reader::{DocumentError, read_document};
+use document_reader::{DocumentError, MAX_LEN, read_document};
 use ir_items::Module;
 use shader_check::{Finding, Step, judge_document};
 use std::alloc::{AllocError, Global};
@@ -78,7 +78,7 @@ fn write_place<W: fmt::Write>(f: &mut fmt::Formatter<W>, place: &Place) -> fmt::
 fn write_error<W: fmt::Write>(f: &mut fmt::Formatter<W>, error: &DocumentError) -> fmt::Result {
     match error {
         DocumentError::Memory => write!(f, "out of memory"),
-        DocumentError::TooLong => write!(f, "more than 16777216 bytes"),
+        DocumentError::TooLong => write!(f, "more than {} bytes", MAX_LEN),
         DocumentError::NotJson { line, column } => {
             write!(f, "no JSON at line {line}, column {column}")
         }

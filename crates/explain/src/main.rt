@@ -9,10 +9,8 @@ mod unchecked;
 
 use explanation::{Explanation, explain};
 use ports::{Source, TakeError};
+use shader_check::MAX_TAKEN;
 use std::process::ExitCode;
-
-// One byte more than a document may have.
-const MAX_TAKEN: usize = 16777217;
 
 fn fault(rt: &HostRuntime, message: &str) -> ExitCode {
     let _ = eprintln!(rt; "fault: {message}");

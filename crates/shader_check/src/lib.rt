@@ -10,7 +10,7 @@ pub mod laws;
 mod types;
 mod walk;
 
-pub use check::{Fault, Verdict, check_document, outcome};
+pub use check::{Fault, MAX_TAKEN, Verdict, check_document, outcome};
 pub use document_model::{Document, Settings, build_module};
 pub use document_reader::{DocumentError, read_document};
 pub use document_within::within;
