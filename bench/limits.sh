@@ -9,7 +9,8 @@ program=$PWD/crates/checker/out/checker
 
 room=$(mktemp -d)
 trap 'rm -rf "$room"' EXIT
-document=crates/checker/stdin
+document=$room/smallest
+printf '%s' '[1,["EXPRESSIONS","BLOCKS","CONTROL_FLOW_UNIFORMITY","STRUCT_LAYOUTS","CONSTANTS","BINDINGS"],[],[[],[]],false,[],[null,null,null,[]],[[],null],[],[],[],[],[],[]]' >"$document"
 size=$(wc -c <"$document")
 failed=0
 

@@ -50,7 +50,7 @@ for file in examples/*.json; do
     try "$file" "$(basename "$file" .json)" "${file%.json}.txt"
 done
 printf 'accepted\n' >"$room/due"
-try crates/checker/stdin "smallest document" "$room/due"
+try crates/checker/stdin "more than one read takes" "$room/due"
 printf 'refused document\n' >"$room/due"
 : >"$room/document"
 try "$room/document" "no bytes" "$room/due"
