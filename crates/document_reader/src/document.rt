@@ -19,7 +19,7 @@ use document_model::{Document, Settings};
 use document_rows::{InArray, Row, split_part};
 use expression_forms::ExpressionForm;
 use function_forms::{EntryForm, FunctionForm};
-use ir_arena::unique_arena::UniqueArena;
+use ir_unique_arena::unique_arena::UniqueArena;
 use ir_flags::{Capabilities, ShaderStages, SubgroupOperationSet, ValidationFlags};
 use ir_items::Module;
 use ir_types::{IrType, key};

@@ -12,7 +12,7 @@ ghost use Rattle.document_within.specs.Tests.{all_pass, plain_inner, plain_type,
 use crate::bodies::is_plain_block;
 use document_model::Document;
 use ir_arena::arena::Arena;
-use ir_arena::unique_arena::UniqueArena;
+use ir_unique_arena::unique_arena::UniqueArena;
 use ir_items::{
     Expression, Function, FunctionResult, IrType, Module, SpecialTypes, TypeInner, key,
 };

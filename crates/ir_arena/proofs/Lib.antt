@@ -1,6 +1,6 @@
-pub mod Noted
 pub mod Zipped
 pub mod Distinct
 pub mod Entries
 pub mod Found
 pub mod Kept
+pub mod CopyLemmas

@@ -5,4 +5,4 @@ pub mod Lends
 pub mod Retains
 pub mod Spans
 pub mod Equality
-pub mod Places
+pub mod Copies

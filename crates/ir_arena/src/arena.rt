@@ -4,13 +4,15 @@ ghost use Rattle.std.specs.Prelude.{◌≡◌, ◌<◌, ◌≤◌, ◌++◌, ◌
 ghost use Rattle.std.specs.Borrow.{sem};
 ghost use Rattle.std.specs.Fn.{FnReturnsAt, FnReturnsAtPair};
 ghost use Rattle.ir_arena.specs.Arenas.{value_of_entry, span_of_entry, value_at, span_at, has_equal, found_at, place_of, with_entry, IsFirstPassing, PassesNowhere};
+ghost use Rattle.ir_arena.specs.Copies.{entry_of};
 ghost use Rattle.ir_arena.specs.IterMut.{values_to_come, loan_name};
 ghost use Rattle.ir_arena.specs.Lends.{LendsValue, LendsValues, KeepsSpans};
 ghost use Rattle.ir_arena.specs.Retains.{KeepsAt, RetainsFrom};
 ghost use Rattle.ir_arena.specs.Handles.{handles_from, entries_from};
 
+use crate::copied::Copied;
 use crate::drain::Drain;
-use crate::handle::{BadHandle, Handle};
+use crate::handle::{BadHandle, Handle, Kind};
 use crate::iter::Iter;
 use crate::iter_mut::IterMut;
 use crate::range::{BadRangeError, Range};
@@ -76,6 +78,25 @@ impl<T, K> Arena<T, K> {
             entries: Spanned::new(alloc),
             key: PhantomData,
         }
+    }
+
+    /// An arena that holds the same, each value with its span.
+    ///
+    /// # Errors
+    ///
+    /// `AllocError` where there is no memory.
+    pub fn clone(&self, alloc: Global) -> Result<Self, AllocError>
+    where
+        T: Copied + Drop,
+        ensures { IfOk result (λ copy. map (entry_of T.view) copy ≡ map (entry_of T.view) self.now) }
+    {
+        let mut copy = Arena::new(alloc);
+        let values = self.entries.values();
+        let spans = self.entries.spans();
+        for place in 0..values.len() {
+            copy.append(values[place].copied(alloc)?, spans[place])?;
+        }
+        Ok(copy)
     }
 
     /// The number of values.
@@ -212,13 +233,18 @@ impl<T, K> Arena<T, K> {
     ///
     /// [`BadHandle`] where the arena has no such place.
     pub fn try_get(&self, handle: Handle<K>) -> Result<&T, BadHandle>
+    where
+        K: Kind,
         ensures found { IsOk result ↔ (handle < length self.now) }
         ensures value { IfOk result (λ value. Some value.now ≡ value_at self.now handle) }
-        ensures bad { IfErr result (λ e. e.index ≡ handle) }
+        ensures bad { IfErr result (λ e. (e.index ≡ handle) × (e.kind.now ≡ K.word)) }
     {
         let index = handle.index();
         if index >= self.entries.len() {
-            return Err(BadHandle { index });
+            return Err(BadHandle {
+                kind: K::word(),
+                index,
+            });
         }
         Ok(self.entries.value(index))
     }
@@ -245,32 +271,46 @@ impl<T, K> Arena<T, K> {
     ///
     /// [`BadHandle`] where it does not.
     pub fn check_contains_handle(&self, handle: Handle<K>) -> Result<(), BadHandle>
+    where
+        K: Kind,
         ensures found { IsOk result ↔ (handle < length self.now) }
-        ensures bad { IfErr result (λ e. e.index ≡ handle) }
+        ensures bad { IfErr result (λ e. (e.index ≡ handle) × (e.kind.now ≡ K.word)) }
     {
         let index = handle.index();
         if index < self.entries.len() {
             Ok(())
         } else {
-            Err(BadHandle { index })
+            Err(BadHandle {
+                kind: K::word(),
+                index,
+            })
         }
     }
 
+    /// Whether the first place of `range` does not pass its end, nor its end the length. Unlike
+    /// [`Arena::check_contains_range`] it is asked of a range with no place too.
+    pub fn has_range(&self, range: &Range<K>) -> bool
+        ensures { IsTrue result ↔ ((range.now.0 ≤ range.now.1) × (range.now.1 ≤ length self.now)) }
+    {
+        let places = range.index_range();
+        places.start <= places.end && places.end as usize <= self.entries.len()
+    }
+
     /// Tests that the arena has each place of `range`. A range with no place is one that every arena
-    /// has, unless its end comes before its first place.
+    /// has, also where it lies past the end, unless its end comes before its first place; see
+    /// [`Arena::has_range`].
     ///
     /// # Errors
     ///
     /// [`BadRangeError`] where the end comes before the first place, or where the arena lacks a place.
     pub fn check_contains_range(&self, range: &Range<K>) -> Result<(), BadRangeError>
+    where
+        K: Kind,
         ensures contained { IsOk result ↔ ((range.now.0 ≡ range.now.1) ⊎ (range.now.0 < range.now.1) × (range.now.1 ≤ length self.now)) }
-        ensures bad { IfErr result (λ e. e.range ≡ range.now) }
+        ensures bad { IfErr result (λ e. (e.range ≡ range.now) × (e.kind.now ≡ K.word)) }
     {
         let places = range.index_range();
-        if places.start == places.end {
-            return Ok(());
-        }
-        if places.start < places.end && places.end as usize <= self.entries.len() {
+        if places.start == places.end || self.has_range(range) {
             return Ok(());
         }
         Err(BadRangeError::new(Range::<K>::new(places.start, places.end)))

@@ -38,7 +38,7 @@ impl<T, K> Model for Drain<T, K> {
 
 impl<T, K> Drain<T, K> {
     // The values of an arena with these entries.
-    pub(crate) fn new(entries: Spanned<T>) -> Self
+    pub fn new(entries: Spanned<T>) -> Self
         requires { length entries ≤ 4294967295 }
         ensures { result ≡ entries_from 0 entries }
     {

@@ -1,10 +1,9 @@
 //! Places in an arena, and the error of a place that an arena does not have.
 
-ghost use Rattle.std.specs.Prelude.{◌≡◌, ◌<◌, ◌+◌, ◌↔◌, IsSome, IfSome};
+ghost use Rattle.std.specs.Prelude.{◌≡◌, ◌<◌, ◌+◌, ◌↔◌, ℕ, List, IsSome, IfSome};
 
-use std::error::Error;
-use std::fmt::{self, Display};
 use std::marker::{Model, PhantomData};
+use thiserror::Error;
 
 /// A number below 4294967295, which is `u32::MAX`. In a contract it is that number.
 #[derive(Clone, Copy, PartialEq, Eq, PartialOrd, Ord, Hash, Debug)]
@@ -115,32 +114,34 @@ impl<T> Handle<T> {
     }
 }
 
-/// The error of a handle whose place an arena does not have. Naga's also names the type of the value.
-#[derive(Clone, Copy, PartialEq, Eq, Hash, Debug)]
+/// What the handles of an arena are of: the tags of arenas (see [`crate::arena::Arena`]) each have a word for it.
+pub trait Kind {
+    ghost word: { List ℕ };
+
+    /// The word: `type`, `expression` and the like.
+    fn word() -> &'static str
+        ensures { result.now ≡ word };
+}
+
+/// The error of a handle whose place an arena does not have. Naga's `kind` is the name of the value's type.
+#[derive(Clone, Copy, PartialEq, Eq, Hash, Debug, Error)]
+#[error("Handle {index} of {kind} is either not present, or inaccessible yet")]
 pub struct BadHandle {
+    /// What the handle is of: the word of its [`Kind`].
+    pub kind: &'static str,
     /// The handle's place, counted from 0.
     pub index: usize,
 }
 
 impl BadHandle {
     /// The error of `handle`.
-    pub fn new<T>(handle: Handle<T>) -> Self
-        ensures { result.index ≡ handle }
+    pub fn new<K: Kind>(handle: Handle<K>) -> Self
+        ensures kind { result.kind.now ≡ K.word }
+        ensures index { result.index ≡ handle }
     {
         BadHandle {
+            kind: K::word(),
             index: handle.index(),
         }
     }
 }
-
-impl Display for BadHandle {
-    fn fmt<W: fmt::Write>(&self, f: &mut fmt::Formatter<W>) -> fmt::Result {
-        write!(
-            f,
-            "Handle {} is either not present, or inaccessible yet",
-            self.index
-        )
-    }
-}
-
-impl Error for BadHandle {}

@@ -3,11 +3,10 @@
 ghost use Rattle.std.specs.Prelude.{◌≡◌, ◌<◌, ◌≤◌, ◌+◌, ◌-◌, ◌↔◌, IsSome, IfSome, length};
 
 use crate::arena::Arena;
-use crate::handle::Handle;
-use std::error::Error;
-use std::fmt::{self, Display};
+use crate::handle::{Handle, Kind};
 use std::marker::{Model, PhantomData};
 use std::ops;
+use thiserror::Error;
 
 /// The handles from one place on, below another, in order. There is none where the first place is
 /// not below the end.
@@ -110,33 +109,25 @@ impl<T> Iterator for Range<T> {
     }
 }
 
-/// The error of a range that an arena does not have. Naga's also names the type of the values.
-#[derive(Clone, Copy, PartialEq, Eq, Hash, Debug)]
+/// The error of a range that an arena does not have. Naga's `kind` is the name of the values' type.
+#[derive(Clone, Copy, PartialEq, Eq, Hash, Debug, Error)]
+#[error("Handle range {first}..{end} of {kind} is either not present, or inaccessible yet", first = .range.first, end = .range.end)]
 pub struct BadRangeError {
+    /// What the range's handles are of: the word of their [`Kind`].
+    pub kind: &'static str,
     /// The range, whatever its handles are of.
     pub range: Range<()>,
 }
 
 impl BadRangeError {
     /// The error of `range`.
-    pub fn new<T>(range: Range<T>) -> Self
-        ensures { result.range ≡ range }
+    pub fn new<K: Kind>(range: Range<K>) -> Self
+        ensures kind { result.kind.now ≡ K.word }
+        ensures range { result.range ≡ range }
     {
         BadRangeError {
+            kind: K::word(),
             range: Range::new(range.first, range.end),
         }
     }
 }
-
-impl Display for BadRangeError {
-    fn fmt<W: fmt::Write>(&self, f: &mut fmt::Formatter<W>) -> fmt::Result {
-        let places = self.range.index_range();
-        write!(
-            f,
-            "Handle range {}..{} is either not present, or inaccessible yet",
-            places.start, places.end
-        )
-    }
-}
-
-impl Error for BadRangeError {}

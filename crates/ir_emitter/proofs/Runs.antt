@@ -4,7 +4,27 @@ use borrow.Author.Tests.{eqb-true, eq-eqb}
 use Rattle.std.specs.List.{All, AllPairs}
 use Rattle.std.proofs.lemmas.List.Elements.{All-nil, All-cons}
 use Rattle.std.proofs.lemmas.List.Kept.{AllPairs-cons}
-use Rattle.ir_emitter.specs.Emitted.{Run, AreRuns, ranges_of, Holds, Partition}
+use Rattle.std.proofs.Common.{length, map, ap, subst, Some, None}
+use Rattle.std.specs.Prelude.{slice_range}
+use Rattle.std.specs.List.{cons_option}
+use Rattle.ir_arena.specs.declared.span.Span.{Span}
+use Rattle.ir_arena.specs.Arenas.{span_of_entry}
+use Rattle.ir_arena.specs.Spans.{total_span}
+use Rattle.ir_blocks.specs.Plain.{emit}
+use Rattle.ir_emitter.specs.Emitted as given
+use Rattle.ir_emitter.specs.Emitted.{Holds, Partition}
+
+-- A run by its counts alone.
+abbrev Run : Type 0
+Run = ℕ × ℕ
+
+abbrev AreRuns : ℕ → List Run → Type 0
+AreRuns count [] = Unit {0}
+AreRuns count (run ∷ runs) = (count ≤ run.0) × ((run.0 ≤ run.1) × AreRuns run.1 runs)
+
+abbrev ranges_of : List Run → List Run
+ranges_of [] = []
+ranges_of (run ∷ runs) = cond (nat_eq run.0 run.1) (ranges_of runs) (run ∷ ranges_of runs)
 
 -- the run's range before the others, if it has one
 abbrev ranges_with : Bool → Run → List Run → List Run
@@ -59,6 +79,43 @@ ranges_hold : (runs : List Run) (e : ℕ) → Holds runs e ↔ Holds (ranges_of 
 ranges_hold [] e = (λ k. k, λ k. k)
 ranges_hold (run ∷ runs) e = holds_with (nat_eq run.0 run.1) run runs (ranges_of runs) e refl (ranges_hold runs e)
 
+-- the counts of a run
+abbrev counts : given.Run → Run
+counts run = (length run.started, length run.finished)
+
+counted : (count : ℕ) (runs : List given.Run) → given.AreRuns count runs → AreRuns count (map counts runs)
+counted count [] h = h
+counted count (run ∷ runs) h = (h.0, (h.1.0, counted (length run.finished) runs h.1.1))
+
+appended : (runs : List given.Run) (e : ℕ) → given.IsAppended runs e → Holds (map counts runs) e
+appended [] e k = k
+appended (run ∷ runs) e k = elim k [ inl here ↦ inl here | inr there ↦ inr (appended runs e there) ]
+
+appended_of : (runs : List given.Run) (e : ℕ) → Holds (map counts runs) e → given.IsAppended runs e
+appended_of [] e k = k
+appended_of (run ∷ runs) e k = elim k [ inl here ↦ inl here | inr there ↦ inr (appended_of runs e there) ]
+
+-- the range of one answer goes before the others, if it has one
+one_more : (b : Bool) (first end : ℕ) (span : Span) (rest : List Run)
+    → cons_option (given.range_of (cond b None (Some (emit first end, span)))) rest ≡ cond b rest ((first, end) ∷ rest)
+one_more true first end span rest = refl
+one_more false first end span rest = refl
+
+-- the ranges of the answers are those of the counts
+answered : (runs : List given.Run) → given.ranges_of (map given.answer_of runs) ≡ ranges_of (map counts runs)
+answered [] = refl
+answered (run ∷ runs) =
+    let first = length run.started in
+    let end = length run.finished in
+    one_more (nat_eq first end) first end (total_span (map span_of_entry (slice_range run.finished first end))) (given.ranges_of (map given.answer_of runs))
+    ∙ ap (λ rest. cond (nat_eq first end) rest ((first, end) ∷ rest)) (answered runs)
+
 pub partition : Partition
 partition count runs h =
-    record { apart = ranges_apart count runs h; filled = ranges_filled count runs h; hold = ranges_hold runs }
+    let by_counts = map counts runs in
+    let follow = counted count runs h in
+    subst (given.ArePartition runs) (sym (answered runs)) record {
+      apart = ranges_apart count by_counts follow;
+      filled = ranges_filled count by_counts follow;
+      hold = λ e. (λ k. (ranges_hold by_counts e).0 (appended runs e k), λ k. appended_of runs e ((ranges_hold by_counts e).1 k));
+    }

@@ -1,6 +1,6 @@
 -- What an emitter gives.
 use Rattle.std.specs.Prelude.{◌↔◌, ◌⊎◌, ℕ, ◌<◌, ◌≤◌, List, [], ◌∷◌, length, map, slice_range, if◌then◌else◌, ◌==◌, Option, Some, None}
-use Rattle.std.specs.List.{All, AllPairs}
+use Rattle.std.specs.List.{All, AllPairs, cons_option}
 use Rattle.ir_arena.specs.declared.span.Span.{Span}
 use Rattle.ir_arena.specs.Arenas.{span_of_entry}
 use Rattle.ir_arena.specs.Spans.{total_span}
@@ -12,30 +12,46 @@ abbrev pub emitted : ℕ → List (Expression × Span) → Option (PlainStatemen
 emitted start entries =
     if start == length entries then None else Some (emit start (length entries), total_span (map span_of_entry (slice_range entries start (length entries))))
 
--- A run of an emitter: how many expressions there were when it began, and when it ended.
-abbrev pub Run : Type 0
-Run = ℕ × ℕ
+-- A run of an emitter: the expressions with which it was started, and those with which it was finished.
+pub record Run : Type 0 where
+  pub started : List (Expression × Span)
+  pub finished : List (Expression × Span)
+
+-- what the call that finishes the run answers
+abbrev pub answer_of : Run → Option (PlainStatement × Span)
+answer_of run = emitted (length run.started) run.finished
 
 -- the runs follow one another, on expressions that only grow and are at least so many at first
 abbrev pub AreRuns : ℕ → List Run → Type 0
 AreRuns count [] = Unit {0}
-AreRuns count (run ∷ runs) = (count ≤ run.0) × ((run.0 ≤ run.1) × AreRuns run.1 runs)
+AreRuns count (run ∷ runs) = (count ≤ length run.started) × ((length run.started ≤ length run.finished) × AreRuns (length run.finished) runs)
 
--- the ranges that these runs give: none where nothing was appended
-abbrev pub ranges_of : List Run → List Run
+-- the range of an answer: its first place and its end, if it is an `Emit`
+abbrev pub range_of : Option (PlainStatement × Span) → Option (ℕ × ℕ)
+range_of (Some (emit first end, span)) = Some (first, end)
+range_of _ = None
+
+-- the ranges of the answers that are an `Emit`
+abbrev pub ranges_of : List (Option (PlainStatement × Span)) → List (ℕ × ℕ)
 ranges_of [] = []
-ranges_of (run ∷ runs) = if run.0 == run.1 then ranges_of runs else run ∷ ranges_of runs
+ranges_of (answer ∷ answers) = cons_option (range_of answer) (ranges_of answers)
+
+-- the expression was appended during one of the runs
+abbrev pub IsAppended : List Run → ℕ → Type 0
+IsAppended [] e = ⊥
+IsAppended (run ∷ runs) e = ((length run.started ≤ e) × (e < length run.finished)) ⊎ IsAppended runs e
 
 -- the expression is in one of the ranges
-abbrev pub Holds : List Run → ℕ → Type 0
+abbrev pub Holds : List (ℕ × ℕ) → ℕ → Type 0
 Holds [] e = ⊥
-Holds (run ∷ runs) e = ((run.0 ≤ e) × (e < run.1)) ⊎ Holds runs e
+Holds (range ∷ ranges) e = ((range.0 ≤ e) × (e < range.1)) ⊎ Holds ranges e
 
--- The ranges of the runs are not empty, are apart, each before those after it, and hold just what the runs hold.
-pub record ArePartition (runs : List Run) : Type 0 where
-  pub apart : AllPairs (λ r s. r.1 ≤ s.0) (ranges_of runs)
-  pub filled : All (λ r. r.0 < r.1) (ranges_of runs)
-  pub hold : (e : ℕ) → Holds runs e ↔ Holds (ranges_of runs) e
+-- The ranges are not empty, are apart, each before those after it, and hold just what was appended during the runs.
+pub record ArePartition (runs : List Run) (ranges : List (ℕ × ℕ)) : Type 0 where
+  pub apart : AllPairs (λ r s. r.1 ≤ s.0) ranges
+  pub filled : All (λ r. r.0 < r.1) ranges
+  pub hold : (e : ℕ) → IsAppended runs e ↔ Holds ranges e
 
+-- The `Emit` statements that the runs of an emitter answer: their ranges are a partition of what was appended.
 abbrev pub Partition : Type 0
-Partition = (count : ℕ) (runs : List Run) → AreRuns count runs → ArePartition runs
+Partition = (count : ℕ) (runs : List Run) → AreRuns count runs → ArePartition runs (ranges_of (map answer_of runs))

@@ -2,6 +2,7 @@
 ghost use Rattle.std.specs.Prelude.{◌≡◌, IfOk};
 ghost use Rattle.ir_expressions.specs.Plain.{expression_view, IsPlain, IsComputed, IsFound, IsResult, implicit_derivatives, always_in_scope, is_dynamic};
 
+use ir_arena::copied::Copied;
 use ir_arena::handle::Handle;
 use ir_kinds::{
     BinaryOperator, Bytes, CooperativeRole, CooperativeSize, DerivativeAxis, DerivativeControl,
@@ -292,6 +293,18 @@ pub enum Expression {
         /// The third.
         c: Handle<key::Expression>,
     },
+}
+
+impl Copied for Expression {
+    ghost use Rattle.ir_expressions.specs.Plain.{PlainExpression, expression_view};
+
+    ghost View = { PlainExpression };
+
+    ghost view = { expression_view };
+
+    fn copied(&self, alloc: Global) -> Result<Expression, AllocError> {
+        self.clone(alloc)
+    }
 }
 
 impl Expression {

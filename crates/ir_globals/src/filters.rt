@@ -2,7 +2,7 @@
 ghost use Rattle.std.specs.Prelude.{◌≡◌, IfOk};
 ghost use Rattle.ir_globals.specs.View.{rule_view, node_view};
 
-use crate::copies::Copied;
+use ir_arena::copied::Copied;
 use ir_arena::handle::Handle;
 use ir_kinds::{Severity, StandardFilterableTriggeringRule};
 use ir_types::key;

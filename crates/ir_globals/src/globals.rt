@@ -2,7 +2,7 @@
 ghost use Rattle.std.specs.Prelude.{◌≡◌, IfOk};
 ghost use Rattle.ir_globals.specs.View.{constant_view, override_view, global_view};
 
-use crate::copies::Copied;
+use ir_arena::copied::Copied;
 use ir_arena::handle::Handle;
 use ir_flags::MemoryDecorations;
 use ir_kinds::{AddressSpace, ResourceBinding};

@@ -5,12 +5,12 @@ use Rattle.ir_types.specs.Plain.{type_view}
 use Rattle.ir_blocks.specs.View.{block_view, block_spans}
 use Rattle.ir_globals.specs.View.{values_of, special_view, constant_view, override_view, global_view, node_view}
 use Rattle.ir_items.specs.View.{argument_view, local_view, function_view, entry_view}
-use Rattle.ir_globals.specs.Copies.{entry_of}
+use Rattle.ir_arena.specs.Copies.{entry_of}
 use Rattle.ir_items.specs.Copies.{SpannedFunction, spanned_function, SpannedEntry, spanned_entry, spanned_module}
 use Rattle.ir_items.specs.declared.entries.EntryPoint.{EntryPoint}
 use Rattle.ir_items.specs.declared.module.Module.{Module}
 use Rattle.ir_items.specs.declared.functions.Function.{Function}
-use Rattle.ir_globals.proofs.CopyLemmas.{same_values}
+use Rattle.ir_arena.proofs.CopyLemmas.{same_values}
 
 -- a function is copied part by part
 pub same_function : (f g : Function) → option_map string_bytes f.name ≡ option_map string_bytes g.name → map argument_view f.arguments.items ≡ map argument_view g.arguments.items → f.result ≡ g.result

@@ -9,7 +9,7 @@ use Rattle.std.proofs.lemmas.Option.{slice_get-get_or, same_Some}
 use Rattle.ir_arena.specs.Spans.{undefined_span}
 use Rattle.ir_arena.specs.Arenas.{value_of_entry, span_of_entry, value_at, span_at, with_value}
 use Rattle.ir_arena.specs.declared.span.Span.{Span}
-use Rattle.ir_globals.specs.Copies.{entry_of}
+use Rattle.ir_arena.specs.Copies.{entry_of}
 use Rattle.ir_blocks.proofs.RoomLemmas.{Unvisited, take_set, same_looks, unvisited_more, done_more}
 
 module _ {A : Type 0} (P : A → Type 0) where

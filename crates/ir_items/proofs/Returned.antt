@@ -4,7 +4,7 @@ use Rattle.std.specs.List.{AllZip}
 use Rattle.ir_blocks.proofs.OneCompleted.{one_completed}
 use Rattle.ir_blocks.proofs.SpanLaws.{spans_completed}
 use Rattle.ir_blocks.proofs.TailLaws.{is_completed}
-use Rattle.ir_globals.specs.Copies.{entry_of}
+use Rattle.ir_arena.specs.Copies.{entry_of}
 use Rattle.ir_items.specs.Copies.{SpannedFunction, SpannedEntry, SpannedModule}
 use Rattle.ir_items.specs.Plain.{PlainFunction, PlainEntry, PlainModule}
 use Rattle.ir_items.specs.Returned.{IsReturnedFunction, IsReturnedEntry, IsReturned, KeepsFunctionSpans, KeepsEntrySpans, KeepsSpansAt, KeepsModuleSpans, returned_function, returned_entry, returned_module, returned_function_spans, returned_entry_spans, returned_module_spans}

@@ -6,7 +6,7 @@ use Rattle.ir_blocks.specs.Spans.{InStep}
 use Rattle.ir_blocks.specs.Tails.{IsCompleted, completed}
 use Rattle.ir_blocks.specs.TailSpans.{SpansCompleted, completed_spans}
 use Rattle.ir_blocks.specs.Room.{HasRoom}
-use Rattle.ir_globals.specs.Copies.{entry_of}
+use Rattle.ir_arena.specs.Copies.{entry_of}
 use Rattle.ir_items.specs.Plain.{PlainFunction, PlainEntry, PlainModule}
 use Rattle.ir_items.specs.Copies.{SpannedFunction, SpannedEntry, SpannedModule}
 use Rattle.ir_items.specs.declared.functions.Function.{Function}

@@ -3,8 +3,8 @@ ghost use Rattle.std.specs.Prelude.{◌≡◌, IfOk};
 ghost use Rattle.ir_items.specs.Copies.{spanned_entry};
 
 use crate::functions::Function;
+use ir_arena::copied::Copied;
 use ir_arena::handle::Handle;
-use ir_globals::Copied;
 use ir_kinds::{EarlyDepthTest, MeshOutputTopology, ShaderStage};
 use ir_types::key;
 use std::alloc::{AllocError, Global};

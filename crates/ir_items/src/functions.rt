@@ -6,10 +6,10 @@ ghost use Rattle.ir_items.specs.View.{local_view, argument_view, function_view, 
 ghost use Rattle.ir_blocks.specs.Spans.{no_spans};
 
 use ir_arena::arena::Arena;
+use ir_arena::copied::{Copied, copy_list};
 use ir_arena::handle::Handle;
 use ir_blocks::Block;
 use ir_expressions::Expression;
-use ir_globals::{Copied, copy_arena, copy_list};
 use ir_kinds::Binding;
 use ir_types::{clone_name, key};
 use std::alloc::{AllocError, Global};
@@ -115,8 +115,8 @@ impl Function {
             name: clone_name(alloc, &self.name)?,
             arguments: copy_list(alloc, &self.arguments)?,
             result: self.result,
-            local_variables: copy_arena(alloc, &self.local_variables)?,
-            expressions: copy_arena(alloc, &self.expressions)?,
+            local_variables: self.local_variables.clone(alloc)?,
+            expressions: self.expressions.clone(alloc)?,
             body: self.body.clone(alloc)?,
             diagnostic_filter_leaf: self.diagnostic_filter_leaf,
         })

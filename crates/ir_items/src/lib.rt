@@ -17,8 +17,8 @@ pub use ir_blocks::{
 };
 pub use ir_expressions::{CooperativeData, Expression, ImageQuery, SampleLevel};
 pub use ir_globals::{
-    Constant, Copied, DiagnosticFilter, DiagnosticFilterNode, FilterableTriggeringRule,
-    GlobalVariable, Override, SpecialTypes, copy_arena, copy_list, copy_types,
+    Constant, DiagnosticFilter, DiagnosticFilterNode, FilterableTriggeringRule, GlobalVariable,
+    Override, SpecialTypes,
 };
 pub use ir_types::{ArraySize, IrType, StructMember, TypeInner, key};
 pub use module::{GlobalCtx, Module};

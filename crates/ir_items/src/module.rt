@@ -9,10 +9,10 @@ use crate::functions::Function;
 use crate::module_lists::{CodeLists, GlobalLists, TypeLists};
 use ir_arena::arena::Arena;
 use ir_arena::handle::Handle;
-use ir_arena::unique_arena::UniqueArena;
 use ir_expressions::Expression;
 use ir_globals::{Constant, DiagnosticFilterNode, GlobalVariable, Override, SpecialTypes};
 use ir_types::{IrType, key};
+use ir_unique_arena::unique_arena::UniqueArena;
 use std::alloc::{AllocError, Global};
 
 /// A shader module (naga's `Module`).

@@ -2,7 +2,7 @@
 ghost use Rattle.std.specs.Prelude.{◌≡◌, IfOk, map};
 ghost use Rattle.ir_expressions.specs.Plain.{expression_view};
 ghost use Rattle.ir_types.specs.Plain.{type_view};
-ghost use Rattle.ir_globals.specs.Copies.{entry_of};
+ghost use Rattle.ir_arena.specs.Copies.{entry_of};
 ghost use Rattle.ir_globals.specs.View.{special_view, constant_view, override_view, global_view, node_view};
 ghost use Rattle.ir_items.specs.Copies.{spanned_function, spanned_entry};
 
@@ -10,13 +10,11 @@ use crate::entries::EntryPoint;
 use crate::functions::Function;
 use crate::module::Module;
 use ir_arena::arena::Arena;
-use ir_arena::unique_arena::UniqueArena;
+use ir_arena::copied::copy_list;
 use ir_expressions::Expression;
-use ir_globals::{
-    Constant, DiagnosticFilterNode, GlobalVariable, Override, SpecialTypes, copy_arena, copy_list,
-    copy_types,
-};
+use ir_globals::{Constant, DiagnosticFilterNode, GlobalVariable, Override, SpecialTypes};
 use ir_types::{IrType, key};
+use ir_unique_arena::unique_arena::UniqueArena;
 use std::alloc::{AllocError, Global};
 
 // The types, and those that some expressions ask for.
@@ -62,7 +60,7 @@ impl TypeLists {
         ensures special { IfOk result (λ l. special_view l.special ≡ special_view source.now.special_types) }
     {
         Ok(TypeLists {
-            types: copy_types(alloc, &source.types)?,
+            types: source.types.clone(alloc)?,
             special: source.special_types.clone(alloc)?,
         })
     }
@@ -90,8 +88,8 @@ impl ConstantLists {
         ensures overrides { IfOk result (λ l. map (entry_of override_view) l.overrides ≡ map (entry_of override_view) source.now.overrides) }
     {
         Ok(ConstantLists {
-            constants: copy_arena(alloc, &source.constants)?,
-            overrides: copy_arena(alloc, &source.overrides)?,
+            constants: source.constants.clone(alloc)?,
+            overrides: source.overrides.clone(alloc)?,
         })
     }
 }
@@ -103,8 +101,8 @@ impl VariableLists {
         ensures expressions { IfOk result (λ l. map (entry_of expression_view) l.expressions ≡ map (entry_of expression_view) source.now.global_expressions) }
     {
         Ok(VariableLists {
-            variables: copy_arena(alloc, &source.global_variables)?,
-            expressions: copy_arena(alloc, &source.global_expressions)?,
+            variables: source.global_variables.clone(alloc)?,
+            expressions: source.global_expressions.clone(alloc)?,
         })
     }
 }
@@ -117,9 +115,9 @@ impl CodeLists {
         ensures filters { IfOk result (λ l. map (entry_of node_view) l.filters ≡ map (entry_of node_view) source.now.diagnostic_filters) }
     {
         Ok(CodeLists {
-            functions: copy_arena(alloc, &source.functions)?,
+            functions: source.functions.clone(alloc)?,
             entry_points: copy_list(alloc, &source.entry_points)?,
-            filters: copy_arena(alloc, &source.diagnostic_filters)?,
+            filters: source.diagnostic_filters.clone(alloc)?,
         })
     }
 }

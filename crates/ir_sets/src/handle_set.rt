@@ -7,7 +7,7 @@ ghost use Rattle.ir_sets.specs.Places.{IsRising, AreIndexes, StandsAt, FitsAt, L
 use ir_arena::arena::Arena;
 use ir_arena::handle::Handle;
 use ir_arena::range::Range;
-use ir_arena::unique_arena::UniqueArena;
+use ir_unique_arena::unique_arena::UniqueArena;
 use std::alloc::{AllocError, Global};
 use std::hash::Hash;
 use std::marker::{Model, PhantomData};

@@ -2,3 +2,4 @@ pub mod BuiltIns
 pub mod Choices
 pub mod Same
 pub mod TypeEquality
+pub mod ByView

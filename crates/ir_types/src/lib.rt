@@ -1,6 +1,7 @@
 // The types of the IR, and the names of the lists that handles point into.
 #![tactic(auto)]
 
+mod copies;
 pub mod key;
 pub mod laws;
 mod literals;

@@ -1,15 +1,44 @@
 //! What pointers lead to.
-ghost use Rattle.std.specs.Prelude.{◌≡◌, ◌<◌, length};
-ghost use Rattle.ir_expressions.specs.Plain.{expression_view};
+ghost use Rattle.std.specs.Prelude.{◌≡◌, ◌<◌, List, length};
+ghost use Rattle.ir_expressions.specs.Plain.{PlainExpression, expression_view};
 ghost use Rattle.ir_walks.specs.Bases.{expressions_of, base_of, global_of, BasesPrecede, HasOrigin};
 
 use ir_arena::handle::Handle;
 use ir_items::{Expression, Function, key};
 
-/// The global variable that `pointer`, an expression of `function`, points into: the one that the chain of bases
-/// starts at, from an access to its base and on to the first that is no access. `None` where the chain starts at
-/// anything else (naga's `Function::originating_global`). The base of each access in `function` comes before it.
-pub fn originating_global(
+/// The call of functions that follows the bases of accesses.
+pub trait FunctionExt {
+    /// The function's expressions.
+    ghost expressions_in: { Self → List PlainExpression };
+
+    /// The global variable that `pointer`, an expression of the function, points into: the one that the chain of bases
+    /// starts at, from an access to its base and on to the first that is no access. `None` where the chain starts at
+    /// anything else (naga's `Function::originating_global`). The base of each access in the function comes before it.
+    fn originating_global(
+        &self,
+        pointer: Handle<key::Expression>,
+    ) -> Option<Handle<key::GlobalVariable>>
+        requires in_arena { pointer < length (expressions_in self.now) }
+        requires bases { BasesPrecede (expressions_in self.now) }
+        ensures { HasOrigin (expressions_in self.now) pointer result };
+}
+
+impl FunctionExt for Function {
+    ghost use Rattle.ir_walks.specs.Bases.{expressions_of};
+
+    ghost expressions_in = { λ f. expressions_of f.expressions };
+
+    #[tactic(auto, using(crate::proofs::FlatLemmas::same_length))]
+    fn originating_global(
+        &self,
+        pointer: Handle<key::Expression>,
+    ) -> Option<Handle<key::GlobalVariable>> {
+        origin_of(self, pointer)
+    }
+}
+
+// The global that the chain of bases from `pointer` starts at.
+fn origin_of(
     function: &Function,
     pointer: Handle<key::Expression>,
 ) -> Option<Handle<key::GlobalVariable>>

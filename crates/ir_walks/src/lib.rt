@@ -7,6 +7,6 @@ mod filters;
 mod flatten;
 pub mod laws;
 
-pub use bases::originating_global;
-pub use filters::search;
+pub use bases::FunctionExt;
+pub use filters::DiagnosticFilterNodeExt;
 pub use flatten::{FlattenCompose, flatten_compose};

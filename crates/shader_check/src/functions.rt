@@ -243,7 +243,28 @@ impl StatementTest for ArityTest<'_> {
                 Some(found) => arguments.len() == found.arguments.len(),
                 None => true,
             },
-            _ => true,
+            Statement::Emit(_)
+            | Statement::Block(_)
+            | Statement::If { .. }
+            | Statement::Switch { .. }
+            | Statement::Loop { .. }
+            | Statement::Break
+            | Statement::Continue
+            | Statement::Return { .. }
+            | Statement::Kill
+            | Statement::ControlBarrier(_)
+            | Statement::MemoryBarrier(_)
+            | Statement::Store { .. }
+            | Statement::ImageStore { .. }
+            | Statement::Atomic { .. }
+            | Statement::ImageAtomic { .. }
+            | Statement::WorkGroupUniformLoad { .. }
+            | Statement::RayQuery { .. }
+            | Statement::SubgroupBallot { .. }
+            | Statement::SubgroupCollectiveOperation { .. }
+            | Statement::SubgroupGather { .. }
+            | Statement::CooperativeStore { .. }
+            | Statement::RayPipelineFunction(_) => true,
         };
         Ok(is_ok)
     }
@@ -292,7 +313,19 @@ impl StatementTest for RuleTest<'_> {
                 ..
             } => is_call_result_ok(self.module, *function, *result),
             Statement::Block(_) | Statement::Kill => true,
-            _ => false,
+            Statement::ControlBarrier(_)
+            | Statement::MemoryBarrier(_)
+            | Statement::Store { .. }
+            | Statement::ImageStore { .. }
+            | Statement::Atomic { .. }
+            | Statement::ImageAtomic { .. }
+            | Statement::WorkGroupUniformLoad { .. }
+            | Statement::RayQuery { .. }
+            | Statement::SubgroupBallot { .. }
+            | Statement::SubgroupCollectiveOperation { .. }
+            | Statement::SubgroupGather { .. }
+            | Statement::CooperativeStore { .. }
+            | Statement::RayPipelineFunction(_) => false,
         };
         Ok(is_ok)
     }

@@ -67,7 +67,23 @@ impl StatementTest for HandleTest {
                     && are_below(arguments, expressions)
                     && is_below(*result, expressions)
             }
-            _ => true,
+            Statement::Block(_)
+            | Statement::Break
+            | Statement::Continue
+            | Statement::Kill
+            | Statement::ControlBarrier(_)
+            | Statement::MemoryBarrier(_)
+            | Statement::Store { .. }
+            | Statement::ImageStore { .. }
+            | Statement::Atomic { .. }
+            | Statement::ImageAtomic { .. }
+            | Statement::WorkGroupUniformLoad { .. }
+            | Statement::RayQuery { .. }
+            | Statement::SubgroupBallot { .. }
+            | Statement::SubgroupCollectiveOperation { .. }
+            | Statement::SubgroupGather { .. }
+            | Statement::CooperativeStore { .. }
+            | Statement::RayPipelineFunction(_) => true,
         };
         Ok(is_in_order)
     }

@@ -7,10 +7,10 @@ ghost use Rattle.shader_check.specs.Tests.{first_failing, is_width_ok, is_scalar
 ghost use Rattle.shader_check.specs.Widths.{widths_view, AreWidthsOf};
 
 use bitflags::Flags;
-use ir_arena::unique_arena::UniqueArena;
 use ir_flags::Capabilities;
 use ir_items::{IrType, TypeInner, key};
 use ir_kinds::{Bytes, Scalar, ScalarKind};
+use ir_unique_arena::unique_arena::UniqueArena;
 
 /// The widths of scalars that capabilities allow beside those that always stand.
 #[derive(Clone, Copy, Debug, PartialEq, Eq)]
@@ -70,7 +70,19 @@ fn is_inner_ok(widths: Widths, inner: &TypeInner) -> bool
 {
     match *inner {
         TypeInner::Scalar(scalar) => is_scalar_ok(widths, scalar),
-        _ => false,
+        TypeInner::Vector { .. }
+        | TypeInner::Matrix { .. }
+        | TypeInner::CooperativeMatrix { .. }
+        | TypeInner::Atomic(_)
+        | TypeInner::Pointer { .. }
+        | TypeInner::ValuePointer { .. }
+        | TypeInner::Array { .. }
+        | TypeInner::Struct { .. }
+        | TypeInner::Image { .. }
+        | TypeInner::Sampler { .. }
+        | TypeInner::AccelerationStructure { .. }
+        | TypeInner::RayQuery { .. }
+        | TypeInner::BindingArray { .. } => false,
     }
 }
 

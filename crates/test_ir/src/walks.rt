@@ -3,7 +3,7 @@ use crate::item::{Item, read_at};
 use ir_arena::arena::Arena;
 use ir_arena::handle::Handle;
 use ir_arena::span::Span;
-use ir_arena::unique_arena::UniqueArena;
+use ir_unique_arena::unique_arena::UniqueArena;
 use ir_items::{DiagnosticFilterNode, Function, IrType, key};
 use ir_kinds::{Severity, StandardFilterableTriggeringRule};
 use ir_walks::{originating_global, search};

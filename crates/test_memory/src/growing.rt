@@ -3,7 +3,7 @@ use crate::same::{leaving, same};
 use ir_arena::arena::Arena;
 use ir_arena::handle::Handle;
 use ir_arena::span::Span;
-use ir_arena::unique_arena::UniqueArena;
+use ir_unique_arena::unique_arena::UniqueArena;
 use ir_sets::handle_set::HandleSet;
 use std::alloc::{AllocError, Global};
 use std::test::Fail;

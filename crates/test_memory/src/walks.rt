@@ -3,7 +3,7 @@ use crate::same::{leaving, refused_more_than};
 use ir_arena::arena::Arena;
 use ir_arena::handle::Handle;
 use ir_arena::span::Span;
-use ir_arena::unique_arena::UniqueArena;
+use ir_unique_arena::unique_arena::UniqueArena;
 use ir_items::{Expression, IrType, TypeInner, key};
 use ir_kinds::{Literal, Scalar, VectorSize};
 use ir_walks::FlattenCompose;

@@ -7,7 +7,7 @@ ghost use Rattle.typing_forms.specs.Forms.{pointing, struct_at, form_in, form_of
 
 use crate::resolution::TypeResolution;
 use ir_arena::handle::Handle;
-use ir_arena::unique_arena::UniqueArena;
+use ir_unique_arena::unique_arena::UniqueArena;
 use ir_kinds::{
     AddressSpace, CooperativeRole, CooperativeSize, ImageClass, ImageDimension, Scalar, VectorSize,
 };

@@ -5,7 +5,7 @@ ghost use Rattle.ir_types.specs.Plain.{inner_view};
 ghost use Rattle.typing_forms.specs.Resolutions.{types_view, resolution_view, handle_of, resolved, IsAmong};
 
 use ir_arena::handle::Handle;
-use ir_arena::unique_arena::UniqueArena;
+use ir_unique_arena::unique_arena::UniqueArena;
 use ir_types::{IrType, TypeInner, key};
 use std::alloc::{AllocError, Global};
 

@@ -9,7 +9,7 @@ ghost use Rattle.typing_rules.specs.Constructible.{IsConstructible, AreFound, kn
 
 use crate::order::type_at;
 use ir_arena::handle::Handle;
-use ir_arena::unique_arena::UniqueArena;
+use ir_unique_arena::unique_arena::UniqueArena;
 use ir_types::{ArraySize, IrType, StructMember, TypeInner, key};
 use std::alloc::{AllocError, Global};
 

@@ -9,7 +9,7 @@ ghost use Rattle.typing_forms.specs.Resolutions.{types_view};
 ghost use Rattle.typing_rules.specs.Conversions.{same_size, same_count, scalars_of, bases_of, both_at, SameShape, SameShapeAt, Converts};
 
 use ir_arena::handle::Handle;
-use ir_arena::unique_arena::UniqueArena;
+use ir_unique_arena::unique_arena::UniqueArena;
 use ir_kinds::{Scalar, VectorSize};
 use ir_types::{ArraySize, IrType, TypeInner, key};
 use typing_forms::{converted_rank, inner_of};

@@ -5,7 +5,7 @@ ghost use Rattle.ir_types.specs.Plain.{inner_view};
 ghost use Rattle.typing_forms.specs.Resolutions.{types_view};
 ghost use Rattle.typing_rules.specs.Lengths.{array_length, elements_of, length_of};
 
-use ir_arena::unique_arena::UniqueArena;
+use ir_unique_arena::unique_arena::UniqueArena;
 use ir_types::{ArraySize, IrType, TypeInner, key};
 use std::error::Error;
 use std::fmt::{self, Display};

@@ -20,7 +20,7 @@ use crate::conversions::automatically_converts_to;
 use crate::elements::{is_abstract, is_dynamically_sized, scalar_for_conversions};
 use crate::index::{IndexableLength, IndexableLengthError, length_of};
 use crate::sizes::{MAX_TYPE_SIZE, type_size};
-use ir_arena::unique_arena::UniqueArena;
+use ir_unique_arena::unique_arena::UniqueArena;
 use ir_kinds::{AddressSpace, Bytes, ImageDimension, Scalar, ScalarKind, VectorSize};
 use ir_types::{ArraySize, IrType, TypeInner, key};
 use std::alloc::{AllocError, Global};

@@ -1,6 +1,6 @@
 use Rattle.std.proofs.Common.{◌≡◌, map, take}
 use Rattle.ir_blocks.proofs.RoomLemmas.{Unvisited}
-use Rattle.ir_globals.specs.Copies.{entry_of}
+use Rattle.ir_arena.specs.Copies.{entry_of}
 use Rattle.ir_items.specs.Copies.{spanned_function}
 use Rattle.ir_items.specs.Returned.{returned_function_spans}
 use Rattle.ir_items.proofs.returns.put_into_functions.Given as goal

@@ -1,0 +1,16 @@
+// Types that are copied with an arena.
+use crate::types::IrType;
+use ir_arena::copied::Copied;
+use std::alloc::{AllocError, Global};
+
+impl Copied for IrType {
+    ghost use Rattle.ir_types.specs.Plain.{PlainType, type_view};
+
+    ghost View = { PlainType };
+
+    ghost view = { type_view };
+
+    fn copied(&self, alloc: Global) -> Result<IrType, AllocError> {
+        self.clone(alloc)
+    }
+}
