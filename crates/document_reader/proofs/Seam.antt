@@ -81,7 +81,7 @@ document_is v = array (as_array v)
 -- ---- values and bytes
 
 -- what is written for the value that was read is found
-found_in : (bytes : List ℕ) (v : Data) (d : PlainDocument) → read bytes ≡ Some v → (r : Reads bytes d) → document_in v ≡ Some d
+pub found_in : (bytes : List ℕ) (v : Data) (d : PlainDocument) → read bytes ≡ Some v → (r : Reads bytes d) → document_in v ≡ Some d
 found_in bytes v d value r =
     let same : r.value ≡ v = some_is _ _ (sym r.value_is ∙ value) in
     document_is v ∙ a_document.exact.complete v d (subst (ADocument d) same r.form) (depth-read bytes v value)

@@ -243,7 +243,7 @@ one_more h e rest new out found step = by_parts (parts_of e) step
 -- ---- the end of it
 
 -- there are as many plain expressions as there are expressions
-same_length : (entries : List (Expression × Span)) → length (expressions_of entries) ≡ length entries
+pub same_length : (entries : List (Expression × Span)) → length (expressions_of entries) ≡ length entries
 same_length entries = length-map (values_of entries) expression_view ∙ length-map entries (λ (x : Expression × Span). x.0)
 
 -- a list of no length is empty

@@ -7,6 +7,7 @@ ghost use Rattle.std.specs.IoError.{error_kind};
 use crate::call::ReadCall;
 use std::alloc::{AllocError, Global};
 use std::io::{self, ErrorKind};
+use thiserror::Error;
 
 /// How many times [`Source::take_all`] calls the reader at most.
 ///
@@ -17,11 +18,13 @@ pub const MAX_CALLS: u32 = 33554434;
 const CHUNK: usize = 4096;
 
 /// Why no bytes were taken from a [`Source`].
-#[derive(Clone, Copy, Debug, PartialEq, Eq)]
+#[derive(Clone, Copy, Debug, PartialEq, Eq, Error)]
 pub enum TakeError {
     /// There was no memory for bytes that the reader had given. They are lost.
+    #[error("out of memory")]
     Memory,
     /// A call of the reader failed and was not merely interrupted, or [`MAX_CALLS`] calls did not reach the end.
+    #[error("the reader failed, or was interrupted too often")]
     Read,
 }
 

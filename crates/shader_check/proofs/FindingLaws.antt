@@ -30,22 +30,22 @@ none_is (Some x) e = cc
 
 -- ---- handles
 
-handles_ok : (m : PlainModule) → first_failing (function_in_order (length m.types)) (enumerate_from 0 m.functions) ≡ None → HandlesOK m
+pub handles_ok : (m : PlainModule) → first_failing (function_in_order (length m.types)) (enumerate_from 0 m.functions) ≡ None → HandlesOK m
 handles_ok m e i f t found r =
     let passes : function_in_order (length m.types) i f ≡ true = subst (λ k. function_in_order (length m.types) k f ≡ true) (omega arith) (all_pass (function_in_order (length m.types)) 0 m.functions e i f found) in
     refers_in_order m i f passes t r
 
-handles_tested : (m : PlainModule) → HandlesOK m → first_failing (function_in_order (length m.types)) (enumerate_from 0 m.functions) ≡ None
+pub handles_tested : (m : PlainModule) → HandlesOK m → first_failing (function_in_order (length m.types)) (enumerate_from 0 m.functions) ≡ None
 handles_tested m ok =
     none_from_all (function_in_order (length m.types)) 0 m.functions (λ i f found. subst (λ k. function_in_order (length m.types) k f ≡ true) (omega arith) (in_order_refers m i f (λ t r. ok i f t found r)))
 
 -- ---- types
 
 module _ (capabilities : Capabilities) (w : Widths) (of : AreWidthsOf capabilities w) (ts : List PlainType) where
-  types_meet : first_failing (λ _ t. is_inner_ok w t.inner) (enumerate_from 0 ts) ≡ None → AllMeet (TypeOK capabilities) ts
+  pub types_meet : first_failing (λ _ t. is_inner_ok w t.inner) (enumerate_from 0 ts) ≡ None → AllMeet (TypeOK capabilities) ts
   types_meet e i t here = inner_sound capabilities w of t.inner (all_pass (λ _ t. is_inner_ok w t.inner) 0 ts e i t here)
 
-  type_fails : (r : ℕ) → first_failing (λ _ t. is_inner_ok w t.inner) (enumerate_from 0 ts) ≡ Some r → IsLeastFailing (TypeOK capabilities) ts r
+  pub type_fails : (r : ℕ) → first_failing (λ _ t. is_inner_ok w t.inner) (enumerate_from 0 ts) ≡ Some r → IsLeastFailing (TypeOK capabilities) ts r
   type_fails r e =
       let f = one_fails (λ _ t. is_inner_ok w t.inner) 0 ts r e in
       let at : f.0 ≡ r = (let k = f.1 in omega arith) in
@@ -59,10 +59,10 @@ module _ (capabilities : Capabilities) (w : Widths) (of : AreWidthsOf capabiliti
 -- ---- functions
 
 module _ (s : PlainSettings) (blocks : Bool) (of : IsTrue blocks ↔ Has s.flags.0 BLOCKS.0) (m : PlainModule) where
-  functions_meet : first_failing (λ _ f. function_ok blocks m f) (enumerate_from 0 m.functions) ≡ None → AllMeet (FunctionOK s m) m.functions
+  pub functions_meet : first_failing (λ _ f. function_ok blocks m f) (enumerate_from 0 m.functions) ≡ None → AllMeet (FunctionOK s m) m.functions
   functions_meet e i f found = function_sound s blocks of m f (all_pass (λ _ g. function_ok blocks m g) 0 m.functions e i f found)
 
-  function_fails : (r : ℕ) → first_failing (λ _ f. function_ok blocks m f) (enumerate_from 0 m.functions) ≡ Some r → IsLeastFailing (FunctionOK s m) m.functions r
+  pub function_fails : (r : ℕ) → first_failing (λ _ f. function_ok blocks m f) (enumerate_from 0 m.functions) ≡ Some r → IsLeastFailing (FunctionOK s m) m.functions r
   function_fails r e =
       let f = one_fails (λ _ g. function_ok blocks m g) 0 m.functions r e in
       let at : f.0 ≡ r = (let k = f.1 in omega arith) in

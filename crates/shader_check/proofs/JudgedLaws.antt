@@ -11,7 +11,7 @@ use Rattle.judgement.specs.declared.finding.Finding.{Finding}
 use Rattle.judgement.specs.declared.finding.Finding.TheVariants.{Accepted, RefusedDocument, RefusedHandles, Refused}
 use Rattle.shader_check.specs.Theorem.{Judged, JudgedDocument}
 
-found_in : (d : PlainDocument) (m : PlainModule) (f : Finding) → IsWithin d → IsPrepared d.settings.returns d.content m → IsFinding d.settings m f → JudgedDocument d f
+pub found_in : (d : PlainDocument) (m : PlainModule) (f : Finding) → IsWithin d → IsPrepared d.settings.returns d.content m → IsFinding d.settings m f → JudgedDocument d f
 found_in d m RefusedDocument w p h = absurd h
 found_in d m Accepted w p h = record { within = w; judged = m; prepared = p; finding = h }
 found_in d m RefusedHandles w p h = record { within = w; judged = m; prepared = p; finding = h }
@@ -25,7 +25,7 @@ found_if d m (Err a) w p h = tt
 none_within : (bytes : List ℕ) (d : PlainDocument) → Reads bytes d → ¬ IsWithin d → (e : PlainDocument) → Reads bytes e → ¬ IsWithin e
 none_within bytes d r not_within e s w = not_within (subst IsWithin (one_document_lem bytes e d s r) w)
 
-judged : (bytes : List ℕ) (d : PlainDocument) (f : Finding) → Reads bytes d → JudgedDocument d f → Judged bytes f
+pub judged : (bytes : List ℕ) (d : PlainDocument) (f : Finding) → Reads bytes d → JudgedDocument d f → Judged bytes f
 judged bytes d RefusedDocument r h = none_within bytes d r h
 judged bytes d Accepted r h = record { document = d; reads = r; found = h }
 judged bytes d RefusedHandles r h = record { document = d; reads = r; found = h }

@@ -13,3 +13,5 @@ pub mod JudgedLaws
 pub mod Expected
 pub mod Once
 pub mod DistinctLemmas
+pub mod Decided
+pub mod SomeText

@@ -62,6 +62,10 @@ pub record IsExpected (bytes text : List ℕ) : Type 0 where
 abbrev pub OneText : Type 0
 OneText = (bytes s t : List ℕ) → IsExpected bytes s → IsExpected bytes t → s ≡ t
 
+-- some text is expected for any bytes
+abbrev pub SomeText : Type 0
+SomeText = (bytes : List ℕ) → (text : List ℕ) × IsExpected bytes text
+
 -- ---- what a check answers, and what it reads and writes
 
 -- what is answered for a finding

@@ -13,6 +13,7 @@ use document_reader::MAX_LEN;
 use judgement::Finding;
 use ports::{MAX_CALLS, ReadCall, Sink, Source, TakeError, WriteCall, WriteFailed};
 use std::alloc::{AllocError, Global};
+use thiserror::Error;
 
 /// One byte more than a document may have.
 pub const MAX_TAKEN: usize = MAX_LEN + 1;
@@ -27,13 +28,16 @@ pub enum Verdict {
 }
 
 /// Why no verdict was reached or told.
-#[derive(Clone, Copy, Debug, PartialEq, Eq)]
+#[derive(Clone, Copy, Debug, PartialEq, Eq, Error)]
 pub enum Fault {
     /// There was no memory. Nothing was written.
+    #[error("out of memory")]
     Memory,
     /// The reader failed, or was interrupted too often. Nothing was written.
+    #[error("the reader failed, or was interrupted too often")]
     Read,
     /// The writer failed, was interrupted or took nothing. It may have taken a prefix of the text.
+    #[error("the writer failed, was interrupted or took nothing")]
     Write,
 }
 

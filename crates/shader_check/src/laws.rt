@@ -1,9 +1,15 @@
 // Laws of the judgement over bytes.
-ghost use Rattle.shader_check.specs.Theorem.{OneText};
+ghost use Rattle.shader_check.specs.Theorem.{OneText, SomeText};
 
 pub use document_reader::laws::{distinct_types, one_document};
 
 /// One text is expected for some bytes: every answer to the same bytes is the same.
 pub fn one_text()
     ensures { OneText }
+{}
+
+/// Some text is expected for any bytes, so that with [`one_text`] there is exactly one.
+#[tactic(auto, using(crate::proofs::SomeText::some_text_lem))]
+pub fn some_text()
+    ensures { SomeText }
 {}

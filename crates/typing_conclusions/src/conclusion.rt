@@ -7,10 +7,12 @@ ghost use Rattle.typing_forms.specs.Resolutions.{PlainResolution, resolution_vie
 
 use ir_globals::SpecialTypes;
 use overload_tables::Conclusion;
+use thiserror::Error;
 use typing_forms::TypeResolution;
 
 /// The module has no type for what a function answers (naga's `MissingSpecialType`).
-#[derive(Clone, Copy, PartialEq, Eq, Debug)]
+#[derive(Clone, Copy, PartialEq, Eq, Debug, Error)]
+#[error("the module has no type for what the function answers")]
 pub struct MissingSpecialType;
 
 /// What a conclusion has that needs a module (a call of naga's `Conclusion`).

@@ -5,8 +5,8 @@ ghost use Rattle.typing_forms.specs.Resolutions.{types_view, resolution_view};
 ghost use Rattle.typing_forms.specs.Forms.{NoStructValue};
 ghost use Rattle.typing_rules.specs.Equivalence.{AreEquivalent};
 
-use ir_unique_arena::unique_arena::UniqueArena;
 use ir_types::{IrType, key};
+use ir_unique_arena::unique_arena::UniqueArena;
 use typing_forms::laws::form_equality;
 use typing_forms::{TypeResolution, form_of};
 

@@ -8,9 +8,9 @@ ghost use Rattle.typing_forms.specs.Resolutions.{types_view};
 ghost use Rattle.typing_rules.specs.Elements.{LeadsTo, base_of, last_of, converted_scalar, HasAbstractScalar, is_runtime_array, ConvertsBy, IsAbstract, IsDynamicallySized};
 
 use ir_arena::handle::Handle;
-use ir_unique_arena::unique_arena::UniqueArena;
 use ir_kinds::Scalar;
 use ir_types::{ArraySize, IrType, TypeInner, key};
+use ir_unique_arena::unique_arena::UniqueArena;
 use typing_forms::inner_of;
 
 // The type of an array's elements.

@@ -5,10 +5,9 @@ ghost use Rattle.ir_types.specs.Plain.{inner_view};
 ghost use Rattle.typing_forms.specs.Resolutions.{types_view};
 ghost use Rattle.typing_rules.specs.Lengths.{array_length, elements_of, length_of};
 
-use ir_unique_arena::unique_arena::UniqueArena;
 use ir_types::{ArraySize, IrType, TypeInner, key};
-use std::error::Error;
-use std::fmt::{self, Display};
+use ir_unique_arena::unique_arena::UniqueArena;
+use thiserror::Error;
 use typing_forms::inner_of;
 
 /// How many elements what is indexed has (naga's `IndexableLength`).
@@ -22,56 +21,29 @@ pub enum IndexableLength {
 
 /// Why the length of an array isn't known (naga's `ResolveArraySizeError`). It is of those who put values in the place
 /// of overrides; no call of this crate answers it.
-#[derive(Clone, Copy, PartialEq, Eq, Debug)]
+#[derive(Clone, Copy, PartialEq, Eq, Debug, Error)]
 pub enum ResolveArraySizeError {
     /// The value is no positive number.
+    #[error("an array has at least one element")]
     ExpectedPositiveArrayLength,
     /// The override has no value that is known.
+    #[error("the override that gives the array's length has no known value")]
     NonConstArrayLength,
 }
 
 /// Why a type has no length to index (naga's `IndexableLengthError`).
-#[derive(Clone, Copy, PartialEq, Eq, Debug)]
+#[derive(Clone, Copy, PartialEq, Eq, Debug, Error)]
 pub enum IndexableLengthError {
     /// It has no elements.
+    #[error("the type has no elements")]
     TypeNotIndexable,
     /// The value of an override gives none.
+    #[error(transparent)]
     ResolveArraySizeError(ResolveArraySizeError),
     /// It is as long as an override will say.
+    #[error("the array is as long as an override will say")]
     Pending(ArraySize),
 }
-
-impl Display for ResolveArraySizeError {
-    fn fmt<W: fmt::Write>(&self, f: &mut fmt::Formatter<W>) -> fmt::Result {
-        match *self {
-            ResolveArraySizeError::ExpectedPositiveArrayLength => {
-                write!(f, "an array has at least one element")
-            }
-            ResolveArraySizeError::NonConstArrayLength => {
-                write!(
-                    f,
-                    "the override that gives the array's length has no known value"
-                )
-            }
-        }
-    }
-}
-
-impl Error for ResolveArraySizeError {}
-
-impl Display for IndexableLengthError {
-    fn fmt<W: fmt::Write>(&self, f: &mut fmt::Formatter<W>) -> fmt::Result {
-        match *self {
-            IndexableLengthError::TypeNotIndexable => write!(f, "the type has no elements"),
-            IndexableLengthError::ResolveArraySizeError(error) => write!(f, "{error}"),
-            IndexableLengthError::Pending(_) => {
-                write!(f, "the array is as long as an override will say")
-            }
-        }
-    }
-}
-
-impl Error for IndexableLengthError {}
 
 // The length of an array of this size.
 fn array_length(size: ArraySize) -> Result<IndexableLength, IndexableLengthError>
