@@ -141,6 +141,7 @@ impl From<VectorSize> for Alignment {
     ghost from_gives = { λ size a. a ≡ vector_alignment size 1 };
 
     /// The alignment of a vector whose scalars take one byte.
+    #[tactic(auto, using(crate::proofs::Powers::four))]
     fn from(size: VectorSize) -> Self {
         match size {
             VectorSize::Bi => Alignment::TWO,

@@ -1,0 +1,5 @@
+pub mod Alignments
+pub mod Held
+pub mod Latest
+pub mod Powers
+pub mod Rounds
