@@ -132,7 +132,7 @@ expression_at [] place e at = cc
 expression_at (x ∷ xs) zero e at = let same : e ≡ x.0 = cc in ap (λ y. Some (expression_view y)) (sym same)
 expression_at (x ∷ xs) (suc k) e at = expression_at xs k e at
 
-many_expressions : (entries : List (Expression × Span)) → length (map expression_view (map value_of_entry entries)) ≡ length entries
+pub many_expressions : (entries : List (Expression × Span)) → length (map expression_view (map value_of_entry entries)) ≡ length entries
 many_expressions [] = refl
 many_expressions (x ∷ xs) = ap suc (many_expressions xs)
 

@@ -11,6 +11,7 @@ mod laid;
 pub mod laws;
 mod layout;
 mod layouter;
+mod precede;
 mod tracker;
 
 pub use alignment::Alignment;
@@ -18,4 +19,5 @@ pub use constness::ExpressionKind;
 pub use error::{LayoutError, LayoutErrorInner};
 pub use layout::TypeLayout;
 pub use layouter::Layouter;
+pub use precede::origins_precede;
 pub use tracker::ExpressionKindTracker;
