@@ -1,7 +1,8 @@
 //! The typing of a shader's expressions from one place: the types that expressions are given as and their canonical
 //! forms of `typing_forms`, what types are built of and which of them are equivalent of `typing_rules` and
-//! `typing_compare`, the rules of functions of numbers of `overload_tables`, sets of scalars and of shapes of
-//! `constructor_sets`, overload sets of `typing_overloads`, and what rules give in a module of `typing_conclusions`.
+//! `typing_compare`, layouts of types and kinds of expressions of `typing_layout`, the rules of functions of numbers of
+//! `overload_tables`, sets of scalars and of shapes of `constructor_sets`, overload sets of `typing_overloads`, and what
+//! rules give in a module of `typing_conclusions`.
 //!
 //! Nothing is defined here. A crate that uses the typing as a whole names this crate alone.
 #![tactic(auto)]
@@ -15,6 +16,10 @@ pub use typing_conclusions::{ConclusionExt, MissingSpecialType};
 pub use typing_forms::{
     Form, ScalarExt, ScalarKindExt, TypeResolution, conversion_rank, converted_rank, form_in,
     form_of, form_of_type, inner_of,
+};
+pub use typing_layout::{
+    Alignment, ExpressionKind, ExpressionKindTracker, LayoutError, LayoutErrorInner, Layouter,
+    TypeLayout, origins_precede,
 };
 pub use typing_overloads::{AnyOverloadSet, List, MathFunctionExt, OverloadSet, Regular};
 pub use typing_rules::{

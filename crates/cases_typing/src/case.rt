@@ -1,0 +1,52 @@
+// A case, and what the typing makes of it.
+use crate::asked::answer;
+use document_reader::{DocumentError, read_document};
+use serde_json::Value;
+use std::alloc::{AllocError, Global};
+
+/// What is asked of a document, and the answer.
+#[derive(Clone, Copy)]
+pub struct Case<'a> {
+    pub name: &'a str,
+    asked: &'a str,
+    document: &'a str,
+    pub answer: &'a str,
+}
+
+// The text at a place of a line, or the empty one.
+fn text(line: &Value, place: usize) -> &str {
+    match line.get(place) {
+        Some(item) => item.as_str().unwrap_or(""),
+        None => "",
+    }
+}
+
+impl Case<'_> {
+    /// A case as a line has it.
+    pub fn read(line: &Value) -> Case<'_> {
+        Case {
+            name: text(line, 0),
+            asked: text(line, 1),
+            document: text(line, 2),
+            answer: text(line, 3),
+        }
+    }
+}
+
+// What the typing answers to a question about the document of these bytes.
+fn answer_of(alloc: Global, asked: &str, bytes: &[u8]) -> Result<String, AllocError> {
+    match read_document(alloc, bytes) {
+        Ok(document) => answer(alloc, asked, &document.module),
+        Err(DocumentError::Memory) => Err(AllocError),
+        Err(_) => String::from_str(alloc, "no document"),
+    }
+}
+
+/// What the typing answers, where that is not the answer of the case.
+pub fn judge(alloc: Global, case: &Case<'_>) -> Result<Option<String>, AllocError> {
+    let found = answer_of(alloc, case.asked, case.document.as_bytes())?;
+    if found.as_str() == case.answer {
+        return Ok(None);
+    }
+    Ok(Some(found))
+}

@@ -1,0 +1,60 @@
+// Asks the typing of modules what data/layouts.jsonl and data/constness.jsonl ask, and tells which answers are others than
+// those that stand there.
+//
+// A line of a data file is a list of four texts: the case's name, what is asked, a document, and the answer. `make_data.py`
+// writes these files. The answers come from two implementations that were written independently of this one. Beside that
+// it makes each call of layouts and of kinds once.
+#![tactic(auto)]
+
+mod asked;
+mod calls;
+mod case;
+mod constness;
+mod layouts;
+
+use anyhow::{Context, Result, ensure};
+use calls::every_call;
+use case::{Case, judge};
+use serde_json::Value;
+use std::fs;
+
+/// The files of cases.
+const FILES: [&str; 2] = ["layouts.jsonl", "constness.jsonl"];
+
+// Asks what a line asks. Answers whether the answer is another one.
+fn differs(rt: &HostRuntime, line: &str) -> Result<bool> {
+    let value = Value::from_str(rt.alloc(), line)?;
+    let case = Case::read(&value);
+    match judge(rt.alloc(), &case)? {
+        Some(answer) => {
+            println!(rt; "{}: not {}, but {answer}", case.name, case.answer)?;
+            Ok(true)
+        }
+        None => Ok(false),
+    }
+}
+
+// Asks what the lines of a file ask. Answers how many differ.
+fn run_file(rt: &HostRuntime, name: &str) -> Result<usize> {
+    let text = fs::read_to_string(rt, name).context(format_args!("reading {name}"))?;
+    let mut count = 0usize;
+    let mut differing = 0usize;
+    for line in text.lines() {
+        count = count.saturating_add(1);
+        if differs(rt, line).context(format_args!("case {count} of {name}"))? {
+            differing = differing.saturating_add(1);
+        }
+    }
+    println!(rt; "{name}: {count} cases, {differing} differ")?;
+    Ok(differing)
+}
+
+fn main(rt: HostRuntime) -> Result<()> {
+    every_call(&rt)?;
+    let mut differing = 0usize;
+    for name in FILES {
+        differing = differing.saturating_add(run_file(&rt, name)?);
+    }
+    ensure!(differing == 0, "{differing} cases differ");
+    Ok(())
+}

@@ -1,0 +1,39 @@
+-- Types as trees: where a type names another by its handle, that one's tree stands in the handle's place. A tree holds no
+-- names, so types that differ only in names have one tree.
+use Rattle.std.specs.Prelude.{ℕ, Bool, false, Option}
+use Rattle.ir_kinds.specs.declared.bindings.Binding.{Binding}
+use Rattle.ir_kinds.specs.declared.images.ImageClass.{ImageClass}
+use Rattle.ir_kinds.specs.declared.images.ImageDimension.{ImageDimension}
+use Rattle.ir_kinds.specs.declared.scalars.CooperativeRole.{CooperativeRole}
+use Rattle.ir_kinds.specs.declared.scalars.CooperativeSize.{CooperativeSize}
+use Rattle.ir_kinds.specs.declared.scalars.Scalar.{Scalar}
+use Rattle.ir_kinds.specs.declared.scalars.VectorSize.{VectorSize}
+use Rattle.ir_kinds.specs.declared.spaces.AddressSpace.{AddressSpace}
+use Rattle.ir_types.specs.declared.types.ArraySize.{ArraySize}
+
+mutual
+  -- a type, of one of the fourteen kinds
+  pub data Tree : Type 0 where
+    scalar : Scalar → Tree
+    vector : (size : VectorSize) → Scalar → Tree
+    matrix : (columns rows : VectorSize) → Scalar → Tree
+    cooperative_matrix : (columns rows : CooperativeSize) → Scalar → CooperativeRole → Tree
+    atomic : Scalar → Tree
+    pointer : (base : Tree) → AddressSpace → Tree
+    value_pointer : (size : Option VectorSize) → Scalar → AddressSpace → Tree
+    array : (base : Tree) → (size : ArraySize) → (stride : ℕ) → Tree
+    struct : Members → (span : ℕ) → Tree
+    image : ImageDimension → (arrayed : Bool) → ImageClass → Tree
+    sampler : (comparison : Bool) → Tree
+    acceleration_structure : (vertex_return : Bool) → Tree
+    ray_query : (vertex_return : Bool) → Tree
+    binding_array : (base : Tree) → (size : ArraySize) → Tree
+
+  -- the members of a struct in order, each with its binding and its offset
+  pub data Members : Type 0 where
+    no_members : Members
+    member : (of_type : Tree) → Option Binding → (offset : ℕ) → Members → Members
+
+-- what stands at a handle that no type has; nothing is said of it
+abbrev pub no_type : Tree
+no_type = sampler false

@@ -1,0 +1,14 @@
+-- The greatest so far, and of the rest, is the greatest of all.
+use Rattle.std.proofs.Common.{◌≡◌, ◌≤◌, ℕ, drop, map, max}
+use Rattle.ir_types.specs.Plain.{member_view}
+use Rattle.spec_types.specs.Layout.{greatest_alignment}
+use Rattle.spec_types.specs.Tree.{Tree}
+use Rattle.spec_types.specs.View.{members_by}
+use Rattle.typing_layout.specs.Laid.{AreAligned}
+use Rattle.typing_layout.proofs.laid.greatest_alignment.Given as goal
+
+abbrev pub invariant-loop-member : goal.invariant-loop-member
+invariant-loop-member l =
+    (1 ≤ l.greatest)
+    × ((tree : ℕ → Tree) → AreAligned tree l.layouts
+    → max l.greatest (greatest_alignment (members_by tree (map member_view (drop l.member-index l.members)))) ≡ greatest_alignment (members_by tree (map member_view l.members)))

@@ -1,0 +1,4 @@
+pub mod Constness
+pub mod Held
+pub mod Kinds
+pub mod Laid

@@ -1,0 +1,108 @@
+//! The layout of a type, from those of the types before it.
+//!
+//! What is said of a type here holds whatever the trees of the types that it names are, as long as their alignments are
+//! those of the layouts.
+
+ghost use Rattle.std.specs.Prelude.{◌≡◌, ◌<◌, ◌≤◌, ◌*◌, ℕ, length, map, max, All, MatchOption, MatchResult};
+ghost use Rattle.std.specs.Int.{IsPowerOfTwo};
+ghost use Rattle.ir_types.specs.Plain.{inner_view, member_view};
+ghost use Rattle.typing_forms.specs.Order.{named_types};
+ghost use Rattle.typing_rules.specs.Sizes.{vector_alignment};
+ghost use Rattle.spec_types.specs.Layout.{alignment, greatest_alignment, IsWidthOK};
+ghost use Rattle.spec_types.specs.Tree.{Tree};
+ghost use Rattle.spec_types.specs.View.{members_by, tree_by};
+ghost use Rattle.typing_layout.specs.Held.{IsLayoutOf, IsFaultOf};
+ghost use Rattle.typing_layout.specs.Laid.{AreAligned, IsAlignmentOf};
+
+use crate::alignment::Alignment;
+use crate::error::LayoutErrorInner;
+use crate::layout::TypeLayout;
+use ir_kinds::{Scalar, VectorSize};
+use ir_types::{StructMember, TypeInner};
+use typing_rules::TypeInnerExt;
+
+// The alignment of a scalar, if its width is one.
+fn scalar_alignment(scalar: Scalar) -> Option<Alignment>
+    ensures { MatchOption result (¬ IsPowerOfTwo scalar.width) (λ a. IsPowerOfTwo scalar.width × (a ≡ scalar.width)) }
+{
+    Alignment::new(u32::from(scalar.width))
+}
+
+// The alignment of a vector, if the width of its scalars is one.
+fn vector_alignment(size: VectorSize, scalar: Scalar) -> Option<Alignment>
+    ensures { MatchOption result (¬ IsPowerOfTwo scalar.width) (λ a. IsPowerOfTwo scalar.width × (a ≡ vector_alignment size scalar.width)) }
+{
+    match scalar_alignment(scalar) {
+        Some(width) => Some(Alignment::from(size) * width),
+        None => None,
+    }
+}
+
+// The greater of two alignments.
+fn greater(left: Alignment, right: Alignment) -> Alignment
+    ensures { result ≡ max left right }
+{
+    if left.get() < right.get() {
+        right
+    } else {
+        left
+    }
+}
+
+// The greatest alignment of a member, and one where there is none.
+#[tactic(auto, using(crate::proofs::Alignments::below_at))]
+fn greatest_alignment(members: &[StructMember], layouts: &[TypeLayout]) -> Alignment
+    requires { All (λ m. m.ty < length layouts.now) members.now }
+    ensures { (tree : ℕ → Tree) → AreAligned tree layouts.now → result ≡ greatest_alignment (members_by tree (map member_view members.now)) }
+{
+    let mut greatest = Alignment::ONE;
+    for member in members {
+        greatest = greater(greatest, layouts[member.ty.index()].alignment);
+    }
+    greatest
+}
+
+// The alignment of a type, if the width by which it is found is one.
+fn alignment_of(inner: &TypeInner, layouts: &[TypeLayout]) -> Option<Alignment>
+    requires { All (λ named. named < length layouts.now) (named_types (inner_view inner.now)) }
+    ensures { (tree : ℕ → Tree) → AreAligned tree layouts.now → IsAlignmentOf (tree_by tree (inner_view inner.now)) result }
+{
+    match *inner {
+        TypeInner::Scalar(scalar) | TypeInner::Atomic(scalar) => scalar_alignment(scalar),
+        TypeInner::Vector { size, scalar } => vector_alignment(size, scalar),
+        TypeInner::Matrix { rows, scalar, .. } => vector_alignment(rows, scalar),
+        TypeInner::CooperativeMatrix { scalar, .. } => scalar_alignment(scalar),
+        TypeInner::Array { base, .. } => Some(layouts[base.index()].alignment),
+        TypeInner::Struct { ref members, .. } => {
+            Some(greatest_alignment(members.as_slice(), layouts))
+        }
+        TypeInner::Pointer { .. }
+        | TypeInner::ValuePointer { .. }
+        | TypeInner::Image { .. }
+        | TypeInner::Sampler { .. }
+        | TypeInner::AccelerationStructure { .. }
+        | TypeInner::RayQuery { .. }
+        | TypeInner::BindingArray { .. } => Some(Alignment::ONE),
+    }
+}
+
+/// The layout of a type, from those of the types that it names, or why it has none.
+pub(crate) fn layout_of(
+    inner: &TypeInner,
+    layouts: &[TypeLayout],
+) -> Result<TypeLayout, LayoutErrorInner>
+    requires { All (λ named. named < length layouts.now) (named_types (inner_view inner.now)) }
+    ensures { (tree : ℕ → Tree) → AreAligned tree layouts.now → MatchResult result (IsLayoutOf (tree_by tree (inner_view inner.now))) (IsFaultOf (tree_by tree (inner_view inner.now))) }
+{
+    let Some(alignment) = alignment_of(inner, layouts) else {
+        return Err(LayoutErrorInner::NonPowerOfTwoWidth);
+    };
+    let _bytes = alignment.get();
+    match inner.try_size() {
+        Some(size) => Ok(TypeLayout {
+            size: size as u32,
+            alignment,
+        }),
+        None => Err(LayoutErrorInner::TooLarge),
+    }
+}

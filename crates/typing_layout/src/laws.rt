@@ -1,0 +1,21 @@
+//! Laws of layouts and of kinds.
+ghost use Rattle.typing_layout.specs.Constness.{OneKind};
+ghost use Rattle.typing_layout.specs.Held.{OneLayout, LayoutsStay};
+
+/// As many layouts of the types of one module are the same layouts: so several calls of [`crate::Layouter::update`], the last
+/// of which sees all types, leave what one call leaves.
+#[tactic(auto, using(crate::proofs::Held::one_layout))]
+pub fn one_layout()
+    ensures { OneLayout }
+{}
+
+/// Layouts that are held of the types of a module are held of them where types are added behind.
+pub fn layouts_stay()
+    ensures { LayoutsStay }
+{}
+
+/// An expression is of one kind at most.
+#[tactic(auto, using(crate::proofs::Latest::one_kind))]
+pub fn one_kind()
+    ensures { OneKind }
+{}
