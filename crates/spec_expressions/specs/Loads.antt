@@ -2,6 +2,8 @@
 use Rattle.std.specs.Prelude.{ℕ, List, Option, Some, None, Result, Ok, Err, option_map, ok_or, slice_get}
 use Rattle.ir_kinds.specs.declared.spaces.AddressSpace.{AddressSpace}
 use Rattle.ir_kinds.specs.declared.spaces.AddressSpace.TheVariants as space
+use Rattle.ir_kinds.specs.declared.scalars.Scalar.{Scalar}
+use Rattle.ir_kinds.specs.declared.scalars.VectorSize.{VectorSize}
 use Rattle.ir_kinds.specs.Scalars.{unsigned}
 use Rattle.ir_types.specs.Plain.{PlainInner, plain, PlainType}
 use Rattle.ir_types.specs.declared.types.TypeInner.TheVariants as inner
@@ -44,11 +46,15 @@ abbrev pub loaded : List PlainType → (base : ℕ) → Option PlainInner → Fo
 loaded types base (Some (plain (inner.Atomic s))) = form.Scalar s
 loaded types base _ = form_of_type types base
 
+-- a vector of this size, or a scalar
+abbrev pub loaded_value : Option VectorSize → Scalar → Form
+loaded_value None s = form.Scalar s
+loaded_value (Some n) s = form.Vector n s
+
 -- pointer is the pointer's expression
 abbrev pub load_type : List PlainType → (pointer : ℕ) → (of : Form) → Result Form TypingFault
 load_type types pointer (form.Pointer base space) = Ok (loaded types base (inner_at types base))
-load_type types pointer (form.ValuePointer None s space) = Ok (form.Scalar s)
-load_type types pointer (form.ValuePointer (Some n) s space) = Ok (form.Vector n s)
+load_type types pointer (form.ValuePointer n s space) = Ok (loaded_value n s)
 load_type types pointer _ = Err (InvalidPointer pointer)
 
 -- the length of an array is a 32-bit unsigned integer

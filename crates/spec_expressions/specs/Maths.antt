@@ -1,5 +1,5 @@
 -- Functions of numbers, by their tables of rules.
-use Rattle.std.specs.Prelude.{ℕ, ◌+◌, ◌==◌, List, [], ◌∷◌, Option, Some, None, Result, Err, Bool, option_map, ok_or, filter, length, slice_get, if◌then◌else◌}
+use Rattle.std.specs.Prelude.{ℕ, suc, ◌==◌, List, [], ◌∷◌, Option, Some, None, Result, Err, Bool, option_map, ok_or, filter, length, slice_get, if◌then◌else◌}
 use Rattle.ir_kinds.specs.Maths.{argument_count}
 use Rattle.ir_kinds.specs.declared.maths.MathFunction.{MathFunction}
 use Rattle.typing_forms.specs.declared.form.Form.{Form}
@@ -26,7 +26,7 @@ value_of _ = None
 -- the rules that take these arguments, the first of them at this place
 abbrev pub taking : (place : ℕ) → List Form → List Rule → List Rule
 taking place [] rules = rules
-taking place (given ∷ more) rules = taking (place + 1) more (filter (accepts_if place (value_of given)) rules)
+taking place (given ∷ more) rules = taking (suc place) more (filter (accepts_if place (value_of given)) rules)
 
 -- what the preferred rule gives: the first one that is left
 abbrev pub concluded : Context → Option Rule → Result Form TypingFault

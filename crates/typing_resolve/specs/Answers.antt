@@ -1,6 +1,10 @@
 -- What an answer says: a canonical form, or a fault.
-use Rattle.std.specs.Prelude.{List, Option, Some, None, Result, Ok, Err, option_map}
+use Rattle.std.specs.Prelude.{ℕ, List, Option, Some, None, Result, Ok, Err, option_map}
 use Rattle.ir_types.specs.Plain.{PlainType}
+use Rattle.ir_expressions.specs.Plain.{PlainExpression}
+use Rattle.spec_expressions.specs.Context.{Context}
+use Rattle.spec_expressions.specs.Laws.{IsFaulty}
+use Rattle.spec_expressions.specs.Typing.{HasTypeAmong}
 use Rattle.typing_forms.specs.declared.form.Form.{Form}
 use Rattle.typing_forms.specs.declared.resolution.TypeResolution.{TypeResolution}
 use Rattle.typing_forms.specs.Forms.{form_of}
@@ -42,3 +46,18 @@ abbrev pub told : List PlainType → (otherwise : Option (Result Form TypingFaul
 told types otherwise (Ok r) = Some (Ok (form_given types r))
 told types otherwise (Err (Fault e)) = option_map (λ f. Err f) (fault_of e)
 told types otherwise (Err (Memory e)) = otherwise
+
+-- The expression at a place has this fault, and no type.
+pub record IsFault (context : Context) (expressions : List PlainExpression) (place : ℕ) (f : TypingFault) : Type 0 where
+  pub faulty : IsFaulty context expressions place f
+  pub none : (t : Form) → HasTypeAmong context expressions place t → ⊥
+
+abbrev pub TellsFault : Context → List PlainExpression → ℕ → Option TypingFault → Type 0
+TellsFault context expressions place (Some f) = IsFault context expressions place f
+TellsFault context expressions place None = ⊥
+
+-- An answer about the expression at a place: it has the type that is given, or the fault that is told.
+abbrev pub IsAnswer : Context → List PlainExpression → ℕ → Result TypeResolution ResolveRefusal → Type 0
+IsAnswer context expressions place (Ok r) = HasTypeAmong context expressions place (form_given context.types r)
+IsAnswer context expressions place (Err (Fault e)) = TellsFault context expressions place (fault_of e)
+IsAnswer context expressions place (Err (Memory e)) = Unit {0}

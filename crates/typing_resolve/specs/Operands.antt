@@ -21,4 +21,4 @@ given_form types None = form.Nothing
 abbrev pub rule_given : Context → PlainExpression → Given → Result Form TypingFault
 rule_given context expression given =
     rule context expression (given_form context.types given.first) (given_form context.types given.second)
-        (given_form context.types given.third) (given_form context.types given.fourth)
+    (given_form context.types given.third) (given_form context.types given.fourth)

@@ -10,7 +10,7 @@ ghost use Rattle.typing_resolve.specs.Answers.{form_given, form_answer};
 
 use ir_arena::handle::Handle;
 use ir_arena::unique_arena::UniqueArena;
-use ir_kinds::{AddressSpace, VectorSize};
+use ir_kinds::{AddressSpace, Scalar, VectorSize};
 use ir_types::{IrType, StructMember, TypeInner, key};
 use spec_expressions::TypingFault;
 use typing_forms::{Form, TypeResolution, inner_of};
@@ -46,6 +46,24 @@ fn pointed_element(
     }
 }
 
+// A pointer to a component of the vector of this size that a pointer leads to, if it is a vector.
+fn pointed_component(
+    size: Option<VectorSize>,
+    scalar: Scalar,
+    space: AddressSpace,
+) -> Option<TypeResolution>
+    ensures { (types : List PlainType) → option_map (form_given types) result ≡ element types (Form.ValuePointer size scalar space) }
+{
+    match size {
+        Some(_) => Some(TypeResolution::Value(TypeInner::ValuePointer {
+            size: None,
+            scalar,
+            space,
+        })),
+        None => None,
+    }
+}
+
 // An element of a value; through a pointer, a pointer to it.
 fn element(types: &UniqueArena<IrType, key::IrType>, of: Form) -> Option<TypeResolution>
     ensures { option_map (form_given (types_view types.now)) result ≡ element (types_view types.now) of }
@@ -59,14 +77,10 @@ fn element(types: &UniqueArena<IrType, key::IrType>, of: Form) -> Option<TypeRes
             Some(TypeResolution::Handle(base))
         }
         Form::ValuePointer {
-            size: Some(_),
+            size,
             scalar,
             space,
-        } => Some(TypeResolution::Value(TypeInner::ValuePointer {
-            size: None,
-            scalar,
-            space,
-        })),
+        } => pointed_component(size, scalar, space),
         Form::Pointer { base, space } => pointed_element(types, base, space),
         _ => None,
     }
@@ -141,11 +155,13 @@ fn pointed_part(
                 None => Err(TypingFault::OutOfBoundsIndex { expr: base, index }),
             }
         }
-        Some(TypeInner::Matrix {
-            columns,
-            rows,
-            scalar,
-        }) => {
+        Some(
+            TypeInner::Matrix {
+                columns,
+                rows,
+                scalar,
+            },
+        ) => {
             if index < u32::from(*columns) {
                 Ok(TypeResolution::Value(TypeInner::ValuePointer {
                     size: Some(*rows),
@@ -156,9 +172,9 @@ fn pointed_part(
                 Err(TypingFault::OutOfBoundsIndex { expr: base, index })
             }
         }
-        Some(TypeInner::Array { base: element, .. } | TypeInner::BindingArray { base: element, .. }) => {
-            Ok(pointer_to(*element, space))
-        }
+        Some(
+            TypeInner::Array { base: element, .. } | TypeInner::BindingArray { base: element, .. },
+        ) => { Ok(pointer_to(*element, space)) }
         _ => Err(TypingFault::InvalidAccess {
             expr: base,
             indexed: false,
@@ -182,6 +198,34 @@ fn one_of(
     }
 }
 
+// A pointer to a component of the vector of this size that a pointer leads to, or why there is none.
+fn pointed_component_at(
+    base: Handle<key::Expression>,
+    index: u32,
+    size: Option<VectorSize>,
+    scalar: Scalar,
+    space: AddressSpace,
+) -> Result<TypeResolution, TypingFault>
+    ensures { (types : List PlainType) → form_answer types result ≡ access_index_type types base index (Form.ValuePointer size scalar space) }
+{
+    match size {
+        Some(size) => one_of(
+            base,
+            index,
+            size,
+            TypeInner::ValuePointer {
+                size: None,
+                scalar,
+                space,
+            },
+        ),
+        None => Err(TypingFault::InvalidAccess {
+            expr: base,
+            indexed: false,
+        }),
+    }
+}
+
 // The type of an access at an index that is written.
 pub(crate) fn access_index_type(
     types: &UniqueArena<IrType, key::IrType>,
@@ -197,25 +241,21 @@ pub(crate) fn access_index_type(
             columns,
             rows,
             scalar,
-        } => one_of(base, index, columns, TypeInner::Vector { size: rows, scalar }),
+        } => one_of(
+            base,
+            index,
+            columns,
+            TypeInner::Vector { size: rows, scalar },
+        ),
         Form::Array { base: element, .. } | Form::BindingArray { base: element, .. } => {
             Ok(TypeResolution::Handle(element))
         }
         Form::Struct(handle) => member_of(types, base, index, handle),
         Form::ValuePointer {
-            size: Some(size),
+            size,
             scalar,
             space,
-        } => one_of(
-            base,
-            index,
-            size,
-            TypeInner::ValuePointer {
-                size: None,
-                scalar,
-                space,
-            },
-        ),
+        } => pointed_component_at(base, index, size, scalar, space),
         Form::Pointer {
             base: pointee,
             space,

@@ -1,17 +1,17 @@
 //! What an expression may name, and the call that finds its type.
 
-ghost use Rattle.std.specs.Prelude.{◌≡◌, ℕ, List, map, Some};
+ghost use Rattle.std.specs.Prelude.{◌≡◌, ℕ, List, map, slice_get, Some};
 ghost use Rattle.ir_types.specs.Plain.{PlainType};
 ghost use Rattle.std.specs.Borrow.{Bor};
-ghost use Rattle.ir_expressions.specs.Plain.{expression_view};
+ghost use Rattle.ir_expressions.specs.Plain.{PlainExpression, expression_view};
 ghost use Rattle.ir_globals.specs.View.{values_of};
 ghost use Rattle.ir_items.specs.View.{argument_view, local_view, module_view};
 ghost use Rattle.overload_tables.specs.Laws.{IsAmong};
 ghost use Rattle.spec_expressions.specs.Context.{NamesItem, context_with};
-ghost use Rattle.spec_expressions.specs.Typing.{typing_operands, rule_at, form_read};
+ghost use Rattle.spec_expressions.specs.Typing.{typing_operands, rule_at, form_read, HasTypeAmong};
 ghost use Rattle.typing_forms.specs.declared.form.Form.{Form};
 ghost use Rattle.typing_forms.specs.declared.resolution.TypeResolution.{TypeResolution};
-ghost use Rattle.typing_resolve.specs.Answers.{form_given, told};
+ghost use Rattle.typing_resolve.specs.Answers.{form_given, told, IsAnswer};
 ghost use Rattle.typing_resolve.specs.Operands.{given_form};
 ghost use Rattle.typing_resolve.specs.View.{context_view};
 
@@ -108,9 +108,15 @@ impl<'a> ResolveContext<'a> {
         requires callable { (o : ℕ) → IsAmong o (typing_operands (expression_view expression.now)) → F.pre past o }
         ensures by_operands { (forms : ℕ → Form)
             → ((o : ℕ) (r : Bor TypeResolution) → IsAmong o (typing_operands (expression_view expression.now)) → F.post past o r
-                → form_given (context_view self.now).types r.now ≡ forms o)
+            → form_given (context_view self.now).types r.now ≡ forms o)
             → told (context_view self.now).types (Some (rule_at (context_view self.now) (expression_view expression.now) forms)) result
-                ≡ Some (rule_at (context_view self.now) (expression_view expression.now) forms) }
+            ≡ Some (rule_at (context_view self.now) (expression_view expression.now) forms) }
+        ensures decides { (expressions : List PlainExpression) (place : ℕ) (forms : ℕ → Form)
+            → slice_get expressions place ≡ Some (expression_view expression.now)
+            → ((o : ℕ) → IsAmong o (typing_operands (expression_view expression.now)) → HasTypeAmong (context_view self.now) expressions o (forms o))
+            → ((o : ℕ) (r : Bor TypeResolution) → IsAmong o (typing_operands (expression_view expression.now)) → F.post past o r
+            → form_given (context_view self.now).types r.now ≡ forms o)
+            → IsAnswer (context_view self.now) expressions place result }
     {
         let operands = operands_of(expression);
         let given = Given {

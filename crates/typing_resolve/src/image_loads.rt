@@ -57,10 +57,7 @@ fn extent(dim: ImageDimension) -> TypeInner
 }
 
 // The size of an image.
-fn size_type(
-    image: Handle<key::Expression>,
-    of: Form,
-) -> Result<TypeResolution, TypingFault>
+fn size_type(image: Handle<key::Expression>, of: Form) -> Result<TypeResolution, TypingFault>
     ensures { (types : List PlainType) → form_answer types result ≡ size_type image of }
 {
     match of {

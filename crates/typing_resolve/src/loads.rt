@@ -1,10 +1,10 @@
 //! What a function is given, variables, and what lies where a pointer leads.
 
-ghost use Rattle.std.specs.Prelude.{◌≡◌, ◌<◌, List, length, map, ok_or, option_map, slice_get};
+ghost use Rattle.std.specs.Prelude.{◌≡◌, ◌<◌, List, Some, length, map, ok_or, option_map, slice_get};
 ghost use Rattle.ir_globals.specs.View.{values_of, global_view};
 ghost use Rattle.ir_items.specs.View.{argument_view, local_view};
 ghost use Rattle.ir_types.specs.Plain.{PlainType};
-ghost use Rattle.spec_expressions.specs.Loads.{variable_type, global_if, local_if, loaded, load_type, array_length_type};
+ghost use Rattle.spec_expressions.specs.Loads.{variable_type, global_if, local_if, loaded, loaded_value, load_type, array_length_type};
 ghost use Rattle.spec_expressions.specs.declared.faults.TypingFault.TheVariants.{FunctionArgumentNotFound};
 ghost use Rattle.typing_forms.specs.Forms.{form_of_type};
 ghost use Rattle.typing_forms.specs.Resolutions.{types_view, inner_at};
@@ -16,7 +16,7 @@ use ir_arena::handle::Handle;
 use ir_arena::unique_arena::UniqueArena;
 use ir_globals::GlobalVariable;
 use ir_items::{FunctionArgument, LocalVariable};
-use ir_kinds::{AddressSpace, Scalar};
+use ir_kinds::{AddressSpace, Scalar, VectorSize};
 use ir_types::{IrType, TypeInner, key};
 use spec_expressions::TypingFault;
 use typing_forms::{Form, TypeResolution, inner_of};
@@ -53,8 +53,19 @@ fn variable_type(ty: Handle<key::IrType>, space: AddressSpace) -> TypeResolution
     }
 }
 
-// The type of a global variable.
+// The global variable at a handle.
 #[tactic(auto, using(crate::proofs::Lookups::found))]
+fn global_at(
+    globals: &Arena<GlobalVariable, key::GlobalVariable>,
+    global: Handle<key::GlobalVariable>,
+) -> &GlobalVariable
+    requires { global < length globals.now }
+    ensures { slice_get (map global_view (values_of globals.now)) global ≡ Some (global_view result.now) }
+{
+    &globals[global]
+}
+
+// The type of a global variable.
 pub(crate) fn global_type(
     globals: &Arena<GlobalVariable, key::GlobalVariable>,
     global: Handle<key::GlobalVariable>,
@@ -63,7 +74,7 @@ pub(crate) fn global_type(
     ensures { (types : List PlainType) → form_given types result
         ≡ global_if types (slice_get (map global_view (values_of globals.now)) global) }
 {
-    let variable = &globals[global];
+    let variable = global_at(globals, global);
     variable_type(variable.ty, variable.space)
 }
 
@@ -90,6 +101,16 @@ fn loaded(types: &UniqueArena<IrType, key::IrType>, base: Handle<key::IrType>) -
     }
 }
 
+// A vector of this size, or a scalar.
+const fn loaded_value(size: Option<VectorSize>, scalar: Scalar) -> TypeResolution
+    ensures { (types : List PlainType) → form_given types result ≡ loaded_value size scalar }
+{
+    match size {
+        None => TypeResolution::Value(TypeInner::Scalar(scalar)),
+        Some(size) => TypeResolution::Value(TypeInner::Vector { size, scalar }),
+    }
+}
+
 // What a pointer leads to.
 pub(crate) fn load_type(
     types: &UniqueArena<IrType, key::IrType>,
@@ -100,16 +121,7 @@ pub(crate) fn load_type(
 {
     match of {
         Form::Pointer { base, .. } => Ok(loaded(types, base)),
-        Form::ValuePointer {
-            size: None,
-            scalar,
-            ..
-        } => Ok(TypeResolution::Value(TypeInner::Scalar(scalar))),
-        Form::ValuePointer {
-            size: Some(size),
-            scalar,
-            ..
-        } => Ok(TypeResolution::Value(TypeInner::Vector { size, scalar })),
+        Form::ValuePointer { size, scalar, .. } => Ok(loaded_value(size, scalar)),
         _ => Err(TypingFault::InvalidPointer(pointer)),
     }
 }

@@ -42,6 +42,7 @@ fn argument_inner(of: Form) -> TypeInner
 }
 
 // The rules of a function that take these arguments. The error is out of memory.
+#[tactic(auto, using(crate::proofs::Taken::taken_one, crate::proofs::Taken::taken_all))]
 fn taking(alloc: Global, fun: MathFunction, given: &[Form]) -> Result<AnyOverloadSet, AllocError>
     ensures { IfOk result (λ set. any_rules set ≡ taking 0 given.now (table fun)) }
 {

@@ -63,7 +63,9 @@ fn math_operands(
     ensures fourth { result.fourth ≡ slice_get (math_operands first second third fourth) 3 }
 {
     match (second, third, fourth) {
-        (None, None, None) | (Some(_), None, None) | (Some(_), Some(_), None)
+        (None, None, None)
+        | (Some(_), None, None)
+        | (Some(_), Some(_), None)
         | (Some(_), Some(_), Some(_)) => Operands {
             first: Some(first),
             second,
@@ -133,7 +135,7 @@ pub(crate) fn given_form(
     types: &UniqueArena<IrType, key::IrType>,
     given: Option<&TypeResolution>,
 ) -> Form
-    ensures { result ≡ given_form (types_view types.now) given }
+    ensures { result ≡ given_form (types_view types.now) given.entry }
 {
     match given {
         Some(given) => form_of(types, given),
@@ -157,7 +159,7 @@ pub(crate) fn given_again(
     types: &UniqueArena<IrType, key::IrType>,
     given: Option<&TypeResolution>,
 ) -> Result<Typing, AllocError>
-    ensures { IfOk result (λ o. form_answer (types_view types.now) o ≡ Ok (given_form (types_view types.now) given)) }
+    ensures { IfOk result (λ o. form_answer (types_view types.now) o ≡ Ok (given_form (types_view types.now) given.entry)) }
 {
     match given {
         Some(given) => match given.clone(alloc) {

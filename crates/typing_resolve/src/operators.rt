@@ -36,11 +36,15 @@ fn vector_times(
     left: Option<&TypeResolution>,
     right: Form,
 ) -> Result<Typing, AllocError>
-    ensures { IfOk result (λ o. form_answer (types_view types.now) o ≡ vector_times (given_form (types_view types.now) left) right) }
+    ensures { IfOk result (λ o. form_answer (types_view types.now) o ≡ vector_times (given_form (types_view types.now) left.entry) right) }
 {
     match right {
         Form::Scalar(_) | Form::Vector { .. } => given_again(alloc, types, left),
-        Form::Matrix { columns, scalar, .. } => {
+        Form::Matrix {
+            columns,
+            scalar,
+            ..
+        } => {
             Ok(Ok(TypeResolution::Value(TypeInner::Vector {
                 size: columns,
                 scalar,
@@ -59,7 +63,7 @@ fn matrix_times(
     scalar: Scalar,
     right: Form,
 ) -> Result<Typing, AllocError>
-    ensures { IfOk result (λ o. form_answer (types_view types.now) o ≡ matrix_times (given_form (types_view types.now) left) rows scalar right) }
+    ensures { IfOk result (λ o. form_answer (types_view types.now) o ≡ matrix_times (given_form (types_view types.now) left.entry) rows scalar right) }
 {
     match right {
         Form::Scalar(_) => given_again(alloc, types, left),
@@ -83,7 +87,7 @@ fn other_times(
     left: Option<&TypeResolution>,
     right: Form,
 ) -> Result<Typing, AllocError>
-    ensures { IfOk result (λ o. form_answer (types_view types.now) o ≡ other_times (given_form (types_view types.now) left) right) }
+    ensures { IfOk result (λ o. form_answer (types_view types.now) o ≡ other_times (given_form (types_view types.now) left.entry) right) }
 {
     match right {
         Form::Scalar(_) => given_again(alloc, types, left),
@@ -99,7 +103,7 @@ fn product(
     right: Option<&TypeResolution>,
 ) -> Result<Typing, AllocError>
     ensures { IfOk result (λ o. form_answer (types_view types.now) o
-        ≡ product (given_form (types_view types.now) left) (given_form (types_view types.now) right)) }
+        ≡ product (given_form (types_view types.now) left.entry) (given_form (types_view types.now) right.entry)) }
 {
     match given_form(types, left) {
         Form::Scalar(_) => given_again(alloc, types, right),
@@ -120,7 +124,7 @@ pub(crate) fn binary_type(
     right: Option<&TypeResolution>,
 ) -> Result<Typing, AllocError>
     ensures { IfOk result (λ o. form_answer (types_view types.now) o
-        ≡ binary_type op (given_form (types_view types.now) left) (given_form (types_view types.now) right)) }
+        ≡ binary_type op (given_form (types_view types.now) left.entry) (given_form (types_view types.now) right.entry)) }
 {
     match op {
         BinaryOperator::Add

@@ -25,7 +25,7 @@ pub(crate) fn call_result_type(
     requires { function < length functions.now }
     ensures { (types : List PlainType) → form_answer types result
         ≡ ok_or (option_map (λ (r : FunctionResult). form_of_type types r.ty)
-            (option_and_then (λ f. f.result) (slice_get (map function_view (values_of functions.now)) function))) FunctionReturnsVoid }
+        (option_and_then (λ f. f.result) (slice_get (map function_view (values_of functions.now)) function))) FunctionReturnsVoid }
 {
     match functions[function].result {
         Some(result) => Ok(TypeResolution::Handle(result.ty)),
