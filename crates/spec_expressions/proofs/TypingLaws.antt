@@ -1,5 +1,5 @@
 -- One type at most, and none where there is a fault: both from one lemma, that a rule reads its operands alone.
-use Rattle.std.proofs.Common.{◌≡◌, ◌∙◌, sym, refl, ap, subst, ℕ, List, [], ◌∷◌, Option, Some, None, Ok, Err, Result, inl, inr, slice_get, zero, suc}
+use Rattle.std.proofs.Common.{◌≡◌, ◌∙◌, sym, refl, ap, subst, ℕ, List, [], ◌∷◌, Ok, inl, inr, zero, suc}
 use Rattle.ir_expressions.specs.Plain.{PlainExpression}
 use Rattle.typing_forms.specs.declared.form.Form.{Form}
 use Rattle.typing_forms.specs.Forms.{form_of}
@@ -8,7 +8,7 @@ use Rattle.typing_rules.specs.Equivalence.{AreEquivalent}
 use Rattle.overload_tables.specs.Laws.{IsAmong}
 use Rattle.spec_expressions.specs.Context.{Context}
 use Rattle.spec_expressions.specs.Laws.{IsFaulty}
-use Rattle.spec_expressions.specs.Typing.{form_read, operand_form, typing_operands, rule, rule_at, HasTypeAmong, has}
+use Rattle.spec_expressions.specs.Typing.{operand_form, typing_operands, rule, rule_at, HasTypeAmong, has}
 use Rattle.spec_expressions.specs.declared.faults.TypingFault.{TypingFault}
 
 same_reads : (p q : ℕ → Form) (operands : List ℕ) → ((o : ℕ) → IsAmong o operands → p o ≡ q o) → (place : ℕ) → operand_form p operands place ≡ operand_form q operands place

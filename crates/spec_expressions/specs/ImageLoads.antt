@@ -1,5 +1,5 @@
 -- Texels of images, and what is asked of images.
-use Rattle.std.specs.Prelude.{ℕ, Option, Result, Ok, Err}
+use Rattle.std.specs.Prelude.{ℕ, Result, Ok, Err}
 use Rattle.ir_kinds.specs.declared.images.ImageClass.{ImageClass}
 use Rattle.ir_kinds.specs.declared.images.ImageClass.TheVariants.{Sampled, Depth, External, Storage}
 use Rattle.ir_kinds.specs.declared.images.ImageDimension.{ImageDimension}

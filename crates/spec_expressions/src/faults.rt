@@ -4,7 +4,7 @@ use ir_arena::handle::Handle;
 use ir_types::key;
 
 /// Why an expression has no type, as plain data without a text.
-#[derive(Clone, Copy, PartialEq, Debug)]
+#[derive(Clone, Copy, Debug)]
 pub enum TypingFault {
     /// What is accessed has no part of this number.
     OutOfBoundsIndex {

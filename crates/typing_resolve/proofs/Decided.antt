@@ -1,5 +1,5 @@
 -- From what is known of the operands to what is known of the answer.
-use Rattle.std.proofs.Common.{◌≡◌, ◌∙◌, ℕ, zero, suc, List, [], ◌∷◌, Option, Some, None, option_map, Result, Ok, Err, slice_get, inl, inr, refl, sym, ap, subst}
+use Rattle.std.proofs.Common.{◌≡◌, ◌∙◌, ℕ, zero, suc, List, [], ◌∷◌, Option, Some, None, option_map, Result, Ok, Err, slice_get, inl, inr, sym, ap, subst}
 use Rattle.std.specs.Borrow.{Bor}
 use Rattle.ir_types.specs.Plain.{PlainType}
 use Rattle.ir_expressions.specs.Plain.{PlainExpression}

@@ -1,5 +1,5 @@
 -- What an arena's view has at a handle.
-use Rattle.std.proofs.Common.{◌≡◌, ℕ, zero, suc, ◌∙◌, List, [], ◌∷◌, map, slice_get, Some, None, option_map, refl, sym, ap}
+use Rattle.std.proofs.Common.{◌≡◌, ℕ, zero, suc, ◌∙◌, List, [], ◌∷◌, map, slice_get, Some, option_map, refl, sym, ap}
 use Rattle.ir_arena.specs.Arenas.{value_at}
 use Rattle.ir_arena.specs.declared.span.Span.{Span}
 use Rattle.ir_globals.specs.View.{values_of}

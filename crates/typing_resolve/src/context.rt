@@ -1,6 +1,6 @@
 //! What an expression may name, and the call that finds its type.
 
-ghost use Rattle.std.specs.Prelude.{◌≡◌, ℕ, List, map, slice_get, Some};
+ghost use Rattle.std.specs.Prelude.{◌≡◌, ◌↔◌, IsTrue, ℕ, List, map, slice_get, Some};
 ghost use Rattle.ir_types.specs.Plain.{PlainType};
 ghost use Rattle.std.specs.Borrow.{Bor};
 ghost use Rattle.ir_expressions.specs.Plain.{PlainExpression, expression_view};
@@ -29,7 +29,6 @@ use std::alloc::Global;
 use typing_forms::TypeResolution;
 
 /// What the type of an expression may depend on, beside those of its operands (naga's `ResolveContext`).
-#[derive(Clone, Copy)]
 pub struct ResolveContext<'a> {
     /// The module's constants.
     pub constants: &'a Arena<Constant, key::Constant>,
@@ -74,7 +73,7 @@ impl<'a> ResolveContext<'a> {
         arguments: &'a [FunctionArgument],
     ) -> Self
         ensures { context_view result
-            ≡ context_with (module_view module.now) (map local_view (values_of local_vars.now)) (map argument_view arguments.now) }
+            ≡ context_with (module_view «module».now) (map local_view (values_of local_vars.now)) (map argument_view arguments.now) }
     {
         ResolveContext {
             constants: &module.constants,
@@ -85,6 +84,49 @@ impl<'a> ResolveContext<'a> {
             local_vars,
             functions: &module.functions,
             arguments,
+        }
+    }
+
+    /// Whether the constant, override, variable or function that the expression names is there, if it names one, as
+    /// [`ResolveContext::resolve`] asks.
+    pub fn names_item(&self, expression: &Expression) -> bool
+        ensures { IsTrue result ↔ NamesItem (context_view self.now) (expression_view expression.now) }
+    {
+        match *expression {
+            Expression::Constant(constant) => constant.index() < self.constants.len(),
+            Expression::Override(id) => id.index() < self.overrides.len(),
+            Expression::GlobalVariable(global) => global.index() < self.global_vars.len(),
+            Expression::LocalVariable(local) => local.index() < self.local_vars.len(),
+            Expression::CallResult(function) => function.index() < self.functions.len(),
+            Expression::Literal(_)
+            | Expression::ZeroValue(_)
+            | Expression::Compose { .. }
+            | Expression::Access { .. }
+            | Expression::AccessIndex { .. }
+            | Expression::Splat { .. }
+            | Expression::Swizzle { .. }
+            | Expression::FunctionArgument(_)
+            | Expression::Load { .. }
+            | Expression::ImageSample { .. }
+            | Expression::ImageLoad { .. }
+            | Expression::ImageQuery { .. }
+            | Expression::Unary { .. }
+            | Expression::Binary { .. }
+            | Expression::Select { .. }
+            | Expression::Derivative { .. }
+            | Expression::Relational { .. }
+            | Expression::Math { .. }
+            | Expression::As { .. }
+            | Expression::AtomicResult { .. }
+            | Expression::WorkGroupUniformLoadResult { .. }
+            | Expression::ArrayLength(_)
+            | Expression::RayQueryVertexPositions { .. }
+            | Expression::RayQueryProceedResult
+            | Expression::RayQueryGetIntersection { .. }
+            | Expression::SubgroupBallotResult
+            | Expression::SubgroupOperationResult { .. }
+            | Expression::CooperativeLoad { .. }
+            | Expression::CooperativeMultiplyAdd { .. } => true,
         }
     }
 

@@ -73,7 +73,7 @@ pub enum ResolveError {
 }
 
 /// Why there is no type to answer.
-#[derive(Debug, PartialEq, Drop)]
+#[derive(Debug, Drop)]
 pub enum ResolveRefusal {
     /// Memory ran out.
     Memory(AllocError),

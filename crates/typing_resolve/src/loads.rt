@@ -97,7 +97,22 @@ fn loaded(types: &UniqueArena<IrType, key::IrType>, base: Handle<key::IrType>) -
 {
     match inner_of(types, base) {
         Some(TypeInner::Atomic(scalar)) => TypeResolution::Value(TypeInner::Scalar(*scalar)),
-        _ => TypeResolution::Handle(base),
+        Some(
+            TypeInner::Scalar(_)
+            | TypeInner::Vector { .. }
+            | TypeInner::Matrix { .. }
+            | TypeInner::CooperativeMatrix { .. }
+            | TypeInner::Pointer { .. }
+            | TypeInner::ValuePointer { .. }
+            | TypeInner::Array { .. }
+            | TypeInner::Struct { .. }
+            | TypeInner::Image { .. }
+            | TypeInner::Sampler { .. }
+            | TypeInner::AccelerationStructure { .. }
+            | TypeInner::RayQuery { .. }
+            | TypeInner::BindingArray { .. },
+        )
+        | None => TypeResolution::Handle(base),
     }
 }
 

@@ -1,4 +1,3 @@
-use Rattle.std.proofs.Common.{◌≡◌}
 use Rattle.ir_expressions.specs.Plain.{expression_view}
 use Rattle.typing_resolve.proofs.Decided.{by_reads, decided}
 use Rattle.typing_resolve.proofs.context.ResolveContext.resolve.Goals as goal
