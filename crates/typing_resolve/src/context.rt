@@ -29,6 +29,7 @@ use std::alloc::Global;
 use typing_forms::TypeResolution;
 
 /// What the type of an expression may depend on, beside those of its operands (naga's `ResolveContext`).
+#[derive(Clone, Copy)]
 pub struct ResolveContext<'a> {
     /// The module's constants.
     pub constants: &'a Arena<Constant, key::Constant>,
