@@ -5,7 +5,7 @@ A line of the corpus is an object with `name`, `document` (the text of a documen
 (`globals`), each function (`functions`) and each entry point (`entries`), the canonical forms of the types of its
 expressions in order (`types`) and what the first one without a type is refused for (`fault`).
 
-  make_data.py CORPUS                writes the documents that are chosen for coverage, and the output that is due
+  make_data.py CORPUS                writes the documents that are chosen for coverage, and the expected output
   make_data.py CORPUS --all PROGRAM  runs the program on the whole corpus in a folder of its own, and compares
 """
 import json
@@ -117,8 +117,8 @@ def bodies(case):
         ("entry", e) for e in case["entries"]]
 
 
-def due(case):
-    """The lines that are due for a document."""
+def expected(case):
+    """The lines that are expected for a document."""
     lines = [case["name"]]
     for word, answer in bodies(case):
         lines.append(word)
@@ -185,19 +185,19 @@ def main():
             with open(os.path.join(folder, "documents.json"), "w", encoding="utf-8") as file:
                 file.write(documents(cases))
             run = subprocess.run([os.path.abspath(sys.argv[3])], cwd=folder, capture_output=True, text=True)
-        lines = [line for case in cases for line in due(case)]
+        lines = [line for case in cases for line in expected(case)]
         printed = run.stdout.splitlines()
         differ = [i for i, (a, b) in enumerate(zip(lines, printed)) if a != b]
         for i in differ[:20]:
-            print("line %d is %s, due %s" % (i + 1, printed[i], lines[i]))
-        print("%d documents, %d lines due, %d printed, %d differ, status %d" % (
+            print("line %d is %s, expected %s" % (i + 1, printed[i], lines[i]))
+        print("%d documents, %d lines expected, %d printed, %d differ, status %d" % (
             len(cases), len(lines), len(printed), len(differ), run.returncode))
         sys.exit(1 if differ or len(lines) != len(printed) or run.returncode else 0)
     part = chosen(cases, 600000)
     with open(os.path.join(here, "data", "documents.json"), "w", encoding="utf-8") as file:
         file.write(documents(part) + "\n")
     with open(os.path.join(here, "stdout"), "w", encoding="utf-8") as file:
-        file.write("".join(line + "\n" for case in part for line in due(case)))
+        file.write("".join(line + "\n" for case in part for line in expected(case)))
     print("%d of %d documents" % (len(part), len(cases)))
 
 

@@ -3,7 +3,7 @@
 //
 // Each document is a pair of its name and its text. The global expressions, the functions and the entry points follow each
 // other, each with a line before it; in each the expressions stand in order, and end after the first that has no type. The
-// answers that are due come from two implementations that were written independently of this one (`make_data.py`).
+// expected answers come from two implementations that were written independently of this one (`make_data.py`).
 #![tactic(auto)]
 
 mod told;
