@@ -1,6 +1,6 @@
 // Each call of alignments and of layouters, once.
 use anyhow::{Result, ensure};
-use ir_arena::unique_arena::UniqueArena;
+use ir_unique_arena::unique_arena::UniqueArena;
 use ir_kinds::{CooperativeSize, VectorSize};
 use ir_types::{IrType, key};
 use std::io;

@@ -2,7 +2,7 @@
 ghost use Rattle.std.specs.Prelude.{◌≤◌, length};
 
 use ir_arena::handle::Handle;
-use ir_arena::unique_arena::UniqueArena;
+use ir_unique_arena::unique_arena::UniqueArena;
 use ir_faults::refusal::Refusal;
 use ir_types::{IrType, key};
 use std::alloc::{AllocError, Global};

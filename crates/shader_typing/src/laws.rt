@@ -2,6 +2,9 @@
 
 pub use constructor_sets::laws::{members_by_bits, named_sets, ones_of_a_number};
 pub use overload_tables::laws::{argument_counts, arguments_filter, preferred_is_best};
+pub use spec_expressions::laws::{
+    equivalent_operands_decide, faulty_has_none, one_type, operands_decide,
+};
 pub use spec_types::laws::{rounded_is_least, size_of_tree, tree_by_trees, trees_stay};
 pub use typing_forms::laws::form_equality;
 pub use typing_layout::laws::{layouts_stay, one_kind, one_layout};

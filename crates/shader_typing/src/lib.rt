@@ -1,8 +1,9 @@
 //! The typing of a shader's expressions from one place: the types that expressions are given as and their canonical
 //! forms of `typing_forms`, what types are built of and which of them are equivalent of `typing_rules` and
 //! `typing_compare`, layouts of types and kinds of expressions of `typing_layout`, the rules of functions of numbers of
-//! `overload_tables`, sets of scalars and of shapes of `constructor_sets`, overload sets of `typing_overloads`, and what
-//! rules give in a module of `typing_conclusions`.
+//! `overload_tables`, sets of scalars and of shapes of `constructor_sets`, overload sets of `typing_overloads`, what rules
+//! give in a module of `typing_conclusions`, and the types of expressions of `typing_resolve`, which are those that
+//! `spec_expressions` defines.
 //!
 //! Nothing is defined here. A crate that uses the typing as a whole names this crate alone.
 #![tactic(auto)]
@@ -11,6 +12,7 @@ pub mod laws;
 
 pub use constructor_sets::{ConstructorSet, Members, OneBitsIter, ScalarSet};
 pub use overload_tables::{Arguments, Conclusion, ConstructorSize, Pattern, Rule, ValueType};
+pub use spec_expressions::TypingFault;
 pub use typing_compare::CompareTypes;
 pub use typing_conclusions::{ConclusionExt, MissingSpecialType};
 pub use typing_forms::{
@@ -22,6 +24,7 @@ pub use typing_layout::{
     TypeLayout, origins_precede,
 };
 pub use typing_overloads::{AnyOverloadSet, List, MathFunctionExt, OverloadSet, Regular};
+pub use typing_resolve::{ResolveContext, ResolveError, ResolveRefusal};
 pub use typing_rules::{
     IndexableLength, IndexableLengthError, MAX_TYPE_SIZE, ResolveArraySizeError, TypeInnerExt,
     compare_types, types_go_back,

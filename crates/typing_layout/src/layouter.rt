@@ -9,7 +9,7 @@ use crate::error::LayoutError;
 use crate::laid::layout_of;
 use crate::layout::TypeLayout;
 use ir_arena::handle::Handle;
-use ir_arena::unique_arena::UniqueArena;
+use ir_unique_arena::unique_arena::UniqueArena;
 use ir_faults::refusal::Refusal;
 use ir_faults::with_span::WithSpan;
 use ir_types::{IrType, key};

@@ -1,0 +1,204 @@
+#!/usr/bin/env python3
+"""Writes data/documents.json and stdout from a corpus of typed documents, or compares a whole corpus.
+
+A line of the corpus is an object with `name`, `document` (the text of a document) and, for the global expressions
+(`globals`), each function (`functions`) and each entry point (`entries`), the canonical forms of the types of its
+expressions in order (`types`) and what the first one without a type is refused for (`fault`).
+
+  make_data.py CORPUS                writes the documents that are chosen for coverage, and the expected output
+  make_data.py CORPUS --all PROGRAM  runs the program on the whole corpus in a folder of its own, and compares
+"""
+import json
+import os
+import subprocess
+import sys
+import tempfile
+
+SCALARS = {
+    "bool": ("Bool", 1), "i16": ("Sint", 2), "u16": ("Uint", 2), "i32": ("Sint", 4), "u32": ("Uint", 4),
+    "i64": ("Sint", 8), "u64": ("Uint", 8), "f16": ("Float", 2), "f32": ("Float", 4), "f64": ("Float", 8),
+    "aint": ("AbstractInt", 8), "afloat": ("AbstractFloat", 8),
+}
+SIZES = {2: "Bi", 3: "Tri", 4: "Quad"}
+SIDES = {8: "Eight", 16: "Sixteen"}
+ACCESS = {"LOAD": 1, "STORE": 2, "ATOMIC": 4}
+TEXTS = {
+    "IncompatibleOperands": "the operation does not take their types",
+    "BuiltinArgumentsInvalid": "the function has no rule for their types",
+}
+
+
+def handle(n):
+    return "Handle { index: NonMaxU32 { value: %d }, marker: PhantomData<_> }" % n
+
+
+def truth(b):
+    return "true" if b else "false"
+
+
+def scalar(s):
+    kind, width = SCALARS[s] if isinstance(s, str) else s
+    return "Scalar { kind: %s, width: %d }" % (kind, width)
+
+
+def access(words):
+    return "StorageAccess(%d)" % sum(ACCESS[w] for w in words)
+
+
+def space(s):
+    return s if isinstance(s, str) else "Storage { access: %s }" % access(s[1])
+
+
+def length(n):
+    if n[0] == "Dynamic":
+        return "Dynamic"
+    return "%s(%s)" % (n[0], n[1] if n[0] == "Constant" else handle(n[1]))
+
+
+def image_class(c):
+    if c[0] == "Sampled":
+        return "Sampled { kind: %s, multi: %s }" % (c[1], truth(c[2]))
+    if c[0] == "Depth":
+        return "Depth { multi: %s }" % truth(c[1])
+    if c[0] == "External":
+        return "External"
+    return "Storage { format: %s, access: %s }" % (c[1], access(c[2]))
+
+
+def form(t):
+    """The canonical form as the program prints it."""
+    if isinstance(t, int):
+        return "Struct(%s)" % handle(t)
+    kind = t[0]
+    if kind in ("Scalar", "Atomic"):
+        return "%s(%s)" % (kind, scalar(t[1]))
+    if kind == "Vector":
+        return "Vector { size: %s, scalar: %s }" % (SIZES[t[1]], scalar(t[2]))
+    if kind == "Matrix":
+        return "Matrix { columns: %s, rows: %s, scalar: %s }" % (SIZES[t[1]], SIZES[t[2]], scalar(t[3]))
+    if kind == "CooperativeMatrix":
+        return "CooperativeMatrix { columns: %s, rows: %s, scalar: %s, role: %s }" % (
+            SIDES[t[1]], SIDES[t[2]], scalar(t[3]), t[4])
+    if kind == "Pointer":
+        return "Pointer { base: %s, space: %s }" % (handle(t[1]), space(t[2]))
+    if kind == "ValuePointer":
+        size = "None" if t[1] is None else "Some(%s)" % SIZES[t[1]]
+        return "ValuePointer { size: %s, scalar: %s, space: %s }" % (size, scalar(t[2]), space(t[3]))
+    if kind == "Array":
+        return "Array { base: %s, size: %s, stride: %d }" % (handle(t[1]), length(t[2]), t[3])
+    if kind == "BindingArray":
+        return "BindingArray { base: %s, size: %s }" % (handle(t[1]), length(t[2]))
+    if kind == "Image":
+        return "Image { dim: %s, arrayed: %s, class: %s }" % (t[1], truth(t[2]), image_class(t[3]))
+    if kind == "Sampler":
+        return "Sampler { comparison: %s }" % truth(t[1])
+    assert kind in ("AccelerationStructure", "RayQuery"), t
+    return "%s { vertex_return: %s }" % (kind, truth(t[1]))
+
+
+def error(fault):
+    """Why an expression has no type, as the program prints it."""
+    name, fields = fault[1], fault[2:]
+    if name == "OutOfBoundsIndex":
+        return "OutOfBoundsIndex { expr: %s, index: %d }" % (handle(fields[0]), fields[1])
+    if name == "InvalidAccess":
+        return "InvalidAccess { expr: %s, indexed: %s }" % (handle(fields[0]), truth(fields[1]))
+    if name == "FunctionArgumentNotFound":
+        return "%s(%d)" % (name, fields[0])
+    if name in TEXTS:
+        return '%s("%s")' % (name, TEXTS[name])
+    if name in ("FunctionReturnsVoid", "MissingSpecialType"):
+        return name
+    return "%s(%s)" % (name, handle(fields[0]))
+
+
+def bodies(case):
+    return [("globals", case["globals"])] + [("function", f) for f in case["functions"]] + [
+        ("entry", e) for e in case["entries"]]
+
+
+def expected(case):
+    """The lines that are expected for a document."""
+    lines = [case["name"]]
+    for word, answer in bodies(case):
+        lines.append(word)
+        lines += [form(t) for t in answer["types"]]
+        if answer["fault"]:
+            lines.append(error(answer["fault"]))
+    return lines
+
+
+def variant(value):
+    """What an expression is, down to the words in it: handles and numbers aside."""
+    if isinstance(value, list):
+        return tuple(variant(v) for v in value)
+    return value if isinstance(value, (str, type(None))) else type(value).__name__
+
+
+def outcomes(document, case):
+    """Each expression that is asked of functions, with the first word of its type or of its fault."""
+    for function, answer in zip(document[12], case["functions"]):
+        expressions, types = function[4], answer["types"]
+        for expression, type in zip(expressions, types):
+            yield expression, "struct" if isinstance(type, int) else type[0]
+        if answer["fault"]:
+            yield expressions[len(types)], answer["fault"][1]
+
+
+def features(case):
+    """What a document has that another may lack: types and faults, and what expressions they are of."""
+    found = set()
+    for word, answer in bodies(case):
+        found |= {(word, "struct" if isinstance(t, int) else form(t)) for t in answer["types"]}
+        if answer["fault"]:
+            found.add((word, answer["fault"][1]))
+    for expression, outcome in outcomes(json.loads(case["document"]), case):
+        found.add((str(variant(expression))[:80], outcome))
+    return found
+
+
+def chosen(cases, limit):
+    """Documents that add most features for their size, as far as they take fewer bytes than the limit."""
+    rest = [(case, features(case), len(case["document"])) for case in cases]
+    covered, picked, size = set(), [], 0
+    while rest:
+        best = max(rest, key=lambda r: len(r[1] - covered) / r[2])
+        if not best[1] - covered or size + best[2] > limit:
+            break
+        picked.append(best[0])
+        covered |= best[1]
+        size += best[2]
+        rest = [r for r in rest if r[0] is not best[0] and r[1] - covered]
+    return sorted(picked, key=lambda c: c["name"])
+
+
+def documents(cases):
+    return json.dumps([[c["name"], c["document"]] for c in cases], ensure_ascii=False, separators=(",", ":"))
+
+
+def main():
+    with open(sys.argv[1], encoding="utf-8") as file:
+        cases = [json.loads(line) for line in file]
+    here = os.path.dirname(os.path.abspath(__file__))
+    if len(sys.argv) == 4 and sys.argv[2] == "--all":
+        with tempfile.TemporaryDirectory() as folder:
+            with open(os.path.join(folder, "documents.json"), "w", encoding="utf-8") as file:
+                file.write(documents(cases))
+            run = subprocess.run([os.path.abspath(sys.argv[3])], cwd=folder, capture_output=True, text=True)
+        lines = [line for case in cases for line in expected(case)]
+        printed = run.stdout.splitlines()
+        differ = [i for i, (a, b) in enumerate(zip(lines, printed)) if a != b]
+        for i in differ[:20]:
+            print("line %d is %s, expected %s" % (i + 1, printed[i], lines[i]))
+        print("%d documents, %d lines expected, %d printed, %d differ, status %d" % (
+            len(cases), len(lines), len(printed), len(differ), run.returncode))
+        sys.exit(1 if differ or len(lines) != len(printed) or run.returncode else 0)
+    part = chosen(cases, 600000)
+    with open(os.path.join(here, "data", "documents.json"), "w", encoding="utf-8") as file:
+        file.write(documents(part) + "\n")
+    with open(os.path.join(here, "stdout"), "w", encoding="utf-8") as file:
+        file.write("".join(line + "\n" for case in part for line in expected(case)))
+    print("%d of %d documents" % (len(part), len(cases)))
+
+
+main()

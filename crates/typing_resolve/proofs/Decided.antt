@@ -1,0 +1,81 @@
+-- From what is known of the operands to what is known of the answer.
+use Rattle.std.proofs.Common.{◌≡◌, ◌∙◌, ℕ, zero, suc, List, [], ◌∷◌, Option, Some, None, option_map, Result, Ok, Err, slice_get, inl, inr, sym, ap, subst}
+use Rattle.std.specs.Borrow.{Bor}
+use Rattle.ir_types.specs.Plain.{PlainType}
+use Rattle.ir_expressions.specs.Plain.{PlainExpression}
+use Rattle.typing_forms.specs.declared.form.Form.{Form}
+use Rattle.typing_forms.specs.declared.resolution.TypeResolution.{TypeResolution}
+use Rattle.overload_tables.specs.Laws.{IsAmong}
+use Rattle.spec_expressions.proofs.TypingLaws.{faulty_has_none}
+use Rattle.spec_expressions.specs.Context.{Context}
+use Rattle.spec_expressions.specs.Laws.{IsFaulty}
+use Rattle.spec_expressions.specs.Typing.{form_read, operand_form, rule, rule_at, typing_operands, HasTypeAmong, has}
+use Rattle.spec_expressions.specs.declared.faults.TypingFault.{TypingFault}
+use Rattle.typing_resolve.specs.Answers.{form_given, fault_of, told, TellsFault, IsAnswer}
+use Rattle.typing_resolve.specs.Operands.{given_form}
+use Rattle.typing_resolve.specs.declared.error.ResolveRefusal.{ResolveRefusal}
+use Rattle.typing_resolve.specs.declared.error.ResolveRefusal.TheVariants.{Memory, Fault}
+
+some_is : {A : Type 0} {x y : A} → Some x ≡ Some y → x ≡ y
+some_is e = cc (e)
+
+among : (xs : List ℕ) (k o : ℕ) → slice_get xs k ≡ Some o → IsAmong o xs
+among [] k o e = cc (e)
+among (x ∷ xs) zero o e = inl (some_is e)
+among (x ∷ xs) (suc k) o e = inr (among xs k o e)
+
+-- an operand is one of those that are asked about
+pub named : (xs : List ℕ) (k o : ℕ) (operand : Option ℕ) → operand ≡ slice_get xs k → operand ≡ Some o → IsAmong o xs
+named xs k o operand at is = among xs k o (sym at ∙ is)
+
+-- what was read of an operand has the form that is known
+pub read_at : (types : List PlainType) (forms : ℕ → Form) (post : ℕ → Bor TypeResolution → Type 0) (xs : List ℕ) (k : ℕ) (operand : Option ℕ) (found : Option (Bor TypeResolution))
+    → operand ≡ slice_get xs k
+    → ((o : ℕ) (r : Bor TypeResolution) → IsAmong o xs → post o r → form_given types r.now ≡ forms o)
+    → (((o : ℕ) (r : Bor TypeResolution) → operand ≡ Some o → post o r → form_given types r.now ≡ forms o) → given_form types found ≡ form_read forms operand)
+    → given_form types found ≡ operand_form forms xs k
+read_at types forms post xs k operand found at same reads = reads (λ o r is p. same o r (named xs k o operand at is) p) ∙ ap (form_read forms) at
+
+pub same_rule : (context : Context) (x : PlainExpression) (a b c d p q r s : Form) → a ≡ p → b ≡ q → c ≡ r → d ≡ s → rule context x a b c d ≡ rule context x p q r s
+same_rule context x a b c d p q r s e f g h =
+    ap (λ z. rule context x z b c d) e ∙ ap (λ z. rule context x p z c d) f ∙ ap (λ z. rule context x p q z d) g ∙ ap (λ z. rule context x p q r z) h
+
+-- what is told of one outcome is told of the same
+pub told_same : (types : List PlainType) (v w : Result Form TypingFault) (result : Result TypeResolution ResolveRefusal) → v ≡ w → told types (Some v) result ≡ Some v → told types (Some w) result ≡ Some w
+told_same types v w result e t = subst (λ z. told types (Some z) result ≡ Some z) e t
+
+tells : (context : Context) (xs : List PlainExpression) (place : ℕ) (x : PlainExpression) (forms : ℕ → Form) (f : Option TypingFault)
+    → slice_get xs place ≡ Some x → ((o : ℕ) → IsAmong o (typing_operands x) → HasTypeAmong context xs o (forms o))
+    → option_map (λ f. Err f) f ≡ Some (rule_at context x forms) → TellsFault context xs place f
+tells context xs place x forms None stands operands t = cc (t)
+tells context xs place x forms (Some f) stands operands t =
+    let faulty : IsFaulty context xs place f = record { expression = x; past = forms; stands = stands; operands = operands; refused = sym (some_is t) } in
+    record { faulty = faulty; none = faulty_has_none context xs place f faulty }
+
+-- an answer that tells what the rule says of the operands' types is one about the expression
+pub decided : (context : Context) (xs : List PlainExpression) (place : ℕ) (x : PlainExpression) (forms : ℕ → Form) (result : Result TypeResolution ResolveRefusal)
+    → slice_get xs place ≡ Some x → ((o : ℕ) → IsAmong o (typing_operands x) → HasTypeAmong context xs o (forms o))
+    → told context.types (Some (rule_at context x forms)) result ≡ Some (rule_at context x forms) → IsAnswer context xs place result
+decided context xs place x forms (Ok r) stands operands t = has x forms stands operands (sym (some_is t))
+decided context xs place x forms (Err (Fault e)) stands operands t = tells context xs place x forms (fault_of e) stands operands t
+decided context xs place x forms (Err (Memory e)) stands operands t = tt
+
+-- what four operands are read as, and what is told of the rule for what was read, is what is told of the rule for their types
+pub by_reads : (context : Context) (x : PlainExpression) (forms : ℕ → Form) (post : ℕ → Bor TypeResolution → Type 0) (a b c d : Option ℕ) (p q r s : Option (Bor TypeResolution)) (result : Result TypeResolution ResolveRefusal)
+    → a ≡ slice_get (typing_operands x) 0 → b ≡ slice_get (typing_operands x) 1 → c ≡ slice_get (typing_operands x) 2 → d ≡ slice_get (typing_operands x) 3
+    → (((o : ℕ) (z : Bor TypeResolution) → a ≡ Some o → post o z → form_given context.types z.now ≡ forms o) → given_form context.types p ≡ form_read forms a)
+    → (((o : ℕ) (z : Bor TypeResolution) → b ≡ Some o → post o z → form_given context.types z.now ≡ forms o) → given_form context.types q ≡ form_read forms b)
+    → (((o : ℕ) (z : Bor TypeResolution) → c ≡ Some o → post o z → form_given context.types z.now ≡ forms o) → given_form context.types r ≡ form_read forms c)
+    → (((o : ℕ) (z : Bor TypeResolution) → d ≡ Some o → post o z → form_given context.types z.now ≡ forms o) → given_form context.types s ≡ form_read forms d)
+    → told context.types (Some (rule context x (given_form context.types p) (given_form context.types q) (given_form context.types r) (given_form context.types s))) result
+    ≡ Some (rule context x (given_form context.types p) (given_form context.types q) (given_form context.types r) (given_form context.types s))
+    → ((o : ℕ) (z : Bor TypeResolution) → IsAmong o (typing_operands x) → post o z → form_given context.types z.now ≡ forms o)
+    → told context.types (Some (rule_at context x forms)) result ≡ Some (rule_at context x forms)
+by_reads context x forms post a b c d p q r s result ea eb ec ed ra rb rc rd t same =
+    told_same context.types _ (rule_at context x forms) result
+    (same_rule context x _ _ _ _ _ _ _ _
+    (read_at context.types forms post (typing_operands x) 0 a p ea same ra)
+    (read_at context.types forms post (typing_operands x) 1 b q eb same rb)
+    (read_at context.types forms post (typing_operands x) 2 c r ec same rc)
+    (read_at context.types forms post (typing_operands x) 3 d s ed same rd))
+    t

@@ -1,0 +1,24 @@
+-- The types of operands as they are at hand.
+use Rattle.std.specs.Prelude.{List, Option, Some, None, Result}
+use Rattle.std.specs.Borrow.{Bor}
+use Rattle.ir_types.specs.Plain.{PlainType}
+use Rattle.typing_forms.specs.declared.form.Form.{Form}
+use Rattle.typing_forms.specs.declared.form.Form.TheVariants as form
+use Rattle.typing_forms.specs.declared.resolution.TypeResolution.{TypeResolution}
+use Rattle.ir_expressions.specs.Plain.{PlainExpression}
+use Rattle.spec_expressions.specs.Context.{Context}
+use Rattle.spec_expressions.specs.Typing.{rule}
+use Rattle.spec_expressions.specs.declared.faults.TypingFault.{TypingFault}
+use Rattle.typing_resolve.specs.declared.operands.Given.{Given}
+use Rattle.typing_resolve.specs.Answers.{form_given}
+
+-- the form of an operand's type, where there is such an operand
+abbrev pub given_form : List PlainType → Option (Bor TypeResolution) → Form
+given_form types (Some r) = form_given types r.now
+given_form types None = form.Nothing
+
+-- what the rule of its kind says of an expression whose operands have the types that are given
+abbrev pub rule_given : Context → PlainExpression → Given → Result Form TypingFault
+rule_given context expression given =
+    rule context expression (given_form context.types given.first) (given_form context.types given.second)
+    (given_form context.types given.third) (given_form context.types given.fourth)

@@ -1,0 +1,83 @@
+//! Texels of images, and what is asked of images.
+
+ghost use Rattle.std.specs.Prelude.{◌≡◌, List, None};
+ghost use Rattle.ir_types.specs.Plain.{PlainType, inner_view};
+ghost use Rattle.spec_expressions.specs.ImageLoads.{loaded_texel, image_load_type, extent, size_type, image_query_type};
+ghost use Rattle.typing_forms.specs.Forms.{form_in};
+ghost use Rattle.typing_resolve.specs.Answers.{form_given, form_answer};
+
+use crate::image_samples::{texel, texel_scalar};
+use ir_arena::handle::Handle;
+use ir_expressions::ImageQuery;
+use ir_kinds::{ImageClass, ImageDimension, Scalar, VectorSize};
+use ir_types::{TypeInner, key};
+use spec_expressions::TypingFault;
+use typing_forms::{Form, TypeResolution};
+
+// One texel.
+fn loaded_texel(class: ImageClass) -> TypeResolution
+    ensures { (types : List PlainType) → form_given types result ≡ loaded_texel class }
+{
+    match class {
+        ImageClass::Sampled { kind, .. } => texel(texel_scalar(kind)),
+        ImageClass::Depth { .. } => TypeResolution::Value(TypeInner::Scalar(Scalar::F32)),
+        ImageClass::External => texel(Scalar::F32),
+        ImageClass::Storage { format, .. } => texel(Scalar::from(format)),
+    }
+}
+
+// A texel of an image.
+pub(crate) fn image_load_type(
+    image: Handle<key::Expression>,
+    of: Form,
+) -> Result<TypeResolution, TypingFault>
+    ensures { (types : List PlainType) → form_answer types result ≡ image_load_type image of }
+{
+    match of {
+        Form::Image { class, .. } => Ok(loaded_texel(class)),
+        _ => Err(TypingFault::InvalidImage(image)),
+    }
+}
+
+// How many texels an image has each way.
+fn extent(dim: ImageDimension) -> TypeInner
+    ensures { (types : List PlainType) → form_in types None (inner_view result) ≡ extent dim }
+{
+    match dim {
+        ImageDimension::D1 => TypeInner::Scalar(Scalar::U32),
+        ImageDimension::D2 | ImageDimension::Cube => TypeInner::Vector {
+            size: VectorSize::Bi,
+            scalar: Scalar::U32,
+        },
+        ImageDimension::D3 => TypeInner::Vector {
+            size: VectorSize::Tri,
+            scalar: Scalar::U32,
+        },
+    }
+}
+
+// The size of an image.
+fn size_type(image: Handle<key::Expression>, of: Form) -> Result<TypeResolution, TypingFault>
+    ensures { (types : List PlainType) → form_answer types result ≡ size_type image of }
+{
+    match of {
+        Form::Image { dim, .. } => Ok(TypeResolution::Value(extent(dim))),
+        _ => Err(TypingFault::InvalidImage(image)),
+    }
+}
+
+// What is asked of an image.
+pub(crate) fn image_query_type(
+    image: Handle<key::Expression>,
+    query: ImageQuery,
+    of: Form,
+) -> Result<TypeResolution, TypingFault>
+    ensures { (types : List PlainType) → form_answer types result ≡ image_query_type image query of }
+{
+    match query {
+        ImageQuery::Size { .. } => size_type(image, of),
+        ImageQuery::NumLevels | ImageQuery::NumLayers | ImageQuery::NumSamples => {
+            Ok(TypeResolution::Value(TypeInner::Scalar(Scalar::U32)))
+        }
+    }
+}

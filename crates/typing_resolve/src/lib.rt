@@ -1,0 +1,25 @@
+//! The types of expressions, found from the types of their operands. The definitions are those of `spec_expressions`, and
+//! each family of expressions has a module of the name that its definitions have there.
+#![tactic(auto)]
+
+mod access;
+mod compositions;
+mod context;
+mod conversions;
+mod cooperative_matrices;
+mod error;
+mod image_loads;
+mod image_samples;
+mod literals;
+mod loads;
+mod maths;
+mod operands;
+mod operators;
+mod ray_queries;
+mod results;
+mod selections;
+mod subgroups;
+mod typing;
+
+pub use context::ResolveContext;
+pub use error::{ResolveError, ResolveRefusal};

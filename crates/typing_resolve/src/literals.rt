@@ -1,0 +1,48 @@
+//! Values that are written or declared: literals, constants, overrides, zeros.
+
+ghost use Rattle.std.specs.Prelude.{◌≡◌, ◌<◌, List, length, map, option_map, slice_get};
+ghost use Rattle.ir_globals.specs.View.{values_of, constant_view, override_view};
+ghost use Rattle.ir_types.specs.Plain.{PlainType};
+ghost use Rattle.spec_expressions.specs.Context.{form_if};
+ghost use Rattle.spec_expressions.specs.Literals.{literal_type};
+ghost use Rattle.typing_resolve.specs.Answers.{form_given};
+
+use ir_arena::arena::Arena;
+use ir_arena::handle::Handle;
+use ir_globals::{Constant, Override};
+use ir_kinds::Literal;
+use ir_types::{LiteralExt, key};
+use typing_forms::TypeResolution;
+
+// The type of a literal: its scalar.
+pub(crate) fn literal_type(value: Literal) -> TypeResolution
+    ensures { (types : List PlainType) → form_given types result ≡ literal_type value }
+{
+    TypeResolution::Value(value.ty_inner())
+}
+
+// The type of a constant: the one that it declares.
+#[tactic(auto, using(crate::proofs::Lookups::found))]
+pub(crate) fn constant_type(
+    constants: &Arena<Constant, key::Constant>,
+    constant: Handle<key::Constant>,
+) -> TypeResolution
+    requires { constant < length constants.now }
+    ensures { (types : List PlainType) → form_given types result
+        ≡ form_if types (option_map (λ k. k.ty) (slice_get (map constant_view (values_of constants.now)) constant)) }
+{
+    TypeResolution::Handle(constants[constant].ty)
+}
+
+// The type of an override: the one that it declares.
+#[tactic(auto, using(crate::proofs::Lookups::found))]
+pub(crate) fn override_type(
+    overrides: &Arena<Override, key::Override>,
+    id: Handle<key::Override>,
+) -> TypeResolution
+    requires { id < length overrides.now }
+    ensures { (types : List PlainType) → form_given types result
+        ≡ form_if types (option_map (λ o. o.ty) (slice_get (map override_view (values_of overrides.now)) id)) }
+{
+    TypeResolution::Handle(overrides[id].ty)
+}

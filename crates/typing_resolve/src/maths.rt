@@ -1,0 +1,113 @@
+//! Functions of numbers, by their overload sets.
+
+ghost use Rattle.std.specs.Prelude.{◌≡◌, IfOk, Some};
+ghost use Rattle.ir_types.specs.Plain.{inner_view};
+ghost use Rattle.overload_tables.specs.Tables.{table};
+ghost use Rattle.overload_tables.specs.Types.{value_type_of};
+ghost use Rattle.spec_expressions.specs.Maths.{value_of, taking, concluded, math_of, math_type};
+ghost use Rattle.typing_overloads.specs.Either.{any_rules};
+ghost use Rattle.typing_resolve.specs.Answers.{form_answer};
+ghost use Rattle.typing_resolve.specs.View.{context_view};
+
+use crate::context::ResolveContext;
+use crate::operands::{Forms, Typing};
+use ir_arena::handle::Handle;
+use ir_kinds::MathFunction;
+use ir_types::{TypeInner, key};
+use overload_tables::Rule;
+use spec_expressions::TypingFault;
+use std::alloc::{AllocError, Global};
+use typing_conclusions::ConclusionExt;
+use typing_forms::Form;
+use typing_overloads::{AnyOverloadSet, MathFunctionExt, OverloadSet};
+
+// The type of an argument, as overload sets take it: for all that are no values stands a type that no rule takes.
+fn argument_inner(of: Form) -> TypeInner
+    ensures { value_type_of (inner_view result) ≡ value_of of }
+{
+    match of {
+        Form::Scalar(scalar) => TypeInner::Scalar(scalar),
+        Form::Vector { size, scalar } => TypeInner::Vector { size, scalar },
+        Form::Matrix {
+            columns,
+            rows,
+            scalar,
+        } => TypeInner::Matrix {
+            columns,
+            rows,
+            scalar,
+        },
+        _ => TypeInner::Sampler { comparison: false },
+    }
+}
+
+// The rules of a function that take these arguments. The error is out of memory.
+#[tactic(auto, using(crate::proofs::Taken::taken_one, crate::proofs::Taken::taken_all))]
+fn taking(alloc: Global, fun: MathFunction, given: &[Form]) -> Result<AnyOverloadSet, AllocError>
+    ensures { IfOk result (λ set. any_rules set ≡ taking 0 given.now (table fun)) }
+{
+    let mut rules = fun.overloads(alloc)?;
+    for place in 0..given.len() {
+        rules = rules.arg(alloc, place, &argument_inner(given[place]))?;
+    }
+    Ok(rules)
+}
+
+// What a rule gives.
+fn concluded(context: &ResolveContext<'_>, rule: Rule) -> Typing
+    ensures { form_answer (context_view context.now).types result ≡ concluded (context_view context.now) (Some rule) }
+{
+    match rule.conclusion.into_resolution(context.special_types) {
+        Ok(given) => Ok(given),
+        Err(_) => Err(TypingFault::MissingSpecialType),
+    }
+}
+
+// What a function gives for these arguments. The error is out of memory.
+fn math_of(
+    alloc: Global,
+    context: &ResolveContext<'_>,
+    fun: MathFunction,
+    given: &[Form],
+) -> Result<Typing, AllocError>
+    ensures { IfOk result (λ o. form_answer (context_view context.now).types o ≡ math_of (context_view context.now) fun (Some given.now)) }
+{
+    if given.len() != fun.argument_count() {
+        return Ok(Err(TypingFault::BuiltinArgumentsInvalid));
+    }
+    let rules = taking(alloc, fun, given)?;
+    if rules.is_empty() {
+        return Ok(Err(TypingFault::BuiltinArgumentsInvalid));
+    }
+    Ok(concluded(context, rules.most_preferred()))
+}
+
+// What a function gives for up to four arguments of these forms. The error is out of memory.
+pub(crate) fn math_type(
+    alloc: Global,
+    context: &ResolveContext<'_>,
+    fun: MathFunction,
+    second: Option<Handle<key::Expression>>,
+    third: Option<Handle<key::Expression>>,
+    fourth: Option<Handle<key::Expression>>,
+    forms: Forms,
+) -> Result<Typing, AllocError>
+    ensures { IfOk result (λ o. form_answer (context_view context.now).types o
+        ≡ math_type (context_view context.now) fun second third fourth forms.first forms.second forms.third forms.fourth) }
+{
+    let Forms {
+        first: a,
+        second: b,
+        third: c,
+        fourth: d,
+    } = forms;
+    match (second, third, fourth) {
+        (None, None, None) => math_of(alloc, context, fun, &[a]),
+        (Some(_), None, None) => math_of(alloc, context, fun, &[a, b]),
+        (Some(_), Some(_), None) => math_of(alloc, context, fun, &[a, b, c]),
+        (Some(_), Some(_), Some(_)) => math_of(alloc, context, fun, &[a, b, c, d]),
+        (None, Some(_), _) | (None, None, Some(_)) | (Some(_), None, Some(_)) => {
+            Ok(Err(TypingFault::BuiltinArgumentsInvalid))
+        }
+    }
+}

@@ -1,0 +1,204 @@
+//! The operands whose types make that of an expression.
+
+ghost use Rattle.std.specs.Prelude.{◌≡◌, List, IfOk, Ok, Some, None, slice_get};
+ghost use Rattle.ir_expressions.specs.Plain.{expression_view};
+ghost use Rattle.ir_types.specs.Plain.{PlainType};
+ghost use Rattle.spec_expressions.specs.Maths.{math_operands};
+ghost use Rattle.spec_expressions.specs.Typing.{typing_operands};
+ghost use Rattle.typing_forms.specs.Resolutions.{types_view};
+ghost use Rattle.typing_resolve.specs.Answers.{form_given, form_answer};
+ghost use Rattle.typing_resolve.specs.Operands.{given_form};
+
+use ir_arena::handle::Handle;
+use ir_unique_arena::unique_arena::UniqueArena;
+use ir_expressions::Expression;
+use ir_types::{IrType, TypeInner, key};
+use spec_expressions::TypingFault;
+use std::alloc::{AllocError, Global};
+use typing_forms::{Form, TypeResolution, form_of};
+
+// A type, or why there is none.
+pub(crate) type Typing = Result<TypeResolution, TypingFault>;
+
+// Up to four operands, in order.
+#[derive(Clone, Copy)]
+pub(crate) struct Operands {
+    pub(crate) first: Option<Handle<key::Expression>>,
+    pub(crate) second: Option<Handle<key::Expression>>,
+    pub(crate) third: Option<Handle<key::Expression>>,
+    pub(crate) fourth: Option<Handle<key::Expression>>,
+}
+
+// None.
+const NONE: Operands = Operands {
+    first: None,
+    second: None,
+    third: None,
+    fourth: None,
+};
+
+// One alone.
+fn one(first: Handle<key::Expression>) -> Operands
+    ensures first { result.first ≡ Some first }
+    ensures second { result.second ≡ None }
+    ensures third { result.third ≡ None }
+    ensures fourth { result.fourth ≡ None }
+{
+    Operands {
+        first: Some(first),
+        ..NONE
+    }
+}
+
+// Those of a function of numbers.
+fn math_operands(
+    first: Handle<key::Expression>,
+    second: Option<Handle<key::Expression>>,
+    third: Option<Handle<key::Expression>>,
+    fourth: Option<Handle<key::Expression>>,
+) -> Operands
+    ensures first { result.first ≡ slice_get (math_operands first second third fourth) 0 }
+    ensures second { result.second ≡ slice_get (math_operands first second third fourth) 1 }
+    ensures third { result.third ≡ slice_get (math_operands first second third fourth) 2 }
+    ensures fourth { result.fourth ≡ slice_get (math_operands first second third fourth) 3 }
+{
+    match (second, third, fourth) {
+        (None, None, None)
+        | (Some(_), None, None)
+        | (Some(_), Some(_), None)
+        | (Some(_), Some(_), Some(_)) => Operands {
+            first: Some(first),
+            second,
+            third,
+            fourth,
+        },
+        (None, Some(_), _) | (None, None, Some(_)) | (Some(_), None, Some(_)) => NONE,
+    }
+}
+
+// The operands whose types make that of the expression.
+pub(crate) fn operands_of(expression: &Expression) -> Operands
+    ensures first { result.first ≡ slice_get (typing_operands (expression_view expression.now)) 0 }
+    ensures second { result.second ≡ slice_get (typing_operands (expression_view expression.now)) 1 }
+    ensures third { result.third ≡ slice_get (typing_operands (expression_view expression.now)) 2 }
+    ensures fourth { result.fourth ≡ slice_get (typing_operands (expression_view expression.now)) 3 }
+{
+    match *expression {
+        Expression::Access { base, .. } | Expression::AccessIndex { base, .. } => one(base),
+        Expression::Splat { value, .. } => one(value),
+        Expression::Swizzle { vector, .. } => one(vector),
+        Expression::Load { pointer } => one(pointer),
+        Expression::ImageSample { image, .. }
+        | Expression::ImageLoad { image, .. }
+        | Expression::ImageQuery { image, .. } => one(image),
+        Expression::Unary { expr, .. }
+        | Expression::Derivative { expr, .. }
+        | Expression::As { expr, .. } => one(expr),
+        Expression::Binary { left, right, .. } => Operands {
+            first: Some(left),
+            second: Some(right),
+            ..NONE
+        },
+        Expression::Select { accept, .. } => one(accept),
+        Expression::Relational { argument, .. } => one(argument),
+        Expression::Math {
+            arg,
+            arg1,
+            arg2,
+            arg3,
+            ..
+        } => math_operands(arg, arg1, arg2, arg3),
+        Expression::CooperativeLoad { block, .. } => one(block.pointer),
+        Expression::CooperativeMultiplyAdd { c, .. } => one(c),
+        Expression::Literal(_)
+        | Expression::Constant(_)
+        | Expression::Override(_)
+        | Expression::ZeroValue(_)
+        | Expression::Compose { .. }
+        | Expression::FunctionArgument(_)
+        | Expression::GlobalVariable(_)
+        | Expression::LocalVariable(_)
+        | Expression::CallResult(_)
+        | Expression::AtomicResult { .. }
+        | Expression::WorkGroupUniformLoadResult { .. }
+        | Expression::ArrayLength(_)
+        | Expression::RayQueryVertexPositions { .. }
+        | Expression::RayQueryProceedResult
+        | Expression::RayQueryGetIntersection { .. }
+        | Expression::SubgroupBallotResult
+        | Expression::SubgroupOperationResult { .. } => NONE,
+    }
+}
+
+// The form of an operand's type, where there is such an operand.
+pub(crate) fn given_form(
+    types: &UniqueArena<IrType, key::IrType>,
+    given: Option<&TypeResolution>,
+) -> Form
+    ensures { result ≡ given_form (types_view types.now) given.entry }
+{
+    match given {
+        Some(given) => form_of(types, given),
+        None => Form::Nothing,
+    }
+}
+
+// What is no type: a struct that is not the module's.
+fn nothing(alloc: Global) -> TypeResolution
+    ensures { (types : List PlainType) → form_given types result ≡ Form.Nothing }
+{
+    TypeResolution::Value(TypeInner::Struct {
+        members: Vec::new(alloc),
+        span: 0,
+    })
+}
+
+// The type of an operand once more, as that of the expression. The error is out of memory.
+pub(crate) fn given_again(
+    alloc: Global,
+    types: &UniqueArena<IrType, key::IrType>,
+    given: Option<&TypeResolution>,
+) -> Result<Typing, AllocError>
+    ensures { IfOk result (λ o. form_answer (types_view types.now) o ≡ Ok (given_form (types_view types.now) given.entry)) }
+{
+    match given {
+        Some(given) => match given.clone(alloc) {
+            Ok(copy) => Ok(Ok(copy)),
+            Err(error) => Err(error),
+        },
+        None => Ok(Ok(nothing(alloc))),
+    }
+}
+
+// The types of up to four operands, in order.
+#[derive(Clone, Copy)]
+pub(crate) struct Given<'a> {
+    pub(crate) first: Option<&'a TypeResolution>,
+    pub(crate) second: Option<&'a TypeResolution>,
+    pub(crate) third: Option<&'a TypeResolution>,
+    pub(crate) fourth: Option<&'a TypeResolution>,
+}
+
+// The forms of up to four types, in order; [`Form::Nothing`] where there is no type.
+#[derive(Clone, Copy)]
+pub(crate) struct Forms {
+    pub(crate) first: Form,
+    pub(crate) second: Form,
+    pub(crate) third: Form,
+    pub(crate) fourth: Form,
+}
+
+// The forms of the types that are given.
+pub(crate) fn forms_of(types: &UniqueArena<IrType, key::IrType>, given: &Given<'_>) -> Forms
+    ensures first { result.first ≡ given_form (types_view types.now) given.now.first }
+    ensures second { result.second ≡ given_form (types_view types.now) given.now.second }
+    ensures third { result.third ≡ given_form (types_view types.now) given.now.third }
+    ensures fourth { result.fourth ≡ given_form (types_view types.now) given.now.fourth }
+{
+    Forms {
+        first: given_form(types, given.first),
+        second: given_form(types, given.second),
+        third: given_form(types, given.third),
+        fourth: given_form(types, given.fourth),
+    }
+}

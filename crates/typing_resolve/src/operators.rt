@@ -1,0 +1,149 @@
+//! Operations on one value and on two.
+
+ghost use Rattle.std.specs.Prelude.{◌≡◌, List, IfOk, Ok};
+ghost use Rattle.ir_types.specs.Plain.{PlainType};
+ghost use Rattle.spec_expressions.specs.Operators.{truth_of, vector_times, matrix_times, other_times, product, binary_type};
+ghost use Rattle.typing_forms.specs.Resolutions.{types_view};
+ghost use Rattle.typing_resolve.specs.Answers.{form_answer};
+ghost use Rattle.typing_resolve.specs.Operands.{given_form};
+
+use crate::operands::{Typing, given_again, given_form};
+use ir_unique_arena::unique_arena::UniqueArena;
+use ir_kinds::{BinaryOperator, Scalar, VectorSize};
+use ir_types::{IrType, TypeInner, key};
+use spec_expressions::TypingFault;
+use std::alloc::{AllocError, Global};
+use typing_forms::{Form, TypeResolution};
+
+// Truth values in the shape of a value.
+pub(crate) fn truth_of(of: Form) -> Typing
+    ensures { (types : List PlainType) → form_answer types result ≡ truth_of of }
+{
+    match of {
+        Form::Scalar(_) => Ok(TypeResolution::Value(TypeInner::Scalar(Scalar::BOOL))),
+        Form::Vector { size, .. } => Ok(TypeResolution::Value(TypeInner::Vector {
+            size,
+            scalar: Scalar::BOOL,
+        })),
+        _ => Err(TypingFault::IncompatibleOperands),
+    }
+}
+
+// A vector times what is on the right.
+fn vector_times(
+    alloc: Global,
+    types: &UniqueArena<IrType, key::IrType>,
+    left: Option<&TypeResolution>,
+    right: Form,
+) -> Result<Typing, AllocError>
+    ensures { IfOk result (λ o. form_answer (types_view types.now) o ≡ vector_times (given_form (types_view types.now) left.entry) right) }
+{
+    match right {
+        Form::Scalar(_) | Form::Vector { .. } => given_again(alloc, types, left),
+        Form::Matrix {
+            columns,
+            scalar,
+            ..
+        } => {
+            Ok(Ok(TypeResolution::Value(TypeInner::Vector {
+                size: columns,
+                scalar,
+            })))
+        }
+        _ => Ok(Err(TypingFault::IncompatibleOperands)),
+    }
+}
+
+// A matrix of so many rows of a scalar times what is on the right.
+fn matrix_times(
+    alloc: Global,
+    types: &UniqueArena<IrType, key::IrType>,
+    left: Option<&TypeResolution>,
+    rows: VectorSize,
+    scalar: Scalar,
+    right: Form,
+) -> Result<Typing, AllocError>
+    ensures { IfOk result (λ o. form_answer (types_view types.now) o ≡ matrix_times (given_form (types_view types.now) left.entry) rows scalar right) }
+{
+    match right {
+        Form::Scalar(_) => given_again(alloc, types, left),
+        Form::Vector { .. } => Ok(Ok(TypeResolution::Value(TypeInner::Vector {
+            size: rows,
+            scalar,
+        }))),
+        Form::Matrix { columns, .. } => Ok(Ok(TypeResolution::Value(TypeInner::Matrix {
+            columns,
+            rows,
+            scalar,
+        }))),
+        _ => Ok(Err(TypingFault::IncompatibleOperands)),
+    }
+}
+
+// Anything else times what is on the right.
+fn other_times(
+    alloc: Global,
+    types: &UniqueArena<IrType, key::IrType>,
+    left: Option<&TypeResolution>,
+    right: Form,
+) -> Result<Typing, AllocError>
+    ensures { IfOk result (λ o. form_answer (types_view types.now) o ≡ other_times (given_form (types_view types.now) left.entry) right) }
+{
+    match right {
+        Form::Scalar(_) => given_again(alloc, types, left),
+        _ => Ok(Err(TypingFault::IncompatibleOperands)),
+    }
+}
+
+// What a product is.
+fn product(
+    alloc: Global,
+    types: &UniqueArena<IrType, key::IrType>,
+    left: Option<&TypeResolution>,
+    right: Option<&TypeResolution>,
+) -> Result<Typing, AllocError>
+    ensures { IfOk result (λ o. form_answer (types_view types.now) o
+        ≡ product (given_form (types_view types.now) left.entry) (given_form (types_view types.now) right.entry)) }
+{
+    match given_form(types, left) {
+        Form::Scalar(_) => given_again(alloc, types, right),
+        Form::Vector { .. } => vector_times(alloc, types, left, given_form(types, right)),
+        Form::Matrix { rows, scalar, .. } => {
+            matrix_times(alloc, types, left, rows, scalar, given_form(types, right))
+        }
+        _ => other_times(alloc, types, left, given_form(types, right)),
+    }
+}
+
+// What an operation on two values gives.
+pub(crate) fn binary_type(
+    alloc: Global,
+    types: &UniqueArena<IrType, key::IrType>,
+    op: BinaryOperator,
+    left: Option<&TypeResolution>,
+    right: Option<&TypeResolution>,
+) -> Result<Typing, AllocError>
+    ensures { IfOk result (λ o. form_answer (types_view types.now) o
+        ≡ binary_type op (given_form (types_view types.now) left.entry) (given_form (types_view types.now) right.entry)) }
+{
+    match op {
+        BinaryOperator::Add
+        | BinaryOperator::Subtract
+        | BinaryOperator::Divide
+        | BinaryOperator::Modulo
+        | BinaryOperator::And
+        | BinaryOperator::ExclusiveOr
+        | BinaryOperator::InclusiveOr
+        | BinaryOperator::LogicalAnd
+        | BinaryOperator::LogicalOr
+        | BinaryOperator::ShiftLeft
+        | BinaryOperator::ShiftRight => given_again(alloc, types, left),
+        BinaryOperator::Multiply => product(alloc, types, left, right),
+        BinaryOperator::Equal
+        | BinaryOperator::NotEqual
+        | BinaryOperator::Less
+        | BinaryOperator::LessEqual
+        | BinaryOperator::Greater
+        | BinaryOperator::GreaterEqual => Ok(truth_of(given_form(types, left))),
+    }
+}

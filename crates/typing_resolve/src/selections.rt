@@ -1,0 +1,24 @@
+//! Questions about a value.
+
+ghost use Rattle.std.specs.Prelude.{◌≡◌, List};
+ghost use Rattle.ir_types.specs.Plain.{PlainType};
+ghost use Rattle.spec_expressions.specs.Selections.{relational_type};
+ghost use Rattle.typing_resolve.specs.Answers.{form_answer};
+
+use crate::operands::Typing;
+use crate::operators::truth_of;
+use ir_kinds::{RelationalFunction, Scalar};
+use ir_types::TypeInner;
+use typing_forms::{Form, TypeResolution};
+
+// All or any of the components: one truth value; about numbers: one for each.
+pub(crate) fn relational_type(fun: RelationalFunction, of: Form) -> Typing
+    ensures { (types : List PlainType) → form_answer types result ≡ relational_type fun of }
+{
+    match fun {
+        RelationalFunction::All | RelationalFunction::Any => {
+            Ok(TypeResolution::Value(TypeInner::Scalar(Scalar::BOOL)))
+        }
+        RelationalFunction::IsNan | RelationalFunction::IsInf => truth_of(of),
+    }
+}
