@@ -22,7 +22,7 @@ PAGES = [
      ("overload_alone/src/main.rt", None), ["typing_forms", "typing_rules", "typing_compare", "overload_tables",
                                             "constructor_sets", "typing_overloads", "typing_conclusions"]),
     ("document_reader", "From bytes to a document.",
-     ("test_ir/src/modules.rt", "pub fn document_of("), ["document_forms", "document_model", "document_reader"]),
+     ("test_ir/src/modules.rt", "pub fn document_of("), ["document_forms", "document_reader"]),
     ("shader_check", "The check of a document, from a reader to a writer.",
      ("checker/src/main.rt", "fn main("), ["document_within", "judgement", "shader_check"]),
 ]

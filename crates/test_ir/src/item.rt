@@ -1,14 +1,13 @@
 // Items of the IR: how a line of the input gives them, how they are copied, and what is told of them.
 use crate::modules::document_of;
 use expression_forms::ExpressionForm;
-use function_forms::{EntryForm, FunctionForm, LocalForm};
+use function_forms::{BodyForm, EntryForm, FunctionForm, LocalForm};
 use ir_items::{
     Block, Constant, DiagnosticFilterNode, EntryPoint, Expression, Function, GlobalVariable,
     IrType, LocalVariable, Module, Override, SpecialTypes,
 };
 use item_forms::{ConstantForm, FilterForm, GlobalForm, OverrideForm, SpecialForm, TypeForm};
 use serde_json::Value;
-use statement_forms::BodyForm;
 use std::alloc::{AllocError, Global};
 use test_support::call::{no_call, told};
 use test_support::forms::found;

@@ -2,8 +2,8 @@ use Rattle.std.proofs.Common.{◌≡◌, ◌+◌, ◌*◌, drop, map, ◌++◌, 
 use Rattle.serde_json.specs.View.{items_view}
 use Rattle.ir_blocks.specs.View.{statement_view, case_view, statements_of}
 use Rattle.document_forms.specs.Find.{each}
-use Rattle.statement_forms.specs.Statements.{statement_at, case_with, block_at}
-use Rattle.statement_forms.proofs.statements.+statements.Given as goal
+use Rattle.function_forms.specs.Statements.{statement_at, case_with, block_at}
+use Rattle.function_forms.proofs.statements.+statements.Given as goal
 
 abbrev pub decreases-statement : goal.decreases-statement
 decreases-statement l = 6 * l.depth

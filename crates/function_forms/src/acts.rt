@@ -3,12 +3,11 @@ ghost use Rattle.std.specs.Prelude.{◌≡◌, option_map};
 ghost use Rattle.serde_json.specs.View.{items_view};
 ghost use Rattle.ir_blocks.specs.View.{statement_view};
 ghost use Rattle.document_forms.specs.Answers.{Answers};
-ghost use Rattle.statement_forms.specs.Statements.{no_blocks, statement_with};
+ghost use Rattle.function_forms.specs.Statements.{no_blocks, statement_with};
 
 use crate::kinds::StatementKind;
 use crate::parts::{AtomicForm, GatherForm, PipelineForm, RayQueryForm};
-use document_forms::{At, Each, Maybe, ReadError, SetOf, Truth, U32, WordOf};
-use document_rows::{End, read_items};
+use document_forms::{At, Each, End, Maybe, ReadError, SetOf, Truth, U32, WordOf, read_items};
 use ir_arena::range::Range;
 use ir_blocks::{CooperativeData, Statement};
 use ir_flags::Barrier;

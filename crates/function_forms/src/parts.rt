@@ -5,11 +5,10 @@ ghost use Rattle.ir_blocks.specs.declared.acts.AtomicFunction.{AtomicFunction};
 ghost use Rattle.ir_blocks.specs.declared.acts.GatherMode.{GatherMode};
 ghost use Rattle.ir_blocks.specs.declared.acts.RayQueryFunction.{RayQueryFunction};
 ghost use Rattle.ir_blocks.specs.declared.acts.RayPipelineFunction.{RayPipelineFunction};
-ghost use Rattle.statement_forms.specs.Statements.{a_value, an_atomic, a_gather, a_ray_query, a_pipeline};
+ghost use Rattle.function_forms.specs.Statements.{a_value, an_atomic, a_gather, a_ray_query, a_pipeline};
 
 use crate::kinds::{AtomicKind, GatherKind, PipelineKind, RayQueryKind, ValueKind};
-use document_forms::{At, Form, I32, Maybe, ReadError, U32, WordOf, read_tag};
-use document_rows::{End, read_items};
+use document_forms::{At, End, Form, I32, Maybe, ReadError, U32, WordOf, read_items, read_tag};
 use ir_blocks::{AtomicFunction, GatherMode, RayPipelineFunction, RayQueryFunction};
 use ir_kinds::{Direction, SwitchValue};
 use ir_types::key;

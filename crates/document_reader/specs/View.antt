@@ -1,9 +1,9 @@
 -- The plain document that a `Document` holds.
 use Rattle.ir_flags.specs.Settings.{PlainSettings}
 use Rattle.ir_items.specs.View.{module_view}
-use Rattle.document_model.specs.Plain.{PlainDocument}
-use Rattle.document_model.specs.declared.document.Settings.{Settings}
-use Rattle.document_model.specs.declared.document.Document.{Document}
+use Rattle.document_reader.specs.Plain.{PlainDocument}
+use Rattle.document_reader.specs.declared.model.Settings.{Settings}
+use Rattle.document_reader.specs.declared.model.Document.{Document}
 
 abbrev pub settings_view : Settings → PlainSettings
 settings_view s = record {

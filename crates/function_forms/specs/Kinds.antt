@@ -1,17 +1,17 @@
 -- The kinds of statements and of their parts, by their words.
 use Rattle.std.specs.Prelude.{ℕ, List, [], ◌∷◌, codes}
-use Rattle.statement_forms.specs.declared.kinds.ValueKind.{ValueKind}
-use Rattle.statement_forms.specs.declared.kinds.ValueKind.TheVariants as value_kind
-use Rattle.statement_forms.specs.declared.kinds.AtomicKind.{AtomicKind}
-use Rattle.statement_forms.specs.declared.kinds.AtomicKind.TheVariants as atomic_kind
-use Rattle.statement_forms.specs.declared.kinds.GatherKind.{GatherKind}
-use Rattle.statement_forms.specs.declared.kinds.GatherKind.TheVariants as gather_kind
-use Rattle.statement_forms.specs.declared.kinds.RayQueryKind.{RayQueryKind}
-use Rattle.statement_forms.specs.declared.kinds.RayQueryKind.TheVariants as ray_query_kind
-use Rattle.statement_forms.specs.declared.kinds.PipelineKind.{PipelineKind}
-use Rattle.statement_forms.specs.declared.kinds.PipelineKind.TheVariants as pipeline_kind
-use Rattle.statement_forms.specs.declared.kinds.StatementKind.{StatementKind}
-use Rattle.statement_forms.specs.declared.kinds.StatementKind.TheVariants as statement_kind
+use Rattle.function_forms.specs.declared.kinds.ValueKind.{ValueKind}
+use Rattle.function_forms.specs.declared.kinds.ValueKind.TheVariants as value_kind
+use Rattle.function_forms.specs.declared.kinds.AtomicKind.{AtomicKind}
+use Rattle.function_forms.specs.declared.kinds.AtomicKind.TheVariants as atomic_kind
+use Rattle.function_forms.specs.declared.kinds.GatherKind.{GatherKind}
+use Rattle.function_forms.specs.declared.kinds.GatherKind.TheVariants as gather_kind
+use Rattle.function_forms.specs.declared.kinds.RayQueryKind.{RayQueryKind}
+use Rattle.function_forms.specs.declared.kinds.RayQueryKind.TheVariants as ray_query_kind
+use Rattle.function_forms.specs.declared.kinds.PipelineKind.{PipelineKind}
+use Rattle.function_forms.specs.declared.kinds.PipelineKind.TheVariants as pipeline_kind
+use Rattle.function_forms.specs.declared.kinds.StatementKind.{StatementKind}
+use Rattle.function_forms.specs.declared.kinds.StatementKind.TheVariants as statement_kind
 
 -- the kinds of values of a switch
 abbrev pub value_kinds : List (List ℕ × ValueKind)

@@ -2,7 +2,7 @@
 ghost use Rattle.std.specs.Prelude.{◌≡◌, IfOk};
 ghost use Rattle.ir_items.specs.Copies.{spanned_module};
 ghost use Rattle.ir_items.specs.View.{module_view};
-ghost use Rattle.document_model.specs.View.{document_view};
+ghost use Rattle.document_reader.specs.View.{document_view};
 
 use ir_flags::{Capabilities, ShaderStages, SubgroupOperationSet, ValidationFlags};
 use ir_items::Module;

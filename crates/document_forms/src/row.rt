@@ -6,7 +6,9 @@ ghost use Rattle.document_forms.specs.Exact.{RowOf};
 ghost use Rattle.document_forms.specs.Find.{first, array_of};
 ghost use Rattle.document_forms.specs.Forms.{ends, ◌▹◌, an_array};
 
-use document_forms::{Form, ReadError, Wanted, read_at};
+use crate::error::ReadError;
+use crate::form::{Form, read_at};
+use crate::wanted::Wanted;
 use serde_json::Value;
 use std::alloc::Global;
 use std::marker::PhantomData;

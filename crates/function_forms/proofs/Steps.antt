@@ -2,8 +2,8 @@
 use Rattle.std.proofs.Common.{◌≡◌, ◌≢◌, ℕ, zero, suc, ◌-◌, None, refl, ap, arith}
 use Rattle.serde_json.specs.Data.{Data}
 use Rattle.document_forms.specs.Find.{tagged_of}
-use Rattle.statement_forms.specs.Kinds.{statement_kinds}
-use Rattle.statement_forms.specs.Statements.{statement_at, statement_with, block_at}
+use Rattle.function_forms.specs.Kinds.{statement_kinds}
+use Rattle.function_forms.specs.Statements.{statement_at, statement_with, block_at}
 
 pub statement_at-zero : (n : ℕ) (d : Data) → n ≡ 0 → statement_at n d ≡ None
 unfolding statement_at

@@ -22,21 +22,21 @@ use Rattle.document_forms.specs.Find.{each, all_of, tagged_of}
 use Rattle.document_forms.specs.Inverse.{map_some}
 use Rattle.document_forms.specs.KindLaws.{AreSound, kind_sound, tagged_complete, tagged_sound}
 use Rattle.document_forms.specs.Forms.{a_signed, a_handle, a_u32, a_bool, a_word, a_set, maybe, a_list, ends, an_array, by_kind}
-use Rattle.document_rows.specs.Rows.{row1, row2, row3, row4, row5}
-use Rattle.statement_forms.specs.StatementForm.{AValue, AnAtomic, AGather, AQueryFunction, APipeline, AnAct, AStatement, TheStatements, TheCases, ABody}
-use Rattle.statement_forms.specs.Kinds.{value_kinds, atomic_kinds, gather_kinds, ray_query_kinds, pipeline_kinds, statement_kinds}
-use Rattle.statement_forms.specs.declared.kinds.ValueKind.{ValueKind}
-use Rattle.statement_forms.specs.declared.kinds.ValueKind.TheVariants as value_kind
-use Rattle.statement_forms.specs.declared.kinds.AtomicKind.{AtomicKind}
-use Rattle.statement_forms.specs.declared.kinds.AtomicKind.TheVariants as atomic_kind
-use Rattle.statement_forms.specs.declared.kinds.GatherKind.{GatherKind}
-use Rattle.statement_forms.specs.declared.kinds.GatherKind.TheVariants as gather_kind
-use Rattle.statement_forms.specs.declared.kinds.RayQueryKind.{RayQueryKind}
-use Rattle.statement_forms.specs.declared.kinds.RayQueryKind.TheVariants as ray_query_kind
-use Rattle.statement_forms.specs.declared.kinds.PipelineKind.{PipelineKind}
-use Rattle.statement_forms.specs.declared.kinds.PipelineKind.TheVariants as pipeline_kind
-use Rattle.statement_forms.specs.declared.kinds.StatementKind.{StatementKind}
-use Rattle.statement_forms.specs.declared.kinds.StatementKind.TheVariants as statement_kind
+use Rattle.document_forms.specs.Rows.{row1, row2, row3, row4, row5}
+use Rattle.function_forms.specs.StatementForm.{AValue, AnAtomic, AGather, AQueryFunction, APipeline, AnAct, AStatement, TheStatements, TheCases, ABody}
+use Rattle.function_forms.specs.Kinds.{value_kinds, atomic_kinds, gather_kinds, ray_query_kinds, pipeline_kinds, statement_kinds}
+use Rattle.function_forms.specs.declared.kinds.ValueKind.{ValueKind}
+use Rattle.function_forms.specs.declared.kinds.ValueKind.TheVariants as value_kind
+use Rattle.function_forms.specs.declared.kinds.AtomicKind.{AtomicKind}
+use Rattle.function_forms.specs.declared.kinds.AtomicKind.TheVariants as atomic_kind
+use Rattle.function_forms.specs.declared.kinds.GatherKind.{GatherKind}
+use Rattle.function_forms.specs.declared.kinds.GatherKind.TheVariants as gather_kind
+use Rattle.function_forms.specs.declared.kinds.RayQueryKind.{RayQueryKind}
+use Rattle.function_forms.specs.declared.kinds.RayQueryKind.TheVariants as ray_query_kind
+use Rattle.function_forms.specs.declared.kinds.PipelineKind.{PipelineKind}
+use Rattle.function_forms.specs.declared.kinds.PipelineKind.TheVariants as pipeline_kind
+use Rattle.function_forms.specs.declared.kinds.StatementKind.{StatementKind}
+use Rattle.function_forms.specs.declared.kinds.StatementKind.TheVariants as statement_kind
 
 -- ---- the parts of statements that are tagged themselves
 

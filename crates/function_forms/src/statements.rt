@@ -5,13 +5,14 @@ ghost use Rattle.ir_blocks.specs.Plain.{PlainBlock};
 ghost use Rattle.ir_blocks.specs.View.{statement_view, block_view, case_view};
 ghost use Rattle.document_forms.specs.Answers.{Answers};
 ghost use Rattle.document_forms.specs.Find.{all_of};
-ghost use Rattle.statement_forms.specs.Statements.{statement_at, statement_with, block_at, case_with, a_body};
+ghost use Rattle.function_forms.specs.Statements.{statement_at, statement_with, block_at, case_with, a_body};
 
 use crate::acts;
 use crate::kinds::StatementKind;
 use crate::parts::ValueForm;
-use document_forms::{At, Form, Maybe, ReadError, Truth, Wanted, read_at, read_tag};
-use document_rows::{End, Row, split_part};
+use document_forms::{
+    At, End, Form, Maybe, ReadError, Row, Truth, Wanted, read_at, read_tag, split_part,
+};
 use ir_arena::span::Span;
 use ir_blocks::{Block, Statement, SwitchCase};
 use ir_types::key;
