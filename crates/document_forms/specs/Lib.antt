@@ -9,3 +9,4 @@ pub mod ListLaws
 pub mod RowLaws
 pub mod KindLaws
 pub mod Forms
+pub mod Rows

@@ -1,4 +1,4 @@
-//! Written forms: what a value must be to be written for something, and how that is read.
+//! Written forms, alone and in rows: what a value must be to be written for something, and how that is read.
 #![tactic(auto)]
 
 mod error;
@@ -6,7 +6,9 @@ mod form;
 mod grow;
 mod lists;
 mod numbers;
+mod row;
 mod tags;
+mod tuples;
 mod wanted;
 mod words;
 
@@ -15,6 +17,7 @@ pub use form::{Form, Maybe, Text, Truth, is_unique, read_at, read_form};
 pub use grow::Grow;
 pub use lists::{Each, InArena, read_all};
 pub use numbers::{At, I16, I32, I64, Side, Size, U8, U16, U32, U64, signed, unsigned};
+pub use row::{End, InArray, Row, Then, read_items, read_row, split_part};
 pub use tags::{read_tag, split_tag};
 pub use wanted::Wanted;
 pub use words::{SetOf, WordOf, read_word};

@@ -6,8 +6,8 @@ use Rattle.std.proofs.lemmas.Str.{IsUtf8-from_is_utf8, is_utf8-from_IsUtf8}
 use Rattle.serde_json.specs.Data.{Data}
 use Rattle.serde_json.specs.Read.{read}
 use Rattle.document_forms.specs.Inverse.{some_is}
-use Rattle.document_model.specs.Distinct.{AreDistinct}
-use Rattle.document_model.specs.Plain.{PlainDocument}
+use Rattle.document_reader.specs.Distinct.{AreDistinct}
+use Rattle.document_reader.specs.Plain.{PlainDocument}
 use Rattle.document_reader.specs.Documents.{document_in}
 use Rattle.document_reader.specs.Form.{Reads}
 use Rattle.document_reader.specs.declared.reading.TheConstants.{MAX_LEN}

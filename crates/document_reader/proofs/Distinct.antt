@@ -10,7 +10,7 @@ use Rattle.ir_types.specs.contracts.types.IrTypePartialEq.TheImpl.{ghosts}
 use Rattle.ir_types.proofs.TypeEquality.{type_eq}
 use Rattle.ir_globals.specs.View.{values_of}
 use Rattle.document_forms.specs.Refusals.{IsRefused, NoneTaken}
-use Rattle.document_model.specs.Distinct.{AreDistinct}
+use Rattle.document_reader.specs.Distinct.{AreDistinct}
 
 -- ---- an arena repeats no type
 

@@ -8,8 +8,8 @@ use Rattle.document_forms.specs.Find.{first, all_of, behind}
 use Rattle.document_forms.specs.Forms.{a_bool, a_list, ◌▹◌}
 use Rattle.document_forms.specs.Inverse.{some_is, bind_some}
 use Rattle.item_forms.specs.Types.{a_type}
-use Rattle.document_model.specs.Distinct.{AreDistinct}
-use Rattle.document_model.specs.Plain.{PlainDocument}
+use Rattle.document_reader.specs.Distinct.{AreDistinct}
+use Rattle.document_reader.specs.Plain.{PlainDocument}
 use Rattle.ir_flags.specs.declared.settings.ValidationFlags.{ValidationFlags}
 use Rattle.ir_flags.specs.declared.settings.Capabilities.{Capabilities}
 use Rattle.ir_flags.specs.declared.stages.ShaderStages.{ShaderStages}

@@ -12,8 +12,8 @@ use Rattle.item_forms.specs.ItemForm.{ASpecial, AllFilters, AConstant, AnOverrid
 use Rattle.function_forms.specs.FunctionForm.{AFunction}
 use Rattle.function_forms.specs.EntryForm.{AnEntry}
 use Rattle.document_reader.specs.declared.reading.TheConstants.{MAX_LEN}
-use Rattle.document_model.specs.Distinct.{AreDistinct}
-use Rattle.document_model.specs.Plain.{PlainDocument}
+use Rattle.document_reader.specs.Distinct.{AreDistinct}
+use Rattle.document_reader.specs.Plain.{PlainDocument}
 
 -- the version of the format
 abbrev pub IsVersion : Data → Type 0

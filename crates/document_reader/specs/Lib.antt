@@ -1,2 +1,5 @@
+pub mod Distinct
+pub mod Plain
+pub mod View
 pub mod Form
 pub mod Documents

@@ -8,15 +8,17 @@ ghost use Rattle.ir_items.specs.View.{module_view};
 ghost use Rattle.document_forms.specs.Find.{all_of};
 ghost use Rattle.document_forms.specs.declared.error.ReadError.TheVariants.{Memory};
 ghost use Rattle.item_forms.specs.Types.{a_type};
-ghost use Rattle.document_model.specs.Distinct.{AreDistinct};
-ghost use Rattle.document_model.specs.Plain.{PlainDocument};
-ghost use Rattle.document_model.specs.View.{document_view};
+ghost use Rattle.document_reader.specs.Distinct.{AreDistinct};
+ghost use Rattle.document_reader.specs.Plain.{PlainDocument};
+ghost use Rattle.document_reader.specs.View.{document_view};
 ghost use Rattle.document_reader.specs.Documents.{a_version, content_of, content_in, document_in};
 
 use crate::front::read_front;
-use document_forms::{At, Each, Form, InArena, Maybe, ReadError, SetOf, Truth, Wanted, read_all};
-use document_model::{Document, Settings};
-use document_rows::{InArray, Row, split_part};
+use crate::model::{Document, Settings};
+use document_forms::{
+    At, Each, Form, InArena, InArray, Maybe, ReadError, Row, SetOf, Truth, Wanted, read_all,
+    split_part,
+};
 use expression_forms::ExpressionForm;
 use function_forms::{EntryForm, FunctionForm};
 use ir_flags::{Capabilities, ShaderStages, SubgroupOperationSet, ValidationFlags};

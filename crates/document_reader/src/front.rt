@@ -4,8 +4,7 @@ ghost use Rattle.serde_json.specs.View.{items_view};
 ghost use Rattle.document_forms.specs.Answers.{Answers};
 ghost use Rattle.document_reader.specs.Documents.{front};
 
-use document_forms::{Form, ReadError, read_at};
-use document_rows::split_part;
+use document_forms::{Form, ReadError, read_at, split_part};
 use serde_json::Value;
 use std::alloc::Global;
 

@@ -1,7 +1,7 @@
 // Laws of documents.
 ghost use Rattle.std.specs.Prelude.{List, ℕ};
-ghost use Rattle.document_model.specs.Distinct.{AreDistinct};
-ghost use Rattle.document_model.specs.Plain.{PlainDocument};
+ghost use Rattle.document_reader.specs.Distinct.{AreDistinct};
+ghost use Rattle.document_reader.specs.Plain.{PlainDocument};
 ghost use Rattle.document_reader.specs.Form.{OneDocument, Reads};
 
 /// Bytes spell one document at most.

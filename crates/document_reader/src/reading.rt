@@ -1,13 +1,13 @@
 // From bytes to a document.
 ghost use Rattle.std.specs.Prelude.{◌≢◌, IfOk, IfErr};
-ghost use Rattle.document_model.specs.Plain.{PlainDocument};
-ghost use Rattle.document_model.specs.View.{document_view};
+ghost use Rattle.document_reader.specs.Plain.{PlainDocument};
+ghost use Rattle.document_reader.specs.View.{document_view};
 ghost use Rattle.document_reader.specs.Form.{Reads};
 ghost use Rattle.document_reader.specs.declared.error.DocumentError.TheVariants.{Memory};
 
 use crate::document::read_value;
 use crate::error::DocumentError;
-use document_model::Document;
+use crate::model::Document;
 use serde_json::Value;
 use std::alloc::Global;
 

@@ -10,7 +10,7 @@ use Rattle.ir_expressions.specs.declared.expressions.Expression.TheVariants as c
 use Rattle.ir_blocks.specs.Plain.{PlainStatement, emit, block, choice, switch, loop, break, continue, return, kill, act, call, PlainBlock, stop, next, PlainCases, no_case, case}
 use Rattle.ir_items.specs.Plain.{PlainFunction, PlainModule}
 use Rattle.ir_globals.specs.View.{no_special}
-use Rattle.document_model.specs.Plain.{PlainDocument}
+use Rattle.document_reader.specs.Plain.{PlainDocument}
 
 -- scalar types
 abbrev pub IsScalar : PlainInner → Type 0

@@ -5,12 +5,12 @@ ghost use Rattle.ir_types.specs.Plain.{inner_view, type_view};
 ghost use Rattle.ir_expressions.specs.Plain.{expression_view};
 ghost use Rattle.ir_globals.specs.View.{values_of, special_view};
 ghost use Rattle.ir_items.specs.View.{function_view, module_view};
-ghost use Rattle.document_model.specs.View.{document_view};
+ghost use Rattle.document_reader.specs.View.{document_view};
 ghost use Rattle.document_within.specs.Scope.{IsWithin};
 ghost use Rattle.document_within.specs.Tests.{all_pass, plain_inner, plain_type, plain_literal, plain_expression, plain_result, plain_function, plain_special, thin_module, plain_module};
 
 use crate::bodies::is_plain_block;
-use document_model::Document;
+use document_reader::Document;
 use ir_arena::arena::Arena;
 use ir_unique_arena::unique_arena::UniqueArena;
 use ir_items::{

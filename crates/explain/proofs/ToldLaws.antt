@@ -2,7 +2,7 @@
 use Rattle.std.proofs.Common.{◌≡◌, ℕ, List, Ok, Err, Result, IfOk, sym, subst}
 use Rattle.std.specs.declared.alloc.AllocError.{AllocError}
 use Rattle.judgement.specs.declared.finding.Finding.{Finding}
-use Rattle.document_model.specs.Plain.{PlainDocument}
+use Rattle.document_reader.specs.Plain.{PlainDocument}
 use Rattle.document_reader.specs.Form.{Reads}
 use Rattle.shader_check.specs.Theorem.{Judged, JudgedDocument}
 use Rattle.shader_check.proofs.JudgedLaws.{judged_if}

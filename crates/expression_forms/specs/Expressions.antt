@@ -20,7 +20,7 @@ use Rattle.document_forms.specs.Find.{◌>>=◌, of_kind, tagged_of}
 use Rattle.document_forms.specs.Inverse.{bind_some, map_some, chosen, guarded, some_is, as_str_some}
 use Rattle.document_forms.specs.KindLaws.{AreSound, kind_sound, kind_complete, tagged_complete}
 use Rattle.document_forms.specs.Forms.{a_number, a_signed, a_handle, a_u32, a_size, a_side, a_bool, a_word, maybe, a_list, ends, row_by_kind, by_kind}
-use Rattle.document_rows.specs.Rows.{row1, row2, row3, row5, row6, row9}
+use Rattle.document_forms.specs.Rows.{row1, row2, row3, row5, row6, row9}
 use Rattle.expression_forms.specs.Form.{ALiteral, ALevel, AQuery, letter_code, APattern, AnExpression}
 use Rattle.expression_forms.specs.Kinds.{expression_kinds, literal_kinds, level_kinds, query_kinds}
 use Rattle.expression_forms.specs.declared.kinds.ExpressionKind.{ExpressionKind}

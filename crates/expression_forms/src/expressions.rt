@@ -9,9 +9,8 @@ use crate::images::{LevelForm, PatternForm, QueryForm};
 use crate::kinds::ExpressionKind;
 use crate::literals::LiteralRow;
 use document_forms::{
-    At, Each, Form, Maybe, ReadError, Side, Size, Truth, U8, U32, WordOf, read_tag,
+    At, Each, End, Form, Maybe, ReadError, Side, Size, Truth, U8, U32, WordOf, read_items, read_tag,
 };
-use document_rows::{End, read_items};
 use ir_expressions::{CooperativeData, Expression};
 use ir_kinds::{
     BinaryOperator, CooperativeRole, DerivativeAxis, DerivativeControl, MathFunction,

@@ -6,8 +6,7 @@ ghost use Rattle.ir_expressions.specs.declared.expressions.ImageQuery.{ImageQuer
 ghost use Rattle.expression_forms.specs.Expressions.{letter_in, next_letter, last_letter, pattern_in, a_level, a_query, a_pattern};
 
 use crate::kinds::{LevelKind, QueryKind};
-use document_forms::{At, Form, Maybe, ReadError, Wanted, read_tag};
-use document_rows::{End, read_items};
+use document_forms::{At, End, Form, Maybe, ReadError, Wanted, read_items, read_tag};
 use ir_expressions::{ImageQuery, SampleLevel};
 use ir_kinds::SwizzleComponent;
 use ir_types::key;

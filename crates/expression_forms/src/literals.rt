@@ -6,8 +6,7 @@ ghost use Rattle.document_forms.specs.Answers.{Answers};
 ghost use Rattle.expression_forms.specs.Expressions.{literal_with, a_literal};
 
 use crate::kinds::LiteralKind;
-use document_forms::{I16, I32, I64, ReadError, Truth, U16, U32, U64, split_tag};
-use document_rows::Row;
+use document_forms::{I16, I32, I64, ReadError, Row, Truth, U16, U32, U64, split_tag};
 use ir_kinds::Literal;
 use serde_json::Value;
 use std::alloc::Global;

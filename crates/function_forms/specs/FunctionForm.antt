@@ -5,7 +5,7 @@ use Rattle.ir_items.specs.declared.functions.FunctionResult.{FunctionResult}
 use Rattle.document_forms.specs.Form.{AHandle, AText, Maybe, AnArray, AList, Ends, ◌▸◌}
 use Rattle.item_forms.specs.Form.{ABinding}
 use Rattle.expression_forms.specs.Form.{AnExpression}
-use Rattle.statement_forms.specs.StatementForm.{ABody}
+use Rattle.function_forms.specs.StatementForm.{ABody}
 
 abbrev pub AnArgument : PlainArgument → Data → Type 0
 AnArgument a = AnArray (Maybe AText a.name ▸ AHandle a.ty ▸ Maybe ABinding a.binding ▸ Ends)

@@ -4,11 +4,11 @@ use Rattle.ir_items.specs.Plain.{PlainArgument, PlainLocal, PlainFunction, Plain
 use Rattle.ir_items.specs.declared.functions.FunctionResult.{FunctionResult}
 use Rattle.document_forms.specs.Exact.{FormOf}
 use Rattle.document_forms.specs.Forms.{a_handle, a_text, maybe, a_list, an_array, made}
-use Rattle.document_rows.specs.Rows.{row2, row3, row7}
+use Rattle.document_forms.specs.Rows.{row2, row3, row7}
 use Rattle.item_forms.specs.Types.{a_binding}
 use Rattle.item_forms.specs.Items.{a_stage, an_early, the_sizes, a_mesh}
 use Rattle.expression_forms.specs.Expressions.{an_expression}
-use Rattle.statement_forms.specs.Statements.{a_body}
+use Rattle.function_forms.specs.Statements.{a_body}
 use Rattle.function_forms.specs.FunctionForm.{AnArgument, AResult, ALocal, AFunction}
 use Rattle.function_forms.specs.EntryForm.{AnEntry}
 

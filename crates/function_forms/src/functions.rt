@@ -5,14 +5,13 @@ ghost use Rattle.ir_items.specs.View.{argument_view, local_view, function_view, 
 ghost use Rattle.ir_items.specs.declared.functions.FunctionResult.{FunctionResult};
 ghost use Rattle.function_forms.specs.Functions.{an_argument, a_result, a_local, a_function, an_entry};
 
-use document_forms::{At, Each, Form, InArena, Maybe, ReadError, Text};
-use document_rows::read_row;
+use crate::statements::BodyForm;
+use document_forms::{At, Each, Form, InArena, Maybe, ReadError, Text, read_row};
 use expression_forms::ExpressionForm;
 use ir_items::{EntryPoint, Function, FunctionArgument, FunctionResult, LocalVariable};
 use ir_types::key;
 use item_forms::{BindingForm, EarlyForm, MeshForm, SizesForm, StageForm};
 use serde_json::Value;
-use statement_forms::BodyForm;
 use std::alloc::Global;
 
 type T = At<key::IrType>;

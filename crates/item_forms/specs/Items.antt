@@ -14,7 +14,7 @@ use Rattle.document_forms.specs.Find.{tagged_of}
 use Rattle.document_forms.specs.Inverse.{map_some}
 use Rattle.document_forms.specs.KindLaws.{AreSound, kind_sound, tagged_complete}
 use Rattle.document_forms.specs.Forms.{a_number, a_handle, a_u32, a_text, a_word, a_set, maybe, a_list, ends, an_array, made, by_kind}
-use Rattle.document_rows.specs.Rows.{row1, row2, row3, row4, row6, row8}
+use Rattle.document_forms.specs.Rows.{row1, row2, row3, row4, row6, row8}
 use Rattle.item_forms.specs.Types.{a_space, a_resource}
 use Rattle.item_forms.specs.Kinds.{rule_kinds, early_kinds}
 use Rattle.item_forms.specs.ItemForm.{AConstant, AnOverride, AGlobal, ARule, AFilter, AllFilters, AnEarly, TheSizes, AMesh}

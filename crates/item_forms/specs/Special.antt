@@ -22,7 +22,7 @@ use Rattle.document_forms.specs.Inverse.{bind_some, chosen, some_is}
 use Rattle.document_forms.specs.ListLaws.{list_exact}
 use Rattle.document_forms.specs.KindLaws.{AreSound, kind_sound, tagged_complete}
 use Rattle.document_forms.specs.Forms.{a_handle, a_size, a_word, maybe, an_array, made, by_kind}
-use Rattle.document_rows.specs.Rows.{row1, row2, row4}
+use Rattle.document_forms.specs.Rows.{row1, row2, row4}
 use Rattle.item_forms.specs.Kinds.{predeclared_kinds}
 use Rattle.item_forms.specs.ItemForm.{APredeclared, APair, ThePairs, ASpecial}
 use Rattle.item_forms.specs.declared.kinds.PredeclaredKind.{PredeclaredKind}

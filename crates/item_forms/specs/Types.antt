@@ -31,7 +31,7 @@ use Rattle.document_forms.specs.PartLaws.{either_some, word_exact}
 use Rattle.document_forms.specs.RowLaws.{end_exact}
 use Rattle.document_forms.specs.KindLaws.{AreSound, kind_sound, tagged_complete, lookup_keeps}
 use Rattle.document_forms.specs.Forms.{a_handle, a_u32, a_size, a_side, a_bool, a_text, a_word, a_set, maybe, a_list, ends, an_array, made, by_kind}
-use Rattle.document_rows.specs.Rows.{row1, row2, row3, row4, row5}
+use Rattle.document_forms.specs.Rows.{row1, row2, row3, row4, row5}
 use Rattle.item_forms.specs.Form.{APositive, ABuiltIn, ABinding, AResource, ASpace, AnArraySize, AClass, AMember, AnInner, AType}
 use Rattle.item_forms.specs.Kinds.{storage_kinds, array_size_kinds, class_kinds, binding_kinds, inner_kinds}
 use Rattle.item_forms.specs.declared.kinds.StorageKind.{StorageKind}

@@ -8,8 +8,9 @@ ghost use Rattle.document_forms.specs.Answers.{Answers};
 ghost use Rattle.item_forms.specs.Types.{marked_of, a_built_in, a_binding, a_resource};
 
 use crate::kinds::BindingKind;
-use document_forms::{Form, Maybe, ReadError, Truth, U32, Wanted, WordOf, read_tag};
-use document_rows::{End, Row, read_items, read_row};
+use document_forms::{
+    End, Form, Maybe, ReadError, Row, Truth, U32, Wanted, WordOf, read_items, read_row, read_tag,
+};
 use document_words::find_word;
 use ir_kinds::{Binding, BuiltIn, Interpolation, ResourceBinding, Sampling};
 use serde_json::Value;

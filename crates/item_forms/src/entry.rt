@@ -6,8 +6,9 @@ ghost use Rattle.ir_kinds.specs.declared.stages.EarlyDepthTest.{EarlyDepthTest};
 ghost use Rattle.item_forms.specs.Items.{a_stage, an_early, the_sizes, a_mesh};
 
 use crate::kinds::EarlyKind;
-use document_forms::{At, Form, Maybe, ReadError, U32, Wanted, WordOf, read_tag};
-use document_rows::{End, read_items, read_row};
+use document_forms::{
+    At, End, Form, Maybe, ReadError, U32, Wanted, WordOf, read_items, read_row, read_tag,
+};
 use document_words::entry_stage;
 use ir_items::MeshStageInfo;
 use ir_kinds::{ConservativeDepth, EarlyDepthTest, MeshOutputTopology, ShaderStage};

@@ -5,8 +5,9 @@ ghost use Rattle.ir_globals.specs.View.{rule_view, node_view};
 ghost use Rattle.item_forms.specs.Items.{a_rule, a_filter, the_filters};
 
 use crate::kinds::RuleKind;
-use document_forms::{At, Form, InArena, Maybe, ReadError, Text, WordOf, read_tag};
-use document_rows::{read_items, read_row};
+use document_forms::{
+    At, Form, InArena, Maybe, ReadError, Text, WordOf, read_items, read_row, read_tag,
+};
 use ir_arena::arena::Arena;
 use ir_arena::handle::Handle;
 use ir_items::{DiagnosticFilter, DiagnosticFilterNode, FilterableTriggeringRule};

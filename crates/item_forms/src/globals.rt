@@ -6,8 +6,7 @@ ghost use Rattle.item_forms.specs.Items.{a_constant, an_override, a_global};
 
 use crate::bindings::ResourceForm;
 use crate::spaces::SpaceForm;
-use document_forms::{At, Form, Maybe, ReadError, SetOf, Text, U16};
-use document_rows::read_row;
+use document_forms::{At, Form, Maybe, ReadError, SetOf, Text, U16, read_row};
 use ir_flags::MemoryDecorations;
 use ir_items::{Constant, GlobalVariable, Override};
 use ir_types::key;

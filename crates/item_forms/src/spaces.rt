@@ -9,8 +9,9 @@ ghost use Rattle.document_forms.specs.Answers.{Answers};
 ghost use Rattle.item_forms.specs.Types.{a_positive, a_storage, a_space, an_array_size, a_class};
 
 use crate::kinds::{ClassKind, SizeKind, StorageKind};
-use document_forms::{At, Form, ReadError, SetOf, Truth, U32, Wanted, WordOf, read_tag, read_word};
-use document_rows::{End, read_items};
+use document_forms::{
+    At, End, Form, ReadError, SetOf, Truth, U32, Wanted, WordOf, read_items, read_tag, read_word,
+};
 use ir_flags::StorageAccess;
 use ir_kinds::{AddressSpace, ImageClass, ScalarKind, StorageFormat};
 use ir_types::{ArraySize, key};

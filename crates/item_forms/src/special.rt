@@ -7,8 +7,9 @@ ghost use Rattle.ir_globals.specs.View.{special_view};
 ghost use Rattle.item_forms.specs.Special.{a_predeclared, a_pair, the_pairs, the_special};
 
 use crate::kinds::PredeclaredKind;
-use document_forms::{At, Form, Maybe, ReadError, Size, Wanted, WordOf, read_at, read_tag};
-use document_rows::{read_items, read_row};
+use document_forms::{
+    At, Form, Maybe, ReadError, Size, Wanted, WordOf, read_at, read_items, read_row, read_tag,
+};
 use indexmap::IndexMap;
 use ir_arena::handle::Handle;
 use ir_items::SpecialTypes;

@@ -9,9 +9,9 @@ use crate::bindings::BindingForm;
 use crate::kinds::InnerKind;
 use crate::spaces::{ArraySizeForm, ClassForm, SpaceForm};
 use document_forms::{
-    At, Each, Form, Maybe, ReadError, Side, Size, Text, Truth, U32, WordOf, read_tag,
+    At, Each, Form, Maybe, ReadError, Side, Size, Text, Truth, U32, WordOf, read_items, read_row,
+    read_tag,
 };
-use document_rows::{read_items, read_row};
 use ir_kinds::{CooperativeRole, ImageDimension, Scalar};
 use ir_types::{IrType, StructMember, TypeInner, key};
 use serde_json::Value;

@@ -11,7 +11,7 @@ use Rattle.ir_kinds.specs.contracts.scalars.ScalarPartialEq.TheImpl as scalar
 use Rattle.ir_types.specs.Plain.{PlainInner, struct, plain, PlainType}
 use Rattle.ir_types.specs.declared.types.TypeInner.TheVariants as inner
 use Rattle.document_within.specs.Scope.{IsScalar}
-use Rattle.document_model.specs.Distinct.{AreDistinct}
+use Rattle.document_reader.specs.Distinct.{AreDistinct}
 use Rattle.shader_check.proofs.ValueEquality.{scalar_eq}
 
 -- whether a set has each of these bits

@@ -1,7 +1,7 @@
 -- What is found of a document is found of the bytes that spell it.
 use Rattle.std.proofs.Common.{◌≡◌, ℕ, List, Result, Ok, Err, IfOk, subst}
 use Rattle.std.specs.declared.alloc.AllocError.{AllocError}
-use Rattle.document_model.specs.Plain.{PlainDocument}
+use Rattle.document_reader.specs.Plain.{PlainDocument}
 use Rattle.document_within.specs.Scope.{IsWithin}
 use Rattle.document_reader.specs.Form.{Reads}
 use Rattle.document_reader.proofs.Seam.{one_document_lem}

@@ -4,7 +4,7 @@ use Rattle.std.proofs.lemmas.Bool.{cases_lt}
 use Rattle.ir_flags.specs.Settings.{PlainSettings}
 use Rattle.ir_items.specs.Plain.{PlainModule}
 use Rattle.ir_items.proofs.Returned.{one_returned}
-use Rattle.document_model.specs.Plain.{PlainDocument}
+use Rattle.document_reader.specs.Plain.{PlainDocument}
 use Rattle.document_reader.proofs.Seam.{one_document_lem}
 use Rattle.judgement.specs.Steps.{AllMeet, IsLeastFailing, IsFinding, IsPrepared}
 use Rattle.judgement.specs.Text.{text_of}

@@ -10,8 +10,8 @@ use Rattle.ir_types.specs.Plain.{PlainType}
 use Rattle.ir_items.specs.Plain.{PlainFunction, PlainModule}
 use Rattle.ir_items.specs.Returned.{returned_module}
 use Rattle.ir_items.proofs.Returned.{returned_by_bodies}
-use Rattle.document_model.specs.Plain.{PlainDocument}
-use Rattle.document_model.specs.Distinct.{AreDistinct}
+use Rattle.document_reader.specs.Plain.{PlainDocument}
+use Rattle.document_reader.specs.Distinct.{AreDistinct}
 use Rattle.document_within.specs.Scope.{IsWithin}
 use Rattle.document_within.specs.Tests.{plain_module}
 use Rattle.document_within.proofs.ScopeLaws.{module_sound, module_complete}

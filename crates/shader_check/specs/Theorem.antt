@@ -10,7 +10,7 @@ use Rattle.ports.specs.declared.source.TheConstants.{MAX_CALLS}
 use Rattle.ports.specs.declared.source.TakeError.{TakeError}
 use Rattle.ports.specs.declared.source.TakeError.TheVariants as take
 use Rattle.ir_items.specs.Plain.{PlainModule}
-use Rattle.document_model.specs.Plain.{PlainDocument}
+use Rattle.document_reader.specs.Plain.{PlainDocument}
 use Rattle.document_within.specs.Scope.{IsWithin}
 use Rattle.document_reader.specs.Form.{Reads}
 use Rattle.judgement.specs.Steps.{IsFinding, IsPrepared}

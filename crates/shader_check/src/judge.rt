@@ -2,7 +2,7 @@
 ghost use Rattle.std.specs.Prelude.{◌↔◌, IfOk, IsTrue, OnOk};
 ghost use Rattle.ir_flags.specs.Sets.{Has};
 ghost use Rattle.ir_items.specs.View.{module_view};
-ghost use Rattle.document_model.specs.View.{document_view, settings_view};
+ghost use Rattle.document_reader.specs.View.{document_view, settings_view};
 ghost use Rattle.judgement.specs.Steps.{IsFinding, IsPrepared};
 ghost use Rattle.shader_check.specs.Theorem.{Judged, JudgedDocument};
 
@@ -10,8 +10,7 @@ use crate::functions::first_failing_function;
 use crate::handles::handles_in_order;
 use crate::types::{first_failing_type, widths_of};
 use bitflags::Flags;
-use document_model::{Document, Settings};
-use document_reader::{DocumentError, read_document};
+use document_reader::{Document, DocumentError, Settings, read_document};
 use document_within::within;
 use ir_flags::ValidationFlags;
 use ir_items::Module;

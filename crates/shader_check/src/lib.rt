@@ -11,8 +11,7 @@ mod types;
 mod walk;
 
 pub use check::{Fault, MAX_TAKEN, Verdict, check_document, outcome};
-pub use document_model::{Document, Settings, build_module};
-pub use document_reader::{DocumentError, read_document};
+pub use document_reader::{Document, DocumentError, Settings, build_module, read_document};
 pub use document_within::within;
 pub use judge::judge_document;
 pub use judgement::{Finding, Step};

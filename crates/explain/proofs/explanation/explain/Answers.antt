@@ -1,4 +1,4 @@
-use Rattle.document_model.specs.View.{document_view}
+use Rattle.document_reader.specs.View.{document_view}
 use Rattle.explain.proofs.ToldLaws.{told_if}
 use Rattle.explain.proofs.explanation.explain.Goals as goal
 

@@ -1,5 +1,5 @@
 use Rattle.std.proofs.Common.{true≢false, sym, ◌∙◌}
-use Rattle.document_model.specs.View.{document_view}
+use Rattle.document_reader.specs.View.{document_view}
 use Rattle.ir_items.specs.View.{module_view}
 use Rattle.shader_check.proofs.JudgedLaws.{found_if}
 use Rattle.shader_check.proofs.judge.judge_document.Goals as goal

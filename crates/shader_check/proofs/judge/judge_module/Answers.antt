@@ -1,4 +1,4 @@
-use Rattle.document_model.specs.View.{settings_view}
+use Rattle.document_reader.specs.View.{settings_view}
 use Rattle.shader_check.specs.Widths.{widths_view}
 use Rattle.shader_check.proofs.FindingLaws.{tested_true, tested_false, types_pass, types_fail, functions_pass, functions_fail}
 use Rattle.shader_check.proofs.judge.judge_module.Goals as goal

@@ -1,0 +1,204 @@
+// The calls of a block of statements that compute from some places on, each with a span of its own.
+ghost use Rattle.std.specs.Prelude.{◌≤◌, length};
+ghost use Rattle.ir_blocks.specs.View.{statements_of};
+
+use ir_arena::range::Range;
+use ir_arena::span::Span;
+use ir_items::{Block, Statement};
+use serde_json::Value;
+use std::alloc::{AllocError, Global};
+use test_support::call::{list, number, text, told};
+
+fn emit(place: u32) -> Statement {
+    Statement::Emit(Range::new(place, 50))
+}
+
+fn span(place: u32) -> Span {
+    Span::new(place, 90)
+}
+
+// The place that a value names.
+fn place(value: &Value) -> u32 {
+    value.as_u64().unwrap_or(0).min(50) as u32
+}
+
+// Puts the statements of these places behind a block, one by one.
+fn push(block: &mut Block, places: &[Value]) -> Result<(), AllocError> {
+    for value in places {
+        let place = place(value);
+        block.push(emit(place), span(place))?;
+    }
+    Ok(())
+}
+
+// The block of these places.
+fn block(alloc: Global, places: &[Value]) -> Result<Block, AllocError> {
+    let mut block = Block::new(alloc);
+    push(&mut block, places)?;
+    Ok(block)
+}
+
+// Of a statement and its span: the first place where it computes, and the span.
+fn shown(statement: &Statement, span: Span) -> (Option<u32>, Span) {
+    match statement {
+        Statement::Emit(range) => (Some(range.index_range().start), span),
+        _ => (None, span),
+    }
+}
+
+type Shown = Vec<(Option<u32>, Span)>;
+
+// What a block holds, and how many statements and spans.
+fn seen(alloc: Global, block: &Block) -> Result<(usize, usize, Shown), AllocError> {
+    let mut entries = Vec::new(alloc);
+    for (statement, span) in block.span_iter() {
+        entries.push(shown(statement, *span))?;
+    }
+    Ok((block.len(), block.spans().len(), entries))
+}
+
+// Puts in the statements of these places by one call each, and then none.
+fn extend(subject: &mut Block, places: &[Value]) -> Result<bool, AllocError> {
+    for value in places {
+        let place = place(value);
+        subject.extend(Some((emit(place), span(place))))?;
+    }
+    subject.extend(None)?;
+    Ok(true)
+}
+
+// Whether a call could be made: it could where memory sufficed.
+fn made(answer: Result<(), AllocError>) -> Result<bool, AllocError> {
+    match answer {
+        Ok(()) => Ok(true),
+        Err(error) => Err(error),
+    }
+}
+
+// Moves the statements of another block behind this one. Answers whether none is left there.
+fn append(alloc: Global, subject: &mut Block, places: &[Value]) -> Result<bool, AllocError> {
+    let mut other = block(alloc, places)?;
+    subject.append(&mut other)?;
+    Ok(other.is_empty() && other.spans().is_empty())
+}
+
+fn extend_block(alloc: Global, subject: &mut Block, places: &[Value]) -> Result<bool, AllocError> {
+    let other = block(alloc, places)?;
+    made(subject.extend_block(other))
+}
+
+// Takes out the statements of the range that stands behind its form in a line, if the block has them.
+fn cull(subject: &mut Block, call: &Value) -> bool {
+    let (start, end) = (number(call, 4) as usize, number(call, 5) as usize);
+    if start > end || end >= subject.len() {
+        return false;
+    }
+    match text(call, 3) {
+        "from_to" => subject.cull(start..end),
+        "from_through" => subject.cull(start..=end),
+        "to" => subject.cull(..end),
+        _ => subject.cull(..),
+    }
+    true
+}
+
+// Puts another block in the place of a range that the block has.
+fn spliced(
+    subject: &mut Block,
+    form: &str,
+    start: usize,
+    end: usize,
+    other: Block,
+) -> Result<(), AllocError>
+    requires order { start ≤ end }
+    requires range { end ≤ length (statements_of subject.old) }
+{
+    match form {
+        "from_to" => subject.splice(start..end, other),
+        "from" => subject.splice(start.., other),
+        "through" if end < subject.len() => subject.splice(..=end, other),
+        _ => subject.splice(.., other),
+    }
+}
+
+// Puts another block in the place of the range that stands behind its form in a line, if the block has it.
+fn splice(alloc: Global, subject: &mut Block, call: &Value) -> Result<bool, AllocError> {
+    let (start, end) = (number(call, 4) as usize, number(call, 5) as usize);
+    if start > end || end > subject.len() {
+        return Ok(false);
+    }
+    let other = block(alloc, list(call, 6))?;
+    made(spliced(subject, text(call, 3), start, end, other))
+}
+
+// Makes the second place's statement a kill with another span, and answers whether there is one.
+fn change(subject: &mut Block) -> bool {
+    let mut is_changed = false;
+    for (statement, mark) in subject.span_iter_mut() {
+        if *statement == emit(2) {
+            *statement = Statement::Kill;
+            *mark = span(8);
+            is_changed = true;
+        }
+    }
+    is_changed
+}
+
+// Makes all statements breaks, and answers whether they are.
+fn change_all(subject: &mut Block) -> bool {
+    for statement in subject.as_mut_slice() {
+        *statement = Statement::Break;
+    }
+    subject
+        .as_slice()
+        .iter()
+        .all(|statement| *statement == Statement::Break)
+}
+
+// Makes the call of a line. Answers what it told, or whether it could be made.
+fn called(alloc: Global, subject: &mut Block, call: &Value) -> Result<bool, AllocError> {
+    match text(call, 1) {
+        "extend" => extend(subject, list(call, 3)),
+        "append" => append(alloc, subject, list(call, 3)),
+        "extend_block" => extend_block(alloc, subject, list(call, 3)),
+        "cull" => Ok(cull(subject, call)),
+        "splice" => splice(alloc, subject, call),
+        "span_iter_mut" => Ok(change(subject)),
+        "as_mut_slice" => Ok(change_all(subject)),
+        _ => Ok(false),
+    }
+}
+
+// The block that calls are made of.
+fn subject(alloc: Global, call: &Value) -> Result<Block, AllocError> {
+    if text(call, 1) != "extend_block" {
+        return block(alloc, list(call, 2));
+    }
+    let mut subject = Block::with_capacity(alloc, 2)?;
+    push(&mut subject, list(call, 2))?;
+    Ok(subject)
+}
+
+/// The answer of a call of a block: what it tells, and what the block holds then.
+pub fn of_block(alloc: Global, call: &Value) -> Result<String, AllocError> {
+    let mut subject = subject(alloc, call)?;
+    let is_made = called(alloc, &mut subject, call)?;
+    told(alloc, (is_made, seen(alloc, &subject)))
+}
+
+// The statements of these places, and a kill behind them.
+fn statements(alloc: Global, places: &[Value]) -> Result<Vec<Statement>, AllocError> {
+    let mut statements = Vec::new(alloc);
+    for value in places {
+        statements.push(emit(place(value)))?;
+    }
+    statements.push(Statement::Kill)?;
+    Ok(statements)
+}
+
+/// What a block holds that is made of statements without spans.
+pub fn of_statements(alloc: Global, call: &Value) -> Result<String, AllocError> {
+    let statements = statements(alloc, list(call, 1))?;
+    let subject = Block::from_vec(alloc, statements)?;
+    told(alloc, seen(alloc, &subject))
+}

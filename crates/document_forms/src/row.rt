@@ -1,0 +1,118 @@
+// What a row of forms is, and a row of any length, as one form and the row behind it.
+ghost use Rattle.std.specs.Prelude.{◌≡◌, option_map};
+ghost use Rattle.serde_json.specs.View.{view as data_of, items_view};
+ghost use Rattle.document_forms.specs.Answers.{Answers};
+ghost use Rattle.document_forms.specs.Exact.{RowOf};
+ghost use Rattle.document_forms.specs.Find.{first, array_of};
+ghost use Rattle.document_forms.specs.Forms.{ends, ◌▹◌, an_array};
+
+use crate::error::ReadError;
+use crate::form::{Form, read_at};
+use crate::wanted::Wanted;
+use serde_json::Value;
+use std::alloc::Global;
+use std::marker::PhantomData;
+
+/// How several values are written, one after another, and nothing more.
+pub trait Row {
+    /// What is read.
+    type Items: Drop;
+
+    /// What that is as plain data.
+    ghost Plain: { Type 0 };
+
+    ghost view: { Self.Items → Plain };
+
+    ghost form: { RowOf Plain };
+
+    /// What the items are written for. The first of them stands at `index`.
+    fn read(alloc: Global, items: &[Value], index: usize) -> Result<Self::Items, ReadError>
+        ensures { Answers result (λ found. option_map view found ≡ form.find (items_view items.now)) };
+}
+
+/// What the items behind a word are written for.
+pub fn read_items<R: Row>(alloc: Global, items: &[Value]) -> Result<R::Items, ReadError>
+    ensures { Answers result (λ found. option_map R.view found ≡ R.form.find (items_view items.now)) }
+{
+    R::read(alloc, items, 1)
+}
+
+/// What the items of an array are written for.
+pub fn read_row<R: Row>(alloc: Global, value: &Value) -> Result<R::Items, ReadError>
+    ensures { Answers result (λ found. option_map R.view found ≡ array_of R.form.find (data_of value.now)) }
+{
+    let Some(items) = value.as_array() else {
+        return Err(ReadError::here(Wanted::Row));
+    };
+    R::read(alloc, items, 0)
+}
+
+/// The first item, which stands at `index`, and those behind it.
+pub fn split_part(items: &[Value], index: usize) -> Result<(&Value, &[Value]), ReadError>
+    ensures { Answers result (λ found. option_map (λ t. (data_of t.0.now, items_view t.1.now)) found ≡ first (items_view items.now)) }
+{
+    items
+        .split_first()
+        .ok_or(ReadError::here(Wanted::FurtherPart).at(index))
+}
+
+/// Nothing.
+pub struct End;
+
+impl Row for End {
+    type Items = ();
+
+    ghost Plain = { Unit {0} };
+
+    ghost view = { λ _. tt };
+
+    ghost form = { ends };
+
+    fn read(_alloc: Global, items: &[Value], index: usize) -> Result<(), ReadError> {
+        match items.split_first() {
+            None => Ok(()),
+            Some(_) => Err(ReadError::here(Wanted::NothingMore).at(index)),
+        }
+    }
+}
+
+/// One form, and the row behind it.
+pub struct Then<F, R>(PhantomData<F>, PhantomData<R>);
+
+impl<F: Form, R: Row> Row for Then<F, R> {
+    type Items = (F::Item, R::Items);
+
+    ghost Plain = { F.Plain × R.Plain };
+
+    ghost view = { λ t. (F.view t.0, R.view t.1) };
+
+    ghost form = { F.form ▹ R.form };
+
+    fn read(
+        alloc: Global,
+        items: &[Value],
+        index: usize,
+    ) -> Result<(F::Item, R::Items), ReadError> {
+        let (item, rest) = split_part(items, index)?;
+        let part = read_at::<F>(alloc, item, index)?;
+        let rest = R::read(alloc, rest, index.saturating_add(1))?;
+        Ok((part, rest))
+    }
+}
+
+/// An array of exactly these.
+pub struct InArray<R>(PhantomData<R>);
+
+impl<R: Row> Form for InArray<R> {
+    type Item = R::Items;
+
+    ghost Plain = { R.Plain };
+
+    ghost view = { R.view };
+
+    ghost form = { an_array R.form };
+
+    fn read(alloc: Global, value: &Value) -> Result<R::Items, ReadError> {
+        read_row::<R>(alloc, value)
+    }
+}

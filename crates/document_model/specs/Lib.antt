@@ -1,3 +1,0 @@
-pub mod Distinct
-pub mod Plain
-pub mod View

@@ -1,0 +1,73 @@
+// The calls of types of expressions, over a module of types.
+use crate::given::Types;
+use crate::{compared, conclusions, parts, scalars};
+use ir_arena::span::Span;
+use ir_items::Module;
+use item_forms::TypeForm;
+use serde_json::Value;
+use std::alloc::{AllocError, Global};
+use test_support::call::{handle, list, text, told};
+use test_support::forms::found;
+use typing_rules::types_go_back;
+
+/// The module of whose types is asked.
+#[derive(Drop)]
+pub struct TypeCalls {
+    module: Module,
+}
+
+impl TypeCalls {
+    /// A module without types.
+    pub fn new(alloc: Global) -> Self {
+        TypeCalls {
+            module: Module::new(alloc),
+        }
+    }
+
+    // Adds the types of a line. Answers how many there are, and whether they go back.
+    fn add_types(&mut self, alloc: Global, types: &[Value]) -> Result<(usize, bool), AllocError> {
+        for value in types {
+            if let Some(ty) = found::<TypeForm>(alloc, value)? {
+                self.module.types.insert(ty, Span::UNDEFINED)?;
+            }
+        }
+        Ok((self.module.types.len(), types_go_back(&self.module.types)))
+    }
+
+    // Gives the predeclared type of a line a type of the module. Answers how many have one.
+    fn declare(&mut self, call: &Value) -> Result<usize, AllocError> {
+        let predeclared = &mut self.module.special_types.predeclared_types;
+        if let Some(key) = conclusions::predeclared(call) {
+            predeclared.insert(key, handle(call, 3))?;
+        }
+        Ok(predeclared.len())
+    }
+
+    /// The answer of a call.
+    pub fn answer(&mut self, alloc: Global, call: &Value) -> Result<String, AllocError> {
+        let types = &self.module.types;
+        match text(call, 0) {
+            "types" => told(alloc, self.add_types(alloc, list(call, 1))),
+            "declare" => told(alloc, self.declare(call)),
+            "conclusion" => conclusions::of_conclusion(alloc, &self.module.special_types, call),
+            "type" => compared::of_handle(alloc, types, call),
+            "handle" | "inner_with" | "clone" | "form_of" => {
+                compared::of_resolution(alloc, types, call)
+            }
+            "form_equality" => compared::of_forms(alloc, types, call),
+            "compare_types" => compared::of_pair(alloc, &self.module, call),
+            "non_struct_equivalent" | "automatically_converts_to" => {
+                parts::of_pair(alloc, types, call)
+            }
+            _ => scalars_or_types(alloc, types, call),
+        }
+    }
+}
+
+// The answer of a call of a scalar, where a word stands behind its name, or of a type.
+fn scalars_or_types(alloc: Global, types: &Types, call: &Value) -> Result<String, AllocError> {
+    if text(call, 1) != "" {
+        return scalars::of_scalar(alloc, call);
+    }
+    parts::of_type(alloc, types, call)
+}

@@ -1,0 +1,17 @@
+// Reads standard input as JSON, and does nothing with it: what any check of a document has to take at least.
+use ports::Source;
+use serde_json::Value;
+use std::io;
+
+/// One byte more than a document may have.
+const MOST_BYTES: usize = 16777217;
+
+/// Tells whether standard input is JSON.
+pub fn run(rt: &HostRuntime) -> io::Result<()> {
+    let mut source = Source::new(rt.reader());
+    let is_read = match source.take_all(rt.alloc(), MOST_BYTES) {
+        Ok(bytes) => Value::from_slice(rt.alloc(), &bytes).is_ok(),
+        Err(_) => false,
+    };
+    println!(rt; "{}", if is_read { "read" } else { "not read" })
+}
