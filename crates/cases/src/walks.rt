@@ -3,10 +3,10 @@ use crate::item::{Item, read_at};
 use ir_arena::arena::Arena;
 use ir_arena::handle::Handle;
 use ir_arena::span::Span;
-use ir_unique_arena::unique_arena::UniqueArena;
 use ir_items::{DiagnosticFilterNode, Function, IrType, key};
 use ir_kinds::{Severity, StandardFilterableTriggeringRule};
-use ir_walks::{FlattenCompose, originating_global, search};
+use ir_unique_arena::unique_arena::UniqueArena;
+use ir_walks::{DiagnosticFilterNodeExt, FlattenCompose, FunctionExt};
 use serde_json::Value;
 use std::alloc::{AllocError, Global};
 use test_support::call::{handle, list, no_call, told};
@@ -41,7 +41,7 @@ fn found(nodes: &Nodes, start: Option<Handle<key::DiagnosticFilterNode>>) -> Opt
     };
     if in_arena && parents_precede(nodes) {
         let rule = StandardFilterableTriggeringRule::DerivativeUniformity;
-        Some(search(start, nodes, rule))
+        Some(DiagnosticFilterNode::search(start, nodes, rule))
     } else {
         None
     }
@@ -59,7 +59,7 @@ fn origin(function: &Function, pointer: Handle<key::Expression>) -> (bool, Optio
     if in_arena && bases_precede(&function.expressions) {
         (
             true,
-            originating_global(function, pointer).map(Handle::index),
+            function.originating_global(pointer).map(Handle::index),
         )
     } else {
         (false, None)

@@ -4,7 +4,7 @@ ghost use Rattle.ir_arena.specs.Arenas.{with_value};
 
 use crate::item::Item;
 use ir_arena::arena::Arena;
-use ir_arena::handle::Handle;
+use ir_arena::handle::{Handle, Kind};
 use ir_arena::range::Range;
 use ir_arena::span::Span;
 use serde_json::Value;
@@ -19,7 +19,7 @@ pub struct Arenas<T, K> {
     second: Arena<T, K>,
 }
 
-impl<T: Item, K> Arenas<T, K> {
+impl<T: Item, K: Kind> Arenas<T, K> {
     /// Two empty arenas.
     pub fn new(alloc: Global) -> Self {
         Arenas {
@@ -127,7 +127,7 @@ fn entries<T: Item, K>(
 }
 
 // The answer of a call that changes nothing.
-fn seen<T: Item, K>(
+fn seen<T: Item, K: Kind>(
     alloc: Global,
     arena: &Arena<T, K>,
     call: &Value,
@@ -174,7 +174,7 @@ fn indexed<T, K>(arena: &Arena<T, K>, place: usize) -> Option<&T> {
 }
 
 // The answer of a call of a range of an arena.
-fn ranged<T: Item, K>(
+fn ranged<T: Item, K: Kind>(
     alloc: Global,
     arena: &Arena<T, K>,
     range: Range<K>,
@@ -182,6 +182,7 @@ fn ranged<T: Item, K>(
 ) -> Result<String, AllocError> {
     match call {
         "check_contains_range" => told(alloc, checked(arena, &range)),
+        "has_range" => told(alloc, arena.has_range(&range)),
         "from_index_range" => told(alloc, from_places(arena, &range)),
         "get_range" => told(alloc, values_within(arena, range)),
         "get_range_spans" => told(alloc, spans_within(arena, range)),
@@ -190,7 +191,7 @@ fn ranged<T: Item, K>(
 }
 
 // The places of a range that the arena has not as the error.
-fn checked<T, K>(arena: &Arena<T, K>, range: &Range<K>) -> Result<(), ops::Range<u32>> {
+fn checked<T, K: Kind>(arena: &Arena<T, K>, range: &Range<K>) -> Result<(), ops::Range<u32>> {
     match arena.check_contains_range(range) {
         Ok(()) => Ok(()),
         Err(bad) => Err(bad.range.index_range()),

@@ -54,7 +54,8 @@ fn built<E: Drop>(alloc: Global, inner: E, contexts: &[Value]) -> Result<WithSpa
 // The error of a handle that a line names, with its spans.
 fn bad(alloc: Global, call: &Value) -> Result<WithSpan<BadHandle>, AllocError> {
     let index = number(call, 2) as usize;
-    built(alloc, BadHandle { index }, list(call, 3))
+    let kind = "handle";
+    built(alloc, BadHandle { kind, index }, list(call, 3))
 }
 
 // The spans of an error, with their texts.
@@ -114,7 +115,8 @@ pub fn of_fault(alloc: Global, call: &Value) -> Result<String, AllocError> {
 
 fn fault_at(alloc: Global, index: u32) -> Refusal<BadHandle> {
     let index = index as usize;
-    Refusal::from(WithSpan::new(alloc, BadHandle { index }))
+    let kind = "handle";
+    Refusal::from(WithSpan::new(alloc, BadHandle { kind, index }))
 }
 
 fn of_memory() -> Refusal<BadHandle> {

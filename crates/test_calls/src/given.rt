@@ -5,9 +5,9 @@ ghost use Rattle.typing_forms.specs.Forms.{NoStructValue};
 ghost use Rattle.typing_forms.specs.Resolutions.{resolution_view};
 ghost use Rattle.typing_rules.specs.Canonical.{NotBothStructs};
 
-use ir_unique_arena::unique_arena::UniqueArena;
 use ir_kinds::Scalar;
 use ir_types::{IrType, TypeInner, key};
+use ir_unique_arena::unique_arena::UniqueArena;
 use item_forms::TypeForm;
 use serde_json::Value;
 use std::alloc::{AllocError, Global};

@@ -1,6 +1,6 @@
 // Handles and ranges of them.
 use crate::item::Tag;
-use ir_arena::handle::{BadHandle, Handle, NonMaxU32};
+use ir_arena::handle::{BadHandle, Handle, Kind, NonMaxU32};
 use ir_arena::range::{BadRangeError, Range};
 use serde_json::Value;
 use std::alloc::{AllocError, Global};
@@ -21,7 +21,7 @@ fn place_of_clone<K>(handle: Handle<K>) -> Option<usize> {
 }
 
 /// The answer of a call of a handle.
-pub fn of_handle<K>(alloc: Global, call: &Value) -> Result<String, AllocError> {
+pub fn of_handle<K: Kind>(alloc: Global, call: &Value) -> Result<String, AllocError> {
     let left: Handle<K> = handle(call, 3);
     let right = handle(call, 4);
     match text(call, 2) {
@@ -80,7 +80,7 @@ fn gone_on(range: &Range<Tag>) -> ops::Range<u32> {
 }
 
 /// The answer of a call of a range.
-pub fn of_range<K>(alloc: Global, call: &Value) -> Result<String, AllocError> {
+pub fn of_range<K: Kind>(alloc: Global, call: &Value) -> Result<String, AllocError> {
     let range: Range<K> = range(call, 3);
     match text(call, 2) {
         "next" => told(alloc, steps(alloc, range, number(call, 5))),
@@ -90,7 +90,7 @@ pub fn of_range<K>(alloc: Global, call: &Value) -> Result<String, AllocError> {
         "index_range" => told(alloc, range.index_range()),
         "count" => told(alloc, counted(range)),
         "last" => told(alloc, place_of(range.last())),
-        "bad" => told(alloc, BadRangeError::new(range).range.index_range()),
+        "bad" => told(alloc, told_range(&BadRangeError::new(range))),
         "bad_text" => format!(in alloc; "{}", BadRangeError::new(range)),
         "bad_equal" => told(alloc, is_bad_alike(range)),
         _ => no_call(alloc),
@@ -109,11 +109,17 @@ fn bounded<K>(call: &Value) -> ops::Range<u32> {
     range.index_range()
 }
 
+// What the error of a range holds.
+fn told_range(error: &BadRangeError) -> (&'static str, ops::Range<u32>) {
+    (error.kind, error.range.index_range())
+}
+
 // Whether the error of a range equals that of the range's places.
-fn is_bad_alike<K>(range: Range<K>) -> bool {
+fn is_bad_alike<K: Kind>(range: Range<K>) -> bool {
     let places = range.index_range();
     BadRangeError::new(range)
         == BadRangeError {
+            kind: K::word(),
             range: Range::new(places.start, places.end),
         }
 }

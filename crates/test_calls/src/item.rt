@@ -1,4 +1,5 @@
 // What arenas hold here: numbers, and texts.
+use ir_arena::handle::Kind;
 use serde_json::Value;
 use std::alloc::{AllocError, Global};
 use std::fmt::Debug;
@@ -8,6 +9,30 @@ use test_support::call::{number, text};
 /// A tag of handles.
 #[derive(Clone, Copy)]
 pub enum Tag {}
+
+impl Kind for Tag {
+    ghost use Rattle.std.specs.Prelude.{codes};
+
+    ghost word = { codes "tagged" };
+
+    fn word() -> &'static str {
+        "tagged"
+    }
+}
+
+/// A tag of handles of numbers.
+#[derive(Clone, Copy)]
+pub enum Number {}
+
+impl Kind for Number {
+    ghost use Rattle.std.specs.Prelude.{codes};
+
+    ghost word = { codes "number" };
+
+    fn word() -> &'static str {
+        "number"
+    }
+}
 
 /// A value that a line of the input can name.
 pub trait Item: Eq + Hash + Debug + Drop + Sized {

@@ -21,7 +21,7 @@ mod subject;
 mod type_calls;
 mod unique_arenas;
 
-use item::Tag;
+use item::{Number, Tag};
 use serde_json::Value;
 use std::alloc::{AllocError, Global};
 use std::io;
@@ -36,7 +36,7 @@ use typing_rules::laws::{
 /// What the calls are made of.
 #[derive(Drop)]
 struct Subjects {
-    numbers: Subject<u32, u32>,
+    numbers: Subject<u32, Number>,
     tagged: Subject<u32, Tag>,
     texts: Subject<String, Tag>,
     types: TypeCalls,

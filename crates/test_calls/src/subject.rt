@@ -3,6 +3,7 @@ use crate::arenas::Arenas;
 use crate::item::Item;
 use crate::unique_arenas::UniqueArenas;
 use crate::{handles, sets};
+use ir_arena::handle::Kind;
 use ir_sets::handle_set::HandleSet;
 use ir_sets::handle_vec::HandleVec;
 use serde_json::Value;
@@ -18,7 +19,7 @@ pub struct Subject<T: Item, K> {
     values: HandleVec<K, T>,
 }
 
-impl<T: Item, K> Subject<T, K> {
+impl<T: Item, K: Kind> Subject<T, K> {
     /// All of them empty.
     pub fn new(alloc: Global) -> Self {
         Subject {

@@ -1,7 +1,7 @@
 // Unique arenas, each beside another that it is compared with.
 use crate::arenas::Entries;
 use crate::item::Item;
-use ir_arena::handle::Handle;
+use ir_arena::handle::{Handle, Kind};
 use ir_unique_arena::unique_arena::UniqueArena;
 use serde_json::Value;
 use std::alloc::{AllocError, Global};
@@ -15,7 +15,7 @@ pub struct UniqueArenas<T: Item, K> {
     second: UniqueArena<T, K>,
 }
 
-impl<T: Item, K> UniqueArenas<T, K> {
+impl<T: Item, K: Kind> UniqueArenas<T, K> {
     /// Two empty arenas.
     pub fn new(alloc: Global) -> Self {
         UniqueArenas {
@@ -91,7 +91,7 @@ fn entries<T: Item, K>(
 }
 
 // The answer of a call that changes nothing.
-fn seen<T: Item, K>(
+fn seen<T: Item, K: Kind>(
     alloc: Global,
     arena: &UniqueArena<T, K>,
     call: &Value,

@@ -4,8 +4,8 @@ use crate::same::{leaving, same};
 use ir_arena::arena::Arena;
 use ir_arena::handle::Handle;
 use ir_arena::span::Span;
-use ir_unique_arena::unique_arena::UniqueArena;
 use ir_sets::handle_vec::HandleVec;
+use ir_unique_arena::unique_arena::UniqueArena;
 use std::alloc::{AllocError, Global};
 use std::test::Fail;
 

@@ -18,14 +18,22 @@ fn is_added(
         Ok(fault) => (true, fault, 1),
         Err(refused) => (false, refused.value, 0),
     };
-    if fault.spans().len() != spans || *fault.as_inner() != (BadHandle { index: 4 }) {
+    if fault.spans().len() != spans || *fault.as_inner() != bad_handle() {
         return Err(Fail::new("another error came"));
     }
     Ok(added)
 }
 
+// The error of a handle.
+fn bad_handle() -> BadHandle {
+    BadHandle {
+        kind: "type",
+        index: 4,
+    }
+}
+
 fn bad(alloc: Global) -> WithSpan<BadHandle> {
-    WithSpan::new(alloc, BadHandle { index: 4 })
+    WithSpan::new(alloc, bad_handle())
 }
 
 // Whether a span is added, with so much memory left at most.

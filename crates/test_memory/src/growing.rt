@@ -3,8 +3,8 @@ use crate::same::{leaving, same};
 use ir_arena::arena::Arena;
 use ir_arena::handle::Handle;
 use ir_arena::span::Span;
-use ir_unique_arena::unique_arena::UniqueArena;
 use ir_sets::handle_set::HandleSet;
+use ir_unique_arena::unique_arena::UniqueArena;
 use std::alloc::{AllocError, Global};
 use std::test::Fail;
 
@@ -57,10 +57,15 @@ pub fn numbers(alloc: Global, values: &[u32]) -> Result<Arena<u32>, AllocError> 
     Ok(arena)
 }
 
+// Whether this is the first number.
+fn begins_with(arena: &Arena<u32>, value: u32) -> bool {
+    arena.len() > 0 && arena[Handle::at(0)] == value
+}
+
 // Whether an arena of 2000 and 3000 holds so many more values.
 fn holds_more(arena: &Arena<u32>, more: u32) -> bool {
     arena.len().checked_sub(2) == Some(more as usize)
-        && arena.try_get(Handle::at(0)) == Ok(&2000)
+        && begins_with(arena, 2000)
         && arena.get_span(Handle::at(1)) == Span::new(3000, 5000)
 }
 
