@@ -1,14 +1,17 @@
 #!/usr/bin/env python3
 """Measures how long layouts of all types and kinds of all expressions of large documents take, beside reading the same
-bytes as JSON and no more.
+bytes as JSON and no more: layouts.py [--instructions]
 
 `cases_typing` is run twice on each document: once it reads the document and no more, and once it lays out the types
-besides, or finds the kinds of the expressions. The difference is what these take. Prints a table in Markdown: medians of
-five runs of each, which take turns, processor time. Both programs have to be built: `rt ci` leaves them, and so does
-`rt run` in crates/cases_typing and crates/json_alone. The status is 1 where a target is missed.
+besides, or finds the kinds of the expressions. What these take is the difference, of the least times of five runs, which
+take turns. It is a small part of the whole, so that where other programs run beside it can't be told from theirs: with
+--instructions the instructions of one run each are counted instead (valgrind's callgrind), on documents of 256 KiB and
+1 MiB, since that takes fifty times as long. Prints a table in Markdown. Both programs have to be built: `rt ci` leaves
+them, and so does `rt run` in crates/cases_typing and crates/json_alone. The status is 1 where a target is missed.
 """
 import json
 import os
+import re
 import statistics
 import subprocess
 import sys
@@ -65,38 +68,72 @@ def written(size, front, back, item):
         index += 1
 
 
-def taken(room, asked, document):
-    """The processor time in seconds of one run of `cases_typing` that is asked this of a document."""
+def ask(room, asked, document):
+    """Writes the question into the room, beside a file without questions."""
     with open(f"{room}/layouts.jsonl", "w") as it:
         it.write(json.dumps(["bench", asked, document, asked]) + "\n")
-    before = os.times()
-    answer = subprocess.run([CASES], cwd=room, capture_output=True, text=True)
-    after = os.times()
-    if answer.returncode != 0 or "1 cases, 0 differ" not in answer.stdout:
-        sys.exit(f"layouts: {asked}: {answer.stdout[-300:]}")
-    return after.children_user + after.children_system - before.children_user - before.children_system
+    open(f"{room}/constness.jsonl", "w").close()
+
+
+def taken(room, asked, document):
+    """The processor time in seconds of one run of `cases_typing` that is asked this of a document."""
+    ask(room, asked, document)
+    with open(f"{room}/answer", "w+") as told:
+        child = subprocess.Popen([CASES], cwd=room, stdout=told)
+        _, status, used = os.wait4(child.pid, 0)
+        told.seek(0)
+        answer = told.read()
+    if status != 0 or "1 cases, 0 differ" not in answer:
+        sys.exit(f"layouts: {asked}: {answer[-300:]}")
+    return used.ru_utime + used.ru_stime
+
+
+def counted(program, room, given):
+    """The instructions of one run of a program in the room, with this file as its input."""
+    with open(given) as it:
+        ended = subprocess.run(["valgrind", "--tool=callgrind", "--callgrind-out-file=/dev/null", program], cwd=room,
+                               stdin=it, capture_output=True, text=True)
+    found = re.search(r"Collected : (\d+)", ended.stderr)
+    if ended.returncode != 0 or not found:
+        sys.exit(f"layouts: {program.name}: {ended.stderr[-300:]}")
+    return int(found.group(1))
+
+
+def times(room, asked, document, path):
+    """Milliseconds of what is asked and of the reader."""
+    runs = [(taken(room, asked, document), taken(room, "read", document), run(ALONE, path, b"read\n")[0])
+            for _ in range(RUNS)]
+    asked_for, read = (min(it[who] for it in runs) for who in (0, 1))
+    return max(asked_for - read, 0) * 1000, statistics.median(it[2] for it in runs) * 1000
+
+
+def instructions(room, asked, document, path):
+    """Millions of instructions of what is asked and of the reader."""
+    both = []
+    for question in (asked, "read"):
+        ask(room, question, document)
+        both.append(counted(CASES, room, path))
+    return (both[0] - both[1]) / 1e6, counted(ALONE, room, path) / 1e6
 
 
 def main():
+    counting = "--instructions" in sys.argv[1:]
     for program in (CASES, ALONE):
         if not program.is_file():
             sys.exit(f"layouts: {program.relative_to(TOP)} is not built yet")
     missed = False
-    print("| document | items | layouts or kinds | reading alone | share |")
+    unit = "million instructions" if counting else "ms"
+    print(f"| document | items | layouts or kinds, {unit} | reading alone, {unit} | share |")
     print("|---|---|---|---|---|")
     for name, (front, back, item, asked) in KINDS.items():
-        for size in SIZES:
+        for size in [1 << 18, 1 << 20] if counting else SIZES:
             document, count = written(size, front, back, item)
             with tempfile.TemporaryDirectory() as room:
                 path = f"{room}/document.json"
                 with open(path, "w") as it:
                     it.write(document)
-                open(f"{room}/constness.jsonl", "w").close()
-                runs = [(taken(room, asked, document) - taken(room, "read", document), run(ALONE, path, b"read\n")[0])
-                        for _ in range(RUNS)]
-            took, alone = (statistics.median(it[who] for it in runs) for who in (0, 1))
-            print(f"| {size >> 20} MiB, {name} | {count} | {took * 1000:.1f} ms | {alone * 1000:.1f} ms | {took / alone:.2f} |",
-                  flush=True)
+                took, alone = (instructions if counting else times)(room, asked, document, path)
+            print(f"| {size >> 10} KiB, {name} | {count} | {took:.2f} | {alone:.1f} | {took / alone:.3f} |", flush=True)
             missed = missed or took > MOST_SHARE * alone
     return 1 if missed else 0
 
