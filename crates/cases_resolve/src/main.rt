@@ -28,7 +28,11 @@ fn tell_globals(rt: &HostRuntime, module: &Module) -> Result<()> {
 // Tells of the functions.
 fn tell_functions(rt: &HostRuntime, module: &Module) -> Result<()> {
     for (_, function) in module.functions.iter() {
-        let context = ResolveContext::with_locals(module, &function.local_variables, &function.arguments);
+        let context = ResolveContext::with_locals(
+            module,
+            &function.local_variables,
+            &function.arguments,
+        );
         println!(rt; "function")?;
         tell_types(rt, &context, &function.expressions)?;
     }
@@ -39,7 +43,11 @@ fn tell_functions(rt: &HostRuntime, module: &Module) -> Result<()> {
 fn tell_entries(rt: &HostRuntime, module: &Module) -> Result<()> {
     for entry in &module.entry_points {
         let function = &entry.function;
-        let context = ResolveContext::with_locals(module, &function.local_variables, &function.arguments);
+        let context = ResolveContext::with_locals(
+            module,
+            &function.local_variables,
+            &function.arguments,
+        );
         println!(rt; "entry")?;
         tell_types(rt, &context, &function.expressions)?;
     }
