@@ -69,11 +69,21 @@ impl Answers for Subjects {
     }
 }
 
-fn main(rt: HostRuntime) -> io::Result<()> {
+// Laws of types that a caller may use.
+fn laws() {
     compare_reflexive();
     compare_symmetric();
     compare_transitive();
     canonical_once();
-    let mut subjects = Subjects::new(rt.alloc());
-    answer_lines(&rt, &mut subjects)
+}
+
+// Lets go of the subjects where nothing is known of their type.
+fn answer_all<S: Answers + Drop>(rt: &HostRuntime, subjects: S) -> io::Result<()> {
+    let mut subjects = subjects;
+    answer_lines(rt, &mut subjects)
+}
+
+fn main(rt: HostRuntime) -> io::Result<()> {
+    laws();
+    answer_all(&rt, Subjects::new(rt.alloc()))
 }
