@@ -3,17 +3,17 @@
 that document as JSON and no more.
 
 Each call is `min` of two vectors: the rules of `min`, those that take the first argument, those that take the second
-too, and a list of them. Prints a table in Markdown: the median of five runs of each program, processor time. Both
-programs have to be built: `rt ci` leaves them, and so does `rt run` in crates/overload_alone and crates/json_alone. The
-status is 1 where the sets take more than a fifth of the reading.
+too, and a list of them. Prints a table in Markdown: the median of five runs of each, processor time. The program has to
+be built: `rt ci` leaves it, and so does `rt run` in crates/test_kinds. The status is 1 where the sets take more than a
+fifth of the reading.
 """
 import statistics
 import sys
 import tempfile
 
-from run import ALONE, RUNS, SIZES, TOP, run
+from run import ALONE, MEASURES, RUNS, SIZES, TOP, run
 
-SETS = TOP / "crates/overload_alone/out/overload_alone"
+SETS = (MEASURES, "sets")
 MOST_SHARE = 0.2
 FRONT = '[null,[],null,[],['
 BACK = '],[],null]'
@@ -33,9 +33,8 @@ def calls(size):
 
 
 def main():
-    for program in (SETS, ALONE):
-        if not program.is_file():
-            sys.exit(f"overloads: {program.relative_to(TOP)} is not built yet")
+    if not MEASURES.is_file():
+        sys.exit(f"overloads: {MEASURES.relative_to(TOP)} is not built yet")
     missed = False
     print("| document | calls | overload sets | reading alone | share |")
     print("|---|---|---|---|---|")

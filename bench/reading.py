@@ -11,7 +11,7 @@ import sys
 import tempfile
 from pathlib import Path
 
-from run import ALONE, CHECK, RUNS, SIZES, TOP, fill, run
+from run import ALONE, CHECK, MEASURES, RUNS, SIZES, TOP, fill, run
 
 MOST_RATIO = 2.5
 MOST_GROWTH = 24
@@ -64,7 +64,7 @@ KINDS = {
 
 
 def main():
-    for program in (CHECK, ALONE):
+    for program in (CHECK, MEASURES):
         if not program.is_file():
             sys.exit(f"reading: {program.relative_to(TOP)} is not built yet")
     missed = []

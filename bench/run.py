@@ -3,7 +3,7 @@
 
 Prints a table in Markdown: for each document the median of five runs of each program, which take turns. Time is the
 processor time of the program, and memory the most that it held at once. Both programs have to be built: `rt ci` leaves
-them, and so does `rt run` in crates/checker and crates/json_alone. The status is 1 where a target is missed, or where a
+them, and so does `rt run` in crates/checker and crates/test_kinds. The status is 1 where a target is missed, or where a
 program answers something else than it should.
 """
 import os
@@ -14,7 +14,8 @@ from pathlib import Path
 
 TOP = Path(__file__).resolve().parent.parent
 CHECK = TOP / "crates/checker/out/checker"
-ALONE = TOP / "crates/json_alone/out/json_alone"
+MEASURES = TOP / "crates/test_kinds/out/test_kinds"
+ALONE = (MEASURES, "json")
 SIZES = [1 << 20, 1 << 24]
 RUNS = 5
 MOST_RATIO = 1.4
@@ -137,10 +138,14 @@ def write_document(file, kind, size):
 
 
 def run(program, file, due, wanted=0):
-    """Seconds of processor time and peak memory, in bytes, of one run, which has to write `due` and end with `wanted`."""
+    """Seconds of processor time and peak memory, in bytes, of one run, which has to write `due` and end with `wanted`.
+
+    The program is a path, or a path and the word that it is run with.
+    """
+    program, *words = program if isinstance(program, tuple) else (program,)
     read, write = os.pipe()
     with open(file, "rb") as given:
-        child = os.posix_spawn(program, [str(program)], {}, file_actions=[
+        child = os.posix_spawn(program, [str(program), *words], {}, file_actions=[
             (os.POSIX_SPAWN_DUP2, given.fileno(), 0), (os.POSIX_SPAWN_DUP2, write, 1)])
         _, status, used = os.wait4(child, 0)
     os.close(write)
@@ -152,7 +157,7 @@ def run(program, file, due, wanted=0):
 
 
 def main():
-    for program in (CHECK, ALONE):
+    for program in (CHECK, MEASURES):
         if not program.is_file():
             sys.exit(f"run: {program.relative_to(TOP)} is not built yet")
     missed = []

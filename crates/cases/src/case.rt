@@ -1,12 +1,13 @@
 // A case, and what the check makes of it.
-use crate::padded::Padded;
+use crate::rows::{Answer, Row};
 use anyhow::{Result, anyhow};
 use base64::engine::general_purpose::STANDARD;
 use serde_json::Value;
-use shader_check::{DocumentError, Sink, Source, Verdict, check_document, read_document};
+use shader_check::{DocumentError, Sink, Source, check_document, read_document};
 use std::alloc::{AllocError, Global};
+use test_support::fakes::Padded;
 
-/// A document, and the text that is due for it.
+/// A document, and the text that it is known to come to.
 #[derive(Drop)]
 pub struct Case<'a> {
     pub name: &'a str,
@@ -20,25 +21,32 @@ impl Case<'_> {
     /// A case as a data file has it.
     pub fn read(alloc: Global, item: &Value) -> Result<Case<'_>> {
         let name = text_of(item, "name")?;
-        let input = match item.get("input_b64") {
-            Some(_) => STANDARD.decode(alloc, text_of(item, "input_b64")?.as_bytes())?,
-            None => text_of(item, "input")?.as_bytes().to_vec(alloc)?,
-        };
-        let spaces = match item.get("spaces") {
-            Some(number) => number
-                .as_u64()
-                .ok_or_else(|| anyhow!("the number of spaces is none"))?,
-            None => 0,
-        };
-        let form = item.get("form").and_then(Value::as_bool);
         let output = text_of(item, "output")?;
+        let spaces = spaces_of(item)?;
+        let form = item.get("form").and_then(Value::as_bool);
         Ok(Case {
             name,
-            input,
+            input: input_of(alloc, item)?,
             spaces,
             form,
             output,
         })
+    }
+}
+
+fn input_of(alloc: Global, item: &Value) -> Result<Vec<u8>> {
+    if item.get("input_b64").is_none() {
+        return Ok(text_of(item, "input")?.as_bytes().to_vec(alloc)?);
+    }
+    Ok(STANDARD.decode(alloc, text_of(item, "input_b64")?.as_bytes())?)
+}
+
+fn spaces_of(item: &Value) -> Result<u64> {
+    match item.get("spaces") {
+        Some(number) => number
+            .as_u64()
+            .ok_or_else(|| anyhow!("the number of spaces is none")),
+        None => Ok(0),
     }
 }
 
@@ -77,27 +85,41 @@ pub fn judge(alloc: Global, case: &Case<'_>) -> Result<Option<String>, AllocErro
     }
 }
 
-// Runs the check over the case's bytes.
-fn judge_output(alloc: Global, case: &Case<'_>) -> Result<Option<String>, AllocError> {
-    let mut held: Vec<u8> = Vec::new(alloc);
+// Runs the check over the case's bytes, and puts what it writes into `held`.
+fn checked(alloc: Global, case: &Case<'_>, held: &mut Vec<u8>) -> Answer {
     let mut source = Source::new(Padded {
         text: case.input.as_slice(),
         spaces: case.spaces,
     });
-    let mut sink = Sink::new(&mut held);
-    let answer = check_document(alloc, &mut source, &mut sink);
-    let due = if case.output.starts_with("accepted") {
-        Verdict::Accepted
-    } else {
-        Verdict::Refused
+    let mut sink = Sink::new(held);
+    check_document(alloc, &mut source, &mut sink)
+}
+
+// How an answer and what was written differ from what is known of the case.
+fn difference(
+    alloc: Global,
+    case: &Case<'_>,
+    answer: Answer,
+    held: &[u8],
+) -> Result<Option<String>, AllocError> {
+    let row = Row {
+        input: "",
+        due: case.output,
     };
-    if answer == Ok(due) && held.as_slice() == case.output.as_bytes() {
+    if row.is_met(answer, held) {
         return Ok(None);
     }
     let wanted = first_line(case.output);
-    let written = first_line(std::str::from_utf8(held.as_slice()).unwrap_or("no text"));
+    let written = first_line(std::str::from_utf8(held).unwrap_or("no text"));
     let difference = format!(in alloc;
-        "due {wanted:?} and {due:?}, but it wrote {written:?} and answered {answer:?}"
+        "{wanted:?} is known, but it wrote {written:?} and answered {answer:?}"
     )?;
     Ok(Some(difference))
+}
+
+// Runs the check over the case's bytes, and compares.
+fn judge_output(alloc: Global, case: &Case<'_>) -> Result<Option<String>, AllocError> {
+    let mut held: Vec<u8> = Vec::new(alloc);
+    let answer = checked(alloc, case, &mut held);
+    difference(alloc, case, answer, &held)
 }

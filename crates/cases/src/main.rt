@@ -1,52 +1,53 @@
-// Runs the check on each case of the data files, and tells which answers are not the due ones.
-//
-// data/files.json names the data files. Each is a list of objects: a case's `name`, its `input` (or `input_b64`, in
-// Base64), the number of `spaces` that follow the input, which may be left out, and the `output` that is due; or, where a
-// case has a `form`, whether its input is a document.
-// The program runs where these files lie: by hand it is `cd data && ../out/cases`.
+//! Runs the check on the documents of data/, of which the answers are known, and tells which differ; then makes the calls of
+//! checks and of items of the IR that standard input asks for, and prints the answers.
+//!
+//! A line of standard input is a list: the call, and what it is given. Beside it stands the answer. A line that is a text
+//! is a heading. The program runs where the data files lie: by hand it is `cd data && ../out/cases < ../stdin`.
 #![tactic(auto)]
 
+mod blocks;
 mod case;
-mod padded;
+mod checks;
+mod documents;
+mod emitters;
+mod holder;
+mod item;
+mod items;
+mod kinds;
+mod limits;
+mod modules;
+mod returns;
+mod rows;
+mod streams;
+mod walks;
 
-use anyhow::{Context, Result, anyhow, ensure};
-use case::{Case, judge};
+use anyhow::Result;
 use serde_json::Value;
-use std::fs;
+use std::alloc::{AllocError, Global};
+use test_support::call::text;
+use test_support::lines::{Answers, answer_lines};
 
-fn read_list(rt: &HostRuntime, name: &str) -> Result<Value> {
-    let text = fs::read_to_string(rt, name).context(format_args!("reading {name}"))?;
-    let list = Value::from_str(rt.alloc(), text.as_str()).context(format_args!("reading {name}"))?;
-    ensure!(list.is_array(), "{name} holds no list");
-    Ok(list)
-}
+/// The calls keep nothing from one line to the next.
+#[derive(Drop)]
+struct Calls;
 
-// Runs the cases of one data file. Answers how many differ.
-fn run_file(rt: &HostRuntime, name: &str) -> Result<usize> {
-    let list = read_list(rt, name)?;
-    let mut count = 0usize;
-    let mut differing = 0usize;
-    for item in list.as_array().into_iter().flatten() {
-        let case = Case::read(rt.alloc(), item).context(format_args!("case {count} of {name}"))?;
-        count = count.saturating_add(1);
-        if let Some(difference) = judge(rt.alloc(), &case)? {
-            differing = differing.saturating_add(1);
-            println!(rt; "{name}: {}: {difference}", case.name)?;
+impl Answers for Calls {
+    fn answer(&mut self, alloc: Global, call: &Value) -> Result<String, AllocError> {
+        match text(call, 0) {
+            "reader"
+            | "reader_calls"
+            | "writer"
+            | "past_the_limit"
+            | "interrupted_for_ever"
+            | "outcome" => checks::answer(alloc, call),
+            _ => items::answer(alloc, call),
         }
     }
-    println!(rt; "{name}: {count} cases, {differing} differ")?;
-    Ok(differing)
 }
 
 fn main(rt: HostRuntime) -> Result<()> {
-    let mut differing = 0usize;
-    let files = read_list(&rt, "files.json")?;
-    for item in files.as_array().into_iter().flatten() {
-        let name = item
-            .as_str()
-            .ok_or_else(|| anyhow!("files.json holds a name that is no text"))?;
-        differing = differing.saturating_add(run_file(&rt, name)?);
-    }
-    ensure!(differing == 0, "{differing} cases differ");
+    documents::run(&rt)?;
+    let mut calls = Calls;
+    answer_lines(&rt, &mut calls)?;
     Ok(())
 }

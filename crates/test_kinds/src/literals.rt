@@ -1,6 +1,6 @@
 // Literals: 0, 1 and -1 of each scalar, and the scalars of literals.
-use anyhow::Result;
 use ir_kinds::{Literal, Scalar, ScalarKind};
+use std::io;
 
 const SCALARS: [Scalar; 15] = [
     Scalar::BOOL,
@@ -29,29 +29,27 @@ const SCALARS: [Scalar; 15] = [
     },
 ];
 
-fn print_units(rt: &HostRuntime, scalar: Scalar) -> Result<()> {
+fn print_units(rt: &HostRuntime, scalar: Scalar) -> io::Result<()> {
     let zero = Literal::zero(scalar);
     let one = Literal::one(scalar);
     let minus_one = Literal::minus_one(scalar);
     println!(rt;
         "{:?} {}: {zero:?} {one:?} {minus_one:?}",
         scalar.kind, scalar.width
-    )?;
-    Ok(())
+    )
 }
 
-fn print_scalar(rt: &HostRuntime, literal: Literal) -> Result<()> {
+fn print_scalar(rt: &HostRuntime, literal: Literal) -> io::Result<()> {
     let scalar = literal.scalar();
     let same = scalar.kind == literal.scalar_kind() && scalar.width == literal.width();
     println!(rt;
         "{literal:?}: {:?} {} {same}",
         literal.scalar_kind(),
         literal.width()
-    )?;
-    Ok(())
+    )
 }
 
-pub fn run(rt: &HostRuntime) -> Result<()> {
+pub fn run(rt: &HostRuntime) -> io::Result<()> {
     for scalar in &SCALARS {
         print_units(rt, *scalar)?;
     }
@@ -66,6 +64,5 @@ pub fn run(rt: &HostRuntime) -> Result<()> {
     print_scalar(rt, Literal::I64(-7))?;
     print_scalar(rt, Literal::Bool(true))?;
     print_scalar(rt, Literal::AbstractInt(-7))?;
-    print_scalar(rt, Literal::AbstractFloat(0))?;
-    Ok(())
+    print_scalar(rt, Literal::AbstractFloat(0))
 }

@@ -1,28 +1,26 @@
 // Scalars, sizes of vectors, components.
-use anyhow::Result;
 use ir_kinds::{
     ABSTRACT_WIDTH, BOOL_WIDTH, CooperativeSize, Scalar, ScalarKind, SwizzleComponent, VectorSize,
     laws,
 };
+use std::io;
 
-fn print_kind(rt: &HostRuntime, kind: ScalarKind) -> Result<()> {
+fn print_kind(rt: &HostRuntime, kind: ScalarKind) -> io::Result<()> {
     let scalar = Scalar { kind, width: 8 };
     println!(rt;
         "{kind:?}: numeric {} abstract {}",
         kind.is_numeric(),
         scalar.is_abstract()
-    )?;
-    Ok(())
+    )
 }
 
-fn print_size(rt: &HostRuntime, size: VectorSize) -> Result<()> {
+fn print_size(rt: &HostRuntime, size: VectorSize) -> io::Result<()> {
     let byte: u8 = u8::from(size);
     let count: u32 = u32::from(size);
-    println!(rt; "{size:?}: {byte} {count}")?;
-    Ok(())
+    println!(rt; "{size:?}: {byte} {count}")
 }
 
-pub fn run(rt: &HostRuntime) -> Result<()> {
+pub fn run(rt: &HostRuntime) -> io::Result<()> {
     laws::scalar_constants();
     laws::vector_constants(VectorSize::Bi);
     for kind in [

@@ -1,53 +1,55 @@
 // Sets of words, through the calls of `Flags` and through operators.
 use crate::uses;
-use anyhow::Result;
 use bitflags::Flags;
 use ir_flags::{
     Barrier, Capabilities, MemoryDecorations, ShaderStages, StorageAccess, SubgroupOperationSet,
     ValidationFlags, laws,
 };
+use std::io;
 
-// Of each set: how many words it has, and the bits of all of them.
-fn print_alls(rt: &HostRuntime) -> Result<()> {
-    println!(rt;
-        "access {} {}",
-        StorageAccess::flags().len(),
-        StorageAccess::all().bits()
-    )?;
-    println!(rt;
-        "barrier {} {}",
-        Barrier::flags().len(),
-        Barrier::all().bits()
-    )?;
-    println!(rt;
-        "decorations {} {}",
-        MemoryDecorations::flags().len(),
-        MemoryDecorations::all().bits()
-    )?;
-    println!(rt;
-        "stages {} {}",
-        ShaderStages::flags().len(),
-        ShaderStages::all().bits()
-    )?;
-    println!(rt;
-        "subgroups {} {}",
-        SubgroupOperationSet::flags().len(),
-        SubgroupOperationSet::all().bits()
-    )?;
-    println!(rt;
-        "flags {} {}",
-        ValidationFlags::flags().len(),
-        ValidationFlags::all().bits()
-    )?;
-    println!(rt;
-        "capabilities {} {}",
-        Capabilities::flags().len(),
-        Capabilities::all().bits()
-    )?;
-    Ok(())
+// Of a set: how many words it has, and the bits of all of them.
+fn print_all(rt: &HostRuntime, name: &str, count: usize, bits: u64) -> io::Result<()> {
+    println!(rt; "{name} {count} {bits}")
 }
 
-fn print_constants(rt: &HostRuntime) -> Result<()> {
+// Of the sets of statements and stages.
+fn print_small_sets(rt: &HostRuntime) -> io::Result<()> {
+    let access = u64::from(StorageAccess::all().bits());
+    print_all(rt, "access", StorageAccess::flags().len(), access)?;
+    let barrier = u64::from(Barrier::all().bits());
+    print_all(rt, "barrier", Barrier::flags().len(), barrier)?;
+    let decorations = u64::from(MemoryDecorations::all().bits());
+    print_all(
+        rt,
+        "decorations",
+        MemoryDecorations::flags().len(),
+        decorations,
+    )?;
+    let stages = u64::from(ShaderStages::all().bits());
+    print_all(rt, "stages", ShaderStages::flags().len(), stages)
+}
+
+// Of the sets that a validator is asked by.
+fn print_settings(rt: &HostRuntime) -> io::Result<()> {
+    let subgroups = u64::from(SubgroupOperationSet::all().bits());
+    print_all(
+        rt,
+        "subgroups",
+        SubgroupOperationSet::flags().len(),
+        subgroups,
+    )?;
+    let flags = u64::from(ValidationFlags::all().bits());
+    print_all(rt, "flags", ValidationFlags::flags().len(), flags)?;
+    let capabilities = Capabilities::all().bits();
+    print_all(
+        rt,
+        "capabilities",
+        Capabilities::flags().len(),
+        capabilities,
+    )
+}
+
+fn print_constants(rt: &HostRuntime) -> io::Result<()> {
     laws::compute_like();
     laws::all_words();
     laws::within(1, 3, 7);
@@ -66,7 +68,7 @@ fn print_constants(rt: &HostRuntime) -> Result<()> {
     Ok(())
 }
 
-fn print_operations(rt: &HostRuntime) -> Result<()> {
+fn print_operations(rt: &HostRuntime) -> io::Result<()> {
     let some = ShaderStages::VERTEX.union(ShaderStages::MESH);
     let other = ShaderStages::MESH | ShaderStages::TASK;
     println!(rt; "{some:?} {other:?}")?;
@@ -107,11 +109,10 @@ fn print_operations(rt: &HostRuntime) -> Result<()> {
         "only fragment {} {}",
         uses::is_fragment(some),
         uses::is_fragment(ShaderStages::FRAGMENT)
-    )?;
-    Ok(())
+    )
 }
 
-fn print_changes(rt: &HostRuntime) -> Result<()> {
+fn print_changes(rt: &HostRuntime) -> io::Result<()> {
     let mut checks = ValidationFlags::empty();
     uses::add_blocks(&mut checks);
     checks.set(ValidationFlags::CONSTANTS, true);
@@ -128,12 +129,12 @@ fn print_changes(rt: &HostRuntime) -> Result<()> {
     println!(rt; "kept {}", ValidationFlags::from_bits_retain(64).bits())?;
     println!(rt; "cut {}", ValidationFlags::from_bits_truncate(66).bits())?;
     println!(rt; "mesh {}", uses::can_mesh(Capabilities::MESH_SHADER))?;
-    println!(rt; "mesh {}", uses::can_mesh(Capabilities::all()))?;
-    Ok(())
+    println!(rt; "mesh {}", uses::can_mesh(Capabilities::all()))
 }
 
-pub fn run(rt: &HostRuntime) -> Result<()> {
-    print_alls(rt)?;
+pub fn run(rt: &HostRuntime) -> io::Result<()> {
+    print_small_sets(rt)?;
+    print_settings(rt)?;
     print_constants(rt)?;
     print_operations(rt)?;
     print_changes(rt)

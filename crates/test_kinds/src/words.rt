@@ -1,21 +1,20 @@
 // Address spaces, images, bindings, stages and functions of numbers.
-use anyhow::Result;
 use ir_flags::StorageAccess;
 use ir_kinds::{
     AddressSpace, Binding, BuiltIn, ImageClass, MathFunction, MeshOutputTopology, Scalar,
     ScalarKind, ShaderStage, StorageFormat,
 };
+use std::io;
 
-fn print_space(rt: &HostRuntime, space: AddressSpace) -> Result<()> {
+fn print_space(rt: &HostRuntime, space: AddressSpace) -> io::Result<()> {
     println!(rt;
         "{space:?}: {} {}",
         space.access().0,
         space.is_workgroup_like()
-    )?;
-    Ok(())
+    )
 }
 
-fn print_spaces(rt: &HostRuntime) -> Result<()> {
+fn print_spaces(rt: &HostRuntime) -> io::Result<()> {
     print_space(rt, AddressSpace::Function)?;
     print_space(rt, AddressSpace::Private)?;
     print_space(rt, AddressSpace::WorkGroup)?;
@@ -30,21 +29,19 @@ fn print_spaces(rt: &HostRuntime) -> Result<()> {
     print_space(rt, AddressSpace::Immediate)?;
     print_space(rt, AddressSpace::TaskPayload)?;
     print_space(rt, AddressSpace::RayPayload)?;
-    print_space(rt, AddressSpace::IncomingRayPayload)?;
-    Ok(())
+    print_space(rt, AddressSpace::IncomingRayPayload)
 }
 
-fn print_image(rt: &HostRuntime, name: &str, class: ImageClass) -> Result<()> {
+fn print_image(rt: &HostRuntime, name: &str, class: ImageClass) -> io::Result<()> {
     let many = class.is_multisampled();
     println!(rt;
         "{name}: {many} {} {}",
         class.is_mipmapped(),
         class.is_depth()
-    )?;
-    Ok(())
+    )
 }
 
-fn print_images(rt: &HostRuntime) -> Result<()> {
+fn print_images(rt: &HostRuntime) -> io::Result<()> {
     let kind = ScalarKind::Float;
     print_image(rt, "sampled", ImageClass::Sampled { kind, multi: false })?;
     print_image(rt, "samples", ImageClass::Sampled { kind, multi: true })?;
@@ -72,7 +69,7 @@ fn print_images(rt: &HostRuntime) -> Result<()> {
     Ok(())
 }
 
-fn print_bindings(rt: &HostRuntime) -> Result<()> {
+fn print_bindings(rt: &HostRuntime) -> io::Result<()> {
     let position = Binding::BuiltIn(BuiltIn::Position { invariant: true });
     println!(rt; "{:?}", position.to_built_in())?;
     let location = Binding::Location {
@@ -93,7 +90,7 @@ fn print_bindings(rt: &HostRuntime) -> Result<()> {
     Ok(())
 }
 
-fn print_stages(rt: &HostRuntime) -> Result<()> {
+fn print_stages(rt: &HostRuntime) -> io::Result<()> {
     for stage in [
         ShaderStage::Vertex,
         ShaderStage::Fragment,
@@ -110,7 +107,7 @@ fn print_stages(rt: &HostRuntime) -> Result<()> {
     Ok(())
 }
 
-fn print_functions(rt: &HostRuntime) -> Result<()> {
+fn print_functions(rt: &HostRuntime) -> io::Result<()> {
     for function in [
         MathFunction::Abs,
         MathFunction::Atan2,
@@ -127,7 +124,7 @@ fn print_functions(rt: &HostRuntime) -> Result<()> {
     Ok(())
 }
 
-pub fn run(rt: &HostRuntime) -> Result<()> {
+pub fn run(rt: &HostRuntime) -> io::Result<()> {
     print_spaces(rt)?;
     print_images(rt)?;
     print_bindings(rt)?;

@@ -41,6 +41,25 @@ pub fn plain(input: &str, step: usize) -> Script<'_> {
     }
 }
 
+/// A reader that gives a text, and then a number of spaces.
+#[derive(Drop)]
+pub struct Padded<'a> {
+    pub text: &'a [u8],
+    pub spaces: u64,
+}
+
+impl Read for Padded<'_> {
+    fn read(&mut self, buf: &mut [u8]) -> io::Result<usize> {
+        if !self.text.is_empty() {
+            return self.text.read(buf);
+        }
+        let given = (buf.len() as u64).min(self.spaces) as usize;
+        buf[..given].fill(b' ');
+        self.spaces -= given as u64;
+        Ok(given)
+    }
+}
+
 /// A reader that gives spaces for ever.
 #[derive(Drop)]
 pub struct Spaces {

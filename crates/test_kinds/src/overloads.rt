@@ -1,4 +1,4 @@
-// Each call once.
+// Each call of overload sets once.
 use crate::asked::preferred;
 use anyhow::{Result, ensure};
 use ir_kinds::{MathFunction, Scalar, VectorSize};

@@ -1,5 +1,5 @@
 // The types and rules of the data file. What is not of its form is `None`.
-use crate::words::{scalar, size, text};
+use crate::data_words::{scalar, size, text};
 use ir_kinds::PredeclaredType;
 use serde_json::Value;
 use typing_overloads::{Arguments, Conclusion, ConstructorSize, Rule, ValueType};

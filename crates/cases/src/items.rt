@@ -1,30 +1,16 @@
-//! Reads items of the IR of every kind, copies and compares them, makes the calls of blocks, emitters and walks that
-//! standard input asks for, and prints the answers.
-//!
-//! A line is a list: what is asked, and what it is asked of, written as in a document. Beside it stands the answer. A line
-//! that is a text is a heading.
-#![tactic(auto)]
-
-mod blocks;
-mod emitters;
-mod holder;
-mod item;
-mod kinds;
-mod modules;
-mod returns;
-mod walks;
-
+// Reads items of the IR of every kind, copies and compares them, and makes the calls of blocks, emitters and walks.
+//
+// A line is a list: what is asked, and what it is asked of, written as in a document.
+use crate::{blocks, emitters, holder, item, kinds, modules, returns, walks};
 use ir_items::{
     Block, Constant, DiagnosticFilterNode, EntryPoint, Function, GlobalVariable, Module, Override,
 };
 use serde_json::Value;
 use std::alloc::{AllocError, Global};
-use std::io;
 use test_support::call::{no_call, text};
-use test_support::lines::{Answers, answer_lines};
 
-// The answer of a call.
-fn answer(alloc: Global, call: &Value) -> Result<String, AllocError> {
+/// The answer of a call of items.
+pub fn answer(alloc: Global, call: &Value) -> Result<String, AllocError> {
     match text(call, 0) {
         "type" => kinds::of_type(alloc, call),
         "types" => kinds::of_types(alloc, call),
@@ -58,19 +44,4 @@ fn copied(alloc: Global, call: &Value) -> Result<String, AllocError> {
         "module" => holder::compared::<Module>(alloc, call),
         _ => no_call(alloc),
     }
-}
-
-/// The calls keep nothing from one line to the next.
-#[derive(Drop)]
-struct Items;
-
-impl Answers for Items {
-    fn answer(&mut self, alloc: Global, call: &Value) -> Result<String, AllocError> {
-        answer(alloc, call)
-    }
-}
-
-fn main(rt: HostRuntime) -> io::Result<()> {
-    let mut items = Items;
-    answer_lines(&rt, &mut items)
 }

@@ -1,16 +1,24 @@
-//! Makes the calls of arenas, sets of handles and errors that standard input asks for, and prints the answers.
+//! Makes the calls of arenas, sets of handles, errors and types that standard input asks for, and prints the answers.
 //!
 //! A line is a list: what is called (`"numbers"`, `"tagged"` or `"texts"` and then what of them, or else a span, a number,
-//! an error or a refusal), the call, and what it is given. Beside it stands the answer. A line that is a text is a heading.
+//! an error or a refusal), the call, and what it is given; or else a call of types, and what it is given: a type is written
+//! as in a document, with its name, or is the number of its handle. Beside the line stands the answer. A line that is a
+//! text is a heading.
 #![tactic(auto)]
 
 mod arenas;
+mod compared;
+mod conclusions;
 mod faults;
+mod given;
 mod handles;
 mod item;
+mod parts;
+mod scalars;
 mod sets;
 mod spans;
 mod subject;
+mod type_calls;
 mod unique_arenas;
 
 use item::Tag;
@@ -20,6 +28,10 @@ use std::io;
 use subject::Subject;
 use test_support::call::text;
 use test_support::lines::{Answers, answer_lines};
+use type_calls::TypeCalls;
+use typing_rules::laws::{
+    canonical_once, compare_reflexive, compare_symmetric, compare_transitive,
+};
 
 /// What the calls are made of.
 #[derive(Drop)]
@@ -27,6 +39,7 @@ struct Subjects {
     numbers: Subject<u32, u32>,
     tagged: Subject<u32, Tag>,
     texts: Subject<String, Tag>,
+    types: TypeCalls,
 }
 
 impl Subjects {
@@ -35,6 +48,7 @@ impl Subjects {
             numbers: Subject::new(alloc),
             tagged: Subject::new(alloc),
             texts: Subject::new(alloc),
+            types: TypeCalls::new(alloc),
         }
     }
 }
@@ -49,12 +63,27 @@ impl Answers for Subjects {
             "number" => spans::of_number(alloc, call),
             "range_copy" => handles::of_copy(alloc, call),
             "fault" => faults::of_fault(alloc, call),
-            _ => faults::of_refusal(alloc, call),
+            "refusal" => faults::of_refusal(alloc, call),
+            _ => self.types.answer(alloc, call),
         }
     }
 }
 
+// Laws of types that a caller may use.
+fn laws() {
+    compare_reflexive();
+    compare_symmetric();
+    compare_transitive();
+    canonical_once();
+}
+
+// Lets go of the subjects where nothing is known of their type.
+fn answer_all<S: Answers + Drop>(rt: &HostRuntime, subjects: S) -> io::Result<()> {
+    let mut subjects = subjects;
+    answer_lines(rt, &mut subjects)
+}
+
 fn main(rt: HostRuntime) -> io::Result<()> {
-    let mut subjects = Subjects::new(rt.alloc());
-    answer_lines(&rt, &mut subjects)
+    laws();
+    answer_all(&rt, Subjects::new(rt.alloc()))
 }

@@ -6,7 +6,7 @@ use ir_arena::span::Span;
 use ir_arena::unique_arena::UniqueArena;
 use ir_items::{DiagnosticFilterNode, Function, IrType, key};
 use ir_kinds::{Severity, StandardFilterableTriggeringRule};
-use ir_walks::{originating_global, search};
+use ir_walks::{FlattenCompose, originating_global, search};
 use serde_json::Value;
 use std::alloc::{AllocError, Global};
 use test_support::call::{handle, list, no_call, told};
@@ -95,29 +95,36 @@ fn components(alloc: Global, list: &[Value]) -> Result<Vec<Handle<key::Expressio
     Ok(components)
 }
 
-// The places that a composition comes to, or `None` where a handle is not in order.
+// The handles that a composition comes to, or `None` where a handle is not in order.
+fn leaves_of(
+    alloc: Global,
+    function: &Function,
+    call: &Value,
+) -> Result<Option<FlattenCompose>, AllocError> {
+    let types = types(alloc, list(call, 2))?;
+    let components = components(alloc, list(call, 4))?;
+    let expressions = &function.expressions;
+    flat(alloc, handle(call, 3), &components, expressions, &types)
+}
+
+fn places_of(alloc: Global, leaves: FlattenCompose) -> Result<Vec<usize>, AllocError> {
+    let mut places = Vec::new(alloc);
+    for leaf in leaves {
+        places.push(leaf.index())?;
+    }
+    Ok(places)
+}
+
+// The places of the handles that a composition comes to.
 fn flattened(
     alloc: Global,
     function: &Function,
     call: &Value,
 ) -> Result<Option<Vec<usize>>, AllocError> {
-    let types = types(alloc, list(call, 2))?;
-    let components = components(alloc, list(call, 4))?;
-    let Some(leaves) = flat(
-        alloc,
-        handle(call, 3),
-        &components,
-        &function.expressions,
-        &types,
-    )?
-    else {
-        return Ok(None);
-    };
-    let mut places = Vec::new(alloc);
-    for leaf in leaves {
-        places.push(leaf.index())?;
+    match leaves_of(alloc, function, call)? {
+        Some(leaves) => Ok(Some(places_of(alloc, leaves)?)),
+        None => Ok(None),
     }
-    Ok(Some(places))
 }
 
 /// What a composition of a function's expressions comes to.

@@ -1,6 +1,4 @@
 // Reads standard input as JSON, and does nothing with it: what any check of a document has to take at least.
-#![tactic(auto)]
-
 use ports::Source;
 use serde_json::Value;
 use std::io;
@@ -8,7 +6,8 @@ use std::io;
 /// One byte more than a document may have.
 const MOST_BYTES: usize = 16777217;
 
-fn main(rt: HostRuntime) -> io::Result<()> {
+/// Tells whether standard input is JSON.
+pub fn run(rt: &HostRuntime) -> io::Result<()> {
     let mut source = Source::new(rt.reader());
     let is_read = match source.take_all(rt.alloc(), MOST_BYTES) {
         Ok(bytes) => Value::from_slice(rt.alloc(), &bytes).is_ok(),

@@ -107,6 +107,22 @@ pub fn text(list: &Value, place: usize) -> &str {
     }
 }
 
+/// The items of a list.
+pub fn all(list: &Value) -> &[Value] {
+    match list.as_array() {
+        Some(items) => items.as_slice(),
+        None => &[],
+    }
+}
+
+/// The items of the list at a place.
+pub fn items(list: &Value, place: usize) -> &[Value] {
+    match list.get(place) {
+        Some(inner) => all(inner),
+        None => &[],
+    }
+}
+
 /// The number at a place.
 pub fn number(list: &Value, place: usize) -> Option<u64> {
     list.get(place)?.as_u64()

@@ -1,7 +1,5 @@
-// Makes the overload set of `min` over two vectors once for each byte of standard input, and prints how many rules they
+// Makes the overload set of `min` over two vectors once for each byte of standard input, and tells how many rules they
 // leave in all: what overload sets take in a check of as many calls.
-#![tactic(auto)]
-
 use ir_kinds::{MathFunction, Scalar, VectorSize};
 use ir_types::TypeInner;
 use ports::Source;
@@ -33,7 +31,8 @@ fn rules_of_all(alloc: Global, bytes: &[u8]) -> Result<usize, AllocError> {
     Ok(left)
 }
 
-fn main(rt: HostRuntime) -> io::Result<()> {
+/// Tells how many rules are left in all.
+pub fn run(rt: &HostRuntime) -> io::Result<()> {
     let mut source = Source::new(rt.reader());
     let Ok(bytes) = source.take_all(rt.alloc(), MOST_CALLS) else {
         return println!(rt; "not read");

@@ -1,4 +1,7 @@
 // The calls of a block of statements that compute from some places on, each with a span of its own.
+ghost use Rattle.std.specs.Prelude.{◌≤◌, length};
+ghost use Rattle.ir_blocks.specs.View.{statements_of};
+
 use ir_arena::range::Range;
 use ir_arena::span::Span;
 use ir_items::{Block, Statement};
@@ -64,18 +67,33 @@ fn extend(subject: &mut Block, places: &[Value]) -> Result<bool, AllocError> {
     Ok(true)
 }
 
+// Whether a call could be made: it could where memory sufficed.
+fn made(answer: Result<(), AllocError>) -> Result<bool, AllocError> {
+    match answer {
+        Ok(()) => Ok(true),
+        Err(error) => Err(error),
+    }
+}
+
 // Moves the statements of another block behind this one. Answers whether none is left there.
-fn append(subject: &mut Block, mut other: Block) -> Result<bool, AllocError> {
+fn append(alloc: Global, subject: &mut Block, places: &[Value]) -> Result<bool, AllocError> {
+    let mut other = block(alloc, places)?;
     subject.append(&mut other)?;
     Ok(other.is_empty() && other.spans().is_empty())
 }
 
-// Takes out the statements of a range, if the block has them.
-fn cull(subject: &mut Block, form: &str, start: usize, end: usize) -> bool {
+fn extend_block(alloc: Global, subject: &mut Block, places: &[Value]) -> Result<bool, AllocError> {
+    let other = block(alloc, places)?;
+    made(subject.extend_block(other))
+}
+
+// Takes out the statements of the range that stands behind its form in a line, if the block has them.
+fn cull(subject: &mut Block, call: &Value) -> bool {
+    let (start, end) = (number(call, 4) as usize, number(call, 5) as usize);
     if start > end || end >= subject.len() {
         return false;
     }
-    match form {
+    match text(call, 3) {
         "from_to" => subject.cull(start..end),
         "from_through" => subject.cull(start..=end),
         "to" => subject.cull(..end),
@@ -84,25 +102,33 @@ fn cull(subject: &mut Block, form: &str, start: usize, end: usize) -> bool {
     true
 }
 
-// Puts another block in the place of a range, if the block has it.
-fn splice(
+// Puts another block in the place of a range that the block has.
+fn spliced(
     subject: &mut Block,
     form: &str,
-    range: Range<()>,
+    start: usize,
+    end: usize,
     other: Block,
-) -> Result<bool, AllocError> {
-    let places = range.index_range();
-    let (start, end) = (places.start as usize, places.end as usize);
+) -> Result<(), AllocError>
+    requires order { start ≤ end }
+    requires range { end ≤ length (statements_of subject.old) }
+{
+    match form {
+        "from_to" => subject.splice(start..end, other),
+        "from" => subject.splice(start.., other),
+        "through" if end < subject.len() => subject.splice(..=end, other),
+        _ => subject.splice(.., other),
+    }
+}
+
+// Puts another block in the place of the range that stands behind its form in a line, if the block has it.
+fn splice(alloc: Global, subject: &mut Block, call: &Value) -> Result<bool, AllocError> {
+    let (start, end) = (number(call, 4) as usize, number(call, 5) as usize);
     if start > end || end > subject.len() {
         return Ok(false);
     }
-    match form {
-        "from_to" => subject.splice(start..end, other)?,
-        "from" => subject.splice(start.., other)?,
-        "through" if end < subject.len() => subject.splice(..=end, other)?,
-        _ => subject.splice(.., other)?,
-    }
-    Ok(true)
+    let other = block(alloc, list(call, 6))?;
+    made(spliced(subject, text(call, 3), start, end, other))
 }
 
 // Makes the second place's statement a kill with another span, and answers whether there is one.
@@ -131,19 +157,12 @@ fn change_all(subject: &mut Block) -> bool {
 
 // Makes the call of a line. Answers what it told, or whether it could be made.
 fn called(alloc: Global, subject: &mut Block, call: &Value) -> Result<bool, AllocError> {
-    let (start, end) = (number(call, 4), number(call, 5));
     match text(call, 1) {
         "extend" => extend(subject, list(call, 3)),
-        "append" => append(subject, block(alloc, list(call, 3))?),
-        "extend_block" => {
-            subject.extend_block(block(alloc, list(call, 3))?)?;
-            Ok(true)
-        }
-        "cull" => Ok(cull(subject, text(call, 3), start as usize, end as usize)),
-        "splice" => {
-            let other = block(alloc, list(call, 6))?;
-            splice(subject, text(call, 3), Range::new(start, end), other)
-        }
+        "append" => append(alloc, subject, list(call, 3)),
+        "extend_block" => extend_block(alloc, subject, list(call, 3)),
+        "cull" => Ok(cull(subject, call)),
+        "splice" => splice(alloc, subject, call),
         "span_iter_mut" => Ok(change(subject)),
         "as_mut_slice" => Ok(change_all(subject)),
         _ => Ok(false),

@@ -1,36 +1,29 @@
-//! Makes the calls of types of expressions that standard input asks for, over a module of types, and prints the answers.
-//!
-//! A line is a list: the call, and what it is given. A type is written as in a document, with its name, or is the number of
-//! its handle. Beside the call stands the answer. A line that is a text is a heading.
-#![tactic(auto)]
-
-mod compared;
-mod conclusions;
-mod given;
-mod parts;
-mod scalars;
-
+// The calls of types of expressions, over a module of types.
+use crate::given::Types;
+use crate::{compared, conclusions, parts, scalars};
 use ir_arena::span::Span;
 use ir_items::Module;
 use item_forms::TypeForm;
 use serde_json::Value;
 use std::alloc::{AllocError, Global};
-use std::io;
 use test_support::call::{handle, list, text, told};
 use test_support::forms::found;
-use test_support::lines::{Answers, answer_lines};
-use typing_rules::laws::{
-    canonical_once, compare_reflexive, compare_symmetric, compare_transitive,
-};
 use typing_rules::types_go_back;
 
 /// The module of whose types is asked.
 #[derive(Drop)]
-struct Subject {
+pub struct TypeCalls {
     module: Module,
 }
 
-impl Subject {
+impl TypeCalls {
+    /// A module without types.
+    pub fn new(alloc: Global) -> Self {
+        TypeCalls {
+            module: Module::new(alloc),
+        }
+    }
+
     // Adds the types of a line. Answers how many there are, and whether they go back.
     fn add_types(&mut self, alloc: Global, types: &[Value]) -> Result<(usize, bool), AllocError> {
         for value in types {
@@ -49,10 +42,9 @@ impl Subject {
         }
         Ok(predeclared.len())
     }
-}
 
-impl Answers for Subject {
-    fn answer(&mut self, alloc: Global, call: &Value) -> Result<String, AllocError> {
+    /// The answer of a call.
+    pub fn answer(&mut self, alloc: Global, call: &Value) -> Result<String, AllocError> {
         let types = &self.module.types;
         match text(call, 0) {
             "types" => told(alloc, self.add_types(alloc, list(call, 1))),
@@ -73,24 +65,9 @@ impl Answers for Subject {
 }
 
 // The answer of a call of a scalar, where a word stands behind its name, or of a type.
-fn scalars_or_types(
-    alloc: Global,
-    types: &given::Types,
-    call: &Value,
-) -> Result<String, AllocError> {
+fn scalars_or_types(alloc: Global, types: &Types, call: &Value) -> Result<String, AllocError> {
     if text(call, 1) != "" {
         return scalars::of_scalar(alloc, call);
     }
     parts::of_type(alloc, types, call)
-}
-
-fn main(rt: HostRuntime) -> io::Result<()> {
-    compare_reflexive();
-    compare_symmetric();
-    compare_transitive();
-    canonical_once();
-    let mut subject = Subject {
-        module: Module::new(rt.alloc()),
-    };
-    answer_lines(&rt, &mut subject)
 }
