@@ -1,8 +1,8 @@
 // Each call of alignments and of layouters, once.
 use anyhow::{Result, ensure};
-use ir_unique_arena::unique_arena::UniqueArena;
 use ir_kinds::{CooperativeSize, VectorSize};
 use ir_types::{IrType, key};
+use ir_unique_arena::unique_arena::UniqueArena;
 use std::io;
 use typing_layout::{Alignment, LayoutErrorInner, Layouter};
 use typing_rules::types_go_back;

@@ -12,11 +12,11 @@ ghost use Rattle.document_within.specs.Tests.{all_pass, plain_inner, plain_type,
 use crate::bodies::is_plain_block;
 use document_reader::Document;
 use ir_arena::arena::Arena;
-use ir_unique_arena::unique_arena::UniqueArena;
 use ir_items::{
     Expression, Function, FunctionResult, IrType, Module, SpecialTypes, TypeInner, key,
 };
 use ir_kinds::Literal;
+use ir_unique_arena::unique_arena::UniqueArena;
 
 fn is_plain_inner(inner: &TypeInner) -> bool
     ensures { result ≡ plain_inner (inner_view inner.now) }

@@ -9,9 +9,9 @@ ghost use Rattle.typing_forms.specs.Resolutions.{types_view, inner_at};
 ghost use Rattle.typing_resolve.specs.Answers.{form_given, form_answer};
 
 use ir_arena::handle::Handle;
-use ir_unique_arena::unique_arena::UniqueArena;
 use ir_kinds::{AddressSpace, Scalar, VectorSize};
 use ir_types::{IrType, StructMember, TypeInner, key};
+use ir_unique_arena::unique_arena::UniqueArena;
 use spec_expressions::TypingFault;
 use typing_forms::{Form, TypeResolution, inner_of};
 

@@ -20,11 +20,11 @@ use crate::operands::{Given, operands_of};
 use crate::typing::answered;
 use ir_arena::arena::Arena;
 use ir_arena::handle::Handle;
-use ir_unique_arena::unique_arena::UniqueArena;
 use ir_expressions::Expression;
 use ir_globals::{Constant, GlobalVariable, Override, SpecialTypes};
 use ir_items::{Function, FunctionArgument, LocalVariable, Module};
 use ir_types::{IrType, key};
+use ir_unique_arena::unique_arena::UniqueArena;
 use std::alloc::Global;
 use typing_forms::TypeResolution;
 

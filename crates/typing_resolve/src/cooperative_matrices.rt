@@ -6,9 +6,9 @@ ghost use Rattle.typing_forms.specs.Resolutions.{types_view};
 ghost use Rattle.typing_resolve.specs.Answers.{form_answer};
 
 use ir_arena::handle::Handle;
-use ir_unique_arena::unique_arena::UniqueArena;
 use ir_kinds::{CooperativeRole, CooperativeSize, Scalar};
 use ir_types::{IrType, TypeInner, key};
+use ir_unique_arena::unique_arena::UniqueArena;
 use spec_expressions::TypingFault;
 use typing_forms::{Form, TypeResolution, inner_of};
 use typing_rules::TypeInnerExt;

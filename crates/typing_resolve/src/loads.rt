@@ -13,11 +13,11 @@ ghost use Rattle.typing_resolve.specs.Answers.{form_given, form_answer};
 use crate::access::pointer_to;
 use ir_arena::arena::Arena;
 use ir_arena::handle::Handle;
-use ir_unique_arena::unique_arena::UniqueArena;
 use ir_globals::GlobalVariable;
 use ir_items::{FunctionArgument, LocalVariable};
 use ir_kinds::{AddressSpace, Scalar, VectorSize};
 use ir_types::{IrType, TypeInner, key};
+use ir_unique_arena::unique_arena::UniqueArena;
 use spec_expressions::TypingFault;
 use typing_forms::{Form, TypeResolution, inner_of};
 

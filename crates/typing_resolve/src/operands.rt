@@ -10,9 +10,9 @@ ghost use Rattle.typing_resolve.specs.Answers.{form_given, form_answer};
 ghost use Rattle.typing_resolve.specs.Operands.{given_form};
 
 use ir_arena::handle::Handle;
-use ir_unique_arena::unique_arena::UniqueArena;
 use ir_expressions::Expression;
 use ir_types::{IrType, TypeInner, key};
+use ir_unique_arena::unique_arena::UniqueArena;
 use spec_expressions::TypingFault;
 use std::alloc::{AllocError, Global};
 use typing_forms::{Form, TypeResolution, form_of};

@@ -8,9 +8,9 @@ ghost use Rattle.typing_resolve.specs.Answers.{form_answer};
 ghost use Rattle.typing_resolve.specs.Operands.{given_form};
 
 use crate::operands::{Typing, given_again, given_form};
-use ir_unique_arena::unique_arena::UniqueArena;
 use ir_kinds::{BinaryOperator, Scalar, VectorSize};
 use ir_types::{IrType, TypeInner, key};
+use ir_unique_arena::unique_arena::UniqueArena;
 use spec_expressions::TypingFault;
 use std::alloc::{AllocError, Global};
 use typing_forms::{Form, TypeResolution};
