@@ -7,7 +7,7 @@ besides, or finds the kinds of the expressions. What these take is the differenc
 take turns. It is a small part of the whole, so that where other programs run beside it can't be told from theirs: with
 --instructions the instructions of one run each are counted instead (valgrind's callgrind), on documents of 256 KiB and
 1 MiB, since that takes fifty times as long. Prints a table in Markdown. Both programs have to be built: `rt ci` leaves
-them, and so does `rt run` in crates/cases_typing and crates/json_alone. The status is 1 where a target is missed.
+them, and so does `rt run` in crates/cases_typing and crates/test_kinds. The status is 1 where a target is missed.
 """
 import json
 import os
@@ -17,7 +17,7 @@ import subprocess
 import sys
 import tempfile
 
-from run import ALONE, RUNS, SIZES, TOP, run
+from run import ALONE, MEASURES, RUNS, SIZES, TOP, run
 
 CASES = TOP / "crates/cases_typing/out/cases_typing"
 MOST_SHARE = 0.25
@@ -88,14 +88,14 @@ def taken(room, asked, document):
     return used.ru_utime + used.ru_stime
 
 
-def counted(program, room, given):
-    """The instructions of one run of a program in the room, with this file as its input."""
+def counted(command, room, given):
+    """The instructions of one run of a command in the room, with this file as its input."""
     with open(given) as it:
-        ended = subprocess.run(["valgrind", "--tool=callgrind", "--callgrind-out-file=/dev/null", program], cwd=room,
+        ended = subprocess.run(["valgrind", "--tool=callgrind", "--callgrind-out-file=/dev/null", *command], cwd=room,
                                stdin=it, capture_output=True, text=True)
     found = re.search(r"Collected : (\d+)", ended.stderr)
     if ended.returncode != 0 or not found:
-        sys.exit(f"layouts: {program.name}: {ended.stderr[-300:]}")
+        sys.exit(f"layouts: {command[0].name}: {ended.stderr[-300:]}")
     return int(found.group(1))
 
 
@@ -112,13 +112,13 @@ def instructions(room, asked, document, path):
     both = []
     for question in (asked, "read"):
         ask(room, question, document)
-        both.append(counted(CASES, room, path))
+        both.append(counted((CASES,), room, path))
     return (both[0] - both[1]) / 1e6, counted(ALONE, room, path) / 1e6
 
 
 def main():
     counting = "--instructions" in sys.argv[1:]
-    for program in (CASES, ALONE):
+    for program in (CASES, MEASURES):
         if not program.is_file():
             sys.exit(f"layouts: {program.relative_to(TOP)} is not built yet")
     missed = False
