@@ -1,9 +1,9 @@
 #!/usr/bin/env python3
-"""Measures how long layouts of all types and kinds of all expressions of large documents take, beside reading the same
-bytes as JSON and no more: layouts.py [--instructions]
+"""Measures how long layouts of all types, and kinds and types of all expressions of large documents take, beside reading
+the same bytes as JSON and no more: layouts.py [--instructions]
 
 `cases_typing` is run twice on each document: once it reads the document and no more, and once it lays out the types
-besides, or finds the kinds of the expressions. What these take is the difference, of the least times of five runs, which
+besides, or finds the kinds or the types of the expressions. What these take is the difference, of the least times of five runs, which
 take turns. It is a small part of the whole, so that where other programs run beside it can't be told from theirs: with
 --instructions the instructions of one run each are counted instead (valgrind's callgrind), on documents of 256 KiB and
 1 MiB, since that takes fifty times as long. Prints a table in Markdown. Both programs have to be built: `rt ci` leaves
@@ -47,12 +47,29 @@ def calls(index):
     return f',["Math","Min",{index},{index // 2},null,null]'
 
 
+VECTOR = ('[1,[],[],[[],[]],false,[[null,["Scalar","u32"]],[null,["Vector",3,"u32"]]],[null,null,null,[]],[[],null],[],[],'
+          '[],[],[[null,[],null,[],[["ZeroValue",1]', '],[],null]],[]]')
+
+
+def sums(index):
+    """A sum of two expressions before."""
+    return f',["Binary","Add",{index},{index // 2}]'
+
+
+def parts(index):
+    """A component of the vector."""
+    return f',["AccessIndex",0,{index % 3}]'
+
+
 # each kind of document: what stands before its items and behind them, an item, and what is asked
 KINDS = {
     "arrays of arrays": (*TYPES, arrays, "laid"),
     "structs": (*TYPES, structs, "laid"),
     "chains of accesses": (*EXPRESSIONS, chains, "tracked"),
     "functions of numbers": (*EXPRESSIONS, calls, "tracked"),
+    "types of sums": (*EXPRESSIONS, sums, "typed"),
+    "types of functions of numbers": (*EXPRESSIONS, calls, "typed"),
+    "types of components": (*VECTOR, parts, "typed"),
 }
 
 
@@ -123,7 +140,7 @@ def main():
             sys.exit(f"layouts: {program.relative_to(TOP)} is not built yet")
     missed = False
     unit = "million instructions" if counting else "ms"
-    print(f"| document | items | layouts or kinds, {unit} | reading alone, {unit} | share |")
+    print(f"| document | items | layouts, kinds or types, {unit} | reading alone, {unit} | share |")
     print("|---|---|---|---|---|")
     for name, (front, back, item, asked) in KINDS.items():
         for size in [1 << 18, 1 << 20] if counting else SIZES:

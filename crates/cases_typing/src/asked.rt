@@ -1,17 +1,20 @@
 // What is asked of a module.
 use crate::constness::{kinds_told, tracked};
 use crate::layouts::{laid, layouts_told};
+use crate::types::{typed, types_told};
 use ir_items::Module;
 use std::alloc::{AllocError, Global};
 
-/// The answer to a question about a module. `laid`, `tracked` and `read` are there to measure by: they lay out all types,
-/// find all kinds, or do nothing, and are answered by themselves.
+/// The answer to a question about a module. `laid`, `tracked`, `typed` and `read` are there to measure by: they lay out all
+/// types, find all kinds or all types of expressions, or do nothing, and are answered by themselves.
 pub fn answer(alloc: Global, asked: &str, module: &Module) -> Result<String, AllocError> {
     match asked {
         "layouts" => layouts_told(alloc, &module.types),
         "constness" => kinds_told(alloc, module),
+        "types" => types_told(alloc, module),
         "laid" => String::from_str(alloc, laid(alloc, &module.types)?),
         "tracked" => String::from_str(alloc, tracked(alloc, module)?),
+        "typed" => String::from_str(alloc, typed(alloc, module)?),
         "read" => String::from_str(alloc, "read"),
         _ => String::from_str(alloc, "no question"),
     }

@@ -1,18 +1,14 @@
 #!/usr/bin/env python3
-"""Writes data/documents.json and stdout from a corpus of typed documents, or compares a whole corpus.
+"""Writes the cases of the types of expressions: make_types.py CORPUS [OUT] [--all].
 
 A line of the corpus is an object with `name`, `document` (the text of a document) and, for the global expressions
 (`globals`), each function (`functions`) and each entry point (`entries`), the canonical forms of the types of its
-expressions in order (`types`) and what the first one without a type is refused for (`fault`).
-
-  make_data.py CORPUS                writes the documents that are chosen for coverage, and the expected output
-  make_data.py CORPUS --all PROGRAM  runs the program on the whole corpus in a folder of its own, and compares
+expressions in order (`types`) and what the first one without a type is refused for (`fault`). OUT is where the file of
+cases goes, data/ beside this script where none is given. Without --all the documents are chosen for coverage.
 """
 import json
-import os
-import subprocess
 import sys
-import tempfile
+from pathlib import Path
 
 SCALARS = {
     "bool": ("Bool", 1), "i16": ("Sint", 2), "u16": ("Uint", 2), "i32": ("Sint", 4), "u32": ("Uint", 4),
@@ -118,14 +114,14 @@ def bodies(case):
 
 
 def expected(case):
-    """The lines that are expected for a document."""
-    lines = [case["name"]]
+    """The answer that is expected for a document: a line for each expression, behind a line for each body."""
+    lines = []
     for word, answer in bodies(case):
         lines.append(word)
         lines += [form(t) for t in answer["types"]]
         if answer["fault"]:
             lines.append(error(answer["fault"]))
-    return lines
+    return "".join(line + "\n" for line in lines)
 
 
 def variant(value):
@@ -172,33 +168,16 @@ def chosen(cases, limit):
     return sorted(picked, key=lambda c: c["name"])
 
 
-def documents(cases):
-    return json.dumps([[c["name"], c["document"]] for c in cases], ensure_ascii=False, separators=(",", ":"))
-
-
 def main():
-    with open(sys.argv[1], encoding="utf-8") as file:
+    arguments = [a for a in sys.argv[1:] if a != "--all"]
+    with open(arguments[0], encoding="utf-8") as file:
         cases = [json.loads(line) for line in file]
-    here = os.path.dirname(os.path.abspath(__file__))
-    if len(sys.argv) == 4 and sys.argv[2] == "--all":
-        with tempfile.TemporaryDirectory() as folder:
-            with open(os.path.join(folder, "documents.json"), "w", encoding="utf-8") as file:
-                file.write(documents(cases))
-            run = subprocess.run([os.path.abspath(sys.argv[3])], cwd=folder, capture_output=True, text=True)
-        lines = [line for case in cases for line in expected(case)]
-        printed = run.stdout.splitlines()
-        differ = [i for i, (a, b) in enumerate(zip(lines, printed)) if a != b]
-        for i in differ[:20]:
-            print("line %d is %s, expected %s" % (i + 1, printed[i], lines[i]))
-        print("%d documents, %d lines expected, %d printed, %d differ, status %d" % (
-            len(cases), len(lines), len(printed), len(differ), run.returncode))
-        sys.exit(1 if differ or len(lines) != len(printed) or run.returncode else 0)
-    part = chosen(cases, 600000)
-    with open(os.path.join(here, "data", "documents.json"), "w", encoding="utf-8") as file:
-        file.write(documents(part) + "\n")
-    with open(os.path.join(here, "stdout"), "w", encoding="utf-8") as file:
-        file.write("".join(line + "\n" for case in part for line in expected(case)))
-    print("%d of %d documents" % (len(part), len(cases)))
+    out = Path(arguments[1]) if len(arguments) > 1 else Path(__file__).parent / "data"
+    part = cases if "--all" in sys.argv else chosen(cases, 600000)
+    with open(out / "types.jsonl", "w", encoding="utf-8") as file:
+        for case in part:
+            file.write(json.dumps([case["name"], "types", case["document"], expected(case)], ensure_ascii=False) + "\n")
+    print(f"{len(part)} of {len(cases)} documents")
 
 
 main()

@@ -1,0 +1,132 @@
+// The types of expressions.
+use ir_arena::arena::Arena;
+use ir_arena::handle::Handle;
+use ir_items::{Expression, Function, Module, key};
+use ir_types::TypeInner;
+use std::alloc::{AllocError, Global};
+use typing_forms::{TypeResolution, form_of};
+use typing_resolve::{ResolveContext, ResolveRefusal};
+
+type Expressions = Arena<Expression, key::Expression>;
+
+// The type of an operand, or another one where the operand does not come before.
+fn found_at<'a>(
+    found: &'a [TypeResolution],
+    handle: Handle<key::Expression>,
+    missing: &'a TypeResolution,
+) -> &'a TypeResolution {
+    found.get(handle.index()).unwrap_or(missing)
+}
+
+// The type of an expression behind these.
+fn type_behind(
+    alloc: Global,
+    context: &ResolveContext<'_>,
+    found: &[TypeResolution],
+    expression: &Expression,
+) -> Option<Result<TypeResolution, ResolveRefusal>> {
+    if !context.names_item(expression) {
+        return None;
+    }
+    let missing = TypeResolution::Value(TypeInner::Sampler { comparison: false });
+    let given = context.resolve(
+        alloc,
+        expression,
+        |operand| found_at(found, operand, &missing),
+    );
+    Some(given)
+}
+
+// Tells the types of these expressions, a line each, up to the first that has none.
+fn tell(
+    alloc: Global,
+    told: &mut String,
+    context: &ResolveContext<'_>,
+    expressions: &Expressions,
+) -> Result<(), AllocError> {
+    let mut found: Vec<TypeResolution> = Vec::new(alloc);
+    for (_, expression) in expressions.iter() {
+        match type_behind(alloc, context, found.as_slice(), expression) {
+            Some(Ok(given)) => {
+                told.push_str(&format!(in alloc; "{:?}\n", form_of(context.types, &given))?)?;
+                found.push(given)?;
+            }
+            Some(Err(ResolveRefusal::Fault(error))) => {
+                return told.push_str(&format!(in alloc; "{error:?}\n")?);
+            }
+            Some(Err(ResolveRefusal::Memory(error))) => return Err(error),
+            None => return told.push_str("names what is not there\n"),
+        }
+    }
+    Ok(())
+}
+
+// Tells the types of a function's expressions, behind this word.
+fn tell_function(
+    alloc: Global,
+    told: &mut String,
+    word: &str,
+    module: &Module,
+    function: &Function,
+) -> Result<(), AllocError> {
+    told.push_str(word)?;
+    let context = ResolveContext::with_locals(
+        module,
+        &function.local_variables,
+        &function.arguments,
+    );
+    tell(alloc, told, &context, &function.expressions)
+}
+
+// Tells the types of the global expressions.
+fn tell_globals(alloc: Global, told: &mut String, module: &Module) -> Result<(), AllocError> {
+    told.push_str("globals\n")?;
+    let none = Arena::new(alloc);
+    let context = ResolveContext::with_locals(module, &none, &[]);
+    tell(alloc, told, &context, &module.global_expressions)
+}
+
+/// The types of the global expressions, and of those of each function and each entry point.
+pub fn types_told(alloc: Global, module: &Module) -> Result<String, AllocError> {
+    let mut told = String::new(alloc);
+    tell_globals(alloc, &mut told, module)?;
+    for (_, function) in module.functions.iter() {
+        tell_function(alloc, &mut told, "function\n", module, function)?;
+    }
+    for entry in module.entry_points.as_slice() {
+        tell_function(alloc, &mut told, "entry\n", module, &entry.function)?;
+    }
+    Ok(told)
+}
+
+// Whether these expressions have types.
+fn are_typed(
+    alloc: Global,
+    context: &ResolveContext<'_>,
+    expressions: &Expressions,
+) -> Result<bool, AllocError> {
+    let mut found: Vec<TypeResolution> = Vec::new(alloc);
+    for (_, expression) in expressions.iter() {
+        match type_behind(alloc, context, found.as_slice(), expression) {
+            Some(Ok(given)) => found.push(given)?,
+            Some(Err(ResolveRefusal::Memory(error))) => return Err(error),
+            Some(Err(ResolveRefusal::Fault(_))) | None => return Ok(false),
+        }
+    }
+    Ok(true)
+}
+
+/// Whether the expressions of each function have types, as a word.
+pub fn typed(alloc: Global, module: &Module) -> Result<&'static str, AllocError> {
+    for (_, function) in module.functions.iter() {
+        let context = ResolveContext::with_locals(
+            module,
+            &function.local_variables,
+            &function.arguments,
+        );
+        if !are_typed(alloc, &context, &function.expressions)? {
+            return Ok("not typed");
+        }
+    }
+    Ok("typed")
+}
