@@ -89,7 +89,8 @@ def ask(room, asked, document):
     """Writes the question into the room, beside a file without questions."""
     with open(f"{room}/layouts.jsonl", "w") as it:
         it.write(json.dumps(["bench", asked, document, asked]) + "\n")
-    open(f"{room}/constness.jsonl", "w").close()
+    for empty in ("constness", "types"):
+        open(f"{room}/{empty}.jsonl", "w").close()
 
 
 def taken(room, asked, document):
