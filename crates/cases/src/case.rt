@@ -60,7 +60,7 @@ fn first_line(text: &str) -> &str {
     text.lines().next().unwrap_or("")
 }
 
-// Reads the case's bytes as a document. Answers how that differs from what is due, or `None` where it does not.
+// Reads the case's bytes as a document. Answers how that differs from what is expected, or `None` where it does not.
 fn judge_form(alloc: Global, case: &Case<'_>, form: bool) -> Result<Option<String>, AllocError> {
     let read = match read_document(alloc, case.input.as_slice()) {
         Ok(_) => true,
@@ -71,13 +71,13 @@ fn judge_form(alloc: Global, case: &Case<'_>, form: bool) -> Result<Option<Strin
         return Ok(None);
     }
     let difference = format!(in alloc;
-        "a document: {form} is due, but it was read as one: {read}"
+        "a document: {form} is expected, but it was read as one: {read}"
     )?;
     Ok(Some(difference))
 }
 
 /// Reads the case's bytes where it tells whether they are a document, or else runs the check over them. Answers how that
-/// differs from what is due, or `None` where it does not.
+/// differs from what is expected, or `None` where it does not.
 pub fn judge(alloc: Global, case: &Case<'_>) -> Result<Option<String>, AllocError> {
     match case.form {
         Some(form) => judge_form(alloc, case, form),
@@ -104,7 +104,7 @@ fn difference(
 ) -> Result<Option<String>, AllocError> {
     let row = Row {
         input: "",
-        due: case.output,
+        expected: case.output,
     };
     if row.is_met(answer, held) {
         return Ok(None);

@@ -5,19 +5,19 @@ use serde_json::Value;
 use std::alloc::{AllocError, Global};
 use test_support::call::{no_call, told};
 
-// Whether returns are put into the body as they are due, and no more when they are put in again.
-fn puts_in(alloc: Global, body: &mut Block, due: &Block) -> Result<bool, AllocError> {
+// Whether returns are put into the body where they belong, and no more when they are put in again.
+fn puts_in(alloc: Global, body: &mut Block, expected: &Block) -> Result<bool, AllocError> {
     ensure_block_returns(alloc, body)?;
-    let once = *body == *due;
+    let once = *body == *expected;
     ensure_block_returns(alloc, body)?;
-    Ok(once && *body == *due && body.spans().len() == body.len())
+    Ok(once && *body == *expected && body.spans().len() == body.len())
 }
 
-// Whether a copy of the body with returns put in is the one that is due.
-fn completes(alloc: Global, body: &Block, due: &Block) -> Result<bool, AllocError> {
+// Whether a copy of the body with returns put in is the expected one.
+fn completes(alloc: Global, body: &Block, expected: &Block) -> Result<bool, AllocError> {
     let mut copy = body.clone(alloc)?;
     ensure_block_returns(alloc, &mut copy)?;
-    Ok(copy == *due)
+    Ok(copy == *expected)
 }
 
 /// Whether returns put into a copy and in place make the second body of the first, and how long it is then.
@@ -25,10 +25,10 @@ pub fn of_returns(alloc: Global, call: &Value) -> Result<String, AllocError> {
     let Some(mut body): Option<Block> = read_at(alloc, call, 1)? else {
         return no_call(alloc);
     };
-    let Some(due): Option<Block> = read_at(alloc, call, 2)? else {
+    let Some(expected): Option<Block> = read_at(alloc, call, 2)? else {
         return no_call(alloc);
     };
-    let completes = completes(alloc, &body, &due);
-    let puts_in = puts_in(alloc, &mut body, &due);
+    let completes = completes(alloc, &body, &expected);
+    let puts_in = puts_in(alloc, &mut body, &expected);
     told(alloc, (completes, puts_in, body.len()))
 }

@@ -1,4 +1,4 @@
-// What is asked of a document: a text, and the verdict and the text that are due for it.
+// What is asked of a document: a text, and the verdict and the text that are expected.
 use serde_json::Value;
 use shader_check::{Fault, Verdict};
 use test_support::call::text;
@@ -6,11 +6,11 @@ use test_support::call::text;
 /// What a check answers.
 pub type Answer = Result<Verdict, Fault>;
 
-/// A document of the input, and the line that is due for it.
+/// A document of the input, and the expected line.
 #[derive(Clone, Copy)]
 pub struct Row<'a> {
     pub input: &'a str,
-    pub due: &'a str,
+    pub expected: &'a str,
 }
 
 impl<'a> Row<'a> {
@@ -18,17 +18,17 @@ impl<'a> Row<'a> {
     pub fn of(call: &'a Value) -> Row<'a> {
         Row {
             input: text(call, 1),
-            due: text(call, 2),
+            expected: text(call, 2),
         }
     }
 
-    /// Whether the answer and what was written are those that are due.
+    /// Whether the answer and what was written are the expected ones.
     pub fn is_met(self, answer: Answer, written: &[u8]) -> bool {
-        let due = if self.due.starts_with("accepted") {
+        let expected = if self.expected.starts_with("accepted") {
             Verdict::Accepted
         } else {
             Verdict::Refused
         };
-        answer == Ok(due) && written == self.due.as_bytes()
+        answer == Ok(expected) && written == self.expected.as_bytes()
     }
 }

@@ -13,9 +13,9 @@ const MOST_WRITES: u64 = 100;
 // What came of a check.
 #[derive(Clone, Copy, PartialEq, Eq, Debug)]
 enum Outcome {
-    /// The fault that is due, with all that goes with it.
+    /// The expected fault, with all that goes with it.
     Fault,
-    /// What is due where nothing fails.
+    /// What is expected where nothing fails.
     Met,
     /// Anything else.
     Other,
@@ -64,7 +64,7 @@ pub fn reader_fails(alloc: Global, row: Row<'_>, step: usize, halting: bool) -> 
     None
 }
 
-/// How often a reader is called that gives a byte a call, where what comes is what is due.
+/// How often a reader is called that gives a byte a call, where what comes is what is expected.
 pub fn reader_calls(alloc: Global, row: Row<'_>) -> Option<u64> {
     let mut held: Vec<u8> = Vec::new(alloc);
     let mut script = plain(row.input, 1);
@@ -79,15 +79,15 @@ pub fn reader_calls(alloc: Global, row: Row<'_>) -> Option<u64> {
     }
 }
 
-// Whether the page holds a front of the text that is due, not all of it, and got no call after the one that failed.
+// Whether the page holds a prefix of the expected text, not all of it, and got no call after the one that failed.
 fn is_front(row: Row<'_>, page: &Page) -> bool {
     let after_bad = if page.bad == Bad::TakesOneThenFails {
         1
     } else {
         0
     };
-    row.due.as_bytes().starts_with(&page.held)
-        && page.held.len() < row.due.len()
+    row.expected.as_bytes().starts_with(&page.held)
+        && page.held.len() < row.expected.len()
         && page.calls.checked_sub(page.bad_call) == Some(after_bad)
 }
 

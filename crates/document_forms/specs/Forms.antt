@@ -6,7 +6,7 @@ use Rattle.ir_kinds.specs.declared.scalars.VectorSize.{VectorSize}
 use Rattle.ir_kinds.specs.declared.scalars.CooperativeSize.{CooperativeSize}
 use Rattle.document_forms.specs.Exact.{deepest, IsExact, FormOf, RowOf}
 use Rattle.document_forms.specs.Form.{ANumber, ASigned, ASize, ASide, ABool, AText, AWord, ASet, Maybe, AList, AnArray, Ends, ◌▸◌}
-use Rattle.document_forms.specs.Find.{number_of, signed_of, size_of, side_of, word_in, set_of, optional, all_of, end, behind, array_of, of_kind, tagged_of}
+use Rattle.document_forms.specs.Decide.{number_of, signed_of, size_of, side_of, word_in, set_of, optional, all_of, end, behind, array_of, of_kind, tagged_of}
 use Rattle.document_forms.specs.PartLaws.{number_exact, signed_exact, size_exact, side_exact, bool_exact, text_exact, word_exact, optional_exact}
 use Rattle.document_forms.specs.ListLaws.{list_exact, set_exact}
 use Rattle.document_forms.specs.RowLaws.{end_exact, behind_exact, made_row, array_exact, made_exact}
@@ -86,7 +86,7 @@ abbrev pub made : {A B : Type 0} (f : FormOf A) (make : A → B) (parts : B → 
     → ((t : A) (d : Data) → f.Written t d → R (make t) d) → ((x : B) (d : Data) → R x d → f.Written (parts x) d) → FormOf B
 made f make parts R again to from = record { find = λ d. option_map make (f.find d); Written = R; exact = made_exact f.find f.Written f.exact make parts R again to from }
 
--- an array with a word in front, where each kind is found where it is written
+-- an array that begins with a word, where each kind is found where it is written
 abbrev pub by_kind : {A K : Type 0} (table : List (List ℕ × K)) (f : K → Items → Option A) (R : A → Data → Type 0) → AreSound f (λ x ds. R x (array ds)) table
     → ((x : A) (d : Data) → R x d → depth d ≤ deepest → tagged_of table f d ≡ Some x) → FormOf A
 by_kind table f R sound complete = record { find = tagged_of table f; Written = R; exact = tagged_exact table f R sound complete }

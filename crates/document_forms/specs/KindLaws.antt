@@ -8,7 +8,7 @@ use Rattle.serde_json.specs.Find.{as_array, as_str}
 use Rattle.document_words.specs.Lookup.{lookup}
 use Rattle.document_forms.specs.Exact.{deepest, IsExact, IsExactRow, RowOf}
 use Rattle.document_forms.specs.Form.{AText, ◌▸◌, Tagged}
-use Rattle.document_forms.specs.Find.{word_in, first, tag_of, of_kind, tag_in, tagged_of}
+use Rattle.document_forms.specs.Decide.{word_in, first, tag_of, of_kind, tag_in, tagged_of}
 use Rattle.document_forms.specs.Inverse.{bind_some, map_some, chosen, some_is, is_word, as_str_some, as_array_some, first_some}
 
 -- what is found by the kind of each entry is written with that entry's word in front

@@ -1,7 +1,7 @@
 pub mod Form
 pub mod Exact
 pub mod Answers
-pub mod Find
+pub mod Decide
 pub mod Inverse
 pub mod Refusals
 pub mod PartLaws

@@ -4,7 +4,7 @@ use Rattle.serde_json.specs.Data.{Data, null, boolean, number, string, array, ob
 use Rattle.serde_json.specs.Find.{as_array}
 use Rattle.document_forms.specs.Exact.{deepest, IsExact}
 use Rattle.document_forms.specs.Form.{AWord, EachOf, AList, ASet, joined}
-use Rattle.document_forms.specs.Find.{word_in, each, all_of, joins, set_of}
+use Rattle.document_forms.specs.Decide.{word_in, each, all_of, joins, set_of}
 use Rattle.document_forms.specs.Inverse.{bind_some, some_is, as_array_some}
 use Rattle.document_forms.specs.PartLaws.{word_exact}
 

@@ -9,7 +9,7 @@ use Rattle.ir_kinds.specs.declared.scalars.CooperativeSize.{CooperativeSize}
 use Rattle.ir_kinds.specs.declared.scalars.CooperativeSize.TheVariants.{Eight, Sixteen}
 use Rattle.document_forms.specs.Exact.{deepest, IsExact}
 use Rattle.document_forms.specs.Form.{ANumber, Fits, ASigned, ABool, AText, AWord, ASize, ASide, Maybe}
-use Rattle.document_forms.specs.Find.{whole_of, number_of, small, below_zero, or_else, signed_of, size_of, side_of, word_in, is_null, optional}
+use Rattle.document_forms.specs.Decide.{whole_of, number_of, small, below_zero, or_else, signed_of, size_of, side_of, word_in, is_null, optional}
 use Rattle.document_forms.specs.Inverse.{bind_some, map_some, chosen, guarded, both_true, some_is, as_str_some, as_bool_some, as_number_some, whole_some, is_null_true}
 
 -- ---- numbers

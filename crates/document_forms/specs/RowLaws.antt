@@ -4,7 +4,7 @@ use Rattle.serde_json.specs.Data.{Data, null, boolean, number, string, array, ob
 use Rattle.serde_json.specs.Find.{as_array}
 use Rattle.document_forms.specs.Exact.{deepest, IsExact, IsExactRow}
 use Rattle.document_forms.specs.Form.{AnArray, Ends, ◌▸◌}
-use Rattle.document_forms.specs.Find.{end, behind, array_of}
+use Rattle.document_forms.specs.Decide.{end, behind, array_of}
 use Rattle.document_forms.specs.Inverse.{bind_some, map_some, some_is, as_array_some}
 
 pub end_exact : IsExactRow end (λ x. Ends)

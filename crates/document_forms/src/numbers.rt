@@ -5,7 +5,7 @@ ghost use Rattle.serde_json.specs.View.{view as data_of};
 ghost use Rattle.ir_kinds.specs.declared.scalars.VectorSize.{VectorSize};
 ghost use Rattle.ir_kinds.specs.declared.scalars.CooperativeSize.{CooperativeSize};
 ghost use Rattle.document_forms.specs.Answers.{Answers};
-ghost use Rattle.document_forms.specs.Find.{number_of, below_zero, signed_of, size_in, side_in};
+ghost use Rattle.document_forms.specs.Decide.{number_of, below_zero, signed_of, size_in, side_in};
 ghost use Rattle.document_forms.specs.Forms.{a_number, a_handle, a_u32, a_signed, a_size, a_side};
 
 use crate::error::ReadError;

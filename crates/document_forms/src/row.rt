@@ -3,7 +3,7 @@ ghost use Rattle.std.specs.Prelude.{◌≡◌, option_map};
 ghost use Rattle.serde_json.specs.View.{view as data_of, items_view};
 ghost use Rattle.document_forms.specs.Answers.{Answers};
 ghost use Rattle.document_forms.specs.Exact.{RowOf};
-ghost use Rattle.document_forms.specs.Find.{first, array_of};
+ghost use Rattle.document_forms.specs.Decide.{first, array_of};
 ghost use Rattle.document_forms.specs.Forms.{ends, ◌▹◌, an_array};
 
 use crate::error::ReadError;

@@ -1,8 +1,8 @@
-// The word in front of other parts.
+// The word before other parts.
 ghost use Rattle.std.specs.Prelude.{◌≡◌, option_map};
 ghost use Rattle.serde_json.specs.View.{view as data_of, items_view};
 ghost use Rattle.document_forms.specs.Answers.{Answers};
-ghost use Rattle.document_forms.specs.Find.{tag_of, tag_in};
+ghost use Rattle.document_forms.specs.Decide.{tag_of, tag_in};
 
 use crate::error::ReadError;
 use crate::wanted::Wanted;
@@ -10,7 +10,7 @@ use crate::words::read_word;
 use document_words::Word;
 use serde_json::Value;
 
-/// What the word in front stands for, and what comes behind it. The word stands at `index`.
+/// What the word before the other parts stands for, and what comes behind it. The word stands at `index`.
 pub fn split_tag<W: Word>(items: &[Value], index: usize) -> Result<(W, &[Value]), ReadError>
     ensures { Answers result (λ found. option_map (λ t. (t.0, items_view t.1.now)) found ≡ tag_of W.table (items_view items.now)) }
 {
@@ -21,7 +21,7 @@ pub fn split_tag<W: Word>(items: &[Value], index: usize) -> Result<(W, &[Value])
     Ok((kind, rest))
 }
 
-/// What the word at the front of an array stands for, and what comes behind it.
+/// What the first word of an array stands for, and what comes behind it.
 pub fn read_tag<W: Word>(value: &Value) -> Result<(W, &[Value]), ReadError>
     ensures { Answers result (λ found. option_map (λ t. (t.0, items_view t.1.now)) found ≡ tag_in W.table (data_of value.now)) }
 {

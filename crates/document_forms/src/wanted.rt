@@ -15,7 +15,7 @@ pub enum Wanted {
     List,
     /// An array.
     Row,
-    /// An array with a word in front.
+    /// An array that begins with a word.
     Tagged,
     /// A further part.
     FurtherPart,
@@ -65,7 +65,7 @@ impl Wanted {
             Wanted::Set => "a set of words",
             Wanted::List => "a list",
             Wanted::Row => "an array",
-            Wanted::Tagged => "an array with a word in front",
+            Wanted::Tagged => "an array that begins with a word",
             Wanted::FurtherPart => "a further part",
             Wanted::NothingMore => "no further part",
             Wanted::Unsigned8 => "a whole number up to 255",

@@ -2,7 +2,7 @@
 ghost use Rattle.std.specs.Prelude.{◌≡◌, option_map};
 ghost use Rattle.serde_json.specs.View.{view as data_of};
 ghost use Rattle.document_forms.specs.Answers.{Answers};
-ghost use Rattle.document_forms.specs.Find.{word_in, set_of};
+ghost use Rattle.document_forms.specs.Decide.{word_in, set_of};
 ghost use Rattle.document_forms.specs.Forms.{a_word, a_set};
 
 use crate::error::ReadError;

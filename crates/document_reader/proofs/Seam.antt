@@ -4,7 +4,7 @@ use Rattle.serde_json.specs.Data.{Data, Items}
 use Rattle.serde_json.specs.Find.{as_array, as_bool}
 use Rattle.serde_json.specs.Read.{read}
 use Rattle.serde_json.proofs.Nesting.{depth-read}
-use Rattle.document_forms.specs.Find.{first, all_of, behind}
+use Rattle.document_forms.specs.Decide.{first, all_of, behind}
 use Rattle.document_forms.specs.Forms.{a_bool, a_list, ◌▹◌}
 use Rattle.document_forms.specs.Inverse.{some_is, bind_some}
 use Rattle.item_forms.specs.Types.{a_type}
@@ -16,15 +16,15 @@ use Rattle.ir_flags.specs.declared.stages.ShaderStages.{ShaderStages}
 use Rattle.ir_flags.specs.declared.stages.SubgroupOperationSet.{SubgroupOperationSet}
 use Rattle.ir_types.specs.Plain.{PlainType}
 use Rattle.ir_items.specs.Plain.{PlainModule}
-use Rattle.document_reader.specs.Documents.{ListParts, made_of, a_version, the_flags, the_capabilities, the_subgroups, the_lists, the_parts, version_of, document_made, a_document, front, content_of, content_in, parts_in, document_in, settings_of}
+use Rattle.document_reader.specs.Documents.{ListParts, made_of, a_version, the_flags, the_capabilities, the_subgroups, the_lists, the_parts, version_of, document_made, a_document, first_part, content_of, content_in, parts_in, document_in, settings_of}
 use Rattle.document_reader.specs.Form.{ADocument, Reads, OneDocument}
 use Rattle.document_reader.specs.declared.reading.TheConstants.{MAX_LEN}
 
 -- ---- read part by part, and as a row
 
--- a part in front of others, whatever is made of them
+-- a part in first_part of others, whatever is made of them
 peel : {A B C : Type 0} (f : Data → Option A) (g : Items → Option B) (k : A → Items → Option C) (m : A × B → C) → ((x : A) (ds : Items) → k x ds ≡ option_map (λ y. m (x, y)) (g ds))
-    → (ds : Items) → option_and_then (λ (p : A × Items). k p.0 p.1) (front f ds) ≡ option_map m (behind f g ds)
+    → (ds : Items) → option_and_then (λ (p : A × Items). k p.0 p.1) (first_part f ds) ≡ option_map m (behind f g ds)
 peel {A} {B} {C} f g k m same ds = parts (first ds)
   where
     others : (x : A) (o : Option B) (z : Option C) → z ≡ option_map (λ y. m (x, y)) o → z ≡ option_map m (option_and_then (λ y. Some (x, y)) o)
@@ -114,8 +114,8 @@ module_refused ds t rest here types m found = λ apart.
 
 -- where no module without a repeated type is found behind the settings, there is no such document
 pub document_refused : (d : Data) (ds0 ds1 ds2 ds3 ds4 ds5 : Items) (f : ValidationFlags) (c : Capabilities) (s : ShaderStages × SubgroupOperationSet) (r : Bool)
-    → Some ds0 ≡ as_array d → Some (tt, ds1) ≡ front version_of ds0 → Some (f, ds2) ≡ front the_flags.find ds1 → Some (c, ds3) ≡ front the_capabilities.find ds2
-    → Some (s, ds4) ≡ front the_subgroups.find ds3 → Some (r, ds5) ≡ front as_bool ds4
+    → Some ds0 ≡ as_array d → Some (tt, ds1) ≡ first_part version_of ds0 → Some (f, ds2) ≡ first_part the_flags.find ds1 → Some (c, ds3) ≡ first_part the_capabilities.find ds2
+    → Some (s, ds4) ≡ first_part the_subgroups.find ds3 → Some (r, ds5) ≡ first_part as_bool ds4
     → ((m : PlainModule) → content_in ds5 ≡ Some m → ¬ AreDistinct m.types) → (x : PlainDocument) → document_in d ≡ Some x → ¬ AreDistinct x.content.types
 document_refused d ds0 ds1 ds2 ds3 ds4 ds5 f c s r items at0 at1 at2 at3 at4 refused x found = λ apart.
     let all : option_and_then parts_in (Some ds0) ≡ Some x = subst (λ o. option_and_then parts_in o ≡ Some x) (sym items) found in

@@ -16,7 +16,7 @@ use Rattle.ir_items.specs.Plain.{PlainFunction, PlainEntry, PlainModule}
 use Rattle.document_words.specs.Tables.{flags, capabilities, stages, operations}
 use Rattle.document_words.specs.Unions.{flag_union, capability_union, stage_union, operation_union}
 use Rattle.document_forms.specs.Exact.{IsExact, FormOf, RowOf}
-use Rattle.document_forms.specs.Find.{◌>>=◌, whole_of, first, all_of}
+use Rattle.document_forms.specs.Decide.{◌>>=◌, whole_of, first, all_of}
 use Rattle.document_forms.specs.Inverse.{bind_some, guarded, whole_some}
 use Rattle.document_forms.specs.Forms.{a_bool, a_handle, a_set, maybe, a_list, ◌▹◌, an_array, made}
 use Rattle.document_forms.specs.Rows.{row2, row8}
@@ -100,8 +100,8 @@ a_document = made (an_array the_parts) document_made parts_of ADocument (λ d. r
 -- ---- the same, as it is read part by part
 
 -- what the first part is written for, and the parts behind it
-abbrev pub front : {A : Type 0} → (Data → Option A) → Items → Option (A × Items)
-front f ds = do
+abbrev pub first_part : {A : Type 0} → (Data → Option A) → Items → Option (A × Items)
+first_part f ds = do
   t ← first ds
   x ← f t.0
   Some (x, t.1)
@@ -116,11 +116,11 @@ content_in ds = do
 
 abbrev pub parts_in : Items → Option PlainDocument
 parts_in ds = do
-  v ← front version_of ds
-  f ← front the_flags.find v.1
-  c ← front the_capabilities.find f.1
-  s ← front the_subgroups.find c.1
-  r ← front as_bool s.1
+  v ← first_part version_of ds
+  f ← first_part the_flags.find v.1
+  c ← first_part the_capabilities.find f.1
+  s ← first_part the_subgroups.find c.1
+  r ← first_part as_bool s.1
   m ← content_in r.1
   Some (made_of f.0 c.0 s.0 r.0 m)
 

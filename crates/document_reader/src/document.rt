@@ -5,7 +5,7 @@ ghost use Rattle.ir_types.specs.Plain.{PlainType, type_view};
 ghost use Rattle.ir_globals.specs.View.{values_of};
 ghost use Rattle.ir_items.specs.Plain.{PlainModule};
 ghost use Rattle.ir_items.specs.View.{module_view};
-ghost use Rattle.document_forms.specs.Find.{all_of};
+ghost use Rattle.document_forms.specs.Decide.{all_of};
 ghost use Rattle.document_forms.specs.declared.error.ReadError.TheVariants.{Memory};
 ghost use Rattle.item_forms.specs.Types.{a_type};
 ghost use Rattle.document_reader.specs.Distinct.{AreDistinct};
@@ -13,7 +13,7 @@ ghost use Rattle.document_reader.specs.Plain.{PlainDocument};
 ghost use Rattle.document_reader.specs.View.{document_view};
 ghost use Rattle.document_reader.specs.Documents.{a_version, content_of, content_in, document_in};
 
-use crate::front::read_front;
+use crate::first::read_first;
 use crate::model::{Document, Settings};
 use document_forms::{
     At, Each, Form, InArena, InArray, Maybe, ReadError, Row, SetOf, Truth, Wanted, read_all,
@@ -141,13 +141,13 @@ pub fn read_value(alloc: Global, value: &Value) -> Result<Document, ReadError>
     let Some(parts) = value.as_array() else {
         return Err(ReadError::here(Wanted::Row));
     };
-    let ((), parts) = read_front::<VersionForm>(alloc, parts, 0)?;
-    let (flags, parts) = read_front::<SetOf<ValidationFlags>>(alloc, parts, 1)?;
-    let (capabilities, parts) = read_front::<SetOf<Capabilities>>(alloc, parts, 2)?;
-    let ((subgroup_stages, subgroup_operations), parts) = read_front::<SubgroupsForm>(
+    let ((), parts) = read_first::<VersionForm>(alloc, parts, 0)?;
+    let (flags, parts) = read_first::<SetOf<ValidationFlags>>(alloc, parts, 1)?;
+    let (capabilities, parts) = read_first::<SetOf<Capabilities>>(alloc, parts, 2)?;
+    let ((subgroup_stages, subgroup_operations), parts) = read_first::<SubgroupsForm>(
         alloc, parts, 3,
     )?;
-    let (returns, parts) = read_front::<Truth>(alloc, parts, 4)?;
+    let (returns, parts) = read_first::<Truth>(alloc, parts, 4)?;
     let module = read_module(alloc, parts)?;
     let settings = Settings {
         flags,

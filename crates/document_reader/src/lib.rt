@@ -3,7 +3,7 @@
 
 mod document;
 mod error;
-mod front;
+mod first;
 pub mod laws;
 mod model;
 mod reading;

@@ -10,13 +10,13 @@ use Rattle.ir_types.specs.Plain.{PlainInner, plain, struct}
 use Rattle.ir_types.specs.declared.types.TypeInner.TheVariants as inner
 use Rattle.ir_expressions.specs.Plain.{PlainExpression, plain as computes}
 use Rattle.ir_expressions.specs.declared.expressions.Expression.TheVariants as computed
-use Rattle.ir_blocks.specs.Plain.{PlainStatement, emit, block, choice, switch, loop, break, continue, return, kill, act, call, PlainBlock, stop, next, PlainCases, no_case, case}
+use Rattle.ir_blocks.specs.Plain.{PlainStatement, emit, block, if_, switch, loop, break, continue, return, kill, operation, call, PlainBlock, stop, next, PlainCases, no_case, case}
 use Rattle.ir_globals.specs.Plain.{PlainSpecial}
 use Rattle.ir_items.specs.Plain.{PlainFunction, PlainModule}
 use Rattle.ir_globals.specs.View.{values_of, no_special}
 use Rattle.ir_items.specs.declared.functions.FunctionResult.{FunctionResult}
 use Rattle.document_within.specs.Scope.{IsScalar, IsLiteral, IsExpression, IsStatement, AreStatements, AreCases, IsFunction, IsModule}
-use Rattle.document_within.specs.Tests.{all_pass, is_empty, plain_inner, plain_type, plain_literal, plain_expression, plain_result, plain_statement, plain_block, plain_cases, plain_function, plain_special, thin_module, plain_module}
+use Rattle.document_within.specs.Decide.{all_pass, is_empty, plain_inner, plain_type, plain_literal, plain_expression, plain_result, plain_statement, plain_block, plain_cases, plain_function, plain_special, thin_module, plain_module}
 
 both : (a b : Bool) → (a && b) ≡ true → (a ≡ true) × (b ≡ true)
 both true b e = (refl, e)
@@ -93,14 +93,14 @@ mutual
   statement_sound : (s : PlainStatement) → plain_statement s ≡ true → IsStatement s
   statement_sound (emit first end) e = cc
   statement_sound (block b) e = block_sound b e
-  statement_sound (choice test accept reject) e = let b = both (plain_block accept) _ e in (block_sound accept b.0, block_sound reject b.1)
+  statement_sound (if_ test accept reject) e = let b = both (plain_block accept) _ e in (block_sound accept b.0, block_sound reject b.1)
   statement_sound (switch selector cases) e = cases_sound cases e
-  statement_sound (loop body again break_if) e = let b = both (plain_block body) _ e in (block_sound body b.0, block_sound again b.1)
+  statement_sound (loop body continuing break_if) e = let b = both (plain_block body) _ e in (block_sound body b.0, block_sound continuing b.1)
   statement_sound break e = tt
   statement_sound continue e = tt
   statement_sound (return value) e = tt
   statement_sound kill e = tt
-  statement_sound (act a) e = cc
+  statement_sound (operation a) e = cc
   statement_sound (call function arguments answer) e = tt
 
   block_sound : (b : PlainBlock) → plain_block b ≡ true → AreStatements b
@@ -115,14 +115,14 @@ mutual
   statement_complete : (s : PlainStatement) → IsStatement s → plain_statement s ≡ true
   statement_complete (emit first end) h = absurd h
   statement_complete (block b) h = block_complete b h
-  statement_complete (choice test accept reject) h = and_true (plain_block accept) _ (block_complete accept h.0) (block_complete reject h.1)
+  statement_complete (if_ test accept reject) h = and_true (plain_block accept) _ (block_complete accept h.0) (block_complete reject h.1)
   statement_complete (switch selector cases) h = cases_complete cases h
-  statement_complete (loop body again break_if) h = and_true (plain_block body) _ (block_complete body h.0) (block_complete again h.1)
+  statement_complete (loop body continuing break_if) h = and_true (plain_block body) _ (block_complete body h.0) (block_complete continuing h.1)
   statement_complete break h = refl
   statement_complete continue h = refl
   statement_complete (return value) h = refl
   statement_complete kill h = refl
-  statement_complete (act a) h = absurd h
+  statement_complete (operation a) h = absurd h
   statement_complete (call function arguments answer) h = refl
 
   block_complete : (b : PlainBlock) → AreStatements b → plain_block b ≡ true

@@ -1,2 +1,2 @@
 pub mod Scope
-pub mod Tests
+pub mod Decide

@@ -7,7 +7,7 @@ use Rattle.ir_types.specs.Plain.{PlainInner, plain}
 use Rattle.ir_types.specs.declared.types.TypeInner.TheVariants as inner
 use Rattle.ir_expressions.specs.Plain.{PlainExpression, plain as computes}
 use Rattle.ir_expressions.specs.declared.expressions.Expression.TheVariants as computed
-use Rattle.ir_blocks.specs.Plain.{PlainStatement, emit, block, choice, switch, loop, break, continue, return, kill, act, call, PlainBlock, stop, next, PlainCases, no_case, case}
+use Rattle.ir_blocks.specs.Plain.{PlainStatement, emit, block, if_, switch, loop, break, continue, return, kill, operation, call, PlainBlock, stop, next, PlainCases, no_case, case}
 use Rattle.ir_items.specs.Plain.{PlainFunction, PlainModule}
 use Rattle.ir_globals.specs.View.{no_special}
 use Rattle.document_reader.specs.Plain.{PlainDocument}
@@ -33,14 +33,14 @@ abbrev mutual
   pub IsStatement : PlainStatement → Type 0
   IsStatement (emit first end) = ⊥
   IsStatement (block b) = AreStatements b
-  IsStatement (choice test accept reject) = AreStatements accept × AreStatements reject
+  IsStatement (if_ test accept reject) = AreStatements accept × AreStatements reject
   IsStatement (switch selector cases) = AreCases cases
   IsStatement (loop body continuing break_if) = AreStatements body × AreStatements continuing
   IsStatement break = Unit {0}
   IsStatement continue = Unit {0}
   IsStatement (return value) = Unit {0}
   IsStatement kill = Unit {0}
-  IsStatement (act a) = ⊥
+  IsStatement (operation a) = ⊥
   IsStatement (call function arguments result) = Unit {0}
 
   pub AreStatements : PlainBlock → Type 0

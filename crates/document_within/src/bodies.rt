@@ -1,17 +1,17 @@
 // The statements that are checked so far.
 ghost use Rattle.std.specs.Prelude.{◌≡◌, map};
 ghost use Rattle.ir_blocks.specs.View.{statement_view, block_view, case_view, cases_of};
-ghost use Rattle.document_within.specs.Tests.{plain_block, plain_statement, plain_cases};
+ghost use Rattle.document_within.specs.Decide.{plain_block, plain_statement, plain_cases};
 
 use ir_items::{Block, Statement, SwitchCase};
 
 /// Whether each statement of the block is checked so far, at every depth.
 #[cycle(bodies)]
-pub fn is_plain_block(block: &Block) -> bool
+pub fn is_supported_block(block: &Block) -> bool
     ensures { result ≡ plain_block (block_view block.now) }
 {
     for statement in block.as_slice() {
-        if !is_plain_statement(statement) {
+        if !is_supported_statement(statement) {
             return false;
         }
     }
@@ -20,18 +20,18 @@ pub fn is_plain_block(block: &Block) -> bool
 
 /// Whether the statement is checked so far, with all that it holds.
 #[cycle(bodies)]
-pub fn is_plain_statement(statement: &Statement) -> bool
+pub fn is_supported_statement(statement: &Statement) -> bool
     ensures { result ≡ plain_statement (statement_view statement.now) }
 {
     match statement {
-        Statement::Block(block) => is_plain_block(block),
-        Statement::If { accept, reject, .. } => is_plain_block(accept) && is_plain_block(reject),
-        Statement::Switch { cases, .. } => is_plain_cases(cases),
+        Statement::Block(block) => is_supported_block(block),
+        Statement::If { accept, reject, .. } => is_supported_block(accept) && is_supported_block(reject),
+        Statement::Switch { cases, .. } => is_supported_cases(cases),
         Statement::Loop {
             body,
             continuing,
             ..
-        } => is_plain_block(body) && is_plain_block(continuing),
+        } => is_supported_block(body) && is_supported_block(continuing),
         Statement::Break => true,
         Statement::Continue => true,
         Statement::Return { .. } => true,
@@ -42,11 +42,11 @@ pub fn is_plain_statement(statement: &Statement) -> bool
 }
 
 #[cycle(bodies)]
-fn is_plain_cases(cases: &[SwitchCase]) -> bool
+fn is_supported_cases(cases: &[SwitchCase]) -> bool
     ensures { result ≡ plain_cases (cases_of (map case_view cases.now)) }
 {
     for case in cases {
-        if !is_plain_block(&case.body) {
+        if !is_supported_block(&case.body) {
             return false;
         }
     }

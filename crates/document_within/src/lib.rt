@@ -4,5 +4,5 @@
 mod bodies;
 mod scope;
 
-pub use bodies::is_plain_statement;
-pub use scope::{is_plain_expression, within};
+pub use bodies::is_supported_statement;
+pub use scope::{is_supported_expression, within};

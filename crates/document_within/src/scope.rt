@@ -7,9 +7,9 @@ ghost use Rattle.ir_globals.specs.View.{values_of, special_view};
 ghost use Rattle.ir_items.specs.View.{function_view, module_view};
 ghost use Rattle.document_reader.specs.View.{document_view};
 ghost use Rattle.document_within.specs.Scope.{IsWithin};
-ghost use Rattle.document_within.specs.Tests.{all_pass, plain_inner, plain_type, plain_literal, plain_expression, plain_result, plain_function, plain_special, thin_module, plain_module};
+ghost use Rattle.document_within.specs.Decide.{all_pass, plain_inner, plain_type, plain_literal, plain_expression, plain_result, plain_function, plain_special, thin_module, plain_module};
 
-use crate::bodies::is_plain_block;
+use crate::bodies::is_supported_block;
 use document_reader::Document;
 use ir_arena::arena::Arena;
 use ir_items::{
@@ -18,7 +18,7 @@ use ir_items::{
 use ir_kinds::Literal;
 use ir_unique_arena::unique_arena::UniqueArena;
 
-fn is_plain_inner(inner: &TypeInner) -> bool
+fn is_supported_inner(inner: &TypeInner) -> bool
     ensures { result ≡ plain_inner (inner_view inner.now) }
 {
     match inner {
@@ -31,7 +31,7 @@ fn types_pass_with_handles(types: &UniqueArena<IrType, key::IrType>) -> bool
     ensures { result ≡ all_pass (λ h. plain_type (type_view h.1)) (handles_from 0 types.now) }
 {
     for (_, item) in types.iter() {
-        if !is_plain_inner(&item.inner) {
+        if !is_supported_inner(&item.inner) {
             return false;
         }
     }
@@ -46,7 +46,7 @@ fn are_plain_types(types: &UniqueArena<IrType, key::IrType>) -> bool
     types_pass_with_handles(types)
 }
 
-fn is_plain_literal(literal: Literal) -> bool
+fn is_supported_literal(literal: Literal) -> bool
     ensures { result ≡ plain_literal literal }
 {
     match literal {
@@ -58,16 +58,16 @@ fn is_plain_literal(literal: Literal) -> bool
 }
 
 /// Whether the expression is checked so far.
-pub fn is_plain_expression(expression: &Expression) -> bool
+pub fn is_supported_expression(expression: &Expression) -> bool
     ensures { result ≡ plain_expression (expression_view expression.now) }
 {
     match expression {
-        Expression::Literal(literal) => is_plain_literal(*literal),
+        Expression::Literal(literal) => is_supported_literal(*literal),
         _ => false,
     }
 }
 
-fn is_plain_result(answer: Option<FunctionResult>) -> bool
+fn is_supported_result(answer: Option<FunctionResult>) -> bool
     ensures { result ≡ plain_result answer }
 {
     match answer {
@@ -80,7 +80,7 @@ fn expressions_pass_with_handles(expressions: &Arena<Expression, key::Expression
     ensures { result ≡ all_pass (λ h. plain_expression (expression_view h.1)) (handles_from 0 expressions.now) }
 {
     for (_, expression) in expressions.iter() {
-        if !is_plain_expression(expression) {
+        if !is_supported_expression(expression) {
             return false;
         }
     }
@@ -95,23 +95,23 @@ fn are_plain_expressions(expressions: &Arena<Expression, key::Expression>) -> bo
     expressions_pass_with_handles(expressions)
 }
 
-fn is_plain_function(function: &Function) -> bool
+fn is_supported_function(function: &Function) -> bool
     ensures { result ≡ plain_function (function_view function.now) }
 {
     function.name.is_none()
         && function.arguments.is_empty()
-        && is_plain_result(function.result)
+        && is_supported_result(function.result)
         && function.local_variables.is_empty()
         && function.diagnostic_filter_leaf.is_none()
         && are_plain_expressions(&function.expressions)
-        && is_plain_block(&function.body)
+        && is_supported_block(&function.body)
 }
 
 fn functions_pass_with_handles(functions: &Arena<Function, key::Function>) -> bool
     ensures { result ≡ all_pass (λ h. plain_function (function_view h.1)) (handles_from 0 functions.now) }
 {
     for (_, item) in functions.iter() {
-        if !is_plain_function(item) {
+        if !is_supported_function(item) {
             return false;
         }
     }
@@ -126,7 +126,7 @@ fn are_plain_functions(functions: &Arena<Function, key::Function>) -> bool
     functions_pass_with_handles(functions)
 }
 
-fn is_plain_special(special: &SpecialTypes) -> bool
+fn is_supported_special(special: &SpecialTypes) -> bool
     ensures { result ≡ plain_special (special_view special.now) }
 {
     special.ray_desc.is_none()
@@ -139,7 +139,7 @@ fn is_plain_special(special: &SpecialTypes) -> bool
 fn is_thin(module: &Module) -> bool
     ensures { result ≡ thin_module (module_view «module».now) }
 {
-    is_plain_special(&module.special_types)
+    is_supported_special(&module.special_types)
         && module.diagnostic_filters.is_empty()
         && module.diagnostic_filter_leaf.is_none()
         && module.constants.is_empty()
@@ -149,7 +149,7 @@ fn is_thin(module: &Module) -> bool
         && module.entry_points.is_empty()
 }
 
-fn is_plain_module(module: &Module) -> bool
+fn is_supported_module(module: &Module) -> bool
     ensures { result ≡ plain_module (module_view «module».now) }
 {
     is_thin(module) && are_plain_types(&module.types) && are_plain_functions(&module.functions)
@@ -160,5 +160,5 @@ fn is_plain_module(module: &Module) -> bool
 pub fn within(document: &Document) -> bool
     ensures { IsTrue result ↔ IsWithin (document_view document.now) }
 {
-    is_plain_module(&document.module)
+    is_supported_module(&document.module)
 }

@@ -297,7 +297,7 @@ derivative_controls =
     (codes "None", derivative_controls_of.None) ∷
     []
 
--- the functions of numbers
+-- the math functions
 abbrev pub math_functions : List (List ℕ × MathFunction)
 math_functions =
     (codes "Abs", math_functions_of.Abs) ∷

@@ -1,6 +1,6 @@
 // Where a module is not checked so far.
 
-use document_within::{is_plain_expression, is_plain_statement};
+use document_within::{is_supported_expression, is_supported_statement};
 use ir_arena::arena::Arena;
 use ir_items::{Expression, Function, Module, TypeInner, key};
 
@@ -21,7 +21,7 @@ fn in_types(module: &Module) -> Option<usize> {
 // The first expression that is not checked so far.
 fn in_expressions(expressions: &Arena<Expression, key::Expression>) -> Option<usize> {
     for (handle, expression) in expressions.iter() {
-        if !is_plain_expression(expression) {
+        if !is_supported_expression(expression) {
             return Some(handle.index());
         }
     }
@@ -32,7 +32,7 @@ fn in_expressions(expressions: &Arena<Expression, key::Expression>) -> Option<us
 fn in_body(function: &Function) -> Option<usize> {
     let mut index = 0usize;
     for statement in function.body.as_slice() {
-        if !is_plain_statement(statement) {
+        if !is_supported_statement(statement) {
             return Some(index);
         }
         index = index.saturating_add(1);

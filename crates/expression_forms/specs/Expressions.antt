@@ -16,7 +16,7 @@ use Rattle.ir_expressions.specs.Plain.{PlainExpression, compose, plain as comput
 use Rattle.ir_expressions.specs.declared.expressions.Expression.TheVariants as computed
 use Rattle.document_words.specs.Tables.{letters, cooperative_roles, unary_operators, binary_operators, derivative_axes, derivative_controls, relational_functions, math_functions, scalar_kinds}
 use Rattle.document_forms.specs.Exact.{deepest, IsExact, FormOf, RowOf}
-use Rattle.document_forms.specs.Find.{◌>>=◌, of_kind, tagged_of}
+use Rattle.document_forms.specs.Decide.{◌>>=◌, of_kind, tagged_of}
 use Rattle.document_forms.specs.Inverse.{bind_some, map_some, chosen, guarded, some_is, as_str_some}
 use Rattle.document_forms.specs.KindLaws.{AreSound, kind_sound, kind_complete, tagged_complete}
 use Rattle.document_forms.specs.Forms.{a_number, a_signed, a_handle, a_u32, a_size, a_side, a_bool, a_word, maybe, a_list, ends, row_by_kind, by_kind}

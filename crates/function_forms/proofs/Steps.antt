@@ -1,7 +1,7 @@
 -- The steps of `Find`, as the code takes them.
 use Rattle.std.proofs.Common.{◌≡◌, ◌≢◌, ℕ, zero, suc, ◌-◌, None, refl, ap, arith}
 use Rattle.serde_json.specs.Data.{Data}
-use Rattle.document_forms.specs.Find.{tagged_of}
+use Rattle.document_forms.specs.Decide.{tagged_of}
 use Rattle.function_forms.specs.Kinds.{statement_kinds}
 use Rattle.function_forms.specs.Statements.{statement_at, statement_with, block_at}
 

@@ -3,15 +3,15 @@ use Rattle.std.specs.Prelude.{codes}
 use Rattle.serde_json.specs.Data.{Data, Items}
 use Rattle.ir_kinds.specs.declared.values.SwitchValue.{SwitchValue}
 use Rattle.ir_kinds.specs.declared.values.SwitchValue.TheVariants as switch_values
-use Rattle.ir_blocks.specs.declared.acts.AtomicFunction.{AtomicFunction}
-use Rattle.ir_blocks.specs.declared.acts.AtomicFunction.TheVariants as atomic_functions
-use Rattle.ir_blocks.specs.declared.acts.GatherMode.{GatherMode}
-use Rattle.ir_blocks.specs.declared.acts.GatherMode.TheVariants as gather_modes
-use Rattle.ir_blocks.specs.declared.acts.RayQueryFunction.{RayQueryFunction}
-use Rattle.ir_blocks.specs.declared.acts.RayQueryFunction.TheVariants as query_functions
-use Rattle.ir_blocks.specs.declared.acts.RayPipelineFunction.{RayPipelineFunction}
-use Rattle.ir_blocks.specs.declared.acts.RayPipelineFunction.TheVariants as pipeline_functions
-use Rattle.ir_blocks.specs.Plain.{PlainAct, control_barrier, memory_barrier, store, image_store, atomic, image_atomic, uniform_load, ray_query, ballot, collective, gather, cooperative_store, ray_pipeline, PlainStatement, emit, block, choice, switch, loop, break, continue, return, kill, act, call, PlainBlock, stop, next, PlainCases, no_case, case}
+use Rattle.ir_blocks.specs.declared.operations.AtomicFunction.{AtomicFunction}
+use Rattle.ir_blocks.specs.declared.operations.AtomicFunction.TheVariants as atomic_functions
+use Rattle.ir_blocks.specs.declared.operations.GatherMode.{GatherMode}
+use Rattle.ir_blocks.specs.declared.operations.GatherMode.TheVariants as gather_modes
+use Rattle.ir_blocks.specs.declared.operations.RayQueryFunction.{RayQueryFunction}
+use Rattle.ir_blocks.specs.declared.operations.RayQueryFunction.TheVariants as query_functions
+use Rattle.ir_blocks.specs.declared.operations.RayPipelineFunction.{RayPipelineFunction}
+use Rattle.ir_blocks.specs.declared.operations.RayPipelineFunction.TheVariants as pipeline_functions
+use Rattle.ir_blocks.specs.Plain.{PlainOperation, control_barrier, memory_barrier, store, image_store, atomic, image_atomic, uniform_load, ray_query, ballot, collective, gather, cooperative_store, ray_pipeline, PlainStatement, emit, block, if_, switch, loop, break, continue, return, kill, operation, call, PlainBlock, stop, next, PlainCases, no_case, case}
 use Rattle.document_words.specs.Unions.{barrier_union}
 use Rattle.document_words.specs.Tables.{barriers, subgroup_operations, collective_operations, directions}
 use Rattle.document_forms.specs.Form.{AHandle, AU32, ASigned, ABool, AWord, ASet, Maybe, AnArray, AList, Ends, Starts, ◌▸◌, Tagged}
@@ -52,7 +52,7 @@ unfoldable pub APipeline : RayPipelineFunction → Data → Type 0
 APipeline (pipeline_functions.TraceRay acceleration_structure descriptor payload) = Tagged (codes "TraceRay") (AHandle acceleration_structure ▸ AHandle descriptor ▸ AHandle payload ▸ Ends)
 
 -- what steers nothing, computes no range and calls nothing
-unfoldable pub AnAct : PlainAct → Data → Type 0
+unfoldable pub AnAct : PlainOperation → Data → Type 0
 AnAct (control_barrier barrier) = Tagged (codes "ControlBarrier") (ASet barriers (record { 0 = 0 }) barrier_union barrier ▸ Ends)
 AnAct (memory_barrier barrier) = Tagged (codes "MemoryBarrier") (ASet barriers (record { 0 = 0 }) barrier_union barrier ▸ Ends)
 AnAct (store pointer value) = Tagged (codes "Store") (AHandle pointer ▸ AHandle value ▸ Ends)
@@ -72,14 +72,14 @@ abbrev mutual
   pub AStatement : PlainStatement → Data → Type 0
   AStatement (emit first end) = Tagged (codes "Emit") (AU32 first ▸ AU32 end ▸ Ends)
   AStatement (block b) = Tagged (codes "Block") (AnArray (TheStatements b) ▸ Ends)
-  AStatement (choice test accept reject) = Tagged (codes "If") (AHandle test ▸ AnArray (TheStatements accept) ▸ AnArray (TheStatements reject) ▸ Ends)
+  AStatement (if_ test accept reject) = Tagged (codes "If") (AHandle test ▸ AnArray (TheStatements accept) ▸ AnArray (TheStatements reject) ▸ Ends)
   AStatement (switch selector cases) = Tagged (codes "Switch") (AHandle selector ▸ AnArray (TheCases cases) ▸ Ends)
   AStatement (loop body continuing break_if) = Tagged (codes "Loop") (AnArray (TheStatements body) ▸ AnArray (TheStatements continuing) ▸ Maybe AHandle break_if ▸ Ends)
   AStatement break = Tagged (codes "Break") Ends
   AStatement continue = Tagged (codes "Continue") Ends
   AStatement (return value) = Tagged (codes "Return") (Maybe AHandle value ▸ Ends)
   AStatement kill = Tagged (codes "Kill") Ends
-  AStatement (act a) = AnAct a
+  AStatement (operation a) = AnAct a
   AStatement (call function arguments result) = Tagged (codes "Call") (AHandle function ▸ AList AHandle arguments ▸ Maybe AHandle result ▸ Ends)
 
   pub TheStatements : PlainBlock → Items → Type 0

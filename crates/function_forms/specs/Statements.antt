@@ -5,20 +5,20 @@ use Rattle.serde_json.specs.Data.{Data, null, boolean, number, string, array, ob
 use Rattle.ir_blocks.specs.View.{PlainCase, block_of, cases_of}
 use Rattle.ir_kinds.specs.declared.values.SwitchValue.{SwitchValue}
 use Rattle.ir_kinds.specs.declared.values.SwitchValue.TheVariants as switch_values
-use Rattle.ir_blocks.specs.declared.acts.AtomicFunction.{AtomicFunction}
-use Rattle.ir_blocks.specs.declared.acts.AtomicFunction.TheVariants as atomic_functions
-use Rattle.ir_blocks.specs.declared.acts.GatherMode.{GatherMode}
-use Rattle.ir_blocks.specs.declared.acts.GatherMode.TheVariants as gather_modes
-use Rattle.ir_blocks.specs.declared.acts.RayQueryFunction.{RayQueryFunction}
-use Rattle.ir_blocks.specs.declared.acts.RayQueryFunction.TheVariants as query_functions
-use Rattle.ir_blocks.specs.declared.acts.RayPipelineFunction.{RayPipelineFunction}
-use Rattle.ir_blocks.specs.declared.acts.RayPipelineFunction.TheVariants as pipeline_functions
-use Rattle.ir_blocks.specs.Plain.{control_barrier, memory_barrier, store, image_store, atomic, image_atomic, uniform_load, ray_query, ballot, collective, gather, cooperative_store, ray_pipeline, PlainStatement, emit, block, choice, switch, loop, break, continue, return, kill, act, call, PlainBlock, stop, next, PlainCases, no_case, case}
+use Rattle.ir_blocks.specs.declared.operations.AtomicFunction.{AtomicFunction}
+use Rattle.ir_blocks.specs.declared.operations.AtomicFunction.TheVariants as atomic_functions
+use Rattle.ir_blocks.specs.declared.operations.GatherMode.{GatherMode}
+use Rattle.ir_blocks.specs.declared.operations.GatherMode.TheVariants as gather_modes
+use Rattle.ir_blocks.specs.declared.operations.RayQueryFunction.{RayQueryFunction}
+use Rattle.ir_blocks.specs.declared.operations.RayQueryFunction.TheVariants as query_functions
+use Rattle.ir_blocks.specs.declared.operations.RayPipelineFunction.{RayPipelineFunction}
+use Rattle.ir_blocks.specs.declared.operations.RayPipelineFunction.TheVariants as pipeline_functions
+use Rattle.ir_blocks.specs.Plain.{control_barrier, memory_barrier, store, image_store, atomic, image_atomic, uniform_load, ray_query, ballot, collective, gather, cooperative_store, ray_pipeline, PlainStatement, emit, block, if_, switch, loop, break, continue, return, kill, operation, call, PlainBlock, stop, next, PlainCases, no_case, case}
 use Rattle.document_words.specs.Unions.{barrier_union}
 use Rattle.document_words.specs.Tables.{barriers, subgroup_operations, collective_operations, directions}
 use Rattle.document_forms.specs.Exact.{deepest, IsExact, FormOf}
 use Rattle.document_forms.specs.Form.{ABool, AnArray, EachOf, Ends, Starts, ◌▸◌, Tagged}
-use Rattle.document_forms.specs.Find.{each, all_of, tagged_of}
+use Rattle.document_forms.specs.Decide.{each, all_of, tagged_of}
 use Rattle.document_forms.specs.Inverse.{map_some}
 use Rattle.document_forms.specs.KindLaws.{AreSound, kind_sound, tagged_complete, tagged_sound}
 use Rattle.document_forms.specs.Forms.{a_signed, a_handle, a_u32, a_bool, a_word, a_set, maybe, a_list, ends, an_array, by_kind}
@@ -242,7 +242,7 @@ case_with inside d = option_map case_made ((an_array (row3 a_value (a_found insi
 
 unfoldable pub statement_with : (Data → Option PlainBlock) → StatementKind → Items → Option PlainStatement
 statement_with inside statement_kind.Block ds = option_map (λ t. block t) ((row1 (a_found inside)).find ds)
-statement_with inside statement_kind.If ds = option_map (λ t. choice t.0 t.1 t.2) ((row3 a_handle (a_found inside) (a_found inside)).find ds)
+statement_with inside statement_kind.If ds = option_map (λ t. if_ t.0 t.1 t.2) ((row3 a_handle (a_found inside) (a_found inside)).find ds)
 statement_with inside statement_kind.Switch ds = option_map (λ t. switch t.0 (cases_of t.1)) ((row2 a_handle (a_list (a_found (case_with inside)))).find ds)
 statement_with inside statement_kind.Loop ds = option_map (λ t. loop t.0 t.1 t.2) ((row3 (a_found inside) (a_found inside) (maybe a_handle)).find ds)
 statement_with inside statement_kind.Emit ds = option_map (λ t. emit t.0 t.1) ((row2 a_u32 a_u32).find ds)
@@ -250,20 +250,20 @@ statement_with inside statement_kind.Break ds = option_map (λ t. break) (ends.f
 statement_with inside statement_kind.Continue ds = option_map (λ t. continue) (ends.find ds)
 statement_with inside statement_kind.Return ds = option_map (λ t. return t) ((row1 (maybe a_handle)).find ds)
 statement_with inside statement_kind.Kill ds = option_map (λ t. kill) (ends.find ds)
-statement_with inside statement_kind.ControlBarrier ds = option_map (λ t. act (control_barrier t)) ((row1 (a_set barriers (record { 0 = 0 }) barrier_union)).find ds)
-statement_with inside statement_kind.MemoryBarrier ds = option_map (λ t. act (memory_barrier t)) ((row1 (a_set barriers (record { 0 = 0 }) barrier_union)).find ds)
-statement_with inside statement_kind.Store ds = option_map (λ t. act (store t.0 t.1)) ((row2 a_handle a_handle).find ds)
-statement_with inside statement_kind.ImageStore ds = option_map (λ t. act (image_store t.0 t.1 t.2 t.3)) ((row4 a_handle a_handle (maybe a_handle) a_handle).find ds)
-statement_with inside statement_kind.Atomic ds = option_map (λ t. act (atomic t.0 t.1 t.2 t.3)) ((row4 a_handle an_atomic a_handle (maybe a_handle)).find ds)
-statement_with inside statement_kind.ImageAtomic ds = option_map (λ t. act (image_atomic t.0 t.1 t.2 t.3 t.4)) ((row5 a_handle a_handle (maybe a_handle) an_atomic a_handle).find ds)
-statement_with inside statement_kind.WorkGroupUniformLoad ds = option_map (λ t. act (uniform_load t.0 t.1)) ((row2 a_handle a_handle).find ds)
+statement_with inside statement_kind.ControlBarrier ds = option_map (λ t. operation (control_barrier t)) ((row1 (a_set barriers (record { 0 = 0 }) barrier_union)).find ds)
+statement_with inside statement_kind.MemoryBarrier ds = option_map (λ t. operation (memory_barrier t)) ((row1 (a_set barriers (record { 0 = 0 }) barrier_union)).find ds)
+statement_with inside statement_kind.Store ds = option_map (λ t. operation (store t.0 t.1)) ((row2 a_handle a_handle).find ds)
+statement_with inside statement_kind.ImageStore ds = option_map (λ t. operation (image_store t.0 t.1 t.2 t.3)) ((row4 a_handle a_handle (maybe a_handle) a_handle).find ds)
+statement_with inside statement_kind.Atomic ds = option_map (λ t. operation (atomic t.0 t.1 t.2 t.3)) ((row4 a_handle an_atomic a_handle (maybe a_handle)).find ds)
+statement_with inside statement_kind.ImageAtomic ds = option_map (λ t. operation (image_atomic t.0 t.1 t.2 t.3 t.4)) ((row5 a_handle a_handle (maybe a_handle) an_atomic a_handle).find ds)
+statement_with inside statement_kind.WorkGroupUniformLoad ds = option_map (λ t. operation (uniform_load t.0 t.1)) ((row2 a_handle a_handle).find ds)
 statement_with inside statement_kind.Call ds = option_map (λ t. call t.0 t.1 t.2) ((row3 a_handle (a_list a_handle) (maybe a_handle)).find ds)
-statement_with inside statement_kind.RayQuery ds = option_map (λ t. act (ray_query t.0 t.1)) ((row2 a_handle a_ray_query).find ds)
-statement_with inside statement_kind.SubgroupBallot ds = option_map (λ t. act (ballot t.0 t.1)) ((row2 a_handle (maybe a_handle)).find ds)
-statement_with inside statement_kind.SubgroupCollectiveOperation ds = option_map (λ t. act (collective t.0 t.1 t.2 t.3)) ((row4 (a_word subgroup_operations) (a_word collective_operations) a_handle a_handle).find ds)
-statement_with inside statement_kind.SubgroupGather ds = option_map (λ t. act (gather t.0 t.1 t.2)) ((row3 a_gather a_handle a_handle).find ds)
-statement_with inside statement_kind.CooperativeStore ds = option_map (λ t. act (cooperative_store t.0 (record { pointer = t.1; stride = t.2; row_major = t.3 }))) ((row4 a_handle a_handle a_handle a_bool).find ds)
-statement_with inside statement_kind.RayPipelineFunction ds = option_map (λ t. act (ray_pipeline t)) ((row1 a_pipeline).find ds)
+statement_with inside statement_kind.RayQuery ds = option_map (λ t. operation (ray_query t.0 t.1)) ((row2 a_handle a_ray_query).find ds)
+statement_with inside statement_kind.SubgroupBallot ds = option_map (λ t. operation (ballot t.0 t.1)) ((row2 a_handle (maybe a_handle)).find ds)
+statement_with inside statement_kind.SubgroupCollectiveOperation ds = option_map (λ t. operation (collective t.0 t.1 t.2 t.3)) ((row4 (a_word subgroup_operations) (a_word collective_operations) a_handle a_handle).find ds)
+statement_with inside statement_kind.SubgroupGather ds = option_map (λ t. operation (gather t.0 t.1 t.2)) ((row3 a_gather a_handle a_handle).find ds)
+statement_with inside statement_kind.CooperativeStore ds = option_map (λ t. operation (cooperative_store t.0 (record { pointer = t.1; stride = t.2; row_major = t.3 }))) ((row4 a_handle a_handle a_handle a_bool).find ds)
+statement_with inside statement_kind.RayPipelineFunction ds = option_map (λ t. operation (ray_pipeline t)) ((row1 a_pipeline).find ds)
 
 -- where no block is found
 abbrev pub no_blocks : Data → Option PlainBlock
@@ -332,7 +332,7 @@ module _ (inside : Data → Option PlainBlock) (sound : (d : Data) (b : PlainBlo
     (
       kind_sound (row1 (a_found inside)) (λ t. block t) (codes "Block") (λ x ds. AStatement x (array ds)) (λ t ds h. (refl, starts_all _ _ _ _ ds h (λ d k. sound d t k) (λ es k. k))),
       (
-        kind_sound (row3 a_handle (a_found inside) (a_found inside)) (λ t. choice t.0 t.1 t.2) (codes "If") (λ x ds. AStatement x (array ds)) (λ t ds h. (refl, starts_all _ _ _ _ ds h (λ d k. k) (λ es k. starts_all _ _ _ _ es k (λ d k. sound d t.1 k) (λ fs k. starts_all _ _ _ _ fs k (λ d k. sound d t.2 k) (λ gs k. k))))),
+        kind_sound (row3 a_handle (a_found inside) (a_found inside)) (λ t. if_ t.0 t.1 t.2) (codes "If") (λ x ds. AStatement x (array ds)) (λ t ds h. (refl, starts_all _ _ _ _ ds h (λ d k. k) (λ es k. starts_all _ _ _ _ es k (λ d k. sound d t.1 k) (λ fs k. starts_all _ _ _ _ fs k (λ d k. sound d t.2 k) (λ gs k. k))))),
         (
           kind_sound (row2 a_handle (a_list (a_found (case_with inside)))) (λ t. switch t.0 (cases_of t.1)) (codes "Switch") (λ x ds. AStatement x (array ds)) (λ t ds h. (refl, starts_all _ _ _ _ ds h (λ d k. k) (λ es k. starts_all _ _ _ _ es k (λ d k. array_map _ _ d k (cases_found t.1)) (λ fs k. k)))),
           (
@@ -346,33 +346,33 @@ module _ (inside : Data → Option PlainBlock) (sound : (d : Data) (b : PlainBlo
                   (
                     kind_sound ends (λ t. kill) (codes "Kill") (λ x ds. AStatement x (array ds)) (λ t ds h. (refl, h)),
                     (
-                      kind_sound (row1 (a_set barriers (record { 0 = 0 }) barrier_union)) (λ t. act (control_barrier t)) (codes "ControlBarrier") (λ x ds. AStatement x (array ds)) (λ t ds h. (refl, h)),
+                      kind_sound (row1 (a_set barriers (record { 0 = 0 }) barrier_union)) (λ t. operation (control_barrier t)) (codes "ControlBarrier") (λ x ds. AStatement x (array ds)) (λ t ds h. (refl, h)),
                       (
-                        kind_sound (row1 (a_set barriers (record { 0 = 0 }) barrier_union)) (λ t. act (memory_barrier t)) (codes "MemoryBarrier") (λ x ds. AStatement x (array ds)) (λ t ds h. (refl, h)),
+                        kind_sound (row1 (a_set barriers (record { 0 = 0 }) barrier_union)) (λ t. operation (memory_barrier t)) (codes "MemoryBarrier") (λ x ds. AStatement x (array ds)) (λ t ds h. (refl, h)),
                         (
-                          kind_sound (row2 a_handle a_handle) (λ t. act (store t.0 t.1)) (codes "Store") (λ x ds. AStatement x (array ds)) (λ t ds h. (refl, h)),
+                          kind_sound (row2 a_handle a_handle) (λ t. operation (store t.0 t.1)) (codes "Store") (λ x ds. AStatement x (array ds)) (λ t ds h. (refl, h)),
                           (
-                            kind_sound (row4 a_handle a_handle (maybe a_handle) a_handle) (λ t. act (image_store t.0 t.1 t.2 t.3)) (codes "ImageStore") (λ x ds. AStatement x (array ds)) (λ t ds h. (refl, h)),
+                            kind_sound (row4 a_handle a_handle (maybe a_handle) a_handle) (λ t. operation (image_store t.0 t.1 t.2 t.3)) (codes "ImageStore") (λ x ds. AStatement x (array ds)) (λ t ds h. (refl, h)),
                             (
-                              kind_sound (row4 a_handle an_atomic a_handle (maybe a_handle)) (λ t. act (atomic t.0 t.1 t.2 t.3)) (codes "Atomic") (λ x ds. AStatement x (array ds)) (λ t ds h. (refl, h)),
+                              kind_sound (row4 a_handle an_atomic a_handle (maybe a_handle)) (λ t. operation (atomic t.0 t.1 t.2 t.3)) (codes "Atomic") (λ x ds. AStatement x (array ds)) (λ t ds h. (refl, h)),
                               (
-                                kind_sound (row5 a_handle a_handle (maybe a_handle) an_atomic a_handle) (λ t. act (image_atomic t.0 t.1 t.2 t.3 t.4)) (codes "ImageAtomic") (λ x ds. AStatement x (array ds)) (λ t ds h. (refl, h)),
+                                kind_sound (row5 a_handle a_handle (maybe a_handle) an_atomic a_handle) (λ t. operation (image_atomic t.0 t.1 t.2 t.3 t.4)) (codes "ImageAtomic") (λ x ds. AStatement x (array ds)) (λ t ds h. (refl, h)),
                                 (
-                                  kind_sound (row2 a_handle a_handle) (λ t. act (uniform_load t.0 t.1)) (codes "WorkGroupUniformLoad") (λ x ds. AStatement x (array ds)) (λ t ds h. (refl, h)),
+                                  kind_sound (row2 a_handle a_handle) (λ t. operation (uniform_load t.0 t.1)) (codes "WorkGroupUniformLoad") (λ x ds. AStatement x (array ds)) (λ t ds h. (refl, h)),
                                   (
                                     kind_sound (row3 a_handle (a_list a_handle) (maybe a_handle)) (λ t. call t.0 t.1 t.2) (codes "Call") (λ x ds. AStatement x (array ds)) (λ t ds h. (refl, h)),
                                     (
-                                      kind_sound (row2 a_handle a_ray_query) (λ t. act (ray_query t.0 t.1)) (codes "RayQuery") (λ x ds. AStatement x (array ds)) (λ t ds h. (refl, h)),
+                                      kind_sound (row2 a_handle a_ray_query) (λ t. operation (ray_query t.0 t.1)) (codes "RayQuery") (λ x ds. AStatement x (array ds)) (λ t ds h. (refl, h)),
                                       (
-                                        kind_sound (row2 a_handle (maybe a_handle)) (λ t. act (ballot t.0 t.1)) (codes "SubgroupBallot") (λ x ds. AStatement x (array ds)) (λ t ds h. (refl, h)),
+                                        kind_sound (row2 a_handle (maybe a_handle)) (λ t. operation (ballot t.0 t.1)) (codes "SubgroupBallot") (λ x ds. AStatement x (array ds)) (λ t ds h. (refl, h)),
                                         (
-                                          kind_sound (row4 (a_word subgroup_operations) (a_word collective_operations) a_handle a_handle) (λ t. act (collective t.0 t.1 t.2 t.3)) (codes "SubgroupCollectiveOperation") (λ x ds. AStatement x (array ds)) (λ t ds h. (refl, h)),
+                                          kind_sound (row4 (a_word subgroup_operations) (a_word collective_operations) a_handle a_handle) (λ t. operation (collective t.0 t.1 t.2 t.3)) (codes "SubgroupCollectiveOperation") (λ x ds. AStatement x (array ds)) (λ t ds h. (refl, h)),
                                           (
-                                            kind_sound (row3 a_gather a_handle a_handle) (λ t. act (gather t.0 t.1 t.2)) (codes "SubgroupGather") (λ x ds. AStatement x (array ds)) (λ t ds h. (refl, h)),
+                                            kind_sound (row3 a_gather a_handle a_handle) (λ t. operation (gather t.0 t.1 t.2)) (codes "SubgroupGather") (λ x ds. AStatement x (array ds)) (λ t ds h. (refl, h)),
                                             (
-                                              kind_sound (row4 a_handle a_handle a_handle a_bool) (λ t. act (cooperative_store t.0 (record { pointer = t.1; stride = t.2; row_major = t.3 }))) (codes "CooperativeStore") (λ x ds. AStatement x (array ds)) (λ t ds h. (refl, h)),
+                                              kind_sound (row4 a_handle a_handle a_handle a_bool) (λ t. operation (cooperative_store t.0 (record { pointer = t.1; stride = t.2; row_major = t.3 }))) (codes "CooperativeStore") (λ x ds. AStatement x (array ds)) (λ t ds h. (refl, h)),
                                               (
-                                                kind_sound (row1 a_pipeline) (λ t. act (ray_pipeline t)) (codes "RayPipelineFunction") (λ x ds. AStatement x (array ds)) (λ t ds h. (refl, h)),
+                                                kind_sound (row1 a_pipeline) (λ t. operation (ray_pipeline t)) (codes "RayPipelineFunction") (λ x ds. AStatement x (array ds)) (λ t ds h. (refl, h)),
                                                 tt,
                                               ),
                                             ),
@@ -473,7 +473,7 @@ module _ (n : ℕ) (bound : suc n ≤ deepest) (complete_at : (d : Data) (s : Pl
   there : (d : Data) (s : PlainStatement) → AStatement s d → depth d ≤ suc n → tagged_of statement_kinds (statement_with (block_at n)) d ≡ Some s
   unfolding statement_with AnAct
   there d (block b) h le = tagged_complete statement_kinds (statement_with (block_at n)) (row1 (a_found (block_at n))) (λ t. block t) (codes "Block") statement_kind.Block refl (λ ds. refl) b d (tagged_within _ _ _ n d le h (λ es l row. starts_map _ _ _ _ n es l row (λ x m k. block_there n complete_at x b k m) (λ fs l k. k))) (omega arith)
-  there d (choice test a r) h le = tagged_complete statement_kinds (statement_with (block_at n)) (row3 a_handle (a_found (block_at n)) (a_found (block_at n))) (λ t. choice t.0 t.1 t.2) (codes "If") statement_kind.If refl (λ ds. refl) (test, a, r) d (tagged_within _ _ _ n d le h (λ es l row. starts_map _ _ _ _ n es l row (λ x m k. k) (λ fs l k. starts_map _ _ _ _ n fs l k (λ x m k. block_there n complete_at x a k m) (λ gs l k. starts_map _ _ _ _ n gs l k (λ x m k. block_there n complete_at x r k m) (λ hs l k. k))))) (omega arith)
+  there d (if_ test a r) h le = tagged_complete statement_kinds (statement_with (block_at n)) (row3 a_handle (a_found (block_at n)) (a_found (block_at n))) (λ t. if_ t.0 t.1 t.2) (codes "If") statement_kind.If refl (λ ds. refl) (test, a, r) d (tagged_within _ _ _ n d le h (λ es l row. starts_map _ _ _ _ n es l row (λ x m k. k) (λ fs l k. starts_map _ _ _ _ n fs l k (λ x m k. block_there n complete_at x a k m) (λ gs l k. starts_map _ _ _ _ n gs l k (λ x m k. block_there n complete_at x r k m) (λ hs l k. k))))) (omega arith)
   there d (switch selector cs) h le = tagged_complete statement_kinds (statement_with (block_at n)) (row2 a_handle (a_list (a_found (case_with (block_at n))))) (λ t. switch t.0 (cases_of t.1)) (codes "Switch") statement_kind.Switch refl (λ ds. refl) (selector, cases_list cs) d (tagged_within _ _ _ n d le h (λ es l row. starts_map _ _ _ _ n es l row (λ x m k. k) (λ fs l k. starts_map _ _ _ _ n fs l k (λ x m k. array_within _ _ n x (omega arith) k (λ gs l k. cases_there cs gs k l)) (λ gs l k. k)))) (omega arith) ∙ ap (λ c. Some (switch selector c)) (cases_back cs)
   there d (loop b c o) h le = tagged_complete statement_kinds (statement_with (block_at n)) (row3 (a_found (block_at n)) (a_found (block_at n)) (maybe a_handle)) (λ t. loop t.0 t.1 t.2) (codes "Loop") statement_kind.Loop refl (λ ds. refl) (b, c, o) d (tagged_within _ _ _ n d le h (λ es l row. starts_map _ _ _ _ n es l row (λ x m k. block_there n complete_at x b k m) (λ fs l k. starts_map _ _ _ _ n fs l k (λ x m k. block_there n complete_at x c k m) (λ gs l k. k)))) (omega arith)
   there d (emit first end) h le = tagged_complete statement_kinds (statement_with (block_at n)) (row2 a_u32 a_u32) (λ t. emit t.0 t.1) (codes "Emit") statement_kind.Emit refl (λ ds. refl) (first, end) d h (omega arith)
@@ -481,25 +481,25 @@ module _ (n : ℕ) (bound : suc n ≤ deepest) (complete_at : (d : Data) (s : Pl
   there d continue h le = tagged_complete statement_kinds (statement_with (block_at n)) ends (λ t. continue) (codes "Continue") statement_kind.Continue refl (λ ds. refl) tt d h (omega arith)
   there d (return value) h le = tagged_complete statement_kinds (statement_with (block_at n)) (row1 (maybe a_handle)) (λ t. return t) (codes "Return") statement_kind.Return refl (λ ds. refl) value d h (omega arith)
   there d kill h le = tagged_complete statement_kinds (statement_with (block_at n)) ends (λ t. kill) (codes "Kill") statement_kind.Kill refl (λ ds. refl) tt d h (omega arith)
-  there d (act (control_barrier barrier)) h le = tagged_complete statement_kinds (statement_with (block_at n)) (row1 (a_set barriers (record { 0 = 0 }) barrier_union)) (λ t. act (control_barrier t)) (codes "ControlBarrier") statement_kind.ControlBarrier refl (λ ds. refl) barrier d h (omega arith)
-  there d (act (memory_barrier barrier)) h le = tagged_complete statement_kinds (statement_with (block_at n)) (row1 (a_set barriers (record { 0 = 0 }) barrier_union)) (λ t. act (memory_barrier t)) (codes "MemoryBarrier") statement_kind.MemoryBarrier refl (λ ds. refl) barrier d h (omega arith)
-  there d (act (store pointer value)) h le = tagged_complete statement_kinds (statement_with (block_at n)) (row2 a_handle a_handle) (λ t. act (store t.0 t.1)) (codes "Store") statement_kind.Store refl (λ ds. refl) (pointer, value) d h (omega arith)
-  there d (act (image_store image coordinate array_index value)) h le = tagged_complete statement_kinds (statement_with (block_at n)) (row4 a_handle a_handle (maybe a_handle) a_handle) (λ t. act (image_store t.0 t.1 t.2 t.3)) (codes "ImageStore") statement_kind.ImageStore refl (λ ds. refl) (image, coordinate, array_index, value) d h (omega arith)
-  there d (act (atomic pointer fun value result)) h le = tagged_complete statement_kinds (statement_with (block_at n)) (row4 a_handle an_atomic a_handle (maybe a_handle)) (λ t. act (atomic t.0 t.1 t.2 t.3)) (codes "Atomic") statement_kind.Atomic refl (λ ds. refl) (pointer, fun, value, result) d h (omega arith)
-  there d (act (image_atomic image coordinate array_index fun value)) h le = tagged_complete statement_kinds (statement_with (block_at n)) (row5 a_handle a_handle (maybe a_handle) an_atomic a_handle) (λ t. act (image_atomic t.0 t.1 t.2 t.3 t.4)) (codes "ImageAtomic") statement_kind.ImageAtomic refl (λ ds. refl) (image, coordinate, array_index, fun, value) d h (omega arith)
-  there d (act (uniform_load pointer result)) h le = tagged_complete statement_kinds (statement_with (block_at n)) (row2 a_handle a_handle) (λ t. act (uniform_load t.0 t.1)) (codes "WorkGroupUniformLoad") statement_kind.WorkGroupUniformLoad refl (λ ds. refl) (pointer, result) d h (omega arith)
+  there d (operation (control_barrier barrier)) h le = tagged_complete statement_kinds (statement_with (block_at n)) (row1 (a_set barriers (record { 0 = 0 }) barrier_union)) (λ t. operation (control_barrier t)) (codes "ControlBarrier") statement_kind.ControlBarrier refl (λ ds. refl) barrier d h (omega arith)
+  there d (operation (memory_barrier barrier)) h le = tagged_complete statement_kinds (statement_with (block_at n)) (row1 (a_set barriers (record { 0 = 0 }) barrier_union)) (λ t. operation (memory_barrier t)) (codes "MemoryBarrier") statement_kind.MemoryBarrier refl (λ ds. refl) barrier d h (omega arith)
+  there d (operation (store pointer value)) h le = tagged_complete statement_kinds (statement_with (block_at n)) (row2 a_handle a_handle) (λ t. operation (store t.0 t.1)) (codes "Store") statement_kind.Store refl (λ ds. refl) (pointer, value) d h (omega arith)
+  there d (operation (image_store image coordinate array_index value)) h le = tagged_complete statement_kinds (statement_with (block_at n)) (row4 a_handle a_handle (maybe a_handle) a_handle) (λ t. operation (image_store t.0 t.1 t.2 t.3)) (codes "ImageStore") statement_kind.ImageStore refl (λ ds. refl) (image, coordinate, array_index, value) d h (omega arith)
+  there d (operation (atomic pointer fun value result)) h le = tagged_complete statement_kinds (statement_with (block_at n)) (row4 a_handle an_atomic a_handle (maybe a_handle)) (λ t. operation (atomic t.0 t.1 t.2 t.3)) (codes "Atomic") statement_kind.Atomic refl (λ ds. refl) (pointer, fun, value, result) d h (omega arith)
+  there d (operation (image_atomic image coordinate array_index fun value)) h le = tagged_complete statement_kinds (statement_with (block_at n)) (row5 a_handle a_handle (maybe a_handle) an_atomic a_handle) (λ t. operation (image_atomic t.0 t.1 t.2 t.3 t.4)) (codes "ImageAtomic") statement_kind.ImageAtomic refl (λ ds. refl) (image, coordinate, array_index, fun, value) d h (omega arith)
+  there d (operation (uniform_load pointer result)) h le = tagged_complete statement_kinds (statement_with (block_at n)) (row2 a_handle a_handle) (λ t. operation (uniform_load t.0 t.1)) (codes "WorkGroupUniformLoad") statement_kind.WorkGroupUniformLoad refl (λ ds. refl) (pointer, result) d h (omega arith)
   there d (call function arguments result) h le = tagged_complete statement_kinds (statement_with (block_at n)) (row3 a_handle (a_list a_handle) (maybe a_handle)) (λ t. call t.0 t.1 t.2) (codes "Call") statement_kind.Call refl (λ ds. refl) (function, arguments, result) d h (omega arith)
-  there d (act (ray_query query fun)) h le = tagged_complete statement_kinds (statement_with (block_at n)) (row2 a_handle a_ray_query) (λ t. act (ray_query t.0 t.1)) (codes "RayQuery") statement_kind.RayQuery refl (λ ds. refl) (query, fun) d h (omega arith)
-  there d (act (ballot result predicate)) h le = tagged_complete statement_kinds (statement_with (block_at n)) (row2 a_handle (maybe a_handle)) (λ t. act (ballot t.0 t.1)) (codes "SubgroupBallot") statement_kind.SubgroupBallot refl (λ ds. refl) (result, predicate) d h (omega arith)
-  there d (act (collective op collective_op argument result)) h le = tagged_complete statement_kinds (statement_with (block_at n)) (row4 (a_word subgroup_operations) (a_word collective_operations) a_handle a_handle) (λ t. act (collective t.0 t.1 t.2 t.3)) (codes "SubgroupCollectiveOperation") statement_kind.SubgroupCollectiveOperation refl (λ ds. refl) (op, collective_op, argument, result) d h (omega arith)
-  there d (act (gather mode argument result)) h le = tagged_complete statement_kinds (statement_with (block_at n)) (row3 a_gather a_handle a_handle) (λ t. act (gather t.0 t.1 t.2)) (codes "SubgroupGather") statement_kind.SubgroupGather refl (λ ds. refl) (mode, argument, result) d h (omega arith)
-  there d (act (cooperative_store target place)) h le = tagged_complete statement_kinds (statement_with (block_at n)) (row4 a_handle a_handle a_handle a_bool) (λ t. act (cooperative_store t.0 (record { pointer = t.1; stride = t.2; row_major = t.3 }))) (codes "CooperativeStore") statement_kind.CooperativeStore refl (λ ds. refl) (target, place.pointer, place.stride, place.row_major) d h (omega arith)
-  there d (act (ray_pipeline fun)) h le = tagged_complete statement_kinds (statement_with (block_at n)) (row1 a_pipeline) (λ t. act (ray_pipeline t)) (codes "RayPipelineFunction") statement_kind.RayPipelineFunction refl (λ ds. refl) fun d h (omega arith)
+  there d (operation (ray_query query fun)) h le = tagged_complete statement_kinds (statement_with (block_at n)) (row2 a_handle a_ray_query) (λ t. operation (ray_query t.0 t.1)) (codes "RayQuery") statement_kind.RayQuery refl (λ ds. refl) (query, fun) d h (omega arith)
+  there d (operation (ballot result predicate)) h le = tagged_complete statement_kinds (statement_with (block_at n)) (row2 a_handle (maybe a_handle)) (λ t. operation (ballot t.0 t.1)) (codes "SubgroupBallot") statement_kind.SubgroupBallot refl (λ ds. refl) (result, predicate) d h (omega arith)
+  there d (operation (collective op collective_op argument result)) h le = tagged_complete statement_kinds (statement_with (block_at n)) (row4 (a_word subgroup_operations) (a_word collective_operations) a_handle a_handle) (λ t. operation (collective t.0 t.1 t.2 t.3)) (codes "SubgroupCollectiveOperation") statement_kind.SubgroupCollectiveOperation refl (λ ds. refl) (op, collective_op, argument, result) d h (omega arith)
+  there d (operation (gather mode argument result)) h le = tagged_complete statement_kinds (statement_with (block_at n)) (row3 a_gather a_handle a_handle) (λ t. operation (gather t.0 t.1 t.2)) (codes "SubgroupGather") statement_kind.SubgroupGather refl (λ ds. refl) (mode, argument, result) d h (omega arith)
+  there d (operation (cooperative_store target place)) h le = tagged_complete statement_kinds (statement_with (block_at n)) (row4 a_handle a_handle a_handle a_bool) (λ t. operation (cooperative_store t.0 (record { pointer = t.1; stride = t.2; row_major = t.3 }))) (codes "CooperativeStore") statement_kind.CooperativeStore refl (λ ds. refl) (target, place.pointer, place.stride, place.row_major) d h (omega arith)
+  there d (operation (ray_pipeline fun)) h le = tagged_complete statement_kinds (statement_with (block_at n)) (row1 a_pipeline) (λ t. operation (ray_pipeline t)) (codes "RayPipelineFunction") statement_kind.RayPipelineFunction refl (λ ds. refl) fun d h (omega arith)
 
 deep : (s : PlainStatement) (d : Data) → AStatement s d → depth d ≤ 0 → ⊥
 unfolding AnAct
 deep (block b) d h le = tagged_deep _ _ d h le
-deep (choice test a r) d h le = tagged_deep _ _ d h le
+deep (if_ test a r) d h le = tagged_deep _ _ d h le
 deep (switch selector cs) d h le = tagged_deep _ _ d h le
 deep (loop b c o) d h le = tagged_deep _ _ d h le
 deep (emit first end) d h le = tagged_deep _ _ d h le
@@ -507,20 +507,20 @@ deep break d h le = tagged_deep _ _ d h le
 deep continue d h le = tagged_deep _ _ d h le
 deep (return value) d h le = tagged_deep _ _ d h le
 deep kill d h le = tagged_deep _ _ d h le
-deep (act (control_barrier barrier)) d h le = tagged_deep _ _ d h le
-deep (act (memory_barrier barrier)) d h le = tagged_deep _ _ d h le
-deep (act (store pointer value)) d h le = tagged_deep _ _ d h le
-deep (act (image_store image coordinate array_index value)) d h le = tagged_deep _ _ d h le
-deep (act (atomic pointer fun value result)) d h le = tagged_deep _ _ d h le
-deep (act (image_atomic image coordinate array_index fun value)) d h le = tagged_deep _ _ d h le
-deep (act (uniform_load pointer result)) d h le = tagged_deep _ _ d h le
+deep (operation (control_barrier barrier)) d h le = tagged_deep _ _ d h le
+deep (operation (memory_barrier barrier)) d h le = tagged_deep _ _ d h le
+deep (operation (store pointer value)) d h le = tagged_deep _ _ d h le
+deep (operation (image_store image coordinate array_index value)) d h le = tagged_deep _ _ d h le
+deep (operation (atomic pointer fun value result)) d h le = tagged_deep _ _ d h le
+deep (operation (image_atomic image coordinate array_index fun value)) d h le = tagged_deep _ _ d h le
+deep (operation (uniform_load pointer result)) d h le = tagged_deep _ _ d h le
 deep (call function arguments result) d h le = tagged_deep _ _ d h le
-deep (act (ray_query query fun)) d h le = tagged_deep _ _ d h le
-deep (act (ballot result predicate)) d h le = tagged_deep _ _ d h le
-deep (act (collective op collective_op argument result)) d h le = tagged_deep _ _ d h le
-deep (act (gather mode argument result)) d h le = tagged_deep _ _ d h le
-deep (act (cooperative_store target place)) d h le = tagged_deep _ _ d h le
-deep (act (ray_pipeline fun)) d h le = tagged_deep _ _ d h le
+deep (operation (ray_query query fun)) d h le = tagged_deep _ _ d h le
+deep (operation (ballot result predicate)) d h le = tagged_deep _ _ d h le
+deep (operation (collective op collective_op argument result)) d h le = tagged_deep _ _ d h le
+deep (operation (gather mode argument result)) d h le = tagged_deep _ _ d h le
+deep (operation (cooperative_store target place)) d h le = tagged_deep _ _ d h le
+deep (operation (ray_pipeline fun)) d h le = tagged_deep _ _ d h le
 
 pub statement_complete : (n : ℕ) → n ≤ deepest → (d : Data) (s : PlainStatement) → AStatement s d → depth d ≤ n → statement_at n d ≡ Some s
 unfolding statement_at

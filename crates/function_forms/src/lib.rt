@@ -1,7 +1,7 @@
 //! The written forms of functions and entry points, and of the statements and bodies in them.
 #![tactic(auto)]
 
-mod acts;
+mod operations;
 mod functions;
 mod kinds;
 mod parts;

@@ -1,10 +1,10 @@
 // The parts of statements that are tagged themselves.
 ghost use Rattle.std.specs.Prelude.{◌≡◌, option_map};
 ghost use Rattle.ir_kinds.specs.declared.values.SwitchValue.{SwitchValue};
-ghost use Rattle.ir_blocks.specs.declared.acts.AtomicFunction.{AtomicFunction};
-ghost use Rattle.ir_blocks.specs.declared.acts.GatherMode.{GatherMode};
-ghost use Rattle.ir_blocks.specs.declared.acts.RayQueryFunction.{RayQueryFunction};
-ghost use Rattle.ir_blocks.specs.declared.acts.RayPipelineFunction.{RayPipelineFunction};
+ghost use Rattle.ir_blocks.specs.declared.operations.AtomicFunction.{AtomicFunction};
+ghost use Rattle.ir_blocks.specs.declared.operations.GatherMode.{GatherMode};
+ghost use Rattle.ir_blocks.specs.declared.operations.RayQueryFunction.{RayQueryFunction};
+ghost use Rattle.ir_blocks.specs.declared.operations.RayPipelineFunction.{RayPipelineFunction};
 ghost use Rattle.function_forms.specs.Statements.{a_value, an_atomic, a_gather, a_ray_query, a_pipeline};
 
 use crate::kinds::{AtomicKind, GatherKind, PipelineKind, RayQueryKind, ValueKind};

@@ -4,10 +4,10 @@ ghost use Rattle.serde_json.specs.View.{view as data_of, items_view};
 ghost use Rattle.ir_blocks.specs.Plain.{PlainBlock};
 ghost use Rattle.ir_blocks.specs.View.{statement_view, block_view, case_view};
 ghost use Rattle.document_forms.specs.Answers.{Answers};
-ghost use Rattle.document_forms.specs.Find.{all_of};
+ghost use Rattle.document_forms.specs.Decide.{all_of};
 ghost use Rattle.function_forms.specs.Statements.{statement_at, statement_with, block_at, case_with, a_body};
 
-use crate::acts;
+use crate::operations;
 use crate::kinds::StatementKind;
 use crate::parts::ValueForm;
 use document_forms::{
@@ -48,30 +48,30 @@ fn statement_of(
 {
     match kind {
         StatementKind::Block => nested(alloc, rest, depth),
-        StatementKind::If => choice(alloc, rest, depth),
+        StatementKind::If => if_statement(alloc, rest, depth),
         StatementKind::Switch => switch(alloc, rest, depth),
-        StatementKind::Loop => turns(alloc, rest, depth),
-        StatementKind::Emit => acts::emit(alloc, rest),
-        StatementKind::Break => acts::leave(alloc, rest),
-        StatementKind::Continue => acts::go_on(alloc, rest),
-        StatementKind::Return => acts::give(alloc, rest),
-        StatementKind::Kill => acts::kill(alloc, rest),
-        StatementKind::ControlBarrier => acts::control_barrier(alloc, rest),
-        StatementKind::MemoryBarrier => acts::memory_barrier(alloc, rest),
-        StatementKind::Store => acts::store(alloc, rest),
-        StatementKind::ImageStore => acts::image_store(alloc, rest),
-        StatementKind::Atomic => acts::atomic(alloc, rest),
-        StatementKind::ImageAtomic => acts::image_atomic(alloc, rest),
-        StatementKind::WorkGroupUniformLoad => acts::work_group_uniform_load(alloc, rest),
-        StatementKind::Call => acts::call(alloc, rest),
-        StatementKind::RayQuery => acts::ray_query(alloc, rest),
-        StatementKind::SubgroupBallot => acts::subgroup_ballot(alloc, rest),
-        StatementKind::SubgroupCollectiveOperation => acts::subgroup_collective_operation(
+        StatementKind::Loop => loop_statement(alloc, rest, depth),
+        StatementKind::Emit => operations::emit(alloc, rest),
+        StatementKind::Break => operations::leave(alloc, rest),
+        StatementKind::Continue => operations::go_on(alloc, rest),
+        StatementKind::Return => operations::give(alloc, rest),
+        StatementKind::Kill => operations::kill(alloc, rest),
+        StatementKind::ControlBarrier => operations::control_barrier(alloc, rest),
+        StatementKind::MemoryBarrier => operations::memory_barrier(alloc, rest),
+        StatementKind::Store => operations::store(alloc, rest),
+        StatementKind::ImageStore => operations::image_store(alloc, rest),
+        StatementKind::Atomic => operations::atomic(alloc, rest),
+        StatementKind::ImageAtomic => operations::image_atomic(alloc, rest),
+        StatementKind::WorkGroupUniformLoad => operations::work_group_uniform_load(alloc, rest),
+        StatementKind::Call => operations::call(alloc, rest),
+        StatementKind::RayQuery => operations::ray_query(alloc, rest),
+        StatementKind::SubgroupBallot => operations::subgroup_ballot(alloc, rest),
+        StatementKind::SubgroupCollectiveOperation => operations::subgroup_collective_operation(
             alloc, rest,
         ),
-        StatementKind::SubgroupGather => acts::subgroup_gather(alloc, rest),
-        StatementKind::CooperativeStore => acts::cooperative_store(alloc, rest),
-        StatementKind::RayPipelineFunction => acts::ray_pipeline_function(alloc, rest),
+        StatementKind::SubgroupGather => operations::subgroup_gather(alloc, rest),
+        StatementKind::CooperativeStore => operations::cooperative_store(alloc, rest),
+        StatementKind::RayPipelineFunction => operations::ray_pipeline_function(alloc, rest),
     }
 }
 
@@ -88,7 +88,7 @@ fn nested(alloc: Global, rest: &[Value], depth: usize) -> Result<Statement, Read
 
 #[cycle(statements)]
 #[tactic(auto, unfolding(crate::specs::Statements::statement_with))]
-fn choice(alloc: Global, rest: &[Value], depth: usize) -> Result<Statement, ReadError>
+fn if_statement(alloc: Global, rest: &[Value], depth: usize) -> Result<Statement, ReadError>
     ensures { Answers result (λ found. option_map statement_view found ≡ statement_with (block_at depth) StatementKind.If (items_view rest.now)) }
 {
     let (condition, rest) = split_part(rest, 1)?;
@@ -157,7 +157,7 @@ fn switch_case(alloc: Global, value: &Value, depth: usize) -> Result<SwitchCase,
 
 #[cycle(statements)]
 #[tactic(auto, unfolding(crate::specs::Statements::statement_with))]
-fn turns(alloc: Global, rest: &[Value], depth: usize) -> Result<Statement, ReadError>
+fn loop_statement(alloc: Global, rest: &[Value], depth: usize) -> Result<Statement, ReadError>
     ensures { Answers result (λ found. option_map statement_view found ≡ statement_with (block_at depth) StatementKind.Loop (items_view rest.now)) }
 {
     let (body, rest) = split_part(rest, 1)?;

@@ -1,8 +1,8 @@
 -- There is one body that is another completed with returns.
 use Rattle.std.proofs.Common.{◌≡◌, inl, inr, ℕ, zero, suc, Bool, true, false, true≢false, None, refl, sym, ap, subst, ◌∙◌}
 use Rattle.ir_kinds.specs.declared.values.SwitchValue.{SwitchValue}
-use Rattle.ir_blocks.specs.Plain.{PlainStatement, emit, block, choice, switch, loop, break, continue, return, kill, act, call, PlainBlock, stop, next, PlainCases, no_case, case}
-use Rattle.ir_blocks.specs.Shapes.{shape_of, Part, inner, accepting, rejecting, case_at, turn, continuing, case_body, part_of}
+use Rattle.ir_blocks.specs.Plain.{PlainStatement, emit, block, if_, switch, loop, break, continue, return, kill, operation, call, PlainBlock, stop, next, PlainCases, no_case, case}
+use Rattle.ir_blocks.specs.Shapes.{shape_of, Part, inner, accepting, rejecting, case_at, loop_body, loop_continuing, case_body, part_of}
 use Rattle.ir_blocks.specs.Places.{Place, here, later, inside, StandsAt}
 use Rattle.ir_blocks.specs.Tails.{Ends, IsTailPart, goes_on, IsOpenEnd, empty, behind_last, further, in_tail, case_heads, head_of, IsCompleted, ending, completed, finished, finished_cases}
 use Rattle.ir_blocks.specs.View.{HoldsNoBlock}
@@ -27,14 +27,14 @@ no_first (next t rest) none = absurd (none t refl)
 simple_is : (t s : PlainStatement) → head_of t ≡ s → HoldsNoBlock s → t ≡ s
 simple_is (emit first end) s e h = e
 simple_is (block b) s e h = absurd (subst HoldsNoBlock (sym e) h)
-simple_is (choice test accept reject) s e h = absurd (subst HoldsNoBlock (sym e) h)
+simple_is (if_ test accept reject) s e h = absurd (subst HoldsNoBlock (sym e) h)
 simple_is (switch selector cases) s e h = absurd (subst HoldsNoBlock (sym e) h)
-simple_is (loop body again break_if) s e h = absurd (subst HoldsNoBlock (sym e) h)
+simple_is (loop body continuing break_if) s e h = absurd (subst HoldsNoBlock (sym e) h)
 simple_is break s e h = e
 simple_is continue s e h = e
 simple_is (return value) s e h = e
 simple_is kill s e h = e
-simple_is (act a) s e h = e
+simple_is (operation a) s e h = e
 simple_is (call function arguments result) s e h = e
 
 same_value : (v w : SwitchValue) (f g : Bool) (a b : PlainCases) → case v stop f a ≡ case w stop g b → v ≡ w
@@ -61,24 +61,24 @@ mutual
   same_statement (emit first end) t e h = simple_is t _ e tt
   same_statement (block b) (block c) e h = ap block (same b c (h inner))
   same_statement (block b) _ e h = let x = e in cc
-  same_statement (choice test accept reject) (choice u c d) e h =
+  same_statement (if_ test accept reject) (if_ u c d) e h =
       let tests : u ≡ test = (let x = e in cc) in
-      (λ i. choice (tests i) (same accept c (h accepting) i) (same reject d (h rejecting) i))
-  same_statement (choice test accept reject) _ e h = let x = e in cc
+      (λ i. if_ (tests i) (same accept c (h accepting) i) (same reject d (h rejecting) i))
+  same_statement (if_ test accept reject) _ e h = let x = e in cc
   same_statement (switch selector cases) (switch u c) e h =
       let selectors : u ≡ selector = (let x = e in cc) in
       let heads : case_heads c ≡ case_heads cases = (let x = e in cc) in
       (λ i. switch (selectors i) (same_cases cases c heads (λ k. h (case_at k)) i))
   same_statement (switch selector cases) _ e h = let x = e in cc
-  same_statement (loop body again break_if) (loop c d u) e h =
+  same_statement (loop body continuing break_if) (loop c d u) e h =
       let ifs : u ≡ break_if = (let x = e in cc) in
-      (λ i. loop (same body c (h turn) i) (same again d (h continuing) i) (ifs i))
-  same_statement (loop body again break_if) _ e h = let x = e in cc
+      (λ i. loop (same body c (h loop_body) i) (same continuing d (h loop_continuing) i) (ifs i))
+  same_statement (loop body continuing break_if) _ e h = let x = e in cc
   same_statement break t e h = simple_is t _ e tt
   same_statement continue t e h = simple_is t _ e tt
   same_statement (return value) t e h = simple_is t _ e tt
   same_statement kill t e h = simple_is t _ e tt
-  same_statement (act a) t e h = simple_is t _ e tt
+  same_statement (operation a) t e h = simple_is t _ e tt
   same_statement (call function arguments result) t e h = simple_is t _ e tt
 
   same_cases : (cs ds : PlainCases) → case_heads ds ≡ case_heads cs → ((k : ℕ) → Same (case_body cs k) (case_body ds k)) → ds ≡ cs
@@ -182,21 +182,21 @@ mutual
   one_finished (emit first end) t e tails others = simple_is t _ e tt
   one_finished (block b) (block c) e tails others = ap block (one_completed b c (tails inner tt))
   one_finished (block b) _ e tails others = let x = e in cc
-  one_finished (choice test accept reject) (choice u c d) e tails others =
+  one_finished (if_ test accept reject) (if_ u c d) e tails others =
       let tests : u ≡ test = (let x = e in cc) in
-      (λ i. choice (tests i) (one_completed accept c (tails accepting tt) i) (one_completed reject d (tails rejecting tt) i))
-  one_finished (choice test accept reject) _ e tails others = let x = e in cc
+      (λ i. if_ (tests i) (one_completed accept c (tails accepting tt) i) (one_completed reject d (tails rejecting tt) i))
+  one_finished (if_ test accept reject) _ e tails others = let x = e in cc
   one_finished (switch selector cases) (switch u c) e tails others =
       let selectors : u ≡ selector = (let x = e in cc) in
       let heads : case_heads c ≡ case_heads cases = (let x = e in cc) in
       (λ i. switch (selectors i) (cases_completed cases c heads (λ k. tails (case_at k)) (λ k. others (case_at k)) i))
   one_finished (switch selector cases) _ e tails others = let x = e in cc
-  one_finished (loop body again break_if) t e tails others = same_statement (loop body again break_if) t e (λ part. others part (λ x. x))
+  one_finished (loop body continuing break_if) t e tails others = same_statement (loop body continuing break_if) t e (λ part. others part (λ x. x))
   one_finished break t e tails others = simple_is t _ e tt
   one_finished continue t e tails others = simple_is t _ e tt
   one_finished (return value) t e tails others = simple_is t _ e tt
   one_finished kill t e tails others = simple_is t _ e tt
-  one_finished (act a) t e tails others = simple_is t _ e tt
+  one_finished (operation a) t e tails others = simple_is t _ e tt
   one_finished (call function arguments result) t e tails others = simple_is t _ e tt
 
   cases_completed : (cs ds : PlainCases) → case_heads ds ≡ case_heads cs

@@ -5,7 +5,7 @@ use Rattle.std.specs.declared.alloc.Global.{Global}
 use Rattle.std.proofs.lemmas.List.{map-append, take_all}
 use Rattle.std.proofs.Math.ListN.{set}
 use Rattle.ir_arena.specs.declared.span.Span.{Span}
-use Rattle.ir_blocks.specs.Plain.{PlainStatement, emit, block, choice, switch, loop, break, continue, return, kill, act, call, case}
+use Rattle.ir_blocks.specs.Plain.{PlainStatement, emit, block, if_, switch, loop, break, continue, return, kill, operation, call, case}
 use Rattle.ir_blocks.specs.Shapes.{shape_of}
 use Rattle.ir_blocks.specs.Spans.{StatementSpans, spans, in_case}
 use Rattle.ir_blocks.specs.Tails.{goes_on, finished, finished_case, finished_cases}
@@ -68,27 +68,27 @@ room_at_end own (x ∷ y ∷ rs) r = room_at_end own (y ∷ rs) r
 pub finished_on : (s : PlainStatement) → goes_on (shape_of s) ≡ true → finished s ≡ s
 finished_on (emit first end) on = refl
 finished_on (block b) on = absurd (search rules)
-finished_on (choice condition accept reject) on = absurd (search rules)
+finished_on (if_ condition accept reject) on = absurd (search rules)
 finished_on (switch selector cases) on = absurd (search rules)
-finished_on (loop body again break_if) on = refl
+finished_on (loop body continuing break_if) on = refl
 finished_on break on = refl
 finished_on continue on = refl
 finished_on (return value) on = refl
 finished_on kill on = refl
-finished_on (act a) on = refl
+finished_on (operation a) on = refl
 finished_on (call function arguments result) on = refl
 
 pub finished_spans_on : (s : PlainStatement) (kept : StatementSpans) → goes_on (shape_of s) ≡ true → finished_spans s kept ≡ kept
 finished_spans_on (emit first end) kept on = refl
 finished_spans_on (block b) kept on = absurd (search rules)
-finished_spans_on (choice condition accept reject) kept on = absurd (search rules)
+finished_spans_on (if_ condition accept reject) kept on = absurd (search rules)
 finished_spans_on (switch selector cases) kept on = absurd (search rules)
-finished_spans_on (loop body again break_if) kept on = refl
+finished_spans_on (loop body continuing break_if) kept on = refl
 finished_spans_on break kept on = refl
 finished_spans_on continue kept on = refl
 finished_spans_on (return value) kept on = refl
 finished_spans_on kill kept on = refl
-finished_spans_on (act a) kept on = refl
+finished_spans_on (operation a) kept on = refl
 finished_spans_on (call function arguments result) kept on = refl
 
 -- ---- room

@@ -6,10 +6,10 @@ use Rattle.std.specs.List.{All, remove_range, splice}
 use Rattle.std.proofs.lemmas.List.Elements.{All-nil, All-cons, All-head, All-tail, All-same, All-push, All-append, All-take, All-drop}
 use Rattle.ir_arena.specs.declared.span.Span.{Span}
 use Rattle.ir_arena.specs.Spans.{undefined_span}
-use Rattle.ir_blocks.specs.Plain.{PlainStatement, block, choice, switch, return, PlainBlock, stop, next, PlainCases, no_case, case}
-use Rattle.ir_blocks.specs.Shapes.{shape_of, Part, inner, accepting, rejecting, case_at, turn, continuing, case_body, part_of}
+use Rattle.ir_blocks.specs.Plain.{PlainStatement, block, if_, switch, return, PlainBlock, stop, next, PlainCases, no_case, case}
+use Rattle.ir_blocks.specs.Shapes.{shape_of, Part, inner, accepting, rejecting, case_at, loop_body, loop_continuing, case_body, part_of}
 use Rattle.ir_blocks.specs.Places.{Place, here, later, inside, condition, StandsAt}
-use Rattle.ir_blocks.specs.Spans.{BlockSpans, spans, in_next, StatementSpans, no_block, in_block, in_sides, in_cases, in_turns, CaseSpans, no_more, in_case, no_spans, own_spans, within_spans, first_of, first_within, behind_first, case_spans, spans_in, span_at, InStep}
+use Rattle.ir_blocks.specs.Spans.{BlockSpans, spans, in_next, StatementSpans, no_block, in_block, in_sides, in_cases, in_loop, CaseSpans, no_more, in_case, no_spans, own_spans, within_spans, first_of, first_within, behind_first, case_spans, spans_in, span_at, InStep}
 use Rattle.ir_blocks.specs.Tails.{IsCompleted, Ends, IsTailPart, goes_on, IsOpenEnd, empty, behind_last, further, in_tail, completed}
 use Rattle.ir_blocks.specs.TailSpans.{SpansCompleted, ending_span, ending_within, cases_within, completed_spans, finished_spans, finished_case_spans}
 use Rattle.ir_blocks.specs.View.{block_of, within_of, statement_view, statement_spans, block_view, block_spans, statements_of, spans_of, IsInStep, AllInStep, InStepWithin}
@@ -78,7 +78,7 @@ in_case_at no_block k = refl
 in_case_at (in_block b) k = refl
 in_case_at (in_sides accept reject) k = refl
 in_case_at (in_cases cases) k = refl
-in_case_at (in_turns body again) k = refl
+in_case_at (in_loop body continuing) k = refl
 
 -- a tail part's spans are completed, and those of any other stay at their places
 span_part : (s : PlainStatement) (own : StatementSpans) (part : Part) → ((q : Part) → InStep (part_of (shape_of s) q) (spans_in own q))
@@ -87,14 +87,14 @@ span_part (block b) own inner h = inl (tt, refl)
 span_part (block b) own accepting h = inr (λ p. nothing p _ (h accepting))
 span_part (block b) own rejecting h = inr (λ p. nothing p _ (h rejecting))
 span_part (block b) own (case_at k) h = inr (λ p. nothing p _ (h (case_at k)))
-span_part (block b) own turn h = inr (λ p. nothing p _ (h turn))
-span_part (block b) own continuing h = inr (λ p. nothing p _ (h continuing))
-span_part (choice test accept reject) own accepting h = inl (tt, refl)
-span_part (choice test accept reject) own rejecting h = inl (tt, refl)
-span_part (choice test accept reject) own inner h = inr (λ p. nothing p _ (h inner))
-span_part (choice test accept reject) own (case_at k) h = inr (λ p. nothing p _ (h (case_at k)))
-span_part (choice test accept reject) own turn h = inr (λ p. nothing p _ (h turn))
-span_part (choice test accept reject) own continuing h = inr (λ p. nothing p _ (h continuing))
+span_part (block b) own loop_body h = inr (λ p. nothing p _ (h loop_body))
+span_part (block b) own loop_continuing h = inr (λ p. nothing p _ (h loop_continuing))
+span_part (if_ test accept reject) own accepting h = inl (tt, refl)
+span_part (if_ test accept reject) own rejecting h = inl (tt, refl)
+span_part (if_ test accept reject) own inner h = inr (λ p. nothing p _ (h inner))
+span_part (if_ test accept reject) own (case_at k) h = inr (λ p. nothing p _ (h (case_at k)))
+span_part (if_ test accept reject) own loop_body h = inr (λ p. nothing p _ (h loop_body))
+span_part (if_ test accept reject) own loop_continuing h = inr (λ p. nothing p _ (h loop_continuing))
 span_part (switch selector cases) own (case_at k) h =
     elim (case_span cases (cases_within own) k (λ q. subst (InStep (case_body cases q)) (sym (in_case_at own q)) (h (case_at q)))) [
       | inl tail ↦ inl (tail.0, tail.1 ∙ ap (completed_spans (case_body cases k)) (in_case_at own k))
@@ -103,16 +103,16 @@ span_part (switch selector cases) own (case_at k) h =
 span_part (switch selector cases) own inner h = inr (λ p. nothing p _ (h inner))
 span_part (switch selector cases) own accepting h = inr (λ p. nothing p _ (h accepting))
 span_part (switch selector cases) own rejecting h = inr (λ p. nothing p _ (h rejecting))
-span_part (switch selector cases) own turn h = inr (λ p. nothing p _ (h turn))
-span_part (switch selector cases) own continuing h = inr (λ p. nothing p _ (h continuing))
+span_part (switch selector cases) own loop_body h = inr (λ p. nothing p _ (h loop_body))
+span_part (switch selector cases) own loop_continuing h = inr (λ p. nothing p _ (h loop_continuing))
 span_part _ own part h = inr (λ p. refl)
 
 span_tail : (s : PlainStatement) (own : StatementSpans) (part : Part) → IsTailPart (shape_of s) part → spans_in (finished_spans s own) part ≡ completed_spans (part_of (shape_of s) part) (spans_in own part)
 span_tail (block b) own inner h = refl
 span_tail (block b) own _ h = absurd h
-span_tail (choice test accept reject) own accepting h = refl
-span_tail (choice test accept reject) own rejecting h = refl
-span_tail (choice test accept reject) own _ h = absurd h
+span_tail (if_ test accept reject) own accepting h = refl
+span_tail (if_ test accept reject) own rejecting h = refl
+span_tail (if_ test accept reject) own _ h = absurd h
 span_tail (switch selector cases) own (case_at k) h = case_span_tail cases (cases_within own) k h ∙ ap (completed_spans (case_body cases k)) (in_case_at own k)
 span_tail (switch selector cases) own _ h = absurd h
 span_tail _ own part h = absurd h

@@ -35,33 +35,33 @@ completed_lists on own (y ∷ []) x e = behind own (ending_span on) (statement_s
 completed_lists on own (y ∷ z ∷ zs) x e = behind own (ending_span on) (statement_spans y) (within_of (map statement_spans (z ∷ zs) ++ statement_spans x ∷ [])) _ _ (completed_lists on (tail_of own) (z ∷ zs) x e)
 
 -- the spans of a block that holds these lists
-lists : (b : Block) (front : List Statement) (last : Statement) → statements_of b ≡ front ++ last ∷ []
+lists : (b : Block) (prefix : List Statement) (last : Statement) → statements_of b ≡ prefix ++ last ∷ []
     → completed_spans (block_view b) (block_spans b)
-    ≡ completed_spans (block_of (map statement_view front ++ statement_view last ∷ [])) (spans (spans_of b) (within_of (map statement_spans front ++ statement_spans last ∷ [])))
-lists b front last parts =
-    let views : block_view b ≡ block_of (map statement_view front ++ statement_view last ∷ []) =
-    block_view-statements b ∙ (ap (λ z. block_of (map statement_view z)) parts ∙ ap block_of (map-append statement_view front (last ∷ []))) in
-    let within : block_spans b ≡ spans (spans_of b) (within_of (map statement_spans front ++ statement_spans last ∷ [])) =
-    block_spans-lists b ∙ (ap (λ z. spans (spans_of b) (within_of (map statement_spans z))) parts ∙ ap (λ z. spans (spans_of b) (within_of z)) (map-append statement_spans front (last ∷ []))) in
+    ≡ completed_spans (block_of (map statement_view prefix ++ statement_view last ∷ [])) (spans (spans_of b) (within_of (map statement_spans prefix ++ statement_spans last ∷ [])))
+lists b prefix last parts =
+    let views : block_view b ≡ block_of (map statement_view prefix ++ statement_view last ∷ []) =
+    block_view-statements b ∙ (ap (λ z. block_of (map statement_view z)) parts ∙ ap block_of (map-append statement_view prefix (last ∷ []))) in
+    let within : block_spans b ≡ spans (spans_of b) (within_of (map statement_spans prefix ++ statement_spans last ∷ [])) =
+    block_spans-lists b ∙ (ap (λ z. spans (spans_of b) (within_of (map statement_spans z))) parts ∙ ap (λ z. spans (spans_of b) (within_of z)) (map-append statement_spans prefix (last ∷ []))) in
     λ i. completed_spans (views i) (within i)
 
-pub spans_stay : (b : Block) (front body items : List Statement) (last whole : Statement) (kept : List Span) → statements_of b ≡ front ++ last ∷ [] → map statement_spans body ≡ map statement_spans front
+pub spans_stay : (b : Block) (prefix body items : List Statement) (last whole : Statement) (kept : List Span) → statements_of b ≡ prefix ++ last ∷ [] → map statement_spans body ≡ map statement_spans prefix
     → statement_spans whole ≡ finished_spans (statement_view last) (statement_spans last) → goes_on (shape_of (statement_view last)) ≡ false → items ≡ body ++ whole ∷ [] → kept ≡ spans_of b
     → spans kept (within_of (map statement_spans items)) ≡ completed_spans (block_view b) (block_spans b)
-spans_stay b front body items last whole kept parts copies end on made same =
-    let left : map statement_spans items ≡ map statement_spans front ++ finished_spans (statement_view last) (statement_spans last) ∷ [] =
-    ap (map statement_spans) made ∙ (map-append statement_spans body (whole ∷ []) ∙ (ap (λ z. z ++ statement_spans whole ∷ []) copies ∙ ap (λ z. map statement_spans front ++ z ∷ []) end)) in
+spans_stay b prefix body items last whole kept parts copies end on made same =
+    let left : map statement_spans items ≡ map statement_spans prefix ++ finished_spans (statement_view last) (statement_spans last) ∷ [] =
+    ap (map statement_spans) made ∙ (map-append statement_spans body (whole ∷ []) ∙ (ap (λ z. z ++ statement_spans whole ∷ []) copies ∙ ap (λ z. map statement_spans prefix ++ z ∷ []) end)) in
     let own : kept ≡ spans_of b ++ [] = same ∙ sym (append-nil (spans_of b)) in
-    let both : spans kept (within_of (map statement_spans items)) ≡ spans (spans_of b ++ []) (within_of (map statement_spans front ++ finished_spans (statement_view last) (statement_spans last) ∷ [])) =
+    let both : spans kept (within_of (map statement_spans items)) ≡ spans (spans_of b ++ []) (within_of (map statement_spans prefix ++ finished_spans (statement_view last) (statement_spans last) ∷ [])) =
     (λ i. spans (own i) (within_of (left i))) in
-    both ∙ (sym (completed_lists false (spans_of b) front last on) ∙ sym (lists b front last parts))
+    both ∙ (sym (completed_lists false (spans_of b) prefix last on) ∙ sym (lists b prefix last parts))
 
-pub spans_added : (b : Block) (front body more items : List Statement) (last whole : Statement) (kept : List Span) → statements_of b ≡ front ++ last ∷ [] → map statement_spans body ≡ map statement_spans front
+pub spans_added : (b : Block) (prefix body more items : List Statement) (last whole : Statement) (kept : List Span) → statements_of b ≡ prefix ++ last ∷ [] → map statement_spans body ≡ map statement_spans prefix
     → statement_spans whole ≡ finished_spans (statement_view last) (statement_spans last) → goes_on (shape_of (statement_view last)) ≡ true → more ≡ body ++ whole ∷ []
     → map statement_spans items ≡ map statement_spans more ++ no_block ∷ [] → kept ≡ spans_of b ++ undefined_span ∷ []
     → spans kept (within_of (map statement_spans items)) ≡ completed_spans (block_view b) (block_spans b)
-spans_added b front body more items last whole kept parts copies end on made all same =
-    let F : List StatementSpans = map statement_spans front in
+spans_added b prefix body more items last whole kept parts copies end on made all same =
+    let F : List StatementSpans = map statement_spans prefix in
     let w : StatementSpans = finished_spans (statement_view last) (statement_spans last) in
     let more_is : map statement_spans more ≡ F ++ w ∷ [] =
     ap (map statement_spans) made ∙ (map-append statement_spans body (whole ∷ []) ∙ (ap (λ z. z ++ statement_spans whole ∷ []) copies ∙ ap (λ z. F ++ z ∷ []) end)) in
@@ -69,4 +69,4 @@ spans_added b front body more items last whole kept parts copies end on made all
     all ∙ (ap (λ z. z ++ no_block ∷ []) more_is ∙ append_assoc F (w ∷ []) (no_block ∷ [])) in
     let both : spans kept (within_of (map statement_spans items)) ≡ spans (spans_of b ++ undefined_span ∷ []) (within_of (F ++ w ∷ no_block ∷ [])) =
     (λ i. spans (same i) (within_of (left i))) in
-    both ∙ (sym (completed_lists true (spans_of b) front last on) ∙ sym (lists b front last parts))
+    both ∙ (sym (completed_lists true (spans_of b) prefix last on) ∙ sym (lists b prefix last parts))

@@ -1,6 +1,6 @@
 -- The completed body has a return at each open end of a tail block, and is else what it was.
 use Rattle.std.proofs.Common.{◌≡◌, ◌⊎◌, inl, inr, ℕ, zero, suc, Bool, true, false, None, refl, sym, ap, subst, ◌∙◌}
-use Rattle.ir_blocks.specs.Plain.{PlainStatement, emit, block, choice, switch, loop, break, continue, return, kill, act, call, PlainBlock, stop, next, PlainCases, no_case, case}
+use Rattle.ir_blocks.specs.Plain.{PlainStatement, emit, block, if_, switch, loop, break, continue, return, kill, operation, call, PlainBlock, stop, next, PlainCases, no_case, case}
 use Rattle.ir_blocks.specs.Shapes.{shape_of, Part, inner, accepting, rejecting, case_at, case_body, part_of}
 use Rattle.ir_blocks.specs.Places.{Place, here, later, inside, condition, spot_at, StandsAt}
 use Rattle.ir_blocks.specs.Tails.{Ends, IsTailPart, goes_on, IsOpenEnd, empty, behind_last, further, in_tail, case_heads, head_of, IsCompleted, ending, completed, finished, finished_cases}
@@ -20,17 +20,17 @@ part_either : (s : PlainStatement) (part : Part)
 part_either (emit first end) part = inr refl
 part_either (block b) inner = inl (tt, refl)
 part_either (block b) _ = inr refl
-part_either (choice test accept reject) accepting = inl (tt, refl)
-part_either (choice test accept reject) rejecting = inl (tt, refl)
-part_either (choice test accept reject) _ = inr refl
+part_either (if_ test accept reject) accepting = inl (tt, refl)
+part_either (if_ test accept reject) rejecting = inl (tt, refl)
+part_either (if_ test accept reject) _ = inr refl
 part_either (switch selector cases) (case_at k) = case_either cases k
 part_either (switch selector cases) _ = inr refl
-part_either (loop body again break_if) part = inr refl
+part_either (loop body continuing break_if) part = inr refl
 part_either break part = inr refl
 part_either continue part = inr refl
 part_either (return value) part = inr refl
 part_either kill part = inr refl
-part_either (act a) part = inr refl
+part_either (operation a) part = inr refl
 part_either (call function arguments result) part = inr refl
 
 case_tail : (cs : PlainCases) (k : ℕ) → Ends cs k → case_body (finished_cases cs) k ≡ completed (case_body cs k)
@@ -42,17 +42,17 @@ part_tail : (s : PlainStatement) (part : Part) → IsTailPart (shape_of s) part 
 part_tail (emit first end) part h = absurd h
 part_tail (block b) inner h = refl
 part_tail (block b) _ h = absurd h
-part_tail (choice test accept reject) accepting h = refl
-part_tail (choice test accept reject) rejecting h = refl
-part_tail (choice test accept reject) _ h = absurd h
+part_tail (if_ test accept reject) accepting h = refl
+part_tail (if_ test accept reject) rejecting h = refl
+part_tail (if_ test accept reject) _ h = absurd h
 part_tail (switch selector cases) (case_at k) h = case_tail cases k h
 part_tail (switch selector cases) _ h = absurd h
-part_tail (loop body again break_if) part h = absurd h
+part_tail (loop body continuing break_if) part h = absurd h
 part_tail break part h = absurd h
 part_tail continue part h = absurd h
 part_tail (return value) part h = absurd h
 part_tail kill part h = absurd h
-part_tail (act a) part h = absurd h
+part_tail (operation a) part h = absurd h
 part_tail (call function arguments result) part h = absurd h
 
 case_heads-finished : (cs : PlainCases) → case_heads (finished_cases cs) ≡ case_heads cs
@@ -62,14 +62,14 @@ case_heads-finished (case value body falls rest) = ap (case value stop falls) (c
 head_of-finished : (s : PlainStatement) → head_of (finished s) ≡ head_of s
 head_of-finished (emit first end) = refl
 head_of-finished (block b) = refl
-head_of-finished (choice test accept reject) = refl
+head_of-finished (if_ test accept reject) = refl
 head_of-finished (switch selector cases) = ap (switch selector) (case_heads-finished cases)
-head_of-finished (loop body again break_if) = refl
+head_of-finished (loop body continuing break_if) = refl
 head_of-finished break = refl
 head_of-finished continue = refl
 head_of-finished (return value) = refl
 head_of-finished kill = refl
-head_of-finished (act a) = refl
+head_of-finished (operation a) = refl
 head_of-finished (call function arguments result) = refl
 
 -- ---- places
@@ -162,14 +162,14 @@ mutual
   last_once : (s : PlainStatement) → completed (next (finished s) (ending (goes_on (shape_of s)))) ≡ next (finished s) (ending (goes_on (shape_of s)))
   last_once (emit first end) = refl
   last_once (block b) = ap (λ x. next (block x) stop) (completed_once b)
-  last_once (choice test accept reject) = λ i. next (choice test (completed_once accept i) (completed_once reject i)) stop
+  last_once (if_ test accept reject) = λ i. next (if_ test (completed_once accept i) (completed_once reject i)) stop
   last_once (switch selector cases) = ap (λ x. next (switch selector x) stop) (cases_once cases)
-  last_once (loop body again break_if) = refl
+  last_once (loop body continuing break_if) = refl
   last_once break = refl
   last_once continue = refl
   last_once (return value) = refl
   last_once kill = refl
-  last_once (act a) = refl
+  last_once (operation a) = refl
   last_once (call function arguments result) = refl
 
   cases_once : (cs : PlainCases) → finished_cases (finished_cases cs) ≡ finished_cases cs

@@ -22,23 +22,23 @@ pub block_view-statements : (b : Block) → block_view b ≡ statements_view (st
 block_view-statements b = search (rules, the_lemmas)
 
 -- the statements so far, the last one finished, and a return where control goes on
-pub complete_stays : (b : Block) (front body items : List Statement) (last whole : Statement) → statements_of b ≡ front ++ last ∷ [] → map statement_view body ≡ map statement_view front
+pub complete_stays : (b : Block) (prefix body items : List Statement) (last whole : Statement) → statements_of b ≡ prefix ++ last ∷ [] → map statement_view body ≡ map statement_view prefix
     → statement_view whole ≡ finished (statement_view last) → goes_on (shape_of (statement_view last)) ≡ false → items ≡ body ++ whole ∷ [] → statements_view items ≡ completed (block_view b)
-complete_stays b front body items last whole parts copies end on made =
-    let left : statements_view items ≡ block_of (map statement_view front ++ finished (statement_view last) ∷ []) =
-    ap statements_view made ∙ (ap block_of (map-append statement_view body (whole ∷ [])) ∙ (ap (λ z. block_of (z ++ statement_view whole ∷ [])) copies ∙ ap (λ z. block_of (map statement_view front ++ z ∷ [])) end)) in
-    let right : block_view b ≡ block_of (map statement_view front ++ statement_view last ∷ []) =
-    block_view-statements b ∙ (ap statements_view parts ∙ ap block_of (map-append statement_view front (last ∷ []))) in
-    left ∙ (sym (completed_stays (map statement_view front) (statement_view last) on) ∙ sym (ap completed right))
+complete_stays b prefix body items last whole parts copies end on made =
+    let left : statements_view items ≡ block_of (map statement_view prefix ++ finished (statement_view last) ∷ []) =
+    ap statements_view made ∙ (ap block_of (map-append statement_view body (whole ∷ [])) ∙ (ap (λ z. block_of (z ++ statement_view whole ∷ [])) copies ∙ ap (λ z. block_of (map statement_view prefix ++ z ∷ [])) end)) in
+    let right : block_view b ≡ block_of (map statement_view prefix ++ statement_view last ∷ []) =
+    block_view-statements b ∙ (ap statements_view parts ∙ ap block_of (map-append statement_view prefix (last ∷ []))) in
+    left ∙ (sym (completed_stays (map statement_view prefix) (statement_view last) on) ∙ sym (ap completed right))
 
-pub complete_adds : (b : Block) (front body more items : List Statement) (last whole : Statement) → statements_of b ≡ front ++ last ∷ [] → map statement_view body ≡ map statement_view front
+pub complete_adds : (b : Block) (prefix body more items : List Statement) (last whole : Statement) → statements_of b ≡ prefix ++ last ∷ [] → map statement_view body ≡ map statement_view prefix
     → statement_view whole ≡ finished (statement_view last) → goes_on (shape_of (statement_view last)) ≡ true → more ≡ body ++ whole ∷ [] → map statement_view items ≡ map statement_view more ++ return None ∷ []
     → statements_view items ≡ completed (block_view b)
-complete_adds b front body more items last whole parts copies end on made all =
-    let more_is : map statement_view more ≡ map statement_view front ++ finished (statement_view last) ∷ [] =
-    ap (map statement_view) made ∙ (map-append statement_view body (whole ∷ []) ∙ (ap (λ z. z ++ statement_view whole ∷ []) copies ∙ ap (λ z. map statement_view front ++ z ∷ []) end)) in
-    let left : statements_view items ≡ block_of ((map statement_view front ++ finished (statement_view last) ∷ []) ++ return None ∷ []) =
+complete_adds b prefix body more items last whole parts copies end on made all =
+    let more_is : map statement_view more ≡ map statement_view prefix ++ finished (statement_view last) ∷ [] =
+    ap (map statement_view) made ∙ (map-append statement_view body (whole ∷ []) ∙ (ap (λ z. z ++ statement_view whole ∷ []) copies ∙ ap (λ z. map statement_view prefix ++ z ∷ []) end)) in
+    let left : statements_view items ≡ block_of ((map statement_view prefix ++ finished (statement_view last) ∷ []) ++ return None ∷ []) =
     ap block_of all ∙ ap (λ z. block_of (z ++ return None ∷ [])) more_is in
-    let right : block_view b ≡ block_of (map statement_view front ++ statement_view last ∷ []) =
-    block_view-statements b ∙ (ap statements_view parts ∙ ap block_of (map-append statement_view front (last ∷ []))) in
-    left ∙ (sym (completed_adds (map statement_view front) (statement_view last) on) ∙ sym (ap completed right))
+    let right : block_view b ≡ block_of (map statement_view prefix ++ statement_view last ∷ []) =
+    block_view-statements b ∙ (ap statements_view parts ∙ ap block_of (map-append statement_view prefix (last ∷ []))) in
+    left ∙ (sym (completed_adds (map statement_view prefix) (statement_view last) on) ∙ sym (ap completed right))

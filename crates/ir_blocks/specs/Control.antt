@@ -1,7 +1,7 @@
 -- How a statement may leave its block: by the nearest loop or switch around it, and whether a continuing part lies between.
 use Rattle.std.specs.Prelude.{◌≡◌, Bool, true, false, IsTrue, List, [], ◌∷◌, Some}
 use Rattle.ir_blocks.specs.Plain.{PlainStatement, PlainBlock}
-use Rattle.ir_blocks.specs.Shapes.{Exit, breaks, continues, returns, kills, exit_of, shape_of, Part, inner, accepting, rejecting, case_at, turn, continuing}
+use Rattle.ir_blocks.specs.Shapes.{Exit, breaks, continues, returns, kills, exit_of, shape_of, Part, inner, accepting, rejecting, case_at, loop_body, loop_continuing}
 use Rattle.ir_blocks.specs.Places.{Place, here, later, inside, condition, StandsAt}
 
 -- the parts around a place, the innermost first
@@ -18,8 +18,8 @@ breaks_in (inner ∷ outer) = breaks_in outer
 breaks_in (accepting ∷ outer) = breaks_in outer
 breaks_in (rejecting ∷ outer) = breaks_in outer
 breaks_in (case_at k ∷ outer) = true
-breaks_in (turn ∷ outer) = true
-breaks_in (continuing ∷ outer) = false
+breaks_in (loop_body ∷ outer) = true
+breaks_in (loop_continuing ∷ outer) = false
 
 -- the nearest loop is gone on with from its body
 abbrev pub continues_in : List Part → Bool
@@ -28,8 +28,8 @@ continues_in (inner ∷ outer) = continues_in outer
 continues_in (accepting ∷ outer) = continues_in outer
 continues_in (rejecting ∷ outer) = continues_in outer
 continues_in (case_at k ∷ outer) = continues_in outer
-continues_in (turn ∷ outer) = true
-continues_in (continuing ∷ outer) = false
+continues_in (loop_body ∷ outer) = true
+continues_in (loop_continuing ∷ outer) = false
 
 -- no continuing part lies around
 abbrev pub returns_in : List Part → Bool
@@ -38,8 +38,8 @@ returns_in (inner ∷ outer) = returns_in outer
 returns_in (accepting ∷ outer) = returns_in outer
 returns_in (rejecting ∷ outer) = returns_in outer
 returns_in (case_at k ∷ outer) = returns_in outer
-returns_in (turn ∷ outer) = returns_in outer
-returns_in (continuing ∷ outer) = false
+returns_in (loop_body ∷ outer) = returns_in outer
+returns_in (loop_continuing ∷ outer) = false
 
 -- a fragment may be ended anywhere
 abbrev pub may_leave : Exit → List Part → Bool

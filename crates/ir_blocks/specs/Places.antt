@@ -1,7 +1,7 @@
 -- Places in a body, what stands there, and what stands before a place.
 use Rattle.std.specs.Prelude.{◌≡◌, ℕ, Option, None}
 use Rattle.ir_blocks.specs.Plain.{PlainStatement, PlainBlock, stop, next}
-use Rattle.ir_blocks.specs.Shapes.{Shape, loops, shape_of, Part, turn, continuing, part_of}
+use Rattle.ir_blocks.specs.Shapes.{Shape, loops, shape_of, Part, loop_body, loop_continuing, part_of}
 
 -- A place in a body is a path: the body's first statement, a place after it, a place in one of its parts, or its
 -- condition, if it is a loop.
@@ -22,9 +22,9 @@ pub data Before : Place → Place → Type 0 where
   earlier : {p : Place} → Before here (later p)
   both_later : {q p : Place} → Before q p → Before (later q) (later p)
   both_inside : {q p : Place} (part : Part) → Before q p → Before (inside part q) (inside part p)
-  body_before_continuing : {q p : Place} → IsTop q → Before (inside turn q) (inside continuing p)
-  body_before_condition : {q : Place} → IsTop q → Before (inside turn q) condition
-  continuing_before_condition : {q : Place} → IsTop q → Before (inside continuing q) condition
+  body_before_continuing : {q p : Place} → IsTop q → Before (inside loop_body q) (inside loop_continuing p)
+  body_before_condition : {q : Place} → IsTop q → Before (inside loop_body q) condition
+  continuing_before_condition : {q : Place} → IsTop q → Before (inside loop_continuing q) condition
 
 -- What stands at a place: nothing, a statement, or a loop's condition.
 pub data Spot : Type 0 where
@@ -34,7 +34,7 @@ pub data Spot : Type 0 where
 
 -- the condition of a loop, if it has one
 abbrev pub condition_of : Shape → Option ℕ
-condition_of (loops body again break_if) = break_if
+condition_of (loops body continuing break_if) = break_if
 condition_of _ = None
 
 abbrev pub spot_at : Place → PlainBlock → Spot

@@ -5,40 +5,40 @@ use Rattle.ir_kinds.specs.declared.subgroups.SubgroupOperation.{SubgroupOperatio
 use Rattle.ir_kinds.specs.declared.subgroups.CollectiveOperation.{CollectiveOperation}
 use Rattle.ir_kinds.specs.declared.values.SwitchValue.{SwitchValue}
 use Rattle.ir_expressions.specs.declared.expressions.CooperativeData.{CooperativeData}
-use Rattle.ir_blocks.specs.declared.acts.AtomicFunction.{AtomicFunction}
-use Rattle.ir_blocks.specs.declared.acts.GatherMode.{GatherMode}
-use Rattle.ir_blocks.specs.declared.acts.RayQueryFunction.{RayQueryFunction}
-use Rattle.ir_blocks.specs.declared.acts.RayPipelineFunction.{RayPipelineFunction}
+use Rattle.ir_blocks.specs.declared.operations.AtomicFunction.{AtomicFunction}
+use Rattle.ir_blocks.specs.declared.operations.GatherMode.{GatherMode}
+use Rattle.ir_blocks.specs.declared.operations.RayQueryFunction.{RayQueryFunction}
+use Rattle.ir_blocks.specs.declared.operations.RayPipelineFunction.{RayPipelineFunction}
 
 -- what a statement does that steers nothing and computes no range
-pub data PlainAct : Type 0 where
-  control_barrier : Barrier → PlainAct
-  memory_barrier : Barrier → PlainAct
-  store : (pointer value : ℕ) → PlainAct
-  image_store : (image coordinate : ℕ) → (array_index : Option ℕ) → (value : ℕ) → PlainAct
-  atomic : (pointer : ℕ) → AtomicFunction → (value : ℕ) → (result : Option ℕ) → PlainAct
-  image_atomic : (image coordinate : ℕ) → (array_index : Option ℕ) → AtomicFunction → (value : ℕ) → PlainAct
-  uniform_load : (pointer result : ℕ) → PlainAct
-  ray_query : (query : ℕ) → RayQueryFunction → PlainAct
-  ballot : (result : ℕ) → (predicate : Option ℕ) → PlainAct
-  collective : SubgroupOperation → CollectiveOperation → (argument result : ℕ) → PlainAct
-  gather : GatherMode → (argument result : ℕ) → PlainAct
-  cooperative_store : (target : ℕ) → CooperativeData → PlainAct
-  ray_pipeline : RayPipelineFunction → PlainAct
+pub data PlainOperation : Type 0 where
+  control_barrier : Barrier → PlainOperation
+  memory_barrier : Barrier → PlainOperation
+  store : (pointer value : ℕ) → PlainOperation
+  image_store : (image coordinate : ℕ) → (array_index : Option ℕ) → (value : ℕ) → PlainOperation
+  atomic : (pointer : ℕ) → AtomicFunction → (value : ℕ) → (result : Option ℕ) → PlainOperation
+  image_atomic : (image coordinate : ℕ) → (array_index : Option ℕ) → AtomicFunction → (value : ℕ) → PlainOperation
+  uniform_load : (pointer result : ℕ) → PlainOperation
+  ray_query : (query : ℕ) → RayQueryFunction → PlainOperation
+  ballot : (result : ℕ) → (predicate : Option ℕ) → PlainOperation
+  collective : SubgroupOperation → CollectiveOperation → (argument result : ℕ) → PlainOperation
+  gather : GatherMode → (argument result : ℕ) → PlainOperation
+  cooperative_store : (target : ℕ) → CooperativeData → PlainOperation
+  ray_pipeline : RayPipelineFunction → PlainOperation
 
 -- statements, each with what it names by handles, blocks of them, and the cases of a switch
 mutual
   pub data PlainStatement : Type 0 where
     emit : (first end : ℕ) → PlainStatement
     block : PlainBlock → PlainStatement
-    choice : (condition : ℕ) → (accept reject : PlainBlock) → PlainStatement
+    if_ : (condition : ℕ) → (accept reject : PlainBlock) → PlainStatement
     switch : (selector : ℕ) → PlainCases → PlainStatement
     loop : (body continuing : PlainBlock) → (break_if : Option ℕ) → PlainStatement
     break : PlainStatement
     continue : PlainStatement
     return : (value : Option ℕ) → PlainStatement
     kill : PlainStatement
-    act : PlainAct → PlainStatement
+    operation : PlainOperation → PlainStatement
     call : (function : ℕ) → (arguments : List ℕ) → (result : Option ℕ) → PlainStatement
 
   pub data PlainBlock : Type 0 where

@@ -1,6 +1,6 @@
 -- The shape of a statement: what steers, and nothing of what it computes.
 use Rattle.std.specs.Prelude.{ℕ, zero, suc, Option, Some, None}
-use Rattle.ir_blocks.specs.Plain.{PlainStatement, emit, block, choice, switch, loop, break, continue, return, kill, act, call, PlainBlock, stop, PlainCases, no_case, case}
+use Rattle.ir_blocks.specs.Plain.{PlainStatement, emit, block, if_, switch, loop, break, continue, return, kill, operation, call, PlainBlock, stop, PlainCases, no_case, case}
 
 -- how a statement leaves the block that it stands in
 pub data Exit : Type 0 where
@@ -22,14 +22,14 @@ pub data Shape : Type 0 where
 abbrev pub shape_of : PlainStatement → Shape
 shape_of (emit first end) = simple
 shape_of (block b) = nests b
-shape_of (choice condition accept reject) = chooses accept reject
+shape_of (if_ condition accept reject) = chooses accept reject
 shape_of (switch selector cases) = switches cases
 shape_of (loop body continuing break_if) = loops body continuing break_if
 shape_of break = leaves breaks
 shape_of continue = leaves continues
 shape_of (return value) = leaves returns
 shape_of kill = leaves kills
-shape_of (act a) = simple
+shape_of (operation a) = simple
 shape_of (call function arguments result) = calls function
 
 -- how it leaves its block, if it does
@@ -43,8 +43,8 @@ pub data Part : Type 0 where
   accepting : Part
   rejecting : Part
   case_at : ℕ → Part
-  turn : Part
-  continuing : Part
+  loop_body : Part
+  loop_continuing : Part
 
 abbrev pub case_body : PlainCases → ℕ → PlainBlock
 case_body no_case k = stop
@@ -57,6 +57,6 @@ part_of (nests b) inner = b
 part_of (chooses accept reject) accepting = accept
 part_of (chooses accept reject) rejecting = reject
 part_of (switches cases) (case_at k) = case_body cases k
-part_of (loops body again break_if) turn = body
-part_of (loops body again break_if) continuing = again
+part_of (loops body continuing break_if) loop_body = body
+part_of (loops body continuing break_if) loop_continuing = continuing
 part_of _ _ = stop

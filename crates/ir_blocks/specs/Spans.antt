@@ -2,7 +2,7 @@
 use Rattle.std.specs.Prelude.{◌≡◌, ℕ, zero, suc, List, [], ◌∷◌, Option, Some, None}
 use Rattle.ir_arena.specs.declared.span.Span.{Span}
 use Rattle.ir_blocks.specs.Plain.{PlainStatement, PlainBlock}
-use Rattle.ir_blocks.specs.Shapes.{Part, inner, accepting, rejecting, case_at, turn, continuing}
+use Rattle.ir_blocks.specs.Shapes.{Part, inner, accepting, rejecting, case_at, loop_body, loop_continuing}
 use Rattle.ir_blocks.specs.Places.{Place, here, later, inside, condition, StandsAt}
 
 mutual
@@ -21,7 +21,7 @@ mutual
     in_block : BlockSpans → StatementSpans
     in_sides : (accept reject : BlockSpans) → StatementSpans
     in_cases : CaseSpans → StatementSpans
-    in_turns : (body continuing : BlockSpans) → StatementSpans
+    in_loop : (body continuing : BlockSpans) → StatementSpans
 
   -- the spans of each case's block, in order
   pub data CaseSpans : Type 0 where
@@ -73,8 +73,8 @@ spans_in (in_block b) inner = b
 spans_in (in_sides accept reject) accepting = accept
 spans_in (in_sides accept reject) rejecting = reject
 spans_in (in_cases cases) (case_at k) = case_spans cases k
-spans_in (in_turns body again) turn = body
-spans_in (in_turns body again) continuing = again
+spans_in (in_loop body continuing) loop_body = body
+spans_in (in_loop body continuing) loop_continuing = continuing
 spans_in _ _ = no_spans
 
 -- the span at a place, if one is kept for it

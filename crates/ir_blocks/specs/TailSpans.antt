@@ -2,7 +2,7 @@
 use Rattle.std.specs.Prelude.{◌≡◌, Bool, true, false, if◌then◌else◌, List, [], ◌∷◌, ◌++◌, take, Some}
 use Rattle.ir_arena.specs.declared.span.Span.{Span}
 use Rattle.ir_arena.specs.Spans.{undefined_span}
-use Rattle.ir_blocks.specs.Plain.{PlainStatement, block, choice, switch, PlainBlock, stop, next, PlainCases, no_case, case}
+use Rattle.ir_blocks.specs.Plain.{PlainStatement, block, if_, switch, PlainBlock, stop, next, PlainCases, no_case, case}
 use Rattle.ir_blocks.specs.Shapes.{shape_of, inner, accepting, rejecting}
 use Rattle.ir_blocks.specs.Places.{Place, StandsAt}
 use Rattle.ir_blocks.specs.Spans.{BlockSpans, spans, InnerSpans, no_statement, in_next, StatementSpans, no_block, in_block, in_sides, in_cases, CaseSpans, no_more, in_case, no_spans, own_spans, within_spans, first_within, behind_first, spans_in, span_at, InStep}
@@ -53,7 +53,7 @@ abbrev mutual
   -- of the last statement of a tail block, whose tail parts are completed
   pub finished_spans : PlainStatement → StatementSpans → StatementSpans
   finished_spans (block b) kept = in_block (completed_spans b (spans_in kept inner))
-  finished_spans (choice condition accept reject) kept = in_sides (completed_spans accept (spans_in kept accepting)) (completed_spans reject (spans_in kept rejecting))
+  finished_spans (if_ condition accept reject) kept = in_sides (completed_spans accept (spans_in kept accepting)) (completed_spans reject (spans_in kept rejecting))
   finished_spans (switch selector cases) kept = in_cases (finished_case_spans cases (cases_within kept))
   finished_spans _ kept = kept
 

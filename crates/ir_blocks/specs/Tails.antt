@@ -1,6 +1,6 @@
 -- The tail blocks of a body, and the body completed with returns.
 use Rattle.std.specs.Prelude.{◌≡◌, ◌⊎◌, ℕ, zero, suc, Bool, true, false, IsTrue, if◌then◌else◌, None}
-use Rattle.ir_blocks.specs.Plain.{PlainStatement, emit, block, choice, switch, loop, break, continue, return, kill, act, call, PlainBlock, stop, next, PlainCases, no_case, case}
+use Rattle.ir_blocks.specs.Plain.{PlainStatement, emit, block, if_, switch, loop, break, continue, return, kill, operation, call, PlainBlock, stop, next, PlainCases, no_case, case}
 use Rattle.ir_blocks.specs.View.{PlainCase}
 use Rattle.ir_blocks.specs.Shapes.{Shape, simple, calls, nests, chooses, switches, loops, shape_of, Part, inner, accepting, rejecting, case_at, part_of}
 use Rattle.ir_blocks.specs.Places.{Place, here, later, inside, StandsAt}
@@ -19,11 +19,11 @@ IsTailPart (chooses accept reject) rejecting = Unit {0}
 IsTailPart (switches cases) (case_at k) = Ends cases k
 IsTailPart _ _ = ⊥
 
--- whether control goes on behind the statement by itself: it leaves nothing, and is no block, choice or switch
+-- whether control goes on behind the statement by itself: it leaves nothing, and is no block, if or switch
 abbrev pub goes_on : Shape → Bool
 goes_on simple = true
 goes_on (calls function) = true
-goes_on (loops body again break_if) = true
+goes_on (loops body continuing break_if) = true
 goes_on _ = false
 
 -- The place is the end of a tail block that is open: it is empty, or control goes on behind its last statement. The
@@ -42,9 +42,9 @@ case_heads (case value body falls rest) = case value stop falls (case_heads rest
 -- the statement with the blocks inside it emptied
 abbrev pub head_of : PlainStatement → PlainStatement
 head_of (block b) = block stop
-head_of (choice condition accept reject) = choice condition stop stop
+head_of (if_ condition accept reject) = if_ condition stop stop
 head_of (switch selector cases) = switch selector (case_heads cases)
-head_of (loop body again break_if) = loop stop stop break_if
+head_of (loop body continuing break_if) = loop stop stop break_if
 head_of other = other
 
 -- The body c is b completed with returns: it has a return without value at each open end of b, and at each place of
@@ -71,14 +71,14 @@ abbrev mutual
   pub finished : PlainStatement → PlainStatement
   finished (emit first end) = emit first end
   finished (block b) = block (completed b)
-  finished (choice condition accept reject) = choice condition (completed accept) (completed reject)
+  finished (if_ condition accept reject) = if_ condition (completed accept) (completed reject)
   finished (switch selector cases) = switch selector (finished_cases cases)
-  finished (loop body again break_if) = loop body again break_if
+  finished (loop body continuing break_if) = loop body continuing break_if
   finished break = break
   finished continue = continue
   finished (return value) = return value
   finished kill = kill
-  finished (act a) = act a
+  finished (operation a) = operation a
   finished (call function arguments result) = call function arguments result
 
   pub finished_cases : PlainCases → PlainCases

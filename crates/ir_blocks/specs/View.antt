@@ -3,9 +3,9 @@ use Rattle.std.specs.Prelude.{◌≡◌, ◌↔◌, ℕ, Bool, List, [], ◌∷�
 use Rattle.std.specs.List.{All}
 use Rattle.ir_arena.specs.declared.span.Span.{Span}
 use Rattle.ir_kinds.specs.declared.values.SwitchValue.{SwitchValue}
-use Rattle.ir_blocks.specs.Plain.{control_barrier, memory_barrier, store, image_store, atomic, image_atomic, uniform_load, ray_query, ballot, collective, gather, cooperative_store, ray_pipeline, PlainStatement, emit, block, choice, switch, loop, break, continue, return, kill, act, call, PlainBlock, stop, next, PlainCases, no_case, case}
+use Rattle.ir_blocks.specs.Plain.{control_barrier, memory_barrier, store, image_store, atomic, image_atomic, uniform_load, ray_query, ballot, collective, gather, cooperative_store, ray_pipeline, PlainStatement, emit, block, if_, switch, loop, break, continue, return, kill, operation, call, PlainBlock, stop, next, PlainCases, no_case, case}
 use Rattle.ir_blocks.specs.Shapes.{Part, shape_of, part_of}
-use Rattle.ir_blocks.specs.Spans.{BlockSpans, spans, InnerSpans, no_statement, in_next, StatementSpans, no_block, in_block, in_sides, in_cases, in_turns, CaseSpans, no_more, in_case, spans_in, InStep}
+use Rattle.ir_blocks.specs.Spans.{BlockSpans, spans, InnerSpans, no_statement, in_next, StatementSpans, no_block, in_block, in_sides, in_cases, in_loop, CaseSpans, no_more, in_case, spans_in, InStep}
 use Rattle.ir_blocks.specs.declared.statements.Statement.{Statement}
 use Rattle.ir_blocks.specs.declared.statements.Statement.TheOpen.{Statement-F, Block-F, SwitchCase-F}
 use Rattle.ir_blocks.specs.declared.statements.Statement.TheFolds.{fold-Statement, fold-Block, fold-SwitchCase}
@@ -32,27 +32,27 @@ cases_of (c ∷ cs) = case c.value c.body c.falls (cases_of cs)
 abbrev pub statement_step : Statement-F PlainStatement PlainBlock PlainCase → PlainStatement
 statement_step (Statement-F.Emit range) = emit range.0 range.1
 statement_step (Statement-F.Block b) = block b
-statement_step (Statement-F.If condition accept reject) = choice condition accept reject
+statement_step (Statement-F.If condition accept reject) = if_ condition accept reject
 statement_step (Statement-F.Switch selector cases) = switch selector (cases_of cases.items)
 statement_step (Statement-F.Loop body continuing break_if) = loop body continuing break_if
 statement_step Statement-F.Break = break
 statement_step Statement-F.Continue = continue
 statement_step (Statement-F.Return value) = return value
 statement_step Statement-F.Kill = kill
-statement_step (Statement-F.ControlBarrier barrier) = act (control_barrier barrier)
-statement_step (Statement-F.MemoryBarrier barrier) = act (memory_barrier barrier)
-statement_step (Statement-F.Store pointer value) = act (store pointer value)
-statement_step (Statement-F.ImageStore image coordinate array_index value) = act (image_store image coordinate array_index value)
-statement_step (Statement-F.Atomic pointer fun value result) = act (atomic pointer fun value result)
-statement_step (Statement-F.ImageAtomic image coordinate array_index fun value) = act (image_atomic image coordinate array_index fun value)
-statement_step (Statement-F.WorkGroupUniformLoad pointer result) = act (uniform_load pointer result)
+statement_step (Statement-F.ControlBarrier barrier) = operation (control_barrier barrier)
+statement_step (Statement-F.MemoryBarrier barrier) = operation (memory_barrier barrier)
+statement_step (Statement-F.Store pointer value) = operation (store pointer value)
+statement_step (Statement-F.ImageStore image coordinate array_index value) = operation (image_store image coordinate array_index value)
+statement_step (Statement-F.Atomic pointer fun value result) = operation (atomic pointer fun value result)
+statement_step (Statement-F.ImageAtomic image coordinate array_index fun value) = operation (image_atomic image coordinate array_index fun value)
+statement_step (Statement-F.WorkGroupUniformLoad pointer result) = operation (uniform_load pointer result)
 statement_step (Statement-F.Call function arguments result) = call function arguments.items result
-statement_step (Statement-F.RayQuery query fun) = act (ray_query query fun)
-statement_step (Statement-F.SubgroupBallot result predicate) = act (ballot result predicate)
-statement_step (Statement-F.SubgroupCollectiveOperation op collective_op argument result) = act (collective op collective_op argument result)
-statement_step (Statement-F.SubgroupGather mode argument result) = act (gather mode argument result)
-statement_step (Statement-F.CooperativeStore target place) = act (cooperative_store target place)
-statement_step (Statement-F.RayPipelineFunction fun) = act (ray_pipeline fun)
+statement_step (Statement-F.RayQuery query fun) = operation (ray_query query fun)
+statement_step (Statement-F.SubgroupBallot result predicate) = operation (ballot result predicate)
+statement_step (Statement-F.SubgroupCollectiveOperation op collective_op argument result) = operation (collective op collective_op argument result)
+statement_step (Statement-F.SubgroupGather mode argument result) = operation (gather mode argument result)
+statement_step (Statement-F.CooperativeStore target place) = operation (cooperative_store target place)
+statement_step (Statement-F.RayPipelineFunction fun) = operation (ray_pipeline fun)
 
 abbrev pub block_step : Block-F PlainStatement PlainBlock PlainCase → PlainBlock
 block_step b = block_of b.body.items
@@ -88,7 +88,7 @@ abbrev pub statement_spans_step : Statement-F StatementSpans BlockSpans BlockSpa
 statement_spans_step (Statement-F.Block b) = in_block b
 statement_spans_step (Statement-F.If condition accept reject) = in_sides accept reject
 statement_spans_step (Statement-F.Switch selector cases) = in_cases (case_spans_of cases.items)
-statement_spans_step (Statement-F.Loop body continuing break_if) = in_turns body continuing
+statement_spans_step (Statement-F.Loop body continuing break_if) = in_loop body continuing
 statement_spans_step _ = no_block
 
 abbrev pub block_spans_step : Block-F StatementSpans BlockSpans BlockSpans → BlockSpans
@@ -140,22 +140,22 @@ InStepByStatements = (b : Block) → AllInStep b ↔ (IsInStep b × All InStepWi
 -- no block lies inside the statement
 abbrev pub HoldsNoBlock : PlainStatement → Type 0
 HoldsNoBlock (block body) = ⊥
-HoldsNoBlock (choice condition accept reject) = ⊥
+HoldsNoBlock (if_ condition accept reject) = ⊥
 HoldsNoBlock (switch selector cases) = ⊥
 HoldsNoBlock (loop body continuing break_if) = ⊥
 HoldsNoBlock _ = Unit {0}
 
 -- the statement steers nothing, computes no range and calls nothing
 abbrev pub IsAct : PlainStatement → Type 0
-IsAct (act a) = Unit {0}
+IsAct (operation a) = Unit {0}
 IsAct _ = ⊥
 
 -- the statement is an act of rays, of subgroups or of cooperative matrices
 abbrev pub IsSharedAct : PlainStatement → Type 0
-IsSharedAct (act (ray_query query fun)) = Unit {0}
-IsSharedAct (act (ballot result predicate)) = Unit {0}
-IsSharedAct (act (collective op collective_op argument result)) = Unit {0}
-IsSharedAct (act (gather mode argument result)) = Unit {0}
-IsSharedAct (act (cooperative_store target place)) = Unit {0}
-IsSharedAct (act (ray_pipeline fun)) = Unit {0}
+IsSharedAct (operation (ray_query query fun)) = Unit {0}
+IsSharedAct (operation (ballot result predicate)) = Unit {0}
+IsSharedAct (operation (collective op collective_op argument result)) = Unit {0}
+IsSharedAct (operation (gather mode argument result)) = Unit {0}
+IsSharedAct (operation (cooperative_store target place)) = Unit {0}
+IsSharedAct (operation (ray_pipeline fun)) = Unit {0}
 IsSharedAct _ = ⊥

@@ -2,7 +2,7 @@
 // types and the expressions.
 #![tactic(auto)]
 
-mod acts;
+mod operations;
 mod blocks;
 pub mod laws;
 mod returns;
@@ -11,7 +11,7 @@ mod span_iter;
 mod statements;
 mod terminator;
 
-pub use acts::{AtomicFunction, GatherMode, RayPipelineFunction, RayQueryFunction};
+pub use operations::{AtomicFunction, GatherMode, RayPipelineFunction, RayQueryFunction};
 pub use ir_expressions::{CooperativeData, Expression, ImageQuery, SampleLevel};
 pub use ir_types::{ArraySize, IrType, StructMember, TypeInner, key};
 pub use returns::{ensure_block_returns, put_returns, reserve_returns};

@@ -3,7 +3,7 @@ ghost use Rattle.std.specs.Prelude.{◌≡◌, map, IfOk};
 ghost use Rattle.ir_blocks.specs.View.{statement_view, block_view, case_view, statement_spans, block_spans, case_block_spans, HoldsNoBlock, IsAct, IsSharedAct};
 ghost use Rattle.ir_blocks.specs.Spans.{no_block};
 
-use crate::acts::{AtomicFunction, GatherMode, RayPipelineFunction, RayQueryFunction};
+use crate::operations::{AtomicFunction, GatherMode, RayPipelineFunction, RayQueryFunction};
 use ir_arena::handle::Handle;
 use ir_arena::range::Range;
 use ir_arena::span::Span;
@@ -271,12 +271,12 @@ impl Statement {
                 arguments: Vec::from_slice(alloc, arguments)?,
                 result: *result,
             }),
-            act => Ok(act.copy_act()),
+            operation => Ok(operation.copy_operation()),
         }
     }
 
     // An equal statement, where it steers nothing and holds no list.
-    fn copy_act(&self) -> Statement
+    fn copy_operation(&self) -> Statement
         requires { IsAct (statement_view self.now) }
         ensures statement { statement_view result ≡ statement_view self.now }
         ensures spans { statement_spans result ≡ no_block }
@@ -327,12 +327,12 @@ impl Statement {
                 pointer,
                 result: answer,
             },
-            _ => self.copy_shared_act(),
+            _ => self.copy_shared_operation(),
         }
     }
 
-    // An equal act of rays, of subgroups or of cooperative matrices.
-    fn copy_shared_act(&self) -> Statement
+    // An equal operation of rays, of subgroups or of cooperative matrices.
+    fn copy_shared_operation(&self) -> Statement
         requires { IsSharedAct (statement_view self.now) }
         ensures statement { statement_view result ≡ statement_view self.now }
         ensures spans { statement_spans result ≡ no_block }

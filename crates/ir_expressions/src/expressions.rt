@@ -212,7 +212,7 @@ pub enum Expression {
         /// The value.
         argument: Handle<key::Expression>,
     },
-    /// A function of numbers.
+    /// A math function.
     Math {
         /// The function.
         fun: MathFunction,

@@ -1,9 +1,9 @@
-//! Built-in functions of numbers.
+//! Built-in math functions.
 
 ghost use Rattle.std.specs.Prelude.{◌≡◌};
 ghost use Rattle.ir_kinds.specs.Maths.{argument_count};
 
-/// A built-in function of numbers (naga's `MathFunction`).
+/// A built-in math function (naga's `MathFunction`).
 #[derive(Clone, Copy, PartialEq, Eq, Debug)]
 pub enum MathFunction {
     /// Without sign.

@@ -10,7 +10,7 @@ use Rattle.ir_globals.specs.Plain.{PlainConstant, PlainOverride, PlainGlobal, Pl
 use Rattle.document_words.specs.Unions.{decoration_union}
 use Rattle.document_words.specs.Tables.{severities, standard_rules, conservative_depths, topologies, entry_stages, memory_decorations}
 use Rattle.document_forms.specs.Exact.{deepest, IsExact, FormOf}
-use Rattle.document_forms.specs.Find.{tagged_of}
+use Rattle.document_forms.specs.Decide.{tagged_of}
 use Rattle.document_forms.specs.Inverse.{map_some}
 use Rattle.document_forms.specs.KindLaws.{AreSound, kind_sound, tagged_complete}
 use Rattle.document_forms.specs.Forms.{a_number, a_handle, a_u32, a_text, a_word, a_set, maybe, a_list, ends, an_array, made, by_kind}

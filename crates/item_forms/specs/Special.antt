@@ -17,7 +17,7 @@ use Rattle.ir_globals.specs.Plain.{PlainSpecial}
 use Rattle.document_words.specs.Tables.{scalars}
 use Rattle.document_forms.specs.Exact.{deepest, IsExact, FormOf}
 use Rattle.document_forms.specs.Form.{AList}
-use Rattle.document_forms.specs.Find.{◌>>=◌, each, all_of, tagged_of}
+use Rattle.document_forms.specs.Decide.{◌>>=◌, each, all_of, tagged_of}
 use Rattle.document_forms.specs.Inverse.{bind_some, chosen, some_is}
 use Rattle.document_forms.specs.ListLaws.{list_exact}
 use Rattle.document_forms.specs.KindLaws.{AreSound, kind_sound, tagged_complete}

@@ -25,7 +25,7 @@ use Rattle.document_words.specs.Unions.{access_union}
 use Rattle.document_words.specs.Tables.{scalars, scalar_kinds, cooperative_roles, image_dimensions, storage_formats, interpolations, samplings, built_ins, spaces, storage_access}
 use Rattle.document_forms.specs.Exact.{deepest, IsExact, IsExactRow, FormOf, RowOf}
 use Rattle.document_forms.specs.Form.{AText, ABool, AWord, ASet, Ends, ◌▸◌, Tagged}
-use Rattle.document_forms.specs.Find.{◌>>=◌, or_else, word_in, first, end, tagged_of}
+use Rattle.document_forms.specs.Decide.{◌>>=◌, or_else, word_in, first, end, tagged_of}
 use Rattle.document_forms.specs.Inverse.{bind_some, map_some, chosen, guarded, some_is, is_word, as_str_some, first_some}
 use Rattle.document_forms.specs.PartLaws.{either_some, word_exact}
 use Rattle.document_forms.specs.RowLaws.{end_exact}

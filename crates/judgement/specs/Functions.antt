@@ -14,7 +14,7 @@ use Rattle.ir_expressions.specs.Plain.{PlainExpression, plain as computes}
 use Rattle.ir_expressions.specs.declared.expressions.Expression.TheVariants as computed
 use Rattle.ir_types.specs.declared.types.TypeInner.TheVariants as inner
 use Rattle.ir_types.specs.Plain.{PlainInner, plain, PlainType}
-use Rattle.ir_blocks.specs.Plain.{PlainStatement, emit, block, choice, switch, loop, break, continue, return, kill, act, call, PlainBlock, PlainCases, no_case, case}
+use Rattle.ir_blocks.specs.Plain.{PlainStatement, emit, block, if_, switch, loop, break, continue, return, kill, operation, call, PlainBlock, PlainCases, no_case, case}
 use Rattle.ir_items.specs.Plain.{PlainFunction, PlainModule}
 use Rattle.ir_items.specs.declared.functions.FunctionResult.{FunctionResult}
 use Rattle.ir_blocks.specs.Places.{Place, StandsAt}
@@ -101,14 +101,14 @@ ReturnOK m f (Some e) = (s : Scalar) × (scalar_at f e ≡ Some s) × (answer_of
 abbrev pub StatementOK : PlainModule → PlainFunction → PlainStatement → Type 0
 StatementOK m f (emit first end) = end ≤ first
 StatementOK m f (block b) = Unit {0}
-StatementOK m f (choice test accept reject) = IsCondition f test
+StatementOK m f (if_ test accept reject) = IsCondition f test
 StatementOK m f (switch selector cases) = SwitchOK f selector cases
 StatementOK m f (loop body continuing break_if) = IfSome break_if (IsCondition f)
 StatementOK m f break = Unit {0}
 StatementOK m f continue = Unit {0}
 StatementOK m f (return value) = ReturnOK m f value
 StatementOK m f kill = Unit {0}
-StatementOK m f (act a) = ⊥
+StatementOK m f (operation a) = ⊥
 StatementOK m f (call callee arguments result) = CallResultOK m callee result
 
 -- The arity of calls is asked under every set of flags, control and the rules of statements under BLOCKS. The type of

@@ -1,7 +1,7 @@
 -- What the handles of a module name, and when they are in order.
 use Rattle.std.specs.Prelude.{◌≡◌, ◌⊎◌, ℕ, ◌<◌, ◌≤◌, List, [], ◌∷◌, ◌++◌, map, length, Option, Some, slice_get}
 use Rattle.std.specs.Option.{option_to_list}
-use Rattle.ir_blocks.specs.Plain.{PlainStatement, emit, block, choice, switch, loop, break, continue, return, kill, act, call}
+use Rattle.ir_blocks.specs.Plain.{PlainStatement, emit, block, if_, switch, loop, break, continue, return, kill, operation, call}
 use Rattle.ir_items.specs.Plain.{PlainFunction, PlainModule}
 use Rattle.ir_items.specs.declared.functions.FunctionResult.{FunctionResult}
 use Rattle.ir_blocks.specs.Places.{Place, StandsAt}
@@ -23,14 +23,14 @@ pub data Target : Type 0 where
 abbrev pub named : PlainStatement → List Target
 named (emit first end) = range first end ∷ []
 named (block b) = []
-named (choice test accept reject) = expression test ∷ []
+named (if_ test accept reject) = expression test ∷ []
 named (switch selector cases) = expression selector ∷ []
 named (loop body continuing break_if) = map expression (option_to_list break_if)
 named break = []
 named continue = []
 named (return value) = map expression (option_to_list value)
 named kill = []
-named (act a) = []
+named (operation a) = []
 named (call callee arguments result) = function callee ∷ map expression (arguments ++ option_to_list result)
 
 -- Some statement of the function names the target.

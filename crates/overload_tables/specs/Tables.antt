@@ -1,4 +1,4 @@
--- The rules of each function of numbers, in order.
+-- The rules of each math function, in order.
 use Rattle.std.specs.Prelude.{List, [], ◌∷◌, ◌++◌, Option, Some, None, map}
 use Rattle.std.specs.List.{flat_map}
 use Rattle.ir_kinds.specs.declared.maths.MathFunction.{MathFunction}

@@ -1,4 +1,4 @@
-//! The rules of built-in functions of numbers: which types they take together, and what they give.
+//! The rules of built-in math functions: which types they take together, and what they give.
 #![tactic(auto)]
 
 pub mod laws;

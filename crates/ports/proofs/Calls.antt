@@ -4,7 +4,7 @@ use Rattle.std.proofs.KnownBytes.{Consumes-trans}
 use Rattle.std.proofs.lemmas.List.{take-append-le, length-take-le}
 use Rattle.std.specs.Io.KnownBytes.{Consumes}
 
--- the call filled `buf`, the front of a chunk, and the first n bytes of the chunk are taken
+-- the call filled `buf`, the prefix of a chunk, and the first n bytes of the chunk are taken
 pub Consumes-call : (a b c : Option (List ℕ)) (taken buf rest : List ℕ) (n : ℕ) → n ≤ length buf
     → Consumes a b taken → Consumes b c (take n buf) → Consumes a c (taken ++ take n (buf ++ rest))
 Consumes-call a b c taken buf rest n le before call =

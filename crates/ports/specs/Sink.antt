@@ -13,12 +13,12 @@ has_failed s = s.failed
 abbrev pub writer_of : {W : Type 0} → Sink W → W
 writer_of s = s.writer
 
--- The writer took a front of these bytes and nothing else, and not all of them.
+-- The writer took a prefix of these bytes and nothing else, and not all of them.
 pub record AppendsFront (old new : Option (List ℕ)) (bytes : List ℕ) : Type 0 where
-  pub front : List ℕ
+  pub prefix : List ℕ
   pub rest : List ℕ
-  pub whole : bytes ≡ front ++ rest
-  pub received : Appends old new front
+  pub whole : bytes ≡ prefix ++ rest
+  pub received : Appends old new prefix
   pub unfinished : 0 < length rest
 
 -- the call took nothing, was interrupted or failed

@@ -59,7 +59,7 @@ impl<W: WriteCall> Sink<W> {
         self.writer.write_once(bytes)
     }
 
-    /// One call of the writer: how many bytes it took from the front of `bytes`, which is at least one. Otherwise the
+    /// One call of the writer: how many bytes it took from the start of `bytes`, which is at least one. Otherwise the
     /// mark is set.
     fn write(&mut self, bytes: &[u8]) -> Result<usize, WriteFailed>
         ensures count { IfOk result (λ n. (0 < n) × (n ≤ length bytes.now)) }
@@ -90,7 +90,7 @@ impl<W: WriteCall> Sink<W> {
     /// # Errors
     ///
     /// [`WriteFailed`] at the first call that fails, is interrupted or takes nothing. It is not repeated, so that
-    /// only a front of `bytes` was written, perhaps none of them, and the mark is set.
+    /// only a prefix of `bytes` was written, perhaps none of them, and the mark is set.
     pub fn write_all(&mut self, bytes: &[u8]) -> Result<(), WriteFailed>
         ensures ok { OnOk result (Appends (W.contents (writer_of self.old))
             (W.contents (writer_of self.new)) bytes.now) }

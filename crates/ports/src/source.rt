@@ -76,7 +76,7 @@ impl<R> Source<R> {
 impl<R: ReadCall> Source<R> {
     ghost use Rattle.ports.specs.Source.{has_failed, reader_of, TakesAll, TakesFront, ReadsAll, ReadingFails, ReadingStops};
 
-    /// One call of the reader: how many bytes it put at the front of `buf`, or its own error, which sets the mark.
+    /// One call of the reader: how many bytes it put at the start of `buf`, or its own error, which sets the mark.
     ///
     /// No bytes are given at the end of the input, or where `buf` is empty.
     // Never inlined: LLVM is known to lose a test of the count for 0, as `take_all` makes it, where it stands in one

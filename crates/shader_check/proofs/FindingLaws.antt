@@ -17,7 +17,7 @@ use Rattle.judgement.specs.Handles.{HandlesOK}
 use Rattle.judgement.specs.Types.{TypeOK}
 use Rattle.judgement.specs.Functions.{FunctionOK}
 use Rattle.judgement.specs.Steps.{AllMeet, IsLeastFailing}
-use Rattle.shader_check.specs.Tests.{first_failing, function_in_order, function_ok, Widths, is_inner_ok}
+use Rattle.shader_check.specs.Decide.{first_failing, function_in_order, function_ok, Widths, is_inner_ok}
 use Rattle.shader_check.specs.Widths.{AreWidthsOf}
 use Rattle.shader_check.proofs.StepLaws.{all_pass, none_from_all, one_fails, first_failing-view}
 use Rattle.shader_check.proofs.HandleLaws.{refers_in_order, in_order_refers}

@@ -6,7 +6,7 @@ use Rattle.ir_flags.specs.declared.settings.TheConstants.ValidationFlags.{BLOCKS
 use Rattle.ir_items.specs.Plain.{PlainFunction, PlainModule}
 use Rattle.judgement.specs.Functions.{FunctionOK}
 use Rattle.shader_check.specs.Everywhere.{control_of_body, everywhere}
-use Rattle.shader_check.specs.Tests.{rule_ok, function_ok}
+use Rattle.shader_check.specs.Decide.{rule_ok, function_ok}
 use Rattle.shader_check.proofs.EverywhereLaws.{both_true, true_both}
 use Rattle.shader_check.proofs.RuleLaws.{arity_sound, arity_complete, rules_sound, rules_complete}
 

@@ -3,11 +3,11 @@ use Rattle.std.proofs.Common.{◌≡◌, inl, inr, ℕ, List, [], ◌∷◌, ◌
 use Rattle.ir_items.specs.declared.functions.FunctionResult.{FunctionResult}
 use borrow.Author.Tests.{ltb-true, lt-ltb, leb-true, le-leb}
 use Rattle.std.specs.Option.{option_to_list}
-use Rattle.ir_blocks.specs.Plain.{PlainStatement, emit, block, choice, switch, loop, break, continue, return, kill, act, call}
+use Rattle.ir_blocks.specs.Plain.{PlainStatement, emit, block, if_, switch, loop, break, continue, return, kill, operation, call}
 use Rattle.ir_items.specs.Plain.{PlainFunction, PlainModule}
 use Rattle.judgement.specs.Handles.{Has, Target, type, function, expression, range, named, Refers, IsInOrder}
 use Rattle.shader_check.specs.Everywhere.{control_of_body}
-use Rattle.shader_check.specs.Tests.{are_below, is_below, statement_in_order, function_in_order}
+use Rattle.shader_check.specs.Decide.{are_below, is_below, statement_in_order, function_in_order}
 use Rattle.shader_check.proofs.EverywhereLaws.{both_true, true_both, passes_at, passes_everywhere}
 
 module _ (m : PlainModule) (i : ℕ) (f : PlainFunction) where
@@ -27,16 +27,16 @@ module _ (m : PlainModule) (i : ℕ) (f : PlainFunction) where
       subst (IsInOrder m i f) h (leb-true first end p.0, leb-true end _ p.1)
   own_in_order (emit first end) e t (inr h) = absurd h
   own_in_order (block b) e t h = absurd h
-  own_in_order (choice test accept reject) e t (inl h) = subst (IsInOrder m i f) h (ltb-true test _ e)
-  own_in_order (choice test accept reject) e t (inr h) = absurd h
+  own_in_order (if_ test accept reject) e t (inl h) = subst (IsInOrder m i f) h (ltb-true test _ e)
+  own_in_order (if_ test accept reject) e t (inr h) = absurd h
   own_in_order (switch selector cases) e t (inl h) = subst (IsInOrder m i f) h (ltb-true selector _ e)
   own_in_order (switch selector cases) e t (inr h) = absurd h
-  own_in_order (loop body again break_if) e t h = operands_below [] break_if refl e t h
+  own_in_order (loop body continuing break_if) e t h = operands_below [] break_if refl e t h
   own_in_order break e t h = absurd h
   own_in_order continue e t h = absurd h
   own_in_order (return value) e t h = operands_below [] value refl e t h
   own_in_order kill e t h = absurd h
-  own_in_order (act a) e t h = absurd h
+  own_in_order (operation a) e t h = absurd h
   own_in_order (call callee arguments result) e t (inl h) =
       subst (IsInOrder m i f) h (ltb-true callee i (both_true _ _ (both_true _ _ e).0).0)
   own_in_order (call callee arguments result) e t (inr h) =
@@ -69,14 +69,14 @@ module _ (m : PlainModule) (i : ℕ) (f : PlainFunction) where
       let r = h (range first end) (inl refl) in
       true_both _ _ (le-leb first end r.0) (le-leb end _ r.1)
   in_order_own (block b) h = refl
-  in_order_own (choice test accept reject) h = lt-ltb test _ (h (expression test) (inl refl))
+  in_order_own (if_ test accept reject) h = lt-ltb test _ (h (expression test) (inl refl))
   in_order_own (switch selector cases) h = lt-ltb selector _ (h (expression selector) (inl refl))
-  in_order_own (loop body again break_if) h = (below_operands [] break_if h).1
+  in_order_own (loop body continuing break_if) h = (below_operands [] break_if h).1
   in_order_own break h = refl
   in_order_own continue h = refl
   in_order_own (return value) h = (below_operands [] value h).1
   in_order_own kill h = refl
-  in_order_own (act a) h = refl
+  in_order_own (operation a) h = refl
   in_order_own (call callee arguments result) h =
       let operands = below_operands arguments result (λ t g. h t (inr g)) in
       true_both _ _ (true_both _ _ (lt-ltb callee i (h (function callee) (inl refl))) operands.0) operands.1

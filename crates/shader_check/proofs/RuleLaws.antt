@@ -2,14 +2,14 @@
 use Rattle.std.proofs.Common.{◌≡◌, ℕ, List, [], ◌∷◌, length, Bool, true, true≢false, nat_eq, Option, Some, None, IfSome, is_none, slice_get, refl, sym, ap, subst, ◌∙◌}
 use borrow.Author.Tests.{leb-true, le-leb, eqb-true, eq-eqb}
 use Rattle.ir_kinds.specs.contracts.scalars.ScalarPartialEq.TheImpl as scalar
-use Rattle.ir_blocks.specs.Plain.{PlainStatement, emit, block, choice, switch, loop, break, continue, return, kill, act, call, PlainBlock}
+use Rattle.ir_blocks.specs.Plain.{PlainStatement, emit, block, if_, switch, loop, break, continue, return, kill, operation, call, PlainBlock}
 use Rattle.ir_items.specs.Plain.{PlainFunction, PlainModule}
-use Rattle.ir_blocks.specs.Shapes.{Exit, breaks, continues, returns, kills, exit_of, shape_of, Part, inner as nested, accepting, rejecting, case_at, turn, continuing}
+use Rattle.ir_blocks.specs.Shapes.{Exit, breaks, continues, returns, kills, exit_of, shape_of, Part, inner as nested, accepting, rejecting, case_at, loop_body, loop_continuing}
 use Rattle.ir_blocks.specs.Places.{Place, here, later, inside, condition, StandsAt}
 use Rattle.ir_blocks.specs.Control.{parts_around, breaks_in, continues_in, returns_in, may_leave, ControlOK}
 use Rattle.judgement.specs.Functions.{scalar_at, answer_of, argument_count, ArityOK, CallResultOK, IsCondition, ReturnOK, StatementOK}
 use Rattle.shader_check.specs.Everywhere.{PlainControl, enter, control_at, control_of_body, everywhere}
-use Rattle.shader_check.specs.Tests.{if_some, arity_ok, is_boolean, is_condition, return_ok, call_result_ok, statement_ok, may_leave_by, rule_ok}
+use Rattle.shader_check.specs.Decide.{if_some, arity_ok, is_boolean, is_condition, return_ok, call_result_ok, statement_ok, may_leave_by, rule_ok}
 use Rattle.shader_check.proofs.EverywhereLaws.{both_true, true_both, passes_at, passes_everywhere}
 use Rattle.shader_check.proofs.SwitchLaws.{some_passes_some, boolean_kind, switch_sound, switch_complete}
 use Rattle.shader_check.proofs.ValueEquality.{scalar_eq}
@@ -39,14 +39,14 @@ arity_complete m b h = passes_everywhere (λ _ s. arity_ok m s) control_of_body 
     own : (p : Place) (s : PlainStatement) → StandsAt b p s → arity_ok m s ≡ true
     own p (emit first end) at = refl
     own p (block c) at = refl
-    own p (choice test accept reject) at = refl
+    own p (if_ test accept reject) at = refl
     own p (switch selector cases) at = refl
-    own p (loop body again break_if) at = refl
+    own p (loop body continuing break_if) at = refl
     own p break at = refl
     own p continue at = refl
     own p (return value) at = refl
     own p kill at = refl
-    own p (act a) at = refl
+    own p (operation a) at = refl
     own p (call callee arguments result) at =
         at_if_some (λ g. nat_eq (length arguments) (argument_count g)) (slice_get m.functions callee) (λ f found. eq-eqb _ _ (h p callee arguments result f at found))
 
@@ -61,8 +61,8 @@ enter_is nested outer = refl
 enter_is accepting outer = refl
 enter_is rejecting outer = refl
 enter_is (case_at k) outer = refl
-enter_is turn outer = refl
-enter_is continuing outer = refl
+enter_is loop_body outer = refl
+enter_is loop_continuing outer = refl
 
 control_is : (p : Place) (outer : List Part) → control_at (control_of outer) p ≡ control_of (parts_around outer p)
 control_is here outer = refl
@@ -120,27 +120,27 @@ module _ (m : PlainModule) (f : PlainFunction) where
   statement_sound : (s : PlainStatement) → statement_ok m f s ≡ true → StatementOK m f s
   statement_sound (emit first end) h = leb-true end first h
   statement_sound (block b) h = tt
-  statement_sound (choice test accept reject) h = condition_sound f test h
+  statement_sound (if_ test accept reject) h = condition_sound f test h
   statement_sound (switch selector cases) h = switch_sound f selector cases h
-  statement_sound (loop body again break_if) h = if_condition_sound f break_if h
+  statement_sound (loop body continuing break_if) h = if_condition_sound f break_if h
   statement_sound break h = tt
   statement_sound continue h = tt
   statement_sound (return value) h = return_sound m f value h
   statement_sound kill h = tt
-  statement_sound (act a) h = let k = h in cc
+  statement_sound (operation a) h = let k = h in cc
   statement_sound (call callee arguments result) h = result_sound m callee result h
 
   statement_complete : (s : PlainStatement) → StatementOK m f s → statement_ok m f s ≡ true
   statement_complete (emit first end) h = le-leb end first h
   statement_complete (block b) h = refl
-  statement_complete (choice test accept reject) h = condition_complete f test h
+  statement_complete (if_ test accept reject) h = condition_complete f test h
   statement_complete (switch selector cases) h = switch_complete f selector cases h
-  statement_complete (loop body again break_if) h = if_condition_complete f break_if h
+  statement_complete (loop body continuing break_if) h = if_condition_complete f break_if h
   statement_complete break h = refl
   statement_complete continue h = refl
   statement_complete (return value) h = return_complete m f value h
   statement_complete kill h = refl
-  statement_complete (act a) h = absurd h
+  statement_complete (operation a) h = absurd h
   statement_complete (call callee arguments result) h = result_complete m callee result h
 
   pub rules_sound : (b : PlainBlock) → everywhere (rule_ok m f) control_of_body b ≡ true

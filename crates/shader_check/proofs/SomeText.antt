@@ -13,7 +13,7 @@ use Rattle.ir_items.proofs.Returned.{returned_by_bodies}
 use Rattle.document_reader.specs.Plain.{PlainDocument}
 use Rattle.document_reader.specs.Distinct.{AreDistinct}
 use Rattle.document_within.specs.Scope.{IsWithin}
-use Rattle.document_within.specs.Tests.{plain_module}
+use Rattle.document_within.specs.Decide.{plain_module}
 use Rattle.document_within.proofs.ScopeLaws.{module_sound, module_complete}
 use Rattle.document_reader.specs.Form.{Reads}
 use Rattle.document_reader.proofs.Candidates.{IsCandidate, candidate}
@@ -25,7 +25,7 @@ use Rattle.judgement.specs.Text.{text_of}
 use Rattle.judgement.specs.declared.finding.Step.TheVariants.{«Type», Function}
 use Rattle.judgement.specs.declared.finding.Finding.{Finding}
 use Rattle.judgement.specs.declared.finding.Finding.TheVariants.{Accepted, RefusedDocument, RefusedHandles, Refused}
-use Rattle.shader_check.specs.Tests.{first_failing, function_in_order, function_ok, Widths, is_inner_ok}
+use Rattle.shader_check.specs.Decide.{first_failing, function_in_order, function_ok, Widths, is_inner_ok}
 use Rattle.shader_check.specs.Theorem.{Judged, SomeText}
 use Rattle.shader_check.specs.Widths.{AreWidthsOf}
 use Rattle.shader_check.proofs.Decided.{has, distinct_or_not}

@@ -4,7 +4,7 @@ use Rattle.std.specs.List.{enumerate_from}
 use Rattle.ir_arena.specs.Handles.{handles_from}
 use Rattle.ir_arena.specs.declared.span.Span.{Span}
 use Rattle.ir_globals.specs.View.{values_of}
-use Rattle.shader_check.specs.Tests.{first_failing}
+use Rattle.shader_check.specs.Decide.{first_failing}
 
 pub chosen : {A : Type 0} (b : Bool) (x y z : A) → cond b x y ≡ z → ((b ≡ true) × (x ≡ z)) ⊎ ((b ≡ false) × (y ≡ z))
 chosen true x y z e = inl (refl, e)

@@ -10,7 +10,7 @@ use Rattle.ir_kinds.specs.declared.values.SwitchValue.TheVariants.{I32, U32, Def
 use Rattle.ir_blocks.specs.Plain.{PlainCases, no_case, case}
 use Rattle.ir_items.specs.Plain.{PlainFunction}
 use Rattle.judgement.specs.Functions.{scalar_at, IsInteger, case_values, FitsKind, SwitchOK}
-use Rattle.shader_check.specs.Tests.{some_passes, is_boolean, is_sint, is_uint, fits_kind, values_fit, has_value, values_differ, switch_ok}
+use Rattle.shader_check.specs.Decide.{some_passes, is_boolean, is_sint, is_uint, fits_kind, values_fit, has_value, values_differ, switch_ok}
 use Rattle.shader_check.proofs.EverywhereLaws.{both_true, true_both}
 use Rattle.shader_check.proofs.ValueEquality.{value_eq}
 

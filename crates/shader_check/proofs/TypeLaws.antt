@@ -8,7 +8,7 @@ use Rattle.ir_kinds.specs.declared.scalars.ScalarKind.TheVariants.{Sint, Uint, F
 use Rattle.ir_types.specs.Plain.{PlainInner, struct, plain}
 use Rattle.ir_types.specs.declared.types.TypeInner.TheVariants as inner
 use Rattle.judgement.specs.Types.{IsWidthOK, IsScalarOK, IsInnerOK}
-use Rattle.shader_check.specs.Tests.{Widths, is_width_ok, is_scalar_ok, is_inner_ok}
+use Rattle.shader_check.specs.Decide.{Widths, is_width_ok, is_scalar_ok, is_inner_ok}
 use Rattle.shader_check.specs.Widths.{AreWidthsOf}
 use Rattle.shader_check.proofs.StepLaws.{chosen}
 

@@ -16,7 +16,7 @@ use Rattle.ir_blocks.specs.View.{PlainCase, case_view, cases_of, statement_step,
 use Rattle.ir_blocks.specs.declared.statements.Statement.TheFolds.{fold_out-SwitchCase}
 use Rattle.ir_blocks.specs.declared.statements.SwitchCase.{SwitchCase}
 use Rattle.judgement.specs.Functions.{case_values}
-use Rattle.shader_check.specs.Tests.{values_differ}
+use Rattle.shader_check.specs.Decide.{values_differ}
 use Rattle.shader_check.specs.Values.{value_key}
 use Rattle.shader_check.proofs.SwitchLaws.{contains_cons, contains_first, contains_later, differ_sound, differ_complete}
 

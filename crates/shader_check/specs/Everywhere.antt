@@ -1,7 +1,7 @@
 -- A test of statements, made wherever one stands in a body.
 use Rattle.std.specs.Prelude.{Bool, true, false, ◌&&◌}
-use Rattle.ir_blocks.specs.Plain.{PlainStatement, emit, block, choice, switch, loop, break, continue, return, kill, act, call, PlainBlock, stop, next, PlainCases, no_case, case}
-use Rattle.ir_blocks.specs.Shapes.{Part, inner, accepting, rejecting, case_at, turn, continuing}
+use Rattle.ir_blocks.specs.Plain.{PlainStatement, emit, block, if_, switch, loop, break, continue, return, kill, operation, call, PlainBlock, stop, next, PlainCases, no_case, case}
+use Rattle.ir_blocks.specs.Shapes.{Part, inner, accepting, rejecting, case_at, loop_body, loop_continuing}
 use Rattle.ir_blocks.specs.Places.{Place, here, later, inside, condition}
 
 -- How a statement may leave its block at a place.
@@ -16,8 +16,8 @@ enter inner c = c
 enter accepting c = c
 enter rejecting c = c
 enter (case_at k) c = record { breaks = true; continues = c.continues; returns = c.returns }
-enter turn c = record { breaks = true; continues = true; returns = c.returns }
-enter continuing c = record { breaks = false; continues = false; returns = false }
+enter loop_body c = record { breaks = true; continues = true; returns = c.returns }
+enter loop_continuing c = record { breaks = false; continues = false; returns = false }
 
 -- at a place of a body
 abbrev pub control_at : PlainControl → Place → PlainControl
@@ -39,14 +39,14 @@ abbrev mutual
   pub in_statement : (PlainControl → PlainStatement → Bool) → PlainControl → PlainStatement → Bool
   in_statement ok c (emit first end) = ok c (emit first end)
   in_statement ok c (block b) = ok c (block b) && everywhere ok c b
-  in_statement ok c (choice test accept reject) = ok c (choice test accept reject) && (everywhere ok c accept && everywhere ok c reject)
+  in_statement ok c (if_ test accept reject) = ok c (if_ test accept reject) && (everywhere ok c accept && everywhere ok c reject)
   in_statement ok c (switch selector cases) = ok c (switch selector cases) && in_cases ok (enter (case_at 0) c) cases
-  in_statement ok c (loop body again break_if) = ok c (loop body again break_if) && (everywhere ok (enter turn c) body && everywhere ok (enter continuing c) again)
+  in_statement ok c (loop body continuing break_if) = ok c (loop body continuing break_if) && (everywhere ok (enter loop_body c) body && everywhere ok (enter loop_continuing c) continuing)
   in_statement ok c break = ok c break
   in_statement ok c continue = ok c continue
   in_statement ok c (return value) = ok c (return value)
   in_statement ok c kill = ok c kill
-  in_statement ok c (act a) = ok c (act a)
+  in_statement ok c (operation a) = ok c (operation a)
   in_statement ok c (call function arguments result) = ok c (call function arguments result)
 
   pub in_cases : (PlainControl → PlainStatement → Bool) → PlainControl → PlainCases → Bool

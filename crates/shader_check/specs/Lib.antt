@@ -1,6 +1,6 @@
 pub mod Everywhere
 pub mod Control
-pub mod Tests
+pub mod Decide
 pub mod Widths
 pub mod Values
 pub mod Theorem

@@ -3,7 +3,7 @@ use Rattle.std.specs.Prelude.{◌↔◌, IsTrue}
 use Rattle.ir_flags.specs.Sets.{Has}
 use Rattle.ir_flags.specs.declared.settings.Capabilities.{Capabilities}
 use Rattle.ir_flags.specs.declared.settings.TheConstants.Capabilities.{SHADER_INT16, SHADER_INT64, SHADER_FLOAT16, FLOAT64}
-use Rattle.shader_check.specs.Tests.{Widths}
+use Rattle.shader_check.specs.Decide.{Widths}
 use Rattle.shader_check.specs.declared.types.Widths.{Widths as WidthsOf}
 
 abbrev pub widths_view : WidthsOf → Widths

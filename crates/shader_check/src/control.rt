@@ -1,6 +1,6 @@
 // How a statement may leave its block.
 ghost use Rattle.std.specs.Prelude.{◌≡◌};
-ghost use Rattle.ir_blocks.specs.Shapes.{case_at, turn, continuing};
+ghost use Rattle.ir_blocks.specs.Shapes.{case_at, loop_body, loop_continuing};
 ghost use Rattle.shader_check.specs.Everywhere.{enter, control_of_body};
 
 /// How a statement may leave its block at a place: by the nearest enclosing loop or switch, and whether a continuing
@@ -34,7 +34,7 @@ impl Control {
 
     /// In the body of a loop that stands at this place.
     pub fn in_turn(self) -> Control
-        ensures { control_view result ≡ enter turn (control_view self) }
+        ensures { control_view result ≡ enter loop_body (control_view self) }
     {
         Control {
             breaks: true,
@@ -45,7 +45,7 @@ impl Control {
 
     /// In the continuing part of a loop that stands at this place.
     pub fn in_continuing(self) -> Control
-        ensures { control_view result ≡ enter continuing (control_view self) }
+        ensures { control_view result ≡ enter loop_continuing (control_view self) }
     {
         Control {
             breaks: false,

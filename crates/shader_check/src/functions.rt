@@ -8,7 +8,7 @@ ghost use Rattle.ir_items.specs.View.{function_view, module_view};
 ghost use Rattle.judgement.specs.Functions.{scalar_at, answer_of, expression_scalar, inner_scalar, falls_at_end};
 ghost use Rattle.judgement.specs.Handles.{HandlesOK};
 ghost use Rattle.shader_check.specs.Values.{value_key};
-ghost use Rattle.shader_check.specs.Tests.{first_failing, is_sint, is_uint, is_condition, fits_kind, values_fit, has_value, values_differ, switch_ok, return_ok, call_result_ok, function_ok};
+ghost use Rattle.shader_check.specs.Decide.{first_failing, is_sint, is_uint, is_condition, fits_kind, values_fit, has_value, values_differ, switch_ok, return_ok, call_result_ok, function_ok};
 
 use crate::control::Control;
 use crate::walk::{StatementTest, everywhere};
@@ -224,7 +224,7 @@ struct ArityTest<'a> {
 
 impl StatementTest for ArityTest<'_> {
     ghost use Rattle.ir_items.specs.View.{module_view};
-    ghost use Rattle.shader_check.specs.Tests.{arity_ok};
+    ghost use Rattle.shader_check.specs.Decide.{arity_ok};
 
     ghost test = { λ t _ s. arity_ok (module_view t.«module».now) s };
 
@@ -279,7 +279,7 @@ struct RuleTest<'a> {
 
 impl StatementTest for RuleTest<'_> {
     ghost use Rattle.ir_items.specs.View.{module_view, function_view};
-    ghost use Rattle.shader_check.specs.Tests.{rule_ok};
+    ghost use Rattle.shader_check.specs.Decide.{rule_ok};
 
     ghost test = { λ t c s. rule_ok (module_view t.«module».now) (function_view t.function.now) c s };
 

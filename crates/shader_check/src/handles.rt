@@ -2,7 +2,7 @@
 ghost use Rattle.std.specs.Prelude.{◌≡◌, length, is_none, IfOk};
 ghost use Rattle.ir_arena.specs.Handles.{handles_from};
 ghost use Rattle.ir_items.specs.View.{function_view};
-ghost use Rattle.shader_check.specs.Tests.{first_failing, are_below, is_below, statement_in_order, function_in_order};
+ghost use Rattle.shader_check.specs.Decide.{first_failing, are_below, is_below, statement_in_order, function_in_order};
 
 use crate::control::Control;
 use crate::walk::{StatementTest, everywhere};
@@ -38,7 +38,7 @@ struct HandleTest {
 }
 
 impl StatementTest for HandleTest {
-    ghost use Rattle.shader_check.specs.Tests.{statement_in_order};
+    ghost use Rattle.shader_check.specs.Decide.{statement_in_order};
 
     ghost test = { λ t _ s. statement_in_order t.functions t.expressions s };
 

@@ -3,7 +3,7 @@ ghost use Rattle.std.specs.Prelude.{◌≡◌, ◌↔◌, IsTrue};
 ghost use Rattle.ir_flags.specs.Sets.{Has};
 ghost use Rattle.ir_arena.specs.Handles.{handles_from};
 ghost use Rattle.ir_types.specs.Plain.{inner_view, type_view};
-ghost use Rattle.shader_check.specs.Tests.{first_failing, is_width_ok, is_scalar_ok, is_inner_ok};
+ghost use Rattle.shader_check.specs.Decide.{first_failing, is_width_ok, is_scalar_ok, is_inner_ok};
 ghost use Rattle.shader_check.specs.Widths.{widths_view, AreWidthsOf};
 
 use bitflags::Flags;

@@ -1,6 +1,6 @@
 //! The typing of a shader's expressions from one place: the types that expressions are given as and their canonical
 //! forms of `typing_forms`, what types are built of and which of them are equivalent of `typing_rules` and
-//! `typing_compare`, layouts of types and kinds of expressions of `typing_layout`, the rules of functions of numbers of
+//! `typing_compare`, layouts of types and kinds of expressions of `typing_layout`, the rules of math functions of
 //! `overload_tables`, sets of scalars and of shapes of `constructor_sets`, overload sets of `typing_overloads`, what rules
 //! give in a module of `typing_conclusions`, and the types of expressions of `typing_resolve`, which are those that
 //! `spec_expressions` defines.

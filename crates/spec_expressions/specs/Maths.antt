@@ -1,4 +1,4 @@
--- Functions of numbers, by their tables of rules.
+-- Math functions, by their tables of rules.
 use Rattle.std.specs.Prelude.{ℕ, suc, ◌==◌, List, [], ◌∷◌, Option, Some, None, Result, Err, option_map, ok_or, filter, length, slice_get, if◌then◌else◌}
 use Rattle.ir_kinds.specs.Maths.{argument_count}
 use Rattle.ir_kinds.specs.declared.maths.MathFunction.{MathFunction}

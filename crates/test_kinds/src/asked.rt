@@ -1,4 +1,4 @@
-// Asks the overload sets of all functions of numbers what data/overloads.json asks, and tells which answers are not those
+// Asks the overload sets of all math functions what data/overloads.json asks, and tells which answers are not those
 // that are known.
 //
 // A line of the data file is `["rules", function, [rule..]]`, the rules of a function in order, or

@@ -41,15 +41,15 @@ const fn gives(arguments: Arguments, value: ValueType) -> Option<Rule> {
     })
 }
 
-// Whether the rule that is preferred after these arguments is the due one.
+// Whether the rule that is preferred after these arguments is the expected one.
 fn prefers(
     alloc: Global,
     function: MathFunction,
     arguments: &[(usize, ValueType)],
-    due: Option<Rule>,
+    expected: Option<Rule>,
 ) -> Result<bool, AllocError> {
     let set = after(alloc, function, arguments)?;
-    Ok(preferred(&set) == due)
+    Ok(preferred(&set) == expected)
 }
 
 // The same among those without abstract arguments.
@@ -57,10 +57,10 @@ fn prefers_concrete(
     alloc: Global,
     function: MathFunction,
     arguments: &[(usize, ValueType)],
-    due: Option<Rule>,
+    expected: Option<Rule>,
 ) -> Result<bool, AllocError> {
     let set = after(alloc, function, arguments)?;
-    Ok(preferred(&set.concrete_only()) == due)
+    Ok(preferred(&set.concrete_only()) == expected)
 }
 
 fn rows_of_one(alloc: Global) -> Result<bool, AllocError> {
@@ -136,7 +136,7 @@ fn cloned(set: &AnyOverloadSet, alloc: Global) -> Result<usize, AllocError> {
     Ok(same.overload_list(alloc)?.len())
 }
 
-// Whether the types that are asked for at a third place are the due ones.
+// Whether the types that are asked for at a third place are the expected ones.
 fn asked_third(set: &AnyOverloadSet, alloc: Global) -> Result<bool, AllocError> {
     let asked = set.allowed_args(alloc, 2)?;
     Ok(asked.len() == 28 && asked.first() == Some(&one(Scalar::ABSTRACT_FLOAT)))
@@ -191,6 +191,6 @@ pub fn every_call(rt: &HostRuntime) -> Result<()> {
     ensure!(rows_of_more(rt.alloc())?, "functions of more");
     ensure!(of_mix(rt.alloc())?, "all rules of a function");
     ensure!(nothing_of_mix(rt.alloc())?, "rules that nothing leaves");
-    println!(rt; "each call answers what is due")?;
+    println!(rt; "each call answers what is expected")?;
     Ok(())
 }

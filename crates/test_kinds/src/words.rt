@@ -1,4 +1,4 @@
-// Address spaces, images, bindings, stages and functions of numbers.
+// Address spaces, images, bindings, stages and math functions.
 use ir_flags::StorageAccess;
 use ir_kinds::{
     AddressSpace, Binding, BuiltIn, ImageClass, MathFunction, MeshOutputTopology, Scalar,

@@ -66,7 +66,7 @@ impl Call {
     }
 
     /// What the block holds where it was not.
-    fn due(self, alloc: Global) -> Result<Block, AllocError> {
+    fn expected(self, alloc: Global) -> Result<Block, AllocError> {
         match self {
             Call::Push | Call::Extend => block(alloc, &FEW, &[9]),
             Call::ExtendBlock | Call::Append => block(alloc, &FEW, &MANY),
@@ -104,13 +104,13 @@ fn is_enough(
     call: Call,
     step: usize,
     before: &Pair,
-    due: &Block,
+    expected: &Block,
 ) -> Result<bool, Fail> {
     let mut subjects = blocks(alloc)?;
     let refused = is_refused(alloc, call, step, &mut subjects)?;
     if refused && subjects.few == before.few && subjects.many == before.many {
         Ok(false)
-    } else if !refused && subjects.few == *due {
+    } else if !refused && subjects.few == *expected {
         Ok(true)
     } else {
         Err(Fail::new("another block came"))
@@ -120,9 +120,9 @@ fn is_enough(
 // Makes a call with more memory at each step. Answers how many steps were refused it.
 fn refusals(alloc: Global, call: Call) -> Result<usize, Fail> {
     let before = blocks(alloc)?;
-    let due = call.due(alloc)?;
+    let expected = call.expected(alloc)?;
     for step in 0..MOST_STEPS {
-        if is_enough(alloc, call, step, &before, &due)? {
+        if is_enough(alloc, call, step, &before, &expected)? {
             return Ok(step);
         }
     }

@@ -5,9 +5,9 @@ use std::process::Abort;
 use std::test::Fail;
 use test_support::hog::Hog;
 
-/// Ends the test where something is not what is due.
-pub fn same<T: PartialEq + Debug + Drop>(rt: &impl Abort, is: T, due: T) {
-    assert_eq!(rt; is, due);
+/// Ends the test where something is not what is expected.
+pub fn same<T: PartialEq + Debug + Drop>(rt: &impl Abort, is: T, expected: T) {
+    assert_eq!(rt; is, expected);
 }
 
 /// Ends the test where memory was refused no more often than this.

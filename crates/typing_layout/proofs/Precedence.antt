@@ -32,7 +32,7 @@ pub all_precede : (entries : List (Expression × Span)) (place : ℕ) → length
 all_precede entries place le before handle e there =
     before.each handle e (let lt : handle < length (map expression_view (map value_of_entry entries)) = slice_get_within _ handle e there in omega (arith, lt, many_expressions entries)) there
 
--- ---- the arguments of a function of numbers
+-- ---- the arguments of a math function
 
 all_first : (n a : ℕ) (xs : List ℕ) → All (λ operand. operand < n) (a ∷ []) → All (λ operand. operand < n) xs → All (λ operand. operand < n) (a ∷ xs)
 all_first n a xs first rest zero d lt = first 0 d (omega arith)

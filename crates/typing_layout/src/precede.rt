@@ -27,7 +27,7 @@ fn is_below(operand: Option<Handle<key::Expression>>, place: usize) -> bool
     }
 }
 
-// Whether the arguments of a function of numbers come before a place.
+// Whether the arguments of a math function come before a place.
 fn arguments_below(
     arg: Handle<key::Expression>,
     arg1: Option<Handle<key::Expression>>,

@@ -77,7 +77,7 @@ fn optional_kind(
     }
 }
 
-// The latest of the kinds of the arguments of a function of numbers.
+// The latest of the kinds of the arguments of a math function.
 #[tactic(auto, using(crate::proofs::Latest::latest_of_two, crate::proofs::Latest::all_left, crate::proofs::Latest::all_right))]
 fn math_kind(
     kinds: &[ExpressionKind],

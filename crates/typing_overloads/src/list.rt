@@ -3,7 +3,7 @@
 ghost use Rattle.std.specs.Prelude.{◌≡◌, IfOk};
 
 use crate::overload_set::OverloadSet;
-use crate::rule_lists::{accepting, asked_for, concrete, fewest, most};
+use crate::rule_lists::{accepting, asked_for, concrete, min_arity, max_arity};
 use ir_types::TypeInner;
 use overload_tables::{Rule, ValueType};
 use std::alloc::{AllocError, Global};
@@ -57,11 +57,11 @@ impl OverloadSet for List {
     }
 
     fn min_arguments(&self) -> usize {
-        fewest(self.rules.as_slice(), self.most_preferred().arguments.len())
+        min_arity(self.rules.as_slice(), self.most_preferred().arguments.len())
     }
 
     fn max_arguments(&self) -> usize {
-        most(self.rules.as_slice(), self.most_preferred().arguments.len())
+        max_arity(self.rules.as_slice(), self.most_preferred().arguments.len())
     }
 
     fn arg(&self, alloc: Global, i: usize, ty: &TypeInner) -> Result<Self, AllocError> {

@@ -78,7 +78,7 @@ impl Product {
     }
 
     /// The least of a number and the numbers of the rules' arguments.
-    pub fn fewest(self, found: usize) -> usize
+    pub fn min_arity(self, found: usize) -> usize
         ensures { result ≡ fold (λ n r. min n (arity r)) found (rules_of self) }
     {
         match self.first() {
@@ -88,7 +88,7 @@ impl Product {
     }
 
     /// The greatest of a number and the numbers of the rules' arguments.
-    pub fn most(self, found: usize) -> usize
+    pub fn max_arity(self, found: usize) -> usize
         ensures { result ≡ fold (λ n r. max n (arity r)) found (rules_of self) }
     {
         match self.first() {

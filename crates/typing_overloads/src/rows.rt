@@ -1,4 +1,4 @@
-//! The table of the functions of numbers, a row for each.
+//! The table of the math functions, a row for each.
 
 ghost use Rattle.std.specs.Prelude.{◌≡◌};
 ghost use Rattle.typing_overloads.specs.Products.{rules_of};

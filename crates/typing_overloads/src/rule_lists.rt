@@ -40,7 +40,7 @@ pub(crate) fn concrete(rules: Vec<Rule>) -> Vec<Rule>
 }
 
 /// The least of a number and the numbers of the rules' arguments.
-pub(crate) fn fewest(rules: &[Rule], found: usize) -> usize
+pub(crate) fn min_arity(rules: &[Rule], found: usize) -> usize
     ensures { result ≡ fold (λ n r. min n (arity r)) found rules.now }
 {
     let mut least = found;
@@ -51,7 +51,7 @@ pub(crate) fn fewest(rules: &[Rule], found: usize) -> usize
 }
 
 /// The greatest of a number and the numbers of the rules' arguments.
-pub(crate) fn most(rules: &[Rule], found: usize) -> usize
+pub(crate) fn max_arity(rules: &[Rule], found: usize) -> usize
     ensures { result ≡ fold (λ n r. max n (arity r)) found rules.now }
 {
     let mut greatest = found;

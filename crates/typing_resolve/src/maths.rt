@@ -1,4 +1,4 @@
-//! Functions of numbers, by their overload sets.
+//! Math functions, by their overload sets.
 
 ghost use Rattle.std.specs.Prelude.{◌≡◌, IfOk, Some};
 ghost use Rattle.ir_types.specs.Plain.{inner_view};

@@ -50,7 +50,7 @@ fn one(first: Handle<key::Expression>) -> Operands
     }
 }
 
-// Those of a function of numbers.
+// Those of a math function.
 fn math_operands(
     first: Handle<key::Expression>,
     second: Option<Handle<key::Expression>>,

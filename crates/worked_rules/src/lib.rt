@@ -7,8 +7,8 @@ ghost use Rattle.std.specs.Prelude.{◌≡◌, [], ◌∷◌, None, Some, true, 
 ghost use Rattle.ir_flags.specs.declared.settings.TheConstants.Capabilities.{SHADER_FLOAT16};
 ghost use Rattle.ir_kinds.specs.declared.scalars.ScalarKind.TheVariants.{Float, Uint, Bool as Boolean, AbstractInt};
 ghost use Rattle.ir_kinds.specs.declared.values.SwitchValue.TheVariants.{U32, Default};
-ghost use Rattle.ir_blocks.specs.Plain.{emit, block, choice, switch, loop, break, return, kill, call, stop, next, no_case, case};
-ghost use Rattle.ir_blocks.specs.Shapes.{breaks, continues, returns, kills, inner, case_at, turn, continuing};
+ghost use Rattle.ir_blocks.specs.Plain.{emit, block, if_, switch, loop, break, return, kill, call, stop, next, no_case, case};
+ghost use Rattle.ir_blocks.specs.Shapes.{breaks, continues, returns, kills, inner, case_at, loop_body, loop_continuing};
 ghost use Rattle.ir_blocks.specs.Control.{may_leave};
 ghost use Rattle.ir_blocks.specs.Tails.{completed};
 ghost use Rattle.judgement.specs.Functions.{falls_at_end, case_values};
@@ -32,7 +32,7 @@ pub fn references()
     ensures of_a_call { named (call 1 (0 ∷ 2 ∷ []) (Some 3)) ≡ function 1 ∷ expression 0 ∷ expression 2 ∷ expression 3 ∷ [] }
     ensures of_a_plain_call { named (call 7 [] None) ≡ function 7 ∷ [] }
     ensures of_a_block { named (block (next (call 1 [] None) stop)) ≡ [] }
-    ensures of_an_if { named (choice 4 (next (return (Some 1)) stop) stop) ≡ expression 4 ∷ [] }
+    ensures of_an_if { named (if_ 4 (next (return (Some 1)) stop) stop) ≡ expression 4 ∷ [] }
     ensures of_a_loop { named (loop stop stop (Some 2)) ≡ expression 2 ∷ [] }
     ensures of_a_return { named (return (Some 5)) ≡ expression 5 ∷ [] }
     ensures of_an_emit { named (emit 1 3) ≡ range 1 3 ∷ [] }
@@ -53,13 +53,13 @@ pub fn control()
     ensures break_in_a_body { may_leave breaks [] ≡ false }
     ensures break_in_a_case { may_leave breaks (case_at 0 ∷ []) ≡ true }
     ensures continue_in_a_case { may_leave continues (case_at 0 ∷ []) ≡ false }
-    ensures continue_in_a_case_in_a_loop { may_leave continues (case_at 1 ∷ turn ∷ []) ≡ true }
-    ensures break_in_a_block_in_a_loop { may_leave breaks (inner ∷ turn ∷ []) ≡ true }
-    ensures break_in_a_continuing_part { may_leave breaks (continuing ∷ turn ∷ []) ≡ false }
-    ensures break_in_a_loop_in_a_continuing_part { may_leave breaks (turn ∷ continuing ∷ []) ≡ true }
+    ensures continue_in_a_case_in_a_loop { may_leave continues (case_at 1 ∷ loop_body ∷ []) ≡ true }
+    ensures break_in_a_block_in_a_loop { may_leave breaks (inner ∷ loop_body ∷ []) ≡ true }
+    ensures break_in_a_continuing_part { may_leave breaks (loop_continuing ∷ loop_body ∷ []) ≡ false }
+    ensures break_in_a_loop_in_a_continuing_part { may_leave breaks (loop_body ∷ loop_continuing ∷ []) ≡ true }
     ensures return_in_a_body { may_leave returns [] ≡ true }
-    ensures return_in_a_loop_in_a_continuing_part { may_leave returns (turn ∷ continuing ∷ []) ≡ false }
-    ensures kill_in_a_continuing_part { may_leave kills (continuing ∷ []) ≡ true }
+    ensures return_in_a_loop_in_a_continuing_part { may_leave returns (loop_body ∷ loop_continuing ∷ []) ≡ false }
+    ensures kill_in_a_continuing_part { may_leave kills (loop_continuing ∷ []) ≡ true }
 {}
 
 /// Where returns are put in.
@@ -70,7 +70,7 @@ pub fn completed_bodies()
     ensures not_behind_a_return { completed (next (return (Some 0)) stop) ≡ next (return (Some 0)) stop }
     ensures in_a_last_block { completed (next (block stop) stop) ≡ next (block (next (return None) stop)) stop }
     ensures not_in_an_earlier_block { completed (next (block stop) (next kill stop)) ≡ next (block stop) (next kill stop) }
-    ensures in_one_side_of_an_if { completed (next (choice 0 stop (next kill stop)) stop) ≡ next (choice 0 (next (return None) stop) (next kill stop)) stop }
+    ensures in_one_side_of_an_if { completed (next (if_ 0 stop (next kill stop)) stop) ≡ next (if_ 0 (next (return None) stop) (next kill stop)) stop }
     ensures not_where_a_case_falls_through { completed (next (switch 0 (case (U32 1) stop true (case Default stop false no_case))) stop)
         ≡ next (switch 0 (case (U32 1) stop true (case Default (next (return None) stop) false no_case))) stop }
 {}

@@ -1,7 +1,7 @@
 use Rattle.std.proofs.Common.{◌≡◌}
 use Rattle.ir_arena.specs.Handles.{handles_from}
 use Rattle.ir_types.specs.Plain.{type_view}
-use Rattle.document_within.specs.Tests.{all_pass, plain_type}
+use Rattle.document_within.specs.Decide.{all_pass, plain_type}
 use Rattle.document_within.proofs.scope.types_pass_with_handles.Given as goal
 
 -- the rest passes where the whole does

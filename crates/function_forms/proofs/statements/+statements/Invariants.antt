@@ -1,7 +1,7 @@
 use Rattle.std.proofs.Common.{◌≡◌, ◌+◌, ◌*◌, drop, map, ◌++◌, option_map}
 use Rattle.serde_json.specs.View.{items_view}
 use Rattle.ir_blocks.specs.View.{statement_view, case_view, statements_of}
-use Rattle.document_forms.specs.Find.{each}
+use Rattle.document_forms.specs.Decide.{each}
 use Rattle.function_forms.specs.Statements.{statement_at, case_with, block_at}
 use Rattle.function_forms.proofs.statements.+statements.Given as goal
 
@@ -20,11 +20,11 @@ decreases-switch_cases l = 6 * l.depth + 3
 abbrev pub decreases-switch : goal.decreases-switch
 decreases-switch l = 6 * l.depth + 4
 
-abbrev pub decreases-choice : goal.decreases-choice
-decreases-choice l = 6 * l.depth + 4
+abbrev pub decreases-if_ : goal.decreases-if_
+decreases-if_ l = 6 * l.depth + 4
 
-abbrev pub decreases-turns : goal.decreases-turns
-decreases-turns l = 6 * l.depth + 4
+abbrev pub decreases-loop_statement : goal.decreases-loop_statement
+decreases-loop_statement l = 6 * l.depth + 4
 
 abbrev pub decreases-nested : goal.decreases-nested
 decreases-nested l = 6 * l.depth + 4

@@ -13,9 +13,9 @@ add_returns-returns-then-open-clause-statements t c =
     let last : (c.len-len.result - 1) + 1 ≡ length c.args.block.now.body.items = omega (arith, c.args.block.now.body.ok.0) in
     let on : goes_on (shape_of (statement_view c.index.result.now)) ≡ true = sym c.goes_on-open.ensures ∙ c.if-open.true in
     let split = at_end c.args.block.now.body.items (c.len-len.result - 1) c.index.result.now last c.index.ensures in
-    let front = take (c.len-len.result - 1) c.args.block.now.body.items in
+    let prefix = take (c.len-len.result - 1) c.args.block.now.body.items in
     on_ok_then _ c.add_one-then-open.ensures.statements (λ all. block_view-statements c.add_one-then-open.new.block
-    ∙ complete_adds c.args.block.now front front c.args.block.now.body.items (statements_of c.add_one-then-open.new.block) c.index.result.now c.index.result.now
+    ∙ complete_adds c.args.block.now prefix prefix c.args.block.now.body.items (statements_of c.add_one-then-open.new.block) c.index.result.now c.index.result.now
     split refl (sym (finished_on _ on)) on split all)
 
 pub add_returns-returns-then-open-clause-spans : goal.add_returns-returns-then-open-clause-spans
@@ -23,9 +23,9 @@ add_returns-returns-then-open-clause-spans t c =
     let last : (c.len-len.result - 1) + 1 ≡ length c.args.block.now.body.items = omega (arith, c.args.block.now.body.ok.0) in
     let on : goes_on (shape_of (statement_view c.index.result.now)) ≡ true = sym c.goes_on-open.ensures ∙ c.if-open.true in
     let split = at_end c.args.block.now.body.items (c.len-len.result - 1) c.index.result.now last c.index.ensures in
-    let front = take (c.len-len.result - 1) c.args.block.now.body.items in
+    let prefix = take (c.len-len.result - 1) c.args.block.now.body.items in
     on_ok_both _ c.add_one-then-open.ensures.within c.add_one-then-open.ensures.spans (λ all kept. block_spans-lists c.add_one-then-open.new.block
-    ∙ spans_added c.args.block.now front front c.args.block.now.body.items (statements_of c.add_one-then-open.new.block) c.index.result.now c.index.result.now (spans_of c.add_one-then-open.new.block)
+    ∙ spans_added c.args.block.now prefix prefix c.args.block.now.body.items (statements_of c.add_one-then-open.new.block) c.index.result.now c.index.result.now (spans_of c.add_one-then-open.new.block)
     split refl (sym (finished_spans_on _ _ on)) on split all kept)
 
 pub add_returns-returns-then-open-clause-succeeds : goal.add_returns-returns-then-open-clause-succeeds
@@ -44,8 +44,8 @@ add_returns-returns-clause-statements t c =
     let at : (c.len-len.result - 1) < length c.args.block.now.body.items = omega (arith, c.args.block.now.body.ok.0) in
     let same : c.index_mut.result.now ≡ c.index.result.now = c.index_mut.ensures.value ∙ (same_at c.args.block.now.body.items (c.len-len.result - 1) _ _ at ∙ sym c.index.ensures) in
     let off : goes_on (shape_of (statement_view c.index_mut.result.now)) ≡ false = ap (λ z. goes_on (shape_of (statement_view z))) same ∙ (sym c.goes_on-open.ensures ∙ c.if-open.false) in
-    let front = take (c.len-len.result - 1) c.args.block.now.body.items in
-    on_ok_then _ c.add_within.ensures.statement (λ end. block_view-roll _ _ ∙ complete_stays c.args.block.now front front _ c.index_mut.result.now c.add_within.new.statement
+    let prefix = take (c.len-len.result - 1) c.args.block.now.body.items in
+    on_ok_then _ c.add_within.ensures.statement (λ end. block_view-roll _ _ ∙ complete_stays c.args.block.now prefix prefix _ c.index_mut.result.now c.add_within.new.statement
     (at_end c.args.block.now.body.items (c.len-len.result - 1) c.index_mut.result.now last c.index_mut.ensures.value) refl end off
     (set_end c.args.block.now.body.items (c.len-len.result - 1) c.add_within.new.statement last))
 
@@ -55,8 +55,8 @@ add_returns-returns-clause-spans t c =
     let at : (c.len-len.result - 1) < length c.args.block.now.body.items = omega (arith, c.args.block.now.body.ok.0) in
     let same : c.index_mut.result.now ≡ c.index.result.now = c.index_mut.ensures.value ∙ (same_at c.args.block.now.body.items (c.len-len.result - 1) _ _ at ∙ sym c.index.ensures) in
     let off : goes_on (shape_of (statement_view c.index_mut.result.now)) ≡ false = ap (λ z. goes_on (shape_of (statement_view z))) same ∙ (sym c.goes_on-open.ensures ∙ c.if-open.false) in
-    let front = take (c.len-len.result - 1) c.args.block.now.body.items in
-    on_ok_then _ c.add_within.ensures.spans (λ end. block_spans-roll _ _ ∙ spans_stay c.args.block.now front front _ c.index_mut.result.now c.add_within.new.statement c.args.block.now.span_info.items
+    let prefix = take (c.len-len.result - 1) c.args.block.now.body.items in
+    on_ok_then _ c.add_within.ensures.spans (λ end. block_spans-roll _ _ ∙ spans_stay c.args.block.now prefix prefix _ c.index_mut.result.now c.add_within.new.statement c.args.block.now.span_info.items
     (at_end c.args.block.now.body.items (c.len-len.result - 1) c.index_mut.result.now last c.index_mut.ensures.value) refl end off
     (set_end c.args.block.now.body.items (c.len-len.result - 1) c.add_within.new.statement last) refl)
 

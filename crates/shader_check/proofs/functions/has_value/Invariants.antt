@@ -1,6 +1,6 @@
 use Rattle.std.proofs.Common.{◌≡◌, drop, map}
 use Rattle.ir_blocks.specs.View.{case_view, cases_of}
-use Rattle.shader_check.specs.Tests.{has_value}
+use Rattle.shader_check.specs.Decide.{has_value}
 use Rattle.shader_check.proofs.functions.has_value.Given as goal
 
 abbrev pub invariant-loop-case : goal.invariant-loop-case

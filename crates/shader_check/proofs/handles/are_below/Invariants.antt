@@ -1,5 +1,5 @@
 use Rattle.std.proofs.Common.{◌≡◌, drop}
-use Rattle.shader_check.specs.Tests.{are_below}
+use Rattle.shader_check.specs.Decide.{are_below}
 use Rattle.shader_check.proofs.handles.are_below.Given as goal
 
 abbrev pub invariant-loop-handle : goal.invariant-loop-handle

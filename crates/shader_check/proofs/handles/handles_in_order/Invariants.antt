@@ -1,7 +1,7 @@
 use Rattle.std.proofs.Common.{◌≡◌, is_none, length}
 use Rattle.ir_arena.specs.Handles.{handles_from}
 use Rattle.ir_items.specs.View.{function_view}
-use Rattle.shader_check.specs.Tests.{first_failing, function_in_order}
+use Rattle.shader_check.specs.Decide.{first_failing, function_in_order}
 use Rattle.shader_check.proofs.handles.handles_in_order.Given as goal
 
 abbrev pub invariant-loop-handle : goal.invariant-loop-handle

@@ -1,7 +1,7 @@
 use Rattle.std.proofs.Common.{◌≡◌}
 use Rattle.ir_arena.specs.Handles.{handles_from}
 use Rattle.ir_types.specs.Plain.{inner_view}
-use Rattle.shader_check.specs.Tests.{first_failing, is_inner_ok}
+use Rattle.shader_check.specs.Decide.{first_failing, is_inner_ok}
 use Rattle.shader_check.specs.Widths.{widths_view}
 use Rattle.shader_check.proofs.types.first_failing_type.Given as goal
 

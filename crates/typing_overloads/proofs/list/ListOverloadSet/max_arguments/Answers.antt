@@ -4,5 +4,5 @@ use Rattle.typing_overloads.proofs.list.ListOverloadSet.max_arguments.Goals as g
 
 pub returns : goal.returns
 returns c =
-    most_given c.args.self.now c.as_slice.result.now c.most_preferred.result c.len.result c.most.result
-    (c.as_slice.ensures.value ∙ c.self.view_is) c.most_preferred.ensures c.len.ensures c.most.ensures
+    most_given c.args.self.now c.as_slice.result.now c.most_preferred.result c.len.result c.max_arity.result
+    (c.as_slice.ensures.value ∙ c.self.view_is) c.most_preferred.ensures c.len.ensures c.max_arity.ensures

@@ -4,5 +4,5 @@ use Rattle.typing_overloads.proofs.list.ListOverloadSet.min_arguments.Goals as g
 
 pub returns : goal.returns
 returns c =
-    fewest_given c.args.self.now c.as_slice.result.now c.most_preferred.result c.len.result c.fewest.result
-    (c.as_slice.ensures.value ∙ c.self.view_is) c.most_preferred.ensures c.len.ensures c.fewest.ensures
+    fewest_given c.args.self.now c.as_slice.result.now c.most_preferred.result c.len.result c.min_arity.result
+    (c.as_slice.ensures.value ∙ c.self.view_is) c.most_preferred.ensures c.len.ensures c.min_arity.ensures

@@ -2,7 +2,7 @@ use Rattle.std.proofs.Common.{◌∙◌, ap, length, max}
 use Rattle.constructor_sets.specs.Members.{scalars_in, sizes_in}
 use Rattle.typing_overloads.specs.Products.{rules_of}
 use Rattle.typing_overloads.proofs.Arity.{most_found, none_found}
-use Rattle.typing_overloads.proofs.product.Product.most.Goals as goal
+use Rattle.typing_overloads.proofs.product.Product.max_arity.Goals as goal
 
 pub returns-in-Some : goal.returns-in-Some
 returns-in-Some c =

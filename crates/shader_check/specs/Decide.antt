@@ -7,7 +7,7 @@ use Rattle.ir_kinds.specs.declared.values.SwitchValue.{SwitchValue}
 use Rattle.ir_kinds.specs.declared.values.SwitchValue.TheVariants.{I32, U32, Default}
 use Rattle.ir_types.specs.Plain.{PlainInner, plain}
 use Rattle.ir_items.specs.declared.functions.FunctionResult.{FunctionResult}
-use Rattle.ir_blocks.specs.Plain.{PlainStatement, emit, block, choice, switch, loop, break, continue, return, kill, act, call, PlainBlock, PlainCases, no_case, case}
+use Rattle.ir_blocks.specs.Plain.{PlainStatement, emit, block, if_, switch, loop, break, continue, return, kill, operation, call, PlainBlock, PlainCases, no_case, case}
 use Rattle.ir_items.specs.Plain.{PlainFunction, PlainModule}
 use Rattle.ir_blocks.specs.Shapes.{Exit, breaks, continues, returns, kills, exit_of, shape_of}
 use Rattle.ir_types.specs.declared.types.TypeInner.TheVariants as inner
@@ -34,14 +34,14 @@ is_below end (Some h) = nat_lt h end
 abbrev pub statement_in_order : (functions expressions : ℕ) → PlainStatement → Bool
 statement_in_order n k (emit first end) = nat_le first end && nat_le end k
 statement_in_order n k (block b) = true
-statement_in_order n k (choice test accept reject) = nat_lt test k
+statement_in_order n k (if_ test accept reject) = nat_lt test k
 statement_in_order n k (switch selector cases) = nat_lt selector k
 statement_in_order n k (loop body continuing break_if) = is_below k break_if
 statement_in_order n k break = true
 statement_in_order n k continue = true
 statement_in_order n k (return value) = is_below k value
 statement_in_order n k kill = true
-statement_in_order n k (act a) = true
+statement_in_order n k (operation a) = true
 statement_in_order n k (call callee arguments result) = nat_lt callee n && are_below k arguments && is_below k result
 
 -- function i of a module with so many types
@@ -135,14 +135,14 @@ call_result_ok m callee (Some e) = false
 abbrev pub statement_ok : PlainModule → PlainFunction → PlainStatement → Bool
 statement_ok m f (emit first end) = nat_le end first
 statement_ok m f (block b) = true
-statement_ok m f (choice test accept reject) = is_condition f test
+statement_ok m f (if_ test accept reject) = is_condition f test
 statement_ok m f (switch selector cases) = switch_ok f selector cases
 statement_ok m f (loop body continuing break_if) = if_some (is_condition f) break_if
 statement_ok m f break = true
 statement_ok m f continue = true
 statement_ok m f (return value) = return_ok m f value
 statement_ok m f kill = true
-statement_ok m f (act a) = false
+statement_ok m f (operation a) = false
 statement_ok m f (call callee arguments result) = call_result_ok m callee result
 
 abbrev pub may_leave_by : PlainControl → Exit → Bool

@@ -1,6 +1,6 @@
 use Rattle.std.proofs.Common.{◌≡◌, fold, min, take}
 use Rattle.overload_tables.specs.Laws.{arity}
-use Rattle.typing_overloads.proofs.rule_lists.fewest.Given as goal
+use Rattle.typing_overloads.proofs.rule_lists.min_arity.Given as goal
 
 abbrev pub invariant-loop-rule : goal.invariant-loop-rule
 invariant-loop-rule l = l.least ≡ fold (λ n r. min n (arity r)) l.found (take l.rule-index l.rules)

@@ -6,7 +6,7 @@ use Rattle.ir_types.specs.Plain.{PlainInner, plain, PlainType}
 use Rattle.ir_types.specs.declared.types.TypeInner.TheVariants as inner
 use Rattle.ir_expressions.specs.Plain.{PlainExpression, plain as computes}
 use Rattle.ir_expressions.specs.declared.expressions.Expression.TheVariants as computed
-use Rattle.ir_blocks.specs.Plain.{PlainStatement, emit, block, choice, switch, loop, break, continue, return, kill, act, call, PlainBlock, stop, next, PlainCases, no_case, case}
+use Rattle.ir_blocks.specs.Plain.{PlainStatement, emit, block, if_, switch, loop, break, continue, return, kill, operation, call, PlainBlock, stop, next, PlainCases, no_case, case}
 use Rattle.ir_globals.specs.Plain.{PlainSpecial}
 use Rattle.ir_items.specs.Plain.{PlainFunction, PlainModule}
 use Rattle.ir_items.specs.declared.functions.FunctionResult.{FunctionResult}
@@ -43,14 +43,14 @@ abbrev mutual
   pub plain_statement : PlainStatement → Bool
   plain_statement (emit first end) = false
   plain_statement (block b) = plain_block b
-  plain_statement (choice test accept reject) = plain_block accept && plain_block reject
+  plain_statement (if_ test accept reject) = plain_block accept && plain_block reject
   plain_statement (switch selector cases) = plain_cases cases
   plain_statement (loop body continuing break_if) = plain_block body && plain_block continuing
   plain_statement break = true
   plain_statement continue = true
   plain_statement (return value) = true
   plain_statement kill = true
-  plain_statement (act a) = false
+  plain_statement (operation a) = false
   plain_statement (call function arguments result) = true
 
   pub plain_block : PlainBlock → Bool

@@ -2,7 +2,7 @@ use Rattle.std.proofs.Common.{◌∙◌, ap, length, min}
 use Rattle.constructor_sets.specs.Members.{scalars_in, sizes_in}
 use Rattle.typing_overloads.specs.Products.{rules_of}
 use Rattle.typing_overloads.proofs.Arity.{fewest_found, none_found}
-use Rattle.typing_overloads.proofs.product.Product.fewest.Goals as goal
+use Rattle.typing_overloads.proofs.product.Product.min_arity.Goals as goal
 
 pub returns-in-Some : goal.returns-in-Some
 returns-in-Some c =

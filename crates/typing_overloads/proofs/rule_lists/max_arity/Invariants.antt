@@ -1,6 +1,6 @@
 use Rattle.std.proofs.Common.{◌≡◌, fold, max, take}
 use Rattle.overload_tables.specs.Laws.{arity}
-use Rattle.typing_overloads.proofs.rule_lists.most.Given as goal
+use Rattle.typing_overloads.proofs.rule_lists.max_arity.Given as goal
 
 abbrev pub invariant-loop-rule : goal.invariant-loop-rule
 invariant-loop-rule l = l.greatest ≡ fold (λ n r. max n (arity r)) l.found (take l.rule-index l.rules)
