@@ -1,10 +1,11 @@
 -- What it is that something is found exactly where it is written, and what a written form is.
 use Rattle.std.specs.Prelude.{◌≡◌, ℕ, ◌≤◌, Option, Some}
 use Rattle.serde_json.specs.Data.{Data, Items, depth, items_depth}
+use Rattle.document_forms.specs.declared.limits.TheConstants.{MAX_DEPTH}
 
 -- as deep as the JSON reader lets values nest
 abbrev pub deepest : ℕ
-deepest = 127
+deepest = MAX_DEPTH
 
 -- f finds x exactly where the value is written for x
 pub record IsExact {A : Type 0} (f : Data → Option A) (P : A → Data → Type 0) : Type 0 where

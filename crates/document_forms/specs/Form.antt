@@ -7,6 +7,7 @@ use Rattle.ir_kinds.specs.declared.scalars.VectorSize.TheVariants.{Bi, Tri, Quad
 use Rattle.ir_kinds.specs.declared.scalars.CooperativeSize.{CooperativeSize}
 use Rattle.ir_kinds.specs.declared.scalars.CooperativeSize.TheVariants.{Eight, Sixteen}
 use Rattle.document_words.specs.Lookup.{lookup}
+use Rattle.document_forms.specs.declared.limits.TheConstants.{MAX_HANDLE, MAX_U8, MAX_U16, MAX_U32, MAX_U64, MAX_I16, MAX_I32, MAX_I64}
 
 -- ---- whole numbers, and numbers in words
 
@@ -16,10 +17,19 @@ ANumber high n d = (d ≡ number (unsigned n)) × (n ≤ high)
 
 -- the place of an item in its list
 abbrev pub AHandle : ℕ → Data → Type 0
-AHandle n d = ANumber 4294967294 n d
+AHandle n d = ANumber MAX_HANDLE n d
+
+abbrev pub AU8 : ℕ → Data → Type 0
+AU8 n d = ANumber MAX_U8 n d
+
+abbrev pub AU16 : ℕ → Data → Type 0
+AU16 n d = ANumber MAX_U16 n d
 
 abbrev pub AU32 : ℕ → Data → Type 0
-AU32 n d = ANumber 4294967295 n d
+AU32 n d = ANumber MAX_U32 n d
+
+abbrev pub AU64 : ℕ → Data → Type 0
+AU64 n d = ANumber MAX_U64 n d
 
 -- from `-(high + 1)` to `high`
 abbrev pub Fits : ℕ → ℤ → Type 0
@@ -28,6 +38,15 @@ Fits high (negsuc n) = n ≤ high
 
 abbrev pub ASigned : (high : ℕ) → ℤ → Data → Type 0
 ASigned high z d = (d ≡ number (of_integer z)) × Fits high z
+
+abbrev pub AI16 : ℤ → Data → Type 0
+AI16 z d = ASigned MAX_I16 z d
+
+abbrev pub AI32 : ℤ → Data → Type 0
+AI32 z d = ASigned MAX_I32 z d
+
+abbrev pub AI64 : ℤ → Data → Type 0
+AI64 z d = ASigned MAX_I64 z d
 
 -- how many components a vector has
 abbrev pub components_of : VectorSize → ℕ

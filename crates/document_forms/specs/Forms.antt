@@ -4,6 +4,7 @@ use Rattle.serde_json.specs.Data.{Data, null, array, Items, depth, items_depth}
 use Rattle.serde_json.specs.Find.{as_bool, as_str}
 use Rattle.ir_kinds.specs.declared.scalars.VectorSize.{VectorSize}
 use Rattle.ir_kinds.specs.declared.scalars.CooperativeSize.{CooperativeSize}
+use Rattle.document_forms.specs.declared.limits.TheConstants.{MAX_HANDLE, MAX_U8, MAX_U16, MAX_U32, MAX_U64, MAX_I16, MAX_I32, MAX_I64}
 use Rattle.document_forms.specs.Exact.{deepest, IsExact, FormOf, RowOf}
 use Rattle.document_forms.specs.Form.{ANumber, ASigned, ASize, ASide, ABool, AText, AWord, ASet, Maybe, AList, AnArray, Ends, ◌▸◌}
 use Rattle.document_forms.specs.Decide.{number_of, signed_of, size_of, side_of, word_in, set_of, optional, all_of, end, behind, array_of, of_kind, tagged_of}
@@ -16,13 +17,31 @@ abbrev pub a_number : ℕ → FormOf ℕ
 a_number high = record { find = number_of high; Written = ANumber high; exact = number_exact high }
 
 abbrev pub a_handle : FormOf ℕ
-a_handle = a_number 4294967294
+a_handle = a_number MAX_HANDLE
+
+abbrev pub a_u8 : FormOf ℕ
+a_u8 = a_number MAX_U8
+
+abbrev pub a_u16 : FormOf ℕ
+a_u16 = a_number MAX_U16
 
 abbrev pub a_u32 : FormOf ℕ
-a_u32 = a_number 4294967295
+a_u32 = a_number MAX_U32
+
+abbrev pub a_u64 : FormOf ℕ
+a_u64 = a_number MAX_U64
 
 abbrev pub a_signed : ℕ → FormOf ℤ
 a_signed high = record { find = signed_of high; Written = ASigned high; exact = signed_exact high }
+
+abbrev pub a_i16 : FormOf ℤ
+a_i16 = a_signed MAX_I16
+
+abbrev pub a_i32 : FormOf ℤ
+a_i32 = a_signed MAX_I32
+
+abbrev pub a_i64 : FormOf ℤ
+a_i64 = a_signed MAX_I64
 
 abbrev pub a_size : FormOf VectorSize
 a_size = record { find = size_of; Written = ASize; exact = size_exact }

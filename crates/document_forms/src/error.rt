@@ -4,6 +4,8 @@ ghost use Rattle.document_forms.specs.declared.error.ReadError.TheVariants.{Memo
 
 use crate::wanted::Wanted;
 use std::alloc::{AllocError, AllocFailed};
+use std::fmt::{self, Display};
+use thiserror::Error;
 
 /// Where a part stands: the indexes that lead to it, from the outermost on, as far as there is room for them.
 #[derive(Clone, Copy, Debug, PartialEq, Eq)]
@@ -31,12 +33,28 @@ impl Place {
     }
 }
 
+impl Display for Place {
+    fn fmt<W: fmt::Write>(&self, f: &mut fmt::Formatter<W>) -> fmt::Result {
+        if self.steps[0].is_none() {
+            return write!(f, "the whole");
+        }
+        for step in self.steps.iter() {
+            if let Some(index) = *step {
+                write!(f, "[{index}]")?;
+            }
+        }
+        Ok(())
+    }
+}
+
 /// Why nothing was read.
-#[derive(Clone, Copy, Debug, PartialEq, Eq)]
+#[derive(Clone, Copy, Debug, PartialEq, Eq, Error)]
 pub enum ReadError {
     /// There was no memory for what is written.
+    #[error("out of memory")]
     Memory,
     /// The value is of another form.
+    #[error("{place}: {} is wanted", .wanted.text())]
     Malformed {
         /// The first part that is not of its form.
         place: Place,

@@ -4,12 +4,14 @@ ghost use Rattle.serde_json.specs.Find.{as_number, as_i64};
 ghost use Rattle.serde_json.specs.View.{view as data_of};
 ghost use Rattle.ir_kinds.specs.declared.scalars.VectorSize.{VectorSize};
 ghost use Rattle.ir_kinds.specs.declared.scalars.CooperativeSize.{CooperativeSize};
+ghost use Rattle.document_forms.specs.declared.limits.TheConstants.{MAX_I64};
 ghost use Rattle.document_forms.specs.Answers.{Answers};
 ghost use Rattle.document_forms.specs.Decide.{number_of, below_zero, signed_of, size_in, side_in};
-ghost use Rattle.document_forms.specs.Forms.{a_number, a_handle, a_u32, a_signed, a_size, a_side};
+ghost use Rattle.document_forms.specs.Forms.{a_u8, a_u16, a_u32, a_u64, a_handle, a_i16, a_i32, a_i64, a_size, a_side};
 
 use crate::error::ReadError;
 use crate::form::Form;
+use crate::limits::{MAX_HANDLE, MAX_I16, MAX_I32, MAX_I64, MAX_U8, MAX_U16, MAX_U32, MAX_U64};
 use crate::wanted::Wanted;
 use ir_arena::handle::Handle;
 use ir_kinds::{CooperativeSize, VectorSize};
@@ -38,10 +40,10 @@ impl Form for U8 {
 
     ghost view = { λ n. n };
 
-    ghost form = { a_number 255 };
+    ghost form = { a_u8 };
 
     fn read(_alloc: Global, value: &Value) -> Result<u8, ReadError> {
-        let number = unsigned(value, 255, Wanted::Unsigned8)?;
+        let number = unsigned(value, MAX_U8, Wanted::Unsigned8)?;
         Ok(number as u8)
     }
 }
@@ -56,10 +58,10 @@ impl Form for U16 {
 
     ghost view = { λ n. n };
 
-    ghost form = { a_number 65535 };
+    ghost form = { a_u16 };
 
     fn read(_alloc: Global, value: &Value) -> Result<u16, ReadError> {
-        let number = unsigned(value, 65535, Wanted::Unsigned16)?;
+        let number = unsigned(value, MAX_U16, Wanted::Unsigned16)?;
         Ok(number as u16)
     }
 }
@@ -77,7 +79,7 @@ impl Form for U32 {
     ghost form = { a_u32 };
 
     fn read(_alloc: Global, value: &Value) -> Result<u32, ReadError> {
-        let number = unsigned(value, 4294967295, Wanted::Unsigned32)?;
+        let number = unsigned(value, MAX_U32, Wanted::Unsigned32)?;
         Ok(number as u32)
     }
 }
@@ -92,10 +94,10 @@ impl Form for U64 {
 
     ghost view = { λ n. n };
 
-    ghost form = { a_number 18446744073709551615 };
+    ghost form = { a_u64 };
 
     fn read(_alloc: Global, value: &Value) -> Result<u64, ReadError> {
-        unsigned(value, u64::MAX, Wanted::Unsigned64)
+        unsigned(value, MAX_U64, Wanted::Unsigned64)
     }
 }
 
@@ -112,14 +114,14 @@ impl<K> Form for At<K> {
     ghost form = { a_handle };
 
     fn read(_alloc: Global, value: &Value) -> Result<Handle<K>, ReadError> {
-        let number = unsigned(value, 4294967294, Wanted::Handle)?;
+        let number = unsigned(value, MAX_HANDLE, Wanted::Handle)?;
         Ok(Handle::at(number as usize))
     }
 }
 
 /// A whole number with a sign, from `-(high + 1)` to `high`.
 pub fn signed(value: &Value, high: u64, wanted: Wanted) -> Result<i64, ReadError>
-    requires { high ≤ 9223372036854775807 }
+    requires { high ≤ MAX_I64 }
     ensures found { Answers result (λ found. found ≡ signed_of high (data_of value.now)) }
     ensures in_range { IfOk result (λ n. (negsuc high ≤ℤ n) × (n ≤ℤ pos high)) }
 {
@@ -132,7 +134,7 @@ pub fn signed(value: &Value, high: u64, wanted: Wanted) -> Result<i64, ReadError
 
 // The number where it is below zero.
 fn below_zero(value: &Value, high: u64, wanted: Wanted) -> Result<i64, ReadError>
-    requires { high ≤ 9223372036854775807 }
+    requires { high ≤ MAX_I64 }
     ensures found { Answers result (λ found. found ≡ option_and_then (below_zero high) (option_and_then as_i64 (as_number (data_of value.now)))) }
     ensures in_range { IfOk result (λ n. (negsuc high ≤ℤ n) × (n ≤ℤ pos high)) }
 {
@@ -152,10 +154,10 @@ impl Form for I16 {
 
     ghost view = { λ n. n };
 
-    ghost form = { a_signed 32767 };
+    ghost form = { a_i16 };
 
     fn read(_alloc: Global, value: &Value) -> Result<i16, ReadError> {
-        let number = signed(value, 32767, Wanted::Signed16)?;
+        let number = signed(value, MAX_I16, Wanted::Signed16)?;
         Ok(number as i16)
     }
 }
@@ -170,10 +172,10 @@ impl Form for I32 {
 
     ghost view = { λ n. n };
 
-    ghost form = { a_signed 2147483647 };
+    ghost form = { a_i32 };
 
     fn read(_alloc: Global, value: &Value) -> Result<i32, ReadError> {
-        let number = signed(value, 2147483647, Wanted::Signed32)?;
+        let number = signed(value, MAX_I32, Wanted::Signed32)?;
         Ok(number as i32)
     }
 }
@@ -188,10 +190,10 @@ impl Form for I64 {
 
     ghost view = { λ n. n };
 
-    ghost form = { a_signed 9223372036854775807 };
+    ghost form = { a_i64 };
 
     fn read(_alloc: Global, value: &Value) -> Result<i64, ReadError> {
-        signed(value, 9223372036854775807, Wanted::Signed64)
+        signed(value, MAX_I64, Wanted::Signed64)
     }
 }
 

@@ -1,5 +1,9 @@
 -- From the value that the bytes are to the document that they spell.
 use Rattle.std.proofs.Common.{◌≡◌, ◌≢◌, ◌≤◌, ℕ, Bool, List, length, Option, Some, None, option_map, option_and_then, Result, Ok, Err, IfErr, IsErr, IsErrAnd, IsUtf8, refl, sym, ap, subst, ◌∙◌}
+use Rattle.document_forms.specs.declared.error.ReadError.{ReadError}
+use Rattle.document_forms.specs.declared.error.ReadError.TheVariants as part
+use Rattle.document_reader.specs.declared.error.DocumentError.{DocumentError}
+use Rattle.document_reader.specs.Reasons.{IsMalformed, IsReason, of_part}
 use Rattle.serde_json.specs.Data.{Data, Items}
 use Rattle.serde_json.specs.Find.{as_array, as_bool}
 use Rattle.serde_json.specs.Read.{read}
@@ -22,7 +26,7 @@ use Rattle.document_reader.specs.declared.reading.TheConstants.{MAX_LEN}
 
 -- ---- read part by part, and as a row
 
--- a part in first_part of others, whatever is made of them
+-- a part before others, whatever is made of them
 peel : {A B C : Type 0} (f : Data → Option A) (g : Items → Option B) (k : A → Items → Option C) (m : A × B → C) → ((x : A) (ds : Items) → k x ds ≡ option_map (λ y. m (x, y)) (g ds))
     → (ds : Items) → option_and_then (λ (p : A × Items). k p.0 p.1) (first_part f ds) ≡ option_map m (behind f g ds)
 peel {A} {B} {C} f g k m same ds = parts (first ds)
@@ -92,6 +96,17 @@ reads_document bytes v d short u found distinct =
 
 pub reads_none : (bytes : List ℕ) (v : Data) → IsUtf8 bytes × (read bytes ≡ Some v) → ((d : PlainDocument) → document_in v ≡ Some d → ¬ AreDistinct d.content.types) → (d : PlainDocument) → ¬ Reads bytes d
 reads_none bytes v u refused d r = refused d (found_in bytes v d u.1 r) r.distinct
+
+-- a value for which none is found is written for none
+pub none_written : (bytes : List ℕ) (v : Data) → length bytes ≤ MAX_LEN → IsUtf8 bytes × (read bytes ≡ Some v) → ((d : PlainDocument) → document_in v ≡ Some d → ¬ AreDistinct d.content.types)
+    → IsMalformed bytes
+none_written bytes v short u refused =
+    record { short = short; utf8 = u.0; value = v; value_is = u.1; none = λ d form. refused d (document_is v ∙ a_document.exact.complete v d form (depth-read bytes v u.1)) }
+
+-- the error of a part is the whole's reason, where it is one that is not of memory
+pub reason_of : (bytes : List ℕ) (p : ReadError) (e : DocumentError) → e ≡ of_part p → (p ≢ part.Memory → IsMalformed bytes) → IsReason bytes e
+reason_of bytes part.Memory e is malformed = subst (IsReason bytes) (sym is) tt
+reason_of bytes (part.Malformed place wanted) e is malformed = subst (IsReason bytes) (sym is) (malformed (λ q. let same = q in cc))
 
 -- bytes spell one document at most
 pub one_document_lem : OneDocument

@@ -1,17 +1,22 @@
 // Why bytes spell no document.
-ghost use Rattle.std.specs.Prelude.{◌≡◌, ◌≢◌, ◌↔◌};
+ghost use Rattle.std.specs.Prelude.{◌≡◌};
 
+use crate::reading::MAX_LEN;
 use document_forms::{Place, ReadError, Wanted};
 use std::alloc::AllocError;
+use thiserror::Error;
 
 /// Why no document was read.
-#[derive(Clone, Copy, Debug, PartialEq, Eq)]
+#[derive(Clone, Copy, Debug, PartialEq, Eq, Error)]
 pub enum DocumentError {
     /// Out of memory.
+    #[error("out of memory")]
     Memory,
-    /// There are more than 16777216 bytes.
+    /// There are more than [`MAX_LEN`] bytes.
+    #[error("more than {max} bytes", max = MAX_LEN)]
     TooLong,
-    /// The bytes are no UTF-8, no JSON, or nested deeper than 127.
+    /// The bytes are no UTF-8, no JSON, or nested deeper than [`MAX_DEPTH`](document_forms::MAX_DEPTH).
+    #[error("no JSON at line {line}, column {column}")]
     NotJson {
         /// The line on which the reader stopped, counted from 1.
         line: usize,
@@ -19,6 +24,7 @@ pub enum DocumentError {
         column: usize,
     },
     /// The value is not of a document's form.
+    #[error("{place}: {} is wanted", .wanted.text())]
     Malformed {
         /// The first part that is not of its form.
         place: Place,
@@ -38,10 +44,9 @@ impl From<AllocError> for DocumentError {
 }
 
 impl From<ReadError> for DocumentError {
-    ghost use Rattle.document_forms.specs.declared.error.ReadError.TheVariants.{Memory as part_memory};
-    ghost use Rattle.document_reader.specs.declared.error.DocumentError.TheVariants.{Memory};
+    ghost use Rattle.document_reader.specs.Reasons.{of_part};
 
-    ghost from_gives = { λ p e. (e ≡ Memory) ↔ (p ≡ part_memory) };
+    ghost from_gives = { λ p e. e ≡ of_part p };
 
     fn from(e: ReadError) -> DocumentError {
         match e {

@@ -3,6 +3,7 @@ ghost use Rattle.std.specs.Prelude.{◌≢◌, IfOk, IfErr};
 ghost use Rattle.document_reader.specs.Plain.{PlainDocument};
 ghost use Rattle.document_reader.specs.View.{document_view};
 ghost use Rattle.document_reader.specs.Form.{Reads};
+ghost use Rattle.document_reader.specs.Reasons.{IsReason};
 ghost use Rattle.document_reader.specs.declared.error.DocumentError.TheVariants.{Memory};
 
 use crate::document::read_value;
@@ -14,10 +15,12 @@ use std::alloc::Global;
 /// How many bytes a document may have.
 pub const MAX_LEN: usize = 16777216;
 
-/// The document that the bytes spell. An error other than [`DocumentError::Memory`] says that they spell none, and
-/// where that shows.
+/// The document that the bytes spell. An error other than [`DocumentError::Memory`] says that they spell none, and why:
+/// [`DocumentError::TooLong`] stands where there are too many, [`DocumentError::NotJson`] where the JSON reader refuses
+/// them, [`DocumentError::Malformed`] where their value is written for no document without equal types.
 pub fn read_document(alloc: Global, bytes: &[u8]) -> Result<Document, DocumentError>
     ensures found { IfOk result (λ d. Reads bytes.now (document_view d)) }
+    ensures reason { IfErr result (λ e. IsReason bytes.now e) }
     ensures refused { IfErr result (λ e. e ≢ Memory → (d : PlainDocument) → ¬ Reads bytes.now d) }
 {
     if bytes.len() > MAX_LEN {

@@ -272,7 +272,7 @@ binary_operators =
     (codes "ShiftRight", binary_operators_of.ShiftRight) ∷
     []
 
--- the questions about a value
+-- the relational functions
 abbrev pub relational_functions : List (List ℕ × RelationalFunction)
 relational_functions =
     (codes "All", relational_functions_of.All) ∷

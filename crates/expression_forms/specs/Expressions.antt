@@ -19,7 +19,7 @@ use Rattle.document_forms.specs.Exact.{deepest, IsExact, FormOf, RowOf}
 use Rattle.document_forms.specs.Decide.{◌>>=◌, of_kind, tagged_of}
 use Rattle.document_forms.specs.Inverse.{bind_some, map_some, chosen, guarded, some_is, as_str_some}
 use Rattle.document_forms.specs.KindLaws.{AreSound, kind_sound, kind_complete, tagged_complete}
-use Rattle.document_forms.specs.Forms.{a_number, a_signed, a_handle, a_u32, a_size, a_side, a_bool, a_word, maybe, a_list, ends, row_by_kind, by_kind}
+use Rattle.document_forms.specs.Forms.{a_u8, a_u16, a_u64, a_i16, a_i32, a_i64, a_handle, a_u32, a_size, a_side, a_bool, a_word, maybe, a_list, ends, row_by_kind, by_kind}
 use Rattle.document_forms.specs.Rows.{row1, row2, row3, row5, row6, row9}
 use Rattle.expression_forms.specs.Form.{ALiteral, ALevel, AQuery, letter_code, APattern, AnExpression}
 use Rattle.expression_forms.specs.Kinds.{expression_kinds, literal_kinds, level_kinds, query_kinds}
@@ -36,44 +36,44 @@ use Rattle.expression_forms.specs.declared.kinds.QueryKind.TheVariants as query_
 
 unfoldable pub literal_with : LiteralKind → Items → Option Literal
 literal_with literal_kind.Bool ds = option_map literal.Bool ((row1 a_bool).find ds)
-literal_with literal_kind.I16 ds = option_map literal.I16 ((row1 (a_signed 32767)).find ds)
-literal_with literal_kind.U16 ds = option_map literal.U16 ((row1 (a_number 65535)).find ds)
-literal_with literal_kind.I32 ds = option_map literal.I32 ((row1 (a_signed 2147483647)).find ds)
-literal_with literal_kind.U32 ds = option_map literal.U32 ((row1 (a_number 4294967295)).find ds)
-literal_with literal_kind.I64 ds = option_map literal.I64 ((row1 (a_signed 9223372036854775807)).find ds)
-literal_with literal_kind.U64 ds = option_map literal.U64 ((row1 (a_number 18446744073709551615)).find ds)
-literal_with literal_kind.F16 ds = option_map literal.F16 ((row1 (a_number 65535)).find ds)
-literal_with literal_kind.F32 ds = option_map literal.F32 ((row1 (a_number 4294967295)).find ds)
-literal_with literal_kind.F64 ds = option_map literal.F64 ((row1 (a_number 18446744073709551615)).find ds)
-literal_with literal_kind.AbstractInt ds = option_map literal.AbstractInt ((row1 (a_signed 9223372036854775807)).find ds)
-literal_with literal_kind.AbstractFloat ds = option_map literal.AbstractFloat ((row1 (a_number 18446744073709551615)).find ds)
+literal_with literal_kind.I16 ds = option_map literal.I16 ((row1 a_i16).find ds)
+literal_with literal_kind.U16 ds = option_map literal.U16 ((row1 a_u16).find ds)
+literal_with literal_kind.I32 ds = option_map literal.I32 ((row1 a_i32).find ds)
+literal_with literal_kind.U32 ds = option_map literal.U32 ((row1 a_u32).find ds)
+literal_with literal_kind.I64 ds = option_map literal.I64 ((row1 a_i64).find ds)
+literal_with literal_kind.U64 ds = option_map literal.U64 ((row1 a_u64).find ds)
+literal_with literal_kind.F16 ds = option_map literal.F16 ((row1 a_u16).find ds)
+literal_with literal_kind.F32 ds = option_map literal.F32 ((row1 a_u32).find ds)
+literal_with literal_kind.F64 ds = option_map literal.F64 ((row1 a_u64).find ds)
+literal_with literal_kind.AbstractInt ds = option_map literal.AbstractInt ((row1 a_i64).find ds)
+literal_with literal_kind.AbstractFloat ds = option_map literal.AbstractFloat ((row1 a_u64).find ds)
 
 pub literal_sound : AreSound literal_with ALiteral literal_kinds
 unfolding literal_with
 literal_sound = (
   kind_sound (row1 a_bool) literal.Bool (codes "bool") ALiteral (λ t ds h. (refl, h)),
   (
-    kind_sound (row1 (a_signed 32767)) literal.I16 (codes "i16") ALiteral (λ t ds h. (refl, h)),
+    kind_sound (row1 a_i16) literal.I16 (codes "i16") ALiteral (λ t ds h. (refl, h)),
     (
-      kind_sound (row1 (a_number 65535)) literal.U16 (codes "u16") ALiteral (λ t ds h. (refl, h)),
+      kind_sound (row1 a_u16) literal.U16 (codes "u16") ALiteral (λ t ds h. (refl, h)),
       (
-        kind_sound (row1 (a_signed 2147483647)) literal.I32 (codes "i32") ALiteral (λ t ds h. (refl, h)),
+        kind_sound (row1 a_i32) literal.I32 (codes "i32") ALiteral (λ t ds h. (refl, h)),
         (
-          kind_sound (row1 (a_number 4294967295)) literal.U32 (codes "u32") ALiteral (λ t ds h. (refl, h)),
+          kind_sound (row1 a_u32) literal.U32 (codes "u32") ALiteral (λ t ds h. (refl, h)),
           (
-            kind_sound (row1 (a_signed 9223372036854775807)) literal.I64 (codes "i64") ALiteral (λ t ds h. (refl, h)),
+            kind_sound (row1 a_i64) literal.I64 (codes "i64") ALiteral (λ t ds h. (refl, h)),
             (
-              kind_sound (row1 (a_number 18446744073709551615)) literal.U64 (codes "u64") ALiteral (λ t ds h. (refl, h)),
+              kind_sound (row1 a_u64) literal.U64 (codes "u64") ALiteral (λ t ds h. (refl, h)),
               (
-                kind_sound (row1 (a_number 65535)) literal.F16 (codes "f16") ALiteral (λ t ds h. (refl, h)),
+                kind_sound (row1 a_u16) literal.F16 (codes "f16") ALiteral (λ t ds h. (refl, h)),
                 (
-                  kind_sound (row1 (a_number 4294967295)) literal.F32 (codes "f32") ALiteral (λ t ds h. (refl, h)),
+                  kind_sound (row1 a_u32) literal.F32 (codes "f32") ALiteral (λ t ds h. (refl, h)),
                   (
-                    kind_sound (row1 (a_number 18446744073709551615)) literal.F64 (codes "f64") ALiteral (λ t ds h. (refl, h)),
+                    kind_sound (row1 a_u64) literal.F64 (codes "f64") ALiteral (λ t ds h. (refl, h)),
                     (
-                      kind_sound (row1 (a_signed 9223372036854775807)) literal.AbstractInt (codes "aint") ALiteral (λ t ds h. (refl, h)),
+                      kind_sound (row1 a_i64) literal.AbstractInt (codes "aint") ALiteral (λ t ds h. (refl, h)),
                       (
-                        kind_sound (row1 (a_number 18446744073709551615)) literal.AbstractFloat (codes "afloat") ALiteral (λ t ds h. (refl, h)),
+                        kind_sound (row1 a_u64) literal.AbstractFloat (codes "afloat") ALiteral (λ t ds h. (refl, h)),
                         tt,
                       ),
                     ),
@@ -91,17 +91,17 @@ literal_sound = (
 pub literal_complete : (x : Literal) → (ds : Items) → ALiteral x ds → items_depth ds ≤ deepest → of_kind literal_kinds literal_with ds ≡ Some x
 unfolding literal_with
 literal_complete (literal.Bool v) = kind_complete literal_kinds literal_with (row1 a_bool) literal.Bool (codes "bool") literal_kind.Bool refl (λ ds. refl) v
-literal_complete (literal.I16 v) = kind_complete literal_kinds literal_with (row1 (a_signed 32767)) literal.I16 (codes "i16") literal_kind.I16 refl (λ ds. refl) v
-literal_complete (literal.U16 v) = kind_complete literal_kinds literal_with (row1 (a_number 65535)) literal.U16 (codes "u16") literal_kind.U16 refl (λ ds. refl) v
-literal_complete (literal.I32 v) = kind_complete literal_kinds literal_with (row1 (a_signed 2147483647)) literal.I32 (codes "i32") literal_kind.I32 refl (λ ds. refl) v
-literal_complete (literal.U32 v) = kind_complete literal_kinds literal_with (row1 (a_number 4294967295)) literal.U32 (codes "u32") literal_kind.U32 refl (λ ds. refl) v
-literal_complete (literal.I64 v) = kind_complete literal_kinds literal_with (row1 (a_signed 9223372036854775807)) literal.I64 (codes "i64") literal_kind.I64 refl (λ ds. refl) v
-literal_complete (literal.U64 v) = kind_complete literal_kinds literal_with (row1 (a_number 18446744073709551615)) literal.U64 (codes "u64") literal_kind.U64 refl (λ ds. refl) v
-literal_complete (literal.F16 v) = kind_complete literal_kinds literal_with (row1 (a_number 65535)) literal.F16 (codes "f16") literal_kind.F16 refl (λ ds. refl) v
-literal_complete (literal.F32 v) = kind_complete literal_kinds literal_with (row1 (a_number 4294967295)) literal.F32 (codes "f32") literal_kind.F32 refl (λ ds. refl) v
-literal_complete (literal.F64 v) = kind_complete literal_kinds literal_with (row1 (a_number 18446744073709551615)) literal.F64 (codes "f64") literal_kind.F64 refl (λ ds. refl) v
-literal_complete (literal.AbstractInt v) = kind_complete literal_kinds literal_with (row1 (a_signed 9223372036854775807)) literal.AbstractInt (codes "aint") literal_kind.AbstractInt refl (λ ds. refl) v
-literal_complete (literal.AbstractFloat v) = kind_complete literal_kinds literal_with (row1 (a_number 18446744073709551615)) literal.AbstractFloat (codes "afloat") literal_kind.AbstractFloat refl (λ ds. refl) v
+literal_complete (literal.I16 v) = kind_complete literal_kinds literal_with (row1 a_i16) literal.I16 (codes "i16") literal_kind.I16 refl (λ ds. refl) v
+literal_complete (literal.U16 v) = kind_complete literal_kinds literal_with (row1 a_u16) literal.U16 (codes "u16") literal_kind.U16 refl (λ ds. refl) v
+literal_complete (literal.I32 v) = kind_complete literal_kinds literal_with (row1 a_i32) literal.I32 (codes "i32") literal_kind.I32 refl (λ ds. refl) v
+literal_complete (literal.U32 v) = kind_complete literal_kinds literal_with (row1 a_u32) literal.U32 (codes "u32") literal_kind.U32 refl (λ ds. refl) v
+literal_complete (literal.I64 v) = kind_complete literal_kinds literal_with (row1 a_i64) literal.I64 (codes "i64") literal_kind.I64 refl (λ ds. refl) v
+literal_complete (literal.U64 v) = kind_complete literal_kinds literal_with (row1 a_u64) literal.U64 (codes "u64") literal_kind.U64 refl (λ ds. refl) v
+literal_complete (literal.F16 v) = kind_complete literal_kinds literal_with (row1 a_u16) literal.F16 (codes "f16") literal_kind.F16 refl (λ ds. refl) v
+literal_complete (literal.F32 v) = kind_complete literal_kinds literal_with (row1 a_u32) literal.F32 (codes "f32") literal_kind.F32 refl (λ ds. refl) v
+literal_complete (literal.F64 v) = kind_complete literal_kinds literal_with (row1 a_u64) literal.F64 (codes "f64") literal_kind.F64 refl (λ ds. refl) v
+literal_complete (literal.AbstractInt v) = kind_complete literal_kinds literal_with (row1 a_i64) literal.AbstractInt (codes "aint") literal_kind.AbstractInt refl (λ ds. refl) v
+literal_complete (literal.AbstractFloat v) = kind_complete literal_kinds literal_with (row1 a_u64) literal.AbstractFloat (codes "afloat") literal_kind.AbstractFloat refl (λ ds. refl) v
 
 abbrev pub a_literal : RowOf Literal
 a_literal = row_by_kind literal_kinds literal_with ALiteral literal_sound literal_complete
@@ -283,7 +283,7 @@ expression_with expression_kind.Select ds = option_map (λ t. computes (computed
 expression_with expression_kind.Derivative ds = option_map (λ t. computes (computed.Derivative t.0 t.1 t.2)) ((row3 (a_word derivative_axes) (a_word derivative_controls) a_handle).find ds)
 expression_with expression_kind.Relational ds = option_map (λ t. computes (computed.Relational t.0 t.1)) ((row2 (a_word relational_functions) a_handle).find ds)
 expression_with expression_kind.Math ds = option_map (λ t. computes (computed.Math t.0 t.1 t.2 t.3 t.4)) ((row5 (a_word math_functions) a_handle (maybe a_handle) (maybe a_handle) (maybe a_handle)).find ds)
-expression_with expression_kind.As ds = option_map (λ t. computes (computed.As t.0 t.1 t.2)) ((row3 a_handle (a_word scalar_kinds) (maybe (a_number 255))).find ds)
+expression_with expression_kind.As ds = option_map (λ t. computes (computed.As t.0 t.1 t.2)) ((row3 a_handle (a_word scalar_kinds) (maybe a_u8)).find ds)
 expression_with expression_kind.CallResult ds = option_map (λ t. computes (computed.CallResult t)) ((row1 a_handle).find ds)
 expression_with expression_kind.AtomicResult ds = option_map (λ t. computes (computed.AtomicResult t.0 t.1)) ((row2 a_handle a_bool).find ds)
 expression_with expression_kind.WorkGroupUniformLoadResult ds = option_map (λ t. computes (computed.WorkGroupUniformLoadResult t)) ((row1 a_handle).find ds)
@@ -343,7 +343,7 @@ expression_sound = (
                                           (
                                             kind_sound (row5 (a_word math_functions) a_handle (maybe a_handle) (maybe a_handle) (maybe a_handle)) (λ t. computes (computed.Math t.0 t.1 t.2 t.3 t.4)) (codes "Math") (λ x ds. AnExpression x (array ds)) (λ t ds h. (refl, h)),
                                             (
-                                              kind_sound (row3 a_handle (a_word scalar_kinds) (maybe (a_number 255))) (λ t. computes (computed.As t.0 t.1 t.2)) (codes "As") (λ x ds. AnExpression x (array ds)) (λ t ds h. (refl, h)),
+                                              kind_sound (row3 a_handle (a_word scalar_kinds) (maybe a_u8)) (λ t. computes (computed.As t.0 t.1 t.2)) (codes "As") (λ x ds. AnExpression x (array ds)) (λ t ds h. (refl, h)),
                                               (
                                                 kind_sound (row1 a_handle) (λ t. computes (computed.CallResult t)) (codes "CallResult") (λ x ds. AnExpression x (array ds)) (λ t ds h. (refl, h)),
                                                 (
@@ -426,7 +426,7 @@ expression_complete (computes (computed.Select condition accept reject)) = tagge
 expression_complete (computes (computed.Derivative axis ctrl expr)) = tagged_complete expression_kinds expression_with (row3 (a_word derivative_axes) (a_word derivative_controls) a_handle) (λ t. computes (computed.Derivative t.0 t.1 t.2)) (codes "Derivative") expression_kind.Derivative refl (λ ds. refl) (axis, ctrl, expr)
 expression_complete (computes (computed.Relational fun argument)) = tagged_complete expression_kinds expression_with (row2 (a_word relational_functions) a_handle) (λ t. computes (computed.Relational t.0 t.1)) (codes "Relational") expression_kind.Relational refl (λ ds. refl) (fun, argument)
 expression_complete (computes (computed.Math fun arg arg1 arg2 arg3)) = tagged_complete expression_kinds expression_with (row5 (a_word math_functions) a_handle (maybe a_handle) (maybe a_handle) (maybe a_handle)) (λ t. computes (computed.Math t.0 t.1 t.2 t.3 t.4)) (codes "Math") expression_kind.Math refl (λ ds. refl) (fun, arg, arg1, arg2, arg3)
-expression_complete (computes (computed.As expr kind convert)) = tagged_complete expression_kinds expression_with (row3 a_handle (a_word scalar_kinds) (maybe (a_number 255))) (λ t. computes (computed.As t.0 t.1 t.2)) (codes "As") expression_kind.As refl (λ ds. refl) (expr, kind, convert)
+expression_complete (computes (computed.As expr kind convert)) = tagged_complete expression_kinds expression_with (row3 a_handle (a_word scalar_kinds) (maybe a_u8)) (λ t. computes (computed.As t.0 t.1 t.2)) (codes "As") expression_kind.As refl (λ ds. refl) (expr, kind, convert)
 expression_complete (computes (computed.CallResult function)) = tagged_complete expression_kinds expression_with (row1 a_handle) (λ t. computes (computed.CallResult t)) (codes "CallResult") expression_kind.CallResult refl (λ ds. refl) function
 expression_complete (computes (computed.AtomicResult ty comparison)) = tagged_complete expression_kinds expression_with (row2 a_handle a_bool) (λ t. computes (computed.AtomicResult t.0 t.1)) (codes "AtomicResult") expression_kind.AtomicResult refl (λ ds. refl) (ty, comparison)
 expression_complete (computes (computed.WorkGroupUniformLoadResult ty)) = tagged_complete expression_kinds expression_with (row1 a_handle) (λ t. computes (computed.WorkGroupUniformLoadResult t)) (codes "WorkGroupUniformLoadResult") expression_kind.WorkGroupUniformLoadResult refl (λ ds. refl) ty

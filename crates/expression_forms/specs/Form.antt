@@ -12,23 +12,23 @@ use Rattle.ir_expressions.specs.declared.expressions.ImageQuery.TheVariants as q
 use Rattle.ir_expressions.specs.Plain.{PlainExpression, compose, plain as computes}
 use Rattle.ir_expressions.specs.declared.expressions.Expression.TheVariants as computed
 use Rattle.document_words.specs.Tables.{letters, cooperative_roles, unary_operators, binary_operators, derivative_axes, derivative_controls, relational_functions, math_functions, scalar_kinds}
-use Rattle.document_forms.specs.Form.{ANumber, AHandle, AU32, ASigned, ASize, ASide, ABool, AText, AWord, Maybe, AList, Ends, ◌▸◌, Tagged}
+use Rattle.document_forms.specs.Form.{AU8, AU16, AU64, AI16, AI32, AI64, AHandle, AU32, ASize, ASide, ABool, AText, AWord, Maybe, AList, Ends, ◌▸◌, Tagged}
 
 -- ---- literals
 
 abbrev pub ALiteral : Literal → Items → Type 0
 ALiteral (literal.Bool v) = AText (codes "bool") ▸ ABool v ▸ Ends
-ALiteral (literal.I16 v) = AText (codes "i16") ▸ ASigned 32767 v ▸ Ends
-ALiteral (literal.U16 v) = AText (codes "u16") ▸ ANumber 65535 v ▸ Ends
-ALiteral (literal.I32 v) = AText (codes "i32") ▸ ASigned 2147483647 v ▸ Ends
-ALiteral (literal.U32 v) = AText (codes "u32") ▸ ANumber 4294967295 v ▸ Ends
-ALiteral (literal.I64 v) = AText (codes "i64") ▸ ASigned 9223372036854775807 v ▸ Ends
-ALiteral (literal.U64 v) = AText (codes "u64") ▸ ANumber 18446744073709551615 v ▸ Ends
-ALiteral (literal.F16 v) = AText (codes "f16") ▸ ANumber 65535 v ▸ Ends
-ALiteral (literal.F32 v) = AText (codes "f32") ▸ ANumber 4294967295 v ▸ Ends
-ALiteral (literal.F64 v) = AText (codes "f64") ▸ ANumber 18446744073709551615 v ▸ Ends
-ALiteral (literal.AbstractInt v) = AText (codes "aint") ▸ ASigned 9223372036854775807 v ▸ Ends
-ALiteral (literal.AbstractFloat v) = AText (codes "afloat") ▸ ANumber 18446744073709551615 v ▸ Ends
+ALiteral (literal.I16 v) = AText (codes "i16") ▸ AI16 v ▸ Ends
+ALiteral (literal.U16 v) = AText (codes "u16") ▸ AU16 v ▸ Ends
+ALiteral (literal.I32 v) = AText (codes "i32") ▸ AI32 v ▸ Ends
+ALiteral (literal.U32 v) = AText (codes "u32") ▸ AU32 v ▸ Ends
+ALiteral (literal.I64 v) = AText (codes "i64") ▸ AI64 v ▸ Ends
+ALiteral (literal.U64 v) = AText (codes "u64") ▸ AU64 v ▸ Ends
+ALiteral (literal.F16 v) = AText (codes "f16") ▸ AU16 v ▸ Ends
+ALiteral (literal.F32 v) = AText (codes "f32") ▸ AU32 v ▸ Ends
+ALiteral (literal.F64 v) = AText (codes "f64") ▸ AU64 v ▸ Ends
+ALiteral (literal.AbstractInt v) = AText (codes "aint") ▸ AI64 v ▸ Ends
+ALiteral (literal.AbstractFloat v) = AText (codes "afloat") ▸ AU64 v ▸ Ends
 
 -- ---- levels of detail, and what is asked of an image
 
@@ -80,7 +80,7 @@ AnExpression (computes (computed.Select condition accept reject)) = Tagged (code
 AnExpression (computes (computed.Derivative axis ctrl expr)) = Tagged (codes "Derivative") (AWord derivative_axes axis ▸ AWord derivative_controls ctrl ▸ AHandle expr ▸ Ends)
 AnExpression (computes (computed.Relational fun argument)) = Tagged (codes "Relational") (AWord relational_functions fun ▸ AHandle argument ▸ Ends)
 AnExpression (computes (computed.Math fun arg arg1 arg2 arg3)) = Tagged (codes "Math") (AWord math_functions fun ▸ AHandle arg ▸ Maybe AHandle arg1 ▸ Maybe AHandle arg2 ▸ Maybe AHandle arg3 ▸ Ends)
-AnExpression (computes (computed.As expr kind convert)) = Tagged (codes "As") (AHandle expr ▸ AWord scalar_kinds kind ▸ Maybe (ANumber 255) convert ▸ Ends)
+AnExpression (computes (computed.As expr kind convert)) = Tagged (codes "As") (AHandle expr ▸ AWord scalar_kinds kind ▸ Maybe AU8 convert ▸ Ends)
 AnExpression (computes (computed.CallResult function)) = Tagged (codes "CallResult") (AHandle function ▸ Ends)
 AnExpression (computes (computed.AtomicResult ty comparison)) = Tagged (codes "AtomicResult") (AHandle ty ▸ ABool comparison ▸ Ends)
 AnExpression (computes (computed.WorkGroupUniformLoadResult ty)) = Tagged (codes "WorkGroupUniformLoadResult") (AHandle ty ▸ Ends)

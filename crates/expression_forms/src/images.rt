@@ -1,4 +1,4 @@
-// How images are read: levels of detail, questions, and the letters of a swizzle.
+// How images are read: levels of detail, queries, and the letters of a swizzle.
 ghost use Rattle.std.specs.Prelude.{◌≡◌, List, option_map};
 ghost use Rattle.ir_kinds.specs.declared.scalars.SwizzleComponent.{SwizzleComponent};
 ghost use Rattle.ir_expressions.specs.declared.expressions.SampleLevel.{SampleLevel};

@@ -14,10 +14,10 @@ use Rattle.ir_blocks.specs.declared.operations.RayPipelineFunction.TheVariants a
 use Rattle.ir_blocks.specs.Plain.{PlainOperation, control_barrier, memory_barrier, store, image_store, atomic, image_atomic, uniform_load, ray_query, ballot, collective, gather, cooperative_store, ray_pipeline, PlainStatement, emit, block, if_, switch, loop, break, continue, return, kill, operation, call, PlainBlock, stop, next, PlainCases, no_case, case}
 use Rattle.document_words.specs.Unions.{barrier_union}
 use Rattle.document_words.specs.Tables.{barriers, subgroup_operations, collective_operations, directions}
-use Rattle.document_forms.specs.Form.{AHandle, AU32, ASigned, ABool, AWord, ASet, Maybe, AnArray, AList, Ends, Starts, ◌▸◌, Tagged}
+use Rattle.document_forms.specs.Form.{AI32, AHandle, AU32, ABool, AWord, ASet, Maybe, AnArray, AList, Ends, Starts, ◌▸◌, Tagged}
 
 unfoldable pub AValue : SwitchValue → Data → Type 0
-AValue (switch_values.I32 amount) = Tagged (codes "I32") (ASigned 2147483647 amount ▸ Ends)
+AValue (switch_values.I32 amount) = Tagged (codes "I32") (AI32 amount ▸ Ends)
 AValue (switch_values.U32 amount) = Tagged (codes "U32") (AU32 amount ▸ Ends)
 AValue switch_values.Default = Tagged (codes "Default") Ends
 

@@ -21,7 +21,7 @@ use Rattle.document_forms.specs.Form.{ABool, AnArray, EachOf, Ends, Starts, ◌�
 use Rattle.document_forms.specs.Decide.{each, all_of, tagged_of}
 use Rattle.document_forms.specs.Inverse.{map_some}
 use Rattle.document_forms.specs.KindLaws.{AreSound, kind_sound, tagged_complete, tagged_sound}
-use Rattle.document_forms.specs.Forms.{a_signed, a_handle, a_u32, a_bool, a_word, a_set, maybe, a_list, ends, an_array, by_kind}
+use Rattle.document_forms.specs.Forms.{a_i32, a_handle, a_u32, a_bool, a_word, a_set, maybe, a_list, ends, an_array, by_kind}
 use Rattle.document_forms.specs.Rows.{row1, row2, row3, row4, row5}
 use Rattle.function_forms.specs.StatementForm.{AValue, AnAtomic, AGather, AQueryFunction, APipeline, AnAct, AStatement, TheStatements, TheCases, ABody}
 use Rattle.function_forms.specs.Kinds.{value_kinds, atomic_kinds, gather_kinds, ray_query_kinds, pipeline_kinds, statement_kinds}
@@ -41,14 +41,14 @@ use Rattle.function_forms.specs.declared.kinds.StatementKind.TheVariants as stat
 -- ---- the parts of statements that are tagged themselves
 
 unfoldable pub value_with : ValueKind → Items → Option SwitchValue
-value_with value_kind.I32 ds = option_map (λ t. switch_values.I32 t) ((row1 (a_signed 2147483647)).find ds)
+value_with value_kind.I32 ds = option_map (λ t. switch_values.I32 t) ((row1 a_i32).find ds)
 value_with value_kind.U32 ds = option_map (λ t. switch_values.U32 t) ((row1 a_u32).find ds)
 value_with value_kind.Default ds = option_map (λ t. switch_values.Default) (ends.find ds)
 
 pub value_sound : AreSound value_with (λ x ds. AValue x (array ds)) value_kinds
 unfolding value_with AValue
 value_sound = (
-  kind_sound (row1 (a_signed 2147483647)) (λ t. switch_values.I32 t) (codes "I32") (λ x ds. AValue x (array ds)) (λ t ds h. (refl, h)),
+  kind_sound (row1 a_i32) (λ t. switch_values.I32 t) (codes "I32") (λ x ds. AValue x (array ds)) (λ t ds h. (refl, h)),
   (
     kind_sound (row1 a_u32) (λ t. switch_values.U32 t) (codes "U32") (λ x ds. AValue x (array ds)) (λ t ds h. (refl, h)),
     (
@@ -60,7 +60,7 @@ value_sound = (
 
 pub value_complete : (x : SwitchValue) → (d : Data) → AValue x d → depth d ≤ deepest → tagged_of value_kinds value_with d ≡ Some x
 unfolding value_with AValue
-value_complete (switch_values.I32 a) = tagged_complete value_kinds value_with (row1 (a_signed 2147483647)) (λ t. switch_values.I32 t) (codes "I32") value_kind.I32 refl (λ ds. refl) a
+value_complete (switch_values.I32 a) = tagged_complete value_kinds value_with (row1 a_i32) (λ t. switch_values.I32 t) (codes "I32") value_kind.I32 refl (λ ds. refl) a
 value_complete (switch_values.U32 a) = tagged_complete value_kinds value_with (row1 a_u32) (λ t. switch_values.U32 t) (codes "U32") value_kind.U32 refl (λ ds. refl) a
 value_complete switch_values.Default = tagged_complete value_kinds value_with ends (λ t. switch_values.Default) (codes "Default") value_kind.Default refl (λ ds. refl) tt
 

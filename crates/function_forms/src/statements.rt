@@ -11,16 +11,13 @@ use crate::operations;
 use crate::kinds::StatementKind;
 use crate::parts::ValueForm;
 use document_forms::{
-    At, End, Form, Maybe, ReadError, Row, Truth, Wanted, read_at, read_tag, split_part,
+    At, End, Form, MAX_DEPTH, Maybe, ReadError, Row, Truth, Wanted, read_at, read_tag, split_part,
 };
 use ir_arena::span::Span;
 use ir_blocks::{Block, Statement, SwitchCase};
 use ir_types::key;
 use serde_json::Value;
 use std::alloc::Global;
-
-// As deep as the JSON reader lets values nest.
-const MAX_DEPTH: usize = 127;
 
 type E = At<key::Expression>;
 

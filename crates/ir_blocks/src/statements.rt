@@ -57,9 +57,9 @@ pub enum Statement {
         /// The cases in order, one of them the default.
         cases: Vec<SwitchCase>,
     },
-    /// Does a body and then a continuing part, again and again.
+    /// A loop: its body and then its continuing part, until something leaves it.
     Loop {
-        /// What is done first in each turn.
+        /// The loop body.
         body: Block,
         /// What is done after it, also where the body is left by `Continue`.
         continuing: Block,
@@ -146,29 +146,29 @@ pub enum Statement {
         /// What is done.
         fun: RayQueryFunction,
     },
-    /// Asks all of a subgroup.
+    /// A subgroup ballot.
     SubgroupBallot {
         /// The `SubgroupBallotResult` that stands for the answer.
         result: Handle<key::Expression>,
-        /// What each says; `true` where there is none.
+        /// The predicate of each invocation; `true` where there is none.
         predicate: Option<Handle<key::Expression>>,
     },
-    /// Computes one thing of what all of a subgroup have.
+    /// A subgroup collective operation.
     SubgroupCollectiveOperation {
         /// What is computed.
         op: SubgroupOperation,
         /// Of all, or of those before.
         collective_op: CollectiveOperation,
-        /// What each has.
+        /// The argument of each invocation.
         argument: Handle<key::Expression>,
         /// The `SubgroupOperationResult` that stands for the answer.
         result: Handle<key::Expression>,
     },
-    /// Takes what another of the subgroup has.
+    /// A subgroup gather: each invocation takes the argument of another.
     SubgroupGather {
-        /// From which.
+        /// From which invocation.
         mode: GatherMode,
-        /// What each has.
+        /// The argument of each invocation.
         argument: Handle<key::Expression>,
         /// The `SubgroupOperationResult` that stands for the answer.
         result: Handle<key::Expression>,
@@ -180,7 +180,7 @@ pub enum Statement {
         /// The memory (naga's `data`).
         block: CooperativeData,
     },
-    /// Asks something of a pipeline of ray tracing.
+    /// A function of a ray tracing pipeline.
     RayPipelineFunction(RayPipelineFunction),
 }
 

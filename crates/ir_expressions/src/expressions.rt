@@ -134,7 +134,7 @@ pub enum Expression {
     ImageSample {
         /// The image.
         image: Handle<key::Expression>,
-        /// How it is sampled.
+        /// The sampler.
         sampler: Handle<key::Expression>,
         /// Which component of four texels is gathered, if that is what is done.
         gather: Option<SwizzleComponent>,
@@ -164,14 +164,14 @@ pub enum Expression {
         /// At which level of detail.
         level: Option<Handle<key::Expression>>,
     },
-    /// What is asked of an image.
+    /// An image query.
     ImageQuery {
         /// The image.
         image: Handle<key::Expression>,
-        /// What is asked.
+        /// The query.
         query: ImageQuery,
     },
-    /// An operation on one value.
+    /// A unary operation.
     Unary {
         /// The operation.
         op: UnaryOperator,
@@ -187,27 +187,27 @@ pub enum Expression {
         /// The second.
         right: Handle<key::Expression>,
     },
-    /// One of two values.
+    /// A selection: one of two values.
     Select {
-        /// What chooses, component by component where it is a vector.
+        /// The condition, component by component where it is a vector.
         condition: Handle<key::Expression>,
         /// What is taken where it holds.
         accept: Handle<key::Expression>,
         /// What is taken where it doesn't.
         reject: Handle<key::Expression>,
     },
-    /// How fast a value changes from fragment to fragment.
+    /// A derivative: how fast a value changes from fragment to fragment.
     Derivative {
-        /// Which way.
+        /// The axis.
         axis: DerivativeAxis,
-        /// How exactly.
+        /// How finely it is taken.
         ctrl: DerivativeControl,
         /// The value.
         expr: Handle<key::Expression>,
     },
-    /// A question about a value.
+    /// A relational function.
     Relational {
-        /// The question.
+        /// The function.
         fun: RelationalFunction,
         /// The value.
         argument: Handle<key::Expression>,
@@ -216,16 +216,16 @@ pub enum Expression {
     Math {
         /// The function.
         fun: MathFunction,
-        /// What it is given.
+        /// Its first argument.
         arg: Handle<key::Expression>,
-        /// What it is given second.
+        /// Its second argument.
         arg1: Option<Handle<key::Expression>>,
-        /// What it is given third.
+        /// Its third argument.
         arg2: Option<Handle<key::Expression>>,
-        /// What it is given fourth.
+        /// Its fourth argument.
         arg3: Option<Handle<key::Expression>>,
     },
-    /// A value as another kind of scalar.
+    /// A conversion to another kind of scalar.
     As {
         /// The value.
         expr: Handle<key::Expression>,
@@ -234,21 +234,21 @@ pub enum Expression {
         /// How many bytes the scalar then has; where there is none, the same bits are read anew.
         convert: Option<Bytes>,
     },
-    /// What a call of this function answered.
+    /// The result of a call of this function.
     CallResult(Handle<key::Function>),
-    /// What an atomic operation answered.
+    /// The result of an atomic operation.
     AtomicResult {
         /// Its type.
         ty: Handle<key::IrType>,
         /// Whether it is the answer of an exchange that compares.
         comparison: bool,
     },
-    /// What a uniform load of workgroup memory answered.
+    /// The result of a uniform load of workgroup memory.
     WorkGroupUniformLoadResult {
         /// Its type.
         ty: Handle<key::IrType>,
     },
-    /// How many elements lie where a pointer to a runtime-sized array points.
+    /// The length of the runtime-sized array that a pointer points to, in elements.
     ArrayLength(Handle<key::Expression>),
     /// The vertices of the triangle that a ray hit.
     RayQueryVertexPositions {
@@ -257,23 +257,23 @@ pub enum Expression {
         /// Whether the hit is the one that was settled on.
         committed: bool,
     },
-    /// Whether a ray query went on.
+    /// The result of proceeding with a ray query: whether it went on.
     RayQueryProceedResult,
-    /// What a ray hit.
+    /// The intersection that a ray query found.
     RayQueryGetIntersection {
         /// The ray query.
         query: Handle<key::Expression>,
         /// Whether the hit is the one that was settled on.
         committed: bool,
     },
-    /// What a ballot answered.
+    /// The result of a subgroup ballot.
     SubgroupBallotResult,
-    /// What an operation of a subgroup answered.
+    /// The result of a subgroup operation.
     SubgroupOperationResult {
         /// Its type.
         ty: Handle<key::IrType>,
     },
-    /// A cooperative matrix from memory.
+    /// A load of a cooperative matrix.
     CooperativeLoad {
         /// How many columns.
         columns: CooperativeSize,

@@ -2,5 +2,6 @@
 #![tactic(auto)]
 
 mod expressions;
+pub mod laws;
 
 pub use expressions::{CooperativeData, Expression, ImageQuery, SampleLevel};

@@ -1,17 +1,17 @@
 //! Operators and functions of expressions.
 
-/// An operator with one operand (naga's `UnaryOperator`).
+/// A unary operator (naga's `UnaryOperator`).
 #[derive(Clone, Copy, PartialEq, Eq, Debug)]
 pub enum UnaryOperator {
     /// The negative.
     Negate,
-    /// Not, of truth values.
+    /// Logical not.
     LogicalNot,
-    /// Not, of bits.
+    /// Bitwise complement.
     BitwiseNot,
 }
 
-/// An operator with two operands (naga's `BinaryOperator`).
+/// A binary operator (naga's `BinaryOperator`).
 #[derive(Clone, Copy, PartialEq, Eq, Debug)]
 pub enum BinaryOperator {
     /// The sum.
@@ -36,23 +36,23 @@ pub enum BinaryOperator {
     Greater,
     /// Whether the left is not less.
     GreaterEqual,
-    /// And, of bits.
+    /// Bitwise and.
     And,
-    /// Exclusive or, of bits.
+    /// Bitwise exclusive or.
     ExclusiveOr,
-    /// Or, of bits.
+    /// Bitwise inclusive or.
     InclusiveOr,
-    /// And, of truth values.
+    /// Logical and.
     LogicalAnd,
-    /// Or, of truth values.
+    /// Logical or.
     LogicalOr,
-    /// The bits moved up.
+    /// Shift left.
     ShiftLeft,
-    /// The bits moved down, with the sign of the left operand.
+    /// Shift right, arithmetic where the left operand has a sign.
     ShiftRight,
 }
 
-/// A function that gives truth values (naga's `RelationalFunction`).
+/// A relational function, which answers booleans (naga's `RelationalFunction`).
 #[derive(Clone, Copy, PartialEq, Eq, Debug)]
 pub enum RelationalFunction {
     /// Whether all components are true.
@@ -72,7 +72,7 @@ pub enum DerivativeAxis {
     X,
     /// Along y.
     Y,
-    /// The sum of both, without signs.
+    /// The sum of the absolute values of both.
     Width,
 }
 

@@ -1,6 +1,6 @@
 //! Operations of a subgroup.
 
-/// What a subgroup brings together (naga's `SubgroupOperation`).
+/// An operation of a subgroup collective (naga's `SubgroupOperation`).
 #[derive(Clone, Copy, PartialEq, Eq, Debug)]
 pub enum SubgroupOperation {
     /// Whether all are true.
@@ -15,22 +15,22 @@ pub enum SubgroupOperation {
     Min,
     /// The greatest.
     Max,
-    /// And, of bits.
+    /// Bitwise and.
     And,
-    /// Or, of bits.
+    /// Bitwise or.
     Or,
-    /// Exclusive or, of bits.
+    /// Bitwise exclusive or.
     Xor,
 }
 
 /// Over which invocations a subgroup operation goes (naga's `CollectiveOperation`).
 #[derive(Clone, Copy, PartialEq, Eq, Debug)]
 pub enum CollectiveOperation {
-    /// Over all.
+    /// A reduction: over all.
     Reduce,
-    /// Over those up to each one.
+    /// An inclusive scan: over those up to each one.
     InclusiveScan,
-    /// Over those before each one.
+    /// An exclusive scan: over those before each one.
     ExclusiveScan,
 }
 

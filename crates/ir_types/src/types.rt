@@ -109,7 +109,7 @@ pub enum TypeInner {
         /// What its texels are.
         class: ImageClass,
     },
-    /// What tells how an image is sampled.
+    /// A sampler.
     Sampler {
         /// Whether it compares depths.
         comparison: bool,

@@ -11,7 +11,7 @@ use Rattle.ir_items.specs.declared.entries.MeshStageInfo.{MeshStageInfo}
 use Rattle.ir_globals.specs.Plain.{PlainConstant, PlainOverride, PlainGlobal, PlainRule, standard, unknown, user, PlainNode, PlainSpecial}
 use Rattle.document_words.specs.Unions.{decoration_union}
 use Rattle.document_words.specs.Tables.{scalars, severities, standard_rules, conservative_depths, topologies, entry_stages, memory_decorations}
-use Rattle.document_forms.specs.Form.{ANumber, AHandle, AU32, ASize, AText, AWord, ASet, Maybe, AnArray, AList, Ends, ◌▸◌, Tagged}
+use Rattle.document_forms.specs.Form.{AU16, AHandle, AU32, ASize, AText, AWord, ASet, Maybe, AnArray, AList, Ends, ◌▸◌, Tagged}
 use Rattle.item_forms.specs.Form.{ASpace, AResource}
 
 -- ---- constants, overrides and global variables
@@ -21,7 +21,7 @@ AConstant c = AnArray (Maybe AText c.name ▸ AHandle c.ty ▸ AHandle c.init �
 
 -- the number that a pipeline calls an override by
 abbrev pub AnId : ℕ → Data → Type 0
-AnId n d = ANumber 65535 n d
+AnId n d = AU16 n d
 
 abbrev pub AnOverride : PlainOverride → Data → Type 0
 AnOverride o = AnArray (Maybe AText o.name ▸ Maybe AnId o.id ▸ AHandle o.ty ▸ Maybe AHandle o.init ▸ Ends)

@@ -13,7 +13,7 @@ use Rattle.document_forms.specs.Exact.{deepest, IsExact, FormOf}
 use Rattle.document_forms.specs.Decide.{tagged_of}
 use Rattle.document_forms.specs.Inverse.{map_some}
 use Rattle.document_forms.specs.KindLaws.{AreSound, kind_sound, tagged_complete}
-use Rattle.document_forms.specs.Forms.{a_number, a_handle, a_u32, a_text, a_word, a_set, maybe, a_list, ends, an_array, made, by_kind}
+use Rattle.document_forms.specs.Forms.{a_u16, a_handle, a_u32, a_text, a_word, a_set, maybe, a_list, ends, an_array, made, by_kind}
 use Rattle.document_forms.specs.Rows.{row1, row2, row3, row4, row6, row8}
 use Rattle.item_forms.specs.Types.{a_space, a_resource}
 use Rattle.item_forms.specs.Kinds.{rule_kinds, early_kinds}
@@ -29,7 +29,7 @@ abbrev pub a_constant : FormOf PlainConstant
 a_constant = made (an_array (row3 (maybe a_text) a_handle a_handle)) (λ t. record { name = t.0; ty = t.1; init = t.2 }) (λ c. (c.name, c.ty, c.init)) AConstant (λ c. refl) (λ t d h. h) (λ c d h. h)
 
 abbrev pub an_override : FormOf PlainOverride
-an_override = made (an_array (row4 (maybe a_text) (maybe (a_number 65535)) a_handle (maybe a_handle))) (λ t. record { name = t.0; id = t.1; ty = t.2; init = t.3 }) (λ o. (o.name, o.id, o.ty, o.init)) AnOverride (λ o. refl) (λ t d h. h) (λ o d h. h)
+an_override = made (an_array (row4 (maybe a_text) (maybe a_u16) a_handle (maybe a_handle))) (λ t. record { name = t.0; id = t.1; ty = t.2; init = t.3 }) (λ o. (o.name, o.id, o.ty, o.init)) AnOverride (λ o. refl) (λ t d h. h) (λ o d h. h)
 
 abbrev pub a_global : FormOf PlainGlobal
 a_global = made (an_array (row6 (maybe a_text) a_space (maybe a_resource) a_handle (maybe a_handle) (a_set memory_decorations (record { 0 = 0 }) decoration_union))) (λ t. record { name = t.0; space = t.1; binding = t.2; ty = t.3; init = t.4; decorations = t.5 }) (λ g. (g.name, g.space, g.binding, g.ty, g.init, g.decorations)) AGlobal (λ g. refl) (λ t d h. h) (λ g d h. h)

@@ -1,4 +1,4 @@
--- One of two values, and questions about a value.
+-- Selections and relational functions.
 use Rattle.std.specs.Prelude.{Result, Ok}
 use Rattle.ir_kinds.specs.declared.operators.RelationalFunction.{RelationalFunction}
 use Rattle.ir_kinds.specs.declared.operators.RelationalFunction.TheVariants.{All, Any, IsNan, IsInf}

@@ -1,4 +1,4 @@
-//! Questions about a value.
+//! Selections and relational functions.
 
 ghost use Rattle.std.specs.Prelude.{◌≡◌, List};
 ghost use Rattle.ir_types.specs.Plain.{PlainType};
