@@ -2,45 +2,27 @@
 
 use ir_arena::handle::Handle;
 use ir_types::key;
-use std::error::Error;
-use std::fmt::{self, Display};
+use thiserror::Error;
+use typing_rules::MAX_TYPE_SIZE;
 
 /// What is wrong with a type that has no layout (naga's `LayoutErrorInner`, without the errors of types that name later ones:
 /// a layouter asks that there are none).
-#[derive(Clone, Copy, PartialEq, Eq, Debug)]
+#[derive(Clone, Copy, PartialEq, Eq, Debug, Error)]
 pub enum LayoutErrorInner {
     /// Its scalars take a number of bytes that is no power of two.
+    #[error("the width of its scalars is no power of two")]
     NonPowerOfTwoWidth,
-    /// A value takes more bytes than [`typing_rules::MAX_TYPE_SIZE`].
+    /// A value takes more bytes than [`MAX_TYPE_SIZE`].
+    #[error("a value is larger than {max} bytes", max = MAX_TYPE_SIZE)]
     TooLarge,
 }
 
 /// A type that has no layout (naga's `LayoutError`).
-#[derive(Clone, Copy, PartialEq, Eq, Debug)]
+#[derive(Clone, Copy, PartialEq, Eq, Debug, Error)]
+#[error("type {ty:?} has no layout: {inner}")]
 pub struct LayoutError {
     /// The type.
     pub ty: Handle<key::IrType>,
     /// What is wrong with it.
     pub inner: LayoutErrorInner,
 }
-
-impl Display for LayoutErrorInner {
-    fn fmt<W: fmt::Write>(&self, f: &mut fmt::Formatter<W>) -> fmt::Result {
-        match *self {
-            LayoutErrorInner::NonPowerOfTwoWidth => {
-                write!(f, "the width of its scalars is no power of two")
-            }
-            LayoutErrorInner::TooLarge => write!(f, "a value is larger than 2147483647 bytes"),
-        }
-    }
-}
-
-impl Error for LayoutErrorInner {}
-
-impl Display for LayoutError {
-    fn fmt<W: fmt::Write>(&self, f: &mut fmt::Formatter<W>) -> fmt::Result {
-        write!(f, "type {} has no layout: {}", self.ty.index(), self.inner)
-    }
-}
-
-impl Error for LayoutError {}

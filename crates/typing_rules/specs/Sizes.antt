@@ -1,4 +1,5 @@
 -- How many bytes a value takes.
+use Rattle.typing_rules.specs.declared.sizes.TheConstants.{MAX_TYPE_SIZE}
 use Rattle.std.specs.Prelude.{ℕ, ◌+◌, ◌-◌, ◌*◌, ◌/◌, Option, Some, None, if◌then◌else◌, nat_le}
 use Rattle.ir_kinds.specs.Scalars.{component_count}
 use Rattle.ir_kinds.specs.declared.scalars.CooperativeSize.{CooperativeSize}
@@ -48,7 +49,7 @@ type_size (plain _) = 0
 
 -- the greatest size that a type may have
 abbrev pub greatest_size : ℕ
-greatest_size = 2147483647
+greatest_size = MAX_TYPE_SIZE
 
 -- the size where a type may have it
 abbrev pub allowed : ℕ → Option ℕ

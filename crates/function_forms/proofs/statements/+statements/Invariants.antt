@@ -20,8 +20,8 @@ decreases-switch_cases l = 6 * l.depth + 3
 abbrev pub decreases-switch : goal.decreases-switch
 decreases-switch l = 6 * l.depth + 4
 
-abbrev pub decreases-if_ : goal.decreases-if_
-decreases-if_ l = 6 * l.depth + 4
+abbrev pub decreases-if_statement : goal.decreases-if_statement
+decreases-if_statement l = 6 * l.depth + 4
 
 abbrev pub decreases-loop_statement : goal.decreases-loop_statement
 decreases-loop_statement l = 6 * l.depth + 4
