@@ -11,12 +11,10 @@ ghost use Rattle.spec_expressions.specs.Context.{NamesItem, context_with};
 ghost use Rattle.spec_expressions.specs.Typing.{typing_operands, rule_at, form_read, HasTypeAmong};
 ghost use Rattle.typing_forms.specs.declared.form.Form.{Form};
 ghost use Rattle.typing_forms.specs.declared.resolution.TypeResolution.{TypeResolution};
-ghost use Rattle.typing_resolve.specs.Answers.{form_given, told, IsAnswer};
-ghost use Rattle.typing_resolve.specs.Operands.{given_form};
+ghost use Rattle.typing_operands.specs.Answers.{form_given, told, IsAnswer};
+ghost use Rattle.typing_operands.specs.Operands.{given_form};
 ghost use Rattle.typing_resolve.specs.View.{context_view};
 
-use crate::error::ResolveRefusal;
-use crate::operands::{Given, operands_of};
 use crate::typing::answered;
 use ir_arena::arena::Arena;
 use ir_arena::handle::Handle;
@@ -27,6 +25,7 @@ use ir_types::{IrType, key};
 use ir_unique_arena::unique_arena::UniqueArena;
 use std::alloc::Global;
 use typing_forms::TypeResolution;
+use typing_operands::{Given, ResolveRefusal, operands_of};
 
 /// What the type of an expression may depend on, beside those of its operands (naga's `ResolveContext`).
 #[derive(Clone, Copy)]

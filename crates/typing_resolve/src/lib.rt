@@ -7,13 +7,11 @@ mod compositions;
 mod context;
 mod conversions;
 mod cooperative_matrices;
-mod error;
 mod image_loads;
 mod image_samples;
 mod literals;
 mod loads;
 mod maths;
-mod operands;
 mod operators;
 mod ray_queries;
 mod results;
@@ -22,4 +20,3 @@ mod subgroups;
 mod typing;
 
 pub use context::ResolveContext;
-pub use error::{ResolveError, ResolveRefusal};

@@ -6,11 +6,11 @@ ghost use Rattle.overload_tables.specs.Tables.{table};
 ghost use Rattle.overload_tables.specs.Types.{value_type_of};
 ghost use Rattle.spec_expressions.specs.Maths.{value_of, taking, concluded, math_of, math_type};
 ghost use Rattle.typing_overloads.specs.Either.{any_rules};
-ghost use Rattle.typing_resolve.specs.Answers.{form_answer};
+ghost use Rattle.typing_operands.specs.Answers.{form_answer};
 ghost use Rattle.typing_resolve.specs.View.{context_view};
 
 use crate::context::ResolveContext;
-use crate::operands::{Forms, Typing};
+use typing_operands::{Forms, Typing};
 use ir_arena::handle::Handle;
 use ir_kinds::MathFunction;
 use ir_types::{TypeInner, key};

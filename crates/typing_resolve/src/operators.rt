@@ -4,10 +4,10 @@ ghost use Rattle.std.specs.Prelude.{◌≡◌, List, IfOk, Ok};
 ghost use Rattle.ir_types.specs.Plain.{PlainType};
 ghost use Rattle.spec_expressions.specs.Operators.{truth_of, vector_times, matrix_times, other_times, product, binary_type};
 ghost use Rattle.typing_forms.specs.Resolutions.{types_view};
-ghost use Rattle.typing_resolve.specs.Answers.{form_answer};
-ghost use Rattle.typing_resolve.specs.Operands.{given_form};
+ghost use Rattle.typing_operands.specs.Answers.{form_answer};
+ghost use Rattle.typing_operands.specs.Operands.{given_form};
 
-use crate::operands::{Typing, given_again, given_form};
+use typing_operands::{Typing, given_again, given_form};
 use ir_kinds::{BinaryOperator, Scalar, VectorSize};
 use ir_types::{IrType, TypeInner, key};
 use ir_unique_arena::unique_arena::UniqueArena;

@@ -3,9 +3,9 @@
 ghost use Rattle.std.specs.Prelude.{◌≡◌, List};
 ghost use Rattle.ir_types.specs.Plain.{PlainType};
 ghost use Rattle.spec_expressions.specs.Selections.{relational_type};
-ghost use Rattle.typing_resolve.specs.Answers.{form_answer};
+ghost use Rattle.typing_operands.specs.Answers.{form_answer};
 
-use crate::operands::Typing;
+use typing_operands::Typing;
 use crate::operators::truth_of;
 use ir_kinds::{RelationalFunction, Scalar};
 use ir_types::TypeInner;

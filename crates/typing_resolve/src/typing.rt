@@ -4,8 +4,8 @@ ghost use Rattle.std.specs.Prelude.{◌≡◌, List, IfOk, Some};
 ghost use Rattle.ir_types.specs.Plain.{PlainType};
 ghost use Rattle.ir_expressions.specs.Plain.{expression_view};
 ghost use Rattle.spec_expressions.specs.Context.{NamesItem};
-ghost use Rattle.typing_resolve.specs.Answers.{form_answer, told};
-ghost use Rattle.typing_resolve.specs.Operands.{rule_given};
+ghost use Rattle.typing_operands.specs.Answers.{form_answer, told};
+ghost use Rattle.typing_operands.specs.Operands.{rule_given};
 ghost use Rattle.typing_resolve.specs.View.{context_view};
 
 use crate::access::{access_index_type, access_type};
@@ -13,13 +13,11 @@ use crate::compositions::{splat_type, swizzle_type};
 use crate::context::ResolveContext;
 use crate::conversions::as_type;
 use crate::cooperative_matrices::cooperative_load_type;
-use crate::error::{ResolveRefusal, error_of};
 use crate::image_loads::{image_load_type, image_query_type};
 use crate::image_samples::image_sample_type;
 use crate::literals::{constant_type, literal_type, override_type};
 use crate::loads::{argument_type, array_length_type, global_type, load_type, local_type};
 use crate::maths::math_type;
-use crate::operands::{Given, Typing, forms_of, given_again};
 use crate::operators::binary_type;
 use crate::ray_queries::{proceed_type, special_type};
 use crate::results::call_result_type;
@@ -28,6 +26,7 @@ use crate::subgroups::ballot_type;
 use ir_expressions::Expression;
 use std::alloc::{AllocError, Global};
 use typing_forms::TypeResolution;
+use typing_operands::{Given, ResolveRefusal, Typing, error_of, forms_of, given_again, given_form};
 
 // The type of an expression whose operands have these types. The error is out of memory.
 fn typing(
@@ -41,8 +40,7 @@ fn typing(
         ≡ rule_given (context_view context.now) (expression_view expression.now) given.now) }
 {
     let types = context.types;
-    let forms = forms_of(types, given);
-    let of = forms.first;
+    let of = given_form(types, given.first);
     match *expression {
         Expression::Literal(value) => Ok(Ok(literal_type(value))),
         Expression::Constant(constant) => Ok(Ok(constant_type(context.constants, constant))),
@@ -71,7 +69,7 @@ fn typing(
             arg2,
             arg3,
             ..
-        } => math_type(alloc, context, fun, arg1, arg2, arg3, forms),
+        } => math_type(alloc, context, fun, arg1, arg2, arg3, forms_of(types, given)),
         Expression::As { kind, convert, .. } => Ok(as_type(kind, convert, of)),
         Expression::CallResult(function) => Ok(call_result_type(context.functions, function)),
         Expression::AtomicResult { ty, .. }

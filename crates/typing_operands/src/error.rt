@@ -1,7 +1,7 @@
 //! Why an expression has no type, as it is answered.
 
 ghost use Rattle.std.specs.Prelude.{◌≡◌, Some, IfOk};
-ghost use Rattle.typing_resolve.specs.Answers.{fault_of};
+ghost use Rattle.typing_operands.specs.Answers.{fault_of};
 
 use ir_arena::handle::Handle;
 use ir_types::key;
@@ -83,7 +83,7 @@ pub enum ResolveRefusal {
 
 impl From<MissingSpecialType> for ResolveError {
     ghost use Rattle.std.specs.Prelude.{◌≡◌};
-    ghost use Rattle.typing_resolve.specs.declared.error.ResolveError.TheVariants.{MissingSpecialType};
+    ghost use Rattle.typing_operands.specs.declared.error.ResolveError.TheVariants.{MissingSpecialType};
 
     ghost from_gives = { λ _ r. r ≡ MissingSpecialType };
 
@@ -94,7 +94,7 @@ impl From<MissingSpecialType> for ResolveError {
 
 impl From<AllocError> for ResolveRefusal {
     ghost use Rattle.std.specs.Prelude.{◌≡◌};
-    ghost use Rattle.typing_resolve.specs.declared.error.ResolveRefusal.TheVariants.{Memory};
+    ghost use Rattle.typing_operands.specs.declared.error.ResolveRefusal.TheVariants.{Memory};
 
     ghost from_gives = { λ e r. r ≡ Memory e };
 
@@ -103,8 +103,8 @@ impl From<AllocError> for ResolveRefusal {
     }
 }
 
-// The error that tells a fault, with a text where it has one. The error is out of memory.
-pub(crate) fn error_of(alloc: Global, fault: TypingFault) -> Result<ResolveError, AllocError>
+/// The error that tells a fault, with a text where it has one. The error is out of memory.
+pub fn error_of(alloc: Global, fault: TypingFault) -> Result<ResolveError, AllocError>
     ensures { IfOk result (λ e. fault_of e ≡ Some fault) }
 {
     match fault {

@@ -6,8 +6,8 @@ ghost use Rattle.ir_types.specs.Plain.{PlainType};
 ghost use Rattle.spec_expressions.specs.Maths.{math_operands};
 ghost use Rattle.spec_expressions.specs.Typing.{typing_operands};
 ghost use Rattle.typing_forms.specs.Resolutions.{types_view};
-ghost use Rattle.typing_resolve.specs.Answers.{form_given, form_answer};
-ghost use Rattle.typing_resolve.specs.Operands.{given_form};
+ghost use Rattle.typing_operands.specs.Answers.{form_given, form_answer};
+ghost use Rattle.typing_operands.specs.Operands.{given_form};
 
 use ir_arena::handle::Handle;
 use ir_expressions::Expression;
@@ -17,16 +17,20 @@ use spec_expressions::TypingFault;
 use std::alloc::{AllocError, Global};
 use typing_forms::{Form, TypeResolution, form_of};
 
-// A type, or why there is none.
-pub(crate) type Typing = Result<TypeResolution, TypingFault>;
+/// A type, or why there is none.
+pub type Typing = Result<TypeResolution, TypingFault>;
 
-// Up to four operands, in order.
+/// Up to four operands, in order.
 #[derive(Clone, Copy)]
-pub(crate) struct Operands {
-    pub(crate) first: Option<Handle<key::Expression>>,
-    pub(crate) second: Option<Handle<key::Expression>>,
-    pub(crate) third: Option<Handle<key::Expression>>,
-    pub(crate) fourth: Option<Handle<key::Expression>>,
+pub struct Operands {
+    /// The first, if there is one.
+    pub first: Option<Handle<key::Expression>>,
+    /// The second, if there is one.
+    pub second: Option<Handle<key::Expression>>,
+    /// The third, if there is one.
+    pub third: Option<Handle<key::Expression>>,
+    /// The fourth, if there is one.
+    pub fourth: Option<Handle<key::Expression>>,
 }
 
 // None.
@@ -76,8 +80,8 @@ fn math_operands(
     }
 }
 
-// The operands whose types make that of the expression.
-pub(crate) fn operands_of(expression: &Expression) -> Operands
+/// The operands whose types make that of the expression.
+pub fn operands_of(expression: &Expression) -> Operands
     ensures first { result.first ≡ slice_get (typing_operands (expression_view expression.now)) 0 }
     ensures second { result.second ≡ slice_get (typing_operands (expression_view expression.now)) 1 }
     ensures third { result.third ≡ slice_get (typing_operands (expression_view expression.now)) 2 }
@@ -130,8 +134,8 @@ pub(crate) fn operands_of(expression: &Expression) -> Operands
     }
 }
 
-// The form of an operand's type, where there is such an operand.
-pub(crate) fn given_form(
+/// The form of an operand's type, where there is such an operand.
+pub fn given_form(
     types: &UniqueArena<IrType, key::IrType>,
     given: Option<&TypeResolution>,
 ) -> Form
@@ -153,8 +157,8 @@ fn nothing(alloc: Global) -> TypeResolution
     })
 }
 
-// The type of an operand once more, as that of the expression. The error is out of memory.
-pub(crate) fn given_again(
+/// The type of an operand once more, as that of the expression. The error is out of memory.
+pub fn given_again(
     alloc: Global,
     types: &UniqueArena<IrType, key::IrType>,
     given: Option<&TypeResolution>,
@@ -170,26 +174,34 @@ pub(crate) fn given_again(
     }
 }
 
-// The types of up to four operands, in order.
+/// The types of up to four operands, in order.
 #[derive(Clone, Copy)]
-pub(crate) struct Given<'a> {
-    pub(crate) first: Option<&'a TypeResolution>,
-    pub(crate) second: Option<&'a TypeResolution>,
-    pub(crate) third: Option<&'a TypeResolution>,
-    pub(crate) fourth: Option<&'a TypeResolution>,
+pub struct Given<'a> {
+    /// That of the first, if there is one.
+    pub first: Option<&'a TypeResolution>,
+    /// That of the second, if there is one.
+    pub second: Option<&'a TypeResolution>,
+    /// That of the third, if there is one.
+    pub third: Option<&'a TypeResolution>,
+    /// That of the fourth, if there is one.
+    pub fourth: Option<&'a TypeResolution>,
 }
 
-// The forms of up to four types, in order; [`Form::Nothing`] where there is no type.
+/// The forms of up to four types, in order; [`Form::Nothing`] where there is no type.
 #[derive(Clone, Copy)]
-pub(crate) struct Forms {
-    pub(crate) first: Form,
-    pub(crate) second: Form,
-    pub(crate) third: Form,
-    pub(crate) fourth: Form,
+pub struct Forms {
+    /// That of the first.
+    pub first: Form,
+    /// That of the second.
+    pub second: Form,
+    /// That of the third.
+    pub third: Form,
+    /// That of the fourth.
+    pub fourth: Form,
 }
 
-// The forms of the types that are given.
-pub(crate) fn forms_of(types: &UniqueArena<IrType, key::IrType>, given: &Given<'_>) -> Forms
+/// The forms of the types that are given.
+pub fn forms_of(types: &UniqueArena<IrType, key::IrType>, given: &Given<'_>) -> Forms
     ensures first { result.first ≡ given_form (types_view types.now) given.now.first }
     ensures second { result.second ≡ given_form (types_view types.now) given.now.second }
     ensures third { result.third ≡ given_form (types_view types.now) given.now.third }
