@@ -45,7 +45,7 @@ fn tell(
     context: &ResolveContext<'_>,
     expressions: &Expressions,
 ) -> Result<(), AllocError> {
-    let mut found: Vec<TypeResolution> = Vec::new(alloc);
+    let mut found: Vec<TypeResolution> = Vec::with_capacity(alloc, expressions.len())?;
     for (_, expression) in expressions.iter() {
         match type_behind(alloc, context, found.as_slice(), expression) {
             Some(Ok(given)) => {
@@ -106,7 +106,7 @@ fn are_typed(
     context: &ResolveContext<'_>,
     expressions: &Expressions,
 ) -> Result<bool, AllocError> {
-    let mut found: Vec<TypeResolution> = Vec::new(alloc);
+    let mut found: Vec<TypeResolution> = Vec::with_capacity(alloc, expressions.len())?;
     for (_, expression) in expressions.iter() {
         match type_behind(alloc, context, found.as_slice(), expression) {
             Some(Ok(given)) => found.push(given)?,

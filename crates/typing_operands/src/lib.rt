@@ -6,4 +6,4 @@ mod error;
 mod operands;
 
 pub use error::{ResolveError, ResolveRefusal, error_of};
-pub use operands::{Forms, Given, Operands, Typing, forms_of, given_again, given_form, operands_of};
+pub use operands::{Given, Operands, Typing, given_again, given_form, operands_of};

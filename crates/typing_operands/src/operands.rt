@@ -135,10 +135,7 @@ pub fn operands_of(expression: &Expression) -> Operands
 }
 
 /// The form of an operand's type, where there is such an operand.
-pub fn given_form(
-    types: &UniqueArena<IrType, key::IrType>,
-    given: Option<&TypeResolution>,
-) -> Form
+pub fn given_form(types: &UniqueArena<IrType, key::IrType>, given: Option<&TypeResolution>) -> Form
     ensures { result ≡ given_form (types_view types.now) given.entry }
 {
     match given {
@@ -185,32 +182,4 @@ pub struct Given<'a> {
     pub third: Option<&'a TypeResolution>,
     /// That of the fourth, if there is one.
     pub fourth: Option<&'a TypeResolution>,
-}
-
-/// The forms of up to four types, in order; [`Form::Nothing`] where there is no type.
-#[derive(Clone, Copy)]
-pub struct Forms {
-    /// That of the first.
-    pub first: Form,
-    /// That of the second.
-    pub second: Form,
-    /// That of the third.
-    pub third: Form,
-    /// That of the fourth.
-    pub fourth: Form,
-}
-
-/// The forms of the types that are given.
-pub fn forms_of(types: &UniqueArena<IrType, key::IrType>, given: &Given<'_>) -> Forms
-    ensures first { result.first ≡ given_form (types_view types.now) given.now.first }
-    ensures second { result.second ≡ given_form (types_view types.now) given.now.second }
-    ensures third { result.third ≡ given_form (types_view types.now) given.now.third }
-    ensures fourth { result.fourth ≡ given_form (types_view types.now) given.now.fourth }
-{
-    Forms {
-        first: given_form(types, given.first),
-        second: given_form(types, given.second),
-        third: given_form(types, given.third),
-        fourth: given_form(types, given.fourth),
-    }
 }

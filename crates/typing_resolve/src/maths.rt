@@ -7,10 +7,10 @@ ghost use Rattle.overload_tables.specs.Types.{value_type_of};
 ghost use Rattle.spec_expressions.specs.Maths.{value_of, taking, concluded, math_of, math_type};
 ghost use Rattle.typing_overloads.specs.Either.{any_rules};
 ghost use Rattle.typing_operands.specs.Answers.{form_answer};
+ghost use Rattle.typing_operands.specs.Operands.{given_form};
 ghost use Rattle.typing_resolve.specs.View.{context_view};
 
 use crate::context::ResolveContext;
-use typing_operands::{Forms, Typing};
 use ir_arena::handle::Handle;
 use ir_kinds::MathFunction;
 use ir_types::{TypeInner, key};
@@ -19,6 +19,7 @@ use spec_expressions::TypingFault;
 use std::alloc::{AllocError, Global};
 use typing_conclusions::ConclusionExt;
 use typing_forms::Form;
+use typing_operands::{Given, Typing, given_form};
 use typing_overloads::{AnyOverloadSet, MathFunctionExt, OverloadSet};
 
 // The type of an argument, as overload sets take it: for all that are no values stands a type that no rule takes.
@@ -82,7 +83,7 @@ fn math_of(
     Ok(concluded(context, rules.most_preferred()))
 }
 
-// What a function gives for up to four arguments of these forms. The error is out of memory.
+// What a function gives for up to four arguments, the first of which is of this form. The error is out of memory.
 pub(crate) fn math_type(
     alloc: Global,
     context: &ResolveContext<'_>,
@@ -90,22 +91,35 @@ pub(crate) fn math_type(
     second: Option<Handle<key::Expression>>,
     third: Option<Handle<key::Expression>>,
     fourth: Option<Handle<key::Expression>>,
-    forms: Forms,
+    first: Form,
+    given: &Given<'_>,
 ) -> Result<Typing, AllocError>
     ensures { IfOk result (λ o. form_answer (context_view context.now).types o
-        ≡ math_type (context_view context.now) fun second third fourth forms.first forms.second forms.third forms.fourth) }
+        ≡ math_type (context_view context.now) fun second third fourth first
+        (given_form (context_view context.now).types given.now.second)
+        (given_form (context_view context.now).types given.now.third)
+        (given_form (context_view context.now).types given.now.fourth)) }
 {
-    let Forms {
-        first: a,
-        second: b,
-        third: c,
-        fourth: d,
-    } = forms;
+    let types = context.types;
     match (second, third, fourth) {
-        (None, None, None) => math_of(alloc, context, fun, &[a]),
-        (Some(_), None, None) => math_of(alloc, context, fun, &[a, b]),
-        (Some(_), Some(_), None) => math_of(alloc, context, fun, &[a, b, c]),
-        (Some(_), Some(_), Some(_)) => math_of(alloc, context, fun, &[a, b, c, d]),
+        (None, None, None) => math_of(alloc, context, fun, &[first]),
+        (Some(_), None, None) => math_of(
+            alloc,
+            context,
+            fun,
+            &[first, given_form(types, given.second)],
+        ),
+        (Some(_), Some(_), None) => {
+            let b = given_form(types, given.second);
+            let c = given_form(types, given.third);
+            math_of(alloc, context, fun, &[first, b, c])
+        }
+        (Some(_), Some(_), Some(_)) => {
+            let b = given_form(types, given.second);
+            let c = given_form(types, given.third);
+            let d = given_form(types, given.fourth);
+            math_of(alloc, context, fun, &[first, b, c, d])
+        }
         (None, Some(_), _) | (None, None, Some(_)) | (Some(_), None, Some(_)) => {
             Ok(Err(TypingFault::BuiltinArgumentsInvalid))
         }

@@ -7,13 +7,13 @@ ghost use Rattle.typing_forms.specs.Resolutions.{types_view};
 ghost use Rattle.typing_operands.specs.Answers.{form_answer};
 ghost use Rattle.typing_operands.specs.Operands.{given_form};
 
-use typing_operands::{Typing, given_again, given_form};
 use ir_kinds::{BinaryOperator, Scalar, VectorSize};
 use ir_types::{IrType, TypeInner, key};
 use ir_unique_arena::unique_arena::UniqueArena;
 use spec_expressions::TypingFault;
 use std::alloc::{AllocError, Global};
 use typing_forms::{Form, TypeResolution};
+use typing_operands::{Typing, given_again, given_form};
 
 // Truth values in the shape of a value.
 pub(crate) fn truth_of(of: Form) -> Typing

@@ -26,7 +26,7 @@ use crate::subgroups::ballot_type;
 use ir_expressions::Expression;
 use std::alloc::{AllocError, Global};
 use typing_forms::TypeResolution;
-use typing_operands::{Given, ResolveRefusal, Typing, error_of, forms_of, given_again, given_form};
+use typing_operands::{Given, ResolveRefusal, Typing, error_of, given_again, given_form};
 
 // The type of an expression whose operands have these types. The error is out of memory.
 fn typing(
@@ -69,7 +69,7 @@ fn typing(
             arg2,
             arg3,
             ..
-        } => math_type(alloc, context, fun, arg1, arg2, arg3, forms_of(types, given)),
+        } => math_type(alloc, context, fun, arg1, arg2, arg3, of, given),
         Expression::As { kind, convert, .. } => Ok(as_type(kind, convert, of)),
         Expression::CallResult(function) => Ok(call_result_type(context.functions, function)),
         Expression::AtomicResult { ty, .. }
