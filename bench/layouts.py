@@ -43,7 +43,7 @@ def chains(index):
 
 
 def calls(index):
-    """A function of numbers of two expressions before."""
+    """A math function of two expressions before."""
     return f',["Math","Min",{index},{index // 2},null,null]'
 
 
@@ -66,9 +66,9 @@ KINDS = {
     "arrays of arrays": (*TYPES, arrays, "laid"),
     "structs": (*TYPES, structs, "laid"),
     "chains of accesses": (*EXPRESSIONS, chains, "tracked"),
-    "functions of numbers": (*EXPRESSIONS, calls, "tracked"),
+    "math functions": (*EXPRESSIONS, calls, "tracked"),
     "types of sums": (*EXPRESSIONS, sums, "typed"),
-    "types of functions of numbers": (*EXPRESSIONS, calls, "typed"),
+    "types of math functions": (*EXPRESSIONS, calls, "typed"),
     "types of components": (*VECTOR, parts, "typed"),
 }
 
