@@ -16,7 +16,7 @@ PAGES = [
     ("ports", "Readers and writers with a mark that failed calls leave.",
      ("checker/src/main.rt", "fn main("), ["ports"]),
     ("shader_ir", "The representation of a shader module: arenas, types, expressions, blocks, items, and calls over them.",
-     ("cases/src/returns.rt", None), ["ir_flags", "ir_kinds", "ir_arena", "ir_sets", "ir_faults", "ir_types",
+     ("cases/src/returns.rt", None), ["ir_flags", "ir_kinds", "ir_arena", "ir_unique_arena", "ir_sets", "ir_faults", "ir_types",
                                         "ir_expressions", "ir_blocks", "ir_globals", "ir_items", "ir_emitter", "ir_walks"]),
     ("shader_typing", "What is asked of types, their layouts, the kinds and types of expressions, and the overload sets of the math functions.",
      ("test_kinds/src/overload_alone.rt", None), ["typing_forms", "typing_rules", "typing_compare", "typing_layout", "overload_tables",
