@@ -80,7 +80,7 @@ pub fn reader_calls(alloc: Global, row: Row<'_>) -> Option<u64> {
 }
 
 // Whether the page holds a prefix of the expected text, not all of it, and got no call after the one that failed.
-fn is_front(row: Row<'_>, page: &Page) -> bool {
+fn is_prefix(row: Row<'_>, page: &Page) -> bool {
     let after_bad = if page.bad == Bad::TakesOneThenFails {
         1
     } else {
@@ -93,7 +93,7 @@ fn is_front(row: Row<'_>, page: &Page) -> bool {
 
 // What came of a writer, with the marks of the reader and the writer.
 fn written(row: Row<'_>, page: &Page, answer: Answer, marks: (bool, bool)) -> Outcome {
-    let is_fault = answer == Err(Fault::Write) && marks == (false, true) && is_front(row, page);
+    let is_fault = answer == Err(Fault::Write) && marks == (false, true) && is_prefix(row, page);
     let is_met = marks == (false, false) && row.is_met(answer, &page.held);
     judged(is_fault, is_met)
 }

@@ -110,7 +110,7 @@ pub fn check_document<R: ReadCall, W: WriteCall>(
     ensures read { result ≡ Err Fault.Read → source_failed source.new ≡ true }
     ensures read_unwritten { result ≡ Err Fault.Read → sink.new ≡ sink.old }
     ensures write { result ≡ Err Fault.Write → sink_failed sink.new ≡ true }
-    ensures write_front { result ≡ Err Fault.Write → BreaksOff (R.remaining (reader_of source.old))
+    ensures write_prefix { result ≡ Err Fault.Write → BreaksOff (R.remaining (reader_of source.old))
         (R.remaining (reader_of source.new)) (W.contents (writer_of sink.old))
         (W.contents (writer_of sink.new)) }
 

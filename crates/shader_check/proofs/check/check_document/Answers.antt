@@ -2,8 +2,8 @@ use Rattle.judgement.specs.Text.{text_of}
 use Rattle.shader_check.proofs.Expected.{expected_for, verdict_is}
 use Rattle.shader_check.proofs.check.check_document.Goals as goal
 
-pub returns-in_err-write_all-clause-write_front : goal.returns-in_err-write_all-clause-write_front
-returns-in_err-write_all-clause-write_front g c = λ _.
+pub returns-in_err-write_all-clause-write_prefix : goal.returns-in_err-write_all-clause-write_prefix
+returns-in_err-write_all-clause-write_prefix g c = λ _.
     let judged = rw c.deref.ensures.value at c.in_ok-finding.ensures in
     record {
       text = text_of c.in_ok-finding.finding;
