@@ -25,7 +25,8 @@ pub fn is_supported_statement(statement: &Statement) -> bool
 {
     match statement {
         Statement::Block(block) => is_supported_block(block),
-        Statement::If { accept, reject, .. } => is_supported_block(accept) && is_supported_block(reject),
+        Statement::If { accept, reject, .. } => is_supported_block(accept)
+            && is_supported_block(reject),
         Statement::Switch { cases, .. } => is_supported_cases(cases),
         Statement::Loop {
             body,

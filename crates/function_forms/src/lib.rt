@@ -1,9 +1,9 @@
 //! The written forms of functions and entry points, and of the statements and bodies in them.
 #![tactic(auto)]
 
-mod operations;
 mod functions;
 mod kinds;
+mod operations;
 mod parts;
 mod statements;
 

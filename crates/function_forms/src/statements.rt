@@ -7,8 +7,8 @@ ghost use Rattle.document_forms.specs.Answers.{Answers};
 ghost use Rattle.document_forms.specs.Decide.{all_of};
 ghost use Rattle.function_forms.specs.Statements.{statement_at, statement_with, block_at, case_with, a_body};
 
-use crate::operations;
 use crate::kinds::StatementKind;
+use crate::operations;
 use crate::parts::ValueForm;
 use document_forms::{
     At, End, Form, MAX_DEPTH, Maybe, ReadError, Row, Truth, Wanted, read_at, read_tag, split_part,

@@ -2,18 +2,18 @@
 // types and the expressions.
 #![tactic(auto)]
 
-mod operations;
 mod blocks;
 pub mod laws;
+mod operations;
 mod returns;
 mod runs;
 mod span_iter;
 mod statements;
 mod terminator;
 
-pub use operations::{AtomicFunction, GatherMode, RayPipelineFunction, RayQueryFunction};
 pub use ir_expressions::{CooperativeData, Expression, ImageQuery, SampleLevel};
 pub use ir_types::{ArraySize, IrType, StructMember, TypeInner, key};
+pub use operations::{AtomicFunction, GatherMode, RayPipelineFunction, RayQueryFunction};
 pub use returns::{ensure_block_returns, put_returns, reserve_returns};
 pub use span_iter::{SpanIntoIter, SpanIter, SpanIterMut};
 pub use statements::{Block, Statement, SwitchCase};

@@ -3,7 +3,7 @@
 ghost use Rattle.std.specs.Prelude.{◌≡◌, IfOk};
 
 use crate::overload_set::OverloadSet;
-use crate::rule_lists::{accepting, asked_for, concrete, min_arity, max_arity};
+use crate::rule_lists::{accepting, asked_for, concrete, max_arity, min_arity};
 use ir_types::TypeInner;
 use overload_tables::{Rule, ValueType};
 use std::alloc::{AllocError, Global};

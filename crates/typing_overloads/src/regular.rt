@@ -63,11 +63,13 @@ impl OverloadSet for Regular {
     }
 
     fn min_arguments(&self) -> usize {
-        self.product.min_arity(self.most_preferred().arguments.len())
+        self.product
+            .min_arity(self.most_preferred().arguments.len())
     }
 
     fn max_arguments(&self) -> usize {
-        self.product.max_arity(self.most_preferred().arguments.len())
+        self.product
+            .max_arity(self.most_preferred().arguments.len())
     }
 
     fn arg(&self, _alloc: Global, i: usize, ty: &TypeInner) -> Result<Self, AllocError> {
