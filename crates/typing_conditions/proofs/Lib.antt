@@ -1,0 +1,4 @@
+pub mod Entries
+pub mod ListLaws
+pub mod RangeLaws
+pub mod OrderLaws
