@@ -8,5 +8,5 @@ mod uniformity;
 
 pub use expression_info::ExpressionInfo;
 pub use global_use::GlobalUse;
-pub use sampling::{GlobalOrArgument, Sampling, SamplingKey};
+pub use sampling::{GlobalOrArgument, SamplingKey, SamplingPair};
 pub use uniformity::{Uniformity, UniformityRequirements};

@@ -13,9 +13,9 @@ pub enum GlobalOrArgument {
     Argument(u32),
 }
 
-/// An image and the sampler that it is sampled by, as a function knows them (naga's `Sampling`).
+/// An image and the sampler that it is sampled by, as a function knows them (naga's `Sampling` of its analyzer).
 #[derive(Clone, Copy, PartialEq, Eq, Hash, Debug)]
-pub struct Sampling {
+pub struct SamplingPair {
     /// The image.
     pub image: GlobalOrArgument,
     /// The sampler.
