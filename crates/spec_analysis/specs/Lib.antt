@@ -1,0 +1,5 @@
+pub mod Operands
+pub mod Effects
+pub mod Values
+pub mod Chains
+pub mod Summaries

@@ -1,0 +1,2 @@
+//! What a function uses, pairs and needs: the definitions, over plain data, and their laws.
+#![tactic(auto)]
