@@ -3,3 +3,4 @@ pub mod Effects
 pub mod Values
 pub mod Chains
 pub mod Summaries
+pub mod Laws
