@@ -1,0 +1,74 @@
+-- What is kept of a function, and what it says of it.
+use Rattle.std.specs.Prelude.{◌≡◌, ◌↔◌, ◌⊎◌, ℕ, ◌<◌, Bool, IsTrue, List, Some, length, slice_get, slice_index_or}
+use Rattle.std.specs.Int.{bit_at}
+use Rattle.ir_expressions.specs.Plain.{PlainExpression}
+use Rattle.ir_items.specs.Plain.{PlainFunction, PlainModule}
+use Rattle.overload_tables.specs.Laws.{IsAmong}
+use Rattle.analysis_forms.specs.declared.global_use.TheConstants.GlobalUse.{QUERY}
+use Rattle.analysis_forms.specs.declared.sampling.SamplingPair.{SamplingPair}
+use Rattle.spec_analysis.specs.Effects.{runs, effects_of}
+use Rattle.spec_analysis.specs.Chains.{place, seen_through, UsesDirectly, Names, HasUse, Samples, HasPair, Discards, MayKill}
+
+-- The bits of the use of each global variable of the module, the pairs, and whether the fragment may be ended.
+pub record Summary : Type 0 where
+  pub uses : List ℕ
+  pub pairs : List SamplingPair
+  pub may_kill : Bool
+
+-- the summary has this bit for the global variable
+abbrev pub HasBit : Summary → (g k : ℕ) → Type 0
+HasBit s g k = bit_at (slice_index_or s.uses g 0) k ≡ 1
+
+-- The summary has what the function has over all its chains, and nothing else.
+pub record IsSummary (m : PlainModule) (f : PlainFunction) (s : Summary) : Type 0 where
+  pub uses : (g k : ℕ) → g < length m.globals → HasBit s g k ↔ HasUse m f g k
+  pub pairs : (p : SamplingPair) → IsAmong p s.pairs ↔ HasPair m f p
+  pub may_kill : IsTrue s.may_kill ↔ MayKill m f
+
+-- ---- from those of callees
+
+-- a call statement of f names a function of this summary, and passes it these arguments
+pub record CallsOne (f : PlainFunction) (summaries : List Summary) (arguments : List ℕ) (s : Summary) : Type 0 where
+  pub callee : ℕ
+  pub call : IsAmong (runs callee arguments) (effects_of f)
+  pub found : slice_get summaries callee ≡ Some s
+
+-- a pair of a callee to which these arguments are passed is this one in the caller
+pub record ComesUp (expressions : List PlainExpression) (arguments : List ℕ) (below above : SamplingPair) : Type 0 where
+  pub image : seen_through (place expressions) arguments (Some below.image) ≡ Some above.image
+  pub sampler : seen_through (place expressions) arguments (Some below.sampler) ≡ Some above.sampler
+
+-- a use of its own, or of one of its callees
+abbrev pub JoinsUse : PlainFunction → List Summary → (g k : ℕ) → Type 0
+JoinsUse f summaries g k = UsesDirectly g k f ⊎ ((arguments : List ℕ) × (t : Summary) × CallsOne f summaries arguments t × HasBit t g k)
+
+-- What f has itself, joined for each call statement with what the callee has, the arguments substituted, and then QUERY for
+-- each global variable that f names and that has no kind of use by these. Of the summaries only those of callees count.
+pub record IsJoined (globals : ℕ) (f : PlainFunction) (summaries : List Summary) (s : Summary) : Type 0 where
+  pub uses : (g k : ℕ) → g < globals → HasBit s g k ↔ (JoinsUse f summaries g k ⊎ ((bit_at QUERY.0 k ≡ 1) × Names g f × ((j : ℕ) → JoinsUse f summaries g j → ⊥)))
+  pub pairs : (p : SamplingPair) → IsAmong p s.pairs ↔ (Samples (place f.expressions) f p ⊎ ((arguments : List ℕ) × (t : Summary) × (q : SamplingPair) × CallsOne f summaries arguments t × IsAmong q t.pairs × ComesUp f.expressions arguments q p))
+  pub may_kill : IsTrue s.may_kill ↔ (Discards f ⊎ ((arguments : List ℕ) × (t : Summary) × CallsOne f summaries arguments t × IsTrue t.may_kill))
+
+-- the function that a call names is there, and so is a summary of it
+pub record KnownCallee (m : PlainModule) (summaries : List Summary) (callee : ℕ) : Type 0 where
+  pub function : PlainFunction
+  pub found : slice_get m.functions callee ≡ Some function
+  pub summary : Summary
+  pub kept : slice_get summaries callee ≡ Some summary
+  pub is : IsSummary m function summary
+
+-- so it is for each call statement of f
+abbrev pub CalleesKnown : PlainModule → PlainFunction → List Summary → Type 0
+CalleesKnown m f summaries = (callee : ℕ) (arguments : List ℕ) → IsAmong (runs callee arguments) (effects_of f) → KnownCallee m summaries callee
+
+-- each summary is that of the module's function of its number
+abbrev pub AreSummaries : PlainModule → List Summary → Type 0
+AreSummaries m summaries = (i : ℕ) (f : PlainFunction) (s : Summary) → slice_get m.functions i ≡ Some f → slice_get summaries i ≡ Some s → IsSummary m f s
+
+-- each call statement of f names a function below n
+abbrev pub CallsBelow : PlainFunction → ℕ → Type 0
+CallsBelow f n = (callee : ℕ) (arguments : List ℕ) → IsAmong (runs callee arguments) (effects_of f) → callee < n
+
+-- the summaries of the functions that f calls are the same
+abbrev pub AgreeOnCallees : PlainFunction → List Summary → List Summary → Type 0
+AgreeOnCallees f summaries others = (callee : ℕ) (arguments : List ℕ) → IsAmong (runs callee arguments) (effects_of f) → slice_get summaries callee ≡ slice_get others callee
