@@ -13,7 +13,7 @@ pub true_both : (a b : Bool) → a ≡ true → b ≡ true → (a && b) ≡ true
 true_both true b e f = f
 true_both false b e f = cc
 
-none_in_stop : (p : Place) (s : PlainStatement) → StandsAt stop p s → ⊥
+pub none_in_stop : (p : Place) (s : PlainStatement) → StandsAt stop p s → ⊥
 none_in_stop here s e = let x = e in cc
 none_in_stop (later p) s e = let x = e in cc
 none_in_stop (inside part p) s e = let x = e in cc

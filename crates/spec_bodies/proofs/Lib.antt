@@ -1,1 +1,2 @@
 pub mod EverywhereLaws
+pub mod DisruptionLaws

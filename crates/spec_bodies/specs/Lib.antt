@@ -1,1 +1,3 @@
 pub mod Everywhere
+pub mod Positions
+pub mod Disruption
