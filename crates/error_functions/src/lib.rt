@@ -1,6 +1,7 @@
 //! Why a function is refused.
 #![tactic(auto)]
 
-mod functions;
+mod error;
+mod texts;
 
-pub use functions::FunctionError;
+pub use error::FunctionError;
