@@ -138,11 +138,7 @@ pub enum FunctionError {
     MissingCapability(Capabilities),
     /// What asks that all invocations arrive together stands where they may not: what it asks for, by which expression, and
     /// what makes them differ.
-    NonUniformControlFlow(
-        UniformityRequirements,
-        Handle<key::Expression>,
-        UniformityDisruptor,
-    ),
+    NonUniformControlFlow(UniformityRequirements, Handle<key::Expression>, UniformityDisruptor),
     /// An argument has a binding, and the function is no entry point.
     PipelineInputRegularFunction {
         /// Its name.

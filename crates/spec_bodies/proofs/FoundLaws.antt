@@ -1,14 +1,15 @@
 -- What is found step by step is asked at a disrupted place, and where nothing is found, nothing is.
 use Rattle.std.proofs.Common.{◌≡◌, ◌⊎◌, inl, inr, ⊎_elim, ℕ, zero, suc, Bool, true, false, ◌||◌, IsTrue, Option, Some, None, refl, sym, ap, ◌∙◌, subst}
+use Rattle.ir_flags.specs.declared.settings.ValidationFlags.{ValidationFlags}
 use Rattle.ir_kinds.specs.declared.diagnostics.Severity.{Severity}
 use Rattle.ir_blocks.specs.Plain.{PlainAct, control_barrier, memory_barrier, store, image_store, atomic, image_atomic, uniform_load, ray_query, ballot, collective, gather, cooperative_store, ray_pipeline, PlainStatement, emit, block, choice, switch, loop, break, continue, return, kill, act, call, PlainBlock, stop, next, PlainCases, no_case, case}
 use Rattle.ir_blocks.specs.Shapes.{Part, inner, accepting, rejecting, case_at, turn, continuing, shape_of, case_body, part_of}
 use Rattle.ir_blocks.specs.Places.{Place, here, later, inside, condition, statement, StandsAt}
 use Rattle.spec_bodies.specs.Disruption.{Disrupted, ends_in, ends_at, enter, disrupted_at}
-use Rattle.spec_bodies.specs.Uniformity.{Asked, ActAsks, EmitAsks, Asks, DisruptedAsk}
+use Rattle.spec_bodies.specs.Uniformity.{Asked, ActAsks, EmitAsks, Asks, DisruptedAsk, UniformityFault}
 use Rattle.spec_bodies.specs.Found.{first_asked, where_disrupted, act_asked, asked_in, asked_at, asked_in_cases, IsLook}
 use Rattle.spec_bodies.proofs.EverywhereLaws.{none_in_stop}
-use Rattle.spec_bodies.proofs.DisruptionLaws.{found, from_found}
+use Rattle.spec_bodies.proofs.DisruptionLaws.{found, from_found, disrupted_as}
 
 first_cases : (a b : Option Asked) (x : Asked) → first_asked a b ≡ Some x → (a ≡ Some x) ⊎ (b ≡ Some x)
 first_cases None b x e = inr e
@@ -147,3 +148,27 @@ module _ (severity : Severity) (required : ℕ → ℕ) (varies : ℕ → Bool) 
 
   pub asked_complete : (b : PlainBlock) → asked_in varies look false b ≡ None → (x : Asked) → DisruptedAsk severity required (λ h. IsTrue (varies h)) b x → ⊥
   asked_complete b e x ask = none_at ask.place b false ask.statement x e ask.stands ask.asks (found varies false b ask.disrupted)
+
+-- ---- by other words for the same values and what they ask
+
+asks_as : (severity : Severity) {required others : ℕ → ℕ} → ((h : ℕ) → required h ≡ others h) → (s : PlainStatement) (x : Asked) → Asks severity required s x → Asks severity others s x
+asks_as severity same (emit first end) x h = record { from_first = h.from_first; below_end = h.below_end; requirement = h.requirement ∙ same x.expression; counts = h.counts }
+asks_as severity same (block b) x h = h
+asks_as severity same (choice c a r) x h = h
+asks_as severity same (switch c cases) x h = h
+asks_as severity same (loop b r o) x h = h
+asks_as severity same break x h = h
+asks_as severity same continue x h = h
+asks_as severity same (return value) x h = h
+asks_as severity same kill x h = h
+asks_as severity same (act a) x h = h
+asks_as severity same (call function arguments answer) x h = h
+
+pub fault_as : (flags : ValidationFlags) (severity : Severity) {required others : ℕ → ℕ} {V W : ℕ → Type 0} (b : PlainBlock) (x : Asked) → ((h : ℕ) → required h ≡ others h) → ((h : ℕ) → V h → W h)
+    → UniformityFault flags severity required V b x → UniformityFault flags severity others W b x
+fault_as flags severity b x same more f =
+    let a = f.fault in
+    record {
+      flag = f.flag;
+      fault = record { place = a.place; statement = a.statement; stands = a.stands; asks = asks_as severity same a.statement x a.asks; disrupted = disrupted_as more a.place a.disrupted };
+    }

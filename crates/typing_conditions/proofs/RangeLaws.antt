@@ -110,10 +110,10 @@ module _ (m : PlainModule) (f : PlainFunction) where
       let answer = there_answer f.result (λ r is. h _ _ (answer_type is)) in
       let leaf = some_below (bounds_of m f).filters f.leaf (λ n is. h _ _ (filter_leaf is)) in
       let variables = each_passes (local_within (bounds_of m f)) f.locals (λ i l at.
-          true_both _ _ (lt-ltb l.ty _ (h _ _ (local_type at))) (some_below _ l.init (λ e is. h _ _ (local_value at is)))) in
+      true_both _ _ (lt-ltb l.ty _ (h _ _ (local_type at))) (some_below _ l.init (λ e is. h _ _ (local_value at is)))) in
       let computed = each_passes (expression_within (bounds_of m f)) f.expressions (λ i x at.
-          true_both _ _ (there_some (expression_item x) (λ t is. h _ _ (expression_names at is))) (each_below _ _ (λ o c. h _ _ (expression_reads at c)))) in
+      true_both _ _ (there_some (expression_item x) (λ t is. h _ _ (expression_names at is))) (each_below _ _ (λ o c. h _ _ (expression_reads at c)))) in
       let done = passes_everywhere (statement_within (bounds_of m f)) f.body (λ p s at.
-          true_both _ _ (true_both _ _ (true_both _ _ (each_below _ _ (λ o c. h _ _ (statement_reads at c))) (some_below _ _ (λ e is. h _ _ (statement_answers at is))))
-          (there_range _ (λ r is. h _ _ (statement_emits at is)))) (some_below _ _ (λ c is. h _ _ (statement_calls at is)))) in
+      true_both _ _ (true_both _ _ (true_both _ _ (each_below _ _ (λ o c. h _ _ (statement_reads at c))) (some_below _ _ (λ e is. h _ _ (statement_answers at is))))
+      (there_range _ (λ r is. h _ _ (statement_emits at is)))) (some_below _ _ (λ c is. h _ _ (statement_calls at is)))) in
       true_both _ _ (true_both _ _ (true_both _ _ (true_both _ _ (true_both _ _ arguments answer) leaf) variables) computed) done

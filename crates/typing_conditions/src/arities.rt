@@ -39,7 +39,6 @@ struct Arity<'a> {
 
 impl StatementTest for Arity<'_> {
     ghost use Rattle.ir_items.specs.View.{module_view};
-
     ghost use Rattle.typing_conditions.specs.Tests.{statement_arity};
 
     ghost test = { λ t s. statement_arity (module_view t.«module».now) s };

@@ -43,10 +43,7 @@ fn calls_below_by(item: Option<Target>, before: usize) -> bool
     }
 }
 
-fn expressions_with_handles(
-    expressions: &Arena<Expression, key::Expression>,
-    before: usize,
-) -> bool
+fn expressions_with_handles(expressions: &Arena<Expression, key::Expression>, before: usize) -> bool
     ensures { result ≡ list_all (λ h. expression_calls_below before (expression_view h.1)) (handles_from 0 expressions.now) }
 {
     for (_, expression) in expressions.iter() {

@@ -97,7 +97,16 @@ pub(crate) fn operands_below(expression: &Expression, end: usize) -> bool
             array_index,
             sample,
             level,
-        } => given_below(&[Some(*image), Some(*coordinate), *array_index, *sample, *level], end),
+        } => given_below(
+            &[
+                Some(*image),
+                Some(*coordinate),
+                *array_index,
+                *sample,
+                *level,
+            ],
+            end,
+        ),
         Expression::ImageQuery { image, query } => {
             let level = query_level(*query);
             given_below(&[Some(*image), level], end)

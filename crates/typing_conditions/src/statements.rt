@@ -7,9 +7,7 @@ ghost use Rattle.typing_conditions.specs.Tests.{all_below, range_within};
 
 use crate::lists::{all_below, given_below};
 use ir_arena::handle::Handle;
-use ir_items::{
-    AtomicFunction, GatherMode, RayPipelineFunction, RayQueryFunction, Statement, key,
-};
+use ir_items::{AtomicFunction, GatherMode, RayPipelineFunction, RayQueryFunction, Statement, key};
 
 fn compared(fun: AtomicFunction) -> Option<Handle<key::Expression>>
     ensures { result ≡ compared fun }
@@ -101,7 +99,10 @@ pub(crate) fn operands_below(statement: &Statement, end: usize) -> bool
             coordinate,
             array_index,
             value,
-        } => given_below(&[Some(*image), Some(*coordinate), *array_index, Some(*value)], end),
+        } => given_below(
+            &[Some(*image), Some(*coordinate), *array_index, Some(*value)],
+            end,
+        ),
         Statement::Atomic {
             pointer,
             fun,
@@ -120,7 +121,13 @@ pub(crate) fn operands_below(statement: &Statement, end: usize) -> bool
         } => {
             let compare = compared(*fun);
             given_below(
-                &[Some(*image), Some(*coordinate), *array_index, compare, Some(*value)],
+                &[
+                    Some(*image),
+                    Some(*coordinate),
+                    *array_index,
+                    compare,
+                    Some(*value),
+                ],
                 end,
             )
         }
@@ -145,7 +152,8 @@ pub(crate) fn result_of(statement: &Statement) -> Option<Handle<key::Expression>
     ensures { result ≡ statement_result (statement_view statement.now) }
 {
     match statement {
-        Statement::Atomic { result: answer, .. } | Statement::Call { result: answer, .. } => *answer,
+        Statement::Atomic { result: answer, .. } | Statement::Call { result: answer, .. } =>
+            *answer,
         Statement::WorkGroupUniformLoad { result: answer, .. }
         | Statement::SubgroupBallot { result: answer, .. }
         | Statement::SubgroupCollectiveOperation { result: answer, .. }

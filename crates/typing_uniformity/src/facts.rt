@@ -33,12 +33,7 @@ impl Facts<'_> {
     }
 
     // The fault of an expression that asks for something, where it comes before the end.
-    fn asked_at(
-        &self,
-        place: usize,
-        end: u32,
-        disruptor: UniformityDisruptor,
-    ) -> Option<NonUniform>
+    fn asked_at(&self, place: usize, end: u32, disruptor: UniformityDisruptor) -> Option<NonUniform>
         ensures { option_map asked_view result ≡ asked_with end place (slice_get self.now.uniformities.now place) }
     {
         match self.uniformities.get(place) {

@@ -70,7 +70,10 @@ fn ended(disruptor: &Option<UniformityDisruptor>, end: UniformityDisruptor) -> S
 }
 
 // A uniform load is a fault where invocations differ.
-fn loaded(answer: Handle<key::Expression>, disruptor: &Option<UniformityDisruptor>) -> Option<NonUniform>
+fn loaded(
+    answer: Handle<key::Expression>,
+    disruptor: &Option<UniformityDisruptor>,
+) -> Option<NonUniform>
     ensures { option_map asked_view result ≡ where_disrupted (is_some disruptor.now) (Some (record { requirement = WORK_GROUP_BARRIER.0; expression = answer })) }
 {
     match disruptor {
@@ -103,7 +106,11 @@ fn alone(fault: Option<NonUniform>) -> Seen
 }
 
 #[cycle(walk)]
-pub(crate) fn seen_in(facts: &Facts<'_>, disruptor: &Option<UniformityDisruptor>, block: &Block) -> Seen
+pub(crate) fn seen_in(
+    facts: &Facts<'_>,
+    disruptor: &Option<UniformityDisruptor>,
+    block: &Block,
+) -> Seen
     ensures ends { is_some result.end ≡ ends_in (varies_of facts.now.uniformities.now) (is_some disruptor.now) (block_view block.now) }
     ensures fault { option_map asked_view result.fault ≡ asked_in (varies_of facts.now.uniformities.now) (look_of facts.now.uniformities.now facts.now.next.now) (is_some disruptor.now) (block_view block.now) }
 {
@@ -118,7 +125,11 @@ pub(crate) fn seen_in(facts: &Facts<'_>, disruptor: &Option<UniformityDisruptor>
 }
 
 #[cycle(walk)]
-fn seen_in_cases(facts: &Facts<'_>, disruptor: &Option<UniformityDisruptor>, cases: &[SwitchCase]) -> Seen
+fn seen_in_cases(
+    facts: &Facts<'_>,
+    disruptor: &Option<UniformityDisruptor>,
+    cases: &[SwitchCase],
+) -> Seen
     ensures ends { is_some result.end ≡ ends_in_cases (varies_of facts.now.uniformities.now) (is_some disruptor.now) (cases_of (map case_view cases.now)) }
     ensures fault { option_map asked_view result.fault ≡ asked_in_cases (varies_of facts.now.uniformities.now) (look_of facts.now.uniformities.now facts.now.next.now) (is_some disruptor.now) (cases_of (map case_view cases.now)) }
 {
@@ -131,7 +142,11 @@ fn seen_in_cases(facts: &Facts<'_>, disruptor: &Option<UniformityDisruptor>, cas
 }
 
 #[cycle(walk)]
-fn seen_at(facts: &Facts<'_>, disruptor: &Option<UniformityDisruptor>, statement: &Statement) -> Seen
+fn seen_at(
+    facts: &Facts<'_>,
+    disruptor: &Option<UniformityDisruptor>,
+    statement: &Statement,
+) -> Seen
     ensures ends { is_some result.end ≡ ends_at (varies_of facts.now.uniformities.now) (is_some disruptor.now) (statement_view statement.now) }
     ensures fault { option_map asked_view result.fault ≡ asked_at (varies_of facts.now.uniformities.now) (look_of facts.now.uniformities.now facts.now.next.now) (is_some disruptor.now) (statement_view statement.now) }
 {
