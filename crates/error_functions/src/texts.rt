@@ -119,7 +119,33 @@ impl FunctionError {
             | FunctionError::ConflictingMeshOutputTypes(handle, _)
             | FunctionError::ConflictingTaskPayloadVariables(handle, _)
             | FunctionError::InvalidMeshShaderOutputType(handle) => Some(*handle),
-            _ => None,
+            FunctionError::LocalVariable { .. }
+            | FunctionError::InvalidArgumentType { .. }
+            | FunctionError::NonConstructibleReturnType
+            | FunctionError::InvalidArgumentPointerSpace { .. }
+            | FunctionError::BreakOutsideOfLoopOrSwitch
+            | FunctionError::ContinueOutsideOfLoop
+            | FunctionError::InvalidReturnSpot
+            | FunctionError::ConflictingSwitchCase(_)
+            | FunctionError::ConflictingCaseType
+            | FunctionError::MissingDefaultCase
+            | FunctionError::MultipleDefaultCases
+            | FunctionError::LastCaseFallTrough
+            | FunctionError::InvalidImageStore(_)
+            | FunctionError::InvalidImageAtomic(_)
+            | FunctionError::InvalidImageAtomicFunction(_)
+            | FunctionError::InvalidCall { .. }
+            | FunctionError::InvalidAtomic(_)
+            | FunctionError::InvalidRayQueryType(_)
+            | FunctionError::MissingCapability(_)
+            | FunctionError::PipelineInputRegularFunction { .. }
+            | FunctionError::PipelineOutputRegularFunction
+            | FunctionError::NonUniformWorkgroupUniformLoad(_)
+            | FunctionError::InvalidSubgroup(_)
+            | FunctionError::InvalidPayloadType
+            | FunctionError::InvalidPayloadAddressSpace(_)
+            | FunctionError::MismatchedPayloadType(..)
+            | FunctionError::PayloadPointerNotGlobal => None,
         }
     }
 

@@ -7,6 +7,7 @@ mod arities;
 mod bounds;
 mod callees;
 mod filters;
+pub mod laws;
 mod lists;
 mod named;
 mod precede;
