@@ -4,20 +4,28 @@ use Rattle.std.specs.Int.{bit_at}
 use Rattle.ir_expressions.specs.Plain.{PlainExpression}
 use Rattle.ir_items.specs.Plain.{PlainFunction, PlainModule}
 use Rattle.overload_tables.specs.Laws.{IsAmong}
+use Rattle.analysis_forms.specs.declared.global_use.GlobalUse.{GlobalUse}
 use Rattle.analysis_forms.specs.declared.global_use.TheConstants.GlobalUse.{QUERY}
-use Rattle.analysis_forms.specs.declared.sampling.SamplingPair.{SamplingPair}
+use Rattle.analysis_forms.specs.Pairs.{SamplingPair}
 use Rattle.spec_analysis.specs.Effects.{runs, effects_of}
 use Rattle.spec_analysis.specs.Chains.{place, seen_through, UsesDirectly, Names, HasUse, Samples, HasPair, Discards, MayKill}
 
--- The bits of the use of each global variable of the module, the pairs, and whether the fragment may be ended.
+-- The use of each global variable of the module, the pairs, and whether the fragment may be ended.
 pub record Summary : Type 0 where
-  pub uses : List ℕ
+  pub uses : List GlobalUse
   pub pairs : List SamplingPair
   pub may_kill : Bool
 
--- the summary has this bit for the global variable
+abbrev pub no_use : GlobalUse
+no_use = record { 0 = 0 }
+
+-- these uses have this bit for the global variable
+abbrev pub HasUseBit : List GlobalUse → (g k : ℕ) → Type 0
+HasUseBit uses g k = bit_at (slice_index_or uses g no_use).0 k ≡ 1
+
+-- the summary has it
 abbrev pub HasBit : Summary → (g k : ℕ) → Type 0
-HasBit s g k = bit_at (slice_index_or s.uses g 0) k ≡ 1
+HasBit s g k = HasUseBit s.uses g k
 
 -- The summary has what the function has over all its chains, and nothing else.
 pub record IsSummary (m : PlainModule) (f : PlainFunction) (s : Summary) : Type 0 where
@@ -35,8 +43,8 @@ pub record CallsOne (f : PlainFunction) (summaries : List Summary) (arguments : 
 
 -- a pair of a callee to which these arguments are passed is this one in the caller
 pub record ComesUp (expressions : List PlainExpression) (arguments : List ℕ) (below above : SamplingPair) : Type 0 where
-  pub image : seen_through (place expressions) arguments (Some below.image) ≡ Some above.image
-  pub sampler : seen_through (place expressions) arguments (Some below.sampler) ≡ Some above.sampler
+  pub image : seen_through (place expressions) arguments (Some below.0) ≡ Some above.0
+  pub sampler : seen_through (place expressions) arguments (Some below.1) ≡ Some above.1
 
 -- a use of its own, or of one of its callees
 abbrev pub JoinsUse : PlainFunction → List Summary → (g k : ℕ) → Type 0
