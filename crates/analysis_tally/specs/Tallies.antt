@@ -2,6 +2,7 @@
 use Rattle.std.specs.Prelude.{◌≡◌, ℕ, ◌+◌, ◌-◌, ◌^◌, min, Bool, true, false, ◌||◌, List, [], ◌∷◌, ◌++◌, map, replicate, Option, Some, None, slice_get, slice_set, slice_index, slice_index_or, bit_or, ◌==◌}
 use Rattle.indexmap.specs.IndexSet.{insert_key}
 use Rattle.ir_expressions.specs.Plain.{PlainExpression, plain, expression_view}
+use Rattle.ir_expressions.specs.declared.expressions.Expression.{Expression}
 use Rattle.ir_expressions.specs.declared.expressions.Expression.TheVariants.{GlobalVariable, ImageSample}
 use Rattle.ir_blocks.specs.Plain.{PlainStatement, emit, block, choice, switch, loop, break, continue, return, kill, act, call, PlainBlock, stop, next, PlainCases, no_case, case}
 use Rattle.ir_globals.specs.View.{values_of}
@@ -202,6 +203,15 @@ name_one _ uses = uses
 abbrev pub name_all : List PlainExpression → List GlobalUse → List GlobalUse
 name_all [] uses = uses
 name_all (expression ∷ rest) uses = name_all rest (name_one expression uses)
+
+-- the same of expressions that are given with their handles
+abbrev pub expressions_done_with : Known → List (ℕ × Expression) → Tallied → Tallied
+expressions_done_with k [] t = t
+expressions_done_with k (h ∷ rest) t = expressions_done_with k rest (expression_done k h.0 (expression_view h.1) t)
+
+abbrev pub name_all_with : List (ℕ × Expression) → List GlobalUse → List GlobalUse
+name_all_with [] uses = uses
+name_all_with (h ∷ rest) uses = name_all_with rest (name_one (expression_view h.1) uses)
 
 -- no place counted, no use made, no pair
 abbrev pub nothing_tallied : (expressions globals : ℕ) → Tallied

@@ -4,11 +4,11 @@
 
 mod acts;
 mod counts;
-// mod expressions;
+mod expressions;
 mod operands;
 mod pairs;
 mod places;
 mod tally;
-// mod walk;
+mod walk;
 
 pub use tally::{Context, Tally};
