@@ -12,6 +12,7 @@ use Rattle.analysis_forms.specs.declared.sampling.GlobalOrArgument.{GlobalOrArgu
 use Rattle.analysis_forms.specs.declared.sampling.GlobalOrArgument.TheVariants.{Global, Argument}
 use Rattle.analysis_forms.specs.Pairs.{SamplingPair, pair_eq}
 use Rattle.spec_analysis.specs.Operands.{Operand, expression_operands, statement_operands}
+use Rattle.spec_analysis.specs.Values.{known_at}
 use Rattle.spec_analysis.specs.Chains.{place, seen_through}
 use Rattle.spec_analysis.specs.Summaries.{Summary, no_use}
 use Rattle.analysis_info.specs.Infos.{summary_of}
@@ -29,14 +30,6 @@ pub record Counted : Type 0 where
 abbrev pub counted : Counts → Counted
 counted c = record { counts = c.counts.items; uses = c.uses.items }
 
--- the global variable at the start of an expression's accesses, where these are those of all expressions
-abbrev pub inner_of : Option (Option ℕ) → Option ℕ
-inner_of (Some global) = global
-inner_of None = None
-
-abbrev pub global_at : List (Option ℕ) → ℕ → Option ℕ
-global_at globals e = inner_of (slice_get globals e)
-
 abbrev pub bumped : List ℕ → ℕ → List ℕ
 bumped counts h = slice_set counts h (min (slice_index counts h + 1) (2 ^ 64 - 1))
 
@@ -48,7 +41,7 @@ marked uses None kind = uses
 marked uses (Some g) kind = slice_set uses g (joined_use (slice_index_or uses g no_use) kind)
 
 abbrev pub take_one : List (Option ℕ) → Operand → Counted → Counted
-take_one globals o t = record { counts = bumped t.counts o.handle; uses = marked t.uses (global_at globals o.handle) o.use_bits }
+take_one globals o t = record { counts = bumped t.counts o.handle; uses = marked t.uses (known_at globals o.handle) o.use_bits }
 
 abbrev pub take_all : List (Option ℕ) → List Operand → Counted → Counted
 take_all globals [] t = t
@@ -87,11 +80,16 @@ first_wrong None other = other
 abbrev pub with_wrong : Option ℕ → Paired → Paired
 with_wrong e t = record { pairs = t.pairs; wrong = first_wrong t.wrong e }
 
--- an image and a sampler that stand for these; where one stands for nothing, the expression that is then wrong
+-- an expression is wrong where it stands for nothing
+abbrev pub part_wrong : Option ℕ → Option GlobalOrArgument → Paired → Paired
+part_wrong wrong None t = with_wrong wrong t
+part_wrong wrong (Some part) t = t
+
+-- an image and a sampler that stand for these, and the expressions that are wrong where they stand for nothing
 abbrev pub pair_one : (wrong_image wrong_sampler : Option ℕ) → (image sampler : Option GlobalOrArgument) → Paired → Paired
 pair_one wi ws (Some image) (Some sampler) t = with_pair (image, sampler) t
-pair_one wi ws None sampler t = with_wrong wi t
 pair_one wi ws (Some image) None t = with_wrong ws t
+pair_one wi ws None sampler t = part_wrong ws sampler (with_wrong wi t)
 
 -- the expression that is passed for an argument
 abbrev pub passed_for : List ℕ → GlobalOrArgument → Option ℕ
@@ -220,3 +218,14 @@ nothing_tallied expressions globals = record {
   paired = record { pairs = []; wrong = None };
   may_kill = false;
 }
+
+abbrev pub named : Known → Tallied → Tallied
+named k t = record {
+  counted = record { counts = t.counted.counts; uses = name_all k.expressions t.counted.uses };
+  paired = t.paired;
+  may_kill = t.may_kill;
+}
+
+-- all of a function with this body, in a module of so many global variables
+abbrev pub whole_tally : Known → (expressions globals : ℕ) → PlainBlock → Tallied
+whole_tally k expressions globals body = named k (done_in k body (expressions_done k 0 k.expressions (nothing_tallied expressions globals)))

@@ -3,7 +3,8 @@
 ghost use Rattle.std.specs.Prelude.{◌≡◌, Option, List, Some, map, IfOk, replicate, slice_index_or, ◌==◌};
 ghost use Rattle.spec_analysis.specs.Operands.{reads, reads_if};
 ghost use Rattle.spec_analysis.specs.Summaries.{no_use};
-ghost use Rattle.analysis_tally.specs.Tallies.{Counted, counted, global_at, bumped, joined_use, marked, take_one, take_all, merged, queried};
+ghost use Rattle.spec_analysis.specs.Values.{known_at};
+ghost use Rattle.analysis_tally.specs.Tallies.{Counted, counted, bumped, joined_use, marked, take_one, take_all, merged, queried};
 
 use analysis_forms::GlobalUse;
 use ir_arena::handle::Handle;
@@ -25,7 +26,7 @@ pub(crate) type Start = Option<Handle<key::GlobalVariable>>;
 
 // That of one expression.
 fn start_of(globals: &[Start], handle: Handle<key::Expression>) -> Option<Handle<key::GlobalVariable>>
-    ensures { result ≡ global_at globals.now handle }
+    ensures { result ≡ known_at globals.now handle }
 {
     match globals.get(handle.index()) {
         Some(global) => *global,

@@ -6,7 +6,7 @@ ghost use Rattle.ir_globals.specs.View.{values_of};
 ghost use Rattle.indexmap.specs.IndexSet.{insert_key};
 ghost use Rattle.spec_analysis.specs.Chains.{place, seen_through};
 ghost use Rattle.std.specs.Prelude.{map};
-ghost use Rattle.analysis_tally.specs.Tallies.{Paired, paired, with_pair, with_wrong, first_wrong, pair_one, passed_for, pass_up, pass_all_up};
+ghost use Rattle.analysis_tally.specs.Tallies.{Paired, paired, with_pair, with_wrong, first_wrong, part_wrong, pair_one, passed_for, pass_up, pass_all_up};
 
 use crate::places::{Expressions, place};
 use analysis_forms::{GlobalOrArgument, SamplingPair};
@@ -88,20 +88,32 @@ impl Sampled {
         }
     }
 
+    fn note_part(&mut self, part: Part)
+        ensures { paired self.new ≡ part_wrong part.wrong part.means (paired self.old) }
+    {
+        if part.means.is_none() {
+            self.note_wrong(part.wrong);
+        }
+    }
+
     // An image and a sampler.
     pub(crate) fn pair(&mut self, image: Part, sampler: Part) -> Result<(), AllocError>
         ensures { OnOk result (paired self.new ≡ pair_one image.wrong sampler.wrong image.means sampler.means (paired self.old)) }
     {
         match image.means {
             Some(of_image) => match sampler.means {
-                Some(of_sampler) => {
-                    return self.insert((of_image, of_sampler));
+                Some(of_sampler) => self.insert((of_image, of_sampler)),
+                None => {
+                    self.note_wrong(sampler.wrong);
+                    Ok(())
                 }
-                None => self.note_wrong(sampler.wrong),
             },
-            None => self.note_wrong(image.wrong),
+            None => {
+                self.note_wrong(image.wrong);
+                self.note_part(sampler);
+                Ok(())
+            }
         }
-        Ok(())
     }
 
     // A pair of a callee to which these arguments are passed.

@@ -1,13 +1,15 @@
 //! What is counted of a function.
 
-ghost use Rattle.std.specs.Prelude.{◌≡◌, IfOk};
-ghost use Rattle.analysis_tally.specs.Tallies.{tallied, nothing_tallied};
+ghost use Rattle.std.specs.Prelude.{◌≡◌, IfOk, length};
+ghost use Rattle.ir_blocks.specs.View.{block_view};
+ghost use Rattle.analysis_tally.specs.Tallies.{known, tallied, nothing_tallied, whole_tally};
 
 use crate::counts::Counts;
 use crate::pairs::Sampled;
 use analysis_info::FunctionInfo;
 use ir_arena::arena::Arena;
 use ir_arena::handle::Handle;
+use ir_blocks::Block;
 use ir_expressions::Expression;
 use ir_types::key;
 use std::alloc::{AllocError, Global};
@@ -44,5 +46,22 @@ impl Tally {
             sampled: Sampled::new(alloc),
             may_kill: false,
         })
+    }
+
+    /// All of a function with this body, in a module of so many global variables. The error is out of memory.
+    pub fn of_function(
+        alloc: Global,
+        context: &Context<'_>,
+        globals: usize,
+        body: &Block,
+    ) -> Result<Tally, AllocError>
+        ensures { IfOk result (λ t. tallied t
+            ≡ whole_tally (known context.now) (length context.now.expressions.now) globals (block_view body.now)) }
+    {
+        let mut tally = Tally::new(alloc, context.expressions.len(), globals)?;
+        tally.add_expressions(context)?;
+        tally.add_block(context, body)?;
+        tally.counts.name_globals(context.expressions);
+        Ok(tally)
     }
 }

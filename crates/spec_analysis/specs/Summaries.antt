@@ -1,13 +1,15 @@
 -- What is kept of a function, and what it says of it.
-use Rattle.std.specs.Prelude.{◌≡◌, ◌↔◌, ◌⊎◌, ℕ, ◌<◌, Bool, IsTrue, List, Some, length, slice_get, slice_index_or}
+use Rattle.std.specs.Prelude.{◌≡◌, ◌↔◌, ◌⊎◌, ℕ, ◌<◌, Bool, IsTrue, List, Some, None, length, slice_get, slice_index_or}
 use Rattle.std.specs.Int.{bit_at}
 use Rattle.ir_expressions.specs.Plain.{PlainExpression}
 use Rattle.ir_items.specs.Plain.{PlainFunction, PlainModule}
 use Rattle.overload_tables.specs.Laws.{IsAmong}
 use Rattle.analysis_forms.specs.declared.global_use.GlobalUse.{GlobalUse}
 use Rattle.analysis_forms.specs.declared.global_use.TheConstants.GlobalUse.{QUERY}
+use Rattle.analysis_forms.specs.declared.sampling.GlobalOrArgument.{GlobalOrArgument}
+use Rattle.analysis_forms.specs.declared.sampling.GlobalOrArgument.TheVariants.{Argument}
 use Rattle.analysis_forms.specs.Pairs.{SamplingPair}
-use Rattle.spec_analysis.specs.Effects.{runs, effects_of}
+use Rattle.spec_analysis.specs.Effects.{samples, runs, effects_of}
 use Rattle.spec_analysis.specs.Chains.{place, seen_through, UsesDirectly, Names, HasUse, Samples, HasPair, Discards, MayKill}
 
 -- The use of each global variable of the module, the pairs, and whether the fragment may be ended.
@@ -80,3 +82,16 @@ CallsBelow f n = (callee : ℕ) (arguments : List ℕ) → IsAmong (runs callee 
 -- the summaries of the functions that f calls are the same
 abbrev pub AgreeOnCallees : PlainFunction → List Summary → List Summary → Type 0
 AgreeOnCallees f summaries others = (callee : ℕ) (arguments : List ℕ) → IsAmong (runs callee arguments) (effects_of f) → slice_get summaries callee ≡ slice_get others callee
+
+-- ---- forms of operands
+
+-- an argument that stands for an image or a sampler is an expression that stands for neither a global variable nor an argument
+abbrev pub IsWrongArgument : List PlainExpression → (arguments : List ℕ) → GlobalOrArgument → ℕ → Type 0
+IsWrongArgument expressions arguments part e = (number : ℕ) × (part ≡ Argument number) × (slice_get arguments number ≡ Some e) × (place expressions e ≡ None)
+
+-- At e stands a sampling whose image or sampler has another form, or an argument of another form that is passed for an image
+-- or a sampler of a callee's pair.
+abbrev pub IsFormFault : PlainFunction → List Summary → ℕ → Type 0
+IsFormFault f summaries e =
+    ((image : ℕ) × (sampler : ℕ) × IsAmong (samples e image sampler) (effects_of f) × ((place f.expressions image ≡ None) ⊎ (place f.expressions sampler ≡ None)))
+    ⊎ ((arguments : List ℕ) × (t : Summary) × (q : SamplingPair) × CallsOne f summaries arguments t × IsAmong q t.pairs × (IsWrongArgument f.expressions arguments q.0 e ⊎ IsWrongArgument f.expressions arguments q.1 e))
