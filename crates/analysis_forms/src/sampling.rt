@@ -13,14 +13,9 @@ pub enum GlobalOrArgument {
     Argument(u32),
 }
 
-/// An image and the sampler that it is sampled by, as a function knows them (naga's `Sampling` of its analyzer).
-#[derive(Clone, Copy, PartialEq, Eq, Hash, Debug)]
-pub struct SamplingPair {
-    /// The image.
-    pub image: GlobalOrArgument,
-    /// The sampler.
-    pub sampler: GlobalOrArgument,
-}
+/// An image and the sampler that it is sampled by, in this order, as a function knows them (naga's `Sampling` of its
+/// analyzer).
+pub type SamplingPair = (GlobalOrArgument, GlobalOrArgument);
 
 /// Two global variables, the one an image and the other the sampler that it is sampled by (naga's `SamplingKey`).
 #[derive(Clone, Copy, PartialEq, Eq, Hash, Debug)]

@@ -5,7 +5,7 @@ use Rattle.ir_items.specs.Plain.{PlainFunction, PlainModule}
 use Rattle.analysis_forms.specs.declared.global_use.TheConstants.GlobalUse.{QUERY}
 use Rattle.analysis_forms.specs.declared.sampling.GlobalOrArgument.{GlobalOrArgument}
 use Rattle.analysis_forms.specs.declared.sampling.GlobalOrArgument.TheVariants.{Global, Argument}
-use Rattle.analysis_forms.specs.declared.sampling.SamplingPair.{SamplingPair}
+use Rattle.analysis_forms.specs.Pairs.{SamplingPair}
 use Rattle.spec_analysis.specs.Chains.{place, Step, Calls, IsChain, end_of, bound, argument_means, seen_through, Reaches, UsesDirectly, Names, IsUnusedFrom, HasUse, Samples, HasPair}
 use Rattle.spec_analysis.specs.Summaries.{ComesUp}
 
@@ -103,8 +103,8 @@ pair-from_call m f s q p c r u =
       image = r.sampled.image;
       sampler = r.sampled.sampler;
       sampling = r.sampled.sampling;
-      image_means = means r.sampled.image q.image p.image r.sampled.image_means u.image;
-      sampler_means = means r.sampled.sampler q.sampler p.sampler r.sampled.sampler_means u.sampler;
+      image_means = means r.sampled.image q.0 p.0 r.sampled.image_means u.image;
+      sampler_means = means r.sampled.sampler q.1 p.1 r.sampled.sampler_means u.sampler;
     } in
     record {
       chain = r.chain ++ s ∷ [];
@@ -125,22 +125,22 @@ pub record CalleePair (m : PlainModule) (f : PlainFunction) (p : SamplingPair) :
 -- a pair that is sampled behind a call comes up from the callee
 comes : (m : PlainModule) (f : PlainFunction) (s : Step) (rest : List Step) (p : SamplingPair) → Calls m f s → IsChain m s.function rest → Samples (bound f (rest ++ s ∷ [])) (end_of s.function rest) p → CalleePair m f p
 comes m f s rest p c r h =
-    let image : seen_through (place f.expressions) s.arguments (bound s.function rest h.image) ≡ Some p.image = sym (bound-append f s rest h.image) ∙ h.image_means in
-    let sampler : seen_through (place f.expressions) s.arguments (bound s.function rest h.sampler) ≡ Some p.sampler = sym (bound-append f s rest h.sampler) ∙ h.sampler_means in
-    let a = seen (place f.expressions) s.arguments (bound s.function rest h.image) p.image image in
-    let b = seen (place f.expressions) s.arguments (bound s.function rest h.sampler) p.sampler sampler in
+    let image : seen_through (place f.expressions) s.arguments (bound s.function rest h.image) ≡ Some p.0 = sym (bound-append f s rest h.image) ∙ h.image_means in
+    let sampler : seen_through (place f.expressions) s.arguments (bound s.function rest h.sampler) ≡ Some p.1 = sym (bound-append f s rest h.sampler) ∙ h.sampler_means in
+    let a = seen (place f.expressions) s.arguments (bound s.function rest h.image) p.0 image in
+    let b = seen (place f.expressions) s.arguments (bound s.function rest h.sampler) p.1 sampler in
     record {
       step = s;
       calls = c;
-      pair = record { image = a.0; sampler = b.0 };
+      pair = (a.0, b.0);
       below = record {
         chain = rest;
         is_chain = r;
         sampled = record { expression = h.expression; image = h.image; sampler = h.sampler; sampling = h.sampling; image_means = a.1; sampler_means = b.1 };
       };
       gives = record {
-        image = subst (λ o. seen_through (place f.expressions) s.arguments o ≡ Some p.image) a.1 image;
-        sampler = subst (λ o. seen_through (place f.expressions) s.arguments o ≡ Some p.sampler) b.1 sampler;
+        image = subst (λ o. seen_through (place f.expressions) s.arguments o ≡ Some p.0) a.1 image;
+        sampler = subst (λ o. seen_through (place f.expressions) s.arguments o ≡ Some p.1) b.1 sampler;
       };
     }
 

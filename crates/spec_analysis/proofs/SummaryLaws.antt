@@ -7,10 +7,10 @@ use Rattle.std.proofs.lemmas.Nat.Bits.{bit_at-pow_other, bit_at-lt}
 use Rattle.ir_items.specs.Plain.{PlainFunction, PlainModule}
 use Rattle.overload_tables.specs.Laws.{IsAmong}
 use Rattle.analysis_forms.specs.declared.global_use.TheConstants.GlobalUse.{QUERY}
-use Rattle.analysis_forms.specs.declared.sampling.SamplingPair.{SamplingPair}
+use Rattle.analysis_forms.specs.Pairs.{SamplingPair}
 use Rattle.spec_analysis.specs.Effects.{Effect, takes, samples, runs, discards, effects_of}
 use Rattle.spec_analysis.specs.Chains.{place, Step, Calls, Reaches, UsesDirectly, Names, IsUnusedFrom, HasUse, Samples, HasPair, Discards, MayKill}
-use Rattle.spec_analysis.specs.Summaries.{Summary, HasBit, IsSummary, CallsOne, ComesUp, JoinsUse, IsJoined, KnownCallee, CalleesKnown, AreSummaries, CallsBelow, AgreeOnCallees}
+use Rattle.spec_analysis.specs.Summaries.{Summary, no_use, HasBit, IsSummary, CallsOne, ComesUp, JoinsUse, IsJoined, KnownCallee, CalleesKnown, AreSummaries, CallsBelow, AgreeOnCallees}
 use Rattle.spec_analysis.proofs.Members.{among-get, get-among, get-within}
 use Rattle.spec_analysis.proofs.ChainLaws.{reaches-from_call, reaches-here, reaches-cases, CalleeReaches, use-from_call, pair-from_call, pair-here, pair-cases, CalleePair}
 
@@ -62,7 +62,7 @@ find_call summaries g k (runs c args ∷ rest) = at_call summaries g k c args re
   at_call : (summaries : List Summary) (g k : ℕ) (c : ℕ) (args : List ℕ) (rest : List Effect) (o : Option Summary) → slice_get summaries c ≡ o → OneCall summaries g k rest ⊎ NoCall summaries g k rest → OneCall summaries g k (runs c args ∷ rest) ⊎ NoCall summaries g k (runs c args ∷ rest)
   at_call summaries g k c args rest None is after =
       either summaries g k (runs c args) rest (λ callee arguments s e found bit. let q : c ≡ callee = callee_of c callee args arguments e in let n : None ≡ Some s = sym is ∙ (ap (slice_get summaries) q ∙ found) in cc (n)) after
-  at_call summaries g k c args rest (Some t) is after = elim (bit_or_not (slice_index_or t.uses g 0) k) [
+  at_call summaries g k c args rest (Some t) is after = elim (bit_or_not (slice_index_or t.uses g no_use).0 k) [
     | inl b ↦ inl (record { callee = c; arguments = args; summary = t; call = inl refl; found = is; bit = b })
     | inr n ↦ either summaries g k (runs c args) rest (λ callee arguments s e found bit. let q : c ≡ callee = callee_of c callee args arguments e in let same : t ≡ s = some_is (sym is ∙ (ap (slice_get summaries) q ∙ found)) in n (subst (λ u. HasBit u g k) (sym same) bit)) after
   ]

@@ -8,7 +8,7 @@ use Rattle.overload_tables.specs.Laws.{IsAmong}
 use Rattle.analysis_forms.specs.declared.global_use.TheConstants.GlobalUse.{QUERY}
 use Rattle.analysis_forms.specs.declared.sampling.GlobalOrArgument.{GlobalOrArgument}
 use Rattle.analysis_forms.specs.declared.sampling.GlobalOrArgument.TheVariants.{Global, Argument}
-use Rattle.analysis_forms.specs.declared.sampling.SamplingPair.{SamplingPair}
+use Rattle.analysis_forms.specs.Pairs.{SamplingPair}
 use Rattle.spec_analysis.specs.Operands.{Operand}
 use Rattle.spec_analysis.specs.Effects.{Effect, takes, samples, runs, discards, effects_of}
 use Rattle.spec_analysis.specs.Values.{StartsAt}
@@ -108,8 +108,8 @@ pub record Samples (meaning : ℕ → Option GlobalOrArgument) (f : PlainFunctio
   pub image : ℕ
   pub sampler : ℕ
   pub sampling : IsAmong (samples expression image sampler) (effects_of f)
-  pub image_means : meaning image ≡ Some p.image
-  pub sampler_means : meaning sampler ≡ Some p.sampler
+  pub image_means : meaning image ≡ Some p.0
+  pub sampler_means : meaning sampler ≡ Some p.1
 
 -- the pair is sampled at the end of a chain from f
 pub record HasPair (m : PlainModule) (f : PlainFunction) (p : SamplingPair) : Type 0 where

@@ -1,5 +1,5 @@
 -- What a function does that its summary tells, in the order of its text.
-use Rattle.std.specs.Prelude.{ℕ, ◌+◌, List, [], ◌∷◌, ◌++◌, map}
+use Rattle.std.specs.Prelude.{ℕ, ◌+◌, List, [], ◌∷◌, ◌++◌, map, ◌==◌, if◌then◌else◌}
 use Rattle.ir_expressions.specs.Plain.{PlainExpression, compose, plain}
 use Rattle.ir_expressions.specs.declared.expressions.Expression.TheVariants.{ImageSample}
 use Rattle.ir_blocks.specs.Plain.{PlainStatement, emit, block, choice, switch, loop, break, continue, return, kill, act, call, PlainBlock, stop, next, PlainCases, no_case, case}
@@ -71,3 +71,11 @@ abbrev mutual
 -- All expressions count, emitted or not; what a local variable begins as is no operand.
 abbrev pub effects_of : PlainFunction → List Effect
 effects_of f = expressions_effects 0 f.expressions ++ effects_in f.body
+
+-- at how many places an expression is an operand
+abbrev pub places_of : ℕ → List Effect → ℕ
+places_of e [] = 0
+places_of e (takes operand ∷ rest) = (if operand.handle == e then 1 else 0) + places_of e rest
+places_of e (samples expression image sampler ∷ rest) = places_of e rest
+places_of e (runs function arguments ∷ rest) = places_of e rest
+places_of e (discards ∷ rest) = places_of e rest

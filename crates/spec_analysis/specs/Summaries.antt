@@ -1,23 +1,33 @@
 -- What is kept of a function, and what it says of it.
-use Rattle.std.specs.Prelude.{◌≡◌, ◌↔◌, ◌⊎◌, ℕ, ◌<◌, Bool, IsTrue, List, Some, length, slice_get, slice_index_or}
+use Rattle.std.specs.Prelude.{◌≡◌, ◌↔◌, ◌⊎◌, ℕ, ◌<◌, Bool, IsTrue, List, Some, None, length, slice_get, slice_index_or}
 use Rattle.std.specs.Int.{bit_at}
 use Rattle.ir_expressions.specs.Plain.{PlainExpression}
 use Rattle.ir_items.specs.Plain.{PlainFunction, PlainModule}
 use Rattle.overload_tables.specs.Laws.{IsAmong}
+use Rattle.analysis_forms.specs.declared.global_use.GlobalUse.{GlobalUse}
 use Rattle.analysis_forms.specs.declared.global_use.TheConstants.GlobalUse.{QUERY}
-use Rattle.analysis_forms.specs.declared.sampling.SamplingPair.{SamplingPair}
-use Rattle.spec_analysis.specs.Effects.{runs, effects_of}
+use Rattle.analysis_forms.specs.declared.sampling.GlobalOrArgument.{GlobalOrArgument}
+use Rattle.analysis_forms.specs.declared.sampling.GlobalOrArgument.TheVariants.{Argument}
+use Rattle.analysis_forms.specs.Pairs.{SamplingPair}
+use Rattle.spec_analysis.specs.Effects.{samples, runs, effects_of}
 use Rattle.spec_analysis.specs.Chains.{place, seen_through, UsesDirectly, Names, HasUse, Samples, HasPair, Discards, MayKill}
 
--- The bits of the use of each global variable of the module, the pairs, and whether the fragment may be ended.
+-- The use of each global variable of the module, the pairs, and whether the fragment may be ended.
 pub record Summary : Type 0 where
-  pub uses : List ℕ
+  pub uses : List GlobalUse
   pub pairs : List SamplingPair
   pub may_kill : Bool
 
--- the summary has this bit for the global variable
+abbrev pub no_use : GlobalUse
+no_use = record { 0 = 0 }
+
+-- these uses have this bit for the global variable
+abbrev pub HasUseBit : List GlobalUse → (g k : ℕ) → Type 0
+HasUseBit uses g k = bit_at (slice_index_or uses g no_use).0 k ≡ 1
+
+-- the summary has it
 abbrev pub HasBit : Summary → (g k : ℕ) → Type 0
-HasBit s g k = bit_at (slice_index_or s.uses g 0) k ≡ 1
+HasBit s g k = HasUseBit s.uses g k
 
 -- The summary has what the function has over all its chains, and nothing else.
 pub record IsSummary (m : PlainModule) (f : PlainFunction) (s : Summary) : Type 0 where
@@ -35,8 +45,8 @@ pub record CallsOne (f : PlainFunction) (summaries : List Summary) (arguments : 
 
 -- a pair of a callee to which these arguments are passed is this one in the caller
 pub record ComesUp (expressions : List PlainExpression) (arguments : List ℕ) (below above : SamplingPair) : Type 0 where
-  pub image : seen_through (place expressions) arguments (Some below.image) ≡ Some above.image
-  pub sampler : seen_through (place expressions) arguments (Some below.sampler) ≡ Some above.sampler
+  pub image : seen_through (place expressions) arguments (Some below.0) ≡ Some above.0
+  pub sampler : seen_through (place expressions) arguments (Some below.1) ≡ Some above.1
 
 -- a use of its own, or of one of its callees
 abbrev pub JoinsUse : PlainFunction → List Summary → (g k : ℕ) → Type 0
@@ -72,3 +82,16 @@ CallsBelow f n = (callee : ℕ) (arguments : List ℕ) → IsAmong (runs callee 
 -- the summaries of the functions that f calls are the same
 abbrev pub AgreeOnCallees : PlainFunction → List Summary → List Summary → Type 0
 AgreeOnCallees f summaries others = (callee : ℕ) (arguments : List ℕ) → IsAmong (runs callee arguments) (effects_of f) → slice_get summaries callee ≡ slice_get others callee
+
+-- ---- forms of operands
+
+-- an argument that stands for an image or a sampler is an expression that stands for neither a global variable nor an argument
+abbrev pub IsWrongArgument : List PlainExpression → (arguments : List ℕ) → GlobalOrArgument → ℕ → Type 0
+IsWrongArgument expressions arguments part e = (number : ℕ) × (part ≡ Argument number) × (slice_get arguments number ≡ Some e) × (place expressions e ≡ None)
+
+-- At e stands a sampling whose image or sampler has another form, or an argument of another form that is passed for an image
+-- or a sampler of a callee's pair.
+abbrev pub IsFormFault : PlainFunction → List Summary → ℕ → Type 0
+IsFormFault f summaries e =
+    ((image : ℕ) × (sampler : ℕ) × IsAmong (samples e image sampler) (effects_of f) × ((place f.expressions image ≡ None) ⊎ (place f.expressions sampler ≡ None)))
+    ⊎ ((arguments : List ℕ) × (t : Summary) × (q : SamplingPair) × CallsOne f summaries arguments t × IsAmong q t.pairs × (IsWrongArgument f.expressions arguments q.0 e ⊎ IsWrongArgument f.expressions arguments q.1 e))

@@ -1,6 +1,6 @@
 -- Values that may differ between invocations, the global variables that chains of accesses start at, and what expressions
 -- ask of control flow.
-use Rattle.std.specs.Prelude.{◌≡◌, ℕ, ◌<◌, Bool, true, false, ◌||◌, IsTrue, List, Option, Some, None, slice_get, bit_and, ◌==◌}
+use Rattle.std.specs.Prelude.{◌≡◌, ◌↔◌, ℕ, ◌<◌, Bool, true, false, ◌||◌, IsTrue, List, Option, Some, None, slice_get, bit_and, ◌==◌}
 use Rattle.ir_flags.specs.declared.memory.StorageAccess.{StorageAccess}
 use Rattle.ir_flags.specs.declared.memory.TheConstants.StorageAccess.{STORE}
 use Rattle.ir_kinds.specs.declared.bindings.Binding.{Binding}
@@ -142,6 +142,18 @@ pub data StartsAt (expressions : List PlainExpression) : ℕ → ℕ → Type 0 
   is_global : {e g : ℕ} → slice_get expressions e ≡ Some (plain (x.GlobalVariable g)) → StartsAt expressions e g
   accessed : {e g : ℕ} (base index : ℕ) → slice_get expressions e ≡ Some (plain (x.Access base index)) → StartsAt expressions base g → StartsAt expressions e g
   accessed_index : {e g : ℕ} (base index : ℕ) → slice_get expressions e ≡ Some (plain (x.AccessIndex base index)) → StartsAt expressions base g → StartsAt expressions e g
+
+-- what is known of one of some expressions
+abbrev pub inner_of : Option (Option ℕ) → Option ℕ
+inner_of (Some found) = found
+inner_of None = None
+
+abbrev pub known_at : List (Option ℕ) → ℕ → Option ℕ
+known_at known e = inner_of (slice_get known e)
+
+-- these are the global variables that the chains of accesses of all expressions start at
+abbrev pub AreStarts : List PlainExpression → List (Option ℕ) → Type 0
+AreStarts expressions globals = (e g : ℕ) → (known_at globals e ≡ Some g) ↔ StartsAt expressions e g
 
 -- each operand stands before what has it
 abbrev pub OperandsPrecede : List PlainExpression → Type 0
