@@ -38,13 +38,14 @@ query_level NumLevels = None
 query_level NumLayers = None
 query_level NumSamples = None
 
--- the operands of an expression in the order of its fields: expressions of the list that it stands in
+-- the operands of an expression in the order of its fields: expressions of the list that it stands in; a composition has its
+-- in `expression_operands`
 abbrev pub operands_of : Expression → List ℕ
 operands_of (x.Literal value) = []
 operands_of (x.Constant constant) = []
 operands_of (x.Override override) = []
 operands_of (x.ZeroValue type) = []
-operands_of (x.Compose type components) = components.items
+operands_of (x.Compose type components) = []
 operands_of (x.Access base index) = base ∷ index ∷ []
 operands_of (x.AccessIndex base index) = base ∷ []
 operands_of (x.Splat size value) = value ∷ []

@@ -45,6 +45,7 @@ same_operands (plain (x.ImageQuery image NumLayers)) = refl
 same_operands (plain (x.ImageQuery image NumSamples)) = refl
 same_operands (plain (x.Math fun arg arg1 arg2 arg3)) =
     ap (λ l. arg ∷ l) (by_if arg1 (reads_if arg2 ++ reads_if arg3) (arg2 ∷ arg3 ∷ []) (by_if arg2 (reads_if arg3) (arg3 ∷ []) (last_if arg3)))
+same_operands (plain (x.Compose type components)) = refl
 same_operands (plain (x.Literal value)) = refl
 same_operands (plain (x.Constant constant)) = refl
 same_operands (plain (x.Override override)) = refl
