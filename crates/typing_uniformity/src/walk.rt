@@ -118,7 +118,7 @@ pub(crate) fn seen_in(
     let mut seen = nothing();
     for statement in block.as_slice() {
         let one = seen_at(facts, &current, statement);
-        current = *disruptor;
+        current = either(&current, &one.end);
         seen = both(&seen, &one);
     }
     seen
