@@ -1,4 +1,5 @@
 // What is asked of a module.
+use crate::conditions::{Test, tests_told};
 use crate::constness::{kinds_told, tracked};
 use crate::layouts::{laid, layouts_told};
 use crate::types::{typed, types_told};
@@ -12,6 +13,10 @@ pub fn answer(alloc: Global, asked: &str, module: &Module) -> Result<String, All
         "layouts" => layouts_told(alloc, &module.types),
         "constness" => kinds_told(alloc, module),
         "types" => types_told(alloc, module),
+        "tests" => tests_told(alloc, module, None),
+        "tests but callees" => tests_told(alloc, module, Some(Test::Callees)),
+        "tests but filters" => tests_told(alloc, module, Some(Test::Filters)),
+        "tests but arities" => tests_told(alloc, module, Some(Test::Arities)),
         "laid" => String::from_str(alloc, laid(alloc, &module.types)?),
         "tracked" => String::from_str(alloc, tracked(alloc, module)?),
         "typed" => String::from_str(alloc, typed(alloc, module)?),

@@ -1,0 +1,8 @@
+pub mod Counting
+pub mod Effects
+pub mod Handles
+pub mod Lookups
+pub mod PairLemmas
+pub mod SumLemmas
+pub mod TallyLaws
+pub mod UseLemmas

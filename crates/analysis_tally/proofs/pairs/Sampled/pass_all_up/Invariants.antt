@@ -1,0 +1,9 @@
+use Rattle.std.proofs.Common.{◌≡◌, drop, map}
+use Rattle.ir_expressions.specs.Plain.{expression_view}
+use Rattle.ir_globals.specs.View.{values_of}
+use Rattle.analysis_tally.specs.Tallies.{paired, pass_all_up}
+use Rattle.analysis_tally.proofs.pairs.Sampled.pass_all_up.Given as goal
+
+abbrev pub invariant-loop-pair : goal.invariant-loop-pair
+invariant-loop-pair l =
+    pass_all_up (map expression_view (values_of l.expressions)) l.arguments (drop l.pair-index l.pairs) (paired l.self) ≡ pass_all_up (map expression_view (values_of l.expressions)) l.arguments l.pairs (paired l.fn.self)

@@ -1,0 +1,14 @@
+//! How often the expressions of a function are operands, what it does to global variables, and what it samples: from its
+//! own body and from what is kept of the functions that it calls.
+#![tactic(auto)]
+
+mod acts;
+mod counts;
+mod expressions;
+mod operands;
+mod pairs;
+mod places;
+mod tally;
+mod walk;
+
+pub use tally::{Context, Tally};

@@ -1,0 +1,148 @@
+//! Pairs of images and samplers.
+
+ghost use Rattle.std.specs.Prelude.{◌≡◌, Some, IfOk, OnOk, None, [], slice_get};
+ghost use Rattle.ir_expressions.specs.Plain.{expression_view};
+ghost use Rattle.ir_globals.specs.View.{values_of};
+ghost use Rattle.indexmap.specs.IndexSet.{insert_key};
+ghost use Rattle.spec_analysis.specs.Chains.{place, seen_through};
+ghost use Rattle.std.specs.Prelude.{map};
+ghost use Rattle.analysis_tally.specs.Tallies.{Paired, paired, with_pair, with_wrong, first_wrong, part_wrong, pair_one, passed_for, pass_up, pass_all_up};
+
+use crate::places::{Expressions, place};
+use analysis_forms::{GlobalOrArgument, SamplingPair};
+use indexmap::IndexSet;
+use ir_arena::handle::Handle;
+use ir_types::key;
+use std::alloc::{AllocError, Global};
+use std::hash::Hash;
+
+/// The pairs, each once.
+#[derive(Drop)]
+pub struct Sampled {
+    /// The pairs in the order in which they were found.
+    pub pairs: IndexSet<SamplingPair>,
+    /// An expression of a wrong form for an image or a sampler, if there is one.
+    pub wrong: Option<Handle<key::Expression>>,
+}
+
+// What an image or a sampler stands for, and the expression that is wrong where it stands for nothing.
+#[derive(Clone, Copy)]
+pub(crate) struct Part {
+    pub(crate) means: Option<GlobalOrArgument>,
+    pub(crate) wrong: Option<Handle<key::Expression>>,
+}
+
+// What stands for this in a callee, seen from the caller that passes these arguments.
+fn seen(expressions: &Expressions, arguments: &[Handle<key::Expression>], below: GlobalOrArgument) -> Part
+    ensures means { result.means ≡ seen_through (place (map expression_view (values_of expressions.now))) arguments.now (Some below) }
+    ensures wrong { result.wrong ≡ passed_for arguments.now below }
+{
+    match below {
+        GlobalOrArgument::Global(_) => Part {
+            means: Some(below),
+            wrong: None,
+        },
+        GlobalOrArgument::Argument(number) => match arguments.get(number as usize) {
+            Some(argument) => Part {
+                means: place(expressions, *argument),
+                wrong: Some(*argument),
+            },
+            None => Part {
+                means: None,
+                wrong: None,
+            },
+        },
+    }
+}
+
+// A value of a set, once. The error is out of memory.
+fn keep<T: Eq + Hash + Drop>(set: &mut IndexSet<T>, value: T) -> Result<(), AllocError>
+    ensures { OnOk result (set.new.keys ≡ insert_key T.eq set.old.keys value) }
+{
+    set.insert(value)?;
+    Ok(())
+}
+
+impl Sampled {
+    // No pair.
+    pub(crate) fn new(alloc: Global) -> Sampled
+        ensures { paired result ≡ record { pairs = []; wrong = None } }
+    {
+        Sampled {
+            pairs: IndexSet::new(alloc),
+            wrong: None,
+        }
+    }
+
+    fn insert(&mut self, pair: SamplingPair) -> Result<(), AllocError>
+        ensures { OnOk result (paired self.new ≡ with_pair pair (paired self.old)) }
+    {
+        keep(&mut self.pairs, pair)
+    }
+
+    fn note_wrong(&mut self, wrong: Option<Handle<key::Expression>>)
+        ensures { paired self.new ≡ with_wrong wrong (paired self.old) }
+    {
+        if self.wrong.is_none() {
+            self.wrong = wrong;
+        }
+    }
+
+    fn note_part(&mut self, part: Part)
+        ensures { paired self.new ≡ part_wrong part.wrong part.means (paired self.old) }
+    {
+        if part.means.is_none() {
+            self.note_wrong(part.wrong);
+        }
+    }
+
+    // An image and a sampler.
+    pub(crate) fn pair(&mut self, image: Part, sampler: Part) -> Result<(), AllocError>
+        ensures { OnOk result (paired self.new ≡ pair_one image.wrong sampler.wrong image.means sampler.means (paired self.old)) }
+    {
+        match image.means {
+            Some(of_image) => match sampler.means {
+                Some(of_sampler) => self.insert((of_image, of_sampler)),
+                None => {
+                    self.note_wrong(sampler.wrong);
+                    Ok(())
+                }
+            },
+            None => {
+                self.note_wrong(image.wrong);
+                self.note_part(sampler);
+                Ok(())
+            }
+        }
+    }
+
+    // A pair of a callee to which these arguments are passed.
+    fn pass_up(
+        &mut self,
+        expressions: &Expressions,
+        arguments: &[Handle<key::Expression>],
+        pair: SamplingPair,
+    ) -> Result<(), AllocError>
+        ensures { OnOk result (paired self.new ≡ pass_up (map expression_view (values_of expressions.now)) arguments.now pair (paired self.old)) }
+    {
+        self.pair(
+            seen(expressions, arguments, pair.0),
+            seen(expressions, arguments, pair.1),
+        )
+    }
+
+    // All pairs of a callee to which these arguments are passed.
+    pub(crate) fn pass_all_up(
+        &mut self,
+        expressions: &Expressions,
+        arguments: &[Handle<key::Expression>],
+        pairs: &[SamplingPair],
+    ) -> Result<(), AllocError>
+        ensures { OnOk result (paired self.new ≡ pass_all_up (map expression_view (values_of expressions.now)) arguments.now pairs.now (paired self.old)) }
+    {
+        for pair in pairs {
+            self.pass_up(expressions, arguments, *pair)?;
+        }
+        Ok(())
+    }
+}

@@ -1,0 +1,19 @@
+use Rattle.std.proofs.Common.{refl, subst}
+use Rattle.std.proofs.lemmas.Result.{IfOk-weaker}
+use Rattle.ir_blocks.specs.View.{block_view}
+use Rattle.ir_items.specs.View.{function_view, module_view}
+use Rattle.typing_uniformity.specs.Uniform.{IsAnswer}
+use Rattle.analysis_uniformity.specs.Faults.{IsAnswer as IsFunctionAnswer}
+use Rattle.analysis_uniformity.proofs.Known.{answered}
+use Rattle.analysis_uniformity.proofs.fault.uniformity_fault.Goals as goal
+
+pub returns : goal.returns
+returns c =
+    let m = module_view c.args.«module».now in
+    let f = function_view c.args.function.now in
+    let all = c.in_ok-uniformities.uniformities.items in
+    let severity = c.derivative_severity-severity.result in
+    IfOk-weaker c.find_fault.result (IsAnswer c.args.flags severity c.deref.result.now (block_view c.args.function.now.body)) (IsFunctionAnswer c.args.flags m f)
+    (λ found a. answered m f c.args.sources.now c.args.function.now.expressions all refl c.requires.sources c.in_ok-uniformities.ensures c.args.flags severity found c.derivative_severity-severity.ensures
+    (subst (λ us. IsAnswer c.args.flags severity us (block_view c.args.function.now.body) found) c.deref.ensures.value a))
+    c.find_fault.ensures

@@ -1,0 +1,72 @@
+// Whether the handles of functions are in order.
+use ir_items::{Function, Module};
+use std::alloc::{AllocError, Global};
+use typing_conditions::{
+    arities_match, callees_precede, filter_parents_precede, handles_in_range, operands_precede,
+};
+
+/// The tests, in the order in which they are told.
+#[derive(Clone, Copy, PartialEq)]
+pub enum Test {
+    Handles,
+    Operands,
+    Callees,
+    Filters,
+    Arities,
+}
+
+const TESTS: [Test; 5] = [
+    Test::Handles,
+    Test::Operands,
+    Test::Callees,
+    Test::Filters,
+    Test::Arities,
+];
+
+// Whether a function that so many others come before passes.
+fn passes(test: Test, function: &Function, module: &Module, before: usize) -> bool {
+    match test {
+        Test::Handles => handles_in_range(function, module),
+        Test::Operands => operands_precede(function, module),
+        Test::Callees => callees_precede(function, module, before),
+        Test::Filters => filter_parents_precede(function, module),
+        Test::Arities => arities_match(function, module),
+    }
+}
+
+// Tells each test of a function by a letter, that which is not asked by a dot.
+fn tell(
+    told: &mut String,
+    function: &Function,
+    module: &Module,
+    before: usize,
+    unasked: Option<Test>,
+) -> Result<(), AllocError> {
+    for test in TESTS {
+        let letter = if Some(test) == unasked {
+            "."
+        } else if passes(test, function, module, before) {
+            "t"
+        } else {
+            "f"
+        };
+        told.push_str(letter)?;
+    }
+    told.push_str(";")
+}
+
+/// The tests of each function and each entry point, but one that is not asked.
+pub fn tests_told(
+    alloc: Global,
+    module: &Module,
+    unasked: Option<Test>,
+) -> Result<String, AllocError> {
+    let mut told = String::new(alloc);
+    for (handle, function) in module.functions.iter() {
+        tell(&mut told, function, module, handle.index(), unasked)?;
+    }
+    for entry in module.entry_points.as_slice() {
+        tell(&mut told, &entry.function, module, module.functions.len(), unasked)?;
+    }
+    Ok(told)
+}

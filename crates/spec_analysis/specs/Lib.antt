@@ -1,0 +1,6 @@
+pub mod Operands
+pub mod Effects
+pub mod Values
+pub mod Chains
+pub mod Summaries
+pub mod Laws

@@ -1,0 +1,3 @@
+pub mod EverywhereLaws
+pub mod DisruptionLaws
+pub mod FoundLaws

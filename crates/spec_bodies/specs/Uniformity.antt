@@ -1,0 +1,73 @@
+-- What asks that all invocations arrive at it together, and stands where they may not.
+use Rattle.std.specs.Prelude.{◌≡◌, ℕ, ◌<◌, ◌≤◌, false}
+use Rattle.ir_flags.specs.Sets.{Has}
+use Rattle.ir_flags.specs.declared.settings.ValidationFlags.{ValidationFlags}
+use Rattle.ir_flags.specs.declared.settings.TheConstants.ValidationFlags.{CONTROL_FLOW_UNIFORMITY}
+use Rattle.ir_kinds.specs.declared.diagnostics.Severity.{Severity}
+use Rattle.ir_kinds.specs.declared.diagnostics.Severity.TheVariants.{Error}
+use Rattle.ir_blocks.specs.Plain.{PlainAct, control_barrier, memory_barrier, store, image_store, atomic, image_atomic, uniform_load, ray_query, ballot, collective, gather, cooperative_store, ray_pipeline, PlainStatement, emit, block, choice, switch, loop, break, continue, return, kill, act, call, PlainBlock}
+use Rattle.ir_blocks.specs.Places.{Place, StandsAt}
+use Rattle.analysis_forms.specs.declared.uniformity.TheConstants.UniformityRequirements.{WORK_GROUP_BARRIER, DERIVATIVE, IMPLICIT_LEVEL, COOP_OPS}
+use Rattle.spec_bodies.specs.Disruption.{Disrupted}
+
+-- What an expression asks for counts: for cooperative matrices always, for derivatives where the rule of derivatives is that
+-- severe. These are the bits of `UniformityRequirements`.
+pub data Counts (severity : Severity) : ℕ → Type 0 where
+  cooperative : Counts severity COOP_OPS.0
+  derivative : severity ≡ Error → Counts severity DERIVATIVE.0
+  implicit_level : severity ≡ Error → Counts severity IMPLICIT_LEVEL.0
+
+-- What is asked, and by which expression.
+pub record Asked : Type 0 where
+  pub requirement : ℕ
+  pub expression : ℕ
+
+-- what an act asks: a uniform load waits for the workgroup
+abbrev pub ActAsks : PlainAct → Asked → Type 0
+ActAsks (control_barrier barrier) x = ⊥
+ActAsks (memory_barrier barrier) x = ⊥
+ActAsks (store pointer value) x = ⊥
+ActAsks (image_store image coordinate array_index value) x = ⊥
+ActAsks (atomic pointer fun value result) x = ⊥
+ActAsks (image_atomic image coordinate array_index fun value) x = ⊥
+ActAsks (uniform_load pointer result) x = (x.requirement ≡ WORK_GROUP_BARRIER.0) × (x.expression ≡ result)
+ActAsks (ray_query query fun) x = ⊥
+ActAsks (ballot result predicate) x = ⊥
+ActAsks (collective op collective_op argument result) x = ⊥
+ActAsks (gather mode argument result) x = ⊥
+ActAsks (cooperative_store target place) x = ⊥
+ActAsks (ray_pipeline fun) x = ⊥
+
+-- what an expression of a range asks, where each expression asks for what `required` says
+pub record EmitAsks (severity : Severity) (required : ℕ → ℕ) (first end : ℕ) (x : Asked) : Type 0 where
+  pub from_first : first ≤ x.expression
+  pub below_end : x.expression < end
+  pub requirement : x.requirement ≡ required x.expression
+  pub counts : Counts severity x.requirement
+
+-- what a statement asks itself, and not by what stands inside it
+abbrev pub Asks : Severity → (ℕ → ℕ) → PlainStatement → Asked → Type 0
+Asks severity required (emit first end) x = EmitAsks severity required first end x
+Asks severity required (block b) x = ⊥
+Asks severity required (choice h accept reject) x = ⊥
+Asks severity required (switch h cases) x = ⊥
+Asks severity required (loop body again break_if) x = ⊥
+Asks severity required break x = ⊥
+Asks severity required continue x = ⊥
+Asks severity required (return value) x = ⊥
+Asks severity required kill x = ⊥
+Asks severity required (act a) x = ActAsks a x
+Asks severity required (call function arguments result) x = ⊥
+
+-- A statement at a disrupted place of the body asks for it.
+pub record DisruptedAsk (severity : Severity) (required : ℕ → ℕ) (varies : ℕ → Type 0) (body : PlainBlock) (x : Asked) : Type 0 where
+  pub place : Place
+  pub statement : PlainStatement
+  pub stands : StandsAt body place statement
+  pub asks : Asks severity required statement x
+  pub disrupted : Disrupted varies false body place
+
+-- A fault of uniformity of a body, under the flags.
+pub record UniformityFault (flags : ValidationFlags) (severity : Severity) (required : ℕ → ℕ) (varies : ℕ → Type 0) (body : PlainBlock) (x : Asked) : Type 0 where
+  pub flag : Has flags.0 CONTROL_FLOW_UNIFORMITY.0
+  pub fault : DisruptedAsk severity required varies body x

@@ -1,0 +1,6 @@
+//! What the items of a module name by handles, a row a kind, and when what is named is in order: the definitions.
+#![tactic(auto)]
+
+mod target;
+
+pub use target::Target;

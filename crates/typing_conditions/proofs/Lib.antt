@@ -1,0 +1,5 @@
+pub mod Entries
+pub mod ListLaws
+pub mod RangeLaws
+pub mod OrderLaws
+pub mod SameLemmas

@@ -1,0 +1,18 @@
+-- The operands of an expression are the same, with the uses that they make and without.
+use Rattle.std.specs.Prelude.{◌≡◌, ◌↔◌, ℕ, List, map}
+use Rattle.ir_expressions.specs.Plain.{PlainExpression}
+use Rattle.spec_analysis.specs.Operands.{Operand, expression_operands as operands_with_uses}
+use Rattle.spec_analysis.specs.Values.{OperandsPrecede as OperandsWithUsesPrecede}
+use Rattle.spec_handles.specs.Conditions.{OperandsPrecede}
+use Rattle.spec_handles.specs.Expressions.{expression_operands}
+
+abbrev pub handles_of : List Operand → List ℕ
+handles_of operands = map (λ (o : Operand). o.handle) operands
+
+-- the handles of the operands with their uses are the operands
+abbrev pub SameOperands : Type 0
+SameOperands = (x : PlainExpression) → handles_of (operands_with_uses x) ≡ expression_operands x
+
+-- so the operands precede in the one sense exactly where they do in the other
+abbrev pub SameOrder : Type 0
+SameOrder = (expressions : List PlainExpression) → OperandsPrecede expressions ↔ OperandsWithUsesPrecede expressions

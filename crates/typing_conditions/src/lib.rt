@@ -1,0 +1,22 @@
+//! Whether the handles of a function are in order: what the analysis of a function asks of it. The tests take no memory.
+//!
+//! [`handles_in_range`], [`operands_precede`], [`callees_precede`], [`filter_parents_precede`], [`arities_match`].
+#![tactic(auto)]
+
+mod arities;
+mod bounds;
+mod callees;
+mod filters;
+pub mod laws;
+mod lists;
+mod named;
+mod precede;
+mod range;
+mod statements;
+mod walk;
+
+pub use arities::arities_match;
+pub use callees::callees_precede;
+pub use filters::filter_parents_precede;
+pub use precede::operands_precede;
+pub use range::handles_in_range;

@@ -1,0 +1,58 @@
+-- Steps of the search for the nearest filter.
+use Rattle.std.proofs.Common.{◌≡◌, inl, inr, ℕ, zero, suc, ◌+◌, ◌<◌, ◌≤◌, List, [], ◌∷◌, Option, Some, None, length, slice_get, map, option_map, refl, sym, ap, ◌∙◌, subst, arith}
+use Rattle.std.specs.Option.{option_and_then}
+use Rattle.std.proofs.lemmas.Option.{slice_get-map}
+use Rattle.ir_arena.specs.Arenas.{value_at}
+use Rattle.ir_arena.specs.declared.span.Span.{Span}
+use Rattle.ir_globals.specs.View.{values_of}
+use Rattle.ir_kinds.specs.declared.diagnostics.Severity.{Severity}
+use Rattle.ir_kinds.specs.declared.diagnostics.StandardFilterableTriggeringRule.{StandardFilterableTriggeringRule}
+use Rattle.ir_globals.specs.Plain.{PlainNode, standard}
+use Rattle.ir_walks.specs.Filters.{ParentsPrecede}
+use Rattle.spec_bodies.specs.Severity.{IsTrail, IsFirst, IsNearest}
+
+-- the plain item at a handle
+pub plain_at : {T P : Type 0} → (view : T → P) (entries : List (T × Span)) (handle : ℕ) (item : T)
+    → Some item ≡ value_at entries handle → slice_get (map view (values_of entries)) handle ≡ Some (view item)
+plain_at {T} {P} view entries handle item e =
+    slice_get-map view (values_of entries) handle
+    ∙ ap (option_map view) (slice_get-map (λ (x : T × Span). x.0) entries handle ∙ sym e)
+
+-- how far a search can still go
+abbrev pub ahead : Option ℕ → ℕ
+ahead None = 0
+ahead (Some handle) = handle + 1
+
+-- what comes before a handle, if anything, is less far ahead
+pub ahead_before : (o : Option ℕ) (handle : ℕ) → ((place : ℕ) → o ≡ Some place → place < handle) → ahead o ≤ handle
+ahead_before None handle before = omega arith
+ahead_before (Some place) handle before = let h : place < handle = before place refl in omega arith
+
+abbrev Trail : List PlainNode → Option ℕ → Type 0
+Trail nodes start = (trail : List PlainNode) × IsTrail nodes start trail
+
+-- there is a trail from every handle
+trail_at : (nodes : List PlainNode) → ParentsPrecede nodes → (handle : ℕ) (o : Option PlainNode) → slice_get nodes handle ≡ o → ((node : PlainNode) → ahead node.parent ≤ handle → Trail nodes node.parent) → Trail nodes (Some handle)
+trail_at nodes precede handle None e rest = ([], e)
+trail_at nodes precede handle (Some node) e rest =
+    let up : ahead node.parent ≤ handle = ahead_before node.parent handle (λ p is. precede handle p node e is) in
+    let more = rest node up in (node ∷ more.0, (e, more.1))
+
+trail_from : (nodes : List PlainNode) → ParentsPrecede nodes → (bound : ℕ) (start : Option ℕ) → ahead start ≤ bound → Trail nodes start
+trail_from nodes precede bound None h = ([], refl)
+trail_from nodes precede zero (Some handle) h = absurd (omega arith)
+trail_from nodes precede (suc bound) (Some handle) h =
+    trail_at nodes precede handle (slice_get nodes handle) refl (λ node up. trail_from nodes precede bound node.parent (omega arith))
+
+-- a node with the rule ends the search
+pub found : (nodes : List PlainNode) → ParentsPrecede nodes → (handle : ℕ) (node : PlainNode) (rule : StandardFilterableTriggeringRule)
+    → slice_get nodes handle ≡ Some node → node.rule ≡ standard rule → IsNearest nodes (Some handle) rule (Some node.severity)
+found nodes precede handle node rule e h =
+    let up : ahead node.parent ≤ handle = ahead_before node.parent handle (λ p is. precede handle p node e is) in
+    let rest = trail_from nodes precede handle node.parent up in
+    (node ∷ rest.0, (e, rest.1), inl (h, refl))
+
+-- another leads on to its parent
+pub passed : (nodes : List PlainNode) (handle : ℕ) (node : PlainNode) (rule : StandardFilterableTriggeringRule) (s : Option Severity)
+    → slice_get nodes handle ≡ Some node → (¬ (node.rule ≡ standard rule)) → IsNearest nodes node.parent rule s → IsNearest nodes (Some handle) rule s
+passed nodes handle node rule s e other behind = (node ∷ behind.0, (e, behind.1), inr (other, behind.2))
