@@ -18,10 +18,10 @@ listed (member t binding offset ms) = record { of_type = t; binding = binding; o
 abbrev pub end_of : Part → ℕ
 end_of p = p.offset + size p.of_type
 
--- the member before a place
-abbrev pub before : List Part → (place : ℕ) → Option Part
-before ps zero = None
-before ps (suc k) = slice_get ps k
+-- what stands before a place
+abbrev pub before : {A : Type 0} → List A → (place : ℕ) → Option A
+before xs zero = None
+before xs (suc k) = slice_get xs k
 
 abbrev mutual
   -- P holds of the type, and of every type inside an array or a struct
