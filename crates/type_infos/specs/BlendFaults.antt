@@ -40,7 +40,7 @@ IsAbsent members source = (k : ℕ) → source_at members k ≢ Some source
 
 -- one of the two sources is there, and not the other
 abbrev pub IsAlone : List PlainMember → (present : ℕ) → Type 0
-IsAlone members present = HasSource members × (((present ≡ 0) × IsAbsent members 1) ⊎ ((present ≡ 1) × IsAbsent members 0))
+IsAlone members present = ((place : ℕ) × (source_at members place ≡ Some present)) × (((present ≡ 0) × IsAbsent members 1) ⊎ ((present ≡ 1) × IsAbsent members 0))
 
 abbrev pub IsVaryingFault : List PlainType → List PlainMember → VaryingError → Type 0
 IsVaryingFault types members (varying.NotIOShareableType ty) = ((source : ℕ) × IsSource members source ty) × ¬ HasFlag IoShareable (type_tree types ty)
@@ -56,4 +56,4 @@ IsVaryingFault types members (varying.BlendSrcOutputTypeMismatch first second) =
 abbrev pub IsBlendFault : Capabilities → List PlainType → List PlainMember → TypeError → Type 0
 IsBlendFault capabilities types members (error.MissingCapability c) = HasSource members × (c ≡ DUAL_SOURCE_BLENDING) × ¬ Has capabilities.0 c.0
 IsBlendFault capabilities types members (error.InvalidBlendSrc e) = HasSource members × IsVaryingFault types members e
-IsBlendFault capabilities types members other = ⊥
+IsBlendFault capabilities types members _ = ⊥

@@ -65,17 +65,17 @@ IsWidthFault capabilities s width.Abstract = (s.kind ≡ AbstractInt) ⊎ (s.kin
 
 abbrev pub IsScalarFault : Capabilities → Scalar → TypeError → Type 0
 IsScalarFault capabilities s (error.WidthError e) = IsWidthFault capabilities s e
-IsScalarFault capabilities s other = ⊥
+IsScalarFault capabilities s _ = ⊥
 
 abbrev pub IsMatrixFault : Capabilities → Scalar → TypeError → Type 0
 IsMatrixFault capabilities s (error.WidthError e) = IsWidthFault capabilities s e
 IsMatrixFault capabilities s error.MatrixElementNotFloat = s.kind ≢ Float
-IsMatrixFault capabilities s other = ⊥
+IsMatrixFault capabilities s _ = ⊥
 
 abbrev pub IsCooperativeFault : Capabilities → Scalar → TypeError → Type 0
 IsCooperativeFault capabilities s (error.MissingCapability c) = (c ≡ COOPERATIVE_MATRIX) × Lacks capabilities c
 IsCooperativeFault capabilities s error.Other = (s ≢ floating 4) × (s ≢ floating 2)
-IsCooperativeFault capabilities s other = ⊥
+IsCooperativeFault capabilities s _ = ⊥
 
 -- ---- atomics
 
@@ -102,14 +102,14 @@ LacksAtomic capabilities AbstractFloat bytes c = ⊥
 abbrev pub IsAtomicFault : Capabilities → Scalar → TypeError → Type 0
 IsAtomicFault capabilities s (error.InvalidAtomicWidth k bytes) = (k ≡ s.kind) × (bytes ≡ s.width) × IsNoAtomic s.kind s.width
 IsAtomicFault capabilities s (error.MissingCapability c) = LacksAtomic capabilities s.kind s.width c
-IsAtomicFault capabilities s other = ⊥
+IsAtomicFault capabilities s _ = ⊥
 
 -- ---- types that name another
 
 abbrev pub IsPointerFault : List PlainType → (base : ℕ) → AddressSpace → TypeError → Type 0
 IsPointerFault types base space (error.InvalidPointerBase ty) = (ty ≡ base) × ¬ HasFlag Data (type_tree types base)
 IsPointerFault types base space (error.InvalidPointerToUnsized ty s) = (ty ≡ base) × (s ≡ space) × ¬ HasFlag Sized (type_tree types base) × ¬ IsStorageSpace space
-IsPointerFault types base space other = ⊥
+IsPointerFault types base space _ = ⊥
 
 abbrev pub IsPending : ArraySize → Type 0
 IsPending (count.Constant n) = ⊥
@@ -119,11 +119,11 @@ IsPending count.Dynamic = ⊥
 abbrev pub IsArrayFault : (resolved : Bool) → List PlainType → (handle base : ℕ) → ArraySize → TypeError → Type 0
 IsArrayFault resolved types handle base n (error.InvalidArrayBaseType ty) = (ty ≡ base) × ¬ (HasFlag Data (type_tree types base) × HasFlag Sized (type_tree types base))
 IsArrayFault resolved types handle base n (error.UnresolvedOverride ty) = (ty ≡ handle) × (resolved ≡ true) × IsPending n
-IsArrayFault resolved types handle base n other = ⊥
+IsArrayFault resolved types handle base n _ = ⊥
 
 abbrev pub IsBindingArrayFault : List PlainType → (base : ℕ) → ArraySize → TypeError → Type 0
 IsBindingArrayFault types base n error.Other = ¬ BindingArrayOK (type_tree types base) n
-IsBindingArrayFault types base n other = ⊥
+IsBindingArrayFault types base n _ = ⊥
 
 -- ---- images, and what traces rays
 
@@ -138,7 +138,7 @@ IsNoImage dim arrayed class =
 abbrev pub IsImageFault : Capabilities → ImageDimension → (arrayed : Bool) → ImageClass → TypeError → Type 0
 IsImageFault capabilities dim arrayed class (error.MissingCapability c) = LacksForImage capabilities dim arrayed class c
 IsImageFault capabilities dim arrayed class (error.UnsupportedImageType d a k) = (d ≡ dim) × (a ≡ arrayed) × (k ≡ class) × IsNoImage dim arrayed class
-IsImageFault capabilities dim arrayed class other = ⊥
+IsImageFault capabilities dim arrayed class _ = ⊥
 
 abbrev pub LacksVertices : Capabilities → (vertex_return : Bool) → Capabilities → Type 0
 LacksVertices capabilities vertex_return c = (vertex_return ≡ true) × (c ≡ RAY_HIT_VERTEX_POSITION) × Lacks capabilities c
@@ -146,11 +146,11 @@ LacksVertices capabilities vertex_return c = (vertex_return ≡ true) × (c ≡ 
 abbrev pub IsStructureFault : Capabilities → (vertex_return : Bool) → TypeError → Type 0
 IsStructureFault capabilities vertex_return (error.MissingCapability c) =
     ((c ≡ RAY_QUERY) × Lacks capabilities RAY_QUERY × Lacks capabilities RAY_TRACING_PIPELINE) ⊎ LacksVertices capabilities vertex_return c
-IsStructureFault capabilities vertex_return other = ⊥
+IsStructureFault capabilities vertex_return _ = ⊥
 
 abbrev pub IsQueryFault : Capabilities → (vertex_return : Bool) → TypeError → Type 0
 IsQueryFault capabilities vertex_return (error.MissingCapability c) = ((c ≡ RAY_QUERY) × Lacks capabilities c) ⊎ LacksVertices capabilities vertex_return c
-IsQueryFault capabilities vertex_return other = ⊥
+IsQueryFault capabilities vertex_return _ = ⊥
 
 -- ---- any type
 

@@ -19,7 +19,7 @@ IsMemberFault types members span place m (error.MemberOverlap index offset) =
     (index ≡ place) × (offset ≡ m.offset) × (offset ≢ 0) × (a : PlainMember) × (before members place ≡ Some a) × EndsPast types a offset
 IsMemberFault types members span place m (error.MemberOutOfBounds index offset bytes end) =
     (index ≡ place) × (offset ≡ m.offset) × (bytes ≡ size (type_tree types m.ty)) × (end ≡ span) × EndsPast types m span
-IsMemberFault types members span place m other = ⊥
+IsMemberFault types members span place m _ = ⊥
 
 abbrev pub IsStructFault : List PlainType → List PlainMember → (span : ℕ) → TypeError → Type 0
 IsStructFault types members span error.EmptyStruct = members ≡ []
