@@ -64,8 +64,8 @@ fn is_struct(inner: &TypeInner) -> bool
     }
 }
 
-// The alignment, or 16 bytes where it is less.
-fn at_least_sixteen(own: Alignment) -> Alignment
+/// The alignment, or 16 bytes where it is less.
+pub fn at_least_sixteen(own: Alignment) -> Alignment
     ensures { result ≡ max 16 own }
 {
     if own.get() < 16 {

@@ -28,8 +28,8 @@ pub struct Placed {
 }
 
 impl Placed {
-    // The first byte behind the member.
-    fn end(&self) -> u64
+    /// The first byte behind the member.
+    pub fn end(&self) -> u64
         ensures { result ≡ self.now.offset + self.now.facts.size }
     {
         u64::from(self.offset) + u64::from(self.facts.size)
