@@ -46,9 +46,9 @@ lacked : (k c d : Capabilities) → Lacks k c → c ≡ d → Has k.0 d.0 → �
 lacked k c d lacks same has = lacks (subst (λ (x : Capabilities). Has k.0 x.0) (sym same) has)
 
 no_width : (k two eight : Capabilities) (w : ℕ) → IsNoWidth w → IsWidthAllowed k two eight w → ⊥
-no_width k two eight w no (inl e) = no.1 e
-no_width k two eight w no (inr (inl h)) = no.0 h.0
-no_width k two eight w no (inr (inr h)) = no.2 h.0
+no_width k two eight w wrong (inl e) = wrong.1 e
+no_width k two eight w wrong (inr (inl h)) = wrong.0 h.0
+no_width k two eight w wrong (inr (inr h)) = wrong.2 h.0
 
 lacks_width : (k two eight c : Capabilities) (w : ℕ) → AsksFor two eight w c → Lacks k c → IsWidthAllowed k two eight w → ⊥
 lacks_width k two eight c w (inl a) lacks (inl e) = absurd (omega (arith, a.0, e))
@@ -59,12 +59,12 @@ lacks_width k two eight c w (inr a) lacks (inr (inl h)) = absurd (omega (arith, 
 lacks_width k two eight c w (inr a) lacks (inr (inr h)) = lacked k c eight lacks a.1 h.1
 
 no_scalar : (k : Capabilities) (s : ScalarKind) (w : ℕ) → IsNoScalar s w → IsKindAllowed k s w → ⊥
-no_scalar k Sint w no ok = no_width k _ _ w no ok
-no_scalar k Uint w no ok = no_width k _ _ w no ok
-no_scalar k Float w no ok = no_width k _ _ w no ok
-no_scalar k kind.Bool w no ok = no ok
-no_scalar k AbstractInt w no ok = no
-no_scalar k AbstractFloat w no ok = no
+no_scalar k Sint w wrong ok = no_width k _ _ w wrong ok
+no_scalar k Uint w wrong ok = no_width k _ _ w wrong ok
+no_scalar k Float w wrong ok = no_width k _ _ w wrong ok
+no_scalar k kind.Bool w wrong ok = wrong ok
+no_scalar k AbstractInt w wrong ok = wrong
+no_scalar k AbstractFloat w wrong ok = wrong
 
 lacks_scalar : (k c : Capabilities) (s : ScalarKind) (w : ℕ) → KindAsksFor s w c → Lacks k c → IsKindAllowed k s w → ⊥
 lacks_scalar k c Sint w asks lacks ok = lacks_width k _ _ c w asks lacks ok
@@ -84,16 +84,16 @@ width_refuted k s (width.MissingCapability c) f ok = lacks_scalar k c s.kind s.w
 width_refuted k s width.Abstract f ok = abstract_scalar k s f ok
 
 no_integer : (k : Capabilities) (w : ℕ) → (w ≢ 4) × (w ≢ 8) → IsAtomicInteger k w → ⊥
-no_integer k w no (inl e) = no.0 e
-no_integer k w no (inr h) = no.1 h.0
+no_integer k w wrong (inl e) = wrong.0 e
+no_integer k w wrong (inr h) = wrong.1 h.0
 
 no_atomic : (k : Capabilities) (s : ScalarKind) (w : ℕ) → IsNoAtomic s w → IsAtomicKind k s w → ⊥
-no_atomic k Sint w no ok = no_integer k w no ok
-no_atomic k Uint w no ok = no_integer k w no ok
-no_atomic k Float w no ok = no ok.0
-no_atomic k kind.Bool w no ok = ok
-no_atomic k AbstractInt w no ok = ok
-no_atomic k AbstractFloat w no ok = ok
+no_atomic k Sint w wrong ok = no_integer k w wrong ok
+no_atomic k Uint w wrong ok = no_integer k w wrong ok
+no_atomic k Float w wrong ok = wrong ok.0
+no_atomic k kind.Bool w wrong ok = ok
+no_atomic k AbstractInt w wrong ok = ok
+no_atomic k AbstractFloat w wrong ok = ok
 
 lacks_integer : (k c : Capabilities) (w : ℕ) → LacksWideAtomics k w c → IsAtomicInteger k w → ⊥
 lacks_integer k c w f (inl e) = absurd (omega (arith, f.0, e))
@@ -174,8 +174,8 @@ varying_refuted k types ms (varying.BindingCollisionBlendSrc source) f ok =
 varying_refuted k types ms (varying.InvalidBlendSrcIndex location source) f ok =
     let h = ok.located f.1.place f.0 f.1.at location f.1.is in
     elim f.3 [
-      | inl no ↦ no h.0
-      | inr no ↦ elim h.1 [ inl e ↦ no.0 (some_is source 0 (sym f.2 ∙ e)) | inr e ↦ no.1 (some_is source 1 (sym f.2 ∙ e)) ]
+      | inl wrong ↦ wrong h.0
+      | inr wrong ↦ elim h.1 [ inl e ↦ wrong.0 (some_is source 0 (sym f.2 ∙ e)) | inr e ↦ wrong.1 (some_is source 1 (sym f.2 ∙ e)) ]
     ]
 varying_refuted k types ms (varying.IncompleteBlendSrcUsage present) f ok = elim f.1 [
   | inl h ↦ h.1 ok.second_place (source_there ms ok.second_place 1 ok.second ok.is_second.at ok.is_second.is)
@@ -233,13 +233,13 @@ binding_refuted types base n error.Other f ok = f ok
 binding_refuted types base n _ f ok = f
 
 no_truth : (b : Bool) → b ≡ true → b ≡ false → ⊥
-no_truth b yes no = true≢false (sym yes ∙ no)
+no_truth b so wrong = true≢false (sym so ∙ wrong)
 
 image_refuted : (k : Capabilities) (dim : ImageDimension) (arrayed : Bool) (class : ImageClass) (e : TypeError) → IsImageFault k dim arrayed class e → ImageOK k dim arrayed class → ⊥
 image_refuted k dim arrayed class (error.MissingCapability c) f ok = elim f.0 [ inl h ↦ lacked k c _ f.1 h.2 (ok.cube h.0 h.1) | inr h ↦ lacked k c _ f.1 h.1 (ok.external h.0).0 ]
 image_refuted k dim arrayed class (error.UnsupportedImageType d a x) f ok = elim f.3 [
-  | inl h ↦ elim h.1 [ inl yes ↦ no_truth arrayed yes (ok.volume h.0).0 | inr deep ↦ no_truth (is_depth class) deep (ok.volume h.0).1 ]
-  | inr h ↦ elim h.1 [ inl other ↦ other (ok.external h.0).1 | inr yes ↦ no_truth arrayed yes (ok.external h.0).2 ]
+  | inl h ↦ elim h.1 [ inl so ↦ no_truth arrayed so (ok.volume h.0).0 | inr deep ↦ no_truth (is_depth class) deep (ok.volume h.0).1 ]
+  | inr h ↦ elim h.1 [ inl other ↦ other (ok.external h.0).1 | inr so ↦ no_truth arrayed so (ok.external h.0).2 ]
 ]
 image_refuted k dim arrayed class _ f ok = f
 

@@ -5,10 +5,10 @@ use Rattle.type_infos.specs.Infos.{AreFlags}
 use Rattle.module_types.proofs.info.info_of_array.Goals as goal
 
 pub uniform_of_array-requires : goal.uniform_of_array-requires
-uniform_of_array-requires c = array_at c.args.context.now c.facts_of-facts.result c.args.handle c.args.base c.args.stride c.args.size c.requires.own c.facts_of-facts.ensures
+uniform_of_array-requires c = record { own = array_at c.args.context.now c.facts_of-facts.result c.args.handle c.args.base c.args.stride c.args.size c.requires.own c.facts_of-facts.ensures }
 
 pub storage_of_array-requires : goal.storage_of_array-requires
-storage_of_array-requires c = array_at c.args.context.now c.facts_of-facts.result c.args.handle c.args.base c.args.stride c.args.size c.requires.own c.facts_of-facts.ensures
+storage_of_array-requires c = record { own = array_at c.args.context.now c.facts_of-facts.result c.args.handle c.args.base c.args.stride c.args.size c.requires.own c.facts_of-facts.ensures }
 
 pub returns : goal.returns
 returns c = record {
