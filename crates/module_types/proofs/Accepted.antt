@@ -1,12 +1,11 @@
 -- What is told of types, type by type.
-use Rattle.std.proofs.Common.{◌≡◌, ◌<◌, ◌≤◌, ◌+◌, ◌++◌, ◌⊎◌, inl, inr, ℕ, zero, suc, List, [], ◌∷◌, Some, Bool, length, slice_get, get_or, map, refl, sym, ap, subst, ◌∙◌, arith, length-append}
+use Rattle.std.proofs.Common.{◌≡◌, ◌<◌, ◌≤◌, ◌+◌, ◌++◌, inl, inr, ℕ, zero, suc, List, [], ◌∷◌, Some, Bool, length, slice_get, refl, sym, ap, subst, ◌∙◌, arith, length-append}
 use Rattle.ir_arena.specs.declared.span.Span.{Span}
 use Rattle.ir_flags.specs.declared.settings.Capabilities.{Capabilities}
 use Rattle.ir_types.specs.Plain.{PlainType}
 use Rattle.ir_types.specs.declared.types.IrType.{IrType}
 use Rattle.module_types.specs.Validated.{IsAccepted, IsRefusedFor, AreAcceptedBelow, AreAccepted, IsNextRefused, IsFirstRefused}
 use Rattle.module_types.specs.declared.validate.InvalidType.{InvalidType}
-use Rattle.spec_flags.specs.Rules.{TypeOK}
 use Rattle.type_checks.specs.Known.{types_in, IsKnown}
 use Rattle.type_checks.specs.declared.context.TypeContext.{TypeContext}
 use Rattle.type_infos.specs.declared.info.TypeInfo.{TypeInfo}

@@ -1,14 +1,14 @@
 -- The flags of arrays and structs, from those of their parts.
-use Rattle.std.proofs.Common.{◌≡◌, ◌↔◌, ◌≤◌, ◌<◌, ◌+◌, ℕ, zero, suc, List, [], ◌∷◌, Option, Some, None, Bool, IsTrue, IsSome, IfSome, map, length, slice_get, refl, sym, ap, subst, ◌∙◌, arith, bit_and, true≢false, inl, inr, nat_le}
+use Rattle.std.proofs.Common.{◌≡◌, ◌↔◌, ◌≤◌, ◌+◌, ℕ, zero, suc, List, [], ◌∷◌, Option, Some, None, Bool, IsTrue, IsSome, IfSome, map, length, slice_get, refl, sym, subst, ◌∙◌, arith, bit_and, true≢false, inl, inr, nat_le}
 use Rattle.std.proofs.lemmas.Bool.Decides.{leb_tells}
 use Rattle.ir_flags.specs.Sets.{Has}
-use Rattle.ir_types.specs.Plain.{PlainInner, PlainMember, struct as written_struct, plain, member_view}
+use Rattle.ir_types.specs.Plain.{PlainMember, member_view}
 use Rattle.ir_types.specs.declared.types.ArraySize.{ArraySize}
 use Rattle.ir_types.specs.declared.types.StructMember.{StructMember}
-use Rattle.module_types.proofs.Sets.{by_flags, both_have, number_set}
+use Rattle.module_types.proofs.Sets.{by_flags, both_have}
 use Rattle.module_types.specs.Sets.{AreOf, HostIf, AreKept, IoIs, AreShared, AreCommon, CommonBelow, Follows}
 use Rattle.spec_flags.specs.Blends.{HasSource, source_at}
-use Rattle.spec_flags.specs.Flags.{TypeFlag, bit, among, array_flags, HasFlag, AllHave, StructHas, HasBlendSource, IsInOrder, blend_source, Data, Sized, Copy, IoShareable, HostShareable, CreationResolved, Argument, Constructible}
+use Rattle.spec_flags.specs.Flags.{TypeFlag, bit, array_flags, HasFlag, AllHave, StructHas, HasBlendSource, IsInOrder, blend_source, Data, Sized, Copy, IoShareable, HostShareable, CreationResolved, Argument, Constructible}
 use Rattle.spec_flags.specs.Parts.{Part, listed, before, end_of}
 use Rattle.spec_types.specs.Tree.{Tree, Members, no_members, member, array, struct}
 use Rattle.spec_types.specs.View.{members_by}

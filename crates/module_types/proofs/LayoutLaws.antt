@@ -1,24 +1,24 @@
 -- Layouts of arrays and structs, from those of their parts.
-use Rattle.std.proofs.Common.{◌≡◌, ◌≢◌, ◌<◌, ◌≤◌, ◌+◌, ◌⊎◌, inl, inr, ℕ, zero, suc, List, [], ◌∷◌, Option, Some, None, IfSome, Bool, true, false, if◌then◌else◌, Result, Ok, Err, MatchResult, max, map, length, slice_get, refl, sym, ap, subst, ◌∙◌, arith}
+use Rattle.std.proofs.Common.{◌≡◌, ◌<◌, ◌≤◌, ◌+◌, inr, ℕ, List, Option, Some, None, IfSome, Bool, if◌then◌else◌, Result, Ok, Err, MatchResult, max, refl, sym, ap, subst, ◌∙◌, arith}
 use Rattle.std.specs.Int.{◌∣◌}
-use Rattle.ir_types.specs.Plain.{PlainMember, member_view}
+use Rattle.ir_types.specs.Plain.{PlainMember}
 use Rattle.ir_types.specs.declared.types.ArraySize.{ArraySize}
 use Rattle.ir_types.specs.declared.types.ArraySize.TheVariants.{Constant, Pending, Dynamic}
 use Rattle.module_types.proofs.Inside.{everywhere_in, somewhere_struct, somewhere_here}
 use Rattle.module_types.specs.Layouts.{IsStructOf, IsStructAt, IsArrayAt, StoragePart, UniformPart, FitsAt, free_before, IsUniformAlignment}
 use Rattle.spec_flags.specs.Buffers.{StorageAt, IsStorage, UniformAt, IsUniform, uniform_alignment, free_behind}
-use Rattle.spec_flags.specs.Flags.{HasFlag, HostShareable, Data}
+use Rattle.spec_flags.specs.Flags.{HasFlag, HostShareable}
 use Rattle.spec_flags.specs.Immediates.{ImmediateAt, FitsImmediates, scalar_of}
-use Rattle.spec_flags.specs.Parts.{Part, listed, before, end_of, Everywhere, EverywhereIn, Somewhere}
+use Rattle.spec_flags.specs.Parts.{Part, before, end_of, Somewhere}
 use Rattle.spec_types.specs.Layout.{alignment}
-use Rattle.spec_types.specs.Tree.{Tree, Members, array, struct}
+use Rattle.spec_types.specs.Tree.{Tree, array}
 use Rattle.spec_types.specs.View.{members_by}
-use Rattle.type_checks.specs.Known.{types_in, tree_in, AreFacts}
+use Rattle.type_checks.specs.Known.{types_in, tree_in}
 use Rattle.type_checks.specs.Placed.{parts_in, part_of, IsPlaced, IsBefore, AtPlace}
 use Rattle.type_checks.specs.declared.context.TypeContext.{TypeContext}
 use Rattle.type_checks.specs.declared.facts.Facts.{Facts}
 use Rattle.type_checks.specs.declared.members.Placed.{Placed}
-use Rattle.type_infos.specs.BufferFaults.{IsBadStride, IsBadSpan, IsBadOffset, IsNearBehind, BreaksStorage, BreaksUniform, IsBroken, IsUnfit}
+use Rattle.type_infos.specs.BufferFaults.{IsBadStride, IsBadSpan, IsBadOffset, IsNearBehind, IsBroken, IsUnfit}
 use Rattle.type_infos.specs.declared.error.Disalignment.{Disalignment}
 use Rattle.type_infos.specs.declared.error.ImmediateError.{ImmediateError}
 use Rattle.type_infos.specs.declared.error.ImmediateError.TheVariants as immediate

@@ -1,5 +1,5 @@
 -- A type with a fault is not accepted.
-use Rattle.std.proofs.Common.{◌≡◌, ◌≢◌, ◌<◌, ◌≤◌, ◌⊎◌, inl, inr, ℕ, zero, suc, List, [], ◌∷◌, Option, Some, None, IfSome, Bool, true, false, true≢false, length, slice_get, option_and_then, refl, sym, ap, subst, ◌∙◌, arith}
+use Rattle.std.proofs.Common.{◌≡◌, ◌≢◌, ◌≤◌, ◌⊎◌, inl, inr, ℕ, zero, suc, List, [], ◌∷◌, Some, None, IfSome, Bool, true, false, true≢false, slice_get, option_and_then, refl, sym, ap, subst, ◌∙◌, arith}
 use Rattle.ir_flags.specs.Sets.{Has}
 use Rattle.ir_flags.specs.declared.settings.Capabilities.{Capabilities}
 use Rattle.ir_kinds.specs.declared.bindings.Binding.TheVariants as bound
@@ -18,11 +18,11 @@ use Rattle.ir_types.specs.declared.types.TypeInner.TheVariants as inner
 use Rattle.spec_flags.specs.Blends.{BlendOK, HasSource, BlendsOK, LocationOK, IsOnlySource, location_of, source_at}
 use Rattle.spec_flags.specs.Flags.{HasFlag, IoShareable, blend_source}
 use Rattle.spec_flags.specs.Images.{ImageOK, StructureOK, QueryOK}
-use Rattle.spec_flags.specs.Parts.{Part, listed, before, end_of}
+use Rattle.spec_flags.specs.Parts.{listed, before, end_of}
 use Rattle.spec_flags.specs.Rules.{ShapeOK, TypeOK, CooperativeOK, PointerOK, IsKnownCount, ArrayOK, BindingArrayOK}
 use Rattle.spec_flags.specs.Structs.{MemberOK, StructOK}
 use Rattle.spec_flags.specs.Widths.{IsWidthAllowed, IsKindAllowed, IsAtomicInteger, IsAtomicKind}
-use Rattle.spec_types.specs.View.{members_by, type_tree, tree_by}
+use Rattle.spec_types.specs.View.{members_by, type_tree}
 use Rattle.type_checks.proofs.Known.{tree_of}
 use Rattle.type_checks.proofs.Places.{part_at, many_parts}
 use Rattle.type_checks.specs.Checked.{IsTypeFault, IsInnerOK}

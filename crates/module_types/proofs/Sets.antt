@@ -1,5 +1,5 @@
 -- Sets of flags, flag by flag.
-use Rattle.std.proofs.Common.{◌≡◌, true, false, true≢false, ap, ◌∙◌, bit_or, ◌↔◌, ℕ, List, [], ◌∷◌, Bool, ◌==◌, IsTrue, refl, sym, subst, bit_and}
+use Rattle.std.proofs.Common.{◌≡◌, true, false, true≢false, ◌∙◌, bit_or, ◌↔◌, ℕ, List, [], ◌∷◌, Bool, ◌==◌, IsTrue, refl, sym, subst, bit_and}
 use Rattle.std.proofs.lemmas.Nat.{and_or_apart}
 use Rattle.std.proofs.lemmas.Bool.Decides.{Decides-eqb}
 use Rattle.ir_flags.proofs.SetLaws.{within-union_right, within-intersection, within-over, intersection-within_left, intersection-within_right}

@@ -1,19 +1,17 @@
 -- What is told of types, from what is told of their parts.
-use Rattle.std.proofs.Common.{◌≡◌, ◌↔◌, ◌<◌, ◌≤◌, ℕ, List, Some, Option, None, inl, inr, All, IfSome, Result, Ok, Err, MatchResult, map, length, slice_get, refl, sym, ap, subst, ◌∙◌}
-use Rattle.ir_kinds.specs.declared.scalars.Scalar.{Scalar}
-use Rattle.ir_types.specs.Plain.{PlainInner, PlainMember, struct as written_struct, plain, inner_view, member_view}
+use Rattle.std.proofs.Common.{◌≡◌, ℕ, Some, inr, Result, Ok, Err, MatchResult, map, refl, sym, ap, subst, ◌∙◌}
+use Rattle.ir_types.specs.Plain.{PlainInner, struct as written_struct, plain, inner_view, member_view}
 use Rattle.ir_types.specs.declared.types.ArraySize.{ArraySize}
 use Rattle.ir_types.specs.declared.types.TypeInner.{TypeInner}
 use Rattle.ir_types.specs.declared.types.TypeInner.TheVariants as inner
 use Rattle.module_types.proofs.Inside.{somewhere_here}
 use Rattle.module_types.specs.Kinds.{whole_flags}
-use Rattle.module_types.specs.Layouts.{IsStructOf, IsStructAt, IsArrayAt, IsScalarFit, IsScalarUnfit}
+use Rattle.module_types.specs.Layouts.{IsStructOf, IsArrayAt, IsScalarFit, IsScalarUnfit}
 use Rattle.module_types.specs.Sets.{AreOf}
 use Rattle.module_types.specs.Whole.{IsWhole}
 use Rattle.spec_flags.specs.Buffers.{IsStorage, IsUniform, uniform_alignment}
 use Rattle.spec_flags.specs.Flags.{HasFlag, HostShareable}
 use Rattle.spec_flags.specs.Immediates.{FitsImmediates, scalar_of}
-use Rattle.spec_flags.specs.Parts.{Somewhere}
 use Rattle.spec_types.specs.Layout.{alignment}
 use Rattle.spec_types.specs.Tree.{Tree, scalar, vector, matrix, cooperative_matrix, atomic, pointer, value_pointer, array, struct, image, sampler, acceleration_structure, ray_query, binding_array}
 use Rattle.spec_types.specs.View.{tree_by, members_by}

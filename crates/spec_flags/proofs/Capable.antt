@@ -1,5 +1,5 @@
 -- More capabilities refuse nothing more.
-use Rattle.std.proofs.Common.{◌≡◌, ◌⊎◌, inl, inr, ℕ, List, Option, Some, None, Bool}
+use Rattle.std.proofs.Common.{inl, inr, ℕ, List, Option, Some, None, Bool}
 use Rattle.ir_flags.proofs.SetLaws.{within-over}
 use Rattle.ir_flags.specs.Sets.{Has, IsWithin}
 use Rattle.ir_flags.specs.declared.settings.Capabilities.{Capabilities}
@@ -9,9 +9,9 @@ use Rattle.ir_kinds.specs.declared.scalars.ScalarKind.TheVariants as kind
 use Rattle.ir_types.specs.Plain.{PlainInner, PlainType, struct as written_struct, plain}
 use Rattle.spec_types.specs.Tree.{Tree, scalar, vector, matrix, cooperative_matrix, atomic, pointer, value_pointer, array, struct, image, sampler, acceleration_structure, ray_query, binding_array}
 use Rattle.spec_flags.specs.Blends.{BlendOK, BlendsOK}
-use Rattle.spec_flags.specs.Images.{ImageOK, VerticesOK}
+use Rattle.spec_flags.specs.Images.{VerticesOK}
 use Rattle.spec_flags.specs.Laws.{MoreCapabilities}
-use Rattle.spec_flags.specs.Rules.{ShapeOK, TypeOK}
+use Rattle.spec_flags.specs.Rules.{ShapeOK}
 use Rattle.spec_flags.specs.Widths.{IsWidthAllowed, IsKindAllowed, IsAtomicInteger, IsAtomicKind}
 
 has_more : (few many c : ℕ) → IsWithin few many → Has few c → Has many c

@@ -1,15 +1,14 @@
 -- The answer for a type, from that for what it is made of.
-use Rattle.std.proofs.Common.{◌≡◌, ◌<◌, ◌≤◌, ℕ, zero, suc, List, [], ◌∷◌, Some, All, Result, Ok, Err, MatchResult, map, length, get_or, sym, subst, ap, arith}
-use Rattle.ir_types.specs.Plain.{PlainInner, PlainMember, PlainType, inner_view, member_view}
+use Rattle.std.proofs.Common.{◌≡◌, ◌<◌, ◌≤◌, ℕ, zero, suc, List, [], ◌∷◌, Some, All, Result, Ok, Err, MatchResult, map, length, get_or, sym, subst, arith}
+use Rattle.ir_types.specs.Plain.{PlainInner, inner_view, member_view}
 use Rattle.ir_types.specs.declared.types.StructMember.{StructMember}
 use Rattle.ir_types.specs.declared.types.TypeInner.{TypeInner}
 use Rattle.ir_types.specs.declared.types.TypeInner.TheVariants as inner
 use Rattle.spec_flags.specs.Blends.{BlendsOK}
 use Rattle.spec_flags.specs.Rules.{ShapeOK, TypeOK}
-use Rattle.spec_types.specs.View.{tree_by}
 use Rattle.type_checks.proofs.Known.{tree_of}
 use Rattle.type_checks.specs.Checked.{IsInnerOK, AreMembersOK, AreMembersRefused, IsTypeFault}
-use Rattle.type_checks.specs.Known.{types_in, tree_in, IsKnown}
+use Rattle.type_checks.specs.Known.{types_in, IsKnown}
 use Rattle.type_checks.specs.declared.context.TypeContext.{TypeContext}
 use Rattle.type_infos.specs.Faults.{IsInnerFault}
 use Rattle.type_infos.specs.declared.error.TypeError.{TypeError}

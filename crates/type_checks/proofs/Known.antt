@@ -1,14 +1,14 @@
 -- What is known of an earlier type, from what it is made of.
-use Rattle.std.proofs.Common.{◌≡◌, ◌<◌, ◌↔◌, ℕ, List, Some, Bool, IsTrue, length, slice_get, get_or, refl, sym, ap, subst, ◌∙◌, if◌then◌else◌}
+use Rattle.std.proofs.Common.{◌≡◌, ◌<◌, ◌↔◌, ℕ, Some, Bool, IsTrue, length, slice_get, get_or, sym, ap, subst, ◌∙◌, if◌then◌else◌}
 use Rattle.std.proofs.lemmas.Option.{slice_get-get_or}
-use Rattle.ir_types.specs.Plain.{PlainInner, PlainType}
+use Rattle.ir_types.specs.Plain.{PlainInner}
 use Rattle.spec_flags.specs.Buffers.{uniform_alignment, free_behind}
 use Rattle.spec_flags.specs.Parts.{Part, end_of}
 use Rattle.spec_flags.specs.Rules.{IsBound}
 use Rattle.spec_types.proofs.Trees.{tree_by_trees}
 use Rattle.spec_types.specs.Layout.{alignment}
 use Rattle.spec_types.specs.Tree.{Tree}
-use Rattle.spec_types.specs.View.{tree_by, type_tree}
+use Rattle.spec_types.specs.View.{tree_by}
 use Rattle.type_checks.specs.Known.{types_in, tree_in, IsKnown, AreFacts}
 use Rattle.type_checks.specs.declared.context.TypeContext.{TypeContext}
 use Rattle.type_checks.specs.declared.facts.Facts.{Facts}

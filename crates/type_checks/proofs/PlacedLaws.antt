@@ -1,16 +1,16 @@
 -- What is found of a member at its place.
-use Rattle.std.proofs.Common.{◌≡◌, ◌≢◌, ◌<◌, ◌≤◌, ◌+◌, ◌-◌, ◌⊎◌, ◌↔◌, inl, inr, ℕ, zero, suc, List, [], ◌∷◌, Option, Some, None, All, IfSome, map, length, slice_get, get_or, refl, sym, ap, subst, ◌∙◌, arith, IsTrue}
+use Rattle.std.proofs.Common.{◌≡◌, ◌≢◌, ◌<◌, ◌≤◌, ◌+◌, ◌-◌, ◌⊎◌, inl, inr, ℕ, suc, List, [], ◌∷◌, Option, Some, None, IfSome, map, length, slice_get, get_or, refl, sym, ap, subst, ◌∙◌, arith}
 use Rattle.ir_types.specs.Plain.{PlainMember, member_view}
 use Rattle.ir_types.specs.declared.types.StructMember.{StructMember}
 use Rattle.spec_flags.specs.Flags.{HasFlag, Data, Sized}
-use Rattle.spec_flags.specs.Parts.{Part, listed, before, end_of}
+use Rattle.spec_flags.specs.Parts.{Part, before, end_of}
 use Rattle.spec_flags.specs.Structs.{MemberOK}
 use Rattle.spec_types.specs.Layout.{size}
 use Rattle.type_checks.specs.Known.{tree_in, types_in, AreFacts}
-use Rattle.type_checks.specs.Placed.{parts_in, part_of, IsTold, IsPlaced, IsBefore, end_behind, PlacedOK}
+use Rattle.type_checks.specs.Placed.{parts_in, part_of, IsPlaced, IsBefore, end_behind, PlacedOK}
 use Rattle.type_checks.specs.declared.context.TypeContext.{TypeContext}
 use Rattle.type_checks.specs.declared.members.Placed.{Placed}
-use Rattle.type_infos.specs.MemberFaults.{EndsPast, IsMemberFault, IsStructFault}
+use Rattle.type_infos.specs.MemberFaults.{EndsPast}
 use Rattle.type_checks.proofs.Places.{plain_at, part_at, many_parts, many_plain, before_is}
 
 pub placed_at : (c : TypeContext) (ms : List StructMember) (k : ℕ) (m : StructMember) (placed : Placed) → k < length ms → m ≡ get_or ms k m → placed.ty ≡ m.ty → placed.offset ≡ m.offset

@@ -1,8 +1,8 @@
 -- Sources of a blend, place by place.
-use Rattle.std.proofs.Common.{◌≡◌, ◌≢◌, ◌<◌, ◌≤◌, ◌+◌, ◌⊎◌, inl, inr, ℕ, zero, suc, List, [], ◌∷◌, Option, Some, None, IsSome, All, Result, Ok, Err, MatchOption, MatchResult, map, length, slice_get, get_or, option_and_then, refl, sym, ap, subst, ◌∙◌, arith, rules}
+use Rattle.std.proofs.Common.{◌≡◌, ◌≢◌, ◌<◌, ◌≤◌, ◌+◌, ◌⊎◌, inl, inr, ℕ, zero, suc, List, [], ◌∷◌, Option, Some, None, All, Result, Ok, Err, MatchOption, MatchResult, map, length, slice_get, get_or, option_and_then, refl, sym, ap, subst, ◌∙◌, arith, rules}
 use Rattle.ir_types.specs.Plain.{PlainMember, member_view}
 use Rattle.ir_types.specs.declared.types.StructMember.{StructMember}
-use Rattle.spec_flags.specs.Blends.{source_at, HasSource, LocationOK, IsOnlySource, BlendOK}
+use Rattle.spec_flags.specs.Blends.{source_at, HasSource, LocationOK, BlendOK}
 use Rattle.spec_flags.specs.Flags.{blend_source}
 use Rattle.type_checks.specs.Blends.{AreLocated, IsLocationFaultIn, IsSoleBelow, IsSole, IsOnlyType, IsCollision, PairOK, IsPairFault, SourcesOK}
 use Rattle.type_infos.specs.BlendFaults.{IsTwice, IsAbsent, IsAlone, IsSource, IsVaryingFault}

@@ -1,5 +1,5 @@
 -- Members at their places.
-use Rattle.std.specs.Prelude.{◌≡◌, ◌<◌, ◌-◌, ℕ, List, Option, Some, None, slice_get}
+use Rattle.std.specs.Prelude.{◌≡◌, ◌<◌, ℕ, List, Option, Some, None, slice_get}
 use Rattle.ir_types.specs.Plain.{PlainMember}
 use Rattle.spec_flags.specs.Parts.{Part, listed, before, end_of}
 use Rattle.spec_flags.specs.Structs.{MemberOK}

@@ -1,7 +1,6 @@
 -- What keeps a host from laying out a type.
 use Rattle.std.specs.Prelude.{◌≡◌, ◌<◌, ◌⊎◌, ℕ, List, Some, slice_get}
 use Rattle.std.specs.Int.{◌∣◌}
-use Rattle.ir_kinds.specs.declared.scalars.Scalar.{Scalar}
 use Rattle.ir_types.specs.Plain.{PlainType}
 use Rattle.ir_types.specs.declared.types.ArraySize.{ArraySize}
 use Rattle.spec_flags.specs.Buffers.{uniform_alignment, free_behind}

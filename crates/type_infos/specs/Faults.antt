@@ -1,5 +1,5 @@
 -- Why a type is refused, a kind of type after the other.
-use Rattle.std.specs.Prelude.{◌≡◌, ◌≢◌, ◌⊎◌, ℕ, List, Option, Some, None, Bool, true, false}
+use Rattle.std.specs.Prelude.{◌≡◌, ◌≢◌, ◌⊎◌, ℕ, List, Bool, true}
 use Rattle.ir_flags.specs.Sets.{Has}
 use Rattle.ir_flags.specs.declared.settings.Capabilities.{Capabilities}
 use Rattle.ir_flags.specs.declared.settings.TheConstants.Capabilities.{FLOAT64, SHADER_FLOAT16, SHADER_INT16, SHADER_INT64, SHADER_FLOAT32_ATOMIC, SHADER_INT64_ATOMIC_MIN_MAX, SHADER_INT64_ATOMIC_ALL_OPS, COOPERATIVE_MATRIX, CUBE_ARRAY_TEXTURES, TEXTURE_EXTERNAL, RAY_QUERY, RAY_TRACING_PIPELINE, RAY_HIT_VERTEX_POSITION}
@@ -20,7 +20,6 @@ use Rattle.ir_types.specs.declared.types.ArraySize.TheVariants as count
 use Rattle.ir_types.specs.declared.types.TypeInner.TheVariants as inner
 use Rattle.spec_flags.specs.Flags.{HasFlag, Data, Sized}
 use Rattle.spec_flags.specs.Rules.{IsStorageSpace, BindingArrayOK}
-use Rattle.spec_types.specs.Tree.{Tree}
 use Rattle.spec_types.specs.View.{type_tree}
 use Rattle.type_infos.specs.BlendFaults.{IsBlendFault}
 use Rattle.type_infos.specs.MemberFaults.{IsStructFault}

@@ -8,7 +8,6 @@ use Rattle.spec_flags.specs.Immediates.{FitsImmediates}
 use Rattle.spec_types.specs.Layout.{alignment}
 use Rattle.spec_types.specs.Tree.{Tree}
 use Rattle.type_infos.specs.BufferFaults.{BreaksStorage, BreaksUniform, IsBroken, IsUnfit}
-use Rattle.type_infos.specs.declared.error.ImmediateError.{ImmediateError}
 use Rattle.type_infos.specs.declared.flags.TypeFlags.{TypeFlags}
 use Rattle.type_infos.specs.declared.info.TypeInfo.{TypeInfo}
 

@@ -1,4 +1,4 @@
-use Rattle.std.proofs.Common.{◌↔◌, ◌≤◌, IsTrue, map, refl, rules}
+use Rattle.std.proofs.Common.{map, refl}
 use Rattle.ir_types.specs.Plain.{member_view}
 use Rattle.module_types.proofs.FlagLaws.{follows_none, follows_some, le_tells}
 use Rattle.module_types.proofs.flags.follows.Goals as goal

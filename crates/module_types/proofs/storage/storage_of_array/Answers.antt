@@ -1,8 +1,7 @@
-use Rattle.std.proofs.Common.{◌≡◌, rules, true≢false, sym, ◌∙◌}
-use Rattle.module_types.proofs.LayoutLaws.{array_broken, broken_here, bad_stride, storage_array}
+use Rattle.std.proofs.Common.{◌≡◌, true≢false, sym, ◌∙◌}
+use Rattle.module_types.proofs.LayoutLaws.{broken_here, bad_stride, storage_array}
 use Rattle.spec_types.specs.Layout.{alignment}
-use Rattle.type_checks.specs.Known.{types_in, tree_in}
-use Rattle.type_infos.specs.BufferFaults.{BreaksStorage, IsBroken}
+use Rattle.type_infos.specs.BufferFaults.{BreaksStorage}
 use Rattle.type_infos.specs.declared.error.Disalignment.TheVariants as fault
 use Rattle.module_types.proofs.storage.storage_of_array.Goals as goal
 

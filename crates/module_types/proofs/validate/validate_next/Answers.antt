@@ -1,4 +1,4 @@
-use Rattle.std.proofs.Common.{refl, arith}
+use Rattle.std.proofs.Common.{arith}
 use Rattle.module_types.proofs.Accepted.{known_from}
 use Rattle.module_types.proofs.validate.validate_next.Goals as goal
 

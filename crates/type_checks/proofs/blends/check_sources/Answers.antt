@@ -1,6 +1,6 @@
-use Rattle.std.proofs.Common.{map, sym, subst, ◌<◌, length}
+use Rattle.std.proofs.Common.{map}
 use Rattle.ir_types.specs.Plain.{member_view}
-use Rattle.type_checks.proofs.Sources.{other_present, location_fault, collision_fault, alone, sources_answer, named_within, where_none}
+use Rattle.type_checks.proofs.Sources.{other_present, sources_answer, named_within, where_none}
 use Rattle.type_checks.proofs.blends.check_sources.Goals as goal
 
 pub check_pair-requires-clause-first : goal.check_pair-requires-clause-first

@@ -1,6 +1,5 @@
-use Rattle.std.proofs.Common.{◌≡◌, ◌≢◌, Some, None, get_or, map, refl, sym, ◌∙◌, true≢false, arith, rules, ℕ, Option}
+use Rattle.std.proofs.Common.{◌≡◌, ◌≢◌, None, map, refl, sym, ◌∙◌, true≢false, arith, rules}
 use Rattle.ir_types.specs.Plain.{member_view}
-use Rattle.spec_flags.specs.Flags.{blend_source}
 use Rattle.type_checks.proofs.Sources.{source_got, none_more, none_at_all, some_or_none}
 use Rattle.type_checks.proofs.blends.has_source.Goals as goal
 

@@ -1,4 +1,4 @@
-use Rattle.std.proofs.Common.{◌≡◌, ◌≢◌, ◌⊎◌, Some, None, get_or, ℕ, map, refl, sym, ◌∙◌, arith, rules, true≢false}
+use Rattle.std.proofs.Common.{◌≡◌, ◌≢◌, Some, None, get_or, map, refl, sym, ◌∙◌, rules, true≢false}
 use Rattle.ir_types.specs.Plain.{member_view}
 use Rattle.spec_flags.specs.Blends.{source_at}
 use Rattle.spec_flags.specs.Flags.{blend_source}

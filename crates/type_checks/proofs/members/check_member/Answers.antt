@@ -1,5 +1,4 @@
-use Rattle.std.proofs.Common.{◌≤◌, map, arith, rules, sym, ◌∙◌, subst, suc, ◌<◌, length}
-use Rattle.ir_types.specs.Plain.{member_view}
+use Rattle.std.proofs.Common.{arith, rules}
 use Rattle.spec_flags.specs.Flags.{HasFlag, Data}
 use Rattle.type_checks.specs.Known.{tree_in}
 use Rattle.type_checks.proofs.PlacedLaws.{placed_ok}
