@@ -180,4 +180,5 @@ def main():
     print(f"{len(part)} of {len(cases)} documents")
 
 
-main()
+if __name__ == "__main__":
+    main()

@@ -1,14 +1,16 @@
 // What is asked of a module.
 use crate::conditions::{Test, tests_told};
 use crate::constness::{kinds_told, tracked};
+use crate::infos::{Told, infos_told};
 use crate::layouts::{laid, layouts_told};
 use crate::types::{typed, types_told};
-use ir_items::Module;
+use document_reader::Document;
 use std::alloc::{AllocError, Global};
 
-/// The answer to a question about a module. `laid`, `tracked`, `typed` and `read` are there to measure by: they lay out all
+/// The answer to a question about the module of a document. `laid`, `tracked`, `typed` and `read` are there to measure by: they lay out all
 /// types, find all kinds or all types of expressions, or do nothing, and are answered by themselves.
-pub fn answer(alloc: Global, asked: &str, module: &Module) -> Result<String, AllocError> {
+pub fn answer(alloc: Global, asked: &str, document: &Document) -> Result<String, AllocError> {
+    let module = &document.module;
     match asked {
         "layouts" => layouts_told(alloc, &module.types),
         "constness" => kinds_told(alloc, module),
@@ -17,6 +19,18 @@ pub fn answer(alloc: Global, asked: &str, module: &Module) -> Result<String, All
         "tests but callees" => tests_told(alloc, module, Some(Test::Callees)),
         "tests but filters" => tests_told(alloc, module, Some(Test::Filters)),
         "tests but arities" => tests_told(alloc, module, Some(Test::Arities)),
+        "infos" => infos_told(
+            alloc,
+            Told::Infos,
+            document.settings.capabilities,
+            &module.types,
+        ),
+        "refused" => infos_told(
+            alloc,
+            Told::Refusal,
+            document.settings.capabilities,
+            &module.types,
+        ),
         "laid" => String::from_str(alloc, laid(alloc, &module.types)?),
         "tracked" => String::from_str(alloc, tracked(alloc, module)?),
         "typed" => String::from_str(alloc, typed(alloc, module)?),

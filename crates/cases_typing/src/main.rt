@@ -4,6 +4,12 @@
 // A line of a data file is a list of four texts: the case's name, what is asked, a document, and the answer. `make_data.py`,
 // `make_types.py` and `make_tests.py` write these files. The answers come from two implementations that were written
 // independently of this one. Beside that it makes each call of layouts and of kinds once.
+// Asks the typing of modules what data/layouts.jsonl, data/constness.jsonl and data/types.jsonl ask, and the rules of types
+// what data/infos.jsonl asks, and tells which answers are others than those that stand there.
+//
+// A line of a data file is a list of four texts: the case's name, what is asked, a document, and the answer. `make_data.py`,
+// `make_types.py` and `make_infos.py` write these files. The answers come from two implementations that were written independently of this one. Beside that
+// it makes each call of layouts and of kinds once.
 #![tactic(auto)]
 
 mod asked;
@@ -11,6 +17,7 @@ mod calls;
 mod case;
 mod conditions;
 mod constness;
+mod infos;
 mod layouts;
 mod types;
 
@@ -22,6 +29,12 @@ use std::fs;
 
 /// The files of cases.
 const FILES: [&str; 4] = ["layouts.jsonl", "constness.jsonl", "types.jsonl", "tests.jsonl"];
+const FILES: [&str; 4] = [
+    "layouts.jsonl",
+    "constness.jsonl",
+    "types.jsonl",
+    "infos.jsonl",
+];
 
 // Asks what a line asks. Answers whether the answer is another one.
 fn differs(rt: &HostRuntime, line: &str) -> Result<bool> {

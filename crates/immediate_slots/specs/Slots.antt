@@ -1,0 +1,23 @@
+-- Slots of immediate data.
+use Rattle.std.specs.Prelude.{◌≡◌, ◌↔◌, ◌<◌, ◌+◌, ◌*◌, ◌⊎◌, ℕ}
+use Rattle.std.specs.Int.{bit_at}
+use Rattle.std.specs.Int.RustNames.{bit_and, bit_or}
+
+-- a slot is in a set
+abbrev pub IsIn : (set : ℕ) → (slot : ℕ) → Type 0
+IsIn set slot = bit_at set slot ≡ 1
+
+-- some byte of a range is one of the slot's four
+abbrev pub Meets : (offset size slot : ℕ) → Type 0
+Meets offset size slot = (0 < size) × (4 * slot < offset + size) × (offset < 4 * slot + 4)
+
+-- ---- what is known of them
+
+abbrev pub ContainsBySlots : Type 0
+ContainsBySlots = (a b : ℕ) → (bit_and a b ≡ b) ↔ ((slot : ℕ) → IsIn b slot → IsIn a slot)
+
+abbrev pub UnionBySlots : Type 0
+UnionBySlots = (a b slot : ℕ) → IsIn (bit_or a b) slot ↔ (IsIn a slot ⊎ IsIn b slot)
+
+abbrev pub SlotsAreAll : Type 0
+SlotsAreAll = (a b : ℕ) → ((slot : ℕ) → IsIn a slot ↔ IsIn b slot) → a ≡ b

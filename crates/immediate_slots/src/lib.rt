@@ -1,0 +1,7 @@
+//! The slots of immediate data.
+#![tactic(auto)]
+
+pub mod laws;
+mod slots;
+
+pub use slots::ImmediateSlots;

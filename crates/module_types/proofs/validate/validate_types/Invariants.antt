@@ -1,0 +1,7 @@
+-- The types that were passed are accepted, and it is told of each.
+use Rattle.typing_forms.specs.Resolutions.{types_view}
+use Rattle.module_types.specs.Validated.{AreAcceptedBelow}
+use Rattle.module_types.proofs.validate.validate_types.Given as goal
+
+abbrev pub invariant-loop-place : goal.invariant-loop-place
+invariant-loop-place l = AreAcceptedBelow l.settings.capabilities l.settings.overrides_resolved (types_view l.types) l.infos.items l.place

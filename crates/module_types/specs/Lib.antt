@@ -1,0 +1,5 @@
+pub mod Kinds
+pub mod Layouts
+pub mod Sets
+pub mod Whole
+pub mod Validated

@@ -1,0 +1,49 @@
+-- What is told of the types of a module, and why they are refused.
+use Rattle.std.specs.Prelude.{◌≡◌, ◌<◌, ℕ, List, [], Some, Bool, length, slice_get}
+use Rattle.ir_faults.specs.Faults.{error_of, spans_of}
+use Rattle.ir_faults.specs.declared.refusal.Refusal.{Refusal}
+use Rattle.ir_faults.specs.declared.refusal.Refusal.TheVariants as refusal
+use Rattle.ir_flags.specs.declared.settings.Capabilities.{Capabilities}
+use Rattle.ir_types.specs.Plain.{PlainInner, PlainType}
+use Rattle.module_types.specs.declared.validate.InvalidType.{InvalidType}
+use Rattle.spec_flags.specs.Rules.{TypeOK}
+use Rattle.spec_types.specs.View.{type_tree}
+use Rattle.type_infos.specs.Faults.{IsInnerFault}
+use Rattle.type_infos.specs.Infos.{HasInfo}
+use Rattle.type_infos.specs.declared.error.TypeError.{TypeError}
+use Rattle.type_infos.specs.declared.info.TypeInfo.{TypeInfo}
+use Rattle.typing_forms.specs.Resolutions.{inner_at}
+
+-- the type at a handle is accepted, and this is told of it
+pub record IsAccepted (capabilities : Capabilities) (resolved : Bool) (types : List PlainType) (handle : ℕ) (i : TypeInfo) : Type 0 where
+  pub ok : TypeOK capabilities resolved types handle
+  pub info : HasInfo types (type_tree types handle) i
+
+-- it has a fault, and is not accepted
+pub record IsRefusedFor (capabilities : Capabilities) (resolved : Bool) (types : List PlainType) (handle : ℕ) (e : TypeError) : Type 0 where
+  pub i : PlainInner
+  pub at : inner_at types handle ≡ Some i
+  pub fault : IsInnerFault capabilities resolved types handle i e
+  pub not : ¬ TypeOK capabilities resolved types handle
+
+-- so many first types are accepted, and this is told of each
+pub record AreAcceptedBelow (capabilities : Capabilities) (resolved : Bool) (types : List PlainType) (infos : List TypeInfo) (place : ℕ) : Type 0 where
+  pub many : length infos ≡ place
+  pub each : (handle : ℕ) (i : TypeInfo) → slice_get infos handle ≡ Some i → IsAccepted capabilities resolved types handle i
+
+abbrev pub AreAccepted : Capabilities → (resolved : Bool) → List PlainType → List TypeInfo → Type 0
+AreAccepted capabilities resolved types infos = AreAcceptedBelow capabilities resolved types infos (length types)
+
+abbrev pub IsNextRefused : Capabilities → (resolved : Bool) → List PlainType → (handle : ℕ) → InvalidType → Type 0
+IsNextRefused capabilities resolved types handle e = (e.ty ≡ handle) × IsRefusedFor capabilities resolved types handle e.error
+
+-- it is the first that is refused
+pub record IsFirstRefused (capabilities : Capabilities) (resolved : Bool) (types : List PlainType) (e : InvalidType) : Type 0 where
+  pub within : e.ty < length types
+  pub fault : IsRefusedFor capabilities resolved types e.ty e.error
+  pub before : (handle : ℕ) → handle < e.ty → TypeOK capabilities resolved types handle
+
+-- why not all types are accepted: one is refused, or there is no memory
+abbrev pub IsRefusal : Capabilities → (resolved : Bool) → List PlainType → Refusal InvalidType → Type 0
+IsRefusal capabilities resolved types (refusal.Memory e) = Unit {0}
+IsRefusal capabilities resolved types (refusal.Fault f) = IsFirstRefused capabilities resolved types (error_of f) × (spans_of f ≡ [])

@@ -1,0 +1,129 @@
+//! The types of a module, one after the other.
+
+ghost use Rattle.std.specs.Prelude.{◌≡◌, ◌<◌, ◌≤◌, length, IfOk, IfErr, MatchResult};
+ghost use Rattle.module_types.specs.Validated.{IsAccepted, IsRefusedFor, AreAcceptedBelow, AreAccepted, IsNextRefused, IsRefusal};
+ghost use Rattle.type_checks.specs.Known.{IsKnown, types_in};
+ghost use Rattle.typing_forms.specs.Order.{TypesGoBack};
+ghost use Rattle.typing_forms.specs.Resolutions.{types_view};
+ghost use Rattle.typing_layout.specs.Held.{AreLayouts};
+
+use crate::info::info_of;
+use ir_arena::handle::Handle;
+use ir_faults::refusal::Refusal;
+use ir_faults::with_span::WithSpan;
+use ir_flags::Capabilities;
+use ir_types::{IrType, key};
+use ir_unique_arena::unique_arena::UniqueArena;
+use std::alloc::Global;
+use thiserror::Error;
+use type_checks::{TypeContext, check_type};
+use type_infos::{TypeError, TypeInfo};
+use typing_layout::Layouter;
+
+/// A type that is refused (naga's `ValidationError::Type`).
+#[derive(Clone, Copy, PartialEq, Debug, Error)]
+#[error("type {ty:?} is refused: {error}")]
+pub struct InvalidType {
+    /// The type.
+    pub ty: Handle<key::IrType>,
+    /// What is wrong with it.
+    pub error: TypeError,
+}
+
+/// What is told of the type at a handle, if a module may have it, from what is told of the types before it (naga's
+/// `validate_type`).
+///
+/// # Errors
+///
+/// A fault of the type: each is answered only where it stands, with what it speaks of. Where several stand, it is one of
+/// them.
+pub fn validate_type(
+    context: &TypeContext<'_>,
+    handle: Handle<key::IrType>,
+) -> Result<TypeInfo, TypeError>
+    requires known { IsKnown context.now }
+    requires before { handle ≤ length context.now.infos.now }
+    requires laid { handle < length context.now.layouter.now }
+    requires within { handle < length context.now.types.now }
+    ensures { MatchResult result
+        (IsAccepted context.now.capabilities context.now.overrides_resolved (types_in context.now) handle)
+        (IsRefusedFor context.now.capabilities context.now.overrides_resolved (types_in context.now) handle) }
+{
+    match check_type(context, handle) {
+        Ok(()) => Ok(info_of(context, handle)),
+        Err(error) => Err(error),
+    }
+}
+
+// What is told of the type behind those of which it is told already.
+fn validate_next(
+    settings: TypeSettings,
+    types: &UniqueArena<IrType, key::IrType>,
+    layouter: &Layouter,
+    infos: &[TypeInfo],
+    ty: Handle<key::IrType>,
+) -> Result<TypeInfo, InvalidType>
+    requires back { TypesGoBack (types_view types.now) }
+    requires held { AreLayouts (types_view types.now) layouter.now }
+    requires all { length layouter.now ≡ length types.now }
+    requires within { ty < length types.now }
+    requires accepted { AreAcceptedBelow settings.capabilities settings.overrides_resolved (types_view types.now) infos.now ty }
+    ensures { MatchResult result
+        (IsAccepted settings.capabilities settings.overrides_resolved (types_view types.now) ty)
+        (IsNextRefused settings.capabilities settings.overrides_resolved (types_view types.now) ty) }
+{
+    let context = TypeContext {
+        capabilities: settings.capabilities,
+        overrides_resolved: settings.overrides_resolved,
+        types,
+        layouter,
+        infos,
+    };
+    match validate_type(&context, ty) {
+        Ok(info) => Ok(info),
+        Err(error) => Err(InvalidType { ty, error }),
+    }
+}
+
+/// By what types are judged.
+#[derive(Clone, Copy)]
+pub struct TypeSettings {
+    /// What shaders may use beyond the common part.
+    pub capabilities: Capabilities,
+    /// Whether each override has its value, so that no size depends on one.
+    pub overrides_resolved: bool,
+}
+
+/// What is told of each type of a module. Each is looked at once, with its members.
+///
+/// # Errors
+///
+/// The first type that is refused, with a fault of its own and no span; or out of memory.
+pub fn validate_types(
+    alloc: Global,
+    settings: TypeSettings,
+    types: &UniqueArena<IrType, key::IrType>,
+    layouter: &Layouter,
+) -> Result<Vec<TypeInfo>, Refusal<InvalidType>>
+    requires back { TypesGoBack (types_view types.now) }
+    requires held { AreLayouts (types_view types.now) layouter.now }
+    requires all { length layouter.now ≡ length types.now }
+    ensures accepted { IfOk result (λ infos. AreAccepted settings.capabilities settings.overrides_resolved (types_view types.now) infos.items) }
+    ensures refused { IfErr result (IsRefusal settings.capabilities settings.overrides_resolved (types_view types.now)) }
+{
+    let mut infos = Vec::with_capacity(alloc, types.len())?;
+    for place in 0..types.len() {
+        let next = validate_next(
+            settings,
+            types,
+            layouter,
+            infos.as_slice(),
+            Handle::at(place),
+        );
+        match next {
+            Ok(info) => infos.push(info)?,
+            Err(error) => return Err(Refusal::Fault(WithSpan::new(alloc, error))),
+        }
+    }
+    Ok(infos)
+}

@@ -1,0 +1,6 @@
+pub mod Checks
+pub mod Known
+pub mod PlacedLaws
+pub mod Places
+pub mod SameInner
+pub mod Sources

@@ -1,0 +1,5 @@
+pub mod Blends
+pub mod Checked
+pub mod Known
+pub mod Placed
+pub mod Widths

@@ -1,0 +1,6 @@
+pub mod BlendFaults
+pub mod BufferFaults
+pub mod Faults
+pub mod Infos
+pub mod MemberFaults
+pub mod Words
