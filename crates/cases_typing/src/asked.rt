@@ -1,6 +1,7 @@
 // What is asked of a module.
 use crate::constness::{kinds_told, tracked};
 use crate::layouts::{laid, layouts_told};
+use crate::summaries::summaries_told;
 use crate::types::{typed, types_told};
 use ir_items::Module;
 use std::alloc::{AllocError, Global};
@@ -8,6 +9,9 @@ use std::alloc::{AllocError, Global};
 /// The answer to a question about a module. `laid`, `tracked`, `typed` and `read` are there to measure by: they lay out all
 /// types, find all kinds or all types of expressions, or do nothing, and are answered by themselves.
 pub fn answer(alloc: Global, asked: &str, module: &Module) -> Result<String, AllocError> {
+    if let Some(letters) = asked.strip_prefix("summaries ") {
+        return summaries_told(alloc, module, letters.as_bytes());
+    }
     match asked {
         "layouts" => layouts_told(alloc, &module.types),
         "constness" => kinds_told(alloc, module),

@@ -1,8 +1,8 @@
-// Asks the typing of modules what data/layouts.jsonl, data/constness.jsonl and data/types.jsonl ask, and tells which answers
+// Asks the typing of modules what data/layouts.jsonl, data/constness.jsonl, data/types.jsonl and data/summaries.jsonl ask, and tells which answers
 // are others than those that stand there.
 //
-// A line of a data file is a list of four texts: the case's name, what is asked, a document, and the answer. `make_data.py`
-// and `make_types.py` write these files. The answers come from two implementations that were written independently of this one. Beside that
+// A line of a data file is a list of four texts: the case's name, what is asked, a document, and the answer. `make_data.py`,
+// `make_types.py` and `make_summaries.py` write these files. The answers come from two implementations that were written independently of this one. Beside that
 // it makes each call of layouts and of kinds once.
 #![tactic(auto)]
 
@@ -11,6 +11,7 @@ mod calls;
 mod case;
 mod constness;
 mod layouts;
+mod summaries;
 mod types;
 
 use anyhow::{Context, Result, ensure};
@@ -20,7 +21,7 @@ use serde_json::Value;
 use std::fs;
 
 /// The files of cases.
-const FILES: [&str; 3] = ["layouts.jsonl", "constness.jsonl", "types.jsonl"];
+const FILES: [&str; 4] = ["layouts.jsonl", "constness.jsonl", "types.jsonl", "summaries.jsonl"];
 
 // Asks what a line asks. Answers whether the answer is another one.
 fn differs(rt: &HostRuntime, line: &str) -> Result<bool> {
