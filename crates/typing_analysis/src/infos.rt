@@ -55,12 +55,21 @@ pub(crate) fn expression_infos(
     Ok(infos)
 }
 
+// The global variable that an image or a sampler is, if it is one.
+fn global_of(part: GlobalOrArgument) -> Option<Handle<key::GlobalVariable>> {
+    match part {
+        GlobalOrArgument::Global(global) => Some(global),
+        GlobalOrArgument::Argument(_) => None,
+    }
+}
+
 fn key_of(pair: SamplingPair) -> Option<SamplingKey> {
-    match pair {
-        (GlobalOrArgument::Global(image), GlobalOrArgument::Global(sampler)) => {
-            Some(SamplingKey { image, sampler })
-        }
-        _ => None,
+    match global_of(pair.0) {
+        Some(image) => match global_of(pair.1) {
+            Some(sampler) => Some(SamplingKey { image, sampler }),
+            None => None,
+        },
+        None => None,
     }
 }
 
