@@ -21,7 +21,12 @@ use serde_json::Value;
 use std::fs;
 
 /// The files of cases.
-const FILES: [&str; 4] = ["layouts.jsonl", "constness.jsonl", "types.jsonl", "summaries.jsonl"];
+const FILES: [&str; 4] = [
+    "layouts.jsonl",
+    "constness.jsonl",
+    "types.jsonl",
+    "summaries.jsonl",
+];
 
 // Asks what a line asks. Answers whether the answer is another one.
 fn differs(rt: &HostRuntime, line: &str) -> Result<bool> {

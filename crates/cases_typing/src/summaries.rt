@@ -16,7 +16,9 @@ fn part_number(part: GlobalOrArgument) -> u64 {
 
 // A pair as a number.
 fn pair_number(pair: SamplingPair) -> u64 {
-    part_number(pair.0).saturating_mul(1000000).saturating_add(part_number(pair.1))
+    part_number(pair.0)
+        .saturating_mul(1000000)
+        .saturating_add(part_number(pair.1))
 }
 
 // Tells the pairs in order.
@@ -144,7 +146,11 @@ fn is_asked(letters: &[u8], place: usize) -> bool {
 }
 
 /// The summaries of those functions, and then of those functions of entry points, for which a 1 stands among the letters.
-pub fn summaries_told(alloc: Global, module: &Module, letters: &[u8]) -> Result<String, AllocError> {
+pub fn summaries_told(
+    alloc: Global,
+    module: &Module,
+    letters: &[u8],
+) -> Result<String, AllocError> {
     let mut told = String::new(alloc);
     let mut infos: Vec<FunctionInfo> = Vec::new(alloc);
     for (_, function) in module.functions.iter() {
@@ -154,7 +160,14 @@ pub fn summaries_told(alloc: Global, module: &Module, letters: &[u8]) -> Result<
     }
     let mut place = infos.len();
     for entry in module.entry_points.as_slice() {
-        next_info(alloc, &mut told, module, &entry.function, &infos, is_asked(letters, place))?;
+        next_info(
+            alloc,
+            &mut told,
+            module,
+            &entry.function,
+            &infos,
+            is_asked(letters, place),
+        )?;
         place = place.saturating_add(1);
     }
     Ok(told)

@@ -1,6 +1,8 @@
 //! What is kept of a function, put together.
 
-use analysis_forms::{ExpressionInfo, GlobalOrArgument, SamplingKey, SamplingPair, Uniformity, UniformityRequirements};
+use analysis_forms::{
+    ExpressionInfo, GlobalOrArgument, SamplingKey, SamplingPair, Uniformity, UniformityRequirements,
+};
 use ir_arena::handle::Handle;
 use ir_types::key;
 use std::alloc::{AllocError, Global};
@@ -74,7 +76,10 @@ fn key_of(pair: SamplingPair) -> Option<SamplingKey> {
 }
 
 // The pairs of two global variables. The error is out of memory.
-pub(crate) fn keys_of(alloc: Global, pairs: &[SamplingPair]) -> Result<Vec<SamplingKey>, AllocError> {
+pub(crate) fn keys_of(
+    alloc: Global,
+    pairs: &[SamplingPair],
+) -> Result<Vec<SamplingKey>, AllocError> {
     let mut keys = Vec::new(alloc);
     for pair in pairs {
         if let Some(key) = key_of(*pair) {

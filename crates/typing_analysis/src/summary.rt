@@ -81,7 +81,12 @@ fn tally_of(
         globals,
         callees,
     };
-    match Tally::of_function(alloc, &context, module.global_variables.len(), &function.body) {
+    match Tally::of_function(
+        alloc,
+        &context,
+        module.global_variables.len(),
+        &function.body,
+    ) {
         Ok(tally) => Ok(tally),
         Err(error) => Err(error),
     }
@@ -104,7 +109,11 @@ pub fn summarize(
     ensures clear { OnOk result ((e : ℕ) → IsFormFault (function_view function.now) (map summary_of callees.now) e → ⊥) }
     ensures fault { IfErr result (IsSummaryFault (module_view «module».now) (function_view function.now) (map summary_of callees.now)) }
 {
-    let resolve = ResolveContext::with_locals(module, &function.local_variables, &function.arguments);
+    let resolve = ResolveContext::with_locals(
+        module,
+        &function.local_variables,
+        &function.arguments,
+    );
     let types = types_of(alloc, &resolve, &function.expressions)?;
     let facts = facts_of(alloc, module, function)?;
     let uniformities = uniformities_of(alloc, function, &facts.sources)?;

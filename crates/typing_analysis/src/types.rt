@@ -45,7 +45,11 @@ fn type_behind(
     requires precede { OperandsBelow (length types.now) (expression_view expression.now) }
     ensures { Decided (context_view context.now) types.now handle (expression_view expression.now) result }
 {
-    match context.resolve(alloc, expression, |operand| found_at(types, operand, missing)) {
+    match context.resolve(
+        alloc,
+        expression,
+        |operand| found_at(types, operand, missing),
+    ) {
         Ok(found) => Ok(found),
         Err(refusal) => Err(as_summary(handle, refusal)),
     }
