@@ -133,9 +133,9 @@ module _ (m : PlainModule) (f : PlainFunction) (precede : OperandsPrecede f.expr
     none = λ e s c. elim (comes_cases m f (length known) s c) [
       | inl own ↦ true≢false (sym own.source ∙ (ap (is_source m f) (some_is (sym own.stands ∙ at)) ∙ is))
       | inr t ↦
-        (let same : t.expression ≡ expression = some_is (sym t.stands ∙ at) in
-        let among : IsAmong t.operand (expression_operands expression) = subst (λ z. IsAmong t.operand (expression_operands z)) same t.among in
-        (sources t.operand.handle (precede (length known) expression t.operand at among)).none ((find_none known (expression_operands expression) None e).1 t.operand among) s t.comes)
+          (let same : t.expression ≡ expression = some_is (sym t.stands ∙ at) in
+          let among : IsAmong t.operand (expression_operands expression) = subst (λ z. IsAmong t.operand (expression_operands z)) same t.among in
+          (sources t.operand.handle (precede (length known) expression t.operand at among)).none ((find_none known (expression_operands expression) None e).1 t.operand among) s t.comes)
     ];
   }
 
@@ -143,10 +143,10 @@ module _ (m : PlainModule) (f : PlainFunction) (precede : OperandsPrecede f.expr
   source_more e lt = elim (cases_lt e (length known)) [
     | inl before ↦ subst (λ z. IsExact z (ComesFrom m f e)) (sym (known_before known (source_of m f known (length known) expression) e before)) (sources e before)
     | inr past ↦
-      (let longer : e < length known + 1 = subst (λ z. e < z) (length_more known (source_of m f known (length known) expression)) lt in
-      let same : length known ≡ e = omega (arith, longer, past) in
-      subst (λ z. IsExact (known_at (known ++ source_of m f known (length known) expression ∷ []) z) (ComesFrom m f z)) same
-      (subst (λ z. IsExact z (ComesFrom m f (length known))) (sym (known_last known (source_of m f known (length known) expression))) (exact_if (is_source m f expression) refl)))
+        (let longer : e < length known + 1 = subst (λ z. e < z) (length_more known (source_of m f known (length known) expression)) lt in
+        let same : length known ≡ e = omega (arith, longer, past) in
+        subst (λ z. IsExact (known_at (known ++ source_of m f known (length known) expression ∷ []) z) (ComesFrom m f z)) same
+        (subst (λ z. IsExact z (ComesFrom m f (length known))) (sym (known_last known (source_of m f known (length known) expression))) (exact_if (is_source m f expression) refl)))
   ]
 
 sources_all : (m : PlainModule) (f : PlainFunction) → OperandsPrecede f.expressions → (entries : List (Expression × Span)) (known : List (Option ℕ)) (p : ℕ) → length known ≡ p → StandsFrom f.expressions p entries → SourcesKnown m f known
@@ -241,10 +241,10 @@ start_more : (xs : List PlainExpression) (known : List (Option ℕ)) (precede : 
 start_more xs known precede starts y at e g lt = elim (cases_lt e (length known)) [
   | inl before ↦ subst (λ z. (z ≡ Some g) ↔ StartsAt xs e g) (sym (known_before known (start_of known y) e before)) (starts e g before)
   | inr past ↦
-    (let longer : e < length known + 1 = subst (λ z. e < z) (length_more known (start_of known y)) lt in
-    let same : length known ≡ e = omega (arith, longer, past) in
-    subst (λ z. (known_at (known ++ start_of known y ∷ []) z ≡ Some g) ↔ StartsAt xs z g) same
-    (subst (λ z. (z ≡ Some g) ↔ StartsAt xs (length known) g) (sym (known_last known (start_of known y))) (one_start xs known precede starts y g at)))
+      (let longer : e < length known + 1 = subst (λ z. e < z) (length_more known (start_of known y)) lt in
+      let same : length known ≡ e = omega (arith, longer, past) in
+      subst (λ z. (known_at (known ++ start_of known y ∷ []) z ≡ Some g) ↔ StartsAt xs z g) same
+      (subst (λ z. (z ≡ Some g) ↔ StartsAt xs (length known) g) (sym (known_last known (start_of known y))) (one_start xs known precede starts y g at)))
 ]
 
 starts_all : (xs : List PlainExpression) → OperandsPrecede xs → (entries : List (Expression × Span)) (known : List (Option ℕ)) (p : ℕ) → length known ≡ p → StandsFrom xs p entries → StartsKnown xs known

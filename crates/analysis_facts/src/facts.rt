@@ -81,7 +81,10 @@ fn all_sources(
     Ok(sources)
 }
 
-fn all_starts(alloc: Global, function: &Function) -> Result<Vec<Option<Handle<key::GlobalVariable>>>, AllocError>
+fn all_starts(
+    alloc: Global,
+    function: &Function,
+) -> Result<Vec<Option<Handle<key::GlobalVariable>>>, AllocError>
     ensures { IfOk result (λ v. v.items ≡ starts_of [] (handles_from 0 function.now.expressions)) }
 {
     let mut globals = Vec::new(alloc);

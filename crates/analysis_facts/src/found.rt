@@ -32,7 +32,11 @@ fn one(sources: &[Option<Operand>], found: Option<Operand>, operand: Operand) ->
     }
 }
 
-fn one_if(sources: &[Option<Operand>], found: Option<Operand>, operand: Option<Operand>) -> Option<Operand>
+fn one_if(
+    sources: &[Option<Operand>],
+    found: Option<Operand>,
+    operand: Option<Operand>,
+) -> Option<Operand>
     ensures { result ≡ find_all sources.now (reads_if operand) found }
 {
     match operand {
@@ -51,7 +55,11 @@ fn all(sources: &[Option<Operand>], operands: &[Operand]) -> Option<Operand>
     found
 }
 
-fn of_level(sources: &[Option<Operand>], found: Option<Operand>, level: SampleLevel) -> Option<Operand>
+fn of_level(
+    sources: &[Option<Operand>],
+    found: Option<Operand>,
+    level: SampleLevel,
+) -> Option<Operand>
     ensures { result ≡ find_all sources.now (level_operands level) found }
 {
     match level {
@@ -63,7 +71,11 @@ fn of_level(sources: &[Option<Operand>], found: Option<Operand>, level: SampleLe
     }
 }
 
-fn of_query(sources: &[Option<Operand>], found: Option<Operand>, query: ImageQuery) -> Option<Operand>
+fn of_query(
+    sources: &[Option<Operand>],
+    found: Option<Operand>,
+    query: ImageQuery,
+) -> Option<Operand>
     ensures { result ≡ find_all sources.now (query_operands query) found }
 {
     match query {
@@ -114,7 +126,12 @@ fn two(sources: &[Option<Operand>], first: Operand, second: Operand) -> Option<O
     one(sources, known(sources, first), second)
 }
 
-fn three(sources: &[Option<Operand>], first: Operand, second: Operand, third: Operand) -> Option<Operand>
+fn three(
+    sources: &[Option<Operand>],
+    first: Operand,
+    second: Operand,
+    third: Operand,
+) -> Option<Operand>
     ensures { result ≡ or_known sources.now third (or_known sources.now second (known_at sources.now first)) }
 {
     one(sources, two(sources, first, second), third)
@@ -163,7 +180,13 @@ pub(crate) fn source_below(sources: &[Option<Operand>], expression: &Expression)
             array_index,
             sample,
             level,
-        } => three_if(sources, two(sources, image, coordinate), array_index, sample, level),
+        } => three_if(
+            sources,
+            two(sources, image, coordinate),
+            array_index,
+            sample,
+            level,
+        ),
         Expression::ImageQuery { image, query } => of_query(sources, known(sources, image), query),
         Expression::Unary { expr, .. }
         | Expression::Derivative { expr, .. }

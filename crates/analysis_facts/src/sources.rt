@@ -104,7 +104,10 @@ fn global_varies(module: &Module, handle: Handle<key::GlobalVariable>) -> bool
 fn built_in_varies(value: BuiltIn) -> bool
     ensures { result ≡ built_in_varies value }
 {
-    !matches!(value, BuiltIn::WorkGroupId | BuiltIn::WorkGroupSize | BuiltIn::NumWorkGroups)
+    !matches!(
+        value,
+        BuiltIn::WorkGroupId | BuiltIn::WorkGroupSize | BuiltIn::NumWorkGroups
+    )
 }
 
 fn binding_varies(binding: Option<Binding>) -> bool

@@ -91,6 +91,13 @@ impl FunctionInfo {
         &self.uses
     }
 
+    /// What is known of each expression, in order.
+    pub fn expressions(&self) -> &[ExpressionInfo]
+        ensures { result.now ≡ self.now.expressions.items }
+    {
+        &self.expressions
+    }
+
     /// The images and samplers that it samples, itself or by a function that it calls, each pair once.
     pub fn pairs(&self) -> &[SamplingPair]
         ensures { result.now ≡ (summary_of self.now).pairs }

@@ -108,10 +108,10 @@ merged_bits i uses (other ∷ others) g k lt =
         | inr r ↦ at_or_after r.0 r.1 r.2 one.1
       ]),
     ) where
-  at_or_after : (j : ℕ) → g ≡ i + j → HasUseBit (other ∷ others) j k → (HasUseBit uses g k ⊎ ((Some i ≡ Some g) × (bit_at other.0 k ≡ 1)) → HasUseBit (marked uses (Some i) other.0) g k)
-      → HasUseBit (marked uses (Some i) other.0) g k ⊎ AtFrom (i + 1) others g k
-  at_or_after zero q h one = inl (one (inr (ap (λ z. Some z) (let p : i ≡ g = omega (arith, q) in p), h)))
-  at_or_after (suc j) q h one = inr (j, (omega (arith, q)), h)
+      at_or_after : (j : ℕ) → g ≡ i + j → HasUseBit (other ∷ others) j k → (HasUseBit uses g k ⊎ ((Some i ≡ Some g) × (bit_at other.0 k ≡ 1)) → HasUseBit (marked uses (Some i) other.0) g k)
+          → HasUseBit (marked uses (Some i) other.0) g k ⊎ AtFrom (i + 1) others g k
+      at_or_after zero q h one = inl (one (inr (ap (λ z. Some z) (let p : i ≡ g = omega (arith, q) in p), h)))
+      at_or_after (suc j) q h one = inr (j, (omega (arith, q)), h)
 
 pub merge_bits : (uses others : List GlobalUse) (g k : ℕ) → g < length uses → HasUseBit (merged uses others) g k ↔ (HasUseBit uses g k ⊎ HasUseBit others g k)
 merge_bits uses others g k lt =

@@ -98,7 +98,13 @@ impl Counts {
 
     // The same behind the layer of an image.
     #[tactic(auto, using(crate::proofs::Counting::take_append))]
-    fn read_texel(&mut self, globals: &[Start], array_index: Option<Operand>, fun: AtomicFunction, value: Operand)
+    fn read_texel(
+        &mut self,
+        globals: &[Start],
+        array_index: Option<Operand>,
+        fun: AtomicFunction,
+        value: Operand,
+    )
         ensures { counted self.new ≡ take_all globals.now (reads_if array_index ++ (atomic_operands fun ++ reads value ∷ [])) (counted self.old) }
     {
         self.read_if(globals, array_index);

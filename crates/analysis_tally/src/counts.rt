@@ -7,9 +7,9 @@ ghost use Rattle.spec_analysis.specs.Values.{known_at};
 ghost use Rattle.analysis_tally.specs.Tallies.{Counted, counted, bumped, joined_use, marked, take_one, take_all, merged, queried};
 
 use analysis_forms::GlobalUse;
+use bitflags::Flags;
 use ir_arena::handle::Handle;
 use ir_types::key;
-use bitflags::Flags;
 use std::alloc::{AllocError, Global};
 
 /// At how many places each expression is an operand, and the use of each global variable.
@@ -25,7 +25,10 @@ pub struct Counts {
 pub(crate) type Start = Option<Handle<key::GlobalVariable>>;
 
 // That of one expression.
-fn start_of(globals: &[Start], handle: Handle<key::Expression>) -> Option<Handle<key::GlobalVariable>>
+fn start_of(
+    globals: &[Start],
+    handle: Handle<key::Expression>,
+) -> Option<Handle<key::GlobalVariable>>
     ensures { result ≡ known_at globals.now handle }
 {
     match globals.get(handle.index()) {
@@ -69,7 +72,11 @@ fn mark(uses: &mut Vec<GlobalUse>, global: Option<Handle<key::GlobalVariable>>, 
 
 impl Counts {
     // Nothing counted.
-    pub(crate) fn new(alloc: Global, expressions: usize, globals: usize) -> Result<Counts, AllocError>
+    pub(crate) fn new(
+        alloc: Global,
+        expressions: usize,
+        globals: usize,
+    ) -> Result<Counts, AllocError>
         ensures counts { IfOk result (λ c. c.counts.items ≡ replicate expressions 0) }
         ensures uses { IfOk result (λ c. c.uses.items ≡ replicate globals no_use) }
     {
@@ -79,7 +86,12 @@ impl Counts {
     }
 
     // One operand, which makes this use of the global variable that it starts at.
-    pub(crate) fn take(&mut self, globals: &[Start], handle: Handle<key::Expression>, kind: GlobalUse)
+    pub(crate) fn take(
+        &mut self,
+        globals: &[Start],
+        handle: Handle<key::Expression>,
+        kind: GlobalUse,
+    )
         ensures { counted self.new ≡ take_one globals.now (record { handle = handle; use_bits = kind.0 }) (counted self.old) }
     {
         bump(&mut self.counts, handle);

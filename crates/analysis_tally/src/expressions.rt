@@ -17,7 +17,11 @@ use ir_types::key;
 use std::alloc::AllocError;
 
 // What an operand of a sampling stands for; where it stands for nothing, the sampling is wrong.
-fn own_part(expressions: &Expressions, operand: Handle<key::Expression>, sampling: Handle<key::Expression>) -> Part
+fn own_part(
+    expressions: &Expressions,
+    operand: Handle<key::Expression>,
+    sampling: Handle<key::Expression>,
+) -> Part
     ensures means { result.means ≡ place (map expression_view (values_of expressions.now)) operand }
     ensures wrong { result.wrong ≡ Some sampling }
 {

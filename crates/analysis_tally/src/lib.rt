@@ -11,4 +11,6 @@ mod places;
 mod tally;
 mod walk;
 
+pub use counts::Counts;
+pub use pairs::Sampled;
 pub use tally::{Context, Tally};

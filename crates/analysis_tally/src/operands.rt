@@ -42,7 +42,12 @@ impl Counts {
 
     // Two operands, each of which may be missing.
     #[tactic(auto, using(crate::proofs::Counting::take_append))]
-    pub(crate) fn read_two(&mut self, globals: &[Start], first: Option<Operand>, second: Option<Operand>)
+    pub(crate) fn read_two(
+        &mut self,
+        globals: &[Start],
+        first: Option<Operand>,
+        second: Option<Operand>,
+    )
         ensures { counted self.new ≡ take_all globals.now (reads_if first ++ reads_if second) (counted self.old) }
     {
         self.read_if(globals, first);
@@ -51,7 +56,13 @@ impl Counts {
 
     // Three operands, each of which may be missing.
     #[tactic(auto, using(crate::proofs::Counting::take_append))]
-    fn read_three(&mut self, globals: &[Start], first: Option<Operand>, second: Option<Operand>, third: Option<Operand>)
+    fn read_three(
+        &mut self,
+        globals: &[Start],
+        first: Option<Operand>,
+        second: Option<Operand>,
+        third: Option<Operand>,
+    )
         ensures { counted self.new ≡ take_all globals.now (reads_if first ++ (reads_if second ++ reads_if third)) (counted self.old) }
     {
         self.read_if(globals, first);

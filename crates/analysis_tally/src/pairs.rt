@@ -33,7 +33,11 @@ pub(crate) struct Part {
 }
 
 // What stands for this in a callee, seen from the caller that passes these arguments.
-fn seen(expressions: &Expressions, arguments: &[Handle<key::Expression>], below: GlobalOrArgument) -> Part
+fn seen(
+    expressions: &Expressions,
+    arguments: &[Handle<key::Expression>],
+    below: GlobalOrArgument,
+) -> Part
     ensures means { result.means ≡ seen_through (place (map expression_view (values_of expressions.now))) arguments.now (Some below) }
     ensures wrong { result.wrong ≡ passed_for arguments.now below }
 {

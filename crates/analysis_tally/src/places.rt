@@ -59,7 +59,10 @@ fn means(expressions: &Expressions, expression: &Expression) -> Option<GlobalOrA
 
 // What the expression at a handle stands for: a global variable, where it is one or an access directly on one, or an
 // argument.
-pub(crate) fn place(expressions: &Expressions, handle: Handle<key::Expression>) -> Option<GlobalOrArgument>
+pub(crate) fn place(
+    expressions: &Expressions,
+    handle: Handle<key::Expression>,
+) -> Option<GlobalOrArgument>
     ensures { result ≡ place (map expression_view (values_of expressions.now)) handle }
 {
     match get(expressions, handle) {

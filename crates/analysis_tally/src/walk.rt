@@ -26,7 +26,8 @@ impl Tally {
             Some(info) => {
                 self.counts.merge(info.uses());
                 self.may_kill = self.may_kill || info.may_kill;
-                self.sampled.pass_all_up(context.expressions, arguments, info.pairs())
+                self.sampled
+                    .pass_all_up(context.expressions, arguments, info.pairs())
             }
             None => Ok(()),
         }
@@ -71,7 +72,11 @@ impl Tally {
     }
 
     // The statement itself, and not the statements inside it.
-    fn add_statement(&mut self, context: &Context<'_>, statement: &Statement) -> Result<(), AllocError>
+    fn add_statement(
+        &mut self,
+        context: &Context<'_>,
+        statement: &Statement,
+    ) -> Result<(), AllocError>
         ensures { OnOk result (tallied self.new ≡ statement_done (known context.now) (statement_view statement.now) (tallied self.old)) }
     {
         self.counts.take_statement(context.globals, statement);

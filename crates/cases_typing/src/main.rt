@@ -9,6 +9,11 @@
 //
 // A line of a data file is a list of four texts: the case's name, what is asked, a document, and the answer. `make_data.py`,
 // `make_types.py` and `make_infos.py` write these files. The answers come from two implementations that were written independently of this one. Beside that
+// Asks the typing of modules what data/layouts.jsonl, data/constness.jsonl, data/types.jsonl and data/summaries.jsonl ask, and tells which answers
+// are others than those that stand there.
+//
+// A line of a data file is a list of four texts: the case's name, what is asked, a document, and the answer. `make_data.py`,
+// `make_types.py` and `make_summaries.py` write these files. The answers come from two implementations that were written independently of this one. Beside that
 // it makes each call of layouts and of kinds once.
 #![tactic(auto)]
 
@@ -19,6 +24,7 @@ mod conditions;
 mod constness;
 mod infos;
 mod layouts;
+mod summaries;
 mod types;
 
 use anyhow::{Context, Result, ensure};
@@ -34,6 +40,7 @@ const FILES: [&str; 4] = [
     "constness.jsonl",
     "types.jsonl",
     "infos.jsonl",
+    "summaries.jsonl",
 ];
 
 // Asks what a line asks. Answers whether the answer is another one.

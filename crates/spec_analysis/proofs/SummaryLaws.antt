@@ -127,12 +127,16 @@ module _ (m : PlainModule) (f : PlainFunction) (summaries : List Summary) (known
   query_down g k lt bit r = elim (reaches-cases m f (λ h. Names g h × IsUnusedFrom m g h) r) [
     | inl own ↦ elim (find_call summaries g k (effects_of f)) [
       | inl c ↦ inl (inr (c.arguments, c.summary, record { callee = c.callee; call = c.call; found = c.found }, c.bit))
-      | inr none ↦ inr (bit, own.0, λ j joins. elim joins [
-        | inl direct ↦ own.1 j (reaches-here m f (UsesDirectly g j) direct)
-        | inr c ↦
-          (let same : j ≡ k = one_bit j (joined_bit g j lt own.1 (inr c)) ∙ sym (one_bit k bit) in
-          none (record { callee = c.2.callee; arguments = c.0; summary = c.1; call = c.2.call; found = c.2.found; bit = subst (λ z. HasBit c.1 g z) same c.3 }))
-      ])
+      | inr none ↦ inr (
+        bit,
+        own.0,
+        λ j joins. elim joins [
+          | inl direct ↦ own.1 j (reaches-here m f (UsesDirectly g j) direct)
+          | inr c ↦
+              (let same : j ≡ k = one_bit j (joined_bit g j lt own.1 (inr c)) ∙ sym (one_bit k bit) in
+              none (record { callee = c.2.callee; arguments = c.0; summary = c.1; call = c.2.call; found = c.2.found; bit = subst (λ z. HasBit c.1 g z) same c.3 }))
+        ],
+      )
     ]
     | inr c ↦ (let s = stepped m f summaries known c.step c.calls in inl (inr (c.step.arguments, s.summary, s.calls, (s.is.uses g k lt).1 (inr (bit, c.reaches)))))
   ]
