@@ -2,7 +2,7 @@
 use Rattle.std.proofs.Common.{◌≡◌, ℕ, ◌+◌, true, List, [], ◌∷◌, ◌++◌, map, Option, Some, None, slice_get, refl, sym, ap, ◌∙◌}
 use Rattle.ir_expressions.specs.Plain.{PlainExpression, compose, plain}
 use Rattle.ir_expressions.specs.declared.expressions.Expression.TheVariants as x
-use Rattle.ir_blocks.specs.Plain.{PlainStatement, emit, block, choice, switch, loop, break, continue, return, kill, act, call, PlainBlock, stop, next, PlainCases, no_case, case}
+use Rattle.ir_blocks.specs.Plain.{PlainStatement, emit, block, if_, switch, loop, break, continue, return, kill, operation, call, PlainBlock, stop, next, PlainCases, no_case, case}
 use Rattle.spec_analysis.specs.Operands.{Operand, expression_operands, statement_operands}
 use Rattle.spec_analysis.specs.Effects.{Effect, takes, samples, runs, discards, sampling_at, expression_effects, expressions_effects, leaving_effects, statement_effects, effects_in, effects_inside, effects_in_cases}
 use Rattle.spec_analysis.specs.Chains.{place}
@@ -44,14 +44,14 @@ do_expressions k e (expression ∷ rest) t =
 do_leaving : (k : Known) (s : PlainStatement) (t : Tallied) → do_all k (leaving_effects s) t ≡ leave k s t
 do_leaving k (emit first end) t = refl
 do_leaving k (block body) t = refl
-do_leaving k (choice condition accept reject) t = refl
+do_leaving k (if_ condition accept reject) t = refl
 do_leaving k (switch selector cases) t = refl
 do_leaving k (loop body continuing break_if) t = refl
 do_leaving k break t = refl
 do_leaving k continue t = refl
 do_leaving k (return value) t = refl
 do_leaving k kill t = refl
-do_leaving k (act a) t = refl
+do_leaving k (operation a) t = refl
 do_leaving k (call function arguments result) t = refl
 
 do_statement : (k : Known) (s : PlainStatement) (t : Tallied) → do_all k (statement_effects s) t ≡ statement_done k s t
@@ -74,14 +74,14 @@ mutual
   do_inside : (k : Known) (s : PlainStatement) (t : Tallied) → do_all k (effects_inside s) t ≡ done_inside k s t
   do_inside k (emit first end) t = refl
   do_inside k (block body) t = do_in k body t
-  do_inside k (choice condition accept reject) t = then_rest k (effects_in accept) (effects_in reject) t (done_in k accept t) (done_in k reject (done_in k accept t)) (do_in k accept t) (do_in k reject (done_in k accept t))
+  do_inside k (if_ condition accept reject) t = then_rest k (effects_in accept) (effects_in reject) t (done_in k accept t) (done_in k reject (done_in k accept t)) (do_in k accept t) (do_in k reject (done_in k accept t))
   do_inside k (switch selector cases) t = do_in_cases k cases t
   do_inside k (loop body continuing break_if) t = then_rest k (effects_in body) (effects_in continuing) t (done_in k body t) (done_in k continuing (done_in k body t)) (do_in k body t) (do_in k continuing (done_in k body t))
   do_inside k break t = refl
   do_inside k continue t = refl
   do_inside k (return value) t = refl
   do_inside k kill t = refl
-  do_inside k (act a) t = refl
+  do_inside k (operation a) t = refl
   do_inside k (call function arguments result) t = refl
 
   do_in_cases : (k : Known) (cases : PlainCases) (t : Tallied) → do_all k (effects_in_cases cases) t ≡ done_in_cases k cases t

@@ -4,7 +4,7 @@ use Rattle.indexmap.specs.IndexSet.{insert_key}
 use Rattle.ir_expressions.specs.Plain.{PlainExpression, plain, expression_view}
 use Rattle.ir_expressions.specs.declared.expressions.Expression.{Expression}
 use Rattle.ir_expressions.specs.declared.expressions.Expression.TheVariants.{GlobalVariable, ImageSample}
-use Rattle.ir_blocks.specs.Plain.{PlainStatement, emit, block, choice, switch, loop, break, continue, return, kill, act, call, PlainBlock, stop, next, PlainCases, no_case, case}
+use Rattle.ir_blocks.specs.Plain.{PlainStatement, emit, block, if_, switch, loop, break, continue, return, kill, operation, call, PlainBlock, stop, next, PlainCases, no_case, case}
 use Rattle.ir_globals.specs.View.{values_of}
 use Rattle.analysis_forms.specs.declared.global_use.GlobalUse.{GlobalUse}
 use Rattle.analysis_forms.specs.declared.global_use.TheConstants.GlobalUse.{QUERY}
@@ -158,14 +158,14 @@ join_summary k arguments (Some s) t = record {
 abbrev pub leave : Known → PlainStatement → Tallied → Tallied
 leave k (emit first end) t = t
 leave k (block body) t = t
-leave k (choice condition accept reject) t = t
+leave k (if_ condition accept reject) t = t
 leave k (switch selector cases) t = t
 leave k (loop body continuing break_if) t = t
 leave k break t = t
 leave k continue t = t
 leave k (return value) t = t
 leave k kill t = record { counted = t.counted; paired = t.paired; may_kill = true }
-leave k (act a) t = t
+leave k (operation a) t = t
 leave k (call function arguments result) t = join_summary k arguments (slice_get k.summaries function) t
 
 abbrev pub statement_done : Known → PlainStatement → Tallied → Tallied
@@ -179,14 +179,14 @@ abbrev mutual
   pub done_inside : Known → PlainStatement → Tallied → Tallied
   done_inside k (emit first end) t = t
   done_inside k (block body) t = done_in k body t
-  done_inside k (choice condition accept reject) t = done_in k reject (done_in k accept t)
+  done_inside k (if_ condition accept reject) t = done_in k reject (done_in k accept t)
   done_inside k (switch selector cases) t = done_in_cases k cases t
   done_inside k (loop body continuing break_if) t = done_in k continuing (done_in k body t)
   done_inside k break t = t
   done_inside k continue t = t
   done_inside k (return value) t = t
   done_inside k kill t = t
-  done_inside k (act a) t = t
+  done_inside k (operation a) t = t
   done_inside k (call function arguments result) t = t
 
   pub done_in_cases : Known → PlainCases → Tallied → Tallied

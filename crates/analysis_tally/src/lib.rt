@@ -2,10 +2,10 @@
 //! own body and from what is kept of the functions that it calls.
 #![tactic(auto)]
 
-mod acts;
 mod counts;
 mod expressions;
 mod operands;
+mod operations;
 mod pairs;
 mod places;
 mod tally;

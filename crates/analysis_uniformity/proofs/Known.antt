@@ -60,7 +60,7 @@ some_or_none None h = absurd (h refl)
 some_or_none (Some s) h = refl
 
 module _ (m : PlainModule) (f : PlainFunction) (sources : List (Option ℕ)) (entries : List (Expression × Span)) (all : List Uniformity) (is : f.expressions ≡ map expression_view (values_of entries))
-  (are : AreSources m f sources) (tells : map told all ≡ all_told sources (handles_from 0 entries)) where
+    (are : AreSources m f sources) (tells : map told all ≡ all_told sources (handles_from 0 entries)) where
   at : (e : ℕ) → option_map told (slice_get all e) ≡ option_map (told_of sources e) (slice_get f.expressions e)
   at e =
       let zero_plus : 0 + e ≡ e = omega arith in

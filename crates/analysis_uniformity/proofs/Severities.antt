@@ -44,7 +44,7 @@ module _ (m : PlainModule) (f : PlainFunction) (rule : StandardFilterableTrigger
   one_severity s t (inl a) (inl b) = same_severity s t (one_nearest m.filters f.leaf rule (Some s) (Some t) a b)
   one_severity s t (inl a) (inr b) = some_none s (one_nearest m.filters f.leaf rule (Some s) None a b.0)
   one_severity s t (inr a) (inl b) = some_none t (one_nearest m.filters f.leaf rule (Some t) None b a.0)
-  one_severity s t (inr (a , inl c)) (inr (b , inl d)) = same_severity s t (one_nearest m.filters m.leaf rule (Some s) (Some t) c d)
-  one_severity s t (inr (a , inl c)) (inr (b , inr d)) = some_none s (one_nearest m.filters m.leaf rule (Some s) None c d.0)
-  one_severity s t (inr (a , inr c)) (inr (b , inl d)) = some_none t (one_nearest m.filters m.leaf rule (Some t) None d c.0)
-  one_severity s t (inr (a , inr c)) (inr (b , inr d)) = c.1 ∙ sym d.1
+  one_severity s t (inr (a, inl c)) (inr (b, inl d)) = same_severity s t (one_nearest m.filters m.leaf rule (Some s) (Some t) c d)
+  one_severity s t (inr (a, inl c)) (inr (b, inr d)) = some_none s (one_nearest m.filters m.leaf rule (Some s) None c d.0)
+  one_severity s t (inr (a, inr c)) (inr (b, inl d)) = some_none t (one_nearest m.filters m.leaf rule (Some t) None d c.0)
+  one_severity s t (inr (a, inr c)) (inr (b, inr d)) = c.1 ∙ sym d.1

@@ -8,11 +8,10 @@ use crate::types::{typed, types_told};
 use document_reader::Document;
 use std::alloc::{AllocError, Global};
 
-/// The answer to a question about the module of a document. `laid`, `tracked`, `typed` and `read` are there to measure by: they lay out all
-/// types, find all kinds or all types of expressions, or do nothing, and are answered by themselves.
+/// The answer to a question about the module of a document. `laid`, `tracked`, `typed` and `read` are there to measure by:
+/// they lay out all types, find all kinds or all types of expressions, or do nothing, and are answered by themselves.
 pub fn answer(alloc: Global, asked: &str, document: &Document) -> Result<String, AllocError> {
     let module = &document.module;
-pub fn answer(alloc: Global, asked: &str, module: &Module) -> Result<String, AllocError> {
     if let Some(letters) = asked.strip_prefix("summaries ") {
         return summaries_told(alloc, module, letters.as_bytes());
     }

@@ -66,7 +66,13 @@ pub fn tests_told(
         tell(&mut told, function, module, handle.index(), unasked)?;
     }
     for entry in module.entry_points.as_slice() {
-        tell(&mut told, &entry.function, module, module.functions.len(), unasked)?;
+        tell(
+            &mut told,
+            &entry.function,
+            module,
+            module.functions.len(),
+            unasked,
+        )?;
     }
     Ok(told)
 }

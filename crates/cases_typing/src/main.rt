@@ -1,20 +1,9 @@
-// Asks the typing of modules what the files of data/ ask (layouts, kinds of expressions, their types, tests of handles), and
-// tells which answers are others than those that stand there.
+// Asks what the files of data/ ask of modules: layouts, kinds of expressions, their types, tests of handles, what types may be
+// used for and why they are refused, summaries of functions. Tells which answers are others than those that stand there.
 //
 // A line of a data file is a list of four texts: the case's name, what is asked, a document, and the answer. `make_data.py`,
-// `make_types.py` and `make_tests.py` write these files. The answers come from two implementations that were written
-// independently of this one. Beside that it makes each call of layouts and of kinds once.
-// Asks the typing of modules what data/layouts.jsonl, data/constness.jsonl and data/types.jsonl ask, and the rules of types
-// what data/infos.jsonl asks, and tells which answers are others than those that stand there.
-//
-// A line of a data file is a list of four texts: the case's name, what is asked, a document, and the answer. `make_data.py`,
-// `make_types.py` and `make_infos.py` write these files. The answers come from two implementations that were written independently of this one. Beside that
-// Asks the typing of modules what data/layouts.jsonl, data/constness.jsonl, data/types.jsonl and data/summaries.jsonl ask, and tells which answers
-// are others than those that stand there.
-//
-// A line of a data file is a list of four texts: the case's name, what is asked, a document, and the answer. `make_data.py`,
-// `make_types.py` and `make_summaries.py` write these files. The answers come from two implementations that were written independently of this one. Beside that
-// it makes each call of layouts and of kinds once.
+// `make_types.py`, `make_tests.py`, `make_infos.py` and `make_summaries.py` write these files. The answers come from two
+// implementations that were written independently of this one. Beside that it makes each call of layouts and of kinds once.
 #![tactic(auto)]
 
 mod asked;
@@ -34,11 +23,11 @@ use serde_json::Value;
 use std::fs;
 
 /// The files of cases.
-const FILES: [&str; 4] = ["layouts.jsonl", "constness.jsonl", "types.jsonl", "tests.jsonl"];
-const FILES: [&str; 4] = [
+const FILES: [&str; 6] = [
     "layouts.jsonl",
     "constness.jsonl",
     "types.jsonl",
+    "tests.jsonl",
     "infos.jsonl",
     "summaries.jsonl",
 ];

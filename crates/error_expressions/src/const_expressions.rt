@@ -1,9 +1,9 @@
 //! Why a global expression is refused.
 
 use crate::compose::ComposeError;
-use crate::literals::LiteralError;
 use thiserror::Error;
-use typing_resolve::ResolveError;
+use type_infos::LiteralError;
+use typing_operands::ResolveError;
 
 /// Why a global expression is refused (naga's `ConstExpressionError`).
 #[derive(PartialEq, Debug, Drop, Error)]

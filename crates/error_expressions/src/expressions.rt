@@ -1,13 +1,13 @@
 //! Why an expression of a function is refused.
 
 use crate::compose::ComposeError;
-use crate::literals::LiteralError;
 use ir_arena::handle::Handle;
 use ir_flags::StorageAccess;
 use ir_kinds::{ImageClass, ImageDimension, StorageFormat};
 use ir_types::key;
 use thiserror::Error;
-use typing_resolve::ResolveError;
+use type_infos::LiteralError;
+use typing_operands::ResolveError;
 
 /// Why an expression of a function is refused (naga's `ExpressionError`).
 #[derive(PartialEq, Debug, Drop, Error)]

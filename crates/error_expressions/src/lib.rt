@@ -5,9 +5,7 @@
 mod compose;
 mod const_expressions;
 mod expressions;
-mod literals;
 
 pub use compose::ComposeError;
 pub use const_expressions::ConstExpressionError;
 pub use expressions::ExpressionError;
-pub use literals::{LiteralError, WidthError};

@@ -2,7 +2,7 @@
 use Rattle.std.specs.Prelude.{ℕ, ◌+◌, List, [], ◌∷◌, ◌++◌, map, ◌==◌, if◌then◌else◌}
 use Rattle.ir_expressions.specs.Plain.{PlainExpression, compose, plain}
 use Rattle.ir_expressions.specs.declared.expressions.Expression.TheVariants.{ImageSample}
-use Rattle.ir_blocks.specs.Plain.{PlainStatement, emit, block, choice, switch, loop, break, continue, return, kill, act, call, PlainBlock, stop, next, PlainCases, no_case, case}
+use Rattle.ir_blocks.specs.Plain.{PlainStatement, emit, block, if_, switch, loop, break, continue, return, kill, operation, call, PlainBlock, stop, next, PlainCases, no_case, case}
 use Rattle.ir_items.specs.Plain.{PlainFunction}
 use Rattle.spec_analysis.specs.Operands.{Operand, expression_operands, statement_operands}
 
@@ -31,14 +31,14 @@ expressions_effects e (expression ∷ rest) = expression_effects e expression ++
 abbrev pub leaving_effects : PlainStatement → List Effect
 leaving_effects (emit first end) = []
 leaving_effects (block body) = []
-leaving_effects (choice condition accept reject) = []
+leaving_effects (if_ condition accept reject) = []
 leaving_effects (switch selector cases) = []
 leaving_effects (loop body continuing break_if) = []
 leaving_effects break = []
 leaving_effects continue = []
 leaving_effects (return value) = []
 leaving_effects kill = discards ∷ []
-leaving_effects (act a) = []
+leaving_effects (operation a) = []
 leaving_effects (call function arguments result) = runs function arguments ∷ []
 
 -- of the statement itself, and not of the statements inside it
@@ -54,14 +54,14 @@ abbrev mutual
   pub effects_inside : PlainStatement → List Effect
   effects_inside (emit first end) = []
   effects_inside (block body) = effects_in body
-  effects_inside (choice condition accept reject) = effects_in accept ++ effects_in reject
+  effects_inside (if_ condition accept reject) = effects_in accept ++ effects_in reject
   effects_inside (switch selector cases) = effects_in_cases cases
   effects_inside (loop body continuing break_if) = effects_in body ++ effects_in continuing
   effects_inside break = []
   effects_inside continue = []
   effects_inside (return value) = []
   effects_inside kill = []
-  effects_inside (act a) = []
+  effects_inside (operation a) = []
   effects_inside (call function arguments result) = []
 
   pub effects_in_cases : PlainCases → List Effect

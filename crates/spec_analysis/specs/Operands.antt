@@ -7,15 +7,15 @@ use Rattle.ir_expressions.specs.declared.expressions.ImageQuery.{ImageQuery}
 use Rattle.ir_expressions.specs.declared.expressions.ImageQuery.TheVariants.{Size, NumLevels, NumLayers, NumSamples}
 use Rattle.ir_expressions.specs.declared.expressions.SampleLevel.{SampleLevel}
 use Rattle.ir_expressions.specs.declared.expressions.SampleLevel.TheVariants.{Auto, Zero, Exact, Bias, Gradient}
-use Rattle.ir_blocks.specs.Plain.{PlainAct, control_barrier, memory_barrier, store, image_store, atomic, image_atomic, uniform_load, ray_query, ballot, collective, gather, cooperative_store, ray_pipeline, PlainStatement, emit, block, choice, switch, loop, break, continue, return, kill, act, call}
-use Rattle.ir_blocks.specs.declared.acts.AtomicFunction.{AtomicFunction}
-use Rattle.ir_blocks.specs.declared.acts.AtomicFunction.TheVariants as fun
-use Rattle.ir_blocks.specs.declared.acts.GatherMode.{GatherMode}
-use Rattle.ir_blocks.specs.declared.acts.GatherMode.TheVariants as mode
-use Rattle.ir_blocks.specs.declared.acts.RayQueryFunction.{RayQueryFunction}
-use Rattle.ir_blocks.specs.declared.acts.RayQueryFunction.TheVariants as query
-use Rattle.ir_blocks.specs.declared.acts.RayPipelineFunction.{RayPipelineFunction}
-use Rattle.ir_blocks.specs.declared.acts.RayPipelineFunction.TheVariants as pipeline
+use Rattle.ir_blocks.specs.Plain.{PlainOperation, control_barrier, memory_barrier, store, image_store, atomic, image_atomic, uniform_load, ray_query, ballot, collective, gather, cooperative_store, ray_pipeline, PlainStatement, emit, block, if_, switch, loop, break, continue, return, kill, operation, call}
+use Rattle.ir_blocks.specs.declared.operations.AtomicFunction.{AtomicFunction}
+use Rattle.ir_blocks.specs.declared.operations.AtomicFunction.TheVariants as fun
+use Rattle.ir_blocks.specs.declared.operations.GatherMode.{GatherMode}
+use Rattle.ir_blocks.specs.declared.operations.GatherMode.TheVariants as mode
+use Rattle.ir_blocks.specs.declared.operations.RayQueryFunction.{RayQueryFunction}
+use Rattle.ir_blocks.specs.declared.operations.RayQueryFunction.TheVariants as query
+use Rattle.ir_blocks.specs.declared.operations.RayPipelineFunction.{RayPipelineFunction}
+use Rattle.ir_blocks.specs.declared.operations.RayPipelineFunction.TheVariants as pipeline
 use Rattle.analysis_forms.specs.declared.global_use.TheConstants.GlobalUse.{READ, WRITE, QUERY, ATOMIC}
 
 -- An expression as an operand, and the bits of the use that is made there of the global variable that its chain of
@@ -137,31 +137,31 @@ ray_query_operands query.Terminate = []
 abbrev pub ray_pipeline_operands : RayPipelineFunction → List Operand
 ray_pipeline_operands (pipeline.TraceRay acceleration_structure descriptor payload) = reads acceleration_structure ∷ reads descriptor ∷ reads payload ∷ []
 
-abbrev pub act_operands : PlainAct → List Operand
-act_operands (control_barrier barrier) = []
-act_operands (memory_barrier barrier) = []
-act_operands (store pointer value) = writes pointer ∷ reads value ∷ []
-act_operands (image_store image coordinate array_index value) = writes image ∷ reads coordinate ∷ reads_if array_index ++ reads value ∷ []
-act_operands (atomic pointer function value result) = exchanges pointer ∷ atomic_operands function ++ reads value ∷ []
-act_operands (image_atomic image coordinate array_index function value) = changes image ∷ reads coordinate ∷ reads_if array_index ++ (atomic_operands function ++ reads value ∷ [])
-act_operands (uniform_load pointer result) = reads pointer ∷ []
-act_operands (ray_query ray function) = reads ray ∷ ray_query_operands function
-act_operands (ballot result predicate) = reads_if predicate
-act_operands (collective op collective_op argument result) = reads argument ∷ []
-act_operands (gather how argument result) = gather_operands how ++ reads argument ∷ []
-act_operands (cooperative_store target place) = reads target ∷ writes place.pointer ∷ reads place.stride ∷ []
-act_operands (ray_pipeline function) = ray_pipeline_operands function
+abbrev pub operation_operands : PlainOperation → List Operand
+operation_operands (control_barrier barrier) = []
+operation_operands (memory_barrier barrier) = []
+operation_operands (store pointer value) = writes pointer ∷ reads value ∷ []
+operation_operands (image_store image coordinate array_index value) = writes image ∷ reads coordinate ∷ reads_if array_index ++ reads value ∷ []
+operation_operands (atomic pointer function value result) = exchanges pointer ∷ atomic_operands function ++ reads value ∷ []
+operation_operands (image_atomic image coordinate array_index function value) = changes image ∷ reads coordinate ∷ reads_if array_index ++ (atomic_operands function ++ reads value ∷ [])
+operation_operands (uniform_load pointer result) = reads pointer ∷ []
+operation_operands (ray_query ray function) = reads ray ∷ ray_query_operands function
+operation_operands (ballot result predicate) = reads_if predicate
+operation_operands (collective op collective_op argument result) = reads argument ∷ []
+operation_operands (gather how argument result) = gather_operands how ++ reads argument ∷ []
+operation_operands (cooperative_store target place) = reads target ∷ writes place.pointer ∷ reads place.stride ∷ []
+operation_operands (ray_pipeline function) = ray_pipeline_operands function
 
 -- Those of the statement itself, and not of the statements inside it. What it introduces is none.
 abbrev pub statement_operands : PlainStatement → List Operand
 statement_operands (emit first end) = []
 statement_operands (block body) = []
-statement_operands (choice condition accept reject) = reads condition ∷ []
+statement_operands (if_ condition accept reject) = reads condition ∷ []
 statement_operands (switch selector cases) = reads selector ∷ []
 statement_operands (loop body continuing break_if) = reads_if break_if
 statement_operands break = []
 statement_operands continue = []
 statement_operands (return value) = reads_if value
 statement_operands kill = []
-statement_operands (act a) = act_operands a
+statement_operands (operation a) = operation_operands a
 statement_operands (call function arguments result) = map reads arguments

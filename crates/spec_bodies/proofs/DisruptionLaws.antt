@@ -1,8 +1,8 @@
 -- What is found step by step is disruption.
 use Rattle.std.proofs.Common.{◌≡◌, ℕ, zero, suc, Bool, true, false, ◌||◌, IsTrue, Option, Some, None, ⊎_elim, inl, inr, ◌⊎◌, refl, sym, subst}
 use Rattle.std.proofs.lemmas.Bool.{or_cases, or_left, or_right}
-use Rattle.ir_blocks.specs.Plain.{PlainStatement, emit, block, choice, switch, loop, break, continue, return, kill, act, call, PlainBlock, stop, next, PlainCases, no_case, case}
-use Rattle.ir_blocks.specs.Shapes.{Part, inner, accepting, rejecting, case_at, turn, continuing, shape_of, case_body, part_of}
+use Rattle.ir_blocks.specs.Plain.{PlainStatement, emit, block, if_, switch, loop, break, continue, return, kill, operation, call, PlainBlock, stop, next, PlainCases, no_case, case}
+use Rattle.ir_blocks.specs.Shapes.{Part, inner, accepting, rejecting, case_at, loop_body, loop_continuing, shape_of, case_body, part_of}
 use Rattle.ir_blocks.specs.Places.{Place, here, later, inside, condition, IsTop, top_here, top_later, Before, earlier, both_later, both_inside, body_before_continuing, body_before_condition, continuing_before_condition, statement, StandsAt}
 use Rattle.spec_bodies.specs.Positions.{Holds, itself, in_part, holds_later, holds_inside, Around, around, around_later, around_inside}
 use Rattle.spec_bodies.specs.Disruption.{chosen_by, is_end, Disrupted, already, chosen, after, ends_in, ends_at, ends_in_cases, enter, at_condition, disrupted_at}
@@ -28,9 +28,9 @@ module _ (varies : ℕ → Bool) where
   -- ---- disruption around stays
 
   stays_in : (d : Bool) (s : PlainStatement) (part : Part) → IsTrue d → IsTrue (enter varies d s part)
-  stays_in d (choice x a r) part h = or_left d _ h
+  stays_in d (if_ x a r) part h = or_left d _ h
   stays_in d (switch x cases) part h = or_left d _ h
-  stays_in d (loop b r o) continuing h = or_left d _ h
+  stays_in d (loop b r o) loop_continuing h = or_left d _ h
   stays_in d _ _ h = h
 
   stays_at : (d : Bool) (s : PlainStatement) → IsTrue d → IsTrue (at_condition varies d s)
@@ -60,11 +60,11 @@ module _ (varies : ℕ → Bool) where
 
   part_ends : (s : PlainStatement) (part : Part) (d : Bool) → IsTrue (ends_in varies (enter varies d s part) (part_of (shape_of s) part)) → IsTrue (ends_at varies d s)
   part_ends (block b) inner d h = h
-  part_ends (choice x a r) accepting d h = or_left _ _ h
-  part_ends (choice x a r) rejecting d h = or_right (ends_in varies (d || varies x) a) _ h
+  part_ends (if_ x a r) accepting d h = or_left _ _ h
+  part_ends (if_ x a r) rejecting d h = or_right (ends_in varies (d || varies x) a) _ h
   part_ends (switch x cases) (case_at k) d h = case_ends k cases _ h
-  part_ends (loop b r o) turn d h = or_left _ _ h
-  part_ends (loop b r o) continuing d h = or_right (ends_in varies d b) _ h
+  part_ends (loop b r o) loop_body d h = or_left _ _ h
+  part_ends (loop b r o) loop_continuing d h = or_right (ends_in varies d b) _ h
   part_ends _ _ d h = false_is_not h
 
   ends_from : (p : Place) (d : Bool) (body : PlainBlock) (s : PlainStatement) → StandsAt body p s → IsTrue (is_end s) → IsTrue (disrupted_at varies d p body) → IsTrue (ends_in varies d body)
@@ -79,15 +79,15 @@ module _ (varies : ℕ → Bool) where
   first_ends r d u rest s itself at e h = subst (λ x. IsTrue (ends_at varies d x)) (sym (same_statement u s at)) (own_end d s e h)
   first_ends r d u rest s (in_part {r = q} part) at e h = part_ends u part d (ends_from q _ (part_of (shape_of u) part) s at e h)
 
-  turn_ends : (s : PlainStatement) (d : Bool) → IsTrue (ends_in varies (enter varies d s turn) (part_of (shape_of s) turn)) → IsTrue (enter varies d s continuing)
+  turn_ends : (s : PlainStatement) (d : Bool) → IsTrue (ends_in varies (enter varies d s loop_body) (part_of (shape_of s) loop_body)) → IsTrue (enter varies d s loop_continuing)
   turn_ends (loop b r o) d h = or_right d _ h
   turn_ends _ d h = false_is_not h
 
-  turn_before : (s : PlainStatement) (d : Bool) → IsTrue (ends_in varies (enter varies d s turn) (part_of (shape_of s) turn)) → IsTrue (at_condition varies d s)
+  turn_before : (s : PlainStatement) (d : Bool) → IsTrue (ends_in varies (enter varies d s loop_body) (part_of (shape_of s) loop_body)) → IsTrue (at_condition varies d s)
   turn_before (loop b r o) d h = or_right d _ (or_left _ _ h)
   turn_before _ d h = false_is_not h
 
-  continuing_before : (s : PlainStatement) (d : Bool) → IsTrue (ends_in varies (enter varies d s continuing) (part_of (shape_of s) continuing)) → IsTrue (at_condition varies d s)
+  continuing_before : (s : PlainStatement) (d : Bool) → IsTrue (ends_in varies (enter varies d s loop_continuing) (part_of (shape_of s) loop_continuing)) → IsTrue (at_condition varies d s)
   continuing_before (loop b r o) d h = or_right d _ (or_right (ends_in varies d b) _ h)
   continuing_before _ d h = false_is_not h
 
@@ -99,14 +99,14 @@ module _ (varies : ℕ → Bool) where
   end_before (both_later b) (holds_later o) d (next u rest) s at e h = end_before b o _ rest s at e h
   end_before (both_inside part b) (holds_inside other o) d (next u rest) s at e h = end_before b o _ (part_of (shape_of u) part) s at e h
   end_before (body_before_continuing {p = p} t) (holds_inside {r = r} part o) d (next u rest) s at e h =
-      stays p _ (part_of (shape_of u) continuing) (turn_ends u d (ends_from r _ (part_of (shape_of u) turn) s at e h))
+      stays p _ (part_of (shape_of u) loop_continuing) (turn_ends u d (ends_from r _ (part_of (shape_of u) loop_body) s at e h))
   end_before (body_before_condition t) (holds_inside {r = r} part o) d (next u rest) s at e h =
-      turn_before u d (ends_from r _ (part_of (shape_of u) turn) s at e h)
+      turn_before u d (ends_from r _ (part_of (shape_of u) loop_body) s at e h)
   end_before (continuing_before_condition t) (holds_inside {r = r} part o) d (next u rest) s at e h =
-      continuing_before u d (ends_from r _ (part_of (shape_of u) continuing) s at e h)
+      continuing_before u d (ends_from r _ (part_of (shape_of u) loop_continuing) s at e h)
 
   chosen_in : (d : Bool) (u : PlainStatement) (part : Part) (x : ℕ) → chosen_by u ≡ Some x → IsTrue (varies x) → IsTrue (enter varies d u part)
-  chosen_in d (choice y a r) part x is v = or_right d _ (subst (λ z. IsTrue (varies z)) (sym (same_handle y x is)) v)
+  chosen_in d (if_ y a r) part x is v = or_right d _ (subst (λ z. IsTrue (varies z)) (sym (same_handle y x is)) v)
   chosen_in d (switch y cases) part x is v = or_right d _ (subst (λ z. IsTrue (varies z)) (sym (same_handle y x is)) v)
   chosen_in d _ part x is v = no_handle x is
 
@@ -182,17 +182,17 @@ module _ (varies : ℕ → Bool) where
 
     end_at : (u : PlainStatement) (d : Bool) → IsTrue (ends_at varies d u) → Own d u ⊎ Inside d u
     end_at (block b) d h = inr (inner, end_in b d h)
-    end_at (choice x a r) d h =
+    end_at (if_ x a r) d h =
         ⊎_elim (λ l. inr (accepting, end_in a (d || varies x) l)) (λ l. inr (rejecting, end_in r (d || varies x) l)) (or_cases _ _ h)
     end_at (switch x cases) d h = let k = case_end cases (d || varies x) h in inr (case_at k.0, k.1)
     end_at (loop b r o) d h =
-        ⊎_elim (λ l. inr (turn, end_in b d l)) (λ l. inr (continuing, end_in r (d || ends_in varies d b) l)) (or_cases _ _ h)
+        ⊎_elim (λ l. inr (loop_body, end_in b d l)) (λ l. inr (loop_continuing, end_in r (d || ends_in varies d b) l)) (or_cases _ _ h)
     end_at (return value) d h = inl (refl, h)
     end_at kill d h = inl (refl, h)
     end_at (emit first end) d h = false_is_not h
     end_at break d h = false_is_not h
     end_at continue d h = false_is_not h
-    end_at (act a) d h = false_is_not h
+    end_at (operation a) d h = false_is_not h
     end_at (call function arguments answer) d h = false_is_not h
 
     case_end : (cases : PlainCases) (d : Bool) → IsTrue (ends_in_cases varies d cases) → (k : ℕ) × EndPlace d (case_body cases k)
@@ -202,23 +202,23 @@ module _ (varies : ℕ → Bool) where
 
     -- where a part begins disrupted, so is each place in it
     entered : (u : PlainStatement) (d : Bool) (part : Part) (p : Place) (rest : PlainBlock) → IsTrue (enter varies d u part) → DisruptedBy varies d (next u rest) (inside part p)
-    entered (choice x a r) d part p rest h = ⊎_elim (λ l. already l) (λ v. chosen (choice x a r) x (around part) refl refl v) (or_cases d _ h)
+    entered (if_ x a r) d part p rest h = ⊎_elim (λ l. already l) (λ v. chosen (if_ x a r) x (around part) refl refl v) (or_cases d _ h)
     entered (switch x cases) d part p rest h = ⊎_elim (λ l. already l) (λ v. chosen (switch x cases) x (around part) refl refl v) (or_cases d _ h)
     entered (loop b r o) d inner p rest h = already h
     entered (loop b r o) d accepting p rest h = already h
     entered (loop b r o) d rejecting p rest h = already h
     entered (loop b r o) d (case_at k) p rest h = already h
-    entered (loop b r o) d turn p rest h = already h
-    entered (loop b r o) d continuing p rest h =
+    entered (loop b r o) d loop_body p rest h = already h
+    entered (loop b r o) d loop_continuing p rest h =
         ⊎_elim (λ l. already l) (λ e. let x = end_in b d e in let q = top_of x.0 b x.1 x.2 in
-        after x.1 (body_before_continuing q.1) (holds_inside turn q.2) x.2 x.3 (lift_inside d (loop b r o) rest turn (λ p l. already l) x.0 x.4)) (or_cases d _ h)
+        after x.1 (body_before_continuing q.1) (holds_inside loop_body q.2) x.2 x.3 (lift_inside d (loop b r o) rest loop_body (λ p l. already l) x.0 x.4)) (or_cases d _ h)
     entered (emit first end) d part p rest h = already h
     entered (block b) d part p rest h = already h
     entered break d part p rest h = already h
     entered continue d part p rest h = already h
     entered (return value) d part p rest h = already h
     entered kill d part p rest h = already h
-    entered (act a) d part p rest h = already h
+    entered (operation a) d part p rest h = already h
     entered (call function arguments answer) d part p rest h = already h
 
   -- a loop's condition
@@ -227,11 +227,11 @@ module _ (varies : ℕ → Bool) where
     where
       in_turn : IsTrue (ends_in varies d b) → DisruptedBy varies d (next (loop b r o) rest) condition
       in_turn e = let x = end_in b d e in let q = top_of x.0 b x.1 x.2 in
-          after x.1 (body_before_condition q.1) (holds_inside turn q.2) x.2 x.3 (lift_inside d (loop b r o) rest turn (λ p l. already l) x.0 x.4)
+          after x.1 (body_before_condition q.1) (holds_inside loop_body q.2) x.2 x.3 (lift_inside d (loop b r o) rest loop_body (λ p l. already l) x.0 x.4)
 
       in_continuing : IsTrue (ends_in varies (d || ends_in varies d b) r) → DisruptedBy varies d (next (loop b r o) rest) condition
       in_continuing e = let x = end_in r (d || ends_in varies d b) e in let q = top_of x.0 r x.1 x.2 in
-          after x.1 (continuing_before_condition q.1) (holds_inside continuing q.2) x.2 x.3 (lift_inside d (loop b r o) rest continuing (λ p l. entered (loop b r o) d continuing p rest l) x.0 x.4)
+          after x.1 (continuing_before_condition q.1) (holds_inside loop_continuing q.2) x.2 x.3 (lift_inside d (loop b r o) rest loop_continuing (λ p l. entered (loop b r o) d loop_continuing p rest l) x.0 x.4)
   before_condition _ d rest h = already h
 
   pub from_found : (p : Place) (d : Bool) (body : PlainBlock) → IsTrue (disrupted_at varies d p body) → DisruptedBy varies d body p

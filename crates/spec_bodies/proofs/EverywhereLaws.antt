@@ -1,7 +1,7 @@
 -- A test that is made everywhere passes at every place.
 use Rattle.std.proofs.Common.{◌≡◌, ℕ, zero, suc, Bool, true, false, ◌&&◌, refl, subst}
-use Rattle.ir_blocks.specs.Plain.{PlainStatement, emit, block, choice, switch, loop, break, continue, return, kill, act, call, PlainBlock, stop, next, PlainCases, no_case, case}
-use Rattle.ir_blocks.specs.Shapes.{shape_of, Part, inner, accepting, rejecting, case_at, turn, continuing, case_body, part_of}
+use Rattle.ir_blocks.specs.Plain.{PlainStatement, emit, block, if_, switch, loop, break, continue, return, kill, operation, call, PlainBlock, stop, next, PlainCases, no_case, case}
+use Rattle.ir_blocks.specs.Shapes.{shape_of, Part, inner, accepting, rejecting, case_at, loop_body, loop_continuing, case_body, part_of}
 use Rattle.ir_blocks.specs.Places.{Place, here, later, inside, condition, StandsAt}
 use Rattle.spec_bodies.specs.Everywhere.{PassesAtPlaces, everywhere, in_statement, in_cases}
 
@@ -25,14 +25,14 @@ module _ (ok : PlainStatement → Bool) where
   own_passes : (s : PlainStatement) → in_statement ok s ≡ true → ok s ≡ true
   own_passes (emit first end) e = e
   own_passes (block b) e = (both_true _ _ e).0
-  own_passes (choice test accept reject) e = (both_true _ _ e).0
+  own_passes (if_ test accept reject) e = (both_true _ _ e).0
   own_passes (switch selector cases) e = (both_true _ _ e).0
-  own_passes (loop body again break_if) e = (both_true _ _ e).0
+  own_passes (loop body continuing break_if) e = (both_true _ _ e).0
   own_passes break e = e
   own_passes continue e = e
   own_passes (return value) e = e
   own_passes kill e = e
-  own_passes (act a) e = e
+  own_passes (operation a) e = e
   own_passes (call function arguments result) e = e
 
   case_passes : (cs : PlainCases) (k : ℕ) → in_cases ok cs ≡ true → everywhere ok (case_body cs k) ≡ true
@@ -44,19 +44,19 @@ module _ (ok : PlainStatement → Bool) where
   part_passes (emit first end) part e = refl
   part_passes (block b) inner e = (both_true _ _ e).1
   part_passes (block b) _ e = refl
-  part_passes (choice test accept reject) accepting e = (both_true _ _ (both_true _ _ e).1).0
-  part_passes (choice test accept reject) rejecting e = (both_true _ _ (both_true _ _ e).1).1
-  part_passes (choice test accept reject) _ e = refl
+  part_passes (if_ test accept reject) accepting e = (both_true _ _ (both_true _ _ e).1).0
+  part_passes (if_ test accept reject) rejecting e = (both_true _ _ (both_true _ _ e).1).1
+  part_passes (if_ test accept reject) _ e = refl
   part_passes (switch selector cases) (case_at k) e = case_passes cases k (both_true _ _ e).1
   part_passes (switch selector cases) _ e = refl
-  part_passes (loop body again break_if) turn e = (both_true _ _ (both_true _ _ e).1).0
-  part_passes (loop body again break_if) continuing e = (both_true _ _ (both_true _ _ e).1).1
-  part_passes (loop body again break_if) _ e = refl
+  part_passes (loop body continuing break_if) loop_body e = (both_true _ _ (both_true _ _ e).1).0
+  part_passes (loop body continuing break_if) loop_continuing e = (both_true _ _ (both_true _ _ e).1).1
+  part_passes (loop body continuing break_if) _ e = refl
   part_passes break part e = refl
   part_passes continue part e = refl
   part_passes (return value) part e = refl
   part_passes kill part e = refl
-  part_passes (act a) part e = refl
+  part_passes (operation a) part e = refl
   part_passes (call function arguments result) part e = refl
 
   pub passes_at : (p : Place) (b : PlainBlock) → everywhere ok b ≡ true → (s : PlainStatement) → StandsAt b p s → ok s ≡ true
@@ -83,16 +83,16 @@ module _ (ok : PlainStatement → Bool) where
     statement_passes : (s : PlainStatement) → ok s ≡ true → ((part : Part) → PassesAt (part_of (shape_of s) part)) → in_statement ok s ≡ true
     statement_passes (emit first end) own h = own
     statement_passes (block b) own h = true_both _ _ own (passes_everywhere b (h inner))
-    statement_passes (choice test accept reject) own h =
+    statement_passes (if_ test accept reject) own h =
         true_both _ _ own (true_both _ _ (passes_everywhere accept (h accepting)) (passes_everywhere reject (h rejecting)))
     statement_passes (switch selector cases) own h = true_both _ _ own (cases_pass cases (λ k. h (case_at k)))
-    statement_passes (loop body again break_if) own h =
-        true_both _ _ own (true_both _ _ (passes_everywhere body (h turn)) (passes_everywhere again (h continuing)))
+    statement_passes (loop body continuing break_if) own h =
+        true_both _ _ own (true_both _ _ (passes_everywhere body (h loop_body)) (passes_everywhere continuing (h loop_continuing)))
     statement_passes break own h = own
     statement_passes continue own h = own
     statement_passes (return value) own h = own
     statement_passes kill own h = own
-    statement_passes (act a) own h = own
+    statement_passes (operation a) own h = own
     statement_passes (call function arguments result) own h = own
 
     cases_pass : (cs : PlainCases) → ((k : ℕ) → PassesAt (case_body cs k)) → in_cases ok cs ≡ true

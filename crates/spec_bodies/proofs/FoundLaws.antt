@@ -2,12 +2,12 @@
 use Rattle.std.proofs.Common.{◌≡◌, ◌⊎◌, inl, inr, ⊎_elim, ℕ, zero, suc, Bool, true, false, ◌||◌, IsTrue, Option, Some, None, refl, sym, ap, ◌∙◌, subst}
 use Rattle.ir_flags.specs.declared.settings.ValidationFlags.{ValidationFlags}
 use Rattle.ir_kinds.specs.declared.diagnostics.Severity.{Severity}
-use Rattle.ir_blocks.specs.Plain.{PlainAct, control_barrier, memory_barrier, store, image_store, atomic, image_atomic, uniform_load, ray_query, ballot, collective, gather, cooperative_store, ray_pipeline, PlainStatement, emit, block, choice, switch, loop, break, continue, return, kill, act, call, PlainBlock, stop, next, PlainCases, no_case, case}
-use Rattle.ir_blocks.specs.Shapes.{Part, inner, accepting, rejecting, case_at, turn, continuing, shape_of, case_body, part_of}
+use Rattle.ir_blocks.specs.Plain.{PlainOperation, control_barrier, memory_barrier, store, image_store, atomic, image_atomic, uniform_load, ray_query, ballot, collective, gather, cooperative_store, ray_pipeline, PlainStatement, emit, block, if_, switch, loop, break, continue, return, kill, operation, call, PlainBlock, stop, next, PlainCases, no_case, case}
+use Rattle.ir_blocks.specs.Shapes.{Part, inner, accepting, rejecting, case_at, loop_body, loop_continuing, shape_of, case_body, part_of}
 use Rattle.ir_blocks.specs.Places.{Place, here, later, inside, condition, statement, StandsAt}
 use Rattle.spec_bodies.specs.Disruption.{Disrupted, ends_in, ends_at, enter, disrupted_at}
-use Rattle.spec_bodies.specs.Uniformity.{Asked, ActAsks, EmitAsks, Asks, DisruptedAsk, UniformityFault}
-use Rattle.spec_bodies.specs.Found.{first_asked, where_disrupted, act_asked, asked_in, asked_at, asked_in_cases, IsLook}
+use Rattle.spec_bodies.specs.Uniformity.{Asked, OperationAsks, EmitAsks, Asks, DisruptedAsk, UniformityFault}
+use Rattle.spec_bodies.specs.Found.{first_asked, where_disrupted, operation_asked, asked_in, asked_at, asked_in_cases, IsLook}
 use Rattle.spec_bodies.proofs.EverywhereLaws.{none_in_stop}
 use Rattle.spec_bodies.proofs.DisruptionLaws.{found, from_found, disrupted_as}
 
@@ -33,29 +33,29 @@ not_some x e = cc
 same_asked : (x y : Asked) → Some x ≡ Some y → x ≡ y
 same_asked x y e = cc
 
-act_found : (a : PlainAct) (x : Asked) → act_asked a ≡ Some x → ActAsks a x
-act_found (uniform_load pointer answer) x e =
+operation_found : (a : PlainOperation) (x : Asked) → operation_asked a ≡ Some x → OperationAsks a x
+operation_found (uniform_load pointer answer) x e =
     let same = same_asked _ x e in
     (ap (λ (y : Asked). y.requirement) (sym same), ap (λ (y : Asked). y.expression) (sym same))
-act_found _ x e = absurd (not_some x e)
+operation_found _ x e = absurd (not_some x e)
 
 some_not : {A : Type 0} (x : A) → Some x ≡ None → ⊥
 some_not x e = cc
 
-act_none : (a : PlainAct) (x : Asked) → act_asked a ≡ None → ActAsks a x → ⊥
-act_none (uniform_load pointer answer) x e h = some_not _ e
-act_none (control_barrier barrier) x e h = h
-act_none (memory_barrier barrier) x e h = h
-act_none (store pointer value) x e h = h
-act_none (image_store image coordinate array_index value) x e h = h
-act_none (atomic pointer fun value answer) x e h = h
-act_none (image_atomic image coordinate array_index fun value) x e h = h
-act_none (ray_query query fun) x e h = h
-act_none (ballot answer predicate) x e h = h
-act_none (collective op collective_op argument answer) x e h = h
-act_none (gather mode argument answer) x e h = h
-act_none (cooperative_store target place) x e h = h
-act_none (ray_pipeline fun) x e h = h
+operation_none : (a : PlainOperation) (x : Asked) → operation_asked a ≡ None → OperationAsks a x → ⊥
+operation_none (uniform_load pointer answer) x e h = some_not _ e
+operation_none (control_barrier barrier) x e h = h
+operation_none (memory_barrier barrier) x e h = h
+operation_none (store pointer value) x e h = h
+operation_none (image_store image coordinate array_index value) x e h = h
+operation_none (atomic pointer fun value answer) x e h = h
+operation_none (image_atomic image coordinate array_index fun value) x e h = h
+operation_none (ray_query query fun) x e h = h
+operation_none (ballot answer predicate) x e h = h
+operation_none (collective op collective_op argument answer) x e h = h
+operation_none (gather mode argument answer) x e h = h
+operation_none (cooperative_store target place) x e h = h
+operation_none (ray_pipeline fun) x e h = h
 
 module _ (severity : Severity) (required : ℕ → ℕ) (varies : ℕ → Bool) (look : ℕ → ℕ → Option Asked) (is : IsLook severity required look) where
   -- asked at a place that is found to be disrupted
@@ -83,12 +83,12 @@ module _ (severity : Severity) (required : ℕ → ℕ) (varies : ℕ → Bool) 
     found_at : (s : PlainStatement) (d : Bool) (x : Asked) → asked_at varies look d s ≡ Some x → AskedBy d s x
     found_at (emit first end) d x e = let w = where_is d (look first end) x e in inl (is.found first end x w.1, w.0)
     found_at (block b) d x e = inr (inner, found_in b d x e)
-    found_at (choice h a r) d x e =
+    found_at (if_ h a r) d x e =
         ⊎_elim (λ l. inr (accepting, found_in a (d || varies h) x l)) (λ l. inr (rejecting, found_in r (d || varies h) x l)) (first_cases _ _ x e)
     found_at (switch h cases) d x e = let k = found_case cases (d || varies h) x e in inr (case_at k.0, k.1)
     found_at (loop b r o) d x e =
-        ⊎_elim (λ l. inr (turn, found_in b d x l)) (λ l. inr (continuing, found_in r (d || ends_in varies d b) x l)) (first_cases _ _ x e)
-    found_at (act a) d x e = let w = where_is d (act_asked a) x e in inl (act_found a x w.1, w.0)
+        ⊎_elim (λ l. inr (loop_body, found_in b d x l)) (λ l. inr (loop_continuing, found_in r (d || ends_in varies d b) x l)) (first_cases _ _ x e)
+    found_at (operation a) d x e = let w = where_is d (operation_asked a) x e in inl (operation_found a x w.1, w.0)
     found_at break d x e = absurd (not_some x e)
     found_at continue d x e = absurd (not_some x e)
     found_at (return value) d x e = absurd (not_some x e)
@@ -104,9 +104,9 @@ module _ (severity : Severity) (required : ℕ → ℕ) (varies : ℕ → Bool) 
 
   own_none : (s : PlainStatement) (d : Bool) (x : Asked) → asked_at varies look d s ≡ None → IsTrue d → Asks severity required s x → ⊥
   own_none (emit first end) d x e t h = is.none first end x (where_none d (look first end) e t) h
-  own_none (act a) d x e t h = act_none a x (where_none d (act_asked a) e t) h
+  own_none (operation a) d x e t h = operation_none a x (where_none d (operation_asked a) e t) h
   own_none (block b) d x e t h = h
-  own_none (choice c a r) d x e t h = h
+  own_none (if_ c a r) d x e t h = h
   own_none (switch c cases) d x e t h = h
   own_none (loop b r o) d x e t h = h
   own_none break d x e t h = h
@@ -122,11 +122,11 @@ module _ (severity : Severity) (required : ℕ → ℕ) (varies : ℕ → Bool) 
 
   part_none : (s : PlainStatement) (part : Part) (d : Bool) → asked_at varies look d s ≡ None → asked_in varies look (enter varies d s part) (part_of (shape_of s) part) ≡ None
   part_none (block b) inner d e = e
-  part_none (choice h a r) accepting d e = (none_first _ _ e).0
-  part_none (choice h a r) rejecting d e = (none_first _ _ e).1
+  part_none (if_ h a r) accepting d e = (none_first _ _ e).0
+  part_none (if_ h a r) rejecting d e = (none_first _ _ e).1
   part_none (switch h cases) (case_at k) d e = case_none cases k (d || varies h) e
-  part_none (loop b r o) turn d e = (none_first _ _ e).0
-  part_none (loop b r o) continuing d e = (none_first _ _ e).1
+  part_none (loop b r o) loop_body d e = (none_first _ _ e).0
+  part_none (loop b r o) loop_continuing d e = (none_first _ _ e).1
   part_none _ _ d e = refl
 
   none_at : (p : Place) (b : PlainBlock) (d : Bool) (s : PlainStatement) (x : Asked) → asked_in varies look d b ≡ None → StandsAt b p s → Asks severity required s x → IsTrue (disrupted_at varies d p b) → ⊥
@@ -154,14 +154,14 @@ module _ (severity : Severity) (required : ℕ → ℕ) (varies : ℕ → Bool) 
 asks_as : (severity : Severity) {required others : ℕ → ℕ} → ((h : ℕ) → required h ≡ others h) → (s : PlainStatement) (x : Asked) → Asks severity required s x → Asks severity others s x
 asks_as severity same (emit first end) x h = record { from_first = h.from_first; below_end = h.below_end; requirement = h.requirement ∙ same x.expression; counts = h.counts }
 asks_as severity same (block b) x h = h
-asks_as severity same (choice c a r) x h = h
+asks_as severity same (if_ c a r) x h = h
 asks_as severity same (switch c cases) x h = h
 asks_as severity same (loop b r o) x h = h
 asks_as severity same break x h = h
 asks_as severity same continue x h = h
 asks_as severity same (return value) x h = h
 asks_as severity same kill x h = h
-asks_as severity same (act a) x h = h
+asks_as severity same (operation a) x h = h
 asks_as severity same (call function arguments answer) x h = h
 
 pub fault_as : (flags : ValidationFlags) (severity : Severity) {required others : ℕ → ℕ} {V W : ℕ → Type 0} (b : PlainBlock) (x : Asked) → ((h : ℕ) → required h ≡ others h) → ((h : ℕ) → V h → W h)

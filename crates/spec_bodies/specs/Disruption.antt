@@ -1,7 +1,7 @@
 -- Where control flow may differ between invocations.
 use Rattle.std.specs.Prelude.{◌≡◌, ℕ, Bool, true, false, ◌||◌, IsTrue, Option, Some, None}
-use Rattle.ir_blocks.specs.Plain.{PlainStatement, emit, block, choice, switch, loop, break, continue, return, kill, act, call, PlainBlock, stop, next, PlainCases, no_case, case}
-use Rattle.ir_blocks.specs.Shapes.{Part, continuing, shape_of, part_of}
+use Rattle.ir_blocks.specs.Plain.{PlainStatement, emit, block, if_, switch, loop, break, continue, return, kill, operation, call, PlainBlock, stop, next, PlainCases, no_case, case}
+use Rattle.ir_blocks.specs.Shapes.{Part, loop_continuing, shape_of, part_of}
 use Rattle.ir_blocks.specs.Places.{Place, here, later, inside, condition, Before, StandsAt}
 use Rattle.spec_bodies.specs.Positions.{Holds, Around}
 
@@ -9,28 +9,28 @@ use Rattle.spec_bodies.specs.Positions.{Holds, Around}
 abbrev pub chosen_by : PlainStatement → Option ℕ
 chosen_by (emit first end) = None
 chosen_by (block b) = None
-chosen_by (choice h accept reject) = Some h
+chosen_by (if_ h accept reject) = Some h
 chosen_by (switch h cases) = Some h
-chosen_by (loop body again break_if) = None
+chosen_by (loop body continuing break_if) = None
 chosen_by break = None
 chosen_by continue = None
 chosen_by (return value) = None
 chosen_by kill = None
-chosen_by (act a) = None
+chosen_by (operation a) = None
 chosen_by (call function arguments result) = None
 
 -- the statement ends the function or the fragment
 abbrev pub is_end : PlainStatement → Bool
 is_end (emit first end) = false
 is_end (block b) = false
-is_end (choice h accept reject) = false
+is_end (if_ h accept reject) = false
 is_end (switch h cases) = false
-is_end (loop body again break_if) = false
+is_end (loop body continuing break_if) = false
 is_end break = false
 is_end continue = false
 is_end (return value) = true
 is_end kill = true
-is_end (act a) = false
+is_end (operation a) = false
 is_end (call function arguments result) = false
 
 -- A place is disrupted in a part of a statement that chooses by a value that varies, and after an earlier statement that
@@ -52,14 +52,14 @@ abbrev mutual
   pub ends_at : (ℕ → Bool) → Bool → PlainStatement → Bool
   ends_at varies d (emit first end) = false
   ends_at varies d (block b) = ends_in varies d b
-  ends_at varies d (choice h accept reject) = ends_in varies (d || varies h) accept || ends_in varies (d || varies h) reject
+  ends_at varies d (if_ h accept reject) = ends_in varies (d || varies h) accept || ends_in varies (d || varies h) reject
   ends_at varies d (switch h cases) = ends_in_cases varies (d || varies h) cases
-  ends_at varies d (loop body again break_if) = ends_in varies d body || ends_in varies (d || ends_in varies d body) again
+  ends_at varies d (loop body continuing break_if) = ends_in varies d body || ends_in varies (d || ends_in varies d body) continuing
   ends_at varies d break = false
   ends_at varies d continue = false
   ends_at varies d (return value) = d
   ends_at varies d kill = d
-  ends_at varies d (act a) = false
+  ends_at varies d (operation a) = false
   ends_at varies d (call function arguments result) = false
 
   pub ends_in_cases : (ℕ → Bool) → Bool → PlainCases → Bool
@@ -68,14 +68,14 @@ abbrev mutual
 
 -- whether a part of a statement is disrupted where it begins
 abbrev pub enter : (ℕ → Bool) → Bool → PlainStatement → Part → Bool
-enter varies d (choice h accept reject) part = d || varies h
+enter varies d (if_ h accept reject) part = d || varies h
 enter varies d (switch h cases) part = d || varies h
-enter varies d (loop body again break_if) continuing = d || ends_in varies d body
+enter varies d (loop body continuing break_if) loop_continuing = d || ends_in varies d body
 enter varies d s part = d
 
 -- whether a loop's condition is
 abbrev pub at_condition : (ℕ → Bool) → Bool → PlainStatement → Bool
-at_condition varies d (loop body again break_if) = d || ends_at varies d (loop body again break_if)
+at_condition varies d (loop body continuing break_if) = d || ends_at varies d (loop body continuing break_if)
 at_condition varies d s = d
 
 abbrev pub disrupted_at : (ℕ → Bool) → Bool → Place → PlainBlock → Bool

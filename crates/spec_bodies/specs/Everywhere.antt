@@ -1,6 +1,6 @@
 -- A test of statements that is made at every place of a body.
 use Rattle.std.specs.Prelude.{◌≡◌, Bool, true, ◌&&◌}
-use Rattle.ir_blocks.specs.Plain.{PlainStatement, emit, block, choice, switch, loop, break, continue, return, kill, act, call, PlainBlock, stop, next, PlainCases, no_case, case}
+use Rattle.ir_blocks.specs.Plain.{PlainStatement, emit, block, if_, switch, loop, break, continue, return, kill, operation, call, PlainBlock, stop, next, PlainCases, no_case, case}
 use Rattle.ir_blocks.specs.Places.{Place, StandsAt}
 
 -- each statement of the body passes, at whatever place it stands
@@ -17,14 +17,14 @@ abbrev mutual
   pub in_statement : (PlainStatement → Bool) → PlainStatement → Bool
   in_statement ok (emit first end) = ok (emit first end)
   in_statement ok (block b) = ok (block b) && everywhere ok b
-  in_statement ok (choice condition accept reject) = ok (choice condition accept reject) && (everywhere ok accept && everywhere ok reject)
+  in_statement ok (if_ condition accept reject) = ok (if_ condition accept reject) && (everywhere ok accept && everywhere ok reject)
   in_statement ok (switch selector cases) = ok (switch selector cases) && in_cases ok cases
-  in_statement ok (loop body again break_if) = ok (loop body again break_if) && (everywhere ok body && everywhere ok again)
+  in_statement ok (loop body continuing break_if) = ok (loop body continuing break_if) && (everywhere ok body && everywhere ok continuing)
   in_statement ok break = ok break
   in_statement ok continue = ok continue
   in_statement ok (return value) = ok (return value)
   in_statement ok kill = ok kill
-  in_statement ok (act a) = ok (act a)
+  in_statement ok (operation a) = ok (operation a)
   in_statement ok (call function arguments result) = ok (call function arguments result)
 
   pub in_cases : (PlainStatement → Bool) → PlainCases → Bool

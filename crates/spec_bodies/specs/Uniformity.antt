@@ -5,7 +5,7 @@ use Rattle.ir_flags.specs.declared.settings.ValidationFlags.{ValidationFlags}
 use Rattle.ir_flags.specs.declared.settings.TheConstants.ValidationFlags.{CONTROL_FLOW_UNIFORMITY}
 use Rattle.ir_kinds.specs.declared.diagnostics.Severity.{Severity}
 use Rattle.ir_kinds.specs.declared.diagnostics.Severity.TheVariants.{Error}
-use Rattle.ir_blocks.specs.Plain.{PlainAct, control_barrier, memory_barrier, store, image_store, atomic, image_atomic, uniform_load, ray_query, ballot, collective, gather, cooperative_store, ray_pipeline, PlainStatement, emit, block, choice, switch, loop, break, continue, return, kill, act, call, PlainBlock}
+use Rattle.ir_blocks.specs.Plain.{PlainOperation, control_barrier, memory_barrier, store, image_store, atomic, image_atomic, uniform_load, ray_query, ballot, collective, gather, cooperative_store, ray_pipeline, PlainStatement, emit, block, if_, switch, loop, break, continue, return, kill, operation, call, PlainBlock}
 use Rattle.ir_blocks.specs.Places.{Place, StandsAt}
 use Rattle.analysis_forms.specs.declared.uniformity.TheConstants.UniformityRequirements.{WORK_GROUP_BARRIER, DERIVATIVE, IMPLICIT_LEVEL, COOP_OPS}
 use Rattle.spec_bodies.specs.Disruption.{Disrupted}
@@ -22,21 +22,21 @@ pub record Asked : Type 0 where
   pub requirement : ℕ
   pub expression : ℕ
 
--- what an act asks: a uniform load waits for the workgroup
-abbrev pub ActAsks : PlainAct → Asked → Type 0
-ActAsks (control_barrier barrier) x = ⊥
-ActAsks (memory_barrier barrier) x = ⊥
-ActAsks (store pointer value) x = ⊥
-ActAsks (image_store image coordinate array_index value) x = ⊥
-ActAsks (atomic pointer fun value result) x = ⊥
-ActAsks (image_atomic image coordinate array_index fun value) x = ⊥
-ActAsks (uniform_load pointer result) x = (x.requirement ≡ WORK_GROUP_BARRIER.0) × (x.expression ≡ result)
-ActAsks (ray_query query fun) x = ⊥
-ActAsks (ballot result predicate) x = ⊥
-ActAsks (collective op collective_op argument result) x = ⊥
-ActAsks (gather mode argument result) x = ⊥
-ActAsks (cooperative_store target place) x = ⊥
-ActAsks (ray_pipeline fun) x = ⊥
+-- what an operation asks: a uniform load waits for the workgroup
+abbrev pub OperationAsks : PlainOperation → Asked → Type 0
+OperationAsks (control_barrier barrier) x = ⊥
+OperationAsks (memory_barrier barrier) x = ⊥
+OperationAsks (store pointer value) x = ⊥
+OperationAsks (image_store image coordinate array_index value) x = ⊥
+OperationAsks (atomic pointer fun value result) x = ⊥
+OperationAsks (image_atomic image coordinate array_index fun value) x = ⊥
+OperationAsks (uniform_load pointer result) x = (x.requirement ≡ WORK_GROUP_BARRIER.0) × (x.expression ≡ result)
+OperationAsks (ray_query query fun) x = ⊥
+OperationAsks (ballot result predicate) x = ⊥
+OperationAsks (collective op collective_op argument result) x = ⊥
+OperationAsks (gather mode argument result) x = ⊥
+OperationAsks (cooperative_store target place) x = ⊥
+OperationAsks (ray_pipeline fun) x = ⊥
 
 -- what an expression of a range asks, where each expression asks for what `required` says
 pub record EmitAsks (severity : Severity) (required : ℕ → ℕ) (first end : ℕ) (x : Asked) : Type 0 where
@@ -49,14 +49,14 @@ pub record EmitAsks (severity : Severity) (required : ℕ → ℕ) (first end : 
 abbrev pub Asks : Severity → (ℕ → ℕ) → PlainStatement → Asked → Type 0
 Asks severity required (emit first end) x = EmitAsks severity required first end x
 Asks severity required (block b) x = ⊥
-Asks severity required (choice h accept reject) x = ⊥
+Asks severity required (if_ h accept reject) x = ⊥
 Asks severity required (switch h cases) x = ⊥
-Asks severity required (loop body again break_if) x = ⊥
+Asks severity required (loop body continuing break_if) x = ⊥
 Asks severity required break x = ⊥
 Asks severity required continue x = ⊥
 Asks severity required (return value) x = ⊥
 Asks severity required kill x = ⊥
-Asks severity required (act a) x = ActAsks a x
+Asks severity required (operation a) x = OperationAsks a x
 Asks severity required (call function arguments result) x = ⊥
 
 -- A statement at a disrupted place of the body asks for it.

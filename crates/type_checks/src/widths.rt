@@ -13,7 +13,7 @@ use ir_flags::Capabilities;
 use ir_kinds::{Literal, Scalar, ScalarKind};
 use type_infos::{LiteralError, TypeError, WidthError};
 
-// Refuses where a capability is wanting.
+// Refuses where a capability is missing.
 fn needs_for_width(capabilities: Capabilities, needed: Capabilities) -> Result<(), WidthError>
     ensures { MatchResult result (λ _. Has capabilities.0 needed.0) (λ e. (e ≡ WidthError.MissingCapability needed) × ¬ Has capabilities.0 needed.0) }
 {
@@ -45,7 +45,7 @@ fn check_wide(
 ///
 /// # Errors
 ///
-/// The scalar is abstract, no scalar of its kind has this width, or a capability that it asks for is wanting.
+/// The scalar is abstract, no scalar of its kind has this width, or a capability that it asks for is missing.
 pub fn check_width(capabilities: Capabilities, scalar: Scalar) -> Result<(), WidthError>
     ensures { MatchResult result (λ _. ScalarOK capabilities scalar) (IsWidthFault capabilities scalar) }
 {

@@ -14,7 +14,7 @@ pub enum WidthError {
     #[error("there is no {0:?} scalar of {1} bytes")]
     Invalid(ScalarKind, Bytes),
     /// It asks for this capability.
-    #[error("the capability {0:?} is wanting")]
+    #[error("the capability {0:?} is missing")]
     MissingCapability(Capabilities),
     /// Abstract numbers stand in constants alone.
     #[error("abstract numbers have no type at run time")]
@@ -101,7 +101,7 @@ pub enum VaryingError {
         /// Its source.
         blend_src: u32,
     },
-    /// One of the two sources is wanting.
+    /// One of the two sources is missing.
     #[error("source {present_blend_src} stands without the other")]
     IncompleteBlendSrcUsage {
         /// The source that is there.
@@ -130,7 +130,7 @@ pub enum TypeError {
     #[error("{0}")]
     WidthError(WidthError),
     /// It asks for this capability.
-    #[error("the capability {0:?} is wanting")]
+    #[error("the capability {0:?} is missing")]
     MissingCapability(Capabilities),
     /// No atomic is a scalar of this kind and width.
     #[error("there is no atomic {0:?} scalar of {1} bytes")]

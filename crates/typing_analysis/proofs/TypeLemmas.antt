@@ -14,7 +14,7 @@ use Rattle.spec_analysis.specs.Values.{OperandsPrecede}
 use Rattle.spec_expressions.specs.Context.{Context}
 use Rattle.spec_expressions.specs.Typing.{typing_operands, HasTypeAmong}
 use Rattle.typing_forms.specs.declared.resolution.TypeResolution.{TypeResolution}
-use Rattle.typing_resolve.specs.Answers.{form_given}
+use Rattle.typing_operands.specs.Answers.{form_given}
 use Rattle.typing_analysis.specs.Types.{TypedSoFar, AreTypes, OperandsBelow, IsUntyped}
 use Rattle.typing_analysis.specs.declared.summary.SummaryError.{SummaryError}
 

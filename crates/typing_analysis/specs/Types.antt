@@ -7,7 +7,7 @@ use Rattle.spec_expressions.specs.Typing.{typing_operands, HasTypeAmong}
 use Rattle.overload_tables.specs.Laws.{IsAmong}
 use Rattle.spec_analysis.specs.Summaries.{Summary, IsFormFault}
 use Rattle.typing_forms.specs.declared.resolution.TypeResolution.{TypeResolution}
-use Rattle.typing_resolve.specs.Answers.{form_given, fault_of, TellsFault}
+use Rattle.typing_operands.specs.Answers.{form_given, fault_of, TellsFault}
 use Rattle.typing_analysis.specs.declared.summary.SummaryError.{SummaryError}
 use Rattle.typing_analysis.specs.declared.summary.SummaryError.TheVariants.{Memory, Untyped, WrongForm}
 

@@ -22,7 +22,8 @@ use ir_items::{Function, Module};
 use ir_types::key;
 use std::alloc::{AllocError, Global};
 use typing_forms::TypeResolution;
-use typing_resolve::{ResolveContext, ResolveError};
+use typing_operands::ResolveError;
+use typing_resolve::ResolveContext;
 
 /// Why a function has no summary.
 #[derive(Drop)]

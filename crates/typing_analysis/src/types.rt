@@ -5,7 +5,7 @@ ghost use Rattle.ir_expressions.specs.Plain.{PlainExpression, expression_view};
 ghost use Rattle.ir_globals.specs.View.{values_of};
 ghost use Rattle.spec_analysis.specs.Values.{OperandsPrecede};
 ghost use Rattle.spec_expressions.specs.Context.{Context, NamesItem};
-ghost use Rattle.typing_resolve.specs.Answers.{IsAnswer};
+ghost use Rattle.typing_operands.specs.Answers.{IsAnswer};
 ghost use Rattle.typing_analysis.specs.Types.{ItemsNamed, AreTypes, IsUntyped, OperandsBelow, Decided};
 ghost use Rattle.typing_resolve.specs.View.{context_view};
 
@@ -16,7 +16,8 @@ use ir_expressions::Expression;
 use ir_types::{TypeInner, key};
 use std::alloc::{AllocError, Global};
 use typing_forms::TypeResolution;
-use typing_resolve::{ResolveContext, ResolveRefusal};
+use typing_operands::ResolveRefusal;
+use typing_resolve::ResolveContext;
 
 // The type of an operand, or another one where it does not come before.
 fn found_at<'a>(

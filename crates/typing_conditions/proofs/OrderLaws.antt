@@ -2,7 +2,7 @@
 use Rattle.std.proofs.Common.{◌≡◌, ℕ, ◌<◌, ◌&&◌, List, length, Bool, true, false, Option, Some, None, option_and_then, refl, sym, ap, ◌∙◌, subst, slice_get}
 use Rattle.std.specs.List.{list_all}
 use borrow.Author.Tests.{eqb-true, eq-eqb}
-use Rattle.ir_blocks.specs.Plain.{PlainStatement, emit, block, choice, switch, loop, break, continue, return, kill, act, call}
+use Rattle.ir_blocks.specs.Plain.{PlainStatement, emit, block, if_, switch, loop, break, continue, return, kill, operation, call}
 use Rattle.ir_blocks.specs.Places.{Place, statement, StandsAt}
 use Rattle.ir_expressions.specs.Plain.{PlainExpression}
 use Rattle.ir_items.specs.Plain.{PlainFunction, PlainModule}
@@ -66,14 +66,14 @@ module _ (m : PlainModule) (f : PlainFunction) where
   own_arity : (s : PlainStatement) → ((callee : ℕ) (arguments : List ℕ) (result : Option ℕ) → s ≡ call callee arguments result → Takes (slice_get m.functions callee) (length arguments)) → statement_arity m s ≡ true
   own_arity (emit first end) h = refl
   own_arity (block b) h = refl
-  own_arity (choice condition accept reject) h = refl
+  own_arity (if_ condition accept reject) h = refl
   own_arity (switch selector cases) h = refl
-  own_arity (loop body again break_if) h = refl
+  own_arity (loop body continuing break_if) h = refl
   own_arity break h = refl
   own_arity continue h = refl
   own_arity (return value) h = refl
   own_arity kill h = refl
-  own_arity (act a) h = refl
+  own_arity (operation a) h = refl
   own_arity (call callee arguments answer) h = takes_as_many (slice_get m.functions callee) (length arguments) (h callee arguments answer refl)
 
   pub of_arities : AritiesMatch m f → everywhere (statement_arity m) f.body ≡ true

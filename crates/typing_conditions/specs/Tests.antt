@@ -1,7 +1,7 @@
 -- Tests of the handles of functions, found step by step; `spec_handles` says what they mean.
 use Rattle.std.specs.Prelude.{ℕ, List, length, Bool, true, false, ◌&&◌, nat_lt, nat_le, Option, Some, None, option_map, option_and_then, slice_get, ◌==◌}
 use Rattle.std.specs.List.{list_all}
-use Rattle.ir_blocks.specs.Plain.{PlainStatement, emit, block, choice, switch, loop, break, continue, return, kill, act, call}
+use Rattle.ir_blocks.specs.Plain.{PlainStatement, emit, block, if_, switch, loop, break, continue, return, kill, operation, call}
 use Rattle.ir_expressions.specs.Plain.{PlainExpression}
 use Rattle.ir_items.specs.Plain.{PlainArgument, PlainLocal, PlainFunction, PlainModule}
 use Rattle.ir_items.specs.declared.functions.FunctionResult.{FunctionResult}
@@ -97,12 +97,12 @@ takes (Some f) count = length f.arguments == count
 abbrev pub statement_arity : PlainModule → PlainStatement → Bool
 statement_arity m (emit first end) = true
 statement_arity m (block b) = true
-statement_arity m (choice condition accept reject) = true
+statement_arity m (if_ condition accept reject) = true
 statement_arity m (switch selector cases) = true
 statement_arity m (loop body continuing break_if) = true
 statement_arity m break = true
 statement_arity m continue = true
 statement_arity m (return value) = true
 statement_arity m kill = true
-statement_arity m (act a) = true
+statement_arity m (operation a) = true
 statement_arity m (call function arguments result) = takes (slice_get m.functions function) (length arguments)

@@ -177,10 +177,10 @@ fn seen_at(
             continuing,
             ..
         } => {
-            let turn = seen_in(facts, disruptor, body);
-            let after = either(disruptor, &turn.end);
+            let loop_body = seen_in(facts, disruptor, body);
+            let after = either(disruptor, &loop_body.end);
             let again = seen_in(facts, &after, continuing);
-            both(&turn, &again)
+            both(&loop_body, &again)
         }
         Statement::Return { .. } => ended(disruptor, UniformityDisruptor::Return),
         Statement::Kill => ended(disruptor, UniformityDisruptor::Discard),

@@ -1,7 +1,7 @@
 use Rattle.std.proofs.Common.{rules}
 use Rattle.std.specs.Prelude.{slice_index_or}
 use Rattle.ir_expressions.specs.Plain.{expression_view}
-use Rattle.typing_resolve.specs.Answers.{form_given}
+use Rattle.typing_operands.specs.Answers.{form_given}
 use Rattle.typing_resolve.specs.View.{context_view}
 use Rattle.typing_analysis.proofs.TypeLemmas.{operands_typed}
 use Rattle.typing_analysis.proofs.types.type_behind.Goals as goal
