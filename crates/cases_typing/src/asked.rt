@@ -3,7 +3,6 @@ use crate::conditions::{Test, tests_told};
 use crate::constness::{kinds_told, tracked};
 use crate::infos::{Told, infos_told};
 use crate::layouts::{laid, layouts_told};
-use crate::summaries::summaries_told;
 use crate::types::{typed, types_told};
 use document_reader::Document;
 use std::alloc::{AllocError, Global};
@@ -12,9 +11,6 @@ use std::alloc::{AllocError, Global};
 /// they lay out all types, find all kinds or all types of expressions, or do nothing, and are answered by themselves.
 pub fn answer(alloc: Global, asked: &str, document: &Document) -> Result<String, AllocError> {
     let module = &document.module;
-    if let Some(letters) = asked.strip_prefix("summaries ") {
-        return summaries_told(alloc, module, letters.as_bytes());
-    }
     match asked {
         "layouts" => layouts_told(alloc, &module.types),
         "constness" => kinds_told(alloc, module),

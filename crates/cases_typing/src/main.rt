@@ -1,9 +1,9 @@
 // Asks what the files of data/ ask of modules: layouts, kinds of expressions, their types, tests of handles, what types may be
-// used for and why they are refused, summaries of functions. Tells which answers are others than those that stand there.
+// used for and why they are refused. Tells which answers are others than those that stand there.
 //
 // A line of a data file is a list of four texts: the case's name, what is asked, a document, and the answer. `make_data.py`,
-// `make_types.py`, `make_tests.py`, `make_infos.py` and `make_summaries.py` write these files. The answers come from two
-// implementations that were written independently of this one. Beside that it makes each call of layouts and of kinds once.
+// `make_types.py`, `make_tests.py` and `make_infos.py` write these files. The answers come from two implementations that were
+// written independently of this one. Beside that it makes each call of layouts and of kinds once.
 #![tactic(auto)]
 
 mod asked;
@@ -13,7 +13,6 @@ mod conditions;
 mod constness;
 mod infos;
 mod layouts;
-mod summaries;
 mod types;
 
 use anyhow::{Context, Result, ensure};
@@ -23,13 +22,12 @@ use serde_json::Value;
 use std::fs;
 
 /// The files of cases.
-const FILES: [&str; 6] = [
+const FILES: [&str; 5] = [
     "layouts.jsonl",
     "constness.jsonl",
     "types.jsonl",
     "tests.jsonl",
     "infos.jsonl",
-    "summaries.jsonl",
 ];
 
 // Asks what a line asks. Answers whether the answer is another one.
