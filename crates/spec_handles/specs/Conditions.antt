@@ -1,7 +1,7 @@
 -- When the handles of a function are in order. That filters come after their parents is `ParentsPrecede` of `ir_walks`.
 use Rattle.std.specs.Prelude.{◌≡◌, ℕ, ◌<◌, List, length, Option, Some, All, slice_get}
 use Rattle.ir_blocks.specs.Places.{Place, StandsAt}
-use Rattle.ir_blocks.specs.Plain.{PlainStatement, call}
+use Rattle.ir_blocks.specs.Plain.{call}
 use Rattle.ir_expressions.specs.Plain.{PlainExpression}
 use Rattle.ir_items.specs.Plain.{PlainFunction, PlainModule}
 use Rattle.spec_handles.specs.Expressions.{expression_operands}

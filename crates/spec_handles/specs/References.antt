@@ -1,5 +1,5 @@
 -- The references of a function: which part of it names what, and when what is named is there.
-use Rattle.std.specs.Prelude.{◌≡◌, ℕ, ◌<◌, ◌≤◌, List, length, Option, Some, Contains, slice_get}
+use Rattle.std.specs.Prelude.{◌≡◌, ℕ, ◌<◌, ◌≤◌, length, Some, Contains, slice_get}
 use Rattle.ir_blocks.specs.Places.{Place, StandsAt}
 use Rattle.ir_blocks.specs.Plain.{PlainStatement}
 use Rattle.ir_expressions.specs.Plain.{PlainExpression}

@@ -1,14 +1,14 @@
 //! Whether calls pass as many arguments as their functions have.
 
-ghost use Rattle.std.specs.Prelude.{◌≡◌, ◌↔◌, IsTrue, map, length, option_map, slice_get};
+ghost use Rattle.std.specs.Prelude.{◌≡◌, ◌↔◌, IsTrue, length, option_map, slice_get};
 ghost use Rattle.ir_items.specs.View.{function_view, module_view};
-ghost use Rattle.spec_bodies.specs.Everywhere.{everywhere};
+ghost use Rattle.ir_references.specs.First.{first_in};
 ghost use Rattle.spec_handles.specs.Conditions.{AritiesMatch};
-ghost use Rattle.typing_conditions.specs.Tests.{takes, statement_arity};
+ghost use Rattle.typing_conditions.specs.Tests.{takes, wrong_arity};
 
-use crate::walk::{StatementTest, everywhere};
 use ir_arena::handle::Handle;
 use ir_items::{Function, Module, Statement, key};
+use ir_references::{StatementLook, first_in};
 
 // The function at a handle, if it is there.
 #[tactic(auto, using(crate::proofs::Entries::entries))]
@@ -31,25 +31,29 @@ fn takes(module: &Module, function: Handle<key::Function>, count: usize) -> bool
     }
 }
 
-// Calls must pass as many arguments as their functions have.
+// Calls that don't pass as many arguments as their functions have.
 #[derive(Drop)]
 struct Arity<'a> {
     module: &'a Module,
 }
 
-impl StatementTest for Arity<'_> {
+impl StatementLook<()> for Arity<'_> {
     ghost use Rattle.ir_items.specs.View.{module_view};
-    ghost use Rattle.typing_conditions.specs.Tests.{statement_arity};
+    ghost use Rattle.typing_conditions.specs.Tests.{wrong_arity};
 
-    ghost test = { λ t s. statement_arity (module_view t.«module».now) s };
+    ghost look = { λ t s. wrong_arity (module_view t.«module».now) s };
 
-    fn test(&self, statement: &Statement) -> bool {
+    fn look(&self, statement: &Statement) -> Option<()> {
         match statement {
             Statement::Call {
                 function,
                 arguments,
                 ..
-            } => takes(self.module, *function, arguments.len()),
+            } => if takes(self.module, *function, arguments.len()) {
+                None
+            } else {
+                Some(())
+            },
             Statement::Emit(_)
             | Statement::Block(_)
             | Statement::If { .. }
@@ -71,21 +75,24 @@ impl StatementTest for Arity<'_> {
             | Statement::SubgroupCollectiveOperation { .. }
             | Statement::SubgroupGather { .. }
             | Statement::CooperativeStore { .. }
-            | Statement::RayPipelineFunction(_) => true,
+            | Statement::RayPipelineFunction(_) => None,
         }
     }
 }
 
-fn every_arity(function: &Function, module: &Module) -> bool
-    ensures { result ≡ everywhere (statement_arity (module_view «module».now)) ((function_view function.now).body) }
+fn find_wrong_arity(function: &Function, module: &Module) -> Option<()>
+    ensures { result ≡ first_in (wrong_arity (module_view «module».now)) ((function_view function.now).body) }
 {
     let arity = Arity { module };
-    everywhere(&arity, &function.body)
+    first_in(&arity, &function.body)
 }
 
 /// Whether each function that a call of the function names is there and has as many arguments as are passed.
 pub fn arities_match(function: &Function, module: &Module) -> bool
     ensures { IsTrue result ↔ AritiesMatch (module_view «module».now) (function_view function.now) }
 {
-    every_arity(function, module)
+    match find_wrong_arity(function, module) {
+        Some(()) => false,
+        None => true,
+    }
 }

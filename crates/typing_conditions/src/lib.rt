@@ -4,16 +4,11 @@
 #![tactic(auto)]
 
 mod arities;
-mod bounds;
 mod callees;
 mod filters;
 pub mod laws;
-mod lists;
-mod named;
 mod precede;
 mod range;
-mod statements;
-mod walk;
 
 pub use arities::arities_match;
 pub use callees::callees_precede;

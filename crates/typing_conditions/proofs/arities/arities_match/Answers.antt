@@ -1,10 +1,10 @@
-use Rattle.std.proofs.Common.{sym, ◌∙◌}
+use Rattle.std.proofs.Common.{sym, ◌∙◌, refl}
 use Rattle.ir_items.specs.View.{function_view, module_view}
-use Rattle.typing_conditions.proofs.OrderLaws.{arities, of_arities}
+use Rattle.typing_conditions.proofs.OrderLaws.{arities, wrong_refutes}
 use Rattle.typing_conditions.proofs.arities.arities_match.Goals as goal
 
-pub returns : goal.returns
-returns c =
-    let m = module_view c.args.«module».now in
-    let f = function_view c.args.function.now in
-    ((λ e. arities m f (sym c.every_arity.ensures ∙ e)), (λ h. c.every_arity.ensures ∙ of_arities m f h))
+pub returns-in-Some : goal.returns-in-Some
+returns-in-Some c = ((λ e. cc), (λ ok. absurd (wrong_refutes (module_view c.args.«module».now) (function_view c.args.function.now) _ (sym c.find_wrong_arity.ensures ∙ c.in-Some.is) ok)))
+
+pub returns-in-None : goal.returns-in-None
+returns-in-None c = ((λ e. arities (module_view c.args.«module».now) (function_view c.args.function.now) (sym c.find_wrong_arity.ensures ∙ c.in-None.is)), (λ ok. refl))

@@ -1,0 +1,21 @@
+//! What expressions and statements name, found: items, operands that do not come before an end, ranges and callees; the
+//! first of what is looked for in the statements of a body; and what is wrong with the handles of a function.
+//! `spec_handles` has what each kind names, and what is asked of it.
+#![tactic(auto)]
+
+mod bounds;
+mod expressions;
+mod fault;
+mod functions;
+mod lists;
+mod order;
+mod statements;
+mod walk;
+
+pub use bounds::{Bounds, absent};
+pub use expressions::{item_of, operand_past};
+pub use fault::HandleFault;
+pub use functions::{expression_missing, missing_in_function};
+pub use order::{forward_callee, forward_operand, forward_parent};
+pub use statements::{callee_of, range_of, result_of, statement_operand_past};
+pub use walk::{StatementLook, first_in};
