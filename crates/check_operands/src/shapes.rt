@@ -1,0 +1,246 @@
+//! What a type is made of.
+
+ghost use Rattle.std.specs.Prelude.{◌≡◌, ◌↔◌, IsTrue};
+ghost use Rattle.spec_checks.specs.Shapes.{IsInteger, IsFloating, IsTruth, IsNumeric, IsIntegerScalar, shaped_of, form_of_shape, picture_of, sampler_of, pointee_of};
+
+use ir_arena::handle::Handle;
+use ir_kinds::{Scalar, ScalarKind};
+use ir_types::key;
+use spec_checks::{Picture, Shape, Shaped};
+use typing_forms::Form;
+
+/// Whether a kind of scalar is one of integers.
+pub const fn is_integer(kind: ScalarKind) -> bool
+    ensures { IsTrue result ↔ IsInteger kind }
+{
+    match kind {
+        ScalarKind::Sint | ScalarKind::Uint => true,
+        ScalarKind::Float
+        | ScalarKind::Bool
+        | ScalarKind::AbstractInt
+        | ScalarKind::AbstractFloat => false,
+    }
+}
+
+/// Whether a kind of scalar is one of floats that are not abstract.
+pub const fn is_floating(kind: ScalarKind) -> bool
+    ensures { IsTrue result ↔ IsFloating kind }
+{
+    match kind {
+        ScalarKind::Float => true,
+        ScalarKind::Sint
+        | ScalarKind::Uint
+        | ScalarKind::Bool
+        | ScalarKind::AbstractInt
+        | ScalarKind::AbstractFloat => false,
+    }
+}
+
+/// Whether a kind of scalar is that of truth values.
+pub const fn is_truth(kind: ScalarKind) -> bool
+    ensures { IsTrue result ↔ IsTruth kind }
+{
+    match kind {
+        ScalarKind::Bool => true,
+        ScalarKind::Sint
+        | ScalarKind::Uint
+        | ScalarKind::Float
+        | ScalarKind::AbstractInt
+        | ScalarKind::AbstractFloat => false,
+    }
+}
+
+/// Whether a kind of scalar is one of numbers.
+pub const fn is_numeric(kind: ScalarKind) -> bool
+    ensures { IsTrue result ↔ IsNumeric kind }
+{
+    match kind {
+        ScalarKind::Bool => false,
+        ScalarKind::Sint
+        | ScalarKind::Uint
+        | ScalarKind::Float
+        | ScalarKind::AbstractInt
+        | ScalarKind::AbstractFloat => true,
+    }
+}
+
+/// The shape and the scalar of a scalar, a vector or a matrix.
+pub const fn shaped_of(of: Form) -> Option<Shaped>
+    ensures { result ≡ shaped_of of }
+{
+    match of {
+        Form::Scalar(scalar) => Some(Shaped {
+            shape: Shape::One,
+            scalar,
+        }),
+        Form::Vector { size, scalar } => Some(Shaped {
+            shape: Shape::Row(size),
+            scalar,
+        }),
+        Form::Matrix {
+            columns,
+            rows,
+            scalar,
+        } => Some(Shaped {
+            shape: Shape::Grid { columns, rows },
+            scalar,
+        }),
+        Form::CooperativeMatrix {
+            columns,
+            rows,
+            scalar,
+            role,
+        } => Some(Shaped {
+            shape: Shape::Shared {
+                columns,
+                rows,
+                role,
+            },
+            scalar,
+        }),
+        Form::Atomic(_)
+        | Form::Pointer { .. }
+        | Form::ValuePointer { .. }
+        | Form::Array { .. }
+        | Form::Struct(_)
+        | Form::Image { .. }
+        | Form::Sampler { .. }
+        | Form::AccelerationStructure { .. }
+        | Form::RayQuery { .. }
+        | Form::BindingArray { .. }
+        | Form::Nothing => None,
+    }
+}
+
+/// The type of a shape and a scalar.
+pub const fn form_of_shape(shape: Shape, scalar: Scalar) -> Form
+    ensures { result ≡ form_of_shape shape scalar }
+{
+    match shape {
+        Shape::One => Form::Scalar(scalar),
+        Shape::Row(size) => Form::Vector { size, scalar },
+        Shape::Grid { columns, rows } => Form::Matrix {
+            columns,
+            rows,
+            scalar,
+        },
+        Shape::Shared {
+            columns,
+            rows,
+            role,
+        } => Form::CooperativeMatrix {
+            columns,
+            rows,
+            scalar,
+            role,
+        },
+    }
+}
+
+/// The image that a type is.
+pub const fn picture_of(of: Form) -> Option<Picture>
+    ensures { result ≡ picture_of of }
+{
+    match of {
+        Form::Image {
+            dim,
+            arrayed,
+            class,
+        } => Some(Picture {
+            dim,
+            arrayed,
+            class,
+        }),
+        Form::Scalar(_)
+        | Form::Vector { .. }
+        | Form::Matrix { .. }
+        | Form::CooperativeMatrix { .. }
+        | Form::Atomic(_)
+        | Form::Pointer { .. }
+        | Form::ValuePointer { .. }
+        | Form::Array { .. }
+        | Form::Struct(_)
+        | Form::Sampler { .. }
+        | Form::AccelerationStructure { .. }
+        | Form::RayQuery { .. }
+        | Form::BindingArray { .. }
+        | Form::Nothing => None,
+    }
+}
+
+/// Whether the sampler that a type is compares.
+pub const fn sampler_of(of: Form) -> Option<bool>
+    ensures { result ≡ sampler_of of }
+{
+    match of {
+        Form::Sampler { comparison } => Some(comparison),
+        Form::Scalar(_)
+        | Form::Vector { .. }
+        | Form::Matrix { .. }
+        | Form::CooperativeMatrix { .. }
+        | Form::Atomic(_)
+        | Form::Pointer { .. }
+        | Form::ValuePointer { .. }
+        | Form::Array { .. }
+        | Form::Struct(_)
+        | Form::Image { .. }
+        | Form::AccelerationStructure { .. }
+        | Form::RayQuery { .. }
+        | Form::BindingArray { .. }
+        | Form::Nothing => None,
+    }
+}
+
+/// The type that a pointer leads to, where it is neither a scalar nor a vector.
+pub const fn pointee_of(of: Form) -> Option<Handle<key::IrType>>
+    ensures { result ≡ pointee_of of }
+{
+    match of {
+        Form::Pointer { base, .. } => Some(base),
+        Form::Scalar(_)
+        | Form::Vector { .. }
+        | Form::Matrix { .. }
+        | Form::CooperativeMatrix { .. }
+        | Form::Atomic(_)
+        | Form::ValuePointer { .. }
+        | Form::Array { .. }
+        | Form::Struct(_)
+        | Form::Image { .. }
+        | Form::Sampler { .. }
+        | Form::AccelerationStructure { .. }
+        | Form::RayQuery { .. }
+        | Form::BindingArray { .. }
+        | Form::Nothing => None,
+    }
+}
+
+/// Whether a type is that of an integer alone.
+pub const fn is_integer_scalar(of: Form) -> bool
+    ensures { IsTrue result ↔ IsIntegerScalar of }
+{
+    match of {
+        Form::Scalar(scalar) => is_integer(scalar.kind),
+        Form::Vector { .. }
+        | Form::Matrix { .. }
+        | Form::CooperativeMatrix { .. }
+        | Form::Atomic(_)
+        | Form::Pointer { .. }
+        | Form::ValuePointer { .. }
+        | Form::Array { .. }
+        | Form::Struct(_)
+        | Form::Image { .. }
+        | Form::Sampler { .. }
+        | Form::AccelerationStructure { .. }
+        | Form::RayQuery { .. }
+        | Form::BindingArray { .. }
+        | Form::Nothing => false,
+    }
+}
+
+/// Whether two types are the same.
+#[tactic(auto, using(typing_forms::proofs::FormEquality::form_eq))]
+pub fn are_same(left: Form, right: Form) -> bool
+    ensures { IsTrue result ↔ (left ≡ right) }
+{
+    left == right
+}

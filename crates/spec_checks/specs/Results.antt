@@ -1,0 +1,43 @@
+-- What statements may answer.
+use Rattle.std.specs.Prelude.{◌≡◌, ℕ, List, [], ◌∷◌, Option, Some, None, Bool, true, false, IsSomeAnd, codes}
+use Rattle.ir_flags.specs.declared.settings.Capabilities.{Capabilities}
+use Rattle.ir_types.specs.Plain.{PlainInner, PlainMember, struct, plain, PlainType}
+use Rattle.spec_flags.specs.Flags.{HasFlag, Sized, Constructible}
+use Rattle.spec_flags.specs.Widths.{AtomicOK}
+use Rattle.spec_types.specs.View.{type_tree}
+use Rattle.typing_forms.specs.Forms.{form_of_type}
+use Rattle.typing_forms.specs.Resolutions.{inner_at}
+use Rattle.typing_forms.specs.declared.form.Form.{Form}
+use Rattle.spec_checks.specs.Shapes.{shaped_of, IsAlone, IsTruth, IsMadeOf}
+
+-- a scalar that atomics have
+abbrev pub IsAtomicValue : Capabilities → Form → Type 0
+IsAtomicValue capabilities t = IsSomeAnd (shaped_of t) (λ x. IsAlone x.shape × AtomicOK capabilities x.scalar)
+
+-- the value that was there, and whether it was exchanged
+pub record AreExchanged (capabilities : Capabilities) (types : List PlainType) (old exchanged : PlainMember) : Type 0 where
+  pub old_name : old.name ≡ Some (codes "old_value")
+  pub old_type : IsAtomicValue capabilities (form_of_type types old.ty)
+  pub exchanged_name : exchanged.name ≡ Some (codes "exchanged")
+  pub exchanged_type : IsMadeOf IsAlone IsTruth (form_of_type types exchanged.ty)
+
+abbrev pub AreExchangeMembers : Capabilities → List PlainType → List PlainMember → Type 0
+AreExchangeMembers capabilities types [] = ⊥
+AreExchangeMembers capabilities types (old ∷ []) = ⊥
+AreExchangeMembers capabilities types (old ∷ exchanged ∷ []) = AreExchanged capabilities types old exchanged
+AreExchangeMembers capabilities types (old ∷ exchanged ∷ more ∷ rest) = ⊥
+
+-- a struct of exactly these members
+abbrev pub IsExchange : Capabilities → List PlainType → Option PlainInner → Type 0
+IsExchange capabilities types (Some (struct members span)) = AreExchangeMembers capabilities types members
+IsExchange capabilities types (Some (plain i)) = ⊥
+IsExchange capabilities types None = ⊥
+
+-- an atomic operation answers a scalar, and an exchange that compares a struct of it
+abbrev pub AtomicResultOK : Capabilities → List PlainType → (type : ℕ) → (comparison : Bool) → Type 0
+AtomicResultOK capabilities types type false = IsAtomicValue capabilities (form_of_type types type)
+AtomicResultOK capabilities types type true = IsExchange capabilities types (inner_at types type)
+
+-- values of a size that is known, which can be composed
+abbrev pub UniformLoadOK : List PlainType → (type : ℕ) → Type 0
+UniformLoadOK types type = HasFlag Sized (type_tree types type) × HasFlag Constructible (type_tree types type)
