@@ -1,0 +1,4 @@
+pub mod Compositions
+pub mod Expressions
+pub mod Items
+pub mod Literals

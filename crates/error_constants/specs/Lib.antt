@@ -1,0 +1,5 @@
+pub mod Compositions
+pub mod Constants
+pub mod Expressions
+pub mod Laws
+pub mod Overrides

@@ -1,0 +1,2 @@
+pub mod Capable
+pub mod Resolved
