@@ -1,12 +1,12 @@
 //! What is kept of a function.
 
-ghost use Rattle.std.specs.Prelude.{◌≡◌, ◌<◌, ◌↔◌, ℕ, Some, IsTrue, false, length, slice_get, slice_index, bit_and, bit_or};
-ghost use Rattle.std.specs.List.{flat_map};
+ghost use Rattle.std.specs.Prelude.{◌≡◌, ◌<◌, ◌⊎◌, ◌↔◌, ◌||◌, ℕ, Some, All, IsTrue, false, length, slice_get, bit_and};
 ghost use Rattle.bitflags.specs.Sets.{known_bits};
 ghost use Rattle.ir_flags.specs.Words.{shader_stages};
-ghost use Rattle.analysis_forms.specs.declared.global_use.GlobalUse.{GlobalUse};
-ghost use Rattle.analysis_info.specs.Infos.{summary_of, key_of, with_uses};
+ghost use Rattle.analysis_info.specs.Infos.{summary_of, NotesUse, Dominates};
+ghost use Rattle.spec_analysis.specs.Summaries.{HasUseBit};
 
+use crate::uses::{dominates, mark_all};
 use analysis_forms::{ExpressionInfo, GlobalUse, SamplingKey, SamplingPair};
 use bitflags::Flags;
 use indexmap::IndexSet;
@@ -103,6 +103,37 @@ impl FunctionInfo {
         ensures { result.now ≡ (summary_of self.now).pairs }
     {
         self.sampling.as_slice()
+    }
+
+    /// Notes what more is known of the function: the stages in which what it does may stand, further uses of global variables,
+    /// and, where `dual_source_blending` says so, that its result is one with two blend sources. Its stages are then those
+    /// that it had and that are among these. Asks that the module has the global variables. It takes no memory.
+    pub fn note(
+        &mut self,
+        stages: ShaderStages,
+        uses: &[(Handle<key::GlobalVariable>, GlobalUse)],
+        dual_source_blending: bool,
+    )
+        requires { All (λ u. u.0 < length self.old.uses.items) uses.now }
+        ensures stages { self.new.available_stages.0 ≡ bit_and self.old.available_stages.0 stages.0 }
+        ensures uses { (g k : ℕ) → HasUseBit self.new.uses.items g k ↔ (HasUseBit self.old.uses.items g k ⊎ NotesUse uses.now g k) }
+        ensures globals { length self.new.uses.items ≡ length self.old.uses.items }
+        ensures blending { self.new.dual_source_blending ≡ (self.old.dual_source_blending || dual_source_blending) }
+        ensures may_kill { self.new.may_kill ≡ self.old.may_kill }
+        ensures sampling_set { self.new.sampling_set ≡ self.old.sampling_set }
+        ensures expressions { self.new.expressions ≡ self.old.expressions }
+        ensures sampling { self.new.sampling ≡ self.old.sampling }
+    {
+        self.available_stages = self.available_stages.intersection(stages);
+        self.dual_source_blending = self.dual_source_blending || dual_source_blending;
+        mark_all(&mut self.uses, uses);
+    }
+
+    /// Whether each global variable's use includes the other function's (naga's `FunctionInfo::dominates_global_use`).
+    pub fn dominates_global_use(&self, other: &FunctionInfo) -> bool
+        ensures { IsTrue result ↔ Dominates self.now.uses.items other.now.uses.items }
+    {
+        dominates(&self.uses, &other.uses)
     }
 }
 

@@ -2,5 +2,7 @@
 #![tactic(auto)]
 
 mod function_info;
+mod uses;
 
 pub use function_info::{FunctionInfo, FunctionParts};
+pub use uses::mark_at;

@@ -11,29 +11,13 @@ use Rattle.spec_analysis.specs.Operands.{Operand}
 use Rattle.spec_analysis.specs.Effects.{Effect, takes, samples, runs, discards}
 use Rattle.spec_analysis.specs.Values.{known_at}
 use Rattle.spec_analysis.specs.Summaries.{Summary, no_use, HasUseBit, HasBit}
-use Rattle.analysis_tally.specs.Tallies.{Known, Tallied, Counted, joined_use, marked, merged_from, merged, take_one, pair_one, pass_all_up, join_summary}
+use Rattle.analysis_info.specs.Infos.{marked}
+use Rattle.analysis_info.proofs.UseBits.{or_bits, zero_has_none, marked_length, one_use}
+use Rattle.analysis_tally.specs.Tallies.{Known, Tallied, Counted, merged_from, merged, take_one, pair_one, pass_all_up, join_summary}
 use Rattle.analysis_tally.proofs.Effects.{do_one, do_all}
 
 some_is : {X : Type 0} {x y : X} → Some x ≡ Some y → x ≡ y
 some_is e = cc (e)
-
-max_one : (a b : ℕ) → a < 2 → b < 2 → max a b ≡ 1 → (a ≡ 1) ⊎ (b ≡ 1)
-max_one a b x y e = ⊎_elim (λ (l : a < 1). inr (omega arith)) (λ (l : 1 ≤ a). inl (omega arith)) (cases_lt a 1)
-
-max_left : (a b : ℕ) → a < 2 → b < 2 → a ≡ 1 → max a b ≡ 1
-max_left a b x y e = omega arith
-
-max_right : (a b : ℕ) → a < 2 → b < 2 → b ≡ 1 → max a b ≡ 1
-max_right a b x y e = omega arith
-
-pub or_bits : (a b k : ℕ) → (bit_at (bit_or a b) k ≡ 1) ↔ ((bit_at a k ≡ 1) ⊎ (bit_at b k ≡ 1))
-or_bits a b k = (
-  λ e. max_one (bit_at a k) (bit_at b k) (bit_at-lt a k) (bit_at-lt b k) (sym (bit_at_or a b k) ∙ e),
-  λ s. bit_at_or a b k ∙ ⊎_elim (max_left (bit_at a k) (bit_at b k) (bit_at-lt a k) (bit_at-lt b k)) (max_right (bit_at a k) (bit_at b k) (bit_at-lt a k) (bit_at-lt b k)) s,
-)
-
-pub zero_has_none : (k : ℕ) → bit_at 0 k ≡ 1 → ⊥
-zero_has_none k e = let z : 0 ≡ 1 = sym (bit_at-zero k) ∙ e in omega (arith, z)
 
 -- a number is 0 or has a bit
 some_bit_by : (fuel n : ℕ) → n ≤ fuel → (n ≡ 0) ⊎ ((j : ℕ) × (bit_at n j ≡ 1))
@@ -49,36 +33,6 @@ some_bit_by (suc fuel) n le =
 
 pub some_bit : (n : ℕ) → (n ≡ 0) ⊎ ((j : ℕ) × (bit_at n j ≡ 1))
 some_bit n = some_bit_by n n (omega arith)
-
--- ---- one use more
-
-pub marked_length : (uses : List GlobalUse) (at : Option ℕ) (kind : ℕ) → length (marked uses at kind) ≡ length uses
-marked_length uses None kind = refl
-marked_length uses (Some g) kind = length-set uses g _
-
-pub marked_same : (uses : List GlobalUse) (g kind : ℕ) → g < length uses → slice_index_or (marked uses (Some g) kind) g no_use ≡ joined_use (slice_index_or uses g no_use) kind
-marked_same uses g kind lt = get_or-set_same uses g (joined_use (slice_index_or uses g no_use) kind) no_use lt
-
-pub marked_other : (uses : List GlobalUse) (h g kind : ℕ) → h ≢ g → slice_index_or (marked uses (Some h) kind) g no_use ≡ slice_index_or uses g no_use
-marked_other uses h g kind not = get_or-set_other uses h g (joined_use (slice_index_or uses h no_use) kind) no_use (λ q. not (sym q))
-
-pub one_use : (uses : List GlobalUse) (at : Option ℕ) (kind g k : ℕ) → g < length uses → HasUseBit (marked uses at kind) g k ↔ (HasUseBit uses g k ⊎ ((at ≡ Some g) × (bit_at kind k ≡ 1)))
-one_use uses None kind g k lt = (λ e. inl e, λ s. ⊎_elim (λ l. l) (λ (r : (None ≡ Some g) × (bit_at kind k ≡ 1)). let q = r.0 in absurd (cc)) s)
-one_use uses (Some h) kind g k lt =
-    ⊎_elim
-    (λ (same : h ≡ g).
-    let is : slice_index_or (marked uses (Some h) kind) g no_use ≡ joined_use (slice_index_or uses g no_use) kind =
-    ap (λ z. slice_index_or (marked uses (Some z) kind) g no_use) same ∙ marked_same uses g kind lt in
-    let bits = or_bits (slice_index_or uses g no_use).0 kind k in (
-      λ e. ⊎_elim (λ l. inl l) (λ r. inr (ap (λ z. Some z) same, r)) (bits.0 (sym (ap (λ z. bit_at z.0 k) is) ∙ e)),
-      λ s. ap (λ z. bit_at z.0 k) is ∙ bits.1 (⊎_elim (λ l. inl l) (λ r. inr r.1) s),
-    ))
-    (λ (not : h ≢ g).
-    let is = marked_other uses h g kind not in (
-      λ e. inl (sym (ap (λ z. bit_at z.0 k) is) ∙ e),
-      λ s. ap (λ z. bit_at z.0 k) is ∙ ⊎_elim (λ l. l) (λ (r : (Some h ≡ Some g) × (bit_at kind k ≡ 1)). absurd (not (some_is r.0))) s,
-    ))
-    (cases_eq h g)
 
 -- ---- those of a callee
 

@@ -1,5 +1,5 @@
 -- What a tally says, and what each effect of a function does to it.
-use Rattle.std.specs.Prelude.{◌≡◌, ℕ, ◌+◌, ◌-◌, ◌^◌, min, Bool, true, false, ◌||◌, List, [], ◌∷◌, ◌++◌, map, replicate, Option, Some, None, slice_get, slice_set, slice_index, slice_index_or, bit_or, ◌==◌}
+use Rattle.std.specs.Prelude.{◌≡◌, ℕ, ◌+◌, ◌-◌, ◌^◌, min, Bool, true, false, ◌||◌, List, [], ◌∷◌, ◌++◌, map, replicate, Option, Some, None, slice_get, slice_set, slice_index, slice_index_or, ◌==◌}
 use Rattle.indexmap.specs.IndexSet.{insert_key}
 use Rattle.ir_expressions.specs.Plain.{PlainExpression, plain, expression_view}
 use Rattle.ir_expressions.specs.declared.expressions.Expression.{Expression}
@@ -15,7 +15,7 @@ use Rattle.spec_analysis.specs.Operands.{Operand, expression_operands, statement
 use Rattle.spec_analysis.specs.Values.{known_at}
 use Rattle.spec_analysis.specs.Chains.{place, seen_through}
 use Rattle.spec_analysis.specs.Summaries.{Summary, no_use}
-use Rattle.analysis_info.specs.Infos.{summary_of}
+use Rattle.analysis_info.specs.Infos.{marked, summary_of}
 use Rattle.analysis_tally.specs.declared.tally.Context.{Context}
 use Rattle.analysis_tally.specs.declared.tally.Tally.{Tally}
 use Rattle.analysis_tally.specs.declared.pairs.Sampled.{Sampled}
@@ -32,13 +32,6 @@ counted c = record { counts = c.counts.items; uses = c.uses.items }
 
 abbrev pub bumped : List ℕ → ℕ → List ℕ
 bumped counts h = slice_set counts h (min (slice_index counts h + 1) (2 ^ 64 - 1))
-
-abbrev pub joined_use : GlobalUse → ℕ → GlobalUse
-joined_use kind more = record { 0 = bit_or kind.0 more }
-
-abbrev pub marked : List GlobalUse → Option ℕ → ℕ → List GlobalUse
-marked uses None kind = uses
-marked uses (Some g) kind = slice_set uses g (joined_use (slice_index_or uses g no_use) kind)
 
 abbrev pub take_one : List (Option ℕ) → Operand → Counted → Counted
 take_one globals o t = record { counts = bumped t.counts o.handle; uses = marked t.uses (known_at globals o.handle) o.use_bits }

@@ -4,9 +4,11 @@ ghost use Rattle.std.specs.Prelude.{◌≡◌, Option, List, Some, map, IfOk, re
 ghost use Rattle.spec_analysis.specs.Operands.{reads, reads_if};
 ghost use Rattle.spec_analysis.specs.Summaries.{no_use};
 ghost use Rattle.spec_analysis.specs.Values.{known_at};
-ghost use Rattle.analysis_tally.specs.Tallies.{Counted, counted, bumped, joined_use, marked, take_one, take_all, merged, queried};
+ghost use Rattle.analysis_info.specs.Infos.{marked};
+ghost use Rattle.analysis_tally.specs.Tallies.{Counted, counted, bumped, take_one, take_all, merged, queried};
 
 use analysis_forms::GlobalUse;
+use analysis_info::mark_at;
 use bitflags::Flags;
 use ir_arena::handle::Handle;
 use ir_types::key;
@@ -43,22 +45,6 @@ fn bump(counts: &mut Vec<usize>, handle: Handle<key::Expression>)
     let index = handle.index();
     if index < counts.len() {
         counts[index] = counts[index].saturating_add(1);
-    }
-}
-
-// A use and a further one.
-fn joined(kind: GlobalUse, more: GlobalUse) -> GlobalUse
-    ensures { result ≡ joined_use kind more.0 }
-{
-    kind.union(more)
-}
-
-// A further use of the global variable at this place.
-fn mark_at(uses: &mut Vec<GlobalUse>, index: usize, kind: GlobalUse)
-    ensures { uses.new.items ≡ marked uses.old.items (Some index) kind.0 }
-{
-    if index < uses.len() {
-        uses[index] = joined(uses[index], kind);
     }
 }
 

@@ -10,7 +10,7 @@ use Rattle.spec_analysis.specs.Summaries.{Summary}
 use Rattle.analysis_tally.specs.Tallies.{Tallied, whole_tally}
 use Rattle.analysis_tally.specs.Tallied.{IsTally}
 use Rattle.analysis_tally.proofs.TallyLaws.{tally_is}
-use Rattle.typing_analysis.proofs.TypeLemmas.{length_views}
+use Rattle.typing_expressions.proofs.TypeLemmas.{length_views}
 
 pub whole_is : (f : Function) (globals : List (Option ℕ)) (summaries : List Summary) (n : ℕ) (t : Tallied) → AreStarts (function_view f).expressions globals
     → t ≡ whole_tally (record { expressions = map expression_view (values_of f.expressions); globals = globals; summaries = summaries }) (length f.expressions) n (block_view f.body)

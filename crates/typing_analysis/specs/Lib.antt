@@ -1,2 +1,1 @@
-pub mod Infos
-pub mod Types
+pub mod Faults

@@ -4,7 +4,6 @@
 
 mod infos;
 mod summary;
-mod types;
 mod uniformities;
 
 pub use analysis_info::FunctionInfo;

@@ -1,17 +1,18 @@
 //! What is found of a function before the places of its statements are looked at.
 
-ghost use Rattle.std.specs.Prelude.{◌≡◌, ℕ, IfOk, IfErr, OnOk, length, map};
+ghost use Rattle.std.specs.Prelude.{◌≡◌, ℕ, List, IfOk, IfErr, OnOk, length, map};
+ghost use Rattle.ir_items.specs.Plain.{PlainFunction, PlainModule};
 ghost use Rattle.ir_items.specs.View.{function_view, module_view};
 ghost use Rattle.spec_analysis.specs.Values.{AreStarts, OperandsPrecede};
-ghost use Rattle.spec_analysis.specs.Summaries.{IsFormFault};
+ghost use Rattle.spec_analysis.specs.Summaries.{Summary, IsFormFault};
 ghost use Rattle.spec_expressions.specs.Context.{inside};
 ghost use Rattle.analysis_info.specs.Infos.{summary_of};
 ghost use Rattle.analysis_tally.specs.Tallied.{IsTally};
 ghost use Rattle.analysis_tally.specs.Tallies.{tallied};
-ghost use Rattle.typing_analysis.specs.Types.{ItemsNamed, AreTypes, IsSummaryFault};
+ghost use Rattle.typing_analysis.specs.Faults.{IsSummaryFault};
+ghost use Rattle.typing_expressions.specs.Types.{ItemsNamed, AreTypes, IsFirstUntyped};
 
 use crate::infos::{expression_infos, keys_of};
-use crate::types::types_of;
 use crate::uniformities::uniformities_of;
 use analysis_facts::facts_of;
 use analysis_forms::Uniformity;
@@ -21,6 +22,7 @@ use ir_arena::handle::Handle;
 use ir_items::{Function, Module};
 use ir_types::key;
 use std::alloc::{AllocError, Global};
+use typing_expressions::{TypingRefusal, types_of};
 use typing_forms::TypeResolution;
 use typing_operands::ResolveError;
 use typing_resolve::ResolveContext;
@@ -30,7 +32,7 @@ use typing_resolve::ResolveContext;
 pub enum SummaryError {
     /// A growth was refused.
     Memory(AllocError),
-    /// An expression has no type.
+    /// An expression has no type, and each before it has one.
     Untyped {
         /// The expression.
         expression: Handle<key::Expression>,
@@ -93,6 +95,35 @@ fn tally_of(
     }
 }
 
+// The refusal of a function's expressions, as one of its summary.
+fn as_summary(refusal: TypingRefusal) -> SummaryError
+    ensures { (m : PlainModule) (f : PlainFunction) (summaries : List Summary) → IsFirstUntyped (inside m f) f.expressions refusal → IsSummaryFault m f summaries result }
+{
+    match refusal {
+        TypingRefusal::Memory(error) => SummaryError::Memory(error),
+        TypingRefusal::Fault { expression, error } => SummaryError::Untyped { expression, error },
+    }
+}
+
+// The types of a function's expressions.
+fn types_in(
+    alloc: Global,
+    function: &Function,
+    module: &Module,
+) -> Result<Vec<TypeResolution>, TypingRefusal>
+    requires precede { OperandsPrecede (function_view function.now).expressions }
+    requires named { ItemsNamed (inside (module_view «module».now) (function_view function.now)) (function_view function.now).expressions }
+    ensures ok { IfOk result (λ v. AreTypes (inside (module_view «module».now) (function_view function.now)) (function_view function.now).expressions v.items) }
+    ensures fault { IfErr result (IsFirstUntyped (inside (module_view «module».now) (function_view function.now)) (function_view function.now).expressions) }
+{
+    let resolve = ResolveContext::with_locals(
+        module,
+        &function.local_variables,
+        &function.arguments,
+    );
+    types_of(alloc, &resolve, &function.expressions)
+}
+
 /// What is found of a function of the module, or of an entry point's, before the places of its statements are looked at.
 /// `callees` has what is kept of the functions that it may call, by their handles; of these only those that a call statement
 /// names are read.
@@ -110,12 +141,10 @@ pub fn summarize(
     ensures clear { OnOk result ((e : ℕ) → IsFormFault (function_view function.now) (map summary_of callees.now) e → ⊥) }
     ensures fault { IfErr result (IsSummaryFault (module_view «module».now) (function_view function.now) (map summary_of callees.now)) }
 {
-    let resolve = ResolveContext::with_locals(
-        module,
-        &function.local_variables,
-        &function.arguments,
-    );
-    let types = types_of(alloc, &resolve, &function.expressions)?;
+    let types = match types_in(alloc, function, module) {
+        Ok(types) => types,
+        Err(refusal) => return Err(as_summary(refusal)),
+    };
     let facts = facts_of(alloc, module, function)?;
     let uniformities = uniformities_of(alloc, function, &facts.sources)?;
     let tally = tally_of(alloc, function, module, &facts.globals, callees)?;

@@ -2,8 +2,8 @@ use Rattle.std.proofs.Common.{map}
 use Rattle.ir_expressions.specs.Plain.{expression_view}
 use Rattle.ir_globals.specs.View.{values_of}
 use Rattle.typing_resolve.specs.View.{context_view}
-use Rattle.typing_analysis.proofs.TypeLemmas.{Known}
-use Rattle.typing_analysis.proofs.types.types_of.Given as goal
+use Rattle.typing_expressions.proofs.TypeLemmas.{Known}
+use Rattle.typing_expressions.proofs.types.types_of.Given as goal
 
 abbrev pub invariant-loop-handle : goal.invariant-loop-handle
 invariant-loop-handle l = Known (context_view l.context) (map expression_view (values_of l.expressions)) l.types.items l.handle-iterator

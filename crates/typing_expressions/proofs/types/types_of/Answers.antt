@@ -2,17 +2,17 @@ use Rattle.std.proofs.Common.{length, map, sym, subst, ◌<◌}
 use Rattle.ir_expressions.specs.Plain.{expression_view}
 use Rattle.ir_globals.specs.View.{values_of}
 use Rattle.typing_resolve.specs.View.{context_view}
-use Rattle.typing_analysis.proofs.TypeLemmas.{Rest, rest_first, rest_end, operands_below, one_more, refused}
-use Rattle.typing_analysis.proofs.types.types_of.Goals as goal
+use Rattle.typing_expressions.proofs.TypeLemmas.{Rest, rest_first, rest_end, operands_below, one_more, refused}
+use Rattle.typing_expressions.proofs.types.types_of.Goals as goal
 
-pub type_behind-requires-clause-named : goal.type_behind-requires-clause-named
-type_behind-requires-clause-named c =
+pub type_at-requires-clause-named : goal.type_at-requires-clause-named
+type_at-requires-clause-named c =
     let xs = map expression_view (values_of c.args.expressions.now) in
     let f = rest_first xs (length c.loop-handle.types.items) (c.in-Some.handle, c.in-Some.expression.now) c.next.new.self (subst (Rest xs (length c.loop-handle.types.items)) c.in-Some.ensures.steps c.loop-handle.invariant.1) in
     c.requires.named (length c.loop-handle.types.items) (expression_view c.in-Some.expression.now) f.stands
 
-pub type_behind-requires-clause-precede : goal.type_behind-requires-clause-precede
-type_behind-requires-clause-precede c =
+pub type_at-requires-clause-precede : goal.type_at-requires-clause-precede
+type_at-requires-clause-precede c =
     let xs = map expression_view (values_of c.args.expressions.now) in
     let f = rest_first xs (length c.loop-handle.types.items) (c.in-Some.handle, c.in-Some.expression.now) c.next.new.self (subst (Rest xs (length c.loop-handle.types.items)) c.in-Some.ensures.steps c.loop-handle.invariant.1) in
     λ o among. subst (λ z. o < length z) (sym c.deref.ensures.value) (operands_below xs c.requires.precede (length c.loop-handle.types.items) (expression_view c.in-Some.expression.now) f.stands o among)

@@ -1,5 +1,5 @@
 -- Types of expressions, one after the other.
-use Rattle.std.proofs.Common.{◌≡◌, ◌⊎◌, ℕ, zero, suc, ◌+◌, ◌<◌, ◌≤◌, Some, None, List, [], ◌∷◌, ◌++◌, length, map, refl, sym, ap, ◌∙◌, subst, inl, inr, arith, slice_get}
+use Rattle.std.proofs.Common.{◌≡◌, ◌⊎◌, ℕ, zero, suc, ◌+◌, ◌<◌, ◌≤◌, Some, None, Err, List, [], ◌∷◌, ◌++◌, length, map, refl, sym, ap, ◌∙◌, subst, inl, inr, arith, slice_get}
 use Rattle.std.specs.Prelude.{slice_index_or}
 use Rattle.std.proofs.lemmas.Bool.{cases_lt}
 use Rattle.overload_tables.specs.Laws.{IsAmong}
@@ -11,12 +11,15 @@ use Rattle.ir_expressions.specs.declared.expressions.Expression.TheVariants as x
 use Rattle.ir_globals.specs.View.{values_of}
 use Rattle.spec_analysis.specs.Operands.{Operand, reads, carries, queries, expression_operands}
 use Rattle.spec_analysis.specs.Values.{OperandsPrecede}
+use Rattle.spec_analysis.proofs.Members.{get-within}
 use Rattle.spec_expressions.specs.Context.{Context}
 use Rattle.spec_expressions.specs.Typing.{typing_operands, HasTypeAmong}
 use Rattle.typing_forms.specs.declared.resolution.TypeResolution.{TypeResolution}
+use Rattle.typing_forms.specs.declared.form.Form.{Form}
 use Rattle.typing_operands.specs.Answers.{form_given}
-use Rattle.typing_analysis.specs.Types.{TypedSoFar, AreTypes, OperandsBelow, IsUntyped}
-use Rattle.typing_analysis.specs.declared.summary.SummaryError.{SummaryError}
+use Rattle.typing_expressions.specs.Types.{TypedSoFar, TypedBefore, IsFirstUntyped, AreTypes, OperandsBelow, IsTypedBy}
+use Rattle.typing_expressions.specs.declared.refusal.TypingRefusal.{TypingRefusal}
+use Rattle.typing_expressions.specs.declared.refusal.TypingRefusal.TheVariants.{Memory, Fault}
 
 some_is : {X : Type 0} {a b : X} → Some a ≡ Some b → a ≡ b
 some_is e = cc (e)
@@ -26,6 +29,7 @@ get_known [] missing o lt = absurd (omega (arith, lt))
 get_known (t ∷ ts) missing zero lt = refl
 get_known (t ∷ ts) missing (suc o) lt = get_known ts missing o (omega (arith, lt))
 
+-- what is read of types behind which an expression stands
 pub operands_typed : (c : Context) (xs : List PlainExpression) (types : List TypeResolution) (missing : TypeResolution) (y : PlainExpression) → OperandsBelow (length types) y → TypedSoFar c xs types
     → (o : ℕ) → IsAmong o (typing_operands y) → HasTypeAmong c xs o (form_given c.types (slice_index_or types o missing))
 operands_typed c xs types missing y below typed o among = typed o (slice_index_or types o missing) (get_known types missing o (below o among))
@@ -151,9 +155,9 @@ abbrev pub Known : Context → List PlainExpression → List TypeResolution → 
 Known c xs types left = TypedSoFar c xs types × Rest xs (length types) left
 
 pub typed_more : (c : Context) (xs : List PlainExpression) (types : List TypeResolution) (t : TypeResolution) → TypedSoFar c xs types → HasTypeAmong c xs (length types) (form_given c.types t) → TypedSoFar c xs (types ++ t ∷ [])
-typed_more c xs types t typed has e r at = elim (get_push types t e r at) [
+typed_more c xs types t typed having e r at = elim (get_push types t e r at) [
   | inl l ↦ typed e r l
-  | inr s ↦ subst (λ z. HasTypeAmong c xs z (form_given c.types r)) (sym s.0) (subst (λ z. HasTypeAmong c xs (length types) (form_given c.types z)) s.1 has)
+  | inr s ↦ subst (λ z. HasTypeAmong c xs z (form_given c.types r)) (sym s.0) (subst (λ z. HasTypeAmong c xs (length types) (form_given c.types z)) s.1 having)
 ]
 
 pub rest_more : (xs : List PlainExpression) (types : List TypeResolution) (t : TypeResolution) (left : List (ℕ × Expression)) → Rest xs (length types + 1) left → Rest xs (length (types ++ t ∷ [])) left
@@ -170,11 +174,23 @@ one_more c xs types lent types' h expression t before left known steps same is h
     let more : Known c xs (types ++ t ∷ []) left = (typed_more c xs types t known.0 (subst (λ z. HasTypeAmong c xs z (form_given c.types t)) f.place typed), rest_more xs types t left f.after) in
     subst (λ z. Known c xs z left) (sym is) more
 
+typed_before : (c : Context) (xs : List PlainExpression) (types : List TypeResolution) → TypedSoFar c xs types → TypedBefore c xs (length types)
+typed_before c xs types typed e below = let w = get-within types e below in (form_given c.types w.0, typed e w.0 w.1)
+
+-- a refusal about the expression at a place, behind those that have types
+abbrev pub RefusedAt : Context → List PlainExpression → ℕ → TypingRefusal → Type 0
+RefusedAt c xs place refusal = IsTypedBy c xs place (Err refusal)
+
+first_untyped : (c : Context) (xs : List PlainExpression) (place : ℕ) (refusal : TypingRefusal) → TypedBefore c xs place → RefusedAt c xs place refusal → IsFirstUntyped c xs refusal
+first_untyped c xs place (Memory error) before at = tt
+first_untyped c xs place (Fault expression error) before at = record { tells = at.1; before = subst (TypedBefore c xs) (sym at.0) before }
+
 -- what is refused behind them is of the expression that stands there
-pub refused : (c : Context) (xs : List PlainExpression) (types lent : List TypeResolution) (h : ℕ) (expression : Expression) (refusal : SummaryError) (before left : List (ℕ × Expression))
+pub refused : (c : Context) (xs : List PlainExpression) (types lent : List TypeResolution) (h : ℕ) (expression : Expression) (refusal : TypingRefusal) (before left : List (ℕ × Expression))
     → Known c xs types before → before ≡ (h, expression) ∷ left → lent ≡ types
-    → ((ys : List PlainExpression) → slice_get ys h ≡ Some (expression_view expression) → TypedSoFar c ys lent → IsUntyped c ys refusal)
-    → IsUntyped c xs refusal
+    → ((ys : List PlainExpression) → slice_get ys h ≡ Some (expression_view expression) → TypedSoFar c ys lent → RefusedAt c ys h refusal)
+    → IsFirstUntyped c xs refusal
 refused c xs types lent h expression refusal before left known steps same has =
     let f = rest_first xs (length types) (h, expression) left (subst (Rest xs (length types)) steps known.1) in
-    has xs (ap (slice_get xs) f.place ∙ f.stands) (subst (TypedSoFar c xs) (sym same) known.0)
+    first_untyped c xs h refusal (subst (TypedBefore c xs) (sym f.place) (typed_before c xs types known.0))
+    (has xs (ap (slice_get xs) f.place ∙ f.stands) (subst (TypedSoFar c xs) (sym same) known.0))
