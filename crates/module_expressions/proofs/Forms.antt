@@ -1,0 +1,7 @@
+-- The form at a place.
+use Rattle.std.proofs.Common.{◌≡◌, ◌<◌, ℕ, zero, suc, List, [], ◌∷◌, Some, map, length, slice_get, get_or, refl, arith}
+
+pub mapped_at : {A B : Type 0} (f : A → B) (xs : List A) (k : ℕ) (d : A) → k < length xs → Some (f (get_or xs k d)) ≡ slice_get (map f xs) k
+mapped_at f [] k d lt = absurd (omega arith)
+mapped_at f (x ∷ xs) zero d lt = refl
+mapped_at f (x ∷ xs) (suc k) d lt = mapped_at f xs k d (omega arith)

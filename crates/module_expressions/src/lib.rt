@@ -1,0 +1,8 @@
+//! Values that are composed of components whose types are known.
+#![tactic(auto)]
+
+mod components;
+mod compose;
+
+pub use components::Components;
+pub use compose::check_composition;
