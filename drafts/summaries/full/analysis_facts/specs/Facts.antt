@@ -1,0 +1,67 @@
+-- What is known of expressions, from what is known of those before them.
+use Rattle.std.specs.Prelude.{◌≡◌, ◌↔◌, ℕ, ◌<◌, Bool, true, false, List, [], ◌∷◌, ◌++◌, length, map, Option, Some, None, slice_get}
+use Rattle.ir_expressions.specs.Plain.{PlainExpression, compose, plain, expression_view}
+use Rattle.ir_expressions.specs.declared.expressions.Expression.{Expression}
+use Rattle.ir_expressions.specs.declared.expressions.Expression.TheVariants.{GlobalVariable, Access, AccessIndex}
+use Rattle.ir_items.specs.Plain.{PlainFunction, PlainModule}
+use Rattle.analysis_forms.specs.declared.uniformity.Uniformity.{Uniformity}
+use Rattle.spec_analysis.specs.Operands.{Operand, expression_operands}
+use Rattle.spec_analysis.specs.Values.{known_at, is_source, ComesFrom, IsExact, requirements_of}
+
+-- what is found already, or what is known of one more operand
+abbrev pub or_known : List (Option ℕ) → ℕ → Option ℕ → Option ℕ
+or_known sources e (Some s) = Some s
+or_known sources e None = known_at sources e
+
+abbrev pub find_all : List (Option ℕ) → List Operand → Option ℕ → Option ℕ
+find_all sources [] found = found
+find_all sources (o ∷ rest) found = find_all sources rest (or_known sources o.handle found)
+
+abbrev pub source_if : Bool → ℕ → Option ℕ → Option ℕ
+source_if true e below = Some e
+source_if false e below = below
+
+-- where the value of the expression at a place comes from
+abbrev pub source_of : PlainModule → PlainFunction → List (Option ℕ) → ℕ → PlainExpression → Option ℕ
+source_of m f sources e expression = source_if (is_source m f expression) e (find_all sources (expression_operands expression) None)
+
+-- where its chain of accesses starts
+abbrev pub start_of : List (Option ℕ) → PlainExpression → Option ℕ
+start_of globals (plain (GlobalVariable g)) = Some g
+start_of globals (plain (Access base index)) = known_at globals base
+start_of globals (plain (AccessIndex base index)) = known_at globals base
+start_of globals _ = None
+
+-- what is known of all, after those that come first
+abbrev pub sources_of : PlainModule → PlainFunction → List (Option ℕ) → List (ℕ × Expression) → List (Option ℕ)
+sources_of m f known [] = known
+sources_of m f known (h ∷ rest) = sources_of m f (known ++ source_of m f known h.0 (expression_view h.1) ∷ []) rest
+
+abbrev pub starts_of : List (Option ℕ) → List (ℕ × Expression) → List (Option ℕ)
+starts_of known [] = known
+starts_of known (h ∷ rest) = starts_of (known ++ start_of known (expression_view h.1) ∷ []) rest
+
+-- for each expression a source that its value comes from, if there is one
+pub record AreSources (m : PlainModule) (f : PlainFunction) (sources : List (Option ℕ)) : Type 0 where
+  pub len : length sources ≡ length f.expressions
+  pub each : (e : ℕ) → e < length f.expressions → IsExact (known_at sources e) (ComesFrom m f e)
+
+-- ---- uniformities
+
+abbrev pub requirement_in : Option PlainExpression → ℕ
+requirement_in None = 0
+requirement_in (Some x) = requirements_of x
+
+-- the bits of what the expression at a place asks for
+abbrev pub requirement_at : List PlainExpression → ℕ → ℕ
+requirement_at expressions e = requirement_in (slice_get expressions e)
+
+-- It tells a source of the value of the expression at a place, if there is one, and what the expression asks for.
+pub record IsUniformity (m : PlainModule) (f : PlainFunction) (e : ℕ) (u : Uniformity) : Type 0 where
+  pub source : IsExact u.non_uniform_result (ComesFrom m f e)
+  pub requirements : u.requirements.0 ≡ requirement_at f.expressions e
+
+-- so of each expression
+pub record AreUniformities (m : PlainModule) (f : PlainFunction) (all : List Uniformity) : Type 0 where
+  pub len : length all ≡ length f.expressions
+  pub each : (e : ℕ) (u : Uniformity) → slice_get all e ≡ Some u → IsUniformity m f e u

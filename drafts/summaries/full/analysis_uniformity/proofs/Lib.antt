@@ -1,0 +1,2 @@
+pub mod Severities
+pub mod Known

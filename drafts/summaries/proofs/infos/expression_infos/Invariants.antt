@@ -1,0 +1,8 @@
+-- What was put together with what is put together of the rest is that of all.
+use Rattle.std.proofs.Common.{◌≡◌, ◌++◌, length}
+use Rattle.typing_analysis.specs.Kept.{infos_from}
+use Rattle.typing_analysis.proofs.infos.expression_infos.Given as goal
+
+abbrev pub invariant-loop-ty : goal.invariant-loop-ty
+invariant-loop-ty l =
+    (l.infos.items ++ infos_from l.uniformities l.counts l.globals (length l.infos.items) l.ty-iterator) ≡ infos_from l.uniformities l.counts l.globals 0 l.fn.types.items
