@@ -14,7 +14,7 @@ use Rattle.ir_types.specs.declared.types.TypeInner.TheVariants as inner
 use Rattle.spec_checks.specs.Checks.{CheckOf}
 use Rattle.spec_checks.specs.Conversions.{IsConverted}
 use Rattle.spec_checks.specs.Laws.{MoreCapabilities, under}
-use Rattle.spec_checks.specs.Results.{IsAtomicValue, AreExchanged, AreExchangeMembers, IsExchange, AtomicResultOK}
+use Rattle.spec_checks.specs.Results.{AreExchangeMembers, IsExchange, AtomicResultOK}
 use Rattle.spec_checks.specs.Shapes.{IsAlone}
 use Rattle.spec_checks.specs.declared.shapes.Shaped.{Shaped}
 use Rattle.spec_flags.proofs.Capable.{more_capabilities as more_types}

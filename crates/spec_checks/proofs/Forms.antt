@@ -1,9 +1,7 @@
 -- The types of expressions have one list of forms.
-use Rattle.std.proofs.Common.{◌≡◌, ℕ, zero, suc, List, [], ◌∷◌, Some, length, slice_get, refl, sym, ap, ◌∙◌, arith}
-use Rattle.ir_expressions.specs.Plain.{PlainExpression}
+use Rattle.std.proofs.Common.{◌≡◌, ℕ, suc, List, [], ◌∷◌, Some, length, slice_get, refl, sym, ◌∙◌, arith}
 use Rattle.typing_forms.specs.declared.form.Form.{Form}
 use Rattle.spec_checks.specs.Laws.{OneList}
-use Rattle.spec_checks.specs.Scene.{AreForms}
 use Rattle.spec_expressions.proofs.TypingLaws.{one_type}
 
 -- lists as long as each other, with the same at each place

@@ -9,7 +9,8 @@ use Rattle.spec_checks.specs.CooperativeMatrices.{CooperativeLoadOK, MultiplyAdd
 use Rattle.spec_checks.specs.Derivatives.{DerivativeOK}
 use Rattle.spec_checks.specs.ImageLoads.{ImageLoadOK, ImageQueryOK}
 use Rattle.spec_checks.specs.ImageSamples.{ImageSampleOK}
-use Rattle.spec_checks.specs.Literals.{LiteralOK, ZeroOK}
+use Rattle.spec_checks.specs.Literals.{ZeroOK}
+use Rattle.spec_constants.specs.Literals.{LiteralOK}
 use Rattle.spec_checks.specs.Loads.{LoadOK, ArrayLengthOK}
 use Rattle.spec_checks.specs.Maths.{MathOK}
 use Rattle.spec_checks.specs.Operators.{UnaryOK, BinaryOK}

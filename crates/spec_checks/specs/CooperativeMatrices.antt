@@ -1,7 +1,6 @@
 -- Which cooperative matrices are loaded and multiplied.
 use Rattle.std.specs.Prelude.{◌≡◌, IsSomeAnd}
 use Rattle.ir_kinds.specs.Scalars.{unsigned}
-use Rattle.ir_kinds.specs.declared.scalars.CooperativeRole.{CooperativeRole}
 use Rattle.ir_kinds.specs.declared.scalars.CooperativeRole.TheVariants.{A, B, C}
 use Rattle.ir_kinds.specs.declared.scalars.CooperativeSize.{CooperativeSize}
 use Rattle.typing_forms.specs.declared.form.Form.{Form}

@@ -1,5 +1,5 @@
 -- How texels are loaded, and what is asked of images.
-use Rattle.std.specs.Prelude.{◌≡◌, ℕ, List, Option, Some, None, Bool, true, IsSomeAnd}
+use Rattle.std.specs.Prelude.{◌≡◌, ℕ, List, Option, Some, None, true, IsSomeAnd}
 use Rattle.ir_expressions.specs.declared.expressions.ImageQuery.{ImageQuery}
 use Rattle.ir_expressions.specs.declared.expressions.ImageQuery.TheVariants.{Size, NumLevels, NumLayers, NumSamples}
 use Rattle.ir_flags.specs.Sets.{Has}

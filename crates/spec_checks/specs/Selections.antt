@@ -2,9 +2,8 @@
 use Rattle.std.specs.Prelude.{◌≡◌, IsSomeAnd}
 use Rattle.ir_kinds.specs.declared.operators.RelationalFunction.{RelationalFunction}
 use Rattle.ir_kinds.specs.declared.operators.RelationalFunction.TheVariants.{All, Any, IsNan, IsInf}
-use Rattle.ir_kinds.specs.declared.scalars.VectorSize.{VectorSize}
 use Rattle.typing_forms.specs.declared.form.Form.{Form}
-use Rattle.spec_checks.specs.Shapes.{shaped_of, IsRow, IsOfValue, IsFloating, IsTruth, IsMadeOf, IsValue}
+use Rattle.spec_checks.specs.Shapes.{shaped_of, IsRow, IsOfValue, IsFloating, IsTruth, IsMadeOf}
 use Rattle.spec_checks.specs.declared.shapes.Shape.{Shape}
 use Rattle.spec_checks.specs.declared.shapes.Shape.TheVariants as shape
 
