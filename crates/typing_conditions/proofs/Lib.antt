@@ -1,3 +1,2 @@
-pub mod Entries
 pub mod OrderLaws
 pub mod SameLemmas

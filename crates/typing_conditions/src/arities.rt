@@ -11,7 +11,7 @@ use ir_items::{Function, Module, Statement, key};
 use ir_references::{StatementLook, first_in};
 
 // The function at a handle, if it is there.
-#[tactic(auto, using(crate::proofs::Entries::entries))]
+#[tactic(auto, using(ir_references::proofs::Entries::entries))]
 fn function_at(module: &Module, handle: Handle<key::Function>) -> Option<&Function>
     ensures { option_map (λ f. function_view f.now) result ≡ slice_get (module_view «module».now).functions handle }
 {

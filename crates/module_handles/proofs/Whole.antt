@@ -1,0 +1,133 @@
+-- All parts of a module in order make the whole in order, and a module in order gives what is asked behind.
+use Rattle.std.proofs.Common.{◌≡◌, ℕ, ◌+◌, ◌<◌, List, Some, option_map, option_and_then, sym, ap, ◌∙◌, subst, slice_get, length, All, Contains, arith}
+use Rattle.std.proofs.lemmas.List.Elements.{All-contains, All-contains_itself}
+use Rattle.std.proofs.lemmas.Option.{slice_get_within}
+use Rattle.ir_expressions.specs.Plain.{PlainExpression}
+use Rattle.ir_globals.specs.Plain.{PlainConstant, PlainOverride}
+use Rattle.ir_items.specs.Plain.{PlainFunction, PlainEntry, PlainModule}
+use Rattle.ir_references.proofs.FaultLaws.{missing_none, then_none, map_none, map_some}
+use Rattle.ir_references.proofs.FirstLaws.{or_none, below_each}
+use Rattle.ir_references.specs.Faults.{outside_functions, missing, item_missing}
+use Rattle.ir_types.specs.Plain.{PlainInner, PlainType}
+use Rattle.ir_walks.specs.Filters.{ParentsPrecede}
+use Rattle.module_handles.proofs.OutsideFaults.{forward_none, each_there, item_there, type_found}
+use Rattle.module_handles.specs.Conditions.{FunctionConditions, ModuleConditions, OrderGivesConditions}
+use Rattle.module_handles.specs.Found.{type_of, init_of, forward, counted_by, up_to, looked_through}
+use Rattle.module_handles.specs.InOrder.{TypesOK, ItemsOK, GlobalExpressionsOK, FunctionsOK, EntriesOK}
+use Rattle.spec_handles.specs.Conditions.{OperandsPrecede}
+use Rattle.spec_handles.specs.Expressions.{expression_operands, expression_item}
+use Rattle.spec_handles.specs.InOrder.{HandlesOK}
+use Rattle.spec_handles.specs.Items.{pending_of, special_types, mesh_types, mesh_expressions, entry_variables}
+use Rattle.spec_handles.specs.Modules.{Part, NamesIn, type_names, type_counts, special_names, filter_names, leaf_names, constant_type, constant_value, override_type, override_value, expression_names, expression_reads, variable_type, variable_value, entry_type, entry_expression, entry_variable, IsThereIn}
+use Rattle.spec_handles.specs.Order.{Ordered, a_type, a_filter, a_function, an_expression, of_function, of_entry, DependsOn, type_on_named, type_on_override, type_on_expression, filter_on_parent, expression_on_operand, expression_on_constant, expression_on_override, function_on_callee, inside_function, inside_entry, IsBefore}
+use Rattle.spec_handles.specs.References.{Named, item}
+use Rattle.spec_handles.specs.declared.item.ItemKind.TheVariants as kind
+use Rattle.spec_handles.specs.declared.target.Target.TheVariants as target
+use Rattle.typing_forms.specs.Order.{named_types, TypesGoBack}
+
+-- one that comes before an item of the list is in the list
+earlier : {A : Type 0} (xs : List A) (place named : ℕ) (x : A) → slice_get xs place ≡ Some x → named < place → named < length xs
+earlier xs place named x at before = let within = slice_get_within xs place x at in omega (arith, within, before)
+
+operand_before : (xs : List PlainExpression) (e o : ℕ) (x : PlainExpression) → OperandsPrecede xs → slice_get xs e ≡ Some x → Contains (expression_operands x) o → o < e
+operand_before xs e o x precede at c = All-contains (λ y. y < e) (expression_operands x) o (precede e x at) c
+
+module _ (m : PlainModule) (types : TypesOK m) (items : ItemsOK m) (globals : GlobalExpressionsOK m) (operands : OperandsPrecede m.global_expressions) (parents : ParentsPrecede m.filters)
+    (functions : FunctionsOK m) (entries : EntriesOK m) where
+  -- ---- what is named is there
+
+  type_before : (place t : ℕ) (x : PlainType) → slice_get m.types place ≡ Some x → Contains (named_types x.inner) t → t < place
+  type_before place t x at c = below_each place (named_types x.inner) (map_none _ _ (types place x at).built) t c
+
+  names_there : (part : Part) (named : Named) → NamesIn m part named → IsThereIn m named
+  names_there _ _ (type_names {i = i} {t = t} {x = x} at c) = earlier m.types i t x at (type_before i t x at c)
+  names_there _ _ (type_counts {i = i} {o = o} {x = x} at is) = missing_none kind.Override _ o (then_none (missing kind.Override (length m.overrides)) (pending_of x.inner) (types i x at).there o is)
+  names_there _ _ (special_names {t = t} c) = each_there kind.Type _ (special_types m.special) items.special t c
+  names_there _ _ (filter_names {i = i} {p = p} {x = x} at is) = earlier m.filters i p x at (parents i p x at is)
+  names_there _ _ (leaf_names {n = n} is) = missing_none kind.DiagnosticFilter _ n (then_none (missing kind.DiagnosticFilter (length m.filters)) m.leaf items.leaf n is)
+  names_there _ _ (constant_type {i = i} {x = x} at) = missing_none kind.Type _ x.ty (or_none _ _ (items.constants i x at)).0
+  names_there _ _ (constant_value {i = i} {x = x} at) = missing_none kind.Expression _ x.init (or_none _ _ (items.constants i x at)).1
+  names_there _ _ (override_type {i = i} {x = x} at) = missing_none kind.Type _ x.ty (or_none _ _ (items.overrides i x at)).0
+  names_there _ _ (override_value {i = i} {e = e} {x = x} at is) =
+      missing_none kind.Expression _ e (then_none (missing kind.Expression (length m.global_expressions)) x.init (or_none _ _ (items.overrides i x at)).1 e is)
+  names_there _ _ (expression_names {i = i} {x = x} {t = t} at is) = item_there m t (then_none (item_missing (outside_functions m)) (expression_item x) (globals i x at).there t is)
+  names_there _ _ (expression_reads {i = i} {o = o} {x = x} at c) = earlier m.global_expressions i o x at (operand_before m.global_expressions i o x operands at c)
+  names_there _ _ (variable_type {i = i} {x = x} at) = missing_none kind.Type _ x.ty (or_none _ _ (items.variables i x at)).0
+  names_there _ _ (variable_value {i = i} {e = e} {x = x} at is) =
+      missing_none kind.Expression _ e (then_none (missing kind.Expression (length m.global_expressions)) x.init (or_none _ _ (items.variables i x at)).1 e is)
+  names_there _ _ (entry_type {k = k} {t = t} {x = x} at c) = each_there kind.Type _ (mesh_types x.mesh) (or_none _ _ (entries k x at).itself).0 t c
+  names_there _ _ (entry_expression {k = k} {e = e} {x = x} at c) = each_there kind.Expression _ (mesh_expressions x.mesh) (or_none _ _ (or_none _ _ (entries k x at).itself).1).0 e c
+  names_there _ _ (entry_variable {k = k} {v = v} {x = x} at c) = each_there kind.GlobalVariable _ (entry_variables x) (or_none _ _ (or_none _ _ (entries k x at).itself).1).1 v c
+
+  -- ---- each item comes after those that it depends on
+
+  -- the override that counts the elements of a type, and what it begins as
+  counted : (i : PlainInner) (o : ℕ) → pending_of i ≡ Some o → counted_by i ≡ Some (target.Override o)
+  counted i o is = ap (option_map (λ (handle : ℕ). target.Override handle)) is
+
+  override_begins : (o init : ℕ) (x : PlainOverride) → slice_get m.overrides o ≡ Some x → x.init ≡ Some init → init_of m (target.Override o) ≡ Some init
+  override_begins o init x at is = ap (option_and_then (λ (y : PlainOverride). y.init)) at ∙ is
+
+  depends_back : (first second : Ordered) → DependsOn m first second → IsBefore second first
+  depends_back _ _ (type_on_named {i = i} {t = t} {x = x} at c) = type_before i t x at c
+  depends_back _ _ (type_on_override {i = i} {o = o} {x = x} {override = override} at counts is) =
+      forward_none kind.Type i override.ty
+      (then_none (forward kind.Type i) _ (types i x at).counted override.ty (ap (option_and_then (type_of m)) (counted x.inner o counts) ∙ ap (option_map (λ (y : PlainOverride). y.ty)) is))
+  depends_back _ _ (type_on_expression {i = i} {o = o} {init = init} {e = e} {t = t} {x = x} {override = override} {y = y} at counts is begins up there names) =
+      let all : looked_through m x.inner ≡ init + 1 = ap up_to (ap (option_and_then (init_of m)) (counted x.inner o counts) ∙ override_begins o init override is begins) in
+      let before : e < looked_through m x.inner = subst (λ n. e < n) (sym all) (omega (arith, up)) in
+      forward_none kind.Type i t (then_none (forward kind.Type i) _ ((types i x at).looked e y (omega arith) before there) t (type_found m y t names))
+  depends_back _ _ (filter_on_parent {i = i} {p = p} {x = x} at is) = parents i p x at is
+  depends_back _ _ (expression_on_operand {e = e} {o = o} {x = x} at c) = operand_before m.global_expressions e o x operands at c
+  depends_back _ _ (expression_on_constant {e = e} {c = c} {x = x} {constant = constant} at names is) =
+      forward_none kind.Expression e constant.init
+      (then_none (forward kind.Expression e) _ (globals e x at).init constant.init (ap (option_and_then (init_of m)) names ∙ ap (option_map (λ (y : PlainConstant). y.init)) is))
+  depends_back _ _ (expression_on_override {e = e} {o = o} {init = init} {x = x} {override = override} at names is begins) =
+      forward_none kind.Expression e init (then_none (forward kind.Expression e) _ (globals e x at).init init (ap (option_and_then (init_of m)) names ∙ override_begins o init override is begins))
+  depends_back _ _ (function_on_callee {i = i} {c = c} {f = f} {site = site} at names) = (functions i f at).callees site c names
+  depends_back _ _ (inside_function {i = i} {e = e} {o = o} {f = f} {x = x} at there c) = operand_before f.expressions e o x (functions i f at).operands there c
+  depends_back _ _ (inside_entry {k = k} {e = e} {o = o} {entry = entry} {x = x} at there c) = operand_before entry.function.expressions e o x (entries k entry at).operands there c
+
+  pub whole : HandlesOK m
+  whole = record { there = names_there; functions = λ i f at. (functions i f at).in_range; entries = λ k x at. (entries k x at).there; back = depends_back }
+
+-- ---- what the steps behind ask
+
+module _ (m : PlainModule) (ok : HandlesOK m) where
+  go_back : TypesGoBack m.types
+  go_back = record {
+    each = λ handle i at. (let r = map_some (λ (t : PlainType). t.inner) (slice_get m.types handle) i at in
+        subst (λ z. All (λ named. named < handle) (named_types z)) (sym r.2) (each_back handle r.0 r.1));
+  }
+    where
+      each_back : (place : ℕ) (x : PlainType) → slice_get m.types place ≡ Some x → All (λ named. named < place) (named_types x.inner)
+      each_back place x at k d lt = ok.back (a_type place) (a_type _) (type_on_named at (All-contains_itself (named_types x.inner) k d lt))
+
+  back_in : (xs : List PlainExpression) → ((e o : ℕ) (x : PlainExpression) → slice_get xs e ≡ Some x → Contains (expression_operands x) o → o < e) → OperandsPrecede xs
+  back_in xs before e x at k d lt = before e _ x at (All-contains_itself (expression_operands x) k d lt)
+
+  of_a_function : (i : ℕ) (f : PlainFunction) → slice_get m.functions i ≡ Some f → FunctionConditions m i f
+  of_a_function i f at = record {
+    in_range = ok.functions i f at;
+    operands = back_in f.expressions (λ e o x there c. ok.back (of_function i e) (of_function i o) (inside_function at there c));
+    callees = λ site callee names. ok.back (a_function i) (a_function callee) (function_on_callee at names);
+  }
+
+  of_an_entry : (k : ℕ) (x : PlainEntry) → slice_get m.entries k ≡ Some x → FunctionConditions m (length m.functions) x.function
+  of_an_entry k x at = record {
+    in_range = ok.entries k x at;
+    operands = back_in x.function.expressions (λ e o y there c. ok.back (of_entry k e) (of_entry k o) (inside_entry at there c));
+    callees = λ site callee names. ok.entries k x at site (item (target.Function callee)) names;
+  }
+
+  pub conditions : ModuleConditions m
+  conditions = record {
+    types = go_back;
+    filters = λ place parent node at is. ok.back (a_filter place) (a_filter parent) (filter_on_parent at is);
+    global_expressions = back_in m.global_expressions (λ e o x there c. ok.back (an_expression e) (an_expression o) (expression_on_operand there c));
+    functions = of_a_function;
+    entries = of_an_entry;
+  }
+
+pub order_gives_conditions : OrderGivesConditions
+order_gives_conditions m ok = conditions m ok

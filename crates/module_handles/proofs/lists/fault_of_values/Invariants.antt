@@ -1,0 +1,7 @@
+use Rattle.ir_globals.specs.View.{values_of}
+use Rattle.module_handles.proofs.PassLemmas.{PassBelow}
+use Rattle.module_handles.proofs.lists.fault_of_values.Given as goal
+
+-- the values before this one pass
+abbrev pub invariant-loop-index : goal.invariant-loop-index
+invariant-loop-index g l = PassBelow (g.C.ItemCheck.passes l.check) (values_of l.values) l.index

@@ -1,0 +1,7 @@
+use Rattle.ir_items.specs.View.{module_view}
+use Rattle.module_handles.specs.InOrder.{NamesBefore}
+use Rattle.module_handles.proofs.types.named_between.Given as goal
+
+-- those that were looked through name types before this one
+abbrev pub invariant-loop-place : goal.invariant-loop-place
+invariant-loop-place l = NamesBefore (module_view l.«module») l.index l.from l.place

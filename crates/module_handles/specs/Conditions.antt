@@ -1,0 +1,24 @@
+-- What a module whose handles are in order gives to the steps behind: what layouts, types and the analysis of functions ask.
+use Rattle.std.specs.Prelude.{◌≡◌, ℕ, Some, length, slice_get}
+use Rattle.ir_items.specs.Plain.{PlainFunction, PlainEntry, PlainModule}
+use Rattle.ir_walks.specs.Filters.{ParentsPrecede}
+use Rattle.spec_handles.specs.Conditions.{HandlesInRange, OperandsPrecede, CalleesPrecede}
+use Rattle.spec_handles.specs.InOrder.{HandlesOK}
+use Rattle.typing_forms.specs.Order.{TypesGoBack}
+
+-- what the analysis asks of a function before which so many functions stand, beside the parents of filters and the arities
+-- of calls
+pub record FunctionConditions (m : PlainModule) (before : ℕ) (f : PlainFunction) : Type 0 where
+  pub in_range : HandlesInRange m f
+  pub operands : OperandsPrecede f.expressions
+  pub callees : CalleesPrecede before f
+
+pub record ModuleConditions (m : PlainModule) : Type 0 where
+  pub types : TypesGoBack m.types
+  pub filters : ParentsPrecede m.filters
+  pub global_expressions : OperandsPrecede m.global_expressions
+  pub functions : (i : ℕ) (f : PlainFunction) → slice_get m.functions i ≡ Some f → FunctionConditions m i f
+  pub entries : (k : ℕ) (x : PlainEntry) → slice_get m.entries k ≡ Some x → FunctionConditions m (length m.functions) x.function
+
+abbrev pub OrderGivesConditions : Type 0
+OrderGivesConditions = (m : PlainModule) → HandlesOK m → ModuleConditions m

@@ -1,0 +1,26 @@
+-- What the errors of handles say.
+use Rattle.std.specs.Prelude.{◌≡◌, ℕ, List, codes}
+use Rattle.error_handles.specs.declared.InvalidHandleError.{InvalidHandleError}
+use Rattle.error_handles.specs.declared.InvalidHandleError.TheVariants as error
+use Rattle.ir_items.specs.Plain.{PlainModule}
+use Rattle.spec_handles.specs.InOrder.{IsMissing, IsRangeOut, IsForward}
+use Rattle.spec_handles.specs.declared.item.ItemKind.{ItemKind}
+use Rattle.spec_handles.specs.declared.item.ItemKind.TheVariants as kind
+
+-- the word for what an item is
+abbrev pub word_of : ItemKind → List ℕ
+word_of kind.Type = codes "type"
+word_of kind.Constant = codes "constant"
+word_of kind.Override = codes "override"
+word_of kind.Expression = codes "expression"
+word_of kind.GlobalVariable = codes "global"
+word_of kind.LocalVariable = codes "local"
+word_of kind.Function = codes "function"
+word_of kind.DiagnosticFilter = codes "filter"
+
+-- The error is of something in the module: of an item that is named and isn't there, of two items of which the first depends
+-- on the second and doesn't come after it, or of a range of expressions that is out.
+abbrev pub IsHandleError : PlainModule → InvalidHandleError → Type 0
+IsHandleError m (error.BadHandle e) = (k : ItemKind) × (e.kind.now ≡ word_of k) × IsMissing m k e.index
+IsHandleError m (error.ForwardDependency e) = (k : ItemKind) × (e.subject_kind.now ≡ word_of k) × (e.depends_on_kind.now ≡ word_of k) × IsForward m k e.subject e.depends_on
+IsHandleError m (error.BadRange e) = (e.kind.now ≡ word_of kind.Expression) × IsRangeOut m (record { first = e.range.0; end = e.range.1 })

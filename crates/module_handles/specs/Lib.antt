@@ -1,0 +1,5 @@
+pub mod Lists
+pub mod Found
+pub mod InOrder
+pub mod Errors
+pub mod Conditions

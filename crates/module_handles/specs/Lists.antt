@@ -1,0 +1,11 @@
+-- What is asked of each item of a list, and what is found at one of them.
+use Rattle.std.specs.Prelude.{◌≡◌, ℕ, List, Some, slice_get}
+use Rattle.ir_references.specs.declared.fault.HandleFault.{HandleFault}
+
+-- each item passes at its place
+abbrev pub AllPass : {T : Type 0} → (ℕ → T → Type 0) → List T → Type 0
+AllPass {T = T} passes items = (i : ℕ) (x : T) → slice_get items i ≡ Some x → passes i x
+
+-- some item has this fault at its place
+abbrev pub SomeFails : {T : Type 0} → (ℕ → T → HandleFault → Type 0) → List T → HandleFault → Type 0
+SomeFails {T = T} fails items h = (i : ℕ) × (x : T) × (slice_get items i ≡ Some x) × fails i x h

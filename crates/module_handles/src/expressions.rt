@@ -1,0 +1,60 @@
+//! What global expressions name.
+
+ghost use Rattle.std.specs.Prelude.{◌≡◌, option_and_then};
+ghost use Rattle.std.specs.Option.{MatchOption};
+ghost use Rattle.ir_expressions.specs.Plain.{expression_view};
+ghost use Rattle.ir_items.specs.View.{module_view};
+ghost use Rattle.module_handles.specs.Found.{named_missing, init_forward};
+ghost use Rattle.module_handles.specs.InOrder.{IsFaultIn, GlobalExpressionsOK};
+
+use crate::lists::{ItemCheck, fault_of_values};
+use crate::lookups::{forward, init_named};
+use ir_items::{Expression, Module};
+use ir_references::{Bounds, HandleFault, item_of};
+use spec_handles::ItemKind;
+
+fn named_missing(expression: &Expression, bounds: &Bounds) -> Option<HandleFault>
+    ensures { result ≡ named_missing bounds.now (expression_view expression.now) }
+{
+    bounds.missing_if(item_of(expression))
+}
+
+// The fault of what the constant or the override that a global expression names begins as, if the expression does not come
+// after it.
+fn init_forward(module: &Module, expression: &Expression, index: usize) -> Option<HandleFault>
+    ensures { result ≡ init_forward (module_view «module».now) index (expression_view expression.now) }
+{
+    forward(ItemKind::Expression, index, init_named(module, expression))
+}
+
+// Global expressions of a module.
+#[derive(Drop)]
+struct Globals<'a> {
+    module: &'a Module,
+}
+
+impl ItemCheck<Expression> for Globals<'_> {
+    ghost use Rattle.ir_expressions.specs.Plain.{expression_view};
+    ghost use Rattle.ir_items.specs.View.{module_view};
+    ghost use Rattle.module_handles.specs.InOrder.{GlobalExpressionOK, IsGlobalExpressionFault};
+
+    ghost passes = { λ t e x. GlobalExpressionOK (module_view t.«module».now) e (expression_view x) };
+
+    ghost fails = { λ t e x h. IsGlobalExpressionFault (module_view t.«module».now) e (expression_view x) h };
+
+    fn check(&self, index: usize, expression: &Expression) -> Option<HandleFault> {
+        if let Some(fault) = named_missing(expression, &Bounds::outside_functions(self.module)) {
+            return Some(fault);
+        }
+        init_forward(self.module, expression, index)
+    }
+}
+
+/// The fault of what a global expression names beside its operands, if it is not there, or of what that begins as, if it
+/// does not come before the expression.
+pub(crate) fn fault_of_expressions(module: &Module) -> Option<HandleFault>
+    ensures { MatchOption result (GlobalExpressionsOK (module_view «module».now)) (IsFaultIn (module_view «module».now)) }
+{
+    let globals = Globals { module };
+    fault_of_values(&globals, &module.global_expressions)
+}

@@ -1,0 +1,95 @@
+//! What is found first in a list.
+
+ghost use Rattle.std.specs.Prelude.{◌≡◌};
+ghost use Rattle.std.specs.Option.{MatchOption};
+ghost use Rattle.ir_globals.specs.View.{values_of};
+ghost use Rattle.ir_references.specs.First.{first_past};
+ghost use Rattle.module_handles.specs.Found.{first_missing};
+ghost use Rattle.module_handles.specs.Lists.{AllPass, SomeFails};
+ghost use Rattle.spec_handles.specs.Expressions.{given};
+
+use ir_arena::arena::Arena;
+use ir_arena::handle::Handle;
+use ir_references::HandleFault;
+use spec_handles::ItemKind;
+
+// What is asked of the items of a list, each at its place.
+pub(crate) trait ItemCheck<T> {
+    ghost use Rattle.std.specs.Prelude.{ℕ};
+    ghost use Rattle.ir_references.specs.declared.fault.HandleFault.{HandleFault};
+
+    ghost passes: { Self → ℕ → T → Type 0 };
+
+    ghost fails: { Self → ℕ → T → HandleFault → Type 0 };
+
+    // The fault of an item, if it has one.
+    fn check(&self, index: usize, item: &T) -> Option<HandleFault>
+        ensures { MatchOption result (passes self.now index item.now) (fails self.now index item.now) };
+}
+
+// The first fault of the values of an arena.
+pub(crate) fn fault_of_values<T, K, C: ItemCheck<T>>(
+    check: &C,
+    values: &Arena<T, K>,
+) -> Option<HandleFault>
+    ensures { MatchOption result (AllPass (C.passes check.now) (values_of values.now)) (SomeFails (C.fails check.now) (values_of values.now)) }
+{
+    for index in 0..values.len() {
+        let value = &values[Handle::at(index)];
+        if let Some(fault) = check.check(index, value) {
+            return Some(fault);
+        }
+    }
+    None
+}
+
+// The first fault of the items of a list.
+pub(crate) fn fault_of_items<T, C: ItemCheck<T>>(check: &C, items: &[T]) -> Option<HandleFault>
+    ensures { MatchOption result (AllPass (C.passes check.now) items.now) (SomeFails (C.fails check.now) items.now) }
+{
+    for index in 0..items.len() {
+        let item = &items[index];
+        if let Some(fault) = check.check(index, item) {
+            return Some(fault);
+        }
+    }
+    None
+}
+
+// The place of what is named.
+pub(crate) fn place_of<K>(handle: Option<Handle<K>>) -> Option<usize>
+    ensures { result ≡ handle }
+{
+    match handle {
+        Some(handle) => Some(handle.index()),
+        None => None,
+    }
+}
+
+// The first of the places that are given which does not come before the end.
+fn given_past(places: &[Option<usize>], end: usize) -> Option<usize>
+    ensures { result ≡ first_past end (given places.now) }
+{
+    for place in places {
+        if let Some(place) = place {
+            if *place >= end {
+                return Some(*place);
+            }
+        }
+    }
+    None
+}
+
+// The fault of the first of the places that are given at which there is none of so many items.
+pub(crate) fn first_missing(
+    kind: ItemKind,
+    there: usize,
+    places: &[Option<usize>],
+) -> Option<HandleFault>
+    ensures { result ≡ first_missing kind there (given places.now) }
+{
+    match given_past(places, there) {
+        Some(index) => Some(HandleFault::Missing { kind, index }),
+        None => None,
+    }
+}

@@ -1,0 +1,123 @@
+//! The handles of a whole module.
+
+ghost use Rattle.std.specs.Prelude.{◌≡◌, MatchResult};
+ghost use Rattle.std.specs.Option.{MatchOption};
+ghost use Rattle.ir_items.specs.View.{module_view};
+ghost use Rattle.ir_items.specs.Plain.{PlainModule};
+ghost use Rattle.ir_walks.specs.Filters.{ParentsPrecede};
+ghost use Rattle.module_handles.specs.Errors.{word_of, IsHandleError};
+ghost use Rattle.module_handles.specs.InOrder.{IsFaultIn};
+ghost use Rattle.spec_handles.specs.Conditions.{OperandsPrecede};
+ghost use Rattle.spec_handles.specs.InOrder.{HandlesOK};
+
+use crate::entries::fault_of_entries;
+use crate::expressions::fault_of_expressions;
+use crate::functions::fault_of_functions;
+use crate::items::fault_of_items;
+use crate::types::fault_of_types;
+use error_handles::{FwdDepError, InvalidHandleError};
+use ir_arena::handle::{BadHandle, Kind};
+use ir_arena::range::{BadRangeError, Range};
+use ir_items::{Module, key};
+use ir_references::{HandleFault, forward_operand, forward_parent};
+use spec_handles::ItemKind;
+
+// The word for what an item is.
+fn word(kind: ItemKind) -> &'static str
+    ensures { result.now ≡ word_of kind }
+{
+    match kind {
+        ItemKind::Type => key::IrType::word(),
+        ItemKind::Constant => key::Constant::word(),
+        ItemKind::Override => key::Override::word(),
+        ItemKind::Expression => key::Expression::word(),
+        ItemKind::GlobalVariable => key::GlobalVariable::word(),
+        ItemKind::LocalVariable => key::LocalVariable::word(),
+        ItemKind::Function => key::Function::word(),
+        ItemKind::DiagnosticFilter => key::DiagnosticFilterNode::word(),
+    }
+}
+
+// The error that tells a fault.
+fn error_of(fault: HandleFault) -> InvalidHandleError
+    ensures { (m : PlainModule) → IsFaultIn m fault → IsHandleError m result }
+{
+    match fault {
+        HandleFault::Missing { kind, index } => InvalidHandleError::BadHandle(BadHandle {
+            kind: word(kind),
+            index,
+        }),
+        HandleFault::Forward {
+            kind,
+            index,
+            depends_on,
+        } => InvalidHandleError::ForwardDependency(FwdDepError {
+            subject: index,
+            subject_kind: word(kind),
+            depends_on,
+            depends_on_kind: word(kind),
+        }),
+        HandleFault::Range { first, end } => {
+            let range: Range<key::Expression> = Range::new(first, end);
+            InvalidHandleError::BadRange(BadRangeError::new(range))
+        }
+    }
+}
+
+// The fault of a parent that does not come before its filter.
+fn fault_of_filters(module: &Module) -> Option<HandleFault>
+    ensures { MatchOption result (ParentsPrecede ((module_view «module».now).filters)) (IsFaultIn (module_view «module».now)) }
+{
+    forward_parent(&module.diagnostic_filters)
+}
+
+// The fault of an operand that does not come before its global expression.
+fn fault_of_operands(module: &Module) -> Option<HandleFault>
+    ensures { MatchOption result (OperandsPrecede ((module_view «module».now).global_expressions)) (IsFaultIn (module_view «module».now)) }
+{
+    forward_operand(&module.global_expressions)
+}
+
+// The first fault of the handles of a module.
+#[tactic(auto, using(crate::proofs::Whole::whole))]
+fn fault_of_module(module: &Module) -> Option<HandleFault>
+    ensures { MatchOption result (HandlesOK (module_view «module».now)) (IsFaultIn (module_view «module».now)) }
+{
+    if let Some(fault) = fault_of_types(module) {
+        return Some(fault);
+    }
+    if let Some(fault) = fault_of_items(module) {
+        return Some(fault);
+    }
+    if let Some(fault) = fault_of_expressions(module) {
+        return Some(fault);
+    }
+    if let Some(fault) = fault_of_operands(module) {
+        return Some(fault);
+    }
+    if let Some(fault) = fault_of_filters(module) {
+        return Some(fault);
+    }
+    if let Some(fault) = fault_of_functions(module) {
+        return Some(fault);
+    }
+    fault_of_entries(module)
+}
+
+/// Whether the handles of a module are in order (naga's `validate_module_handles`): all that is named is there, ranges lie
+/// in their lists, and each item comes after those that it depends on. No handle is followed that was not asked. It takes
+/// time as the module is long.
+///
+/// # Errors
+///
+/// [`InvalidHandleError::BadHandle`] where an item is named that isn't there, [`InvalidHandleError::ForwardDependency`]
+/// where an item doesn't come after one that it depends on, and [`InvalidHandleError::BadRange`] where a range of
+/// expressions is out of order or not in its function. Where several faults stand, it is one of them.
+pub fn validate_module_handles(module: &Module) -> Result<(), InvalidHandleError>
+    ensures { MatchResult result (λ _. HandlesOK (module_view «module».now)) (IsHandleError (module_view «module».now)) }
+{
+    match fault_of_module(module) {
+        Some(fault) => Err(error_of(fault)),
+        None => Ok(()),
+    }
+}
