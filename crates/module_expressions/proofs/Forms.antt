@@ -5,3 +5,10 @@ pub mapped_at : {A B : Type 0} (f : A → B) (xs : List A) (k : ℕ) (d : A) →
 mapped_at f [] k d lt = absurd (omega arith)
 mapped_at f (x ∷ xs) zero d lt = refl
 mapped_at f (x ∷ xs) (suc k) d lt = mapped_at f xs k d (omega arith)
+
+pub many_mapped : {A B : Type 0} (f : A → B) (xs : List A) → length (map f xs) ≡ length xs
+many_mapped f [] = refl
+many_mapped f (x ∷ xs) = let h = many_mapped f xs in omega (arith, h)
+
+pub below_mapped : {A B : Type 0} (f : A → B) (xs : List A) (k : ℕ) → k < length (map f xs) → k < length xs
+below_mapped f xs k lt = let h = many_mapped f xs in omega (arith, h, lt)

@@ -87,7 +87,3 @@ take_whole (x ∷ xs) (suc k) all = ap (λ (rest : List Form). x ∷ rest) (take
 
 pub given_all : (forms : List Form) (k n : ℕ) → n ≡ in_32_bits (sum (map scalars_in (take k forms))) → length forms ≤ k → n ≡ in_32_bits (sum (map scalars_in forms))
 given_all forms k n before all = before ∙ ap (λ (xs : List Form). in_32_bits (sum (map scalars_in xs))) (take_whole forms k all)
-
-pub many_mapped : {A B : Type 0} (f : A → B) (xs : List A) → length (map f xs) ≡ length xs
-many_mapped f [] = refl
-many_mapped f (x ∷ xs) = let h : length (map f xs) ≡ length xs = many_mapped f xs in omega (arith, h)

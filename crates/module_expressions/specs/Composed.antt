@@ -4,6 +4,8 @@ use Rattle.error_constants.specs.Compositions.{in_32_bits}
 use Rattle.error_expressions.specs.declared.compose.ComposeError.{ComposeError}
 use Rattle.error_expressions.specs.declared.compose.ComposeError.TheVariants as compose
 use Rattle.ir_types.specs.Plain.{PlainInner, PlainType}
+use Rattle.module_expressions.specs.declared.components.ComponentList.{ComponentList}
+use Rattle.module_expressions.specs.declared.components.ComponentList.TheVariants.{Expressions, Types}
 use Rattle.module_expressions.specs.declared.components.Components.{Components}
 use Rattle.spec_constants.specs.Compositions.{Fits}
 use Rattle.typing_forms.specs.Resolutions.{types_view}
@@ -22,8 +24,12 @@ form_found types None = form.Nothing
 abbrev pub form_known : List PlainType → List TypeResolution → (expression : ℕ) → Form
 form_known types resolutions expression = form_found types (slice_get resolutions expression)
 
+abbrev pub forms_in : List PlainType → ComponentList → List Form
+forms_in types (Expressions resolutions handles) = map (form_known types resolutions.now) handles.now
+forms_in types (Types resolutions) = map (form_given types) resolutions.now
+
 abbrev pub forms_of : Components → List Form
-forms_of c = map (form_known (types_view c.types.now) c.resolutions.now) c.handles.now
+forms_of c = forms_in (types_view c.types.now) c.list
 
 -- ---- place by place
 

@@ -7,16 +7,17 @@ ghost use Rattle.module_expressions.specs.Composed.{AllFit, IsMisfit, IsOtherCou
 ghost use Rattle.spec_constants.specs.Compositions.{IsOfScalar, scalars_in, Fits, parts_given, ComposeOK};
 ghost use Rattle.typing_forms.specs.Forms.{form_of_type};
 ghost use Rattle.typing_forms.specs.Resolutions.{types_view};
+ghost use Rattle.typing_operands.specs.Answers.{form_given};
 ghost use Rattle.typing_rules.specs.Parts.{components_of};
 
-use crate::components::{Components, form_at};
+use crate::components::{ComponentList, Components, count_of, form_at};
 use error_expressions::ComposeError;
 use ir_arena::handle::Handle;
 use ir_kinds::Scalar;
 use ir_types::{ArraySize, IrType, StructMember, TypeInner, key};
 use ir_unique_arena::unique_arena::UniqueArena;
 use typing_forms::laws::form_equality;
-use typing_forms::{Form, form_of_type, inner_of};
+use typing_forms::{Form, TypeResolution, form_of_type, inner_of};
 use typing_rules::TypeInnerExt;
 
 // Whether a value of this form is a scalar, or a vector of it.
@@ -156,7 +157,7 @@ fn scalars_given(components: &Components<'_>) -> u32
     ensures { result ≡ in_32_bits (sum (map scalars_in (forms_of components.now))) }
 {
     let mut given: u32 = 0;
-    for place in 0..components.handles.len() {
+    for place in 0..count_of(components) {
         given = given.saturating_add(scalars_in(form_at(components, place)));
     }
     given
@@ -172,7 +173,7 @@ fn check_each(
         (λ _. AllFit (types_view types.now) (inner_view inner.now) (forms_of components.now))
         (IsMisfit (types_view types.now) (inner_view inner.now) (forms_of components.now)) }
 {
-    for place in 0..components.handles.len() {
+    for place in 0..count_of(components) {
         if !fits(types, inner, place, form_at(components, place)) {
             return Err(ComposeError::ComponentType {
                 index: in_32_bits(place),
@@ -237,7 +238,7 @@ fn check_count(
         | TypeInner::Sampler { .. }
         | TypeInner::AccelerationStructure { .. }
         | TypeInner::RayQuery { .. }
-        | TypeInner::BindingArray { .. } => check_many(components.handles.len(), expected),
+        | TypeInner::BindingArray { .. } => check_many(count_of(components), expected),
     }
 }
 
@@ -264,4 +265,26 @@ pub fn check_composition(
     };
     check_each(types, inner, components)?;
     check_count(inner, components, expected)
+}
+
+/// Whether values of these types make one of the type at a handle (naga's `validate_compose`).
+///
+/// # Errors
+///
+/// Nothing of the type is composed, a component does not fit, or they are too few or too many: each is answered only where
+/// it stands.
+pub fn validate_compose(
+    types: &UniqueArena<IrType, key::IrType>,
+    ty: Handle<key::IrType>,
+    component_resolutions: &[TypeResolution],
+) -> Result<(), ComposeError>
+    ensures { MatchResult result
+        (λ _. ComposeOK (types_view types.now) ty (map (form_given (types_view types.now)) component_resolutions.now))
+        (IsComposeFault (types_view types.now) ty (map (form_given (types_view types.now)) component_resolutions.now)) }
+{
+    let components = Components {
+        types,
+        list: ComponentList::Types(component_resolutions),
+    };
+    check_composition(types, ty, &components)
 }

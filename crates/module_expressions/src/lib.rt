@@ -4,5 +4,5 @@
 mod components;
 mod compose;
 
-pub use components::Components;
-pub use compose::check_composition;
+pub use components::{ComponentList, Components};
+pub use compose::{check_composition, validate_compose};

@@ -3,4 +3,5 @@ pub mod Known
 pub mod PlacedLaws
 pub mod Places
 pub mod SameInner
+pub mod Scalars
 pub mod Sources

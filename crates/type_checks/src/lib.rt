@@ -15,4 +15,4 @@ pub use check::check_type;
 pub use context::TypeContext;
 pub use facts::{Facts, at_least_sixteen, facts_of, type_at};
 pub use members::{Placed, member_at, member_before};
-pub use widths::{check_literal_value, check_width, validate_literal};
+pub use widths::{check_atomic, check_literal_value, check_width, validate_literal};

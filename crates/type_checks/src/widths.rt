@@ -151,7 +151,11 @@ fn check_atomic_integer(capabilities: Capabilities, scalar: Scalar) -> Result<()
 }
 
 /// Whether an atomic may be of a scalar.
-pub(crate) fn check_atomic(capabilities: Capabilities, scalar: Scalar) -> Result<(), TypeError>
+///
+/// # Errors
+///
+/// No atomic is of a scalar of this kind and width, or a capability that it asks for is missing.
+pub fn check_atomic(capabilities: Capabilities, scalar: Scalar) -> Result<(), TypeError>
     ensures { MatchResult result (λ _. AtomicOK capabilities scalar) (IsAtomicFault capabilities scalar) }
 {
     match scalar.kind {

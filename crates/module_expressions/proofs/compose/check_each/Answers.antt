@@ -1,8 +1,8 @@
 use Rattle.std.proofs.Common.{true≢false, refl, sym, ap, ◌∙◌, arith}
 use Rattle.error_expressions.specs.declared.compose.ComposeError.TheVariants as compose
 use Rattle.ir_types.specs.Plain.{inner_view}
-use Rattle.module_expressions.proofs.Places.{fit_none, fit_more, fit_all, many_mapped}
-use Rattle.module_expressions.specs.Composed.{forms_of, form_known}
+use Rattle.module_expressions.proofs.Places.{fit_none, fit_more, fit_all}
+use Rattle.module_expressions.specs.Composed.{forms_of}
 use Rattle.typing_forms.specs.Resolutions.{types_view}
 use Rattle.module_expressions.proofs.compose.check_each.Goals as goal
 
@@ -24,5 +24,5 @@ loop-place-preserved c =
 
 pub returns : goal.returns
 returns c =
-    let many = many_mapped (form_known (types_view c.args.components.now.types.now) c.args.components.now.resolutions.now) c.args.components.now.handles.now in
+    let many = c.count_of-place-end.ensures in
     fit_all (types_view c.args.types.now) (inner_view c.args.inner.now) (forms_of c.args.components.now) c.loop-place.place c.loop-place.invariant (omega (arith, many, c.loop-place-test.false))

@@ -1,7 +1,6 @@
 use Rattle.std.proofs.Common.{arith}
-use Rattle.module_expressions.proofs.Places.{given_more, given_all, many_mapped}
-use Rattle.module_expressions.specs.Composed.{forms_of, form_known}
-use Rattle.typing_forms.specs.Resolutions.{types_view}
+use Rattle.module_expressions.proofs.Places.{given_more, given_all}
+use Rattle.module_expressions.specs.Composed.{forms_of}
 use Rattle.module_expressions.proofs.compose.scalars_given.Goals as goal
 
 pub loop-place-preserved : goal.loop-place-preserved
@@ -11,5 +10,5 @@ loop-place-preserved c =
 
 pub returns : goal.returns
 returns c =
-    let many = many_mapped (form_known (types_view c.args.components.now.types.now) c.args.components.now.resolutions.now) c.args.components.now.handles.now in
+    let many = c.count_of-place-end.ensures in
     given_all (forms_of c.args.components.now) c.loop-place.place c.loop-place.given c.loop-place.invariant (omega (arith, many, c.loop-place-test.false))

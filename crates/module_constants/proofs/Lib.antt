@@ -1,0 +1,4 @@
+pub mod FlagLemmas
+pub mod IdLemmas
+pub mod ScalarLemmas
+pub mod Told

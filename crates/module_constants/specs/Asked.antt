@@ -1,0 +1,24 @@
+-- What is asked of global expressions, where it is known when their values are known.
+use Rattle.std.specs.Prelude.{◌≡◌, Bool}
+use Rattle.error_constants.specs.Expressions.{IsComponentsFault}
+use Rattle.error_expressions.specs.declared.const_expressions.ConstExpressionError.{ConstExpressionError}
+use Rattle.error_expressions.specs.declared.const_expressions.ConstExpressionError.TheVariants as error
+use Rattle.ir_flags.specs.declared.settings.Capabilities.{Capabilities}
+use Rattle.ir_items.specs.Plain.{PlainModule}
+use Rattle.spec_constants.specs.GlobalExpressions.{Asked, of_literal, of_composition, of_value, to_work_out, MayWait}
+use Rattle.spec_expressions.specs.Context.{outside}
+use Rattle.type_checks.specs.Widths.{IsLiteralFault}
+use Rattle.typing_layout.specs.declared.constness.ExpressionKind.{ExpressionKind}
+
+abbrev pub IsLate : (resolved : Bool) → ExpressionKind → ConstExpressionError → Type 0
+IsLate resolved kind error.NonFullyEvaluatedConst = ¬ MayWait resolved kind
+IsLate resolved kind _ = ⊥
+
+-- what is asked is not met
+abbrev pub IsUnmet : Capabilities → (resolved : Bool) → PlainModule → ExpressionKind → Asked → ConstExpressionError → Type 0
+IsUnmet capabilities resolved m kind (of_literal value) (error.Literal e) = IsLiteralFault capabilities value e
+IsUnmet capabilities resolved m kind (of_literal value) _ = ⊥
+IsUnmet capabilities resolved m kind (of_composition type components) (error.Compose e) = IsComponentsFault (outside m) m.global_expressions type components e
+IsUnmet capabilities resolved m kind (of_composition type components) _ = ⊥
+IsUnmet capabilities resolved m kind of_value e = ⊥
+IsUnmet capabilities resolved m kind to_work_out e = IsLate resolved kind e

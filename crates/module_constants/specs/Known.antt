@@ -1,0 +1,45 @@
+-- What is known where global expressions, constants and overrides are judged.
+use Rattle.std.specs.Prelude.{◌≡◌, ◌<◌, ◌↔◌, ℕ, List, Some, Bool, IsTrue, length, slice_get}
+use Rattle.ir_expressions.specs.Plain.{compose}
+use Rattle.ir_globals.specs.Plain.{PlainConstant, PlainOverride}
+use Rattle.ir_items.specs.Plain.{PlainModule}
+use Rattle.ir_items.specs.View.{module_view}
+use Rattle.module_constants.specs.declared.context.GlobalContext.{GlobalContext}
+use Rattle.overload_tables.specs.Laws.{IsAmong}
+use Rattle.spec_expressions.specs.Typing.{HasGlobalType}
+use Rattle.type_checks.specs.Known.{AreInfos}
+use Rattle.typing_forms.specs.Forms.{form_of_type}
+use Rattle.typing_forms.specs.declared.form.Form.{Form}
+use Rattle.typing_forms.specs.declared.resolution.TypeResolution.{TypeResolution}
+use Rattle.typing_layout.specs.Constness.{AreKinds}
+use Rattle.typing_operands.specs.Answers.{form_given}
+
+abbrev pub module_in : GlobalContext → PlainModule
+module_in c = module_view c.«module».now
+
+-- each is the type of the global expression at its index
+pub record AreTyped (m : PlainModule) (resolutions : List TypeResolution) : Type 0 where
+  pub many : length resolutions ≡ length m.global_expressions
+  pub each : (handle : ℕ) (r : TypeResolution) → slice_get resolutions handle ≡ Some r → HasGlobalType m handle (form_given m.types r)
+
+-- the types and the global expressions that constants, overrides and compositions name are there
+pub record AreThere (m : PlainModule) : Type 0 where
+  pub constant_types : (handle : ℕ) (c : PlainConstant) → slice_get m.constants handle ≡ Some c → c.ty < length m.types
+  pub constant_values : (handle : ℕ) (c : PlainConstant) → slice_get m.constants handle ≡ Some c → c.init < length m.global_expressions
+  pub override_types : (handle : ℕ) (o : PlainOverride) → slice_get m.overrides handle ≡ Some o → o.ty < length m.types
+  pub override_values : (handle init : ℕ) (o : PlainOverride) → slice_get m.overrides handle ≡ Some o → o.init ≡ Some init → init < length m.global_expressions
+  pub components : (handle type component : ℕ) (all : List ℕ) → slice_get m.global_expressions handle ≡ Some (compose type all) → IsAmong component all → component < length m.global_expressions
+
+-- of each global expression its kind and its type, and what is told of each type
+pub record IsKnown (c : GlobalContext) : Type 0 where
+  pub there : AreThere (module_in c)
+  pub kinds : AreKinds (module_in c).global_expressions c.kinds.now
+  pub typed : AreTyped (module_in c) c.resolutions.now
+  pub many : length c.infos.now ≡ length (module_in c).types
+  pub told : AreInfos (module_in c).types c.infos.now
+
+-- a truth value that tells whether the global expression is of the type at a handle
+pub record IsJudged (m : PlainModule) (expression type : ℕ) (is : Bool) : Type 0 where
+  pub t : Form
+  pub typed : HasGlobalType m expression t
+  pub told : IsTrue is ↔ (t ≡ form_of_type m.types type)

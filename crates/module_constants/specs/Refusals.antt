@@ -1,0 +1,79 @@
+-- Why constants, global expressions and overrides are refused.
+use Rattle.std.specs.Prelude.{◌≡◌, ◌≢◌, ◌⊎◌, ℕ, [], Option, Some, None, Bool, true, IsSome, length}
+use Rattle.error_constants.specs.Constants.{IsConstantFault}
+use Rattle.error_constants.specs.Expressions.{IsConstExpressionFault}
+use Rattle.error_constants.specs.Overrides.{IsOverrideFault}
+use Rattle.error_constants.specs.declared.constants.ConstantError.{ConstantError}
+use Rattle.error_constants.specs.declared.overrides.OverrideError.{OverrideError}
+use Rattle.error_constants.specs.declared.overrides.OverrideError.TheVariants as error
+use Rattle.error_expressions.specs.declared.const_expressions.ConstExpressionError.{ConstExpressionError}
+use Rattle.ir_faults.specs.Faults.{error_of, spans_of}
+use Rattle.ir_faults.specs.declared.refusal.Refusal.{Refusal}
+use Rattle.ir_faults.specs.declared.refusal.Refusal.TheVariants as refusal
+use Rattle.ir_flags.specs.declared.settings.Capabilities.{Capabilities}
+use Rattle.ir_globals.specs.Plain.{PlainConstant, PlainOverride}
+use Rattle.ir_items.specs.Plain.{PlainModule}
+use Rattle.module_constants.specs.Firsts.{IsFirstRefused}
+use Rattle.module_constants.specs.declared.overrides.InvalidOverride.{InvalidOverride}
+use Rattle.spec_constants.specs.Constants.{ConstantOK}
+use Rattle.spec_constants.specs.GlobalExpressions.{GlobalExpressionOK}
+use Rattle.spec_constants.specs.Overrides.{IsOverrideType, DefaultOK, OverrideOK}
+use Rattle.spec_expressions.specs.Typing.{HasGlobalType}
+use Rattle.spec_flags.specs.Flags.{HasFlag, Constructible}
+use Rattle.spec_types.specs.View.{type_tree}
+use Rattle.typing_forms.specs.Forms.{form_of_type}
+use Rattle.typing_forms.specs.declared.form.Form.{Form}
+use Rattle.typing_layout.specs.Constness.{IsOfKind}
+use Rattle.typing_layout.specs.declared.constness.ExpressionKind.TheVariants.{Const, Runtime}
+
+-- a constant may stand
+pub record IsFineConstant (m : PlainModule) (c : PlainConstant) : Type 0 where
+  pub composed : HasFlag Constructible (type_tree m.types c.ty)
+  pub known : IsOfKind m.global_expressions c.init Const
+  pub typed : HasGlobalType m c.init (form_of_type m.types c.ty)
+
+-- why a constant is refused: it has a fault, which refutes it
+pub record IsConstantRefused (m : PlainModule) (handle : ℕ) (e : ConstantError) : Type 0 where
+  pub fault : IsConstantFault m handle e
+  pub not : ¬ ConstantOK m handle
+
+-- the same of a global expression
+pub record IsExpressionRefused (capabilities : Capabilities) (resolved : Bool) (m : PlainModule) (handle : ℕ) (e : ConstExpressionError) : Type 0 where
+  pub fault : IsConstExpressionFault capabilities resolved m handle e
+  pub not : ¬ GlobalExpressionOK capabilities resolved m handle
+
+-- what an override has where the pipeline gives it no value is refused
+abbrev pub IsDefaultFault : (resolved : Bool) → PlainModule → (type : ℕ) → Option ℕ → OverrideError → Type 0
+IsDefaultFault resolved m type None error.UninitializedOverride = resolved ≡ true
+IsDefaultFault resolved m type None _ = ⊥
+IsDefaultFault resolved m type (Some init) error.InitializerExprType = IsOfKind m.global_expressions init Runtime
+IsDefaultFault resolved m type (Some init) error.InvalidType = (t : Form) × HasGlobalType m init t × (t ≢ form_of_type m.types type)
+IsDefaultFault resolved m type (Some init) _ = ⊥
+
+-- an override may stand, whatever ids those before it have
+pub record IsFineBesideId (resolved : Bool) (m : PlainModule) (o : PlainOverride) : Type 0 where
+  pub named : IsSome o.name ⊎ IsSome o.id
+  pub scalar : IsOverrideType m.types o.ty
+  pub default : DefaultOK resolved m o.ty o.init
+
+-- why an override is refused: it has a fault, which refutes it, or there is no memory
+pub record IsOverrideRefused (resolved : Bool) (m : PlainModule) (handle : ℕ) (e : OverrideError) : Type 0 where
+  pub fault : IsOverrideFault resolved m handle e
+  pub not : ¬ OverrideOK resolved m handle
+
+abbrev pub IsOverrideRefusal : (resolved : Bool) → PlainModule → (handle : ℕ) → Refusal OverrideError → Type 0
+IsOverrideRefusal resolved m handle (refusal.Memory e) = Unit {0}
+IsOverrideRefusal resolved m handle (refusal.Fault f) = IsOverrideRefused resolved m handle (error_of f) × (spans_of f ≡ [])
+
+-- a refusal tells the same as that of the override at a handle
+abbrev pub IsToldAt : (handle : ℕ) → Refusal OverrideError → Refusal InvalidOverride → Type 0
+IsToldAt handle (refusal.Memory e) (refusal.Memory d) = Unit {0}
+IsToldAt handle (refusal.Memory e) (refusal.Fault g) = ⊥
+IsToldAt handle (refusal.Fault f) (refusal.Memory d) = ⊥
+IsToldAt handle (refusal.Fault f) (refusal.Fault g) = ((error_of g).id ≡ handle) × ((error_of g).error ≡ error_of f) × (spans_of g ≡ [])
+
+-- why not all overrides are accepted: one is refused, or there is no memory
+abbrev pub IsRefusal : (resolved : Bool) → PlainModule → Refusal InvalidOverride → Type 0
+IsRefusal resolved m (refusal.Memory e) = Unit {0}
+IsRefusal resolved m (refusal.Fault f) =
+    IsFirstRefused (OverrideOK resolved m) (λ handle. IsOverrideFault resolved m handle (error_of f).error) (length m.overrides) (error_of f).id × (spans_of f ≡ [])

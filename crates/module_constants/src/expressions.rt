@@ -1,0 +1,194 @@
+//! Global expressions.
+
+ghost use Rattle.std.specs.Prelude.{◌≡◌, ◌<◌, Some, length, slice_get, MatchResult};
+ghost use Rattle.error_constants.specs.Expressions.{IsComponentsFault, IsConstExpressionFault};
+ghost use Rattle.ir_expressions.specs.Plain.{compose, expression_view};
+ghost use Rattle.module_constants.specs.Asked.{IsLate, IsUnmet};
+ghost use Rattle.module_constants.specs.Firsts.{AreAccepted, IsFirstRefused};
+ghost use Rattle.module_constants.specs.Known.{IsKnown, module_in};
+ghost use Rattle.module_constants.specs.Refusals.{IsExpressionRefused};
+ghost use Rattle.spec_constants.specs.Compositions.{ComponentsOK};
+ghost use Rattle.spec_constants.specs.GlobalExpressions.{asked_of, IsMet, MayWait, GlobalExpressionOK};
+ghost use Rattle.spec_constants.specs.Literals.{LiteralOK};
+ghost use Rattle.spec_expressions.specs.Context.{outside};
+ghost use Rattle.type_checks.specs.Widths.{IsLiteralFault};
+
+use crate::context::{GlobalContext, known_kind};
+use error_expressions::{ComposeError, ConstExpressionError};
+use ir_arena::handle::Handle;
+use ir_expressions::Expression;
+use ir_types::key;
+use module_expressions::{ComponentList, Components, check_composition};
+use thiserror::Error;
+use type_checks::validate_literal;
+use typing_layout::ExpressionKind;
+
+/// A global expression that is refused (naga's `ValidationError::ConstExpression`).
+#[derive(PartialEq, Debug, Drop, Error)]
+#[error("global expression {expression:?} is refused: {error}")]
+pub struct InvalidGlobalExpression {
+    /// The expression.
+    pub expression: Handle<key::Expression>,
+    /// What is wrong with it.
+    pub error: ConstExpressionError,
+}
+
+// Whether the components of a composition make it.
+fn check_components(
+    context: &GlobalContext<'_>,
+    handle: Handle<key::Expression>,
+    ty: Handle<key::IrType>,
+    components: &[Handle<key::Expression>],
+) -> Result<(), ComposeError>
+    requires known { IsKnown context.now }
+    requires stands { slice_get (module_in context.now).global_expressions handle ≡ Some (compose ty components.now) }
+    ensures { MatchResult result
+        (λ _. ComponentsOK (outside (module_in context.now)) (module_in context.now).global_expressions ty components.now)
+        (IsComponentsFault (outside (module_in context.now)) (module_in context.now).global_expressions ty components.now) }
+{
+    let named = Components {
+        types: &context.module.types,
+        list: ComponentList::Expressions {
+            resolutions: context.resolutions,
+            handles: components,
+        },
+    };
+    check_composition(&context.module.types, ty, &named)
+}
+
+// Whether an expression that has to be worked out may still stand.
+fn check_late(resolved: bool, kind: ExpressionKind) -> Result<(), ConstExpressionError>
+    ensures { MatchResult result (λ _. MayWait resolved kind) (IsLate resolved kind) }
+{
+    match kind {
+        ExpressionKind::Override => {
+            if resolved {
+                Err(ConstExpressionError::NonFullyEvaluatedConst)
+            } else {
+                Ok(())
+            }
+        }
+        ExpressionKind::Const | ExpressionKind::Runtime => {
+            Err(ConstExpressionError::NonFullyEvaluatedConst)
+        }
+    }
+}
+
+// Whether what is asked of a global expression is met, where its value is of a kind.
+fn check_met(
+    context: &GlobalContext<'_>,
+    kind: ExpressionKind,
+    handle: Handle<key::Expression>,
+    expression: &Expression,
+) -> Result<(), ConstExpressionError>
+    requires known { IsKnown context.now }
+    requires stands { slice_get (module_in context.now).global_expressions handle ≡ Some (expression_view expression.now) }
+    ensures { MatchResult result
+        (λ _. IsMet context.now.capabilities context.now.overrides_resolved (module_in context.now) kind (asked_of (expression_view expression.now)))
+        (IsUnmet context.now.capabilities context.now.overrides_resolved (module_in context.now) kind (asked_of (expression_view expression.now))) }
+{
+    match *expression {
+        Expression::Literal(value) => match validate_literal(context.capabilities, value) {
+            Ok(()) => Ok(()),
+            Err(error) => Err(ConstExpressionError::Literal(error)),
+        },
+        Expression::Compose { ty, ref components } => {
+            match check_components(context, handle, ty, components.as_slice()) {
+                Ok(()) => Ok(()),
+                Err(error) => Err(ConstExpressionError::Compose(error)),
+            }
+        }
+        Expression::Constant(_)
+        | Expression::Override(_)
+        | Expression::ZeroValue(_)
+        | Expression::Splat { .. } => Ok(()),
+        Expression::Access { .. }
+        | Expression::AccessIndex { .. }
+        | Expression::Swizzle { .. }
+        | Expression::FunctionArgument(_)
+        | Expression::GlobalVariable(_)
+        | Expression::LocalVariable(_)
+        | Expression::Load { .. }
+        | Expression::ImageSample { .. }
+        | Expression::ImageLoad { .. }
+        | Expression::ImageQuery { .. }
+        | Expression::Unary { .. }
+        | Expression::Binary { .. }
+        | Expression::Select { .. }
+        | Expression::Derivative { .. }
+        | Expression::Relational { .. }
+        | Expression::Math { .. }
+        | Expression::As { .. }
+        | Expression::CallResult(_)
+        | Expression::AtomicResult { .. }
+        | Expression::WorkGroupUniformLoadResult { .. }
+        | Expression::ArrayLength(_)
+        | Expression::RayQueryVertexPositions { .. }
+        | Expression::RayQueryProceedResult
+        | Expression::RayQueryGetIntersection { .. }
+        | Expression::SubgroupBallotResult
+        | Expression::SubgroupOperationResult { .. }
+        | Expression::CooperativeLoad { .. }
+        | Expression::CooperativeMultiplyAdd { .. } => {
+            check_late(context.overrides_resolved, kind)
+        }
+    }
+}
+
+/// Whether a module may have the global expression at a handle (naga's `validate_const_expression`). That it has a type is
+/// known.
+///
+/// # Errors
+///
+/// Its value is known only when the shader runs, it was not worked out, it is a literal that may not be used, or a
+/// composition that can't be made: each is answered only where it stands.
+#[tactic(auto, using(crate::proofs::Told::expression_refused))]
+pub fn validate_const_expression(
+    context: &GlobalContext<'_>,
+    handle: Handle<key::Expression>,
+) -> Result<(), ConstExpressionError>
+    requires known { IsKnown context.now }
+    requires within { handle < length context.now.«module».now.global_expressions }
+    ensures { MatchResult result
+        (λ _. GlobalExpressionOK context.now.capabilities context.now.overrides_resolved (module_in context.now) handle)
+        (IsExpressionRefused context.now.capabilities context.now.overrides_resolved (module_in context.now) handle) }
+{
+    let kind = known_kind(context, handle);
+    if kind == ExpressionKind::Runtime {
+        return Err(ConstExpressionError::NonConstOrOverride);
+    }
+    check_met(
+        context,
+        kind,
+        handle,
+        &context.module.global_expressions[handle],
+    )
+}
+
+/// Whether a module may have its global expressions. Each is looked at once, with its components.
+///
+/// # Errors
+///
+/// The first that is refused, with a fault of its own.
+pub fn validate_const_expressions(
+    context: &GlobalContext<'_>,
+) -> Result<(), InvalidGlobalExpression>
+    requires known { IsKnown context.now }
+    ensures { MatchResult result
+        (λ _. AreAccepted
+        (GlobalExpressionOK context.now.capabilities context.now.overrides_resolved (module_in context.now))
+        (length (module_in context.now).global_expressions))
+        (λ e. IsFirstRefused
+        (GlobalExpressionOK context.now.capabilities context.now.overrides_resolved (module_in context.now))
+        (λ handle. IsConstExpressionFault context.now.capabilities context.now.overrides_resolved (module_in context.now) handle e.error)
+        (length (module_in context.now).global_expressions) e.expression) }
+{
+    for place in 0..context.module.global_expressions.len() {
+        let expression = Handle::at(place);
+        match validate_const_expression(context, expression) {
+            Ok(()) => {}
+            Err(error) => return Err(InvalidGlobalExpression { expression, error }),
+        }
+    }
+    Ok(())
+}

@@ -1,0 +1,222 @@
+//! Overrides.
+
+ghost use Rattle.std.specs.Prelude.{◌≡◌, ◌<◌, ◌+◌, ◌↔◌, ℕ, IsTrue, Contains, Some, length, slice_get, IfOk, IfErr, OnOk, MatchResult};
+ghost use Rattle.error_constants.specs.Overrides.{IsFaultOf};
+ghost use Rattle.ir_globals.specs.View.{override_view};
+ghost use Rattle.module_constants.specs.Firsts.{AreAccepted};
+ghost use Rattle.module_constants.specs.Ids.{AreIds, IsNoted};
+ghost use Rattle.module_constants.specs.Known.{IsKnown, module_in};
+ghost use Rattle.module_constants.specs.Kinds.{integer_scalars, float_scalars};
+ghost use Rattle.module_constants.specs.Refusals.{IsDefaultFault, IsFineBesideId, IsOverrideRefusal, IsToldAt, IsRefusal};
+ghost use Rattle.spec_constants.specs.Overrides.{override_scalars, IsOverrideType, DefaultOK, OverrideOK};
+ghost use Rattle.typing_forms.specs.Resolutions.{types_view};
+
+use crate::context::{GlobalContext, has_type, is_composed, known_kind};
+use error_constants::OverrideError;
+use ir_arena::handle::Handle;
+use ir_faults::refusal::Refusal;
+use ir_faults::with_span::WithSpan;
+use ir_globals::Override;
+use ir_kinds::Scalar;
+use ir_types::{IrType, TypeInner, key};
+use ir_unique_arena::unique_arena::UniqueArena;
+use std::alloc::{AllocError, Global};
+use std::collections::BTreeSet;
+use thiserror::Error;
+use typing_forms::inner_of;
+use typing_layout::ExpressionKind;
+
+/// An override that is refused (naga's `ValidationError::Override`).
+#[derive(Clone, Copy, PartialEq, Debug, Error)]
+#[error("override {id:?} is refused: {error}")]
+pub struct InvalidOverride {
+    /// The override.
+    pub id: Handle<key::Override>,
+    /// What is wrong with it.
+    pub error: OverrideError,
+}
+
+// Whether a scalar is a truth value or an integer of which a pipeline may give a value.
+fn is_override_integer(scalar: Scalar) -> bool
+    ensures { IsTrue result ↔ Contains integer_scalars scalar }
+{
+    scalar == Scalar::BOOL || scalar == Scalar::I32 || scalar == Scalar::U32
+}
+
+// Whether a scalar is a float of which a pipeline may give a value.
+fn is_override_float(scalar: Scalar) -> bool
+    ensures { IsTrue result ↔ Contains float_scalars scalar }
+{
+    scalar == Scalar::F16 || scalar == Scalar::F32 || scalar == Scalar::F64
+}
+
+// Whether a pipeline may give a value of a scalar.
+#[tactic(auto, using(crate::proofs::ScalarLemmas::either_kind, crate::proofs::ScalarLemmas::of_integers, crate::proofs::ScalarLemmas::of_floats))]
+fn is_override_scalar(scalar: Scalar) -> bool
+    ensures { IsTrue result ↔ Contains override_scalars scalar }
+{
+    is_override_integer(scalar) || is_override_float(scalar)
+}
+
+// Whether the type at a handle is a scalar of which a pipeline may give a value.
+fn is_override_type(types: &UniqueArena<IrType, key::IrType>, ty: Handle<key::IrType>) -> bool
+    ensures { IsTrue result ↔ IsOverrideType (types_view types.now) ty }
+{
+    let Some(inner) = inner_of(types, ty) else {
+        return false;
+    };
+    match *inner {
+        TypeInner::Scalar(scalar) => is_override_scalar(scalar),
+        TypeInner::Vector { .. }
+        | TypeInner::Matrix { .. }
+        | TypeInner::CooperativeMatrix { .. }
+        | TypeInner::Atomic(_)
+        | TypeInner::Pointer { .. }
+        | TypeInner::ValuePointer { .. }
+        | TypeInner::Array { .. }
+        | TypeInner::Struct { .. }
+        | TypeInner::Image { .. }
+        | TypeInner::Sampler { .. }
+        | TypeInner::AccelerationStructure { .. }
+        | TypeInner::RayQuery { .. }
+        | TypeInner::BindingArray { .. } => false,
+    }
+}
+
+// Whether an override of a type may have this value where the pipeline gives none.
+fn check_default(
+    context: &GlobalContext<'_>,
+    ty: Handle<key::IrType>,
+    init: Option<Handle<key::Expression>>,
+) -> Result<(), OverrideError>
+    requires known { IsKnown context.now }
+    requires within { (e : ℕ) → init ≡ Some e → e < length context.now.resolutions.now }
+    ensures { MatchResult result
+        (λ _. DefaultOK context.now.overrides_resolved (module_in context.now) ty init)
+        (IsDefaultFault context.now.overrides_resolved (module_in context.now) ty init) }
+{
+    let Some(value) = init else {
+        if context.overrides_resolved {
+            return Err(OverrideError::UninitializedOverride);
+        }
+        return Ok(());
+    };
+    if known_kind(context, value) == ExpressionKind::Runtime {
+        return Err(OverrideError::InitializerExprType);
+    }
+    if !has_type(context, value, ty) {
+        return Err(OverrideError::InvalidType);
+    }
+    Ok(())
+}
+
+// Whether an override may stand, whatever ids those before it have.
+fn check_beside_id(context: &GlobalContext<'_>, item: &Override) -> Result<(), OverrideError>
+    requires known { IsKnown context.now }
+    requires ty { item.now.ty < length context.now.infos.now }
+    requires init { (e : ℕ) → item.now.init ≡ Some e → e < length context.now.resolutions.now }
+    ensures { MatchResult result
+        (λ _. IsFineBesideId context.now.overrides_resolved (module_in context.now) (override_view item.now))
+        (λ e. (handle : ℕ) → IsFaultOf context.now.overrides_resolved (module_in context.now) handle (override_view item.now) e) }
+{
+    if item.name.is_none() && item.id.is_none() {
+        return Err(OverrideError::MissingNameAndID);
+    }
+    if !is_composed(context, item.ty) {
+        return Err(OverrideError::NonConstructibleType);
+    }
+    if !is_override_type(&context.module.types, item.ty) {
+        return Err(OverrideError::TypeNotScalar);
+    }
+    check_default(context, item.ty, item.init)
+}
+
+// Notes the id of an override, if it has one, and answers whether none was noted that is the same. The error is out of memory.
+fn note_id(ids: &mut BTreeSet<u16>, id: Option<u16>) -> Result<bool, AllocError>
+    ensures { IfOk result (IsNoted ids.old ids.new id) }
+{
+    match id {
+        Some(id) => {
+            let own = ids.insert(id)?;
+            Ok(own)
+        }
+        None => Ok(true),
+    }
+}
+
+/// Whether a module may have the override at a handle (naga's `validate_override`). `ids` are those of the overrides before
+/// it; its own is added.
+///
+/// # Errors
+///
+/// It has neither a name nor an id, an override before it has its id, its type is no scalar that an override may have, its
+/// initialiser is known only when the shader runs or of another type, or it has none and overrides are resolved: each is
+/// answered only where it stands, with no span; or out of memory.
+pub fn validate_override(
+    alloc: Global,
+    context: &GlobalContext<'_>,
+    ids: &mut BTreeSet<u16>,
+    handle: Handle<key::Override>,
+) -> Result<(), Refusal<OverrideError>>
+    requires known { IsKnown context.now }
+    requires within { handle < length context.now.«module».now.overrides }
+    requires ids { AreIds (module_in context.now).overrides handle ids.old }
+    ensures accepted { IfOk result (λ _. OverrideOK context.now.overrides_resolved (module_in context.now) handle) }
+    ensures added { OnOk result (AreIds (module_in context.now).overrides (handle + 1) ids.new) }
+    ensures refused { IfErr result (IsOverrideRefusal context.now.overrides_resolved (module_in context.now) handle) }
+{
+    let item = &context.module.overrides[handle];
+    if !note_id(ids, item.id)? {
+        return Err(Refusal::Fault(WithSpan::new(alloc, OverrideError::DuplicateID)));
+    }
+    match check_beside_id(context, item) {
+        Ok(()) => Ok(()),
+        Err(error) => Err(Refusal::Fault(WithSpan::new(alloc, error))),
+    }
+}
+
+// The refusal of an override, as one of all overrides.
+fn refusal_at(
+    alloc: Global,
+    id: Handle<key::Override>,
+    refusal: Refusal<OverrideError>,
+) -> Refusal<InvalidOverride>
+    ensures { IsToldAt id refusal result }
+{
+    match refusal {
+        Refusal::Memory(error) => Refusal::Memory(error),
+        Refusal::Fault(fault) => Refusal::Fault(WithSpan::new(
+            alloc,
+            InvalidOverride {
+                id,
+                error: fault.into_inner(),
+            },
+        )),
+    }
+}
+
+/// Whether a module may have its overrides. Each is looked at once, and its id looked up among those before it.
+///
+/// # Errors
+///
+/// The first that is refused, with a fault of its own and no span; or out of memory.
+pub fn validate_overrides(
+    alloc: Global,
+    context: &GlobalContext<'_>,
+) -> Result<(), Refusal<InvalidOverride>>
+    requires known { IsKnown context.now }
+    ensures accepted { IfOk result (λ _. AreAccepted
+        (OverrideOK context.now.overrides_resolved (module_in context.now))
+        (length (module_in context.now).overrides)) }
+    ensures refused { IfErr result (IsRefusal context.now.overrides_resolved (module_in context.now)) }
+{
+    let mut ids = BTreeSet::new(alloc);
+    for place in 0..context.module.overrides.len() {
+        let id = Handle::at(place);
+        match validate_override(alloc, context, &mut ids, id) {
+            Ok(()) => {}
+            Err(refusal) => return Err(refusal_at(alloc, id, refusal)),
+        }
+    }
+    Ok(())
+}

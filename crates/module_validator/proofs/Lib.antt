@@ -1,0 +1,4 @@
+pub mod Handles
+pub mod Refusals
+pub mod StepLemmas
+pub mod ValueLemmas

@@ -1,0 +1,148 @@
+//! The checks of a module, one after the other.
+
+ghost use Rattle.std.specs.Prelude.{◌≡◌, [], MatchResult, IfOk, IfErr, OnOk, false, true};
+ghost use Rattle.ir_items.specs.View.{module_view};
+ghost use Rattle.module_validator.specs.Faults.{IsRefusal};
+ghost use Rattle.module_validator.specs.Told.{IsInfoOf, settings_of};
+ghost use Rattle.spec_flags.specs.Widths.{ScalarOK};
+ghost use Rattle.spec_constants.specs.Literals.{LiteralOK};
+ghost use Rattle.spec_modules.specs.Steps.{ModuleOK};
+ghost use Rattle.type_infos.specs.Faults.{IsWidthFault};
+ghost use Rattle.type_checks.specs.Widths.{IsLiteralFault};
+
+use crate::error::ModuleError;
+use crate::steps::{check_handles, expression_types, lay_out, type_infos};
+use crate::values::check_values;
+use ir_faults::refusal::Refusal;
+use ir_flags::{Capabilities, ValidationFlags};
+use ir_items::Module;
+use ir_kinds::{Literal, Scalar};
+use module_info::ModuleInfo;
+use module_types::{LiteralError, WidthError, check_width, validate_literal};
+use spec_modules::ModuleSettings;
+use std::alloc::Global;
+use std::mem;
+use typing_layout::Layouter;
+
+/// What judges modules up to their overrides, one after the other (naga's `Validator`, as far as it speaks of what stands
+/// outside functions). It keeps memory from one module to the next, and nothing else.
+#[derive(Drop)]
+pub struct ModuleValidator {
+    alloc: Global,
+    flags: ValidationFlags,
+    capabilities: Capabilities,
+    layouter: Layouter,
+}
+
+impl ModuleValidator {
+    /// A validator that makes these checks, of shaders that may use this. It takes no memory.
+    pub fn new(alloc: Global, flags: ValidationFlags, capabilities: Capabilities) -> Self
+        ensures flags { result.flags ≡ flags }
+        ensures capabilities { result.capabilities ≡ capabilities }
+    {
+        ModuleValidator {
+            alloc,
+            flags,
+            capabilities,
+            layouter: Layouter::new(alloc),
+        }
+    }
+
+    /// Forgets the module that was judged last. Each judgement begins with it.
+    pub fn reset(&mut self)
+        ensures forgotten { self.new.layouter ≡ [] }
+        ensures flags { self.new.flags ≡ self.old.flags }
+        ensures capabilities { self.new.capabilities ≡ self.old.capabilities }
+    {
+        self.layouter.clear();
+    }
+
+    // Judges a module, where each override has its value or not.
+    fn judge(
+        &mut self,
+        module: &Module,
+        overrides_resolved: bool,
+    ) -> Result<ModuleInfo, Refusal<ModuleError>>
+        ensures accepted { OnOk result (ModuleOK (settings_of self.old overrides_resolved) (module_view «module».now)) }
+        ensures told { IfOk result (IsInfoOf (settings_of self.old overrides_resolved) (module_view «module».now)) }
+        ensures refused { IfErr result (IsRefusal (settings_of self.old overrides_resolved) (module_view «module».now)) }
+        ensures flags { self.new.flags ≡ self.old.flags }
+        ensures capabilities { self.new.capabilities ≡ self.old.capabilities }
+    {
+        self.reset();
+        let alloc = self.alloc;
+        let settings = ModuleSettings {
+            flags: self.flags,
+            capabilities: self.capabilities,
+            overrides_resolved,
+        };
+        check_handles(alloc, settings, module)?;
+        lay_out(alloc, settings, module, &mut self.layouter)?;
+        let infos = type_infos(alloc, settings, module, &self.layouter)?;
+        let types = expression_types(alloc, settings, module)?;
+        check_values(alloc, settings, module, &infos, &types)?;
+        let layouter = mem::replace(&mut self.layouter, Layouter::new(alloc));
+        Ok(ModuleInfo::of_parts(alloc, infos, layouter, types))
+    }
+
+    /// Judges a module up to its overrides, and tells of its types and its global expressions (naga's `Validator::validate`,
+    /// without global variables, functions and entry points). The answer is that of a fresh validator, whatever was judged
+    /// before.
+    ///
+    /// # Errors
+    ///
+    /// The first step that fails at the first item that fails it, by a fault of that item and with no span: handles out of
+    /// order, a type that has no layout, a type that is refused, a global expression that has no type, one that is refused, a
+    /// constant or an override that is. Of the last three nothing is asked without [`ValidationFlags::CONSTANTS`]. Or out of
+    /// memory.
+    pub fn validate(&mut self, module: &Module) -> Result<ModuleInfo, Refusal<ModuleError>>
+        ensures accepted { OnOk result (ModuleOK (settings_of self.old false) (module_view «module».now)) }
+        ensures told { IfOk result (IsInfoOf (settings_of self.old false) (module_view «module».now)) }
+        ensures refused { IfErr result (IsRefusal (settings_of self.old false) (module_view «module».now)) }
+        ensures flags { self.new.flags ≡ self.old.flags }
+        ensures capabilities { self.new.capabilities ≡ self.old.capabilities }
+    {
+        self.judge(module, false)
+    }
+
+    /// Judges a module in which each override has to have its value (naga's `Validator::validate_resolved_overrides`).
+    ///
+    /// # Errors
+    ///
+    /// As [`ModuleValidator::validate`]; also where a size depends on an override, an override has no value, or a global
+    /// expression still waits for one.
+    pub fn validate_resolved_overrides(
+        &mut self,
+        module: &Module,
+    ) -> Result<ModuleInfo, Refusal<ModuleError>>
+        ensures accepted { OnOk result (ModuleOK (settings_of self.old true) (module_view «module».now)) }
+        ensures told { IfOk result (IsInfoOf (settings_of self.old true) (module_view «module».now)) }
+        ensures refused { IfErr result (IsRefusal (settings_of self.old true) (module_view «module».now)) }
+        ensures flags { self.new.flags ≡ self.old.flags }
+        ensures capabilities { self.new.capabilities ≡ self.old.capabilities }
+    {
+        self.judge(module, true)
+    }
+
+    /// Whether scalars of this kind and width may be used.
+    ///
+    /// # Errors
+    ///
+    /// There is no such width, a capability is missing, or the kind is abstract: each only where it stands.
+    pub fn check_width(&self, scalar: Scalar) -> Result<(), WidthError>
+        ensures { MatchResult result (λ _. ScalarOK self.now.capabilities scalar) (IsWidthFault self.now.capabilities scalar) }
+    {
+        check_width(self.capabilities, scalar)
+    }
+
+    /// Whether a literal may be used.
+    ///
+    /// # Errors
+    ///
+    /// Its scalar may not be used.
+    pub fn validate_literal(&self, literal: Literal) -> Result<(), LiteralError>
+        ensures { MatchResult result (λ _. LiteralOK self.now.capabilities literal) (IsLiteralFault self.now.capabilities literal) }
+    {
+        validate_literal(self.capabilities, literal)
+    }
+}

@@ -1,0 +1,34 @@
+-- What more capabilities accept.
+use Rattle.std.proofs.Common.{◌≡◌, ℕ, Bool, sym, subst}
+use Rattle.ir_flags.specs.Sets.{Has}
+use Rattle.ir_flags.specs.declared.settings.TheConstants.ValidationFlags.{CONSTANTS}
+use Rattle.ir_flags.specs.declared.settings.ValidationFlags.{ValidationFlags}
+use Rattle.ir_items.specs.Plain.{PlainModule}
+use Rattle.spec_constants.proofs.Capable.{more_capabilities as expressions_more}
+use Rattle.spec_constants.specs.GlobalExpressions.{GlobalExpressionOK}
+use Rattle.spec_constants.specs.Overrides.{OverrideOK}
+use Rattle.spec_flags.proofs.Capable.{more_capabilities as types_more}
+use Rattle.spec_flags.specs.Rules.{TypeOK}
+use Rattle.spec_modules.specs.Laws.{MayUseMore, MoreCapabilities}
+use Rattle.spec_modules.specs.declared.settings.ModuleSettings.{ModuleSettings}
+use Rattle.spec_modules.specs.Steps.{ModuleStep, layout, type, typing, expression, constant, override, StepOK}
+
+asked_too : (few many : ModuleSettings) → MayUseMore few many → Has many.flags.0 CONSTANTS.0 → Has few.flags.0 CONSTANTS.0
+asked_too few many more has = subst (λ (f : ValidationFlags). Has f.0 CONSTANTS.0) (sym more.flags) has
+
+step_more : (few many : ModuleSettings) (m : PlainModule) (step : ModuleStep) (index : ℕ) → MayUseMore few many → StepOK few m step index → StepOK many m step index
+step_more few many m layout index more ok = ok
+step_more few many m type index more ok =
+    subst (λ (r : Bool). TypeOK many.capabilities r m.types index) more.resolved (types_more few.capabilities many.capabilities more.within few.overrides_resolved m.types index ok)
+step_more few many m typing index more ok = ok
+step_more few many m expression index more ok =
+    λ has. subst (λ (r : Bool). GlobalExpressionOK many.capabilities r m index) more.resolved
+    (expressions_more few.capabilities many.capabilities more.within few.overrides_resolved m index (ok (asked_too few many more has)))
+step_more few many m constant index more ok = λ has. ok (asked_too few many more has)
+step_more few many m override index more ok = λ has. subst (λ (r : Bool). OverrideOK r m index) more.resolved (ok (asked_too few many more has))
+
+pub module_more : MoreCapabilities
+module_more few many m more ok = record {
+  handles = ok.handles;
+  steps = λ step. record { each = λ index within. step_more few many m step index more ((ok.steps step).each index within) };
+}

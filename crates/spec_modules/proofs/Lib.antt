@@ -1,0 +1,3 @@
+pub mod Capable
+pub mod Failures
+pub mod Reached
