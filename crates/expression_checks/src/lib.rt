@@ -1,9 +1,28 @@
-//! What is asked of the expressions of a function beside their types: a module a family, of the name that its definitions
-//! have in `spec_checks`.
+//! What is asked of expressions beside their types: a module a family, of the name that its definitions have in
+//! `spec_checks`. What looks at images stands in `image_checks`. Of maths and of results of subgroups nothing is asked.
 #![tactic(auto)]
 
+mod access;
+mod compositions;
+mod conversions;
+mod cooperative_matrices;
 mod derivatives;
+mod literals;
+mod loads;
 mod operators;
+mod ray_queries;
+mod results;
+mod selections;
+mod shapes;
 
+pub use access::{check_access, check_access_index};
+pub use compositions::{check_compose, check_swizzle};
+pub use conversions::check_as;
+pub use cooperative_matrices::{check_cooperative_load, check_multiply_add};
 pub use derivatives::check_derivative;
+pub use literals::{check_literal, check_zero};
+pub use loads::{check_array_length, check_load};
 pub use operators::{check_binary, check_unary};
+pub use ray_queries::{check_intersection, check_vertex_positions};
+pub use results::{check_atomic_result, check_uniform_load};
+pub use selections::{check_relational, check_select};

@@ -7,6 +7,7 @@ ghost use Rattle.spec_checks.specs.Operators.{IsSigned, IsBits, TakesKind, IsAdd
 ghost use Rattle.spec_checks.specs.Scene.{form_at};
 ghost use Rattle.spec_checks.specs.Shapes.{AnyShape, IsAlone, IsOfValue, IsInteger, IsNumeric, IsTruth, IsMadeOf, IsValue};
 
+use crate::shapes::{is_alone, is_of_value, is_one_truth};
 use check_operands::{
     CheckContext, are_same, form_of_shape, is_integer, is_numeric, is_truth, refused_unless,
     shaped_of,
@@ -117,16 +118,6 @@ fn is_row_multiplied(size: VectorSize, right: Shape) -> bool
     }
 }
 
-// Whether what a shape is multiplied with is one scalar.
-const fn is_alone(shape: Shape) -> bool
-    ensures { IsTrue result ↔ IsAlone shape }
-{
-    match shape {
-        Shape::One => true,
-        Shape::Row(_) | Shape::Grid { .. } | Shape::Shared { .. } => false,
-    }
-}
-
 // Whether two shapes are multiplied.
 fn are_shapes_multiplied(left: Shape, right: Shape) -> bool
     ensures { IsTrue result ↔ AreMultiplied left right }
@@ -159,16 +150,6 @@ fn are_multiplied(left: Form, right: Form) -> bool
     }
 }
 
-// Whether a shape is that of a value: one scalar, or a vector.
-const fn is_of_value(shape: Shape) -> bool
-    ensures { IsTrue result ↔ IsOfValue shape }
-{
-    match shape {
-        Shape::One | Shape::Row(_) => true,
-        Shape::Grid { .. } | Shape::Shared { .. } => false,
-    }
-}
-
 // Whether a type is that of a value.
 fn is_value(of: Form) -> bool
     ensures { IsTrue result ↔ IsValue of }
@@ -185,16 +166,6 @@ fn is_number(of: Form) -> bool
 {
     match shaped_of(of) {
         Some(shaped) => is_of_value(shaped.shape) && is_numeric(shaped.scalar.kind),
-        None => false,
-    }
-}
-
-// Whether a type is one truth value.
-fn is_one_truth(of: Form) -> bool
-    ensures { IsTrue result ↔ IsMadeOf IsAlone IsTruth of }
-{
-    match shaped_of(of) {
-        Some(shaped) => is_alone(shaped.shape) && is_truth(shaped.scalar.kind),
         None => false,
     }
 }

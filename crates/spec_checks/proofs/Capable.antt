@@ -1,6 +1,6 @@
 -- More capabilities refuse nothing more.
 use Rattle.std.proofs.Common.{ℕ, List, [], ◌∷◌, Option, Some, None, IsSomeAnd, Bool, true, false}
-use Rattle.ir_expressions.specs.Plain.{PlainExpression}
+use Rattle.ir_expressions.specs.Plain.{PlainExpression, compose, plain}
 use Rattle.ir_expressions.specs.declared.expressions.Expression.{Expression}
 use Rattle.ir_expressions.specs.declared.expressions.Expression.TheVariants as x
 use Rattle.ir_flags.specs.Sets.{IsWithin}
@@ -13,6 +13,7 @@ use Rattle.ir_types.specs.declared.types.TypeInner.{TypeInner}
 use Rattle.ir_types.specs.declared.types.TypeInner.TheVariants as inner
 use Rattle.spec_checks.specs.Checks.{CheckOf}
 use Rattle.spec_checks.specs.Conversions.{IsConverted}
+use Rattle.spec_checks.specs.Expressions.{AskedOf}
 use Rattle.spec_checks.specs.Laws.{MoreCapabilities, under}
 use Rattle.spec_checks.specs.Results.{AreExchangeMembers, IsExchange, AtomicResultOK}
 use Rattle.spec_checks.specs.Shapes.{IsAlone}
@@ -102,5 +103,11 @@ of_more few many types xs forms (x.SubgroupOperationResult type) more ok = ok
 of_more few many types xs forms (x.CooperativeLoad columns rows role block) more ok = ok
 of_more few many types xs forms (x.CooperativeMultiplyAdd a b c) more ok = ok
 
+asked_more : (few many : Capabilities) (types : List PlainType) (xs : List PlainExpression) (forms : List Form) (e : PlainExpression) → IsWithin few.0 many.0
+    → AskedOf (under few types xs forms) e → AskedOf (under many types xs forms) e
+asked_more few many types xs forms (compose type components) more ok = ok
+asked_more few many types xs forms (plain e) more ok = of_more few many types xs forms e more ok
+
 pub more_capabilities : MoreCapabilities
-more_capabilities few many more types xs forms e ok = of_more few many types xs forms e more ok
+more_capabilities few many more types xs forms handle ok =
+    record { expression = ok.expression; at = ok.at; met = asked_more few many types xs forms ok.expression more ok.met }

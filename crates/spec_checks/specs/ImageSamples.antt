@@ -19,6 +19,7 @@ use Rattle.typing_layout.specs.declared.constness.ExpressionKind.TheVariants.{Co
 use Rattle.spec_checks.specs.Scene.{form_at}
 use Rattle.spec_checks.specs.Shapes.{IsIntegerScalar, ExactlyIf, along, picture_of, sampler_of}
 use Rattle.spec_checks.specs.declared.shapes.Picture.{Picture}
+use Rattle.spec_checks.specs.declared.shapes.Sampling.{Sampling}
 
 -- a 32-bit float
 abbrev pub IsFloat32 : Form → Type 0
@@ -71,17 +72,6 @@ ClampOK image false = image.class ≢ External
 -- images from outside are sampled at the finest level as they are
 abbrev pub OutsideOK : ImageClass → (gather : Option SwizzleComponent) → (offset : Option ℕ) → SampleLevel → Type 0
 OutsideOK class gather offset level = class ≡ External → (level ≡ Zero) × (gather ≡ None) × (offset ≡ None)
-
--- what a sample is taken with, beside the image
-pub record Sampling : Type 0 where
-  pub sampler : ℕ
-  pub gather : Option SwizzleComponent
-  pub coordinate : ℕ
-  pub array_index : Option ℕ
-  pub offset : Option ℕ
-  pub level : SampleLevel
-  pub depth_ref : Option ℕ
-  pub clamp_to_edge : Bool
 
 pub record IsSampled (expressions : List PlainExpression) (forms : List Form) (image : Picture) (by : Sampling) : Type 0 where
   -- a sampler compares exactly where there is something to compare with: a float, and depths

@@ -1,13 +1,12 @@
 -- What is known of the checks.
-use Rattle.std.specs.Prelude.{◌≡◌, List}
+use Rattle.std.specs.Prelude.{◌≡◌, ℕ, List}
 use Rattle.ir_expressions.specs.Plain.{PlainExpression}
-use Rattle.ir_expressions.specs.declared.expressions.Expression.{Expression}
 use Rattle.ir_flags.specs.Sets.{IsWithin}
 use Rattle.ir_flags.specs.declared.settings.Capabilities.{Capabilities}
 use Rattle.ir_types.specs.Plain.{PlainType}
 use Rattle.typing_forms.specs.declared.form.Form.{Form}
 use Rattle.spec_expressions.specs.Context.{Context}
-use Rattle.spec_checks.specs.Checks.{CheckOf}
+use Rattle.spec_checks.specs.Expressions.{ExpressionOK}
 use Rattle.spec_checks.specs.Scene.{Scene, AreForms}
 
 -- the scene, under capabilities
@@ -16,8 +15,8 @@ under capabilities types expressions forms = record { capabilities = capabilitie
 
 -- what fewer capabilities accept, more accept
 abbrev pub MoreCapabilities : Type 0
-MoreCapabilities = (few many : Capabilities) → IsWithin few.0 many.0 → (types : List PlainType) (expressions : List PlainExpression) (forms : List Form) (expression : Expression)
-    → CheckOf (under few types expressions forms) expression → CheckOf (under many types expressions forms) expression
+MoreCapabilities = (few many : Capabilities) → IsWithin few.0 many.0 → (types : List PlainType) (expressions : List PlainExpression) (forms : List Form) (handle : ℕ)
+    → ExpressionOK (under few types expressions forms) handle → ExpressionOK (under many types expressions forms) handle
 
 -- the types of expressions have one list of forms
 abbrev pub OneList : Type 0

@@ -4,6 +4,7 @@ pub mod Compositions
 pub mod Conversions
 pub mod CooperativeMatrices
 pub mod Derivatives
+pub mod Expressions
 pub mod ImageLoads
 pub mod ImageSamples
 pub mod Laws

@@ -1,5 +1,5 @@
 -- What the rules of expressions look at in a type: of what scalars it is made, in which shape; what it leads to.
-use Rattle.std.specs.Prelude.{◌≡◌, ℕ, List, Option, Some, None, Bool, true, false, IsSomeAnd}
+use Rattle.std.specs.Prelude.{ℕ, List, Option, Some, None, Bool, true, false, IsSomeAnd}
 use Rattle.ir_kinds.specs.declared.images.ImageDimension.{ImageDimension}
 use Rattle.ir_kinds.specs.declared.images.ImageDimension.TheVariants.{D1, D2, D3, Cube}
 use Rattle.ir_kinds.specs.declared.scalars.Scalar.{Scalar}

@@ -1,5 +1,5 @@
 -- Which stages may run an expression.
-use Rattle.std.specs.Prelude.{ℕ, List, slice_get, unwrap_or}
+use Rattle.std.specs.Prelude.{◌≡◌, ℕ, List, Some, slice_get, unwrap_or}
 use Rattle.bitflags.specs.Sets.{known_bits}
 use Rattle.ir_flags.specs.Words.{shader_stages}
 use Rattle.ir_flags.specs.declared.stages.ShaderStages.{ShaderStages}
@@ -65,3 +65,9 @@ stages_in callees (x.CooperativeMultiplyAdd a b c) = COMPUTE
 abbrev pub stages_of : (callees : List ShaderStages) → PlainExpression → ShaderStages
 stages_of callees (compose type components) = all_stages
 stages_of callees (plain expression) = stages_in callees expression
+
+-- the expression at a handle is run by these
+pub record IsRunBy (callees : List ShaderStages) (expressions : List PlainExpression) (handle : ℕ) (stages : ShaderStages) : Type 0 where
+  pub expression : PlainExpression
+  pub at : slice_get expressions handle ≡ Some expression
+  pub run_by : stages ≡ stages_of callees expression

@@ -1,6 +1,12 @@
 //! What is made of scalars, and images, as the rules of expressions look at them.
 
-use ir_kinds::{CooperativeRole, CooperativeSize, ImageClass, ImageDimension, Scalar, VectorSize};
+use ir_arena::handle::Handle;
+use ir_expressions::SampleLevel;
+use ir_kinds::{
+    CooperativeRole, CooperativeSize, ImageClass, ImageDimension, Scalar, SwizzleComponent,
+    VectorSize,
+};
+use ir_types::key;
 
 /// How many scalars there are, and how they are laid out.
 #[derive(Clone, Copy)]
@@ -45,4 +51,25 @@ pub struct Picture {
     pub arrayed: bool,
     /// What its texels are.
     pub class: ImageClass,
+}
+
+/// What an image is sampled with.
+#[derive(Clone, Copy)]
+pub struct Sampling {
+    /// How texels are put together.
+    pub sampler: Handle<key::Expression>,
+    /// Which component of four texels is gathered, if any is.
+    pub gather: Option<SwizzleComponent>,
+    /// Where in the image.
+    pub coordinate: Handle<key::Expression>,
+    /// In which layer.
+    pub array_index: Option<Handle<key::Expression>>,
+    /// How many texels beside that place.
+    pub offset: Option<Handle<key::Expression>>,
+    /// At which level of detail.
+    pub level: SampleLevel,
+    /// What depths are compared with.
+    pub depth_ref: Option<Handle<key::Expression>>,
+    /// Whether the place is moved so far inwards that half a texel is left to the edge.
+    pub clamp_to_edge: bool,
 }

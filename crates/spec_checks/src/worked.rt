@@ -3,8 +3,9 @@
 //! The functions do nothing: their contracts are the examples.
 
 ghost use Rattle.std.specs.Prelude.{◌≡◌, [], ◌∷◌, pos, negsuc, Some, None, true, false};
+ghost use Rattle.ir_expressions.specs.Plain.{compose, plain};
 ghost use Rattle.ir_expressions.specs.declared.expressions.Expression.TheVariants as x;
-ghost use Rattle.ir_expressions.specs.declared.expressions.SampleLevel.TheVariants.{Exact, Bias, Gradient};
+ghost use Rattle.ir_expressions.specs.declared.expressions.SampleLevel.TheVariants.{Zero, Exact, Bias, Gradient};
 ghost use Rattle.ir_kinds.specs.declared.operators.DerivativeAxis.TheVariants as axis;
 ghost use Rattle.ir_kinds.specs.declared.operators.DerivativeControl.TheVariants as control;
 ghost use Rattle.ir_kinds.specs.Scalars.{boolean, floating, signed, unsigned};
@@ -15,18 +16,24 @@ ghost use Rattle.ir_kinds.specs.declared.scalars.CooperativeRole.TheVariants as 
 ghost use Rattle.ir_kinds.specs.declared.scalars.CooperativeSize.TheVariants.{Eight, Sixteen};
 ghost use Rattle.ir_kinds.specs.declared.scalars.VectorSize.TheVariants.{Bi, Tri, Quad};
 ghost use Rattle.ir_kinds.specs.declared.spaces.AddressSpace.TheVariants.{Function};
+ghost use Rattle.ir_types.specs.Plain.{plain as plain_type};
 ghost use Rattle.ir_types.specs.declared.types.ArraySize.TheVariants as count;
+ghost use Rattle.ir_types.specs.declared.types.TypeInner.TheVariants as inner;
 ghost use Rattle.spec_checks.specs.Access.{AccessIndexOK, IsIndexOf, known_length};
 ghost use Rattle.spec_checks.specs.CooperativeMatrices.{CooperativeLoadOK, MultiplyAddOK};
 ghost use Rattle.spec_checks.specs.Derivatives.{DerivativeOK};
-ghost use Rattle.spec_checks.specs.ImageLoads.{IsAnswered, IsTexel};
-ghost use Rattle.spec_checks.specs.ImageSamples.{HasNeighbours, IsClamped, IsFiltered, IsLevel};
+ghost use Rattle.spec_checks.specs.Expressions.{AskedOf};
+ghost use Rattle.spec_checks.specs.ImageLoads.{IsAnswered, IsReadable, IsTexel};
+ghost use Rattle.spec_checks.specs.ImageSamples.{HasNeighbours, ClampOK, IsClamped, IsFiltered, IsGathered, IsLevel, IsOffset, OutsideOK};
+ghost use Rattle.spec_checks.specs.Laws.{under};
 ghost use Rattle.spec_checks.specs.Shapes.{ExactlyIf};
-ghost use Rattle.ir_expressions.specs.declared.expressions.ImageQuery.TheVariants.{NumLevels, NumLayers, NumSamples};
+ghost use Rattle.ir_expressions.specs.declared.expressions.ImageQuery.TheVariants.{Size, NumLevels, NumLayers, NumSamples};
 ghost use Rattle.ir_kinds.specs.declared.images.ImageClass.TheVariants as class;
+ghost use Rattle.ir_flags.specs.declared.memory.TheConstants.StorageAccess.{STORE};
+ghost use Rattle.ir_kinds.specs.declared.images.StorageFormat.TheVariants.{R32Uint};
 ghost use Rattle.ir_kinds.specs.declared.images.ImageDimension.TheVariants.{D2, D3, Cube};
 ghost use Rattle.ir_kinds.specs.declared.scalars.ScalarKind.TheVariants as kind;
-ghost use Rattle.ir_kinds.specs.declared.scalars.SwizzleComponent.TheVariants.{X};
+ghost use Rattle.ir_kinds.specs.declared.scalars.SwizzleComponent.TheVariants.{X, Y};
 ghost use Rattle.spec_checks.specs.Operators.{BinaryOK, UnaryOK};
 ghost use Rattle.spec_checks.specs.Selections.{RelationalOK, SelectOK};
 ghost use Rattle.spec_checks.specs.Stages.{all_stages, sample_stages, stages_in};
@@ -100,6 +107,35 @@ pub fn images()
     ensures samples { IsAnswered [] NumSamples (record { dim = D2; arrayed = false; class = class.Depth true }) }
     ensures no_levels_of_samples { ¬ IsAnswered [] NumLevels (record { dim = D2; arrayed = false; class = class.Depth true }) }
     ensures no_layers { ¬ IsAnswered [] NumLayers (record { dim = D2; arrayed = false; class = class.Depth true }) }
+    ensures size_at_no_level { IsAnswered [] (Size None) (record { dim = D2; arrayed = false; class = class.External }) }
+    ensures no_size_at_a_level { ¬ IsAnswered [] (Size (Some 0)) (record { dim = D2; arrayed = false; class = class.External }) }
+    ensures written_alone { ¬ IsReadable (class.Storage R32Uint STORE) }
+    ensures read_and_written { IsReadable (class.Storage R32Uint (record { 0 = 3 })) }
+{}
+
+/// What is gathered, moved and clamped, and what comes from outside.
+pub fn samples()
+    ensures integers_not_filtered { ¬ IsFiltered (class.Sampled kind.Uint false) None }
+    ensures gathered_depths { IsGathered (record { dim = Cube; arrayed = true; class = class.Depth false }) Zero X }
+    ensures second_component_of_depths { ¬ IsGathered (record { dim = D2; arrayed = false; class = class.Depth false }) Zero Y }
+    ensures gathered_at_a_level { ¬ IsGathered (record { dim = D2; arrayed = false; class = class.Depth false }) (Exact 0) X }
+    ensures gathered_of_a_volume { ¬ IsGathered (record { dim = D3; arrayed = false; class = class.Sampled kind.Float false }) Zero X }
+    ensures whole_level_of_depths { IsLevel (form.Scalar (signed 4) ∷ []) (class.Depth false) (form.Vector Bi (floating 4)) (Exact 0) }
+    ensures whole_level_of_floats { ¬ IsLevel (form.Scalar (signed 4) ∷ []) (class.Sampled kind.Float false) (form.Vector Bi (floating 4)) (Exact 0) }
+    ensures offset_in_a_cube { ¬ IsOffset [] [] Cube 0 }
+    ensures floats_clamped { ClampOK (record { dim = D2; arrayed = false; class = class.Sampled kind.Float false }) true }
+    ensures layers_not_clamped { ¬ ClampOK (record { dim = D2; arrayed = true; class = class.Sampled kind.Float false }) true }
+    ensures outside_unclamped { ¬ ClampOK (record { dim = D2; arrayed = false; class = class.External }) false }
+    ensures outside_as_it_is { OutsideOK class.External None None Zero }
+    ensures outside_at_a_level { ¬ OutsideOK class.External None None (Exact 0) }
+    ensures outside_gathered { ¬ OutsideOK class.External (Some X) None Zero }
+{}
+
+/// Compositions among other kinds.
+pub fn compositions()
+    ensures of_no_type { ¬ AskedOf (under (record { 0 = 0 }) [] [] []) (compose 0 []) }
+    ensures of_what_is_not_composed { ¬ AskedOf (under (record { 0 = 0 }) (record { name = None; inner = plain_type (inner.Scalar (signed 4)) } ∷ []) [] (form.Scalar (signed 4) ∷ [])) (compose 0 (0 ∷ [])) }
+    ensures others_by_their_rows { AskedOf (under (record { 0 = 0 }) [] [] (form.Scalar (floating 4) ∷ [])) (plain (x.Derivative axis.X control.Coarse 0)) }
 {}
 
 /// Indexes.

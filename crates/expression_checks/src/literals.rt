@@ -1,0 +1,46 @@
+//! Which literals there are, and which types have a zero.
+
+ghost use Rattle.std.specs.Prelude.{MatchResult};
+ghost use Rattle.check_operands.specs.Refused.{IsRefused};
+ghost use Rattle.check_operands.specs.View.{types_in, IsKnown};
+ghost use Rattle.expression_checks.specs.Faults.{IsBadLiteral};
+ghost use Rattle.spec_checks.specs.Literals.{ZeroOK};
+ghost use Rattle.spec_constants.specs.Literals.{LiteralOK};
+
+use check_operands::{CheckContext, refused_unless};
+use error_expressions::ExpressionError;
+use ir_arena::handle::Handle;
+use ir_flags::Capabilities;
+use ir_kinds::Literal;
+use ir_types::key;
+use type_checks::validate_literal;
+
+/// Whether a literal may be used.
+///
+/// # Errors
+///
+/// [`ExpressionError::Literal`] where there is no such scalar.
+pub fn check_literal(capabilities: Capabilities, value: Literal) -> Result<(), ExpressionError>
+    ensures { MatchResult result (λ _. LiteralOK capabilities value) (IsBadLiteral capabilities value) }
+{
+    match validate_literal(capabilities, value) {
+        Ok(()) => Ok(()),
+        Err(error) => Err(ExpressionError::Literal(error)),
+    }
+}
+
+/// Whether a type has a zero: values of it can be composed.
+///
+/// # Errors
+///
+/// [`ExpressionError::Other`] where it has none.
+#[tactic(auto, using(check_operands::proofs::Refusals::by_test))]
+pub fn check_zero(
+    context: &CheckContext<'_>,
+    ty: Handle<key::IrType>,
+) -> Result<(), ExpressionError>
+    requires { IsKnown context.now }
+    ensures { MatchResult result (λ _. ZeroOK (types_in context.now) ty) (IsRefused (ZeroOK (types_in context.now) ty)) }
+{
+    refused_unless(context.is_constructible(ty))
+}

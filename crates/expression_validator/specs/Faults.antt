@@ -1,0 +1,27 @@
+-- Why an expression is refused.
+use Rattle.std.specs.Prelude.{◌≡◌, ℕ, Option, Some, None, map, slice_get}
+use Rattle.check_operands.specs.Refused.{IsRefused}
+use Rattle.error_expressions.specs.declared.expressions.ExpressionError.{ExpressionError}
+use Rattle.expression_checks.specs.Faults.{IsBadLiteral, IsBadComposition}
+use Rattle.ir_expressions.specs.Plain.{PlainExpression, compose, plain}
+use Rattle.ir_expressions.specs.declared.expressions.Expression.{Expression}
+use Rattle.ir_kinds.specs.declared.values.Literal.{Literal}
+use Rattle.spec_checks.specs.Access.{literal_in}
+use Rattle.spec_checks.specs.Checks.{CheckOf}
+use Rattle.spec_checks.specs.Scene.{Scene, form_at}
+
+-- a literal that may not be used; of any other kind what is asked does not hold, and the error has no name
+abbrev pub IsPlainFault : Scene → Expression → Option Literal → ExpressionError → Type 0
+IsPlainFault s expression (Some value) e = IsBadLiteral s.capabilities value e
+IsPlainFault s expression None e = IsRefused (CheckOf s expression) e
+
+-- a composition that can't be made, or another expression with a fault
+abbrev pub IsFaultOf : Scene → PlainExpression → ExpressionError → Type 0
+IsFaultOf s (compose type components) e = IsBadComposition s.types type (map (form_at s.forms) components) e
+IsFaultOf s (plain expression) e = IsPlainFault s expression (literal_in expression) e
+
+-- the expression at a handle has this fault
+pub record IsExpressionFault (s : Scene) (handle : ℕ) (e : ExpressionError) : Type 0 where
+  pub expression : PlainExpression
+  pub at : slice_get s.expressions handle ≡ Some expression
+  pub fault : IsFaultOf s expression e

@@ -1,0 +1,175 @@
+//! How texels are loaded, and what is asked of images.
+
+ghost use Rattle.std.specs.Prelude.{◌↔◌, IsTrue, MatchResult};
+ghost use Rattle.check_operands.specs.Refused.{IsRefused};
+ghost use Rattle.check_operands.specs.View.{scene_in};
+ghost use Rattle.spec_checks.specs.ImageLoads.{IsFlat, IsTexel, IsReadable, IsTexelLoad, ImageLoadOK, IsAnswered, ImageQueryOK};
+ghost use Rattle.spec_checks.specs.Scene.{form_at};
+
+use crate::operands::{along, is_number_if};
+use bitflags::Flags;
+use check_operands::{
+    CheckContext, are_same, is_integer, is_integer_scalar, picture_of, refused_unless, shaped_of,
+};
+use error_expressions::ExpressionError;
+use ir_arena::handle::Handle;
+use ir_expressions::ImageQuery;
+use ir_flags::StorageAccess;
+use ir_kinds::{ImageClass, ImageDimension};
+use ir_types::key;
+use spec_checks::Picture;
+use typing_forms::Form;
+
+// ---- loads
+
+// Whether texels of images of so many dimensions have numbers.
+const fn is_flat(dim: ImageDimension) -> bool
+    ensures { IsTrue result ↔ IsFlat dim }
+{
+    match dim {
+        ImageDimension::D1 | ImageDimension::D2 | ImageDimension::D3 => true,
+        ImageDimension::Cube => false,
+    }
+}
+
+// Whether a type is that of the number of a texel each way.
+fn is_texel(dim: ImageDimension, coordinate: &Form) -> bool
+    ensures { IsTrue result ↔ IsTexel dim coordinate.now }
+{
+    match shaped_of(*coordinate) {
+        Some(shaped) => {
+            is_flat(dim)
+                && is_integer(shaped.scalar.kind)
+                && are_same(*coordinate, along(dim, shaped.scalar))
+        }
+        None => false,
+    }
+}
+
+// Whether images of a class are loaded from.
+fn is_readable(class: ImageClass) -> bool
+    ensures { IsTrue result ↔ IsReadable class }
+{
+    match class {
+        ImageClass::Storage { access, .. } => access.contains(StorageAccess::LOAD),
+        ImageClass::Sampled { .. } | ImageClass::Depth { .. } | ImageClass::External => true,
+    }
+}
+
+// Whether a texel is loaded from an image.
+fn is_texel_load(
+    context: &CheckContext<'_>,
+    image: &Picture,
+    coordinate: Handle<key::Expression>,
+    array_index: Option<Handle<key::Expression>>,
+    sample: Option<Handle<key::Expression>>,
+    level: Option<Handle<key::Expression>>,
+) -> bool
+    ensures { IsTrue result ↔ IsTexelLoad (scene_in context.now).forms image.now coordinate array_index sample level }
+{
+    let place = context.form_at(coordinate);
+    is_texel(image.dim, &place)
+        && is_number_if(context, image.arrayed, array_index)
+        && is_number_if(context, image.class.is_multisampled(), sample)
+        && is_number_if(context, image.class.is_mipmapped(), level)
+        && is_readable(image.class)
+}
+
+// Whether a texel is loaded from a value of a type.
+fn is_image_load(
+    context: &CheckContext<'_>,
+    image: Form,
+    coordinate: Handle<key::Expression>,
+    array_index: Option<Handle<key::Expression>>,
+    sample: Option<Handle<key::Expression>>,
+    level: Option<Handle<key::Expression>>,
+) -> bool
+    ensures { IsTrue result ↔ ImageLoadOK (scene_in context.now).forms image coordinate array_index sample level }
+{
+    match picture_of(image) {
+        Some(picture) => {
+            is_texel_load(context, &picture, coordinate, array_index, sample, level)
+        }
+        None => false,
+    }
+}
+
+/// Whether a texel is loaded: it has a number each way, a layer, a sample and a level exactly where the image has several, and
+/// the image may be read.
+///
+/// # Errors
+///
+/// [`ExpressionError::Other`] where it is not.
+#[tactic(auto, using(check_operands::proofs::Refusals::by_test))]
+pub fn check_image_load(
+    context: &CheckContext<'_>,
+    image: Handle<key::Expression>,
+    coordinate: Handle<key::Expression>,
+    array_index: Option<Handle<key::Expression>>,
+    sample: Option<Handle<key::Expression>>,
+    level: Option<Handle<key::Expression>>,
+) -> Result<(), ExpressionError>
+    ensures { MatchResult result
+        (λ _. ImageLoadOK (scene_in context.now).forms (form_at (scene_in context.now).forms image) coordinate array_index sample level)
+        (IsRefused (ImageLoadOK (scene_in context.now).forms (form_at (scene_in context.now).forms image) coordinate array_index sample level)) }
+{
+    let of = context.form_at(image);
+    refused_unless(is_image_load(context, of, coordinate, array_index, sample, level))
+}
+
+// ---- queries
+
+// Whether an image has a size at a level, if one is named.
+fn has_size(
+    context: &CheckContext<'_>,
+    image: &Picture,
+    level: Option<Handle<key::Expression>>,
+) -> bool
+    ensures { IsTrue result ↔ IsAnswered (scene_in context.now).forms (ImageQuery.Size level) image.now }
+{
+    match level {
+        Some(level) => { image.class.is_mipmapped() && is_integer_scalar(context.form_at(level)) }
+        None => true,
+    }
+}
+
+// Whether a query of an image has an answer.
+fn is_answered(context: &CheckContext<'_>, image: &Picture, query: ImageQuery) -> bool
+    ensures { IsTrue result ↔ IsAnswered (scene_in context.now).forms query image.now }
+{
+    match query {
+        ImageQuery::Size { level } => has_size(context, image, level),
+        ImageQuery::NumLevels => image.class.is_mipmapped(),
+        ImageQuery::NumLayers => image.arrayed,
+        ImageQuery::NumSamples => image.class.is_multisampled(),
+    }
+}
+
+// Whether a query of a value of a type has an answer.
+fn is_image_query(context: &CheckContext<'_>, image: Form, query: ImageQuery) -> bool
+    ensures { IsTrue result ↔ ImageQueryOK (scene_in context.now).forms image query }
+{
+    match picture_of(image) {
+        Some(picture) => is_answered(context, &picture, query),
+        None => false,
+    }
+}
+
+/// Whether a query of an image has an answer: a level is named, levels, layers and samples are counted only where there are
+/// several.
+///
+/// # Errors
+///
+/// [`ExpressionError::Other`] where it has none.
+#[tactic(auto, using(check_operands::proofs::Refusals::by_test))]
+pub fn check_image_query(
+    context: &CheckContext<'_>,
+    image: Handle<key::Expression>,
+    query: ImageQuery,
+) -> Result<(), ExpressionError>
+    ensures { MatchResult result
+        (λ _. ImageQueryOK (scene_in context.now).forms (form_at (scene_in context.now).forms image) query)
+        (IsRefused (ImageQueryOK (scene_in context.now).forms (form_at (scene_in context.now).forms image) query)) }
+{
+    refused_unless(is_image_query(context, context.form_at(image), query))
+}

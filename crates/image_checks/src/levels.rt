@@ -1,0 +1,162 @@
+//! At which level of detail an image is sampled, what is gathered, and what is clamped.
+
+ghost use Rattle.std.specs.Prelude.{◌≡◌, ◌↔◌, IsTrue, IfSome, Bool};
+ghost use Rattle.check_operands.specs.View.{scene_in};
+ghost use Rattle.spec_checks.specs.ImageSamples.{IsFloat32, HasNeighbours, IsGathered, IsLevel, IsClamped, ClampOK, OutsideOK};
+ghost use Rattle.spec_checks.specs.Scene.{form_at};
+
+use check_operands::{CheckContext, are_same, is_integer_scalar};
+use ir_arena::handle::Handle;
+use ir_expressions::SampleLevel;
+use ir_kinds::{ImageClass, ImageDimension, Scalar, ScalarKind, SwizzleComponent};
+use ir_types::key;
+use spec_checks::Picture;
+use typing_forms::Form;
+
+/// Whether a type is that of a 32-bit float.
+pub(crate) fn is_float32(of: Form) -> bool
+    ensures { IsTrue result ↔ IsFloat32 of }
+{
+    are_same(of, Form::Scalar(Scalar::F32))
+}
+
+// ---- levels
+
+// Whether a level is the finest.
+const fn is_finest(level: SampleLevel) -> bool
+    ensures { IsTrue result ↔ (level ≡ SampleLevel.Zero) }
+{
+    match level {
+        SampleLevel::Zero => true,
+        SampleLevel::Auto
+        | SampleLevel::Exact(_)
+        | SampleLevel::Bias(_)
+        | SampleLevel::Gradient { .. } => false,
+    }
+}
+
+// Whether an expression is an exact level of an image.
+fn is_exact(context: &CheckContext<'_>, class: ImageClass, level: Handle<key::Expression>) -> bool
+    ensures { IsTrue result ↔ IsLevel (scene_in context.now).forms class (form_at (scene_in context.now).forms level) (SampleLevel.Exact level) }
+{
+    is_float32(context.form_at(level))
+        || (class.is_depth() && is_integer_scalar(context.form_at(level)))
+}
+
+// Whether two expressions are slopes of a coordinate.
+fn are_slopes(
+    context: &CheckContext<'_>,
+    coordinate: Handle<key::Expression>,
+    right: Handle<key::Expression>,
+    below: Handle<key::Expression>,
+) -> bool
+    ensures { IsTrue result
+        ↔ ((form_at (scene_in context.now).forms right ≡ form_at (scene_in context.now).forms coordinate) × (form_at (scene_in context.now).forms below ≡ form_at (scene_in context.now).forms coordinate)) }
+{
+    are_same(context.form_at(right), context.form_at(coordinate))
+        && are_same(context.form_at(below), context.form_at(coordinate))
+}
+
+/// Whether an image may be sampled at a level.
+pub(crate) fn is_level(
+    context: &CheckContext<'_>,
+    class: ImageClass,
+    coordinate: Handle<key::Expression>,
+    level: SampleLevel,
+) -> bool
+    ensures { IsTrue result ↔ IsLevel (scene_in context.now).forms class (form_at (scene_in context.now).forms coordinate) level }
+{
+    match level {
+        SampleLevel::Auto | SampleLevel::Zero => true,
+        SampleLevel::Exact(exact) => is_exact(context, class, exact),
+        SampleLevel::Bias(bias) => is_float32(context.form_at(bias)),
+        SampleLevel::Gradient { x, y } => are_slopes(context, coordinate, x, y),
+    }
+}
+
+// ---- what is gathered
+
+// Whether images of so many dimensions have four texels around a place.
+const fn has_neighbours(dim: ImageDimension) -> bool
+    ensures { IsTrue result ↔ HasNeighbours dim }
+{
+    match dim {
+        ImageDimension::D2 | ImageDimension::Cube => true,
+        ImageDimension::D1 | ImageDimension::D3 => false,
+    }
+}
+
+// Whether a component may be gathered of an image at a level.
+fn gathers(image: &Picture, level: SampleLevel, letter: SwizzleComponent) -> bool
+    ensures { IsTrue result ↔ IsGathered image.now level letter }
+{
+    has_neighbours(image.dim)
+        && is_finest(level)
+        && (!image.class.is_depth() || letter == SwizzleComponent::X)
+}
+
+/// The same where one may be gathered.
+pub(crate) fn gathers_if(
+    image: &Picture,
+    level: SampleLevel,
+    gather: Option<SwizzleComponent>,
+) -> bool
+    ensures { IsTrue result ↔ IfSome gather (IsGathered image.now level) }
+{
+    match gather {
+        Some(letter) => gathers(image, level, letter),
+        None => true,
+    }
+}
+
+// ---- what is clamped
+
+// Whether an image comes from outside.
+const fn is_external(class: ImageClass) -> bool
+    ensures { IsTrue result ↔ (class ≡ ImageClass.External) }
+{
+    match class {
+        ImageClass::External => true,
+        ImageClass::Sampled { .. } | ImageClass::Depth { .. } | ImageClass::Storage { .. } => false,
+    }
+}
+
+// Whether the texels of an image are floats.
+fn is_of_floats(class: ImageClass) -> bool
+    ensures { IsTrue result ↔ ((multi : Bool) × (class ≡ ImageClass.Sampled ScalarKind.Float multi)) }
+{
+    match class {
+        ImageClass::Sampled { kind, .. } => kind == ScalarKind::Float,
+        ImageClass::Depth { .. } | ImageClass::External | ImageClass::Storage { .. } => false,
+    }
+}
+
+// Whether places in an image may be clamped.
+fn is_clamped(image: &Picture) -> bool
+    ensures { IsTrue result ↔ IsClamped image.now }
+{
+    image.dim == ImageDimension::D2 && !image.arrayed && is_of_floats(image.class)
+}
+
+/// Whether places in an image are clamped or not as they may be.
+pub(crate) fn is_clamp(image: &Picture, clamp_to_edge: bool) -> bool
+    ensures { IsTrue result ↔ ClampOK image.now clamp_to_edge }
+{
+    if clamp_to_edge {
+        is_external(image.class) || is_clamped(image)
+    } else {
+        !is_external(image.class)
+    }
+}
+
+/// Whether an image, if it comes from outside, is sampled at the finest level as it is.
+pub(crate) fn is_outside(
+    class: ImageClass,
+    gather: Option<SwizzleComponent>,
+    offset: Option<Handle<key::Expression>>,
+    level: SampleLevel,
+) -> bool
+    ensures { IsTrue result ↔ OutsideOK class gather offset level }
+{
+    !is_external(class) || (is_finest(level) && gather.is_none() && offset.is_none())
+}

@@ -1,0 +1,49 @@
+//! Operands by which a texel is found.
+
+ghost use Rattle.std.specs.Prelude.{◌≡◌, ◌↔◌, IsTrue};
+ghost use Rattle.check_operands.specs.View.{scene_in};
+ghost use Rattle.spec_checks.specs.Scene.{form_at};
+ghost use Rattle.spec_checks.specs.Shapes.{IsIntegerScalar, ExactlyIf, along};
+
+use check_operands::{CheckContext, is_integer_scalar};
+use ir_arena::handle::Handle;
+use ir_kinds::{ImageDimension, Scalar, VectorSize};
+use ir_types::key;
+use typing_forms::Form;
+
+/// The type of a place in an image of so many dimensions.
+pub(crate) const fn along(dim: ImageDimension, scalar: Scalar) -> Form
+    ensures { result ≡ along dim scalar }
+{
+    match dim {
+        ImageDimension::D1 => Form::Scalar(scalar),
+        ImageDimension::D2 => Form::Vector {
+            size: VectorSize::Bi,
+            scalar,
+        },
+        ImageDimension::D3 | ImageDimension::Cube => Form::Vector {
+            size: VectorSize::Tri,
+            scalar,
+        },
+    }
+}
+
+/// Whether a number is given exactly where one is wanted, and is an integer.
+pub(crate) fn is_number_if(
+    context: &CheckContext<'_>,
+    wanted: bool,
+    given: Option<Handle<key::Expression>>,
+) -> bool
+    ensures { IsTrue result ↔ ExactlyIf wanted given (λ number. IsIntegerScalar (form_at (scene_in context.now).forms number)) }
+{
+    match given {
+        Some(number) => {
+            if wanted {
+                is_integer_scalar(context.form_at(number))
+            } else {
+                false
+            }
+        }
+        None => !wanted,
+    }
+}
