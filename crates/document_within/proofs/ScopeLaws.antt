@@ -1,22 +1,21 @@
 -- What the tests of documents find is what `Scope` says.
-use Rattle.std.proofs.Common.{◌≡◌, ℕ, List, [], ◌∷◌, ◌+◌, map, length, Option, None, Some, is_none, IfSome, Bool, true, false, ◌&&◌, refl, ap, arith}
+use Rattle.std.proofs.Common.{◌≡◌, ℕ, List, [], ◌∷◌, ◌+◌, map, length, Option, None, Some, is_none, IfSome, slice_get, Bool, true, false, ◌&&◌, refl, ap, arith}
 use borrow.Author.Tests.{eqb-true}
 use Rattle.std.specs.List.{AllByRecursion}
 use Rattle.ir_arena.specs.Handles.{handles_from}
 use Rattle.ir_arena.specs.declared.span.Span.{Span}
 use Rattle.ir_kinds.specs.declared.values.Literal.{Literal}
 use Rattle.ir_kinds.specs.declared.values.Literal.TheVariants as literal
-use Rattle.ir_types.specs.Plain.{PlainInner, plain, struct}
+use Rattle.ir_types.specs.Plain.{PlainInner, plain, struct, PlainType}
 use Rattle.ir_types.specs.declared.types.TypeInner.TheVariants as inner
 use Rattle.ir_expressions.specs.Plain.{PlainExpression, plain as computes}
 use Rattle.ir_expressions.specs.declared.expressions.Expression.TheVariants as computed
 use Rattle.ir_blocks.specs.Plain.{PlainStatement, emit, block, if_, switch, loop, break, continue, return, kill, operation, call, PlainBlock, stop, next, PlainCases, no_case, case}
-use Rattle.ir_globals.specs.Plain.{PlainSpecial}
 use Rattle.ir_items.specs.Plain.{PlainFunction, PlainModule}
-use Rattle.ir_globals.specs.View.{values_of, no_special}
+use Rattle.ir_globals.specs.View.{values_of}
 use Rattle.ir_items.specs.declared.functions.FunctionResult.{FunctionResult}
-use Rattle.document_within.specs.Scope.{IsScalar, IsLiteral, IsExpression, IsStatement, AreStatements, AreCases, IsFunction, IsModule}
-use Rattle.document_within.specs.Decide.{all_pass, is_empty, plain_inner, plain_type, plain_literal, plain_expression, plain_result, plain_statement, plain_block, plain_cases, plain_function, plain_special, thin_module, plain_module}
+use Rattle.document_within.specs.Scope.{IsScalar, IsLiteral, IsExpression, IsStatement, AreStatements, AreCases, IsResult, IsFunction, IsModule}
+use Rattle.document_within.specs.Decide.{all_pass, plain_if_some, is_empty, plain_inner, scalar_there, plain_literal, plain_expression, plain_result, plain_statement, plain_block, plain_cases, plain_function, plain_module}
 
 both : (a b : Bool) → (a && b) ≡ true → (a ≡ true) × (b ≡ true)
 both true b e = (refl, e)
@@ -79,13 +78,23 @@ expression_complete : (x : PlainExpression) → IsExpression x → plain_express
 expression_complete (computes (computed.Literal l)) h = literal_complete l h
 expression_complete x h = absurd h
 
-result_sound : (o : Option FunctionResult) → plain_result o ≡ true → IfSome o (λ r. r.binding ≡ None)
-result_sound None e = tt
-result_sound (Some r) e = none_is r.binding e
+there_sound : (o : Option PlainType) → plain_if_some (λ t. plain_inner t.inner) o ≡ true → IfSome o (λ (t : PlainType). IsScalar t.inner)
+there_sound None e = tt
+there_sound (Some t) e = inner_sound t.inner e
 
-result_complete : (o : Option FunctionResult) → IfSome o (λ r. r.binding ≡ None) → plain_result o ≡ true
-result_complete None h = refl
-result_complete (Some r) h = rw h refl
+there_complete : (o : Option PlainType) → IfSome o (λ (t : PlainType). IsScalar t.inner) → plain_if_some (λ t. plain_inner t.inner) o ≡ true
+there_complete None h = refl
+there_complete (Some t) h = inner_complete t.inner h
+
+result_sound : (types : List PlainType) (o : Option FunctionResult) → plain_result types o ≡ true → IfSome o (IsResult types)
+result_sound types None e = tt
+result_sound types (Some r) e =
+    let b = both (is_none r.binding) _ e in
+    (none_is r.binding b.0, there_sound (slice_get types r.ty) b.1)
+
+result_complete : (types : List PlainType) (o : Option FunctionResult) → IfSome o (IsResult types) → plain_result types o ≡ true
+result_complete types None h = refl
+result_complete types (Some r) h = and_true (is_none r.binding) _ (ap is_none h.0) (there_complete (slice_get types r.ty) h.1)
 
 -- ---- statements
 
@@ -135,64 +144,38 @@ mutual
 
 -- ---- functions and modules
 
-function_sound : (f : PlainFunction) → plain_function f ≡ true → IsFunction f
-function_sound f e =
+function_sound : (types : List PlainType) (f : PlainFunction) → plain_function types f ≡ true → IsFunction types f
+function_sound types f e =
     let a = both _ (plain_block f.body) e in
     let b = both _ (all_pass plain_expression f.expressions) a.0 in
     let c = both _ (is_none f.leaf) b.0 in
     let d = both _ (is_empty f.locals) c.0 in
-    let g = both _ (plain_result f.result) d.0 in
+    let g = both _ (plain_result types f.result) d.0 in
     let h = both (is_none f.name) (is_empty f.arguments) g.0 in
     record {
       name = none_is f.name h.0;
       arguments = empty_is f.arguments h.1;
-      result = result_sound f.result g.1;
+      result = result_sound types f.result g.1;
       locals = empty_is f.locals d.1;
       expressions = all_sound plain_expression IsExpression expression_sound f.expressions b.1;
       body = block_sound f.body a.1;
       leaf = none_is f.leaf c.1;
     }
 
-function_complete : (f : PlainFunction) → IsFunction f → plain_function f ≡ true
-function_complete f h =
-    rw h.name (rw h.arguments (rw (result_complete f.result h.result) (rw h.locals (rw h.leaf (and_true (all_pass plain_expression f.expressions) _ (all_complete plain_expression IsExpression expression_complete f.expressions h.expressions) (block_complete f.body h.body))))))
-
-special_is : (s : PlainSpecial) → plain_special s ≡ true → s ≡ no_special
-special_is s e =
-    let a = both _ (is_empty s.predeclared) e in
-    let b = both _ (is_none s.ray_vertex_return) a.0 in
-    let c = both (is_none s.ray_desc) (is_none s.ray_intersection) b.0 in
-    let x = none_is s.ray_desc c.0 in
-    let y = none_is s.ray_intersection c.1 in
-    let z = none_is s.ray_vertex_return b.1 in
-    let w = empty_is s.predeclared a.1 in
-    λ i. record { ray_desc = x i; ray_intersection = y i; ray_vertex_return = z i; predeclared = w i }
+function_complete : (types : List PlainType) (f : PlainFunction) → IsFunction types f → plain_function types f ≡ true
+function_complete types f h =
+    rw h.name (rw h.arguments (rw (result_complete types f.result h.result) (rw h.locals (rw h.leaf (and_true (all_pass plain_expression f.expressions) _ (all_complete plain_expression IsExpression expression_complete f.expressions h.expressions) (block_complete f.body h.body))))))
 
 pub module_sound : (m : PlainModule) → plain_module m ≡ true → IsModule m
 module_sound m e =
-    let a = both _ (all_pass plain_function m.functions) e in
-    let b = both (thin_module m) (all_pass plain_type m.types) a.0 in
-    let c = both _ (is_empty m.entries) b.0 in
-    let d = both _ (is_empty m.globals) c.0 in
-    let f = both _ (is_empty m.global_expressions) d.0 in
-    let g = both _ (is_empty m.overrides) f.0 in
-    let h = both _ (is_empty m.constants) g.0 in
-    let k = both _ (is_none m.leaf) h.0 in
-    let l = both (plain_special m.special) (is_empty m.filters) k.0 in
+    let a = both _ (all_pass (plain_function m.types) m.functions) e in
+    let b = both (is_empty m.globals) (is_empty m.entries) a.0 in
     record {
-      types = all_sound plain_type (λ t. IsScalar t.inner) (λ t. inner_sound t.inner) m.types b.1;
-      special = special_is m.special l.0;
-      filters = empty_is m.filters l.1;
-      leaf = none_is m.leaf k.1;
-      constants = empty_is m.constants h.1;
-      overrides = empty_is m.overrides g.1;
-      global_expressions = empty_is m.global_expressions f.1;
-      globals = empty_is m.globals d.1;
-      functions = all_sound plain_function IsFunction function_sound m.functions a.1;
-      entries = empty_is m.entries c.1;
+      globals = empty_is m.globals b.0;
+      functions = all_sound (plain_function m.types) (IsFunction m.types) (function_sound m.types) m.functions a.1;
+      entries = empty_is m.entries b.1;
     }
 
 pub module_complete : (m : PlainModule) → IsModule m → plain_module m ≡ true
 module_complete m h =
-    rw h.special (rw h.filters (rw h.leaf (rw h.constants (rw h.overrides (rw h.global_expressions (rw h.globals (rw h.entries
-    (and_true (all_pass plain_type m.types) _ (all_complete plain_type (λ t. IsScalar t.inner) (λ t. inner_complete t.inner) m.types h.types) (all_complete plain_function IsFunction function_complete m.functions h.functions)))))))))
+    rw h.globals (rw h.entries (all_complete (plain_function m.types) (IsFunction m.types) (function_complete m.types) m.functions h.functions))

@@ -1,5 +1,5 @@
 -- Whether a document is checked so far, found step by step; `Scope` says what that means.
-use Rattle.std.specs.Prelude.{Bool, true, false, ◌&&◌, List, [], ◌∷◌, Option, None, Some, is_none, length, ◌==◌}
+use Rattle.std.specs.Prelude.{ℕ, Bool, true, false, ◌&&◌, List, [], ◌∷◌, Option, None, Some, is_none, length, ◌==◌, slice_get}
 use Rattle.ir_kinds.specs.declared.values.Literal.{Literal}
 use Rattle.ir_kinds.specs.declared.values.Literal.TheVariants as literal
 use Rattle.ir_types.specs.Plain.{PlainInner, plain, PlainType}
@@ -7,13 +7,16 @@ use Rattle.ir_types.specs.declared.types.TypeInner.TheVariants as inner
 use Rattle.ir_expressions.specs.Plain.{PlainExpression, plain as computes}
 use Rattle.ir_expressions.specs.declared.expressions.Expression.TheVariants as computed
 use Rattle.ir_blocks.specs.Plain.{PlainStatement, emit, block, if_, switch, loop, break, continue, return, kill, operation, call, PlainBlock, stop, next, PlainCases, no_case, case}
-use Rattle.ir_globals.specs.Plain.{PlainSpecial}
 use Rattle.ir_items.specs.Plain.{PlainFunction, PlainModule}
 use Rattle.ir_items.specs.declared.functions.FunctionResult.{FunctionResult}
 
 abbrev pub all_pass : {A : Type 0} → (A → Bool) → List A → Bool
 all_pass test [] = true
 all_pass test (x ∷ xs) = test x && all_pass test xs
+
+abbrev pub plain_if_some : {A : Type 0} → (A → Bool) → Option A → Bool
+plain_if_some test None = true
+plain_if_some test (Some x) = test x
 
 abbrev pub is_empty : {A : Type 0} → List A → Bool
 is_empty xs = length xs == 0
@@ -22,8 +25,9 @@ abbrev pub plain_inner : PlainInner → Bool
 plain_inner (plain (inner.Scalar s)) = true
 plain_inner _ = false
 
-abbrev pub plain_type : PlainType → Bool
-plain_type t = plain_inner t.inner
+-- the type at a handle is a scalar if it is there
+abbrev pub scalar_there : List PlainType → ℕ → Bool
+scalar_there types h = plain_if_some (λ t. plain_inner t.inner) (slice_get types h)
 
 abbrev pub plain_literal : Literal → Bool
 plain_literal (literal.Bool b) = true
@@ -35,9 +39,9 @@ abbrev pub plain_expression : PlainExpression → Bool
 plain_expression (computes (computed.Literal l)) = plain_literal l
 plain_expression _ = false
 
-abbrev pub plain_result : Option FunctionResult → Bool
-plain_result None = true
-plain_result (Some r) = is_none r.binding
+abbrev pub plain_result : List PlainType → Option FunctionResult → Bool
+plain_result types None = true
+plain_result types (Some r) = is_none r.binding && scalar_there types r.ty
 
 abbrev mutual
   pub plain_statement : PlainStatement → Bool
@@ -61,17 +65,9 @@ abbrev mutual
   plain_cases no_case = true
   plain_cases (case value body falls rest) = plain_block body && plain_cases rest
 
-abbrev pub plain_function : PlainFunction → Bool
-plain_function f =
-    is_none f.name && is_empty f.arguments && plain_result f.result && is_empty f.locals && is_none f.leaf && all_pass plain_expression f.expressions && plain_block f.body
-
-abbrev pub plain_special : PlainSpecial → Bool
-plain_special s = is_none s.ray_desc && is_none s.ray_intersection && is_none s.ray_vertex_return && is_empty s.predeclared
-
--- nothing but types and functions
-abbrev pub thin_module : PlainModule → Bool
-thin_module m =
-    plain_special m.special && is_empty m.filters && is_none m.leaf && is_empty m.constants && is_empty m.overrides && is_empty m.global_expressions && is_empty m.globals && is_empty m.entries
+abbrev pub plain_function : List PlainType → PlainFunction → Bool
+plain_function types f =
+    is_none f.name && is_empty f.arguments && plain_result types f.result && is_empty f.locals && is_none f.leaf && all_pass plain_expression f.expressions && plain_block f.body
 
 abbrev pub plain_module : PlainModule → Bool
-plain_module m = thin_module m && all_pass plain_type m.types && all_pass plain_function m.functions
+plain_module m = is_empty m.globals && is_empty m.entries && all_pass (plain_function m.types) m.functions

@@ -1,18 +1,18 @@
 -- The documents that the program checks so far, of all that it reads.
-use Rattle.std.specs.Prelude.{◌≡◌, [], None, IfSome}
+use Rattle.std.specs.Prelude.{◌≡◌, ℕ, List, [], Some, None, IfSome, slice_get}
 use Rattle.std.specs.List.{AllByRecursion}
 use Rattle.ir_kinds.specs.declared.values.Literal.{Literal}
 use Rattle.ir_kinds.specs.declared.values.Literal.TheVariants as literal
-use Rattle.ir_types.specs.Plain.{PlainInner, plain}
+use Rattle.ir_types.specs.Plain.{PlainInner, plain, PlainType}
 use Rattle.ir_types.specs.declared.types.TypeInner.TheVariants as inner
 use Rattle.ir_expressions.specs.Plain.{PlainExpression, plain as computes}
 use Rattle.ir_expressions.specs.declared.expressions.Expression.TheVariants as computed
 use Rattle.ir_blocks.specs.Plain.{PlainStatement, emit, block, if_, switch, loop, break, continue, return, kill, operation, call, PlainBlock, stop, next, PlainCases, no_case, case}
 use Rattle.ir_items.specs.Plain.{PlainFunction, PlainModule}
-use Rattle.ir_globals.specs.View.{no_special}
+use Rattle.ir_items.specs.declared.functions.FunctionResult.{FunctionResult}
 use Rattle.document_reader.specs.Plain.{PlainDocument}
 
--- scalar types
+-- a scalar
 abbrev pub IsScalar : PlainInner → Type 0
 IsScalar (plain (inner.Scalar s)) = Unit {0}
 IsScalar _ = ⊥
@@ -51,27 +51,24 @@ abbrev mutual
   AreCases no_case = Unit {0}
   AreCases (case value body falls rest) = AreStatements body × AreCases rest
 
--- A function with a result, expressions and a body alone.
-pub record IsFunction (f : PlainFunction) : Type 0 where
+-- a result without a binding, of a type that is a scalar if it is there
+abbrev pub IsResult : List PlainType → FunctionResult → Type 0
+IsResult types r = (r.binding ≡ None) × IfSome (slice_get types r.ty) (λ (t : PlainType). IsScalar t.inner)
+
+-- A function of a module with these types that has a result, expressions and a body alone.
+pub record IsFunction (types : List PlainType) (f : PlainFunction) : Type 0 where
   pub name : f.name ≡ None
   pub arguments : f.arguments ≡ []
-  pub result : IfSome f.result (λ r. r.binding ≡ None)
+  pub result : IfSome f.result (IsResult types)
   pub locals : f.locals ≡ []
   pub expressions : AllByRecursion IsExpression f.expressions
   pub body : AreStatements f.body
   pub leaf : f.leaf ≡ None
 
--- A module with types and functions alone.
+-- A module without global variables and entry points.
 pub record IsModule (m : PlainModule) : Type 0 where
-  pub types : AllByRecursion (λ t. IsScalar t.inner) m.types
-  pub special : m.special ≡ no_special
-  pub filters : m.filters ≡ []
-  pub leaf : m.leaf ≡ None
-  pub constants : m.constants ≡ []
-  pub overrides : m.overrides ≡ []
-  pub global_expressions : m.global_expressions ≡ []
   pub globals : m.globals ≡ []
-  pub functions : AllByRecursion IsFunction m.functions
+  pub functions : AllByRecursion (IsFunction m.types) m.functions
   pub entries : m.entries ≡ []
 
 abbrev pub IsWithin : PlainDocument → Type 0

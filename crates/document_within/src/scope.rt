@@ -1,22 +1,20 @@
 // The documents that are checked so far.
 ghost use Rattle.std.specs.Prelude.{◌≡◌, ◌↔◌, IsTrue, map};
 ghost use Rattle.ir_arena.specs.Handles.{handles_from};
-ghost use Rattle.ir_types.specs.Plain.{inner_view, type_view};
+ghost use Rattle.ir_types.specs.Plain.{inner_view};
 ghost use Rattle.ir_expressions.specs.Plain.{expression_view};
-ghost use Rattle.ir_globals.specs.View.{values_of, special_view};
+ghost use Rattle.ir_globals.specs.View.{values_of};
 ghost use Rattle.ir_items.specs.View.{function_view, module_view};
 ghost use Rattle.document_reader.specs.View.{document_view};
 ghost use Rattle.document_within.specs.Scope.{IsWithin};
-ghost use Rattle.document_within.specs.Decide.{all_pass, plain_inner, plain_type, plain_literal, plain_expression, plain_result, plain_function, plain_special, thin_module, plain_module};
+ghost use Rattle.document_within.specs.Decide.{all_pass, plain_inner, scalar_there, plain_literal, plain_expression, plain_result, plain_function, plain_module};
 
 use crate::bodies::is_supported_block;
 use document_reader::Document;
 use ir_arena::arena::Arena;
-use ir_items::{
-    Expression, Function, FunctionResult, IrType, Module, SpecialTypes, TypeInner, key,
-};
+use ir_arena::handle::Handle;
+use ir_items::{Expression, Function, FunctionResult, Module, TypeInner, key};
 use ir_kinds::Literal;
-use ir_unique_arena::unique_arena::UniqueArena;
 
 fn is_supported_inner(inner: &TypeInner) -> bool
     ensures { result ≡ plain_inner (inner_view inner.now) }
@@ -27,23 +25,15 @@ fn is_supported_inner(inner: &TypeInner) -> bool
     }
 }
 
-fn types_pass_with_handles(types: &UniqueArena<IrType, key::IrType>) -> bool
-    ensures { result ≡ all_pass (λ h. plain_type (type_view h.1)) (handles_from 0 types.now) }
+// Whether the type at a handle is a scalar, if it is there.
+#[tactic(auto, using(ir_references::proofs::Entries::entries))]
+fn is_scalar_there(module: &Module, handle: Handle<key::IrType>) -> bool
+    ensures { result ≡ scalar_there (module_view «module».now).types handle }
 {
-    for (_, item) in types.iter() {
-        if !is_supported_inner(&item.inner) {
-            return false;
-        }
+    match module.types.get_handle(handle) {
+        Ok(found) => is_supported_inner(&found.inner),
+        Err(_) => true,
     }
-    true
-}
-
-// Whether each type is checked so far.
-#[tactic(auto, using(crate::proofs::ScopeLaws::handles_pass))]
-fn are_plain_types(types: &UniqueArena<IrType, key::IrType>) -> bool
-    ensures { result ≡ all_pass plain_type (map type_view (values_of types.now)) }
-{
-    types_pass_with_handles(types)
 }
 
 fn is_supported_literal(literal: Literal) -> bool
@@ -67,11 +57,11 @@ pub fn is_supported_expression(expression: &Expression) -> bool
     }
 }
 
-fn is_supported_result(answer: Option<FunctionResult>) -> bool
-    ensures { result ≡ plain_result answer }
+fn is_supported_result(module: &Module, answer: Option<FunctionResult>) -> bool
+    ensures { result ≡ plain_result (module_view «module».now).types answer }
 {
     match answer {
-        Some(answer) => answer.binding.is_none(),
+        Some(answer) => answer.binding.is_none() && is_scalar_there(module, answer.ty),
         None => true,
     }
 }
@@ -95,23 +85,23 @@ fn are_plain_expressions(expressions: &Arena<Expression, key::Expression>) -> bo
     expressions_pass_with_handles(expressions)
 }
 
-fn is_supported_function(function: &Function) -> bool
-    ensures { result ≡ plain_function (function_view function.now) }
+fn is_supported_function(module: &Module, function: &Function) -> bool
+    ensures { result ≡ plain_function (module_view «module».now).types (function_view function.now) }
 {
     function.name.is_none()
         && function.arguments.is_empty()
-        && is_supported_result(function.result)
+        && is_supported_result(module, function.result)
         && function.local_variables.is_empty()
         && function.diagnostic_filter_leaf.is_none()
         && are_plain_expressions(&function.expressions)
         && is_supported_block(&function.body)
 }
 
-fn functions_pass_with_handles(functions: &Arena<Function, key::Function>) -> bool
-    ensures { result ≡ all_pass (λ h. plain_function (function_view h.1)) (handles_from 0 functions.now) }
+fn functions_pass_with_handles(module: &Module) -> bool
+    ensures { result ≡ all_pass (λ h. plain_function (module_view «module».now).types (function_view h.1)) (handles_from 0 «module».now.functions) }
 {
-    for (_, item) in functions.iter() {
-        if !is_supported_function(item) {
+    for (_, item) in module.functions.iter() {
+        if !is_supported_function(module, item) {
             return false;
         }
     }
@@ -120,43 +110,23 @@ fn functions_pass_with_handles(functions: &Arena<Function, key::Function>) -> bo
 
 // Whether each function is checked so far.
 #[tactic(auto, using(crate::proofs::ScopeLaws::handles_pass))]
-fn are_plain_functions(functions: &Arena<Function, key::Function>) -> bool
-    ensures { result ≡ all_pass plain_function (map function_view (values_of functions.now)) }
+fn are_plain_functions(module: &Module) -> bool
+    ensures { result ≡ all_pass (plain_function (module_view «module».now).types) (map function_view (values_of «module».now.functions)) }
 {
-    functions_pass_with_handles(functions)
-}
-
-fn is_supported_special(special: &SpecialTypes) -> bool
-    ensures { result ≡ plain_special (special_view special.now) }
-{
-    special.ray_desc.is_none()
-        && special.ray_intersection.is_none()
-        && special.ray_vertex_return.is_none()
-        && special.predeclared_types.is_empty()
-}
-
-// Whether there is nothing but types and functions.
-fn is_thin(module: &Module) -> bool
-    ensures { result ≡ thin_module (module_view «module».now) }
-{
-    is_supported_special(&module.special_types)
-        && module.diagnostic_filters.is_empty()
-        && module.diagnostic_filter_leaf.is_none()
-        && module.constants.is_empty()
-        && module.overrides.is_empty()
-        && module.global_expressions.is_empty()
-        && module.global_variables.is_empty()
-        && module.entry_points.is_empty()
+    functions_pass_with_handles(module)
 }
 
 fn is_supported_module(module: &Module) -> bool
     ensures { result ≡ plain_module (module_view «module».now) }
 {
-    is_thin(module) && are_plain_types(&module.types) && are_plain_functions(&module.functions)
+    module.global_variables.is_empty()
+        && module.entry_points.is_empty()
+        && are_plain_functions(module)
 }
 
-/// Whether the program checks such a document so far: it has scalar types, and functions that have a result without a
-/// binding, literals of `bool`, `i32` and `u32`, and a body that steers and calls; nothing else.
+/// Whether the program checks such a document so far: it has no global variables and no entry points, and functions that
+/// have a scalar result without a binding, literals of `bool`, `i32` and `u32`, and a body that steers and calls; no more
+/// is asked of what else it holds.
 pub fn within(document: &Document) -> bool
     ensures { IsTrue result ↔ IsWithin (document_view document.now) }
 {

@@ -1,13 +1,15 @@
 -- What is told of a document goes with what is found of it.
 use Rattle.judgement.specs.declared.finding.Finding.{Finding}
 use Rattle.judgement.specs.declared.finding.Finding.TheVariants as findings
+use Rattle.judgement.specs.declared.finding.Step.TheVariants.{Function}
+use Rattle.shader_check.specs.Modules.{refused_by}
 use Rattle.explain.specs.declared.explanation.Explanation.{Explanation}
-use Rattle.explain.specs.declared.explanation.Explanation.TheVariants.{NoDocument, NotChecked, Accepted, RefusedHandles, Refused}
+use Rattle.explain.specs.declared.explanation.Explanation.TheVariants.{NoDocument, NotChecked, Accepted, RefusedModule, RefusedFunction}
 
 -- the finding that is explained
 abbrev pub finding_of : Explanation → Finding
 finding_of (NoDocument error) = findings.RefusedDocument
 finding_of (NotChecked place) = findings.RefusedDocument
 finding_of Accepted = findings.Accepted
-finding_of RefusedHandles = findings.RefusedHandles
-finding_of (Refused step index name) = findings.Refused step index
+finding_of (RefusedModule name error) = refused_by error
+finding_of (RefusedFunction index name) = findings.Refused Function index

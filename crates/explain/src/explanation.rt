@@ -1,15 +1,16 @@
 // What is told of a document.
 ghost use Rattle.std.specs.Prelude.{◌≡◌, IfOk};
+ghost use Rattle.shader_check.specs.Modules.{finding_in};
 ghost use Rattle.shader_check.specs.Theorem.{Judged};
 ghost use Rattle.explain.specs.Explained.{finding_of};
 
-use crate::names::{function_name, type_name};
+use crate::names::{function_name, refused_name};
 use crate::place::Told;
 use crate::unchecked::{Steps, first_unchecked};
 use document_forms::Place;
 use document_reader::{DocumentError, MAX_LEN, read_document};
 use ir_items::Module;
-use shader_check::{Finding, Step, judge_document};
+use shader_check::{Examined, Finding, ModuleError, Step, examine_document, refused_by};
 use std::alloc::{AllocError, Global};
 use std::fmt::{self, Display};
 
@@ -22,26 +23,26 @@ pub enum Explanation {
     NotChecked(Steps),
     /// No step fails.
     Accepted,
-    /// Some handle names nothing, or something that does not come before.
-    RefusedHandles,
-    /// The step that fails, the least index of an item that fails it, and that item's name.
-    Refused(Step, usize, Option<String>),
+    /// Handles are out of order, or a step up to overrides fails: the name of the first item that fails it, and why it does.
+    RefusedModule(Option<String>, ModuleError),
+    /// The first function that fails its rules, and its name.
+    RefusedFunction(usize, Option<String>),
 }
 
-// What is told of a finding.
-fn told(alloc: Global, finding: Finding, module: &Module) -> Result<Explanation, AllocError>
-    ensures { IfOk result (λ e. finding_of e ≡ finding) }
+// What is told of what is found.
+fn told(alloc: Global, examined: Examined, module: &Module) -> Result<Explanation, AllocError>
+    ensures { IfOk result (λ e. finding_of e ≡ finding_in examined) }
 {
-    match finding {
-        Finding::Accepted => Ok(Explanation::Accepted),
-        Finding::RefusedDocument => Ok(Explanation::NotChecked(first_unchecked(module))),
-        Finding::RefusedHandles => Ok(Explanation::RefusedHandles),
-        Finding::Refused(step, index) => {
-            let name = match step {
-                Step::Type => type_name(alloc, module, index)?,
-                Step::Function => function_name(alloc, module, index)?,
-            };
-            Ok(Explanation::Refused(step, index, name))
+    match examined {
+        Examined::NotChecked => Ok(Explanation::NotChecked(first_unchecked(module))),
+        Examined::Accepted => Ok(Explanation::Accepted),
+        Examined::RefusedModule(error) => {
+            let name = refused_name(alloc, module, &error)?;
+            Ok(Explanation::RefusedModule(name, error))
+        }
+        Examined::RefusedFunction(index) => {
+            let name = function_name(alloc, module, index)?;
+            Ok(Explanation::RefusedFunction(index, name))
         }
     }
 }
@@ -52,8 +53,8 @@ pub fn explain(alloc: Global, bytes: &[u8]) -> Result<Explanation, AllocError>
 {
     match read_document(alloc, bytes) {
         Ok(mut document) => {
-            let finding = judge_document(alloc, &mut document)?;
-            told(alloc, finding, &document.module)
+            let examined = examine_document(alloc, &mut document)?;
+            told(alloc, examined, &document.module)
         }
         Err(DocumentError::Memory) => Err(AllocError),
         Err(DocumentError::TooLong) => Ok(Explanation::NoDocument(DocumentError::TooLong)),
@@ -89,6 +90,39 @@ fn write_error<W: fmt::Write>(f: &mut fmt::Formatter<W>, error: &DocumentError) 
     }
 }
 
+// The step that fails by an item, and the item.
+fn refused_item(error: &ModuleError) -> Option<(Step, usize)> {
+    match refused_by(error) {
+        Finding::Refused(step, index) => Some((step, index)),
+        Finding::Accepted | Finding::RefusedDocument | Finding::RefusedHandles => None,
+    }
+}
+
+// The step that fails, the item that fails it, and its name.
+fn write_item<W: fmt::Write>(
+    f: &mut fmt::Formatter<W>,
+    step: Step,
+    index: usize,
+    name: &Option<String>,
+) -> fmt::Result {
+    match name {
+        Some(name) => write!(f, "refused {step} {index} {name:?}"),
+        None => write!(f, "refused {step} {index}"),
+    }
+}
+
+// Why an item is refused.
+fn write_reason<W: fmt::Write>(f: &mut fmt::Formatter<W>, error: &ModuleError) -> fmt::Result {
+    match error {
+        ModuleError::InvalidHandle(error) => write!(f, "refused handles: {error}"),
+        ModuleError::Layouter(error) => write!(f, ": {}", error.inner),
+        ModuleError::Type(error) => write!(f, ": {}", error.error),
+        ModuleError::ConstExpression(error) => write!(f, ": {}", error.error),
+        ModuleError::Constant(error) => write!(f, ": {}", error.error),
+        ModuleError::Override(error) => write!(f, ": {}", error.error),
+    }
+}
+
 impl Display for Explanation {
     fn fmt<W: fmt::Write>(&self, f: &mut fmt::Formatter<W>) -> fmt::Result {
         match self {
@@ -98,11 +132,15 @@ impl Display for Explanation {
             }
             Explanation::NotChecked(steps) => write!(f, "not checked so far: {}", Told(steps)),
             Explanation::Accepted => write!(f, "accepted"),
-            Explanation::RefusedHandles => write!(f, "refused handles"),
-            Explanation::Refused(step, index, Some(name)) => {
-                write!(f, "refused {step} {index} {name:?}")
+            Explanation::RefusedModule(name, error) => {
+                if let Some((step, index)) = refused_item(error) {
+                    write_item(f, step, index, name)?;
+                }
+                write_reason(f, error)
             }
-            Explanation::Refused(step, index, None) => write!(f, "refused {step} {index}"),
+            Explanation::RefusedFunction(index, name) => {
+                write_item(f, Step::Function, *index, name)
+            }
         }
     }
 }

@@ -22,8 +22,8 @@ fn status(explanation: &Explanation) -> u8 {
         Explanation::Accepted => 0,
         Explanation::NoDocument(_)
         | Explanation::NotChecked(_)
-        | Explanation::RefusedHandles
-        | Explanation::Refused(..) => 1,
+        | Explanation::RefusedModule(..)
+        | Explanation::RefusedFunction(..) => 1,
     }
 }
 

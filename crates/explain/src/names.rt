@@ -1,6 +1,7 @@
 // The names of items.
 
 use ir_items::Module;
+use shader_check::ModuleError;
 use std::alloc::{AllocError, Global};
 
 fn copied(alloc: Global, name: &Option<String>) -> Result<Option<String>, AllocError> {
@@ -10,12 +11,8 @@ fn copied(alloc: Global, name: &Option<String>) -> Result<Option<String>, AllocE
     }
 }
 
-/// The name of the type at this index, or `None` where it has none.
-pub fn type_name(
-    alloc: Global,
-    module: &Module,
-    index: usize,
-) -> Result<Option<String>, AllocError> {
+// The name of the type at this index, or `None` where it has none.
+fn type_name(alloc: Global, module: &Module, index: usize) -> Result<Option<String>, AllocError> {
     for (handle, item) in module.types.iter() {
         if handle.index() == index {
             return copied(alloc, &item.name);
@@ -36,4 +33,47 @@ pub fn function_name(
         }
     }
     Ok(None)
+}
+
+// The name of the constant at this index, or `None` where it has none.
+fn constant_name(
+    alloc: Global,
+    module: &Module,
+    index: usize,
+) -> Result<Option<String>, AllocError> {
+    for (handle, item) in module.constants.iter() {
+        if handle.index() == index {
+            return copied(alloc, &item.name);
+        }
+    }
+    Ok(None)
+}
+
+// The name of the override at this index, or `None` where it has none.
+fn override_name(
+    alloc: Global,
+    module: &Module,
+    index: usize,
+) -> Result<Option<String>, AllocError> {
+    for (handle, item) in module.overrides.iter() {
+        if handle.index() == index {
+            return copied(alloc, &item.name);
+        }
+    }
+    Ok(None)
+}
+
+/// The name of the item that the error refuses, or `None` where it has none.
+pub fn refused_name(
+    alloc: Global,
+    module: &Module,
+    error: &ModuleError,
+) -> Result<Option<String>, AllocError> {
+    match error {
+        ModuleError::InvalidHandle(_) | ModuleError::ConstExpression(_) => Ok(None),
+        ModuleError::Layouter(error) => type_name(alloc, module, error.ty.index()),
+        ModuleError::Type(error) => type_name(alloc, module, error.ty.index()),
+        ModuleError::Constant(error) => constant_name(alloc, module, error.constant.index()),
+        ModuleError::Override(error) => override_name(alloc, module, error.id.index()),
+    }
 }

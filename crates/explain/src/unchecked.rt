@@ -2,20 +2,27 @@
 
 use document_within::{is_supported_expression, is_supported_statement};
 use ir_arena::arena::Arena;
+use ir_arena::handle::Handle;
 use ir_items::{Expression, Function, Module, TypeInner, key};
 
 /// The indexes that lead to a place of a document, from the outermost on.
 pub type Steps = [Option<usize>; 4];
 
-// The first type that is no scalar.
-fn in_types(module: &Module) -> Option<usize> {
-    for (handle, item) in module.types.iter() {
-        match &item.inner {
-            TypeInner::Scalar(_) => (),
-            _ => return Some(handle.index()),
-        }
+// Whether the type at a handle is there and is no scalar.
+fn is_no_scalar(module: &Module, handle: Handle<key::IrType>) -> bool {
+    match module.types.get_handle(handle) {
+        Ok(found) => !matches!(found.inner, TypeInner::Scalar(_)),
+        Err(_) => false,
     }
-    None
+}
+
+// The part of a function's result.
+fn in_result(module: &Module, function: &Function) -> Option<usize> {
+    match &function.result {
+        Some(answer) if answer.binding.is_some() => Some(1),
+        Some(answer) if is_no_scalar(module, answer.ty) => Some(0),
+        Some(_) | None => None,
+    }
 }
 
 // The first expression that is not checked so far.
@@ -41,17 +48,15 @@ fn in_body(function: &Function) -> Option<usize> {
 }
 
 // The part of a function, and what is in it.
-fn in_function(function: &Function) -> Option<(usize, Option<usize>)> {
+fn in_function(module: &Module, function: &Function) -> Option<(usize, Option<usize>)> {
     if function.name.is_some() {
         return Some((0, None));
     }
     if !function.arguments.is_empty() {
         return Some((1, Some(0)));
     }
-    if let Some(answer) = &function.result {
-        if answer.binding.is_some() {
-            return Some((2, Some(1)));
-        }
+    if let Some(part) = in_result(module, function) {
+        return Some((2, Some(part)));
     }
     if !function.local_variables.is_empty() {
         return Some((3, Some(0)));
@@ -70,58 +75,17 @@ fn in_function(function: &Function) -> Option<(usize, Option<usize>)> {
 
 fn in_functions(module: &Module) -> Option<Steps> {
     for (handle, function) in module.functions.iter() {
-        if let Some((part, inside)) = in_function(function) {
+        if let Some((part, inside)) = in_function(module, function) {
             return Some([Some(12), Some(handle.index()), Some(part), inside]);
         }
     }
     None
 }
 
-// The first list that is not empty, of those whose items are not checked so far.
-fn in_lists(module: &Module) -> Option<usize> {
-    if !module.constants.is_empty() {
-        Some(8)
-    } else if !module.overrides.is_empty() {
-        Some(9)
-    } else if !module.global_expressions.is_empty() {
-        Some(10)
-    } else if !module.global_variables.is_empty() {
-        Some(11)
-    } else {
-        None
-    }
-}
-
-// The part of the special types, or of the filters.
-fn in_settings(module: &Module) -> Option<(usize, usize)> {
-    let special = &module.special_types;
-    if special.ray_desc.is_some() {
-        Some((6, 0))
-    } else if special.ray_intersection.is_some() {
-        Some((6, 1))
-    } else if special.ray_vertex_return.is_some() {
-        Some((6, 2))
-    } else if !special.predeclared_types.is_empty() {
-        Some((6, 3))
-    } else if !module.diagnostic_filters.is_empty() {
-        Some((7, 0))
-    } else if module.diagnostic_filter_leaf.is_some() {
-        Some((7, 1))
-    } else {
-        None
-    }
-}
-
 /// The first part of the document that is not checked so far, as it is written.
 pub fn first_unchecked(module: &Module) -> Steps {
-    if let Some(index) = in_types(module) {
-        return [Some(5), Some(index), None, None];
-    }
-    if let Some((part, inside)) = in_settings(module) {
-        return [Some(part), Some(inside), None, None];
-    }
-    if let Some(part) = in_lists(module) {
-        return [Some(part), Some(0), None, None];
+    if !module.global_variables.is_empty() {
+        return [Some(11), Some(0), None, None];
     }
     match in_functions(module) {
         Some(steps) => steps,

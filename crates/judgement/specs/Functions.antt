@@ -22,7 +22,7 @@ use Rattle.ir_blocks.specs.Control.{ControlOK}
 
 -- ---- types of expressions
 
--- so far no document holds an expression that is no literal
+-- so far no function holds an expression that is no literal
 abbrev pub expression_scalar : PlainExpression → Option Scalar
 expression_scalar (computes (computed.Literal l)) = Some (literal_scalar l)
 expression_scalar _ = None
@@ -49,7 +49,7 @@ abbrev pub ArityOK : PlainModule → PlainBlock → Type 0
 ArityOK m b = (p : Place) (callee : ℕ) (arguments : List ℕ) (result : Option ℕ) (f : PlainFunction)
     → StandsAt b p (call callee arguments result) → slice_get m.functions callee ≡ Some f → length arguments ≡ argument_count f
 
--- A call has a result exactly if its function has one, and it is a `CallResult`; so far no expression is one.
+-- A call has a result exactly if its function has one, and it is a `CallResult`; so far no expression of a function is one.
 abbrev pub CallResultOK : PlainModule → ℕ → Option ℕ → Type 0
 CallResultOK m callee None = (f : PlainFunction) → slice_get m.functions callee ≡ Some f → f.result ≡ None
 CallResultOK m callee (Some e) = ⊥

@@ -3,12 +3,18 @@ use Rattle.std.specs.Prelude.{◌≡◌, ℕ, ◌<◌, Bool, true, false, List, 
 use Rattle.ir_flags.specs.Settings.{PlainSettings}
 use Rattle.ir_items.specs.Plain.{PlainModule}
 use Rattle.ir_items.specs.Returned.{IsReturned}
-use Rattle.judgement.specs.Handles.{HandlesOK}
-use Rattle.judgement.specs.Types.{TypeOK}
+use Rattle.spec_handles.specs.InOrder.{HandlesOK}
+use Rattle.spec_modules.specs.Steps as step
+use Rattle.spec_modules.specs.Steps.{ModuleOK, IsFirstFailing}
+use Rattle.spec_modules.specs.declared.settings.ModuleSettings.{ModuleSettings}
 use Rattle.judgement.specs.Functions.{FunctionOK}
-use Rattle.judgement.specs.declared.finding.Step.TheVariants.{«Type», Function}
+use Rattle.judgement.specs.declared.finding.Step.TheVariants.{Layout, «Type», Typing, Expression, Constant, Override, Function}
 use Rattle.judgement.specs.declared.finding.Finding.{Finding}
 use Rattle.judgement.specs.declared.finding.Finding.TheVariants.{Accepted, RefusedDocument, RefusedHandles, Refused}
+
+-- by what a module is judged up to its overrides, which have no values given to them
+abbrev pub module_settings : PlainSettings → ModuleSettings
+module_settings s = record { flags = s.flags; capabilities = s.capabilities; overrides_resolved = false }
 
 -- every item of the list meets the condition
 abbrev pub AllMeet : {A : Type 0} → (A → Type 0) → List A → Type 0
@@ -26,10 +32,16 @@ abbrev pub IsPrepared : (returns : Bool) → PlainModule → PlainModule → Typ
 IsPrepared true m n = IsReturned m n
 IsPrepared false m n = n ≡ m
 
--- What is found of the module that is judged, under the settings: the first step that fails, and the least index that fails it.
+-- What is found of the module that is judged, under the settings: the first step that fails, and the least index that
+-- fails it. Functions come after all steps up to overrides.
 abbrev pub IsFinding : PlainSettings → PlainModule → Finding → Type 0
-IsFinding s m Accepted = HandlesOK m × AllMeet (TypeOK s.capabilities) m.types × AllMeet (FunctionOK s m) m.functions
+IsFinding s m Accepted = ModuleOK (module_settings s) m × AllMeet (FunctionOK s m) m.functions
 IsFinding s m RefusedDocument = ⊥
 IsFinding s m RefusedHandles = ¬ HandlesOK m
-IsFinding s m (Refused «Type» i) = HandlesOK m × IsLeastFailing (TypeOK s.capabilities) m.types i
-IsFinding s m (Refused Function i) = HandlesOK m × AllMeet (TypeOK s.capabilities) m.types × IsLeastFailing (FunctionOK s m) m.functions i
+IsFinding s m (Refused Layout i) = IsFirstFailing (module_settings s) m step.layout i
+IsFinding s m (Refused «Type» i) = IsFirstFailing (module_settings s) m step.type i
+IsFinding s m (Refused Typing i) = IsFirstFailing (module_settings s) m step.typing i
+IsFinding s m (Refused Expression i) = IsFirstFailing (module_settings s) m step.expression i
+IsFinding s m (Refused Constant i) = IsFirstFailing (module_settings s) m step.constant i
+IsFinding s m (Refused Override i) = IsFirstFailing (module_settings s) m step.override i
+IsFinding s m (Refused Function i) = ModuleOK (module_settings s) m × IsLeastFailing (FunctionOK s m) m.functions i

@@ -1,12 +1,17 @@
 -- The text of a verdict.
 use Rattle.std.specs.Prelude.{ℕ, List, ◌++◌, codes, decimal}
 use Rattle.judgement.specs.declared.finding.Step.{Step}
-use Rattle.judgement.specs.declared.finding.Step.TheVariants.{«Type», Function}
+use Rattle.judgement.specs.declared.finding.Step.TheVariants.{Layout, «Type», Typing, Expression, Constant, Override, Function}
 use Rattle.judgement.specs.declared.finding.Finding.{Finding}
 use Rattle.judgement.specs.declared.finding.Finding.TheVariants.{Accepted, RefusedDocument, RefusedHandles, Refused}
 
 abbrev pub step_word : Step → List ℕ
+step_word Layout = codes "layout"
 step_word «Type» = codes "type"
+step_word Typing = codes "typing"
+step_word Expression = codes "expression"
+step_word Constant = codes "constant"
+step_word Override = codes "override"
 step_word Function = codes "function"
 
 abbrev pub text_of : Finding → List ℕ

@@ -7,8 +7,18 @@ use std::fmt::{self, Display};
 /// A step of the judgement that names the item which fails it.
 #[derive(Clone, Copy, Debug, PartialEq, Eq)]
 pub enum Step {
+    /// The layouts of types.
+    Layout,
     /// The rules of types.
     Type,
+    /// The types of global expressions.
+    Typing,
+    /// The rules of global expressions.
+    Expression,
+    /// The rules of constants.
+    Constant,
+    /// The rules of overrides.
+    Override,
     /// The rules of functions.
     Function,
 }
@@ -22,7 +32,12 @@ impl Display for Step {
     /// Writes the step's word.
     fn fmt<W: fmt::Write>(&self, f: &mut fmt::Formatter<W>) -> fmt::Result {
         match self {
+            Step::Layout => write!(f, "layout"),
             Step::Type => write!(f, "type"),
+            Step::Typing => write!(f, "typing"),
+            Step::Expression => write!(f, "expression"),
+            Step::Constant => write!(f, "constant"),
+            Step::Override => write!(f, "override"),
             Step::Function => write!(f, "function"),
         }
     }
@@ -35,7 +50,7 @@ pub enum Finding {
     Accepted,
     /// The bytes spell no document.
     RefusedDocument,
-    /// Some handle names nothing, or something that does not come before.
+    /// Some handle names nothing, or something that does not come before what depends on it.
     RefusedHandles,
     /// The step that fails, and the least index of an item that fails it.
     Refused(Step, usize),

@@ -9,6 +9,8 @@ use Rattle.ir_items.specs.Plain.{PlainModule}
 use Rattle.judgement.specs.Steps.{IsFinding, IsPrepared}
 use Rattle.judgement.specs.declared.finding.Finding.{Finding}
 use Rattle.judgement.specs.declared.finding.Finding.TheVariants.{Accepted, RefusedDocument, RefusedHandles, Refused}
+use Rattle.shader_check.specs.Modules.{finding_in}
+use Rattle.shader_check.specs.declared.examined.Examined.{Examined}
 use Rattle.shader_check.specs.Theorem.{Judged, JudgedDocument}
 
 pub found_in : (d : PlainDocument) (m : PlainModule) (f : Finding) → IsWithin d → IsPrepared d.settings.returns d.content m → IsFinding d.settings m f → JudgedDocument d f
@@ -17,8 +19,9 @@ found_in d m Accepted w p h = record { within = w; judged = m; prepared = p; fin
 found_in d m RefusedHandles w p h = record { within = w; judged = m; prepared = p; finding = h }
 found_in d m (Refused step index) w p h = record { within = w; judged = m; prepared = p; finding = h }
 
-pub found_if : (d : PlainDocument) (m : PlainModule) (r : Result Finding AllocError) → IsWithin d → IsPrepared d.settings.returns d.content m → IfOk r (IsFinding d.settings m) → IfOk r (JudgedDocument d)
-found_if d m (Ok f) w p h = found_in d m f w p h
+pub found_if : (d : PlainDocument) (m : PlainModule) (r : Result Examined AllocError) → IsWithin d → IsPrepared d.settings.returns d.content m → IfOk r (λ x. IsFinding d.settings m (finding_in x))
+    → IfOk r (λ x. JudgedDocument d (finding_in x))
+found_if d m (Ok x) w p h = found_in d m (finding_in x) w p h
 found_if d m (Err a) w p h = tt
 
 -- where the one document that is spelled is not checked so far, none is

@@ -1,16 +1,22 @@
 -- One text is expected for some bytes.
-use Rattle.std.proofs.Common.{◌≡◌, inl, inr, ℕ, Bool, true, false, List, refl, sym, ap, subst, ◌∙◌, arith}
+use Rattle.std.proofs.Common.{◌≡◌, inl, inr, ℕ, Bool, true, false, List, Option, Some, None, refl, sym, ap, subst, ◌∙◌, arith}
 use Rattle.std.proofs.lemmas.Bool.{cases_lt}
 use Rattle.ir_flags.specs.Settings.{PlainSettings}
 use Rattle.ir_items.specs.Plain.{PlainModule}
 use Rattle.ir_items.proofs.Returned.{one_returned}
 use Rattle.document_reader.specs.Plain.{PlainDocument}
 use Rattle.document_reader.proofs.Seam.{one_document_lem}
-use Rattle.judgement.specs.Steps.{AllMeet, IsLeastFailing, IsFinding, IsPrepared}
+use Rattle.judgement.specs.Functions.{FunctionOK}
+use Rattle.judgement.specs.Steps.{AllMeet, IsLeastFailing, IsFinding, IsPrepared, module_settings}
 use Rattle.judgement.specs.Text.{text_of}
-use Rattle.judgement.specs.declared.finding.Step.TheVariants.{«Type», Function}
+use Rattle.judgement.specs.declared.finding.Step.{Step}
+use Rattle.judgement.specs.declared.finding.Step.TheVariants.{Layout, «Type», Typing, Expression, Constant, Override, Function}
 use Rattle.judgement.specs.declared.finding.Finding.{Finding}
 use Rattle.judgement.specs.declared.finding.Finding.TheVariants.{Accepted, RefusedDocument, RefusedHandles, Refused}
+use Rattle.spec_handles.specs.InOrder.{HandlesOK}
+use Rattle.spec_modules.proofs.Failures.{one_failure, none_fails}
+use Rattle.spec_modules.specs.Steps as step
+use Rattle.spec_modules.specs.Steps.{ModuleStep, IsFirstFailing, ModuleOK}
 use Rattle.shader_check.specs.Theorem.{Finds, FindsIn, Judged, OneText}
 
 least_once : {A : Type 0} (P : A → Type 0) (xs : List A) (i j : ℕ) → IsLeastFailing P xs i → IsLeastFailing P xs j → i ≡ j
@@ -26,25 +32,83 @@ least_once P xs i j f g =
 meets_none : {A : Type 0} (P : A → Type 0) (xs : List A) (i : ℕ) → AllMeet P xs → IsLeastFailing P xs i → ⊥
 meets_none P xs i all least = least.fails (all i least.item least.here)
 
-finding_once : (s : PlainSettings) (m : PlainModule) (f g : Finding) → IsFinding s m f → IsFinding s m g → f ≡ g
-finding_once s m RefusedDocument g x y = absurd x
-finding_once s m f RefusedDocument x y = absurd y
-finding_once s m Accepted Accepted x y = refl
-finding_once s m Accepted RefusedHandles x y = absurd (y x.0)
-finding_once s m Accepted (Refused «Type» j) x y = absurd (meets_none _ _ j x.1 y.1)
-finding_once s m Accepted (Refused Function j) x y = absurd (meets_none _ _ j x.2 y.2)
-finding_once s m RefusedHandles Accepted x y = absurd (x y.0)
-finding_once s m RefusedHandles RefusedHandles x y = refl
-finding_once s m RefusedHandles (Refused «Type» j) x y = absurd (x y.0)
-finding_once s m RefusedHandles (Refused Function j) x y = absurd (x y.0)
-finding_once s m (Refused «Type» i) Accepted x y = absurd (meets_none _ _ i y.1 x.1)
-finding_once s m (Refused «Type» i) RefusedHandles x y = absurd (y x.0)
-finding_once s m (Refused «Type» i) (Refused «Type» j) x y = ap (Refused «Type») (least_once _ _ i j x.1 y.1)
-finding_once s m (Refused «Type» i) (Refused Function j) x y = absurd (meets_none _ _ i y.1 x.1)
-finding_once s m (Refused Function i) Accepted x y = absurd (meets_none _ _ i y.2 x.2)
-finding_once s m (Refused Function i) RefusedHandles x y = absurd (y x.0)
-finding_once s m (Refused Function i) (Refused «Type» j) x y = absurd (meets_none _ _ j x.1 y.1)
-finding_once s m (Refused Function i) (Refused Function j) x y = ap (Refused Function) (least_once _ _ i j x.2 y.2)
+-- ---- the steps that are refused, as those up to overrides and that of functions
+
+abbrev step_in : Step → Option ModuleStep
+step_in Layout = Some step.layout
+step_in «Type» = Some step.type
+step_in Typing = Some step.typing
+step_in Expression = Some step.expression
+step_in Constant = Some step.constant
+step_in Override = Some step.override
+step_in Function = None
+
+abbrev step_back : Option ModuleStep → Step
+step_back (Some step.layout) = Layout
+step_back (Some step.type) = «Type»
+step_back (Some step.typing) = Typing
+step_back (Some step.expression) = Expression
+step_back (Some step.constant) = Constant
+step_back (Some step.override) = Override
+step_back None = Function
+
+back : (t : Step) → step_back (step_in t) ≡ t
+back Layout = refl
+back «Type» = refl
+back Typing = refl
+back Expression = refl
+back Constant = refl
+back Override = refl
+back Function = refl
+
+module _ (s : PlainSettings) (m : PlainModule) where
+  abbrev IsFailing : Option ModuleStep → ℕ → Type 0
+  IsFailing (Some k) i = IsFirstFailing (module_settings s) m k i
+  IsFailing None i = ModuleOK (module_settings s) m × IsLeastFailing (FunctionOK s m) m.functions i
+
+  as_failing : (t : Step) (i : ℕ) → IsFinding s m (Refused t i) → IsFailing (step_in t) i
+  as_failing Layout i x = x
+  as_failing «Type» i x = x
+  as_failing Typing i x = x
+  as_failing Expression i x = x
+  as_failing Constant i x = x
+  as_failing Override i x = x
+  as_failing Function i x = x
+
+  in_order : (o : Option ModuleStep) (i : ℕ) → IsFailing o i → HandlesOK m
+  in_order (Some k) i x = x.reached.handles
+  in_order None i x = x.0.handles
+
+  not_accepted : (o : Option ModuleStep) (i : ℕ) → IsFinding s m Accepted → IsFailing o i → ⊥
+  not_accepted (Some k) i x y = none_fails (module_settings s) m k i y x.0
+  not_accepted None i x y = meets_none _ _ i x.1 y.1
+
+  failing_once : (o p : Option ModuleStep) (i j : ℕ) → IsFailing o i → IsFailing p j → (o ≡ p) × (i ≡ j)
+  failing_once (Some k) (Some l) i j x y =
+      let e = one_failure (module_settings s) m k l i j x y in
+      (ap Some e.0, e.1)
+  failing_once (Some k) None i j x y = absurd (none_fails (module_settings s) m k i x y.0)
+  failing_once None (Some l) i j x y = absurd (none_fails (module_settings s) m l j y x.0)
+  failing_once None None i j x y = (refl, least_once _ _ i j x.1 y.1)
+
+  refused_once : (t u : Step) (i j : ℕ) → IsFinding s m (Refused t i) → IsFinding s m (Refused u j) → Refused t i ≡ Refused u j
+  refused_once t u i j x y =
+      let e = failing_once (step_in t) (step_in u) i j (as_failing t i x) (as_failing u j y) in
+      let same = sym (back t) ∙ (ap step_back e.0 ∙ back u) in
+      ap (λ v. Refused v i) same ∙ ap (Refused u) e.1
+
+  finding_once : (f g : Finding) → IsFinding s m f → IsFinding s m g → f ≡ g
+  finding_once RefusedDocument g x y = absurd x
+  finding_once f RefusedDocument x y = absurd y
+  finding_once Accepted Accepted x y = refl
+  finding_once Accepted RefusedHandles x y = absurd (y x.0.handles)
+  finding_once Accepted (Refused t j) x y = absurd (not_accepted (step_in t) j x (as_failing t j y))
+  finding_once RefusedHandles Accepted x y = absurd (x y.0.handles)
+  finding_once RefusedHandles RefusedHandles x y = refl
+  finding_once RefusedHandles (Refused t j) x y = absurd (x (in_order (step_in t) j (as_failing t j y)))
+  finding_once (Refused t i) Accepted x y = absurd (not_accepted (step_in t) i y (as_failing t i x))
+  finding_once (Refused t i) RefusedHandles x y = absurd (y (in_order (step_in t) i (as_failing t i x)))
+  finding_once (Refused t i) (Refused u j) x y = refused_once t u i j x y
 
 -- one module is judged for a document
 prepared_once : (returns : Bool) (m n k : PlainModule) → IsPrepared returns m n → IsPrepared returns m k → n ≡ k

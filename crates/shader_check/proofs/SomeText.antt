@@ -1,76 +1,110 @@
--- For any bytes some text is expected.
-use Rattle.std.proofs.Common.{◌≡◌, ◌↔◌, ◌⊎◌, inl, inr, ℕ, ◌<◌, ◌≤◌, List, length, Bool, true, false, true≢false, Option, Some, None, IsTrue, IsUtf8, refl, sym, ap, subst, ◌∙◌, arith}
+-- There are no bytes for which no text is expected.
+use Rattle.std.proofs.Common.{◌≡◌, ◌↔◌, ◌⊎◌, inl, inr, ℕ, suc, List, Bool, true, false, true≢false, Option, Some, None, IsTrue, nat_eq, refl, sym, subst, ◌∙◌, arith}
+use borrow.Author.Tests.{eqb-true, eq-eqb}
+use Rattle.std.specs.Int.RustNames.{bit_and}
 use Rattle.std.specs.List.{enumerate_from}
 use Rattle.ir_flags.specs.Sets.{Has}
 use Rattle.ir_flags.specs.Settings.{PlainSettings}
-use Rattle.ir_flags.specs.declared.settings.Capabilities.{Capabilities}
 use Rattle.ir_flags.specs.declared.settings.TheConstants.ValidationFlags.{BLOCKS}
-use Rattle.ir_flags.specs.declared.settings.TheConstants.Capabilities.{SHADER_INT16, SHADER_INT64, SHADER_FLOAT16, FLOAT64}
-use Rattle.ir_types.specs.Plain.{PlainType}
 use Rattle.ir_items.specs.Plain.{PlainFunction, PlainModule}
 use Rattle.ir_items.specs.Returned.{returned_module}
 use Rattle.ir_items.proofs.Returned.{returned_by_bodies}
 use Rattle.document_reader.specs.Plain.{PlainDocument}
 use Rattle.document_reader.specs.Distinct.{AreDistinct}
+use Rattle.document_reader.specs.Form.{Reads}
+use Rattle.document_reader.proofs.Candidates.{IsCandidate, candidate}
 use Rattle.document_within.specs.Scope.{IsWithin}
 use Rattle.document_within.specs.Decide.{plain_module}
 use Rattle.document_within.proofs.ScopeLaws.{module_sound, module_complete}
-use Rattle.document_reader.specs.Form.{Reads}
-use Rattle.document_reader.proofs.Candidates.{IsCandidate, candidate}
-use Rattle.judgement.specs.Handles.{HandlesOK}
-use Rattle.judgement.specs.Types.{TypeOK}
-use Rattle.judgement.specs.Functions.{FunctionOK}
-use Rattle.judgement.specs.Steps.{AllMeet, IsFinding, IsPrepared}
+use Rattle.spec_handles.specs.InOrder.{HandlesOK}
+use Rattle.spec_modules.proofs.Reached.{reach_first, reach, all_passed}
+use Rattle.spec_modules.specs.Steps.{ModuleStep, layout, type, typing, expression, constant, override, rank, item_count, StepOK, StepPasses, IsReached, IsFirstFailing, ModuleOK}
+use Rattle.judgement.specs.Steps.{IsFinding, IsPrepared, module_settings}
 use Rattle.judgement.specs.Text.{text_of}
-use Rattle.judgement.specs.declared.finding.Step.TheVariants.{«Type», Function}
+use Rattle.judgement.specs.declared.finding.Step.TheVariants.{Layout, «Type», Typing, Expression, Constant, Override, Function}
 use Rattle.judgement.specs.declared.finding.Finding.{Finding}
 use Rattle.judgement.specs.declared.finding.Finding.TheVariants.{Accepted, RefusedDocument, RefusedHandles, Refused}
-use Rattle.shader_check.specs.Decide.{first_failing, function_in_order, function_ok, Widths, is_inner_ok}
+use Rattle.shader_check.specs.Decide.{first_failing, function_ok}
 use Rattle.shader_check.specs.Theorem.{Judged, SomeText}
-use Rattle.shader_check.specs.Widths.{AreWidthsOf}
-use Rattle.shader_check.proofs.Decided.{has, distinct_or_not}
-use Rattle.shader_check.proofs.FindingLaws.{handles_ok, handles_tested, types_meet, type_fails, functions_meet, function_fails}
+use Rattle.shader_check.proofs.Classical.{Holds, surely, then, either, Sought, IsFirstWithout, all_or_first}
+use Rattle.shader_check.proofs.FindingLaws.{functions_meet, function_fails}
 use Rattle.shader_check.proofs.JudgedLaws.{found_in, judged}
 
 -- ---- of a module
 
-some_widths : (c : Capabilities) → (w : Widths) × AreWidthsOf c w
-some_widths c =
-    let int16 = has c.0 SHADER_INT16.0 in
-    let int64 = has c.0 SHADER_INT64.0 in
-    let float16 = has c.0 SHADER_FLOAT16.0 in
-    let float64 = has c.0 FLOAT64.0 in
-    (record { int16 = int16.0; int64 = int64.0; float16 = float16.0; float64 = float64.0 }, record { int16 = int16.1; int64 = int64.1; float16 = float16.1; float64 = float64.1 })
+-- whether a set has each of these bits
+has : (set flags : ℕ) → (b : Bool) × (IsTrue b ↔ Has set flags)
+has set flags = (nat_eq (bit_and set flags) flags, (eqb-true (bit_and set flags) flags, eq-eqb (bit_and set flags) flags))
 
 abbrev SomeFinding : PlainSettings → PlainModule → Type 0
 SomeFinding s m = (f : Finding) × IsFinding s m f
 
 module _ (s : PlainSettings) (m : PlainModule) where
-  by_functions : HandlesOK m → AllMeet (TypeOK s.capabilities) m.types → SomeFinding s m
-  by_functions handles types =
+  by_functions : ModuleOK (module_settings s) m → SomeFinding s m
+  by_functions ok =
       let blocks = has s.flags.0 BLOCKS.0 in
       let test : ℕ → PlainFunction → Bool = λ _ f. function_ok blocks.0 m f in
       elim (first_failing test (enumerate_from 0 m.functions)) as (λ o. first_failing test (enumerate_from 0 m.functions) ≡ o → SomeFinding s m) [
-        | None ↦ λ e. (Accepted, (handles, types, functions_meet s blocks.0 blocks.1 m e))
-        | Some r ↦ λ e. (Refused Function r, (handles, types, function_fails s blocks.0 blocks.1 m r e))
+        | None ↦ λ e. (Accepted, (ok, functions_meet s blocks.0 blocks.1 m e))
+        | Some r ↦ λ e. (Refused Function r, (ok, function_fails s blocks.0 blocks.1 m r e))
       ] refl
 
-  by_types : HandlesOK m → SomeFinding s m
-  by_types handles =
-      let widths = some_widths s.capabilities in
-      let test : ℕ → PlainType → Bool = λ _ t. is_inner_ok widths.0 t.inner in
-      elim (first_failing test (enumerate_from 0 m.types)) as (λ o. first_failing test (enumerate_from 0 m.types) ≡ o → SomeFinding s m) [
-        | None ↦ λ e. by_functions handles (types_meet s.capabilities widths.0 widths.1 m.types e)
-        | Some r ↦ λ e. (Refused «Type» r, (handles, type_fails s.capabilities widths.0 widths.1 m.types r e))
-      ] refl
+  -- each item passes the step, or one is the first that fails it
+  abbrev Outcome : ModuleStep → Type 0
+  Outcome k = StepPasses (module_settings s) m k ⊎ ((i : ℕ) × IsFirstFailing (module_settings s) m k i)
 
-  some_finding : SomeFinding s m
+  told : (k : ModuleStep) → IsReached (module_settings s) m k → Sought (StepOK (module_settings s) m k) (item_count m k) → Outcome k
+  told k reached (inl all) = inl (record { each = all })
+  told k reached (inr found) =
+      let f = found.1 in
+      inr (found.0, record { reached = reached; item = record { within = f.within; before = f.before; fails = f.fails } })
+
+  asked : (k : ModuleStep) → IsReached (module_settings s) m k → Holds (Outcome k)
+  asked k reached =
+      then (all_or_first (StepOK (module_settings s) m k) (item_count m k)) (λ o. surely (told k reached o))
+
+  -- the step fails, so this is found; or what follows finds something
+  step_by_step : (k : ModuleStep) → IsReached (module_settings s) m k → ((i : ℕ) → IsFirstFailing (module_settings s) m k i → SomeFinding s m)
+      → (StepPasses (module_settings s) m k → Holds (SomeFinding s m)) → Holds (SomeFinding s m)
+  step_by_step k reached refused passed =
+      then (asked k reached) (λ o.
+      elim o [
+        | inl passes ↦ passed passes
+        | inr found ↦ surely (refused found.0 found.1)
+      ])
+
+  on_overrides : IsReached (module_settings s) m override → Holds (SomeFinding s m)
+  on_overrides reached =
+      step_by_step override reached (λ i f. (Refused Override i, f)) (λ passes. surely (by_functions (all_passed (module_settings s) m reached passes)))
+
+  on_constants : IsReached (module_settings s) m constant → Holds (SomeFinding s m)
+  on_constants reached =
+      step_by_step constant reached (λ i f. (Refused Constant i, f)) (λ passes. on_overrides (reach (module_settings s) m constant override refl reached passes))
+
+  on_expressions : IsReached (module_settings s) m expression → Holds (SomeFinding s m)
+  on_expressions reached =
+      step_by_step expression reached (λ i f. (Refused Expression i, f)) (λ passes. on_constants (reach (module_settings s) m expression constant refl reached passes))
+
+  on_typing : IsReached (module_settings s) m typing → Holds (SomeFinding s m)
+  on_typing reached =
+      step_by_step typing reached (λ i f. (Refused Typing i, f)) (λ passes. on_expressions (reach (module_settings s) m typing expression refl reached passes))
+
+  on_types : IsReached (module_settings s) m type → Holds (SomeFinding s m)
+  on_types reached =
+      step_by_step type reached (λ i f. (Refused «Type» i, f)) (λ passes. on_typing (reach (module_settings s) m type typing refl reached passes))
+
+  on_layouts : HandlesOK m → Holds (SomeFinding s m)
+  on_layouts ok =
+      let reached = reach_first (module_settings s) m ok in
+      step_by_step layout reached (λ i f. (Refused Layout i, f)) (λ passes. on_types (reach (module_settings s) m layout type refl reached passes))
+
+  some_finding : Holds (SomeFinding s m)
   some_finding =
-      let test : ℕ → PlainFunction → Bool = function_in_order (length m.types) in
-      elim (first_failing test (enumerate_from 0 m.functions)) as (λ o. first_failing test (enumerate_from 0 m.functions) ≡ o → SomeFinding s m) [
-        | None ↦ λ e. by_types (handles_ok m e)
-        | Some r ↦ λ e. (RefusedHandles, λ ok. absurd (let k : None ≡ Some r = sym (handles_tested m ok) ∙ e in cc))
-      ] refl
+      then (either (HandlesOK m)) (λ o.
+      elim o [
+        | inl ok ↦ on_layouts ok
+        | inr out ↦ surely (RefusedHandles, out)
+      ])
 
 some_prepared : (returns : Bool) (m : PlainModule) → (n : PlainModule) × IsPrepared returns m n
 some_prepared true m = (returned_module m, returned_by_bodies m)
@@ -85,31 +119,29 @@ SomeJudged bytes = (f : Finding) × Judged bytes f
 spell_none : (bytes : List ℕ) → ((d : PlainDocument) → ¬ Reads bytes d) → SomeJudged bytes
 spell_none bytes none = (RefusedDocument, λ d r. absurd (none d r))
 
-by_document : (bytes : List ℕ) (d : PlainDocument) → Reads bytes d → IsWithin d → SomeJudged bytes
+by_document : (bytes : List ℕ) (d : PlainDocument) → Reads bytes d → IsWithin d → Holds (SomeJudged bytes)
 by_document bytes d r within =
     let prepared = some_prepared d.settings.returns d.content in
-    let found = some_finding d.settings prepared.0 in
-    (found.0, judged bytes d found.0 r (found_in d prepared.0 found.0 within prepared.1 found.1))
+    then (some_finding d.settings prepared.0) (λ found. surely (found.0, judged bytes d found.0 r (found_in d prepared.0 found.0 within prepared.1 found.1)))
 
 -- where there is one document that they may spell
-by_candidate : (bytes : List ℕ) (d : PlainDocument) → IsCandidate bytes d → (w : Bool) → plain_module d.content ≡ w → SomeJudged bytes
+by_candidate : (bytes : List ℕ) (d : PlainDocument) → IsCandidate bytes d → (w : Bool) → plain_module d.content ≡ w → Holds (SomeJudged bytes)
 by_candidate bytes d c false not_within =
-    (RefusedDocument, λ other r. λ within. true≢false (sym (module_complete d.content (subst IsWithin (c.alone other r) within)) ∙ not_within))
+    surely (RefusedDocument, λ other r. λ within. true≢false (sym (module_complete d.content (subst IsWithin (c.alone other r) within)) ∙ not_within))
 by_candidate bytes d c true plain =
-    let within : IsWithin d = module_sound d.content plain in
-    elim (distinct_or_not d.content.types within.types) [
-      | inl distinct ↦ by_document bytes d (c.spelled distinct) within
-      | inr repeated ↦ spell_none bytes (λ other r. repeated (subst (λ (x : PlainDocument). AreDistinct x.content.types) (c.alone other r) r.distinct))
-    ]
+    then (either (AreDistinct d.content.types)) (λ o.
+    elim o [
+      | inl distinct ↦ by_document bytes d (c.spelled distinct) (module_sound d.content plain)
+      | inr repeated ↦ surely (spell_none bytes (λ other r. repeated (subst (λ (x : PlainDocument). AreDistinct x.content.types) (c.alone other r) r.distinct)))
+    ])
 
-some_judged : (bytes : List ℕ) → SomeJudged bytes
+some_judged : (bytes : List ℕ) → Holds (SomeJudged bytes)
 some_judged bytes =
     elim (candidate bytes) [
-      | inl none ↦ spell_none bytes none
+      | inl none ↦ surely (spell_none bytes none)
       | inr found ↦ by_candidate bytes found.0 found.1 (plain_module found.0.content) refl
     ]
 
 pub some_text_lem : SomeText
 some_text_lem bytes =
-    let found = some_judged bytes in
-    (text_of found.0, record { finding = found.0; judged = found.1; text_is = refl })
+    λ none. some_judged bytes (λ found. none (text_of found.0) (record { finding = found.0; judged = found.1; text_is = refl }))

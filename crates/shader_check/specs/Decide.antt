@@ -1,16 +1,12 @@
 -- Tests of a module's items, found step by step; the judgement says what they mean.
 use Rattle.std.specs.Prelude.{ℕ, List, [], ◌∷◌, length, Bool, true, false, ◌&&◌, ◌||◌, not, ◌==◌, nat_lt, nat_le, Option, Some, None, is_none, option_map, slice_get, if◌then◌else◌}
-use Rattle.std.specs.List.{list_all}
 use Rattle.ir_kinds.specs.declared.scalars.ScalarKind.{ScalarKind}
-use Rattle.ir_kinds.specs.declared.scalars.ScalarKind.TheVariants.{Sint, Uint, Float, Bool as Boolean, AbstractInt, AbstractFloat}
+use Rattle.ir_kinds.specs.declared.scalars.ScalarKind.TheVariants.{Sint, Uint, Bool as Boolean}
 use Rattle.ir_kinds.specs.declared.values.SwitchValue.{SwitchValue}
 use Rattle.ir_kinds.specs.declared.values.SwitchValue.TheVariants.{I32, U32, Default}
-use Rattle.ir_types.specs.Plain.{PlainInner, plain}
-use Rattle.ir_items.specs.declared.functions.FunctionResult.{FunctionResult}
 use Rattle.ir_blocks.specs.Plain.{PlainStatement, emit, block, if_, switch, loop, break, continue, return, kill, operation, call, PlainBlock, PlainCases, no_case, case}
 use Rattle.ir_items.specs.Plain.{PlainFunction, PlainModule}
 use Rattle.ir_blocks.specs.Shapes.{Exit, breaks, continues, returns, kills, exit_of, shape_of}
-use Rattle.ir_types.specs.declared.types.TypeInner.TheVariants as inner
 use Rattle.judgement.specs.Functions.{scalar_at, answer_of, argument_count, falls_at_end}
 use Rattle.ir_kinds.specs.contracts.values.SwitchValuePartialEq.TheImpl as value
 use Rattle.ir_kinds.specs.contracts.scalars.ScalarPartialEq.TheImpl as scalar
@@ -20,58 +16,6 @@ use Rattle.shader_check.specs.Everywhere.{PlainControl, control_of_body, everywh
 abbrev pub first_failing : {A : Type 0} → (ℕ → A → Bool) → List (ℕ × A) → Option ℕ
 first_failing ok [] = None
 first_failing ok (e ∷ es) = if ok e.0 e.1 then first_failing ok es else Some e.0
-
--- ---- handles
-
-abbrev pub are_below : ℕ → List ℕ → Bool
-are_below end handles = list_all (λ h. nat_lt h end) handles
-
-abbrev pub is_below : ℕ → Option ℕ → Bool
-is_below end None = true
-is_below end (Some h) = nat_lt h end
-
--- the statement's own handles of functions are below `functions`, those of expressions below `expressions`
-abbrev pub statement_in_order : (functions expressions : ℕ) → PlainStatement → Bool
-statement_in_order n k (emit first end) = nat_le first end && nat_le end k
-statement_in_order n k (block b) = true
-statement_in_order n k (if_ test accept reject) = nat_lt test k
-statement_in_order n k (switch selector cases) = nat_lt selector k
-statement_in_order n k (loop body continuing break_if) = is_below k break_if
-statement_in_order n k break = true
-statement_in_order n k continue = true
-statement_in_order n k (return value) = is_below k value
-statement_in_order n k kill = true
-statement_in_order n k (operation a) = true
-statement_in_order n k (call callee arguments result) = nat_lt callee n && are_below k arguments && is_below k result
-
--- function i of a module with so many types
-abbrev pub function_in_order : ℕ → ℕ → PlainFunction → Bool
-function_in_order types i f =
-    is_below types (option_map (λ (r : FunctionResult). r.ty) f.result) && everywhere (λ _ s. statement_in_order i (length f.expressions) s) control_of_body f.body
-
--- ---- types
-
--- The widths that capabilities allow beside those that always stand.
-pub record Widths : Type 0 where
-  pub int16 : Bool
-  pub int64 : Bool
-  pub float16 : Bool
-  pub float64 : Bool
-
-abbrev pub is_width_ok : (two eight : Bool) → ℕ → Bool
-is_width_ok two eight width = if width == 4 then true else (if width == 2 then two else (if width == 8 then eight else false))
-
-abbrev pub is_scalar_ok : Widths → ScalarKind → ℕ → Bool
-is_scalar_ok w Boolean width = width == 1
-is_scalar_ok w Sint width = is_width_ok w.int16 w.int64 width
-is_scalar_ok w Uint width = is_width_ok w.int16 w.int64 width
-is_scalar_ok w Float width = is_width_ok w.float16 w.float64 width
-is_scalar_ok w AbstractInt width = false
-is_scalar_ok w AbstractFloat width = false
-
-abbrev pub is_inner_ok : Widths → PlainInner → Bool
-is_inner_ok w (plain (inner.Scalar s)) = is_scalar_ok w s.kind s.width
-is_inner_ok w _ = false
 
 -- ---- functions
 

@@ -1,6 +1,6 @@
 pub mod Everywhere
 pub mod Control
 pub mod Decide
-pub mod Widths
+pub mod Modules
 pub mod Values
 pub mod Theorem

@@ -62,9 +62,9 @@ pub record IsExpected (bytes text : List ℕ) : Type 0 where
 abbrev pub OneText : Type 0
 OneText = (bytes s t : List ℕ) → IsExpected bytes s → IsExpected bytes t → s ≡ t
 
--- some text is expected for any bytes
+-- there are no bytes for which no text is expected
 abbrev pub SomeText : Type 0
-SomeText = (bytes : List ℕ) → (text : List ℕ) × IsExpected bytes text
+SomeText = (bytes : List ℕ) → ¬ ((text : List ℕ) → ¬ IsExpected bytes text)
 
 -- ---- what a check answers, and what it reads and writes
 

@@ -6,7 +6,6 @@ ghost use Rattle.ir_arena.specs.Handles.{handles_from};
 ghost use Rattle.ir_blocks.specs.View.{case_view, cases_of};
 ghost use Rattle.ir_items.specs.View.{function_view, module_view};
 ghost use Rattle.judgement.specs.Functions.{scalar_at, answer_of, expression_scalar, inner_scalar, falls_at_end};
-ghost use Rattle.judgement.specs.Handles.{HandlesOK};
 ghost use Rattle.shader_check.specs.Values.{value_key};
 ghost use Rattle.shader_check.specs.Decide.{first_failing, is_sint, is_uint, is_condition, fits_kind, values_fit, has_value, values_differ, switch_ok, return_ok, call_result_ok, function_ok};
 
@@ -30,7 +29,7 @@ fn expression_scalar(expression: &Expression) -> Option<Scalar>
 }
 
 // The scalar type of an expression, if it is there and has one.
-#[tactic(auto, using(crate::proofs::Entries::entries))]
+#[tactic(auto, using(ir_references::proofs::Entries::entries))]
 fn scalar_at(function: &Function, expression: Handle<key::Expression>) -> Option<Scalar>
     ensures { result ≡ scalar_at (function_view function.now) expression }
 {
@@ -143,7 +142,7 @@ fn is_switch_ok(
 }
 
 // The function at a handle, if it is there.
-#[tactic(auto, using(crate::proofs::Entries::entries))]
+#[tactic(auto, using(ir_references::proofs::Entries::entries))]
 fn function_at(module: &Module, handle: Handle<key::Function>) -> Option<&Function>
     ensures { option_map (λ f. function_view f.now) result ≡ slice_get (module_view «module».now).functions handle }
 {
@@ -164,7 +163,7 @@ fn inner_scalar(inner: &TypeInner) -> Option<Scalar>
 }
 
 // The scalar that the type at a handle is, if it is there and is one.
-#[tactic(auto, using(crate::proofs::Entries::entries))]
+#[tactic(auto, using(ir_references::proofs::Entries::entries))]
 fn scalar_of_type(module: &Module, handle: Handle<key::IrType>) -> Option<Scalar>
     ensures { result ≡ option_and_then (λ t. inner_scalar t.inner) (slice_get (module_view «module».now).types handle) }
 {
@@ -355,14 +354,12 @@ fn is_function_ok(
     }
 }
 
-/// The least index of a function that fails its rules, in a module whose handles are in order. The error is want of
-/// memory.
+/// The least index of a function that fails its rules. The error is out of memory.
 pub fn first_failing_function(
     alloc: Global,
     blocks: bool,
     module: &Module,
 ) -> Result<Option<usize>, AllocError>
-    requires { HandlesOK (module_view «module».now) }
     ensures { IfOk result (λ found. found ≡ first_failing (λ _ f. function_ok blocks (module_view «module».now) (function_view f)) (handles_from 0 «module».now.functions)) }
 {
     for (handle, function) in module.functions.iter() {

@@ -4,17 +4,19 @@ ghost use Rattle.ir_flags.specs.Sets.{Has};
 ghost use Rattle.ir_items.specs.View.{module_view};
 ghost use Rattle.document_reader.specs.View.{document_view, settings_view};
 ghost use Rattle.judgement.specs.Steps.{IsFinding, IsPrepared};
+ghost use Rattle.shader_check.specs.Modules.{finding_in, IsJudgedUpToOverrides};
 ghost use Rattle.shader_check.specs.Theorem.{Judged, JudgedDocument};
 
+use crate::examined::Examined;
 use crate::functions::first_failing_function;
-use crate::handles::handles_in_order;
-use crate::types::{first_failing_type, widths_of};
 use bitflags::Flags;
 use document_reader::{Document, DocumentError, Settings, read_document};
 use document_within::within;
+use ir_faults::refusal::Refusal;
 use ir_flags::ValidationFlags;
 use ir_items::Module;
-use judgement::{Finding, Step};
+use judgement::Finding;
+use module_validator::{ModuleError, ModuleValidator};
 use std::alloc::{AllocError, Global};
 
 fn has_blocks(flags: ValidationFlags) -> bool
@@ -23,21 +25,37 @@ fn has_blocks(flags: ValidationFlags) -> bool
     flags.contains(ValidationFlags::BLOCKS)
 }
 
-// The steps over a module. A step looks only at what those before it have passed.
-fn judge_module(alloc: Global, settings: &Settings, module: &Module) -> Result<Finding, AllocError>
-    ensures { IfOk result (IsFinding (settings_view settings.now) (module_view «module».now)) }
+// Why the module is refused up to its overrides, if it is.
+fn module_fault(
+    alloc: Global,
+    settings: &Settings,
+    module: &Module,
+) -> Result<Option<ModuleError>, AllocError>
+    ensures { IfOk result (IsJudgedUpToOverrides (settings_view settings.now) (module_view «module».now)) }
 {
-    let is_in_order = handles_in_order(alloc, module)?;
-    if !is_in_order {
-        return Ok(Finding::RefusedHandles);
+    let mut validator = ModuleValidator::new(alloc, settings.flags, settings.capabilities);
+    match validator.validate(module) {
+        Ok(_) => Ok(None),
+        Err(Refusal::Memory(error)) => Err(error),
+        Err(Refusal::Fault(fault)) => Ok(Some(fault.into_inner())),
     }
-    if let Some(index) = first_failing_type(&module.types, widths_of(settings.capabilities)) {
-        return Ok(Finding::Refused(Step::Type, index));
+}
+
+// The steps over a module. A step looks only at what those before it have passed.
+fn examine_module(
+    alloc: Global,
+    settings: &Settings,
+    module: &Module,
+) -> Result<Examined, AllocError>
+    ensures { IfOk result (λ x. IsFinding (settings_view settings.now) (module_view «module».now) (finding_in x)) }
+{
+    if let Some(error) = module_fault(alloc, settings, module)? {
+        return Ok(Examined::RefusedModule(error));
     }
     let blocks = has_blocks(settings.flags);
     match first_failing_function(alloc, blocks, module)? {
-        Some(index) => Ok(Finding::Refused(Step::Function, index)),
-        None => Ok(Finding::Accepted),
+        Some(index) => Ok(Examined::RefusedFunction(index)),
+        None => Ok(Examined::Accepted),
     }
 }
 
@@ -52,15 +70,24 @@ fn prepare(alloc: Global, returns: bool, module: &mut Module) -> Result<(), Allo
     }
 }
 
+/// What is found of the document, with the error where its module is refused. Returns are put into its module where its
+/// settings ask for them. The error is out of memory.
+pub fn examine_document(alloc: Global, document: &mut Document) -> Result<Examined, AllocError>
+    ensures { IfOk result (λ x. JudgedDocument (document_view document.old) (finding_in x)) }
+{
+    if !within(document) {
+        return Ok(Examined::NotChecked);
+    }
+    prepare(alloc, document.settings.returns, &mut document.module)?;
+    examine_module(alloc, &document.settings, &document.module)
+}
+
 /// What is found of the document. Returns are put into its module where its settings ask for them.
 pub fn judge_document(alloc: Global, document: &mut Document) -> Result<Finding, AllocError>
     ensures { IfOk result (JudgedDocument (document_view document.old)) }
 {
-    if !within(document) {
-        return Ok(Finding::RefusedDocument);
-    }
-    prepare(alloc, document.settings.returns, &mut document.module)?;
-    judge_module(alloc, &document.settings, &document.module)
+    let examined = examine_document(alloc, document)?;
+    Ok(examined.finding())
 }
 
 /// What is found of the document that the bytes spell: the first step that fails, and in it the least index. Where they

@@ -8,7 +8,7 @@ pub fn one_text()
     ensures { OneText }
 {}
 
-/// Some text is expected for any bytes, so that with [`one_text`] there is exactly one.
+/// There are no bytes for which no text is expected. With [`one_text`] and read classically, for any bytes exactly one is.
 #[tactic(auto, using(crate::proofs::SomeText::some_text_lem))]
 pub fn some_text()
     ensures { SomeText }

@@ -3,16 +3,17 @@
 
 mod check;
 mod control;
+mod examined;
 mod functions;
-mod handles;
 mod judge;
 pub mod laws;
-mod types;
 mod walk;
 
 pub use check::{Fault, MAX_TAKEN, Verdict, check_document, outcome};
 pub use document_reader::{Document, DocumentError, Settings, build_module, read_document};
 pub use document_within::within;
-pub use judge::judge_document;
+pub use examined::{Examined, refused_by};
+pub use judge::{examine_document, judge_document};
 pub use judgement::{Finding, Step};
+pub use module_validator::ModuleError;
 pub use ports::{ReadCall, Sink, Source, WriteCall};

@@ -12,8 +12,8 @@ ghost use Rattle.ir_blocks.specs.Shapes.{breaks, continues, returns, kills, inne
 ghost use Rattle.ir_blocks.specs.Control.{may_leave};
 ghost use Rattle.ir_blocks.specs.Tails.{completed};
 ghost use Rattle.judgement.specs.Functions.{falls_at_end, case_values};
-ghost use Rattle.judgement.specs.Handles.{named, function, expression, range};
-ghost use Rattle.judgement.specs.Types.{IsScalarOK};
+ghost use Rattle.spec_flags.specs.Widths.{IsKindAllowed};
+ghost use Rattle.spec_handles.specs.Statements.{statement_operands, statement_callee, statement_result, statement_range};
 ghost use Rattle.judgement.specs.Text.{text_of};
 ghost use Rattle.judgement.specs.declared.finding.Finding.TheVariants.{Accepted, RefusedDocument, RefusedHandles, Refused};
 ghost use Rattle.judgement.specs.declared.finding.Step.TheVariants.{«Type», Function};
@@ -27,25 +27,27 @@ pub fn lines()
     ensures later_function { text_of (Refused Function 12) ≡ codes "refused function 12\n" }
 {}
 
-/// What a statement names; what is inside it has names of its own.
+/// What a statement names; what is inside it names for itself.
 pub fn references()
-    ensures of_a_call { named (call 1 (0 ∷ 2 ∷ []) (Some 3)) ≡ function 1 ∷ expression 0 ∷ expression 2 ∷ expression 3 ∷ [] }
-    ensures of_a_plain_call { named (call 7 [] None) ≡ function 7 ∷ [] }
-    ensures of_a_block { named (block (next (call 1 [] None) stop)) ≡ [] }
-    ensures of_an_if { named (if_ 4 (next (return (Some 1)) stop) stop) ≡ expression 4 ∷ [] }
-    ensures of_a_loop { named (loop stop stop (Some 2)) ≡ expression 2 ∷ [] }
-    ensures of_a_return { named (return (Some 5)) ≡ expression 5 ∷ [] }
-    ensures of_an_emit { named (emit 1 3) ≡ range 1 3 ∷ [] }
+    ensures operands_of_a_call { statement_operands (call 1 (0 ∷ 2 ∷ []) (Some 3)) ≡ 0 ∷ 2 ∷ [] }
+    ensures callee_of_a_call { statement_callee (call 1 (0 ∷ 2 ∷ []) (Some 3)) ≡ Some 1 }
+    ensures result_of_a_call { statement_result (call 1 (0 ∷ 2 ∷ []) (Some 3)) ≡ Some 3 }
+    ensures callee_of_a_plain_call { statement_callee (call 7 [] None) ≡ Some 7 }
+    ensures callee_of_a_block { statement_callee (block (next (call 1 [] None) stop)) ≡ None }
+    ensures operands_of_an_if { statement_operands (if_ 4 (next (return (Some 1)) stop) stop) ≡ 4 ∷ [] }
+    ensures operands_of_a_loop { statement_operands (loop stop stop (Some 2)) ≡ 2 ∷ [] }
+    ensures operands_of_a_return { statement_operands (return (Some 5)) ≡ 5 ∷ [] }
+    ensures range_of_an_emit { statement_range (emit 1 3) ≡ Some (record { first = 1; end = 3 }) }
 {}
 
 /// Which scalars may be types.
 pub fn scalars()
-    ensures half_with_its_capability { IsScalarOK SHADER_FLOAT16 Float 2 }
-    ensures half_without_it { ¬ IsScalarOK (record { 0 = 0 }) Float 2 }
-    ensures plain_unsigned { IsScalarOK (record { 0 = 0 }) Uint 4 }
-    ensures truth_value { IsScalarOK (record { 0 = 0 }) Boolean 1 }
-    ensures wide_truth_value { ¬ IsScalarOK (record { 0 = 0 }) Boolean 4 }
-    ensures abstract_integer { ¬ IsScalarOK (record { 0 = 0 }) AbstractInt 8 }
+    ensures half_with_its_capability { IsKindAllowed SHADER_FLOAT16 Float 2 }
+    ensures half_without_it { ¬ IsKindAllowed (record { 0 = 0 }) Float 2 }
+    ensures plain_unsigned { IsKindAllowed (record { 0 = 0 }) Uint 4 }
+    ensures truth_value { IsKindAllowed (record { 0 = 0 }) Boolean 1 }
+    ensures wide_truth_value { ¬ IsKindAllowed (record { 0 = 0 }) Boolean 4 }
+    ensures abstract_integer { ¬ IsKindAllowed (record { 0 = 0 }) AbstractInt 8 }
 {}
 
 /// Where a statement may leave by, from the innermost part outward.

@@ -1,0 +1,39 @@
+-- What a module is refused for is what the judgement finds of it.
+use Rattle.std.proofs.Common.{◌≡◌, inl, inr, ℕ, Option, Some, None}
+use Rattle.error_expressions.specs.declared.const_expressions.ConstExpressionError.{ConstExpressionError}
+use Rattle.error_expressions.specs.declared.const_expressions.ConstExpressionError.TheVariants as constant
+use Rattle.ir_flags.specs.Settings.{PlainSettings}
+use Rattle.ir_items.specs.Plain.{PlainModule}
+use Rattle.judgement.specs.Steps.{module_settings, IsFinding}
+use Rattle.judgement.specs.declared.finding.Finding.TheVariants.{Refused}
+use Rattle.module_validator.specs.Faults.{IsExpressionRefused, IsModuleFault}
+use Rattle.module_validator.specs.declared.error.ModuleError.{ModuleError}
+use Rattle.module_validator.specs.declared.error.ModuleError.TheVariants as error
+use Rattle.shader_check.specs.Modules.{step_of, refused_by, IsJudgedUpToOverrides}
+use Rattle.spec_modules.specs.Steps.{ModuleOK}
+
+expression_is : (s : PlainSettings) (m : PlainModule) (h : ℕ) (e : ConstExpressionError) → IsExpressionRefused (module_settings s) m h e → IsFinding s m (Refused (step_of e) h)
+expression_is s m h constant.NonConstOrOverride (inl x) = absurd x.1
+expression_is s m h constant.NonConstOrOverride (inr x) = x.0
+expression_is s m h constant.NonFullyEvaluatedConst (inl x) = absurd x.1
+expression_is s m h constant.NonFullyEvaluatedConst (inr x) = x.0
+expression_is s m h (constant.Compose e) (inl x) = absurd x.1
+expression_is s m h (constant.Compose e) (inr x) = x.0
+expression_is s m h (constant.Literal e) (inl x) = absurd x.1
+expression_is s m h (constant.Literal e) (inr x) = x.0
+expression_is s m h (constant.Typing e) (inl x) = x.0
+expression_is s m h (constant.Typing e) (inr x) = absurd x.1
+expression_is s m h constant.Other (inl x) = absurd x.1
+expression_is s m h constant.Other (inr x) = absurd x.1
+
+pub found_is : (s : PlainSettings) (m : PlainModule) (e : ModuleError) → IsModuleFault (module_settings s) m e → IsFinding s m (refused_by e)
+found_is s m (error.InvalidHandle e) x = x.1
+found_is s m (error.Layouter e) x = x.0
+found_is s m (error.Type e) x = x.0
+found_is s m (error.ConstExpression e) x = expression_is s m e.expression e.error x
+found_is s m (error.Constant e) x = x.0
+found_is s m (error.Override e) x = x.0
+
+pub passes : (s : PlainSettings) (m : PlainModule) (o : Option ModuleError) → o ≡ None → IsJudgedUpToOverrides s m o → ModuleOK (module_settings s) m
+passes s m None e x = x
+passes s m (Some error) e x = let h = e in cc

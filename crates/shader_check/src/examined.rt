@@ -1,0 +1,64 @@
+// What is found of a document, with the errors.
+ghost use Rattle.std.specs.Prelude.{◌≡◌};
+ghost use Rattle.shader_check.specs.Modules.{step_of, refused_by, finding_in};
+
+use error_expressions::ConstExpressionError;
+use judgement::{Finding, Step};
+use module_validator::ModuleError;
+
+/// What is found of a document, with the error where its module is refused up to its overrides.
+#[derive(Debug, Drop)]
+pub enum Examined {
+    /// It is not checked so far.
+    NotChecked,
+    /// No step fails.
+    Accepted,
+    /// Its handles are out of order, or a step up to overrides fails.
+    RefusedModule(ModuleError),
+    /// The first function that fails its rules.
+    RefusedFunction(usize),
+}
+
+// The step that refuses a global expression so.
+fn step_of(error: &ConstExpressionError) -> Step
+    ensures { result ≡ step_of error.now }
+{
+    match error {
+        ConstExpressionError::Typing(_) => Step::Typing,
+        ConstExpressionError::NonConstOrOverride
+        | ConstExpressionError::NonFullyEvaluatedConst
+        | ConstExpressionError::Compose(_)
+        | ConstExpressionError::Literal(_)
+        | ConstExpressionError::Other => Step::Expression,
+    }
+}
+
+/// What is found where a module is refused so: its step, and the item.
+pub fn refused_by(error: &ModuleError) -> Finding
+    ensures { result ≡ refused_by error.now }
+{
+    match error {
+        ModuleError::InvalidHandle(_) => Finding::RefusedHandles,
+        ModuleError::Layouter(error) => Finding::Refused(Step::Layout, error.ty.index()),
+        ModuleError::Type(error) => Finding::Refused(Step::Type, error.ty.index()),
+        ModuleError::ConstExpression(error) => {
+            Finding::Refused(step_of(&error.error), error.expression.index())
+        }
+        ModuleError::Constant(error) => Finding::Refused(Step::Constant, error.constant.index()),
+        ModuleError::Override(error) => Finding::Refused(Step::Override, error.id.index()),
+    }
+}
+
+impl Examined {
+    /// What is found, without the error: the step that fails, and the least index of an item that fails it.
+    pub fn finding(&self) -> Finding
+        ensures { result ≡ finding_in self.now }
+    {
+        match self {
+            Examined::NotChecked => Finding::RefusedDocument,
+            Examined::Accepted => Finding::Accepted,
+            Examined::RefusedModule(error) => refused_by(error),
+            Examined::RefusedFunction(index) => Finding::Refused(Step::Function, *index),
+        }
+    }
+}
