@@ -5,7 +5,7 @@ use Rattle.std.proofs.lemmas.Bool.{cases_lt}
 use Rattle.overload_tables.specs.Laws.{IsAmong}
 use Rattle.ir_arena.specs.Handles.{handles_from}
 use Rattle.ir_arena.specs.declared.span.Span.{Span}
-use Rattle.ir_expressions.specs.Plain.{PlainExpression, compose, plain, expression_view}
+use Rattle.ir_expressions.specs.Plain.{PlainExpression, plain, expression_view}
 use Rattle.ir_expressions.specs.declared.expressions.Expression.{Expression}
 use Rattle.ir_expressions.specs.declared.expressions.Expression.TheVariants as x
 use Rattle.ir_globals.specs.View.{values_of}

@@ -5,10 +5,12 @@ ghost use Rattle.ir_arena.specs.Handles.{handles_from};
 ghost use Rattle.ir_expressions.specs.Plain.{expression_view};
 ghost use Rattle.ir_items.specs.View.{function_view, module_view};
 ghost use Rattle.spec_analysis.specs.Values.{AreStarts, OperandsPrecede, known_at};
-ghost use Rattle.analysis_facts.specs.Facts.{source_if, source_of, start_of, sources_of, starts_of, AreSources};
+ghost use Rattle.analysis_facts.specs.Facts.{source_if, source_of, start_of, sources_of, starts_of, AreUniformities};
 
 use crate::found::{known, source_below};
 use crate::sources::is_source;
+use crate::uniformities::uniformities_of;
+use analysis_forms::Uniformity;
 use ir_arena::handle::Handle;
 use ir_expressions::Expression;
 use ir_items::{Function, Module};
@@ -18,8 +20,8 @@ use std::alloc::{AllocError, Global};
 /// What is known of each expression of a function.
 #[derive(Drop)]
 pub struct Facts {
-    /// A source that its value comes from, if there is one.
-    pub sources: Vec<Option<Handle<key::Expression>>>,
+    /// A source that its value comes from, if there is one, and what it asks for.
+    pub uniformities: Vec<Uniformity>,
     /// The global variable that its chain of accesses starts at, if it starts at one.
     pub globals: Vec<Option<Handle<key::GlobalVariable>>>,
 }
@@ -99,10 +101,14 @@ fn all_starts(
 /// memory.
 pub fn facts_of(alloc: Global, module: &Module, function: &Function) -> Result<Facts, AllocError>
     requires { OperandsPrecede (function_view function.now).expressions }
-    ensures sources { IfOk result (λ f. AreSources (module_view «module».now) (function_view function.now) f.sources.items) }
+    ensures uniformities { IfOk result (λ f. AreUniformities (module_view «module».now) (function_view function.now) f.uniformities.items) }
     ensures starts { IfOk result (λ f. AreStarts (function_view function.now).expressions f.globals.items) }
 {
     let sources = all_sources(alloc, module, function)?;
+    let uniformities = uniformities_of(alloc, function, &sources)?;
     let globals = all_starts(alloc, function)?;
-    Ok(Facts { sources, globals })
+    Ok(Facts {
+        uniformities,
+        globals,
+    })
 }

@@ -6,6 +6,6 @@ mod facts;
 mod found;
 mod requirements;
 mod sources;
+mod uniformities;
 
 pub use facts::{Facts, facts_of};
-pub use requirements::requirements_of;

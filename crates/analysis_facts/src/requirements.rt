@@ -7,8 +7,8 @@ ghost use Rattle.spec_analysis.specs.Values.{requirements_of};
 use analysis_forms::UniformityRequirements;
 use ir_expressions::Expression;
 
-/// What the expression itself asks of control flow, if anything.
-pub fn requirements_of(expression: &Expression) -> UniformityRequirements
+// What the expression itself asks of control flow, if anything.
+pub(crate) fn requirements_of(expression: &Expression) -> UniformityRequirements
     ensures { result.0 ≡ requirements_of (expression_view expression.now) }
 {
     match *expression {

@@ -2,7 +2,5 @@
 #![tactic(auto)]
 
 mod fault;
-mod uniformities;
 
 pub use fault::uniformity_fault;
-pub use uniformities::uniformities_of;

@@ -1,1 +1,3 @@
+pub mod InfoLemmas
+pub mod KeptLemmas
 pub mod SummaryLemmas

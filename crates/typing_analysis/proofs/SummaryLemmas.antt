@@ -1,10 +1,12 @@
 -- The tally of a function of the module.
 use Rattle.std.proofs.Common.{◌≡◌, ℕ, Option, List, length, map, sym, ap, ◌∙◌, subst}
+use Rattle.std.proofs.lemmas.List.{length-map}
 use Rattle.ir_blocks.specs.View.{block_view}
 use Rattle.ir_expressions.specs.Plain.{expression_view}
-use Rattle.ir_globals.specs.View.{values_of}
-use Rattle.ir_items.specs.View.{function_view}
+use Rattle.ir_globals.specs.View.{values_of, global_view}
+use Rattle.ir_items.specs.View.{function_view, module_view}
 use Rattle.ir_items.specs.declared.functions.Function.{Function}
+use Rattle.ir_items.specs.declared.module.Module.{Module}
 use Rattle.spec_analysis.specs.Values.{AreStarts}
 use Rattle.spec_analysis.specs.Summaries.{Summary}
 use Rattle.analysis_tally.specs.Tallies.{Tallied, whole_tally}
@@ -18,3 +20,6 @@ pub whole_is : (f : Function) (globals : List (Option ℕ)) (summaries : List Su
 whole_is f globals summaries n t starts is =
     let same = is ∙ ap (λ z. whole_tally (record { expressions = map expression_view (values_of f.expressions); globals = globals; summaries = summaries }) z n (block_view f.body)) (sym (length_views f.expressions)) in
     subst (IsTally n (function_view f) summaries) (sym same) (tally_is (function_view f) globals summaries n starts)
+
+pub global_count : (m : Module) → length m.global_variables ≡ length (module_view m).globals
+global_count m = sym (length-map (values_of m.global_variables) global_view ∙ length-map m.global_variables (λ e. e.0))

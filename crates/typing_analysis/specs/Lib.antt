@@ -1,1 +1,4 @@
 pub mod Faults
+pub mod Infos
+pub mod Kept
+pub mod Summarized

@@ -1,5 +1,11 @@
 //! What is kept of a function, put together.
 
+ghost use Rattle.std.specs.Prelude.{◌≡◌, ◌++◌, ◌∷◌, [], Option, IfOk, OnOk, option_map, slice_index_or};
+ghost use Rattle.std.specs.List.{flat_map};
+ghost use Rattle.analysis_info.specs.Infos.{key_of};
+ghost use Rattle.spec_analysis.specs.Values.{known_at};
+ghost use Rattle.typing_analysis.specs.Kept.{unknown, info_at, infos_from, global_of, key_by};
+
 use analysis_forms::{
     ExpressionInfo, GlobalOrArgument, SamplingKey, SamplingPair, Uniformity, UniformityRequirements,
 };
@@ -8,7 +14,9 @@ use ir_types::key;
 use std::alloc::{AllocError, Global};
 use typing_forms::TypeResolution;
 
-fn uniformity_at(uniformities: &[Uniformity], index: usize) -> Uniformity {
+fn uniformity_at(uniformities: &[Uniformity], index: usize) -> Uniformity
+    ensures { result ≡ slice_index_or uniformities.now index unknown }
+{
     match uniformities.get(index) {
         Some(uniformity) => *uniformity,
         None => Uniformity {
@@ -18,7 +26,9 @@ fn uniformity_at(uniformities: &[Uniformity], index: usize) -> Uniformity {
     }
 }
 
-fn count_at(counts: &[usize], index: usize) -> usize {
+fn count_at(counts: &[usize], index: usize) -> usize
+    ensures { result ≡ slice_index_or counts.now index 0 }
+{
     match counts.get(index) {
         Some(count) => *count,
         None => 0,
@@ -28,7 +38,9 @@ fn count_at(counts: &[usize], index: usize) -> usize {
 fn global_at(
     globals: &[Option<Handle<key::GlobalVariable>>],
     index: usize,
-) -> Option<Handle<key::GlobalVariable>> {
+) -> Option<Handle<key::GlobalVariable>>
+    ensures { result ≡ known_at globals.now index }
+{
     match globals.get(index) {
         Some(global) => *global,
         None => None,
@@ -42,7 +54,9 @@ pub(crate) fn expression_infos(
     uniformities: &[Uniformity],
     counts: &[usize],
     globals: &[Option<Handle<key::GlobalVariable>>],
-) -> Result<Vec<ExpressionInfo>, AllocError> {
+) -> Result<Vec<ExpressionInfo>, AllocError>
+    ensures { IfOk result (λ infos. infos.items ≡ infos_from uniformities.now counts.now globals.now 0 types.items) }
+{
     let mut infos = Vec::new(alloc);
     for ty in types {
         let index = infos.len();
@@ -58,33 +72,35 @@ pub(crate) fn expression_infos(
 }
 
 // The global variable that an image or a sampler is, if it is one.
-fn global_of(part: GlobalOrArgument) -> Option<Handle<key::GlobalVariable>> {
+fn global_of(part: GlobalOrArgument) -> Option<Handle<key::GlobalVariable>>
+    ensures { result ≡ global_of part }
+{
     match part {
         GlobalOrArgument::Global(global) => Some(global),
         GlobalOrArgument::Argument(_) => None,
     }
 }
 
-fn key_of(pair: SamplingPair) -> Option<SamplingKey> {
-    match global_of(pair.0) {
-        Some(image) => match global_of(pair.1) {
-            Some(sampler) => Some(SamplingKey { image, sampler }),
-            None => None,
-        },
-        None => None,
+// A pair as one of two global variables, where both are, behind others.
+#[tactic(auto, using(crate::proofs::InfoLemmas::key_is))]
+fn add_key(keys: &mut Vec<SamplingKey>, pair: SamplingPair) -> Result<(), AllocError>
+    ensures { OnOk result (keys.new.items ≡ keys.old.items ++ key_of pair) }
+{
+    if let Some(image) = global_of(pair.0) {
+        if let Some(sampler) = global_of(pair.1) {
+            keys.push(SamplingKey { image, sampler })?;
+        }
     }
+    Ok(())
 }
 
 // The pairs of two global variables. The error is out of memory.
-pub(crate) fn keys_of(
-    alloc: Global,
-    pairs: &[SamplingPair],
-) -> Result<Vec<SamplingKey>, AllocError> {
+pub(crate) fn keys_of(alloc: Global, pairs: &[SamplingPair]) -> Result<Vec<SamplingKey>, AllocError>
+    ensures { IfOk result (λ keys. keys.items ≡ flat_map key_of pairs.now) }
+{
     let mut keys = Vec::new(alloc);
     for pair in pairs {
-        if let Some(key) = key_of(*pair) {
-            keys.push(key)?;
-        }
+        add_key(&mut keys, *pair)?;
     }
     Ok(keys)
 }

@@ -4,7 +4,6 @@
 
 mod infos;
 mod summary;
-mod uniformities;
 
 pub use analysis_info::FunctionInfo;
 pub use summary::{Summarized, SummaryError, summarize};

@@ -1,19 +1,20 @@
 //! What is found of a function before the places of its statements are looked at.
 
-ghost use Rattle.std.specs.Prelude.{◌≡◌, ℕ, List, IfOk, IfErr, OnOk, length, map};
+ghost use Rattle.std.specs.Prelude.{◌≡◌, ℕ, List, IfOk, IfErr, length, map};
 ghost use Rattle.ir_items.specs.Plain.{PlainFunction, PlainModule};
 ghost use Rattle.ir_items.specs.View.{function_view, module_view};
 ghost use Rattle.spec_analysis.specs.Values.{AreStarts, OperandsPrecede};
-ghost use Rattle.spec_analysis.specs.Summaries.{Summary, IsFormFault};
+ghost use Rattle.spec_analysis.specs.Summaries.{Summary};
 ghost use Rattle.spec_expressions.specs.Context.{inside};
 ghost use Rattle.analysis_info.specs.Infos.{summary_of};
 ghost use Rattle.analysis_tally.specs.Tallied.{IsTally};
 ghost use Rattle.analysis_tally.specs.Tallies.{tallied};
 ghost use Rattle.typing_analysis.specs.Faults.{IsSummaryFault};
+ghost use Rattle.typing_analysis.specs.Infos.{IsFunctionInfo};
+ghost use Rattle.typing_analysis.specs.Summarized.{IsSummarized};
 ghost use Rattle.typing_expressions.specs.Types.{ItemsNamed, AreTypes, IsFirstUntyped};
 
 use crate::infos::{expression_infos, keys_of};
-use crate::uniformities::uniformities_of;
 use analysis_facts::facts_of;
 use analysis_forms::Uniformity;
 use analysis_info::{FunctionInfo, FunctionParts};
@@ -135,10 +136,7 @@ pub fn summarize(
 ) -> Result<Summarized, SummaryError>
     requires precede { OperandsPrecede (function_view function.now).expressions }
     requires named { ItemsNamed (inside (module_view «module».now) (function_view function.now)) (function_view function.now).expressions }
-    ensures typed { IfOk result (λ s. AreTypes (inside (module_view «module».now) (function_view function.now)) (function_view function.now).expressions s.types.items) }
-    ensures starts { IfOk result (λ s. AreStarts (function_view function.now).expressions s.globals.items) }
-    ensures tally { IfOk result (λ s. IsTally (length «module».now.global_variables) (function_view function.now) (map summary_of callees.now) (tallied s.tally)) }
-    ensures clear { OnOk result ((e : ℕ) → IsFormFault (function_view function.now) (map summary_of callees.now) e → ⊥) }
+    ensures ok { IfOk result (IsSummarized (module_view «module».now) (function_view function.now) (map summary_of callees.now)) }
     ensures fault { IfErr result (IsSummaryFault (module_view «module».now) (function_view function.now) (map summary_of callees.now)) }
 {
     let types = match types_in(alloc, function, module) {
@@ -146,13 +144,12 @@ pub fn summarize(
         Err(refusal) => return Err(as_summary(refusal)),
     };
     let facts = facts_of(alloc, module, function)?;
-    let uniformities = uniformities_of(alloc, function, &facts.sources)?;
     let tally = tally_of(alloc, function, module, &facts.globals, callees)?;
     match tally.sampled.wrong {
         Some(expression) => Err(SummaryError::WrongForm(expression)),
         None => Ok(Summarized {
             types,
-            uniformities,
+            uniformities: facts.uniformities,
             globals: facts.globals,
             tally,
         }),
@@ -161,7 +158,9 @@ pub fn summarize(
 
 impl Summarized {
     /// The info that is kept of the function. The error is out of memory.
-    pub fn into_info(self, alloc: Global) -> Result<FunctionInfo, AllocError> {
+    pub fn into_info(self, alloc: Global) -> Result<FunctionInfo, AllocError>
+        ensures { (m : PlainModule) (f : PlainFunction) (summaries : List Summary) → IsSummarized m f summaries self → IfOk result (IsFunctionInfo m f summaries) }
+    {
         let Summarized {
             types,
             uniformities,

@@ -1,14 +1,20 @@
-use Rattle.std.proofs.Common.{refl, sym, subst}
+use Rattle.std.proofs.Common.{◌≡◌, map, refl, sym, subst}
+use Rattle.ir_arena.specs.Handles.{handles_from}
 use Rattle.ir_items.specs.View.{function_view, module_view}
 use Rattle.spec_analysis.specs.Values.{AreStarts}
 use Rattle.analysis_facts.specs.Facts.{AreSources}
+use Rattle.analysis_facts.specs.Told.{told, all_told}
 use Rattle.analysis_facts.proofs.FactLemmas.{are_sources, are_starts}
+use Rattle.analysis_facts.proofs.ToldLemmas.{are_uniformities}
 use Rattle.analysis_facts.proofs.facts.facts_of.Goals as goal
 
-pub returns-clause-sources : goal.returns-clause-sources
-returns-clause-sources c =
-    subst (AreSources (module_view c.args.«module».now) (function_view c.args.function.now)) (sym c.in_ok-sources.ensures)
-    (are_sources (module_view c.args.«module».now) (function_view c.args.function.now) c.args.function.now.expressions refl c.requires)
+pub returns-clause-uniformities : goal.returns-clause-uniformities
+returns-clause-uniformities c =
+    let m = module_view c.args.«module».now in
+    let f = function_view c.args.function.now in
+    let sources = subst (AreSources m f) (sym c.in_ok-sources.ensures) (are_sources m f c.args.function.now.expressions refl c.requires) in
+    are_uniformities m f c.in_ok-sources.sources.items sources c.args.function.now.expressions c.in_ok-uniformities.uniformities.items refl
+    (subst (λ s. map told c.in_ok-uniformities.uniformities.items ≡ all_told s (handles_from 0 c.args.function.now.expressions)) c.deref.ensures.value c.in_ok-uniformities.ensures)
 
 pub returns-clause-starts : goal.returns-clause-starts
 returns-clause-starts c =

@@ -1,4 +1,3 @@
-use Rattle.std.proofs.Common.{refl, subst}
 use Rattle.std.proofs.lemmas.Result.{IfOk-weaker}
 use Rattle.ir_blocks.specs.View.{block_view}
 use Rattle.ir_items.specs.View.{function_view, module_view}
@@ -11,9 +10,7 @@ pub returns : goal.returns
 returns c =
     let m = module_view c.args.«module».now in
     let f = function_view c.args.function.now in
-    let all = c.in_ok-uniformities.uniformities.items in
     let severity = c.derivative_severity-severity.result in
-    IfOk-weaker c.find_fault.result (IsAnswer c.args.flags severity c.deref.result.now (block_view c.args.function.now.body)) (IsFunctionAnswer c.args.flags m f)
-    (λ found a. answered m f c.args.sources.now c.args.function.now.expressions all refl c.requires.sources c.in_ok-uniformities.ensures c.args.flags severity found c.derivative_severity-severity.ensures
-    (subst (λ us. IsAnswer c.args.flags severity us (block_view c.args.function.now.body) found) c.deref.ensures.value a))
+    IfOk-weaker c.find_fault.result (IsAnswer c.args.flags severity c.args.uniformities.now (block_view c.args.function.now.body)) (IsFunctionAnswer c.args.flags m f)
+    (λ found a. answered m f c.args.uniformities.now c.requires.uniformities c.args.flags severity found c.derivative_severity-severity.ensures a)
     c.find_fault.ensures

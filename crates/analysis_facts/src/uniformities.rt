@@ -1,14 +1,15 @@
-//! What is known of each expression of a function.
+//! The uniformity of each expression of a function.
 
 ghost use Rattle.std.specs.Prelude.{◌≡◌, map, IfOk};
 ghost use Rattle.ir_arena.specs.Handles.{handles_from};
 ghost use Rattle.spec_analysis.specs.Values.{known_at};
-ghost use Rattle.analysis_uniformity.specs.Told.{told, all_told};
+ghost use Rattle.analysis_facts.specs.Told.{told, all_told};
 
-use analysis_facts::requirements_of;
+use crate::requirements::requirements_of;
 use analysis_forms::Uniformity;
 use ir_arena::handle::Handle;
-use ir_items::{Function, key};
+use ir_items::Function;
+use ir_types::key;
 use std::alloc::{AllocError, Global};
 
 fn source_at(
@@ -23,9 +24,9 @@ fn source_at(
     }
 }
 
-/// The uniformity of each expression of a function, in order: where its value comes from, as `sources` says (see
-/// [`analysis_facts::Facts`]), and what it asks for. The error is out of memory.
-pub fn uniformities_of(
+/// The uniformity of each expression of a function, in order: where its value comes from, as `sources` says, and what it asks
+/// for. The error is out of memory.
+pub(crate) fn uniformities_of(
     alloc: Global,
     function: &Function,
     sources: &[Option<Handle<key::Expression>>],

@@ -1,4 +1,4 @@
--- What is put together of each expression.
+-- What is put together of each expression while all are gone through.
 use Rattle.std.specs.Prelude.{ℕ, List, map, Option}
 use Rattle.ir_expressions.specs.Plain.{PlainExpression, expression_view}
 use Rattle.ir_expressions.specs.declared.expressions.Expression.{Expression}

@@ -1,0 +1,39 @@
+-- What is put together of each expression.
+use Rattle.std.specs.Prelude.{ℕ, ◌+◌, List, [], ◌∷◌, Option, Some, None, slice_index_or}
+use Rattle.analysis_forms.specs.declared.expression_info.ExpressionInfo.{ExpressionInfo}
+use Rattle.analysis_forms.specs.declared.sampling.GlobalOrArgument.{GlobalOrArgument}
+use Rattle.analysis_forms.specs.declared.sampling.GlobalOrArgument.TheVariants.{Global, Argument}
+use Rattle.analysis_forms.specs.declared.sampling.SamplingKey.{SamplingKey}
+use Rattle.analysis_forms.specs.declared.uniformity.Uniformity.{Uniformity}
+use Rattle.spec_analysis.specs.Values.{known_at}
+use Rattle.typing_forms.specs.declared.resolution.TypeResolution.{TypeResolution}
+
+-- what is known of no expression
+abbrev pub unknown : Uniformity
+unknown = record { non_uniform_result = None; requirements = record { 0 = 0 } }
+
+-- what is known of the expression at a place, which has this type
+abbrev pub info_at : List Uniformity → (counts : List ℕ) → (globals : List (Option ℕ)) → ℕ → TypeResolution → ExpressionInfo
+info_at uniformities counts globals e ty = record {
+  uniformity = slice_index_or uniformities e unknown;
+  ref_count = slice_index_or counts e 0;
+  assignable_global = known_at globals e;
+  ty = ty;
+}
+
+-- of all from this place on
+abbrev pub infos_from : List Uniformity → (counts : List ℕ) → (globals : List (Option ℕ)) → ℕ → List TypeResolution → List ExpressionInfo
+infos_from uniformities counts globals e [] = []
+infos_from uniformities counts globals e (ty ∷ rest) = info_at uniformities counts globals e ty ∷ infos_from uniformities counts globals (e + 1) rest
+
+-- ---- pairs
+
+-- the global variable that an image or a sampler is, if it is one
+abbrev pub global_of : GlobalOrArgument → Option ℕ
+global_of (Global g) = Some g
+global_of (Argument number) = None
+
+-- the key of two of them
+abbrev pub key_by : Option ℕ → Option ℕ → List SamplingKey
+key_by (Some image) (Some sampler) = record { image = image; sampler = sampler } ∷ []
+key_by _ _ = []
