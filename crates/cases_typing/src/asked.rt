@@ -1,6 +1,8 @@
 // What is asked of a module.
+use crate::checks::{Overrides, checks_told};
 use crate::conditions::{Test, tests_told};
 use crate::constness::{kinds_told, tracked};
+use crate::handles::handles_told;
 use crate::infos::{Told, infos_told};
 use crate::layouts::{laid, layouts_told};
 use crate::types::{typed, types_told};
@@ -31,6 +33,9 @@ pub fn answer(alloc: Global, asked: &str, document: &Document) -> Result<String,
             document.settings.capabilities,
             &module.types,
         ),
+        "handles" => handles_told(alloc, module),
+        "checks" => checks_told(alloc, document, Overrides::Open),
+        "resolved" => checks_told(alloc, document, Overrides::Resolved),
         "laid" => String::from_str(alloc, laid(alloc, &module.types)?),
         "tracked" => String::from_str(alloc, tracked(alloc, module)?),
         "typed" => String::from_str(alloc, typed(alloc, module)?),

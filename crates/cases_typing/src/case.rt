@@ -11,6 +11,7 @@ pub struct Case<'a> {
     asked: &'a str,
     document: &'a str,
     pub answer: &'a str,
+    also: Option<&'a str>,
 }
 
 // The text at a place of a line, or the empty one.
@@ -18,6 +19,14 @@ fn text(line: &Value, place: usize) -> &str {
     match line.get(place) {
         Some(item) => item.as_str().unwrap_or(""),
         None => "",
+    }
+}
+
+// The second of two answers that are right.
+fn another(line: &Value) -> Option<&str> {
+    match line.get(4) {
+        Some(item) => item.as_str(),
+        None => None,
     }
 }
 
@@ -29,6 +38,7 @@ impl Case<'_> {
             asked: text(line, 1),
             document: text(line, 2),
             answer: text(line, 3),
+            also: another(line),
         }
     }
 }
@@ -42,10 +52,18 @@ fn answer_of(alloc: Global, asked: &str, bytes: &[u8]) -> Result<String, AllocEr
     }
 }
 
-/// What the typing answers, where that is not the answer of the case.
+// Whether an answer is right.
+fn is_right(case: &Case<'_>, found: &str) -> bool {
+    match case.also {
+        Some(also) => found == case.answer || found == also,
+        None => found == case.answer,
+    }
+}
+
+/// What the typing answers, where that is not the answer of the case, nor the other one where there are two.
 pub fn judge(alloc: Global, case: &Case<'_>) -> Result<Option<String>, AllocError> {
     let found = answer_of(alloc, case.asked, case.document.as_bytes())?;
-    if found.as_str() == case.answer {
+    if is_right(case, found.as_str()) {
         return Ok(None);
     }
     Ok(Some(found))

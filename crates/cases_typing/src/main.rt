@@ -1,16 +1,20 @@
 // Asks what the files of data/ ask of modules: layouts, kinds of expressions, their types, tests of handles, what types may be
-// used for and why they are refused. Tells which answers are others than those that stand there.
+// used for and why they are refused, whether all handles are in order, and whether a module is accepted up to its overrides.
+// Tells which answers are others than those that stand there.
 //
-// A line of a data file is a list of four texts: the case's name, what is asked, a document, and the answer. `make_data.py`,
-// `make_types.py`, `make_tests.py` and `make_infos.py` write these files. The answers come from two implementations that were
-// written independently of this one. Beside that it makes each call of layouts and of kinds once.
+// A line of a data file is a list of texts: the case's name, what is asked, a document, and the answer, or two of which either
+// is right. `make_data.py`, `make_types.py`, `make_tests.py`, `make_infos.py` and `make_checks.py` write these files. The
+// answers come from two implementations that were written independently of this one. Beside that it makes each call of layouts
+// and of kinds once.
 #![tactic(auto)]
 
 mod asked;
 mod calls;
 mod case;
+mod checks;
 mod conditions;
 mod constness;
+mod handles;
 mod infos;
 mod layouts;
 mod types;
@@ -22,12 +26,14 @@ use serde_json::Value;
 use std::fs;
 
 /// The files of cases.
-const FILES: [&str; 5] = [
+const FILES: [&str; 7] = [
     "layouts.jsonl",
     "constness.jsonl",
     "types.jsonl",
     "tests.jsonl",
     "infos.jsonl",
+    "handles.jsonl",
+    "checks.jsonl",
 ];
 
 // Asks what a line asks. Answers whether the answer is another one.
