@@ -5,6 +5,7 @@ use crate::constness::{kinds_told, tracked};
 use crate::handles::handles_told;
 use crate::infos::{Told, infos_told};
 use crate::layouts::{laid, layouts_told};
+use crate::summaries::summaries_told;
 use crate::types::{typed, types_told};
 use document_reader::Document;
 use std::alloc::{AllocError, Global};
@@ -36,6 +37,7 @@ pub fn answer(alloc: Global, asked: &str, document: &Document) -> Result<String,
         "handles" => handles_told(alloc, module),
         "checks" => checks_told(alloc, document, Overrides::Open),
         "resolved" => checks_told(alloc, document, Overrides::Resolved),
+        "summaries" => summaries_told(alloc, module, document.settings.flags),
         "laid" => String::from_str(alloc, laid(alloc, &module.types)?),
         "tracked" => String::from_str(alloc, tracked(alloc, module)?),
         "typed" => String::from_str(alloc, typed(alloc, module)?),

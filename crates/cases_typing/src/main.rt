@@ -1,11 +1,11 @@
 // Asks what the files of data/ ask of modules: layouts, kinds of expressions, their types, tests of handles, what types may be
-// used for and why they are refused, whether all handles are in order, and whether a module is accepted up to its overrides.
-// Tells which answers are others than those that stand there.
+// used for and why they are refused, whether all handles are in order, whether a module is accepted up to its overrides, and
+// what the analysis keeps of functions. Tells which answers are others than those that stand there.
 //
 // A line of a data file is a list of texts: the case's name, what is asked, a document, and the answer, or two of which either
-// is right. `make_data.py`, `make_types.py`, `make_tests.py`, `make_infos.py` and `make_checks.py` write these files. The
-// answers come from two implementations that were written independently of this one. Beside that it makes each call of layouts
-// and of kinds once.
+// is right. `make_data.py`, `make_types.py`, `make_tests.py`, `make_infos.py`, `make_checks.py` and `make_summaries.py` write
+// these files. The answers come from two implementations that were written independently of this one. Beside that it makes
+// each call of layouts and of kinds once.
 #![tactic(auto)]
 
 mod asked;
@@ -17,6 +17,7 @@ mod constness;
 mod handles;
 mod infos;
 mod layouts;
+mod summaries;
 mod types;
 
 use anyhow::{Context, Result, ensure};
@@ -26,7 +27,7 @@ use serde_json::Value;
 use std::fs;
 
 /// The files of cases.
-const FILES: [&str; 7] = [
+const FILES: [&str; 8] = [
     "layouts.jsonl",
     "constness.jsonl",
     "types.jsonl",
@@ -34,6 +35,7 @@ const FILES: [&str; 7] = [
     "infos.jsonl",
     "handles.jsonl",
     "checks.jsonl",
+    "summaries.jsonl",
 ];
 
 // Asks what a line asks. Answers whether the answer is another one.
