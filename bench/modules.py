@@ -1,0 +1,101 @@
+#!/usr/bin/env python3
+"""Counts what the steps up to overrides take of a run of the program, beside reading the document as JSON: modules.py
+
+The program is run once on each document under valgrind's callgrind. Of that run the instructions are told of all steps up to
+overrides (`ModuleValidator::validate`), and of the JSON reader with letting its value go; both hold all that they call.
+Prints a table in Markdown. The program has to be built: `rt ci` leaves it, and so does `rt run` in crates/checker. The
+status is 1 where a target is missed.
+"""
+import json
+import pathlib
+import re
+import subprocess
+import sys
+import tempfile
+
+TOP = pathlib.Path(__file__).resolve().parent.parent
+CHECKER = TOP / "crates/checker/out/checker"
+MOST_SHARE = 0.25
+FLAGS = ["EXPRESSIONS", "BLOCKS", "CONTROL_FLOW_UNIFORMITY", "STRUCT_LAYOUTS", "CONSTANTS", "BINDINGS"]
+BASE = [[None, ["Scalar", "u32"]], [None, ["Scalar", "f32"]], [None, ["Vector", 4, "f32"]]]
+
+
+def document(types=(), constants=(), overrides=(), expressions=()):
+    parts = [1, FLAGS, [], [[], []], False, BASE + list(types), [None, None, None, []], [[], None], list(constants),
+             list(overrides), list(expressions), [], [], []]
+    return json.dumps(parts, separators=(",", ":"))
+
+
+def literals(count):
+    return [["Literal", "u32", i] for i in range(count)]
+
+
+def many_types(count):
+    """Structs of two members, of which no two have one name."""
+    return document([[f"t{i}", ["Struct", [["a", 2, None, 0], ["b", 0, None, 16]], 32]] for i in range(count)])
+
+
+def deep_types(count):
+    """Structs, each of the one before."""
+    first = ["s0", ["Struct", [["a", 0, None, 0]], 4]]
+    return document([first, *([f"s{i + 1}", ["Struct", [["a", 3 + i, None, 0]], 4]] for i in range(count))])
+
+
+def many_constants(count):
+    """Constants, each of a literal of its own."""
+    return document(constants=[[f"c{i}", 0, i] for i in range(count)], expressions=literals(count))
+
+
+def many_overrides(count):
+    """Overrides with names and numbers, each of a literal of its own."""
+    return document(overrides=[[f"o{i}", i, 0, i] for i in range(count)], expressions=literals(count))
+
+
+def compositions(count):
+    """Vectors of four components."""
+    return document(expressions=[["Literal", "f32", 1065353216], *(["Compose", 2, [0, 0, 0, 0]] for _ in range(count))])
+
+
+KINDS = {"many types": many_types, "types of types": deep_types, "constants": many_constants,
+         "overrides with numbers": many_overrides, "compositions": compositions}
+
+
+def of_call(said, name):
+    """The instructions of a function with all that it calls."""
+    found = re.search(rf"^ *([\d,]+) .*:{re.escape(name)} \[", said, re.M)
+    return int(found.group(1).replace(",", "")) if found else 0
+
+
+def counted(room, path):
+    """The instructions of the steps and of the JSON reader."""
+    with open(path) as it:
+        ended = subprocess.run(["valgrind", "--tool=callgrind", f"--callgrind-out-file={room}/calls", CHECKER], stdin=it,
+                               capture_output=True, text=True)
+    if ended.stdout != "accepted\n":
+        sys.exit(f"modules: {ended.stdout}{ended.stderr[-300:]}")
+    said = subprocess.run(["callgrind_annotate", "--inclusive=yes", "--threshold=100", f"{room}/calls"],
+                          capture_output=True, text=True).stdout
+    reader = of_call(said, "serde_json::de::read_items") + of_call(said, "document_reader::serde_json++value++Value+Destruct::drop")
+    return of_call(said, "module_validator::validator::ModuleValidator::judge"), reader
+
+
+def main():
+    if not CHECKER.is_file():
+        sys.exit(f"modules: {CHECKER.relative_to(TOP)} is not built yet")
+    missed = False
+    print("| document | items | steps up to overrides, million instructions | the JSON reader, million instructions | share |")
+    print("|---|---|---|---|---|")
+    for name, made in KINDS.items():
+        for count in (2000, 16000):
+            with tempfile.TemporaryDirectory() as room:
+                path = f"{room}/document.json"
+                with open(path, "w") as it:
+                    it.write(made(count))
+                steps, reader = counted(room, path)
+            print(f"| {name} | {count} | {steps / 1e6:.2f} | {reader / 1e6:.1f} | {steps / reader:.2f} |", flush=True)
+            missed = missed or steps > MOST_SHARE * reader
+    return 1 if missed else 0
+
+
+if __name__ == "__main__":
+    sys.exit(main())
