@@ -1,10 +1,11 @@
 // The calls by which a block grows.
-use crate::same::{leaving_of, refused_more_than};
+use crate::same::{holding, leave_of, refused_more_than};
 use ir_arena::range::Range;
 use ir_arena::span::Span;
 use ir_items::{Block, Statement};
 use std::alloc::{AllocError, Global};
 use std::test::Fail;
+use test_support::hog::Hog;
 
 const MOST_STEPS: usize = 1000;
 
@@ -90,24 +91,31 @@ fn blocks(alloc: Global) -> Result<Pair, AllocError> {
     })
 }
 
-fn is_refused(alloc: Global, call: Call, step: usize, blocks: &mut Pair) -> Result<bool, Fail> {
+fn is_refused(
+    alloc: Global,
+    hog: &mut Hog,
+    call: Call,
+    step: usize,
+    blocks: &mut Pair,
+) -> Result<bool, Fail> {
     let spare = block(alloc, &MANY, &[])?;
-    let hog = leaving_of(alloc, SPARE, step.saturating_mul(STEP))?;
+    leave_of(alloc, hog, SPARE, step.saturating_mul(STEP))?;
     let refused = call.is_refused(&mut blocks.few, &mut blocks.many, spare);
-    drop(hog);
+    hog.release();
     Ok(refused)
 }
 
 // Whether there is enough memory at a step. A refused call leaves both blocks as they were.
 fn is_enough(
     alloc: Global,
+    hog: &mut Hog,
     call: Call,
     step: usize,
     before: &Pair,
     expected: &Block,
 ) -> Result<bool, Fail> {
     let mut subjects = blocks(alloc)?;
-    let refused = is_refused(alloc, call, step, &mut subjects)?;
+    let refused = is_refused(alloc, hog, call, step, &mut subjects)?;
     if refused && subjects.few == before.few && subjects.many == before.many {
         Ok(false)
     } else if !refused && subjects.few == *expected {
@@ -121,8 +129,9 @@ fn is_enough(
 fn refusals(alloc: Global, call: Call) -> Result<usize, Fail> {
     let before = blocks(alloc)?;
     let expected = call.expected(alloc)?;
+    let mut hog = holding(alloc)?;
     for step in 0..MOST_STEPS {
-        if is_enough(alloc, call, step, &before, &expected)? {
+        if is_enough(alloc, &mut hog, call, step, &before, &expected)? {
             return Ok(step);
         }
     }
@@ -143,16 +152,17 @@ fn little_memory_for_calls(rt: HostRuntime) -> Result<(), Fail> {
     Ok(())
 }
 
-fn has_room(alloc: Global, step: usize) -> Result<bool, Fail> {
-    let hog = leaving_of(alloc, SPARE, step.saturating_mul(STEP))?;
+fn has_room(alloc: Global, hog: &mut Hog, step: usize) -> Result<bool, Fail> {
+    leave_of(alloc, hog, SPARE, step.saturating_mul(STEP))?;
     let made = Block::with_capacity(alloc, 8);
-    drop(hog);
+    hog.release();
     Ok(made.is_ok())
 }
 
 fn room_refusals(alloc: Global) -> Result<usize, Fail> {
+    let mut hog = holding(alloc)?;
     for step in 0..MOST_STEPS {
-        if has_room(alloc, step)? {
+        if has_room(alloc, &mut hog, step)? {
             return Ok(step);
         }
     }
@@ -167,17 +177,18 @@ fn statements(alloc: Global) -> Result<Vec<Statement>, AllocError> {
     Ok(body)
 }
 
-fn has_spans(alloc: Global, step: usize) -> Result<bool, Fail> {
+fn has_spans(alloc: Global, hog: &mut Hog, step: usize) -> Result<bool, Fail> {
     let body = statements(alloc)?;
-    let hog = leaving_of(alloc, SPARE, step.saturating_mul(STEP))?;
+    leave_of(alloc, hog, SPARE, step.saturating_mul(STEP))?;
     let made = Block::from_vec(alloc, body);
-    drop(hog);
+    hog.release();
     Ok(made.is_ok())
 }
 
 fn span_refusals(alloc: Global) -> Result<usize, Fail> {
+    let mut hog = holding(alloc)?;
     for step in 0..MOST_STEPS {
-        if has_spans(alloc, step)? {
+        if has_spans(alloc, &mut hog, step)? {
             return Ok(step);
         }
     }

@@ -1,10 +1,11 @@
 // Copies with little memory, and a little more each time.
-use crate::same::{leaving, refused_more_than};
+use crate::same::{holding, leave, refused_more_than};
 use ir_arena::handle::Handle;
 use ir_items::{Block, Expression, Function, IrType, Module};
 use shader_check::{Document, read_document};
 use std::alloc::{AllocError, Global};
 use std::test::Fail;
+use test_support::hog::Hog;
 
 const STEP: usize = 64;
 
@@ -83,12 +84,13 @@ impl Copyable for Module {
 // Whether the copy equals its source, with so much memory left at most, or `None` where that is refused.
 fn copies_within<T: Copyable>(
     alloc: Global,
+    hog: &mut Hog,
     room: usize,
     source: &T,
 ) -> Result<Option<bool>, Fail> {
-    let hog = leaving(alloc, room)?;
+    leave(alloc, hog, room)?;
     let answer = source.copy(alloc);
-    drop(hog);
+    hog.release();
     match answer {
         Ok(copy) => Ok(Some(copy == *source)),
         Err(_) => Ok(None),
@@ -97,8 +99,9 @@ fn copies_within<T: Copyable>(
 
 // Copies with more and more memory, and answers how often it was refused.
 fn count_refusals<T: Copyable>(alloc: Global, source: &T, more: usize) -> Result<usize, Fail> {
+    let mut hog = holding(alloc)?;
     for step in 0..MOST_STEPS {
-        match copies_within(alloc, step.saturating_mul(more), source)? {
+        match copies_within(alloc, &mut hog, step.saturating_mul(more), source)? {
             Some(true) => return Ok(step),
             Some(false) => return Err(Fail::new("the copy is another")),
             None => {}

@@ -1,9 +1,10 @@
 // Checks of documents with little memory, and a little more each time.
-use crate::same::{leaving, refused_more_than};
+use crate::same::{holding, leave, refused_more_than};
 use shader_check::{Fault, Sink, Source, Verdict, check_document};
 use std::alloc::Global;
 use std::test::Fail;
 use test_support::fakes::plain;
+use test_support::hog::Hog;
 
 const MOST_STEPS: usize = 300;
 
@@ -34,15 +35,16 @@ const ROWS: [(&str, Verdict, &str); 3] = [
 // no mark is set.
 fn is_enough(
     alloc: Global,
+    hog: &mut Hog,
     room: usize,
     held: &mut Vec<u8>,
     row: &(&str, Verdict, &str),
 ) -> Result<bool, Fail> {
     let mut source = Source::new(plain(row.0, 1));
     let mut sink = Sink::new(&mut *held);
-    let hog = leaving(alloc, room)?;
+    leave(alloc, hog, room)?;
     let answer = check_document(alloc, &mut source, &mut sink);
-    drop(hog);
+    hog.release();
     let failed = source.failed() || sink.failed();
     if !failed && answer == Err(Fault::Memory) && held.is_empty() {
         Ok(false)
@@ -55,8 +57,9 @@ fn is_enough(
 
 fn refusals(alloc: Global, row: &(&str, Verdict, &str)) -> Result<usize, Fail> {
     let mut held: Vec<u8> = Vec::with_capacity(alloc, 64)?;
+    let mut hog = holding(alloc)?;
     for step in 0..MOST_STEPS {
-        if is_enough(alloc, step * STEP, &mut held, row)? {
+        if is_enough(alloc, &mut hog, step * STEP, &mut held, row)? {
             return Ok(step);
         }
     }

@@ -1,10 +1,11 @@
 // Errors to which spans are added.
-use crate::same::{leaving, refused_more_than, same};
+use crate::same::{holding, leave, leaving, refused_more_than, same};
 use ir_arena::handle::BadHandle;
 use ir_arena::span::Span;
 use ir_faults::with_span::WithSpan;
 use std::alloc::{AllocFailed, Global};
 use std::test::Fail;
+use test_support::hog::Hog;
 
 const STEP: usize = 32;
 
@@ -37,18 +38,19 @@ fn bad(alloc: Global) -> WithSpan<BadHandle> {
 }
 
 // Whether a span is added, with so much memory left at most.
-fn span_is_added(alloc: Global, room: usize) -> Result<bool, Fail> {
+fn span_is_added(alloc: Global, hog: &mut Hog, room: usize) -> Result<bool, Fail> {
     let fault = bad(alloc);
-    let hog = leaving(alloc, room)?;
+    leave(alloc, hog, room)?;
     let answer = fault.with_span(Span::new(1, 2), "a text that is longer than a short one");
-    drop(hog);
+    hog.release();
     is_added(answer)
 }
 
 // How often a span is refused before there is enough memory.
 fn refusals(alloc: Global) -> Result<usize, Fail> {
+    let mut hog = holding(alloc)?;
     for step in 0..MOST_STEPS {
-        if span_is_added(alloc, step * STEP)? {
+        if span_is_added(alloc, &mut hog, step * STEP)? {
             return Ok(step);
         }
     }

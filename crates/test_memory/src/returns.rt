@@ -1,11 +1,12 @@
 // Returns that are put in at the ends of bodies.
-use crate::same::{leaving_of, refused_more_than};
+use crate::same::{holding, leave_of, refused_more_than};
 use ir_arena::handle::Handle;
 use ir_arena::range::Range;
 use ir_arena::span::Span;
 use ir_items::{Block, Statement, ensure_block_returns};
 use std::alloc::{AllocError, Global};
 use std::test::Fail;
+use test_support::hog::Hog;
 
 const MOST_STEPS: usize = 2000;
 
@@ -40,17 +41,23 @@ fn sides(alloc: Global, returns: bool) -> Result<Block, AllocError> {
     Ok(body)
 }
 
-fn is_refused(alloc: Global, step: usize, body: &mut Block) -> Result<bool, Fail> {
-    let hog = leaving_of(alloc, SPARE, step.saturating_mul(STEP))?;
+fn is_refused(alloc: Global, hog: &mut Hog, step: usize, body: &mut Block) -> Result<bool, Fail> {
+    leave_of(alloc, hog, SPARE, step.saturating_mul(STEP))?;
     let answer = ensure_block_returns(alloc, body);
-    drop(hog);
+    hog.release();
     Ok(answer.is_err())
 }
 
 // Whether there is enough memory at a step. A refused call leaves the body as it was.
-fn is_enough(alloc: Global, step: usize, before: &Block, after: &Block) -> Result<bool, Fail> {
+fn is_enough(
+    alloc: Global,
+    hog: &mut Hog,
+    step: usize,
+    before: &Block,
+    after: &Block,
+) -> Result<bool, Fail> {
     let mut body = sides(alloc, false)?;
-    let refused = is_refused(alloc, step, &mut body)?;
+    let refused = is_refused(alloc, hog, step, &mut body)?;
     if refused && body == *before {
         Ok(false)
     } else if !refused && body == *after {
@@ -68,10 +75,16 @@ fn completed(alloc: Global, body: &Block) -> Result<Block, AllocError> {
 }
 
 // Whether there is enough memory at a step for a copy and its returns.
-fn completes(alloc: Global, step: usize, before: &Block, after: &Block) -> Result<bool, Fail> {
-    let hog = leaving_of(alloc, SPARE, step.saturating_mul(STEP))?;
+fn completes(
+    alloc: Global,
+    hog: &mut Hog,
+    step: usize,
+    before: &Block,
+    after: &Block,
+) -> Result<bool, Fail> {
+    leave_of(alloc, hog, SPARE, step.saturating_mul(STEP))?;
     let answer = completed(alloc, before);
-    drop(hog);
+    hog.release();
     let Ok(body) = answer else {
         return Ok(false);
     };
@@ -86,11 +99,12 @@ fn completes(alloc: Global, step: usize, before: &Block, after: &Block) -> Resul
 fn refusals(alloc: Global, in_place: bool) -> Result<usize, Fail> {
     let before = sides(alloc, false)?;
     let after = sides(alloc, true)?;
+    let mut hog = holding(alloc)?;
     for step in 0..MOST_STEPS {
         let enough = if in_place {
-            is_enough(alloc, step, &before, &after)?
+            is_enough(alloc, &mut hog, step, &before, &after)?
         } else {
-            completes(alloc, step, &before, &after)?
+            completes(alloc, &mut hog, step, &before, &after)?
         };
         if enough {
             return Ok(step);

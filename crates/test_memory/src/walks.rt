@@ -1,5 +1,5 @@
 // Each allocation of `flatten_compose`, refused.
-use crate::same::{leaving, refused_more_than};
+use crate::same::{holding, leave, refused_more_than};
 use ir_arena::arena::Arena;
 use ir_arena::handle::Handle;
 use ir_arena::span::Span;
@@ -10,6 +10,7 @@ use ir_walks::FlattenCompose;
 use std::alloc::{AllocError, Global};
 use std::test::Fail;
 use test_support::checks::flat;
+use test_support::hog::Hog;
 
 type Types = UniqueArena<IrType, key::IrType>;
 
@@ -49,14 +50,15 @@ fn are_due(mut leaves: FlattenCompose) -> bool {
 // Whether so much memory is enough for the composition and the splat, as a vector of four.
 fn is_enough(
     alloc: Global,
+    hog: &mut Hog,
     room: usize,
     expressions: &Expressions,
     types: &Types,
 ) -> Result<bool, Fail> {
     let parts = [Handle::at(2), Handle::at(3)];
-    let hog = leaving(alloc, room)?;
+    leave(alloc, hog, room)?;
     let answer = flat(alloc, Handle::at(1), &parts, expressions, types);
-    drop(hog);
+    hog.release();
     let Ok(leaves) = answer else {
         return Ok(false);
     };
@@ -68,8 +70,9 @@ fn is_enough(
 }
 
 fn refusals(alloc: Global, expressions: &Expressions, types: &Types) -> Result<usize, Fail> {
+    let mut hog = holding(alloc)?;
     for step in 0..300usize {
-        if is_enough(alloc, step * 8, expressions, types)? {
+        if is_enough(alloc, &mut hog, step * 8, expressions, types)? {
             return Ok(step);
         }
     }
