@@ -20,6 +20,7 @@ import tempfile
 from run import ALONE, MEASURES, RUNS, SIZES, TOP, run
 
 CASES = TOP / "crates/cases_typing/out/cases_typing"
+DATA = TOP / "crates/cases_typing/data"
 MOST_SHARE = 0.25
 TYPES = ('[1,[],[],[[],[]],false,[[null,["Scalar","u32"]],[null,["Vector",3,"f32"]]', '],[null,null,null,[]],[[],null],'
          '[],[],[],[],[],[]]')
@@ -86,11 +87,11 @@ def written(size, front, back, item):
 
 
 def ask(room, asked, document):
-    """Writes the question into the room, beside a file without questions."""
+    """Writes the question into the room, beside files without questions."""
+    for file in DATA.glob("*.jsonl"):
+        open(f"{room}/{file.name}", "w").close()
     with open(f"{room}/layouts.jsonl", "w") as it:
         it.write(json.dumps(["bench", asked, document, asked]) + "\n")
-    for empty in ("constness", "types"):
-        open(f"{room}/{empty}.jsonl", "w").close()
 
 
 def taken(room, asked, document):
@@ -102,7 +103,7 @@ def taken(room, asked, document):
         told.seek(0)
         answer = told.read()
     if status != 0 or "1 cases, 0 differ" not in answer:
-        sys.exit(f"layouts: {asked}: {answer[-300:]}")
+        sys.exit(f"{asked}: {answer[-300:]}")
     return used.ru_utime + used.ru_stime
 
 
@@ -113,22 +114,22 @@ def counted(command, room, given):
                                stdin=it, capture_output=True, text=True)
     found = re.search(r"Collected : (\d+)", ended.stderr)
     if ended.returncode != 0 or not found:
-        sys.exit(f"layouts: {command[0].name}: {ended.stderr[-300:]}")
+        sys.exit(f"{command[0].name}: {ended.stderr[-300:]}")
     return int(found.group(1))
 
 
-def times(room, asked, document, path):
-    """Milliseconds of what is asked and of the reader."""
-    runs = [(taken(room, asked, document), taken(room, "read", document), run(ALONE, path, b"read\n")[0])
+def times(room, asked, document, path, less="read"):
+    """Milliseconds of what is asked, less those of something else, and of the reader."""
+    runs = [(taken(room, asked, document), taken(room, less, document), run(ALONE, path, b"read\n")[0])
             for _ in range(RUNS)]
     asked_for, read = (min(it[who] for it in runs) for who in (0, 1))
     return max(asked_for - read, 0) * 1000, statistics.median(it[2] for it in runs) * 1000
 
 
-def instructions(room, asked, document, path):
-    """Millions of instructions of what is asked and of the reader."""
+def instructions(room, asked, document, path, less="read"):
+    """Millions of instructions of what is asked, less those of something else, and of the reader."""
     both = []
-    for question in (asked, "read"):
+    for question in (asked, less):
         ask(room, question, document)
         both.append(counted((CASES,), room, path))
     return (both[0] - both[1]) / 1e6, counted(ALONE, room, path) / 1e6

@@ -17,6 +17,7 @@ TOP = pathlib.Path(__file__).resolve().parent.parent
 CHECKER = TOP / "crates/checker/out/checker"
 MOST_SHARE = 0.25
 FLAGS = ["EXPRESSIONS", "BLOCKS", "CONTROL_FLOW_UNIFORMITY", "STRUCT_LAYOUTS", "CONSTANTS", "BINDINGS"]
+ONE = ["Literal", "f32", 1065353216]
 BASE = [[None, ["Scalar", "u32"]], [None, ["Scalar", "f32"]], [None, ["Vector", 4, "f32"]]]
 
 
@@ -53,11 +54,36 @@ def many_overrides(count):
 
 def compositions(count):
     """Vectors of four components."""
-    return document(expressions=[["Literal", "f32", 1065353216], *(["Compose", 2, [0, 0, 0, 0]] for _ in range(count))])
+    return document(expressions=[ONE, *(["Compose", 2, [0, 0, 0, 0]] for _ in range(count))])
+
+
+def arrays(count):
+    """Arrays of four elements."""
+    return document([[None, ["Array", 1, ["Constant", 4], 4]]],
+                    expressions=[ONE, *(["Compose", 3, [0, 0, 0, 0]] for _ in range(count))])
+
+
+def matrices(count):
+    """Matrices of four columns."""
+    return document([[None, ["Matrix", 4, 4, "f32"]]],
+                    expressions=[ONE, ["Compose", 2, [0, 0, 0, 0]], *(["Compose", 3, [1, 1, 1, 1]] for _ in range(count))])
+
+
+def structs(count):
+    """Structs of four members."""
+    members = [[name, 1, None, 4 * at] for at, name in enumerate("abcd")]
+    return document([["s", ["Struct", members, 16]]],
+                    expressions=[ONE, *(["Compose", 3, [0, 0, 0, 0]] for _ in range(count))])
+
+
+def one_array(count):
+    """One array of so many elements."""
+    return document([[None, ["Array", 1, ["Constant", count], 4]]], expressions=[ONE, ["Compose", 3, [0] * count]])
 
 
 KINDS = {"many types": many_types, "types of types": deep_types, "constants": many_constants,
-         "overrides with numbers": many_overrides, "compositions": compositions}
+         "overrides with numbers": many_overrides, "vectors that are composed": compositions, "arrays": arrays,
+         "matrices": matrices, "structs": structs, "one array": one_array}
 
 
 def of_call(said, name):

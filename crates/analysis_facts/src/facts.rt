@@ -75,7 +75,7 @@ fn all_sources(
 ) -> Result<Vec<Option<Handle<key::Expression>>>, AllocError>
     ensures { IfOk result (λ v. v.items ≡ sources_of (module_view «module».now) (function_view function.now) [] (handles_from 0 function.now.expressions)) }
 {
-    let mut sources = Vec::new(alloc);
+    let mut sources = Vec::with_capacity(alloc, function.expressions.len())?;
     for (handle, expression) in function.expressions.iter() {
         let source = source_of(module, function, &sources, handle, expression);
         sources.push(source)?;
@@ -89,7 +89,7 @@ fn all_starts(
 ) -> Result<Vec<Option<Handle<key::GlobalVariable>>>, AllocError>
     ensures { IfOk result (λ v. v.items ≡ starts_of [] (handles_from 0 function.now.expressions)) }
 {
-    let mut globals = Vec::new(alloc);
+    let mut globals = Vec::with_capacity(alloc, function.expressions.len())?;
     for (_, expression) in function.expressions.iter() {
         let global = start_of(&globals, expression);
         globals.push(global)?;

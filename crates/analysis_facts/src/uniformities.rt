@@ -33,7 +33,7 @@ pub(crate) fn uniformities_of(
 ) -> Result<Vec<Uniformity>, AllocError>
     ensures { IfOk result (λ all. map told all.items ≡ all_told sources.now (handles_from 0 function.now.expressions)) }
 {
-    let mut all = Vec::new(alloc);
+    let mut all = Vec::with_capacity(alloc, function.expressions.len())?;
     for (handle, expression) in function.expressions.iter() {
         let non_uniform_result = source_at(sources, handle);
         let requirements = requirements_of(expression);

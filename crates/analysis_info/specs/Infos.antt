@@ -13,7 +13,7 @@ use Rattle.analysis_info.specs.declared.function_info.FunctionInfo.{FunctionInfo
 
 -- what it tells to the callers of the function
 abbrev pub summary_of : FunctionInfo → Summary
-summary_of info = record { uses = info.uses.items; pairs = info.sampling.keys; may_kill = info.may_kill }
+summary_of info = record { uses = info.uses.items; pairs = info.sampling.items; may_kill = info.may_kill }
 
 -- the two global variables of a pair, where it is one of global variables
 abbrev pub key_of_parts : GlobalOrArgument → GlobalOrArgument → List SamplingKey

@@ -9,7 +9,6 @@ ghost use Rattle.spec_analysis.specs.Summaries.{HasUseBit};
 use crate::uses::{dominates, mark_all};
 use analysis_forms::{ExpressionInfo, GlobalUse, SamplingKey, SamplingPair};
 use bitflags::Flags;
-use indexmap::IndexSet;
 use ir_arena::handle::Handle;
 use ir_flags::ShaderStages;
 use ir_types::key;
@@ -30,7 +29,7 @@ pub struct FunctionInfo {
     pub dual_source_blending: bool,
     uses: Vec<GlobalUse>,
     expressions: Vec<ExpressionInfo>,
-    sampling: IndexSet<SamplingPair>,
+    sampling: Vec<SamplingPair>,
 }
 
 /// The parts of a [`FunctionInfo`] that an analysis finds.
@@ -43,7 +42,7 @@ pub struct FunctionParts {
     /// What is known of each expression.
     pub expressions: Vec<ExpressionInfo>,
     /// The pairs.
-    pub sampling: IndexSet<SamplingPair>,
+    pub sampling: Vec<SamplingPair>,
     /// Those of two global variables.
     pub sampling_set: Vec<SamplingKey>,
 }
@@ -102,7 +101,7 @@ impl FunctionInfo {
     pub fn pairs(&self) -> &[SamplingPair]
         ensures { result.now ≡ (summary_of self.now).pairs }
     {
-        self.sampling.as_slice()
+        &self.sampling
     }
 
     /// Notes what more is known of the function: the stages in which what it does may stand, further uses of global variables,

@@ -1,7 +1,9 @@
 pub mod Counting
 pub mod Effects
 pub mod Handles
+pub mod Listing
 pub mod Lookups
+pub mod Merging
 pub mod PairLemmas
 pub mod SumLemmas
 pub mod TallyLaws

@@ -16,6 +16,7 @@ use Rattle.spec_analysis.specs.Values.{known_at}
 use Rattle.spec_analysis.specs.Chains.{place, seen_through}
 use Rattle.spec_analysis.specs.Summaries.{Summary, no_use}
 use Rattle.analysis_info.specs.Infos.{marked, summary_of}
+use Rattle.analysis_tally.specs.Listed.{listed}
 use Rattle.analysis_tally.specs.declared.tally.Context.{Context}
 use Rattle.analysis_tally.specs.declared.tally.Tally.{Tally}
 use Rattle.analysis_tally.specs.declared.pairs.Sampled.{Sampled}
@@ -61,7 +62,7 @@ pub record Paired : Type 0 where
   pub wrong : Option ℕ
 
 abbrev pub paired : Sampled → Paired
-paired s = record { pairs = s.pairs.keys; wrong = s.wrong }
+paired s = record { pairs = listed s.pairs; wrong = s.wrong }
 
 abbrev pub with_pair : SamplingPair → Paired → Paired
 with_pair p t = record { pairs = insert_key pair_eq t.pairs p; wrong = t.wrong }

@@ -4,7 +4,7 @@ ghost use Rattle.std.specs.Prelude.{◌≡◌, Option, List, Some, map, IfOk, re
 ghost use Rattle.spec_analysis.specs.Operands.{reads, reads_if};
 ghost use Rattle.spec_analysis.specs.Summaries.{no_use};
 ghost use Rattle.spec_analysis.specs.Values.{known_at};
-ghost use Rattle.analysis_info.specs.Infos.{marked};
+ghost use Rattle.analysis_info.specs.Infos.{marked, joined_use};
 ghost use Rattle.analysis_tally.specs.Tallies.{Counted, counted, bumped, take_one, take_all, merged, queried};
 
 use analysis_forms::GlobalUse;
@@ -110,16 +110,32 @@ impl Counts {
     pub(crate) fn merge(&mut self, others: &[GlobalUse])
         ensures { counted self.new ≡ record { counts = self.old.counts.items; uses = merged self.old.uses.items others.now } }
     {
-        merge(&mut self.uses, others);
+        merge(self.uses.as_mut_slice(), others);
     }
 }
 
-// Each use with that of the same global variable among the others.
-fn merge(uses: &mut Vec<GlobalUse>, others: &[GlobalUse])
-    ensures { uses.new.items ≡ merged uses.old.items others.now }
+fn both(kind: GlobalUse, more: GlobalUse) -> GlobalUse
+    ensures { result ≡ joined_use kind more.0 }
 {
-    for index in 0..others.len() {
-        mark_at(uses, index, others[index]);
+    kind.union(more)
+}
+
+fn mark_in(uses: &mut [GlobalUse], index: usize, kind: GlobalUse)
+    ensures { uses.new ≡ marked uses.old (Some index) kind.0 }
+{
+    if index < uses.len() {
+        uses[index] = both(uses[index], kind);
+    }
+}
+
+// Each use with that of the same global variable among the others. The loop is so that many are joined at once.
+#[tactic(auto, using(crate::proofs::Merging::rest))]
+fn merge(uses: &mut [GlobalUse], others: &[GlobalUse])
+    ensures { uses.new ≡ merged uses.old others.now }
+{
+    let count = uses.len().min(others.len());
+    for index in 0..count {
+        mark_in(uses, index, others[index]);
     }
 }
 

@@ -4,6 +4,7 @@
 
 mod counts;
 mod expressions;
+mod list;
 mod operands;
 mod operations;
 mod pairs;
@@ -12,5 +13,6 @@ mod tally;
 mod walk;
 
 pub use counts::Counts;
+pub use list::PairList;
 pub use pairs::Sampled;
 pub use tally::{Context, Tally};

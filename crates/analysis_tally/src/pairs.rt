@@ -3,24 +3,22 @@
 ghost use Rattle.std.specs.Prelude.{◌≡◌, Some, IfOk, OnOk, None, [], slice_get};
 ghost use Rattle.ir_expressions.specs.Plain.{expression_view};
 ghost use Rattle.ir_globals.specs.View.{values_of};
-ghost use Rattle.indexmap.specs.IndexSet.{insert_key};
 ghost use Rattle.spec_analysis.specs.Chains.{place, seen_through};
 ghost use Rattle.std.specs.Prelude.{map};
 ghost use Rattle.analysis_tally.specs.Tallies.{Paired, paired, with_pair, with_wrong, first_wrong, part_wrong, pair_one, passed_for, pass_up, pass_all_up};
 
+use crate::list::PairList;
 use crate::places::{Expressions, place};
 use analysis_forms::{GlobalOrArgument, SamplingPair};
-use indexmap::IndexSet;
 use ir_arena::handle::Handle;
 use ir_types::key;
 use std::alloc::{AllocError, Global};
-use std::hash::Hash;
 
 /// The pairs, each once.
 #[derive(Drop)]
 pub struct Sampled {
     /// The pairs in the order in which they were found.
-    pub pairs: IndexSet<SamplingPair>,
+    pub pairs: PairList,
     /// An expression of a wrong form for an image or a sampler, if there is one.
     pub wrong: Option<Handle<key::Expression>>,
 }
@@ -59,21 +57,13 @@ fn seen(
     }
 }
 
-// A value of a set, once. The error is out of memory.
-fn keep<T: Eq + Hash + Drop>(set: &mut IndexSet<T>, value: T) -> Result<(), AllocError>
-    ensures { OnOk result (set.new.keys ≡ insert_key T.eq set.old.keys value) }
-{
-    set.insert(value)?;
-    Ok(())
-}
-
 impl Sampled {
     // No pair.
     pub(crate) fn new(alloc: Global) -> Sampled
         ensures { paired result ≡ record { pairs = []; wrong = None } }
     {
         Sampled {
-            pairs: IndexSet::new(alloc),
+            pairs: PairList::new(alloc),
             wrong: None,
         }
     }
@@ -81,7 +71,7 @@ impl Sampled {
     fn insert(&mut self, pair: SamplingPair) -> Result<(), AllocError>
         ensures { OnOk result (paired self.new ≡ with_pair pair (paired self.old)) }
     {
-        keep(&mut self.pairs, pair)
+        self.pairs.insert(pair)
     }
 
     fn note_wrong(&mut self, wrong: Option<Handle<key::Expression>>)

@@ -5,13 +5,14 @@ use crate::constness::{kinds_told, tracked};
 use crate::handles::handles_told;
 use crate::infos::{Told, infos_told};
 use crate::layouts::{laid, layouts_told};
-use crate::summaries::summaries_told;
+use crate::summaries::{ordered, summaries_told, summarized};
 use crate::types::{typed, types_told};
 use document_reader::Document;
 use std::alloc::{AllocError, Global};
 
-/// The answer to a question about the module of a document. `laid`, `tracked`, `typed` and `read` are there to measure by:
-/// they lay out all types, find all kinds or all types of expressions, or do nothing, and are answered by themselves.
+/// The answer to a question about the module of a document. `laid`, `tracked`, `typed`, `ordered`, `summarized` and `read` are
+/// there to measure by: they lay out all types, find all kinds or all types of expressions, ask whether the handles of all
+/// functions are in order, find besides what is kept of each function, or do nothing, and are answered by themselves.
 pub fn answer(alloc: Global, asked: &str, document: &Document) -> Result<String, AllocError> {
     let module = &document.module;
     match asked {
@@ -41,6 +42,11 @@ pub fn answer(alloc: Global, asked: &str, document: &Document) -> Result<String,
         "laid" => String::from_str(alloc, laid(alloc, &module.types)?),
         "tracked" => String::from_str(alloc, tracked(alloc, module)?),
         "typed" => String::from_str(alloc, typed(alloc, module)?),
+        "ordered" => String::from_str(alloc, ordered(module)),
+        "summarized" => String::from_str(
+            alloc,
+            summarized(alloc, module, document.settings.flags)?,
+        ),
         "read" => String::from_str(alloc, "read"),
         _ => String::from_str(alloc, "no question"),
     }

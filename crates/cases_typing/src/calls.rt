@@ -1,7 +1,8 @@
-// Each call of alignments and of layouters, once.
+// Each call of alignments, of layouters and of slots of immediate data, once.
 use anyhow::{Result, ensure};
-use ir_kinds::{CooperativeSize, VectorSize};
-use ir_types::{IrType, key};
+use immediate_slots::ImmediateSlots;
+use ir_kinds::{CooperativeSize, Scalar, VectorSize};
+use ir_types::{IrType, TypeInner, key};
 use ir_unique_arena::unique_arena::UniqueArena;
 use std::io;
 use typing_layout::{Alignment, LayoutErrorInner, Layouter};
@@ -56,11 +57,43 @@ fn cleared(rt: &HostRuntime) -> Result<()> {
     Ok(())
 }
 
+// The calls of slots, of which 1 and 2 are 6.
+fn slots_of_bytes(rt: &HostRuntime) -> io::Result<()> {
+    let pair = ImmediateSlots::from_raw(6);
+    let range = ImmediateSlots::from_range(2, 8);
+    println!(rt; "bytes 4 to 12: {:?}", ImmediateSlots::from_range(4, 8))?;
+    println!(rt; "bytes 2 to 10: {range:?}")?;
+    println!(rt; "either: {:?}", pair | ImmediateSlots::from_raw(8))?;
+    println!(rt;
+        "contains: {} {}",
+        range.contains(pair),
+        pair.contains(range)
+    )?;
+    println!(rt; "without: {:?}", range.difference(pair))
+}
+
+// The slots of a vector of 12 bytes.
+fn slots_of_type(rt: &HostRuntime) -> Result<()> {
+    let types: UniqueArena<IrType, key::IrType> = UniqueArena::new(rt.alloc());
+    ensure!(types_go_back(&types), "no types go back");
+    let vector = TypeInner::Vector {
+        size: VectorSize::Tri,
+        scalar: Scalar::F32,
+    };
+    println!(rt;
+        "a vector from 6: {:?}",
+        ImmediateSlots::from_type(&vector, 6, &types)
+    )?;
+    Ok(())
+}
+
 /// Makes each call, and prints the answers.
 pub fn every_call(rt: &HostRuntime) -> Result<()> {
     made(rt)?;
     asked(rt)?;
     println!(rt; "{}", LayoutErrorInner::TooLarge)?;
     println!(rt; "{}", LayoutErrorInner::NonPowerOfTwoWidth)?;
-    cleared(rt)
+    cleared(rt)?;
+    slots_of_bytes(rt)?;
+    slots_of_type(rt)
 }

@@ -3,9 +3,10 @@
 // what the analysis keeps of functions. Tells which answers are others than those that stand there.
 //
 // A line of a data file is a list of texts: the case's name, what is asked, a document, and the answer, or two of which either
-// is right. `make_data.py`, `make_types.py`, `make_tests.py`, `make_infos.py`, `make_checks.py` and `make_summaries.py` write
-// these files. The answers come from two implementations that were written independently of this one. Beside that it makes
-// each call of layouts and of kinds once.
+// is right. `make_data.py`, `make_types.py`, `make_tests.py`, `make_infos.py`, `make_checks.py`, `make_summaries.py` and
+// `make_chains.py` write these files. The answers come from two implementations that were written independently of this one,
+// those of chains of calls from the model in `make_chains.py`. Beside that it makes each call
+// of layouts, of kinds and of slots of immediate data once.
 #![tactic(auto)]
 
 mod asked;
@@ -27,7 +28,7 @@ use serde_json::Value;
 use std::fs;
 
 /// The files of cases.
-const FILES: [&str; 8] = [
+const FILES: [&str; 9] = [
     "layouts.jsonl",
     "constness.jsonl",
     "types.jsonl",
@@ -36,6 +37,7 @@ const FILES: [&str; 8] = [
     "handles.jsonl",
     "checks.jsonl",
     "summaries.jsonl",
+    "chains.jsonl",
 ];
 
 // Asks what a line asks. Answers whether the answer is another one.

@@ -238,3 +238,47 @@ pub fn summaries_told(
     }
     Ok(told)
 }
+
+// What is kept of a function, or nothing where its handles are not in order or it is refused.
+fn kept_of(
+    alloc: Global,
+    module: &Module,
+    function: &Function,
+    callees: &[FunctionInfo],
+    flags: ValidationFlags,
+) -> Result<Option<FunctionInfo>, AllocError> {
+    if !is_in_order(function, module, callees.len()) {
+        return Ok(None);
+    }
+    match process_function(alloc, module, function, callees, flags) {
+        Ok(info) => Ok(Some(info)),
+        Err(Refusal::Memory(error)) => Err(error),
+        Err(Refusal::Fault(_)) => Ok(None),
+    }
+}
+
+/// Whether something is kept of each function, as a word.
+pub fn summarized(
+    alloc: Global,
+    module: &Module,
+    flags: ValidationFlags,
+) -> Result<&'static str, AllocError> {
+    let mut infos: Vec<FunctionInfo> = Vec::with_capacity(alloc, module.functions.len())?;
+    for (_, function) in module.functions.iter() {
+        match kept_of(alloc, module, function, infos.as_slice(), flags)? {
+            Some(info) => infos.push(info)?,
+            None => return Ok("not summarized"),
+        }
+    }
+    Ok("summarized")
+}
+
+/// Whether the handles of all functions are in order, as a word.
+pub fn ordered(module: &Module) -> &'static str {
+    for (handle, function) in module.functions.iter() {
+        if !is_in_order(function, module, handle.index()) {
+            return "not ordered";
+        }
+    }
+    "ordered"
+}

@@ -1,5 +1,5 @@
 -- Flags of types that may not be there.
-use Rattle.std.proofs.Common.{◌≡◌, ◌<◌, ◌≤◌, ◌↔◌, ◌==◌, ℕ, zero, suc, List, [], ◌∷◌, Some, None, Bool, true, false, IsTrue, length, get_or, slice_get, option_map, bit_and, true≢false, refl, sym, ap, subst, ◌∙◌, arith, rules, tests}
+use Rattle.std.proofs.Common.{◌≡◌, ◌<◌, ◌≤◌, ◌↔◌, ◌==◌, ℕ, zero, suc, List, [], ◌∷◌, Some, None, Bool, false, IsTrue, length, get_or, slice_get, option_map, bit_and, true≢false, refl, sym, ap, subst, ◌∙◌, arith, rules, tests}
 use Rattle.std.proofs.lemmas.Option.{slice_get-get_or}
 use Rattle.ir_types.specs.Plain.{PlainType}
 use Rattle.spec_flags.specs.Flags.{TypeFlag, bit, HasFlag, Data, Sized, Constructible}
@@ -7,7 +7,6 @@ use Rattle.type_checks.specs.Known.{AreInfos}
 use Rattle.type_infos.specs.declared.info.TypeInfo.{TypeInfo}
 use Rattle.spec_types.specs.Tree.{no_type}
 use Rattle.spec_types.specs.View.{type_tree, tree_along, tree_found}
-use Rattle.typing_forms.specs.Resolutions.{inner_at}
 
 past : {A : Type 0} (xs : List A) (h : ℕ) → length xs ≤ h → slice_get xs h ≡ None
 past [] h le = refl

@@ -1,5 +1,5 @@
 -- Which expressions are constant.
-use Rattle.std.proofs.Common.{◌≡◌, ◌<◌, ◌≤◌, ◌↔◌, ℕ, zero, suc, List, [], ◌∷◌, Option, Some, None, IsTrue, nat_lt, length, slice_get, refl, ◌∙◌, ap, arith, rules, tests}
+use Rattle.std.proofs.Common.{◌≡◌, ◌<◌, ◌≤◌, ◌↔◌, ℕ, zero, suc, List, [], ◌∷◌, Some, IsTrue, nat_lt, length, slice_get, refl, ◌∙◌, ap, arith, rules, tests}
 use Rattle.ir_expressions.specs.Plain.{PlainExpression}
 use Rattle.typing_layout.proofs.Latest.{one_kind}
 use Rattle.typing_layout.specs.Constness.{AreKinds, IsOfKind, by_itself, by_operands}

@@ -1,5 +1,5 @@
 -- How an answer about a test is one about a rule.
-use Rattle.std.proofs.Common.{◌≡◌, ◌↔◌, Bool, true, false, IsTrue, Result, Ok, Err, MatchResult}
+use Rattle.std.proofs.Common.{◌↔◌, Bool, IsTrue, Result, Ok, Err, MatchResult}
 use Rattle.check_operands.specs.Refused.{IsRefused}
 use Rattle.error_expressions.specs.declared.expressions.ExpressionError.{ExpressionError}
 

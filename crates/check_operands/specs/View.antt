@@ -7,7 +7,6 @@ use Rattle.spec_checks.specs.Scene.{Scene}
 use Rattle.type_checks.specs.Known.{AreInfos}
 use Rattle.typing_forms.specs.Resolutions.{types_view}
 use Rattle.typing_layout.specs.Constness.{AreKinds}
-use Rattle.typing_operands.specs.Answers.{form_given}
 use Rattle.check_operands.specs.declared.context.CheckContext.{CheckContext}
 
 abbrev pub types_in : CheckContext → List PlainType
@@ -21,7 +20,7 @@ scene_in c = record {
   capabilities = c.capabilities;
   types = types_in c;
   expressions = expressions_in c;
-  forms = map (form_given (types_in c)) c.resolutions.now;
+  forms = c.forms.now;
 }
 
 -- the infos are those of all types, and the kinds those of all expressions

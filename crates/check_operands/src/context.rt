@@ -22,7 +22,7 @@ use ir_kinds::Literal;
 use ir_types::{IrType, TypeInner, key};
 use ir_unique_arena::unique_arena::UniqueArena;
 use type_infos::{TypeFlags, TypeInfo};
-use typing_forms::{Form, TypeResolution, form_of, inner_of};
+use typing_forms::{Form, inner_of};
 use typing_layout::ExpressionKindTracker;
 
 /// What the checks of an expression may look at.
@@ -36,8 +36,8 @@ pub struct CheckContext<'a> {
     pub infos: &'a [TypeInfo],
     /// The expressions among which the one stands: those of a function, or those of the module.
     pub expressions: &'a Arena<Expression, key::Expression>,
-    /// The type of each of them.
-    pub resolutions: &'a [TypeResolution],
+    /// The form of the type of each of them.
+    pub forms: &'a [Form],
     /// When the value of each of them is known.
     pub kinds: &'a ExpressionKindTracker,
     /// The stages that may run the module's functions, as far as they are known.
@@ -91,8 +91,8 @@ impl<'a> CheckContext<'a> {
     pub fn form_at(&self, handle: Handle<key::Expression>) -> Form
         ensures { result ≡ form_at (scene_in self.now).forms handle }
     {
-        match self.resolutions.get(handle.index()) {
-            Some(resolution) => form_of(self.types, resolution),
+        match self.forms.get(handle.index()) {
+            Some(form) => *form,
             None => Form::Nothing,
         }
     }

@@ -1,7 +1,7 @@
 -- A literal with a fault may not be used.
 use Rattle.error_constants.specs.Laws.{LiteralRefuted}
 use Rattle.ir_kinds.specs.Values.{literal_scalar}
-use Rattle.type_checks.proofs.Scalars.{width_refuted}
+use Rattle.scalar_checks.proofs.Scalars.{width_refuted}
 use Rattle.type_infos.specs.declared.error.LiteralError.TheVariants as literal_error
 
 pub literal_refuted : LiteralRefuted

@@ -12,7 +12,7 @@ use Rattle.overload_tables.specs.Laws.{IsAmong}
 use Rattle.spec_constants.specs.GlobalExpressions.{of_literal, of_composition, to_work_out, asked_of, MayWait}
 use Rattle.spec_expressions.specs.Context.{Context, outside}
 use Rattle.spec_expressions.specs.Typing.{HasTypeAmong}
-use Rattle.type_checks.specs.Widths.{IsLiteralFault}
+use Rattle.scalar_checks.specs.Widths.{IsLiteralFault}
 use Rattle.type_infos.specs.declared.error.LiteralError.{LiteralError}
 use Rattle.typing_forms.specs.declared.form.Form.{Form}
 use Rattle.typing_layout.specs.Constness.{IsOfKind}

@@ -19,7 +19,7 @@ use Rattle.spec_constants.specs.GlobalExpressions.{GlobalExpressionOK}
 use Rattle.spec_constants.specs.Literals.{LiteralOK}
 use Rattle.spec_constants.specs.Overrides.{OverrideOK}
 use Rattle.spec_expressions.specs.Context.{Context}
-use Rattle.type_checks.specs.Widths.{IsLiteralFault}
+use Rattle.scalar_checks.specs.Widths.{IsLiteralFault}
 use Rattle.type_infos.specs.declared.error.LiteralError.{LiteralError}
 use Rattle.typing_forms.specs.declared.form.Form.{Form}
 

@@ -1,3 +1,3 @@
 pub mod Letters
 pub mod Members
-pub mod SameForms
+pub mod OldValues

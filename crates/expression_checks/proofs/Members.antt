@@ -1,19 +1,27 @@
 -- Structs of two members.
-use Rattle.std.proofs.Common.{◌≡◌, ◌≢◌, ◌↔◌, List, [], ◌∷◌, Bool, false, true≢false, IsTrue, map, length, get_or, refl, sym, arith}
-use Rattle.ir_flags.specs.declared.settings.Capabilities.{Capabilities}
+use Rattle.std.proofs.Common.{◌≡◌, ◌≢◌, ◌↔◌, List, [], ◌∷◌, Option, Some, None, map, length, get_or, refl, subst, arith}
 use Rattle.ir_types.specs.Plain.{PlainType, member_view}
 use Rattle.ir_types.specs.declared.types.StructMember.{StructMember}
 use Rattle.spec_checks.specs.Results.{AreExchanged, AreExchangeMembers}
+use Rattle.typing_forms.specs.declared.form.Form.{Form}
 
-pub two : (k : Capabilities) (types : List PlainType) (ms : List StructMember) (d e : StructMember) (r : Bool) → length ms ≡ 2
-    → IsTrue r ↔ AreExchanged k types (member_view (get_or ms 0 d)) (member_view (get_or ms 1 e)) → IsTrue r ↔ AreExchangeMembers k types (map member_view ms)
-two k types [] d e r many is = absurd (omega (arith, many))
-two k types (a ∷ []) d e r many is = absurd (omega (arith, many))
-two k types (a ∷ b ∷ []) d e r many is = is
-two k types (a ∷ b ∷ c ∷ rest) d e r many is = absurd (omega (arith, many))
+-- one answer about the first two members
+abbrev Told : List PlainType → (old exchanged : StructMember) → Option Form → Form → Type 0
+Told types old exchanged r of = (r ≡ Some of) ↔ AreExchanged (λ found. found ≡ of) types (member_view old) (member_view exchanged)
 
-pub other : (k : Capabilities) (types : List PlainType) (ms : List StructMember) → length ms ≢ 2 → IsTrue false ↔ AreExchangeMembers k types (map member_view ms)
-other k types [] many = (λ t. absurd (true≢false (sym t)), λ h. absurd h)
-other k types (a ∷ []) many = (λ t. absurd (true≢false (sym t)), λ h. absurd h)
-other k types (a ∷ b ∷ []) many = absurd (many refl)
-other k types (a ∷ b ∷ c ∷ rest) many = (λ t. absurd (true≢false (sym t)), λ h. absurd h)
+pub two : (types : List PlainType) (ms : List StructMember) (old exchanged : StructMember) (r : Option Form) (of : Form) → length ms ≡ 2
+    → old ≡ get_or ms 0 old → exchanged ≡ get_or ms 1 exchanged
+    → (r ≡ Some of) ↔ AreExchanged (λ found. found ≡ of) types (member_view old) (member_view exchanged)
+    → (r ≡ Some of) ↔ AreExchangeMembers (λ found. found ≡ of) types (map member_view ms)
+two types [] old exchanged r of many first second is = absurd (omega (arith, many))
+two types (a ∷ []) old exchanged r of many first second is = absurd (omega (arith, many))
+two types (a ∷ b ∷ []) old exchanged r of many first second is =
+    subst (λ x. Told types x b r of) first (subst (λ x. Told types old x r of) second is)
+two types (a ∷ b ∷ c ∷ rest) old exchanged r of many first second is = absurd (omega (arith, many))
+
+pub other : (types : List PlainType) (ms : List StructMember) → length ms ≢ 2
+    → (of : Form) → (None ≡ Some of) ↔ AreExchangeMembers (λ found. found ≡ of) types (map member_view ms)
+other types [] many of = (λ t. cc, λ h. absurd h)
+other types (a ∷ []) many of = (λ t. cc, λ h. absurd h)
+other types (a ∷ b ∷ []) many of = absurd (many refl)
+other types (a ∷ b ∷ c ∷ rest) many of = (λ t. cc, λ h. absurd h)

@@ -6,7 +6,7 @@ use Rattle.error_expressions.specs.declared.expressions.ExpressionError.TheVaria
 use Rattle.ir_flags.specs.declared.settings.Capabilities.{Capabilities}
 use Rattle.ir_kinds.specs.declared.values.Literal.{Literal}
 use Rattle.ir_types.specs.Plain.{PlainType}
-use Rattle.type_checks.specs.Widths.{IsLiteralFault}
+use Rattle.scalar_checks.specs.Widths.{IsLiteralFault}
 use Rattle.typing_forms.specs.declared.form.Form.{Form}
 
 -- the literal may not be used

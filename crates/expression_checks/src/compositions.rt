@@ -14,7 +14,7 @@ use error_expressions::ExpressionError;
 use ir_arena::handle::Handle;
 use ir_kinds::{SwizzleComponent, VectorSize};
 use ir_types::key;
-use module_expressions::{ComponentList, Components, check_composition};
+use module_expressions::{Components, check_composition};
 use spec_checks::Shape;
 use typing_forms::Form;
 
@@ -33,12 +33,9 @@ pub fn check_compose(
         (λ _. ComposeOK (types_in context.now) ty (map (form_at (scene_in context.now).forms) components.now))
         (IsBadComposition (types_in context.now) ty (map (form_at (scene_in context.now).forms) components.now)) }
 {
-    let parts = Components {
-        types: context.types,
-        list: ComponentList::Expressions {
-            resolutions: context.resolutions,
-            handles: components,
-        },
+    let parts = Components::Expressions {
+        forms: context.forms,
+        handles: components,
     };
     match check_composition(context.types, ty, &parts) {
         Ok(()) => Ok(()),

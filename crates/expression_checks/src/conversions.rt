@@ -13,7 +13,7 @@ use ir_arena::handle::Handle;
 use ir_flags::Capabilities;
 use ir_kinds::{Bytes, Scalar, ScalarKind};
 use ir_types::key;
-use type_checks::check_width;
+use scalar_checks::check_width;
 use typing_forms::Form;
 
 // Whether there is a scalar.

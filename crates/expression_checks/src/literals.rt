@@ -13,7 +13,7 @@ use ir_arena::handle::Handle;
 use ir_flags::Capabilities;
 use ir_kinds::Literal;
 use ir_types::key;
-use type_checks::validate_literal;
+use scalar_checks::validate_literal;
 
 /// Whether a literal may be used.
 ///

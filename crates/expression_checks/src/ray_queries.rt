@@ -14,8 +14,8 @@ use ir_arena::handle::Handle;
 use ir_types::{TypeInner, key};
 use typing_forms::Form;
 
-// Whether the ray query that a type is gives the vertices of a hit.
-const fn query_of(inner: &TypeInner) -> Option<bool>
+/// Whether the ray query that a type is gives the vertices of a hit.
+pub const fn query_of(inner: &TypeInner) -> Option<bool>
     ensures { result ≡ query_of (Some (inner_view inner.now)) }
 {
     match *inner {

@@ -1,22 +1,22 @@
 //! What statements may answer.
 
-ghost use Rattle.std.specs.Prelude.{◌≡◌, ◌↔◌, IsTrue, MatchResult, Some, map};
+ghost use Rattle.std.specs.Prelude.{◌↔◌, IsTrue, MatchResult};
 ghost use Rattle.check_operands.specs.Refused.{IsRefused};
 ghost use Rattle.check_operands.specs.View.{types_in, IsKnown};
-ghost use Rattle.ir_types.specs.Plain.{inner_view, member_view};
-ghost use Rattle.spec_checks.specs.Results.{IsAtomicValue, AreExchanged, AreExchangeMembers, IsExchange, AtomicResultOK, UniformLoadOK};
+ghost use Rattle.spec_checks.specs.Results.{IsAtomicValue, IsExchange, AtomicResultOK, UniformLoadOK};
 ghost use Rattle.spec_flags.specs.Widths.{AtomicOK};
 ghost use Rattle.typing_forms.specs.Resolutions.{inner_at};
 
-use crate::shapes::{is_alone, is_one_truth};
+use crate::exchanges::exchanged_value;
+use crate::shapes::is_alone;
 use check_operands::{CheckContext, refused_unless, shaped_of};
 use error_expressions::ExpressionError;
 use ir_arena::handle::Handle;
 use ir_flags::Capabilities;
 use ir_kinds::Scalar;
-use ir_types::{StructMember, TypeInner, key};
-use type_checks::check_atomic;
-use typing_forms::{Form, form_of_type, inner_of};
+use ir_types::key;
+use scalar_checks::check_atomic;
+use typing_forms::{Form, form_of_type};
 
 // ---- atomic operations
 
@@ -37,67 +37,13 @@ fn is_atomic_value(capabilities: Capabilities, of: Form) -> bool
     }
 }
 
-// Whether a member has a name.
-fn is_named(member: &StructMember, name: &str) -> bool
-    ensures { IsTrue result ↔ ((member_view member.now).name ≡ Some name.now) }
-{
-    match member.name {
-        Some(ref own) => own.as_str() == name,
-        None => false,
-    }
-}
-
-// Whether two members are the value that was there, and whether it was exchanged.
-fn are_exchanged(context: &CheckContext<'_>, old: &StructMember, exchanged: &StructMember) -> bool
-    ensures { IsTrue result
-        ↔ AreExchanged context.now.capabilities (types_in context.now) (member_view old.now) (member_view exchanged.now) }
-{
-    is_named(old, "old_value")
-        && is_atomic_value(context.capabilities, form_of_type(context.types, old.ty))
-        && is_named(exchanged, "exchanged")
-        && is_one_truth(form_of_type(context.types, exchanged.ty))
-}
-
-// Whether members are exactly these two.
-#[tactic(auto, using(crate::proofs::Members::two, crate::proofs::Members::other))]
-fn are_exchange_members(context: &CheckContext<'_>, members: &[StructMember]) -> bool
-    ensures { IsTrue result
-        ↔ AreExchangeMembers context.now.capabilities (types_in context.now) (map member_view members.now) }
-{
-    if members.len() != 2 {
-        return false;
-    }
-    are_exchanged(context, &members[0], &members[1])
-}
-
-// Whether a type is a struct of exactly these two.
-fn is_exchange(context: &CheckContext<'_>, inner: &TypeInner) -> bool
-    ensures { IsTrue result ↔ IsExchange context.now.capabilities (types_in context.now) (Some (inner_view inner.now)) }
-{
-    match *inner {
-        TypeInner::Struct { ref members, .. } => are_exchange_members(context, members.as_slice()),
-        TypeInner::Scalar(_)
-        | TypeInner::Vector { .. }
-        | TypeInner::Matrix { .. }
-        | TypeInner::CooperativeMatrix { .. }
-        | TypeInner::Atomic(_)
-        | TypeInner::Pointer { .. }
-        | TypeInner::ValuePointer { .. }
-        | TypeInner::Array { .. }
-        | TypeInner::Image { .. }
-        | TypeInner::Sampler { .. }
-        | TypeInner::AccelerationStructure { .. }
-        | TypeInner::RayQuery { .. }
-        | TypeInner::BindingArray { .. } => false,
-    }
-}
-
-// Whether the type at a handle is such a struct.
-fn is_exchange_at(context: &CheckContext<'_>, ty: Handle<key::IrType>) -> bool
+// Whether a type is that of what an exchange answers, with a scalar that atomics have.
+#[tactic(auto, using(crate::proofs::OldValues::by_test, crate::proofs::OldValues::by_none))]
+fn is_atomic_exchange(context: &CheckContext<'_>, ty: Handle<key::IrType>) -> bool
     ensures { IsTrue result ↔ IsExchange context.now.capabilities (types_in context.now) (inner_at (types_in context.now) ty) }
 {
-    match inner_of(context.types, ty) {
-        Some(inner) => is_exchange(context, inner),
+    match exchanged_value(context.types, ty) {
+        Some(old) => is_atomic_value(context.capabilities, old),
         None => false,
     }
 }
@@ -107,7 +53,7 @@ fn is_atomic_result(context: &CheckContext<'_>, ty: Handle<key::IrType>, compari
     ensures { IsTrue result ↔ AtomicResultOK context.now.capabilities (types_in context.now) ty comparison }
 {
     if comparison {
-        is_exchange_at(context, ty)
+        is_atomic_exchange(context, ty)
     } else {
         is_atomic_value(context.capabilities, form_of_type(context.types, ty))
     }

@@ -8,7 +8,7 @@ use spec_checks::Shape;
 use typing_forms::Form;
 
 /// Whether a shape is that of one scalar.
-pub(crate) const fn is_alone(shape: Shape) -> bool
+pub const fn is_alone(shape: Shape) -> bool
     ensures { IsTrue result ↔ IsAlone shape }
 {
     match shape {
@@ -18,7 +18,7 @@ pub(crate) const fn is_alone(shape: Shape) -> bool
 }
 
 /// Whether a shape is that of a value: one scalar, or a vector.
-pub(crate) const fn is_of_value(shape: Shape) -> bool
+pub const fn is_of_value(shape: Shape) -> bool
     ensures { IsTrue result ↔ IsOfValue shape }
 {
     match shape {

@@ -32,8 +32,8 @@ const fn is_flat(dim: ImageDimension) -> bool
     }
 }
 
-// Whether a type is that of the number of a texel each way.
-fn is_texel(dim: ImageDimension, coordinate: &Form) -> bool
+/// Whether a type is that of the number of a texel each way.
+pub fn is_texel(dim: ImageDimension, coordinate: &Form) -> bool
     ensures { IsTrue result ↔ IsTexel dim coordinate.now }
 {
     match shaped_of(*coordinate) {

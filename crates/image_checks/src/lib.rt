@@ -7,5 +7,5 @@ mod image_samples;
 mod levels;
 mod operands;
 
-pub use image_loads::{check_image_load, check_image_query};
+pub use image_loads::{check_image_load, check_image_query, is_texel};
 pub use image_samples::check_image_sample;

@@ -2,6 +2,8 @@
 #![tactic(auto)]
 
 pub mod laws;
+mod leaves;
+mod sizes;
 mod slots;
 
 pub use slots::ImmediateSlots;

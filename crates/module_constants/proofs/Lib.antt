@@ -1,3 +1,4 @@
+pub mod Bits
 pub mod FlagLemmas
 pub mod IdLemmas
 pub mod ScalarLemmas

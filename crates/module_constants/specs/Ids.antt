@@ -1,16 +1,25 @@
 -- The ids of the overrides before one.
-use Rattle.std.specs.Prelude.{◌≡◌, ◌↔◌, ℕ, List, Option, Some, None, Bool, true, cond, not, IsTrue}
-use Rattle.std.specs.BTreeSet.{BTreeSet, contains}
-use Rattle.std.specs.Ordering.{nat_cmp, eq_by_cmp}
+use Rattle.std.specs.Prelude.{◌≡◌, ◌↔◌, ◌⊎◌, ◌/◌, ◌%◌, ℕ, List, Option, Some, None, Bool, false, true, slice_index_or}
+use Rattle.std.specs.Int.{bit_at}
 use Rattle.ir_globals.specs.Plain.{PlainOverride}
+use Rattle.module_constants.specs.declared.ids.OverrideIds.{OverrideIds}
 use Rattle.spec_constants.specs.Overrides.{IsTaken}
 
--- they are exactly those of the overrides before a place
-pub record AreIds (overrides : List PlainOverride) (place : ℕ) (ids : BTreeSet ℕ) : Type 0 where
-  pub each : (id : ℕ) → IsTrue (contains nat_cmp ids id) ↔ IsTaken overrides place id
+-- an id is one of them: its bit is 1 in the word that has it
+abbrev pub IsSeen : OverrideIds → (id : ℕ) → Type 0
+IsSeen ids id = bit_at (slice_index_or ids.words.items (id / 64) 0) (id % 64) ≡ 1
 
--- an id is added, if there is one; `own` tells that it was not there
-abbrev pub IsNoted : (before after : BTreeSet ℕ) → Option ℕ → (own : Bool) → Type 0
-IsNoted before after None own = (own ≡ true) × ((q : ℕ) → contains nat_cmp after q ≡ contains nat_cmp before q)
-IsNoted before after (Some id) own =
-    (own ≡ not (contains nat_cmp before id)) × ((q : ℕ) → contains nat_cmp after q ≡ cond (eq_by_cmp nat_cmp id q) true (contains nat_cmp before q))
+-- they are exactly those of the overrides before a place
+pub record AreIds (overrides : List PlainOverride) (place : ℕ) (ids : OverrideIds) : Type 0 where
+  pub each : (id : ℕ) → IsSeen ids id ↔ IsTaken overrides place id
+
+-- an id is added; `own` tells that it was not there
+pub record IsNoted (before after : OverrideIds) (id : ℕ) (own : Bool) : Type 0 where
+  pub fresh : own ≡ true → ¬ IsSeen before id
+  pub repeated : own ≡ false → IsSeen before id
+  pub all : (q : ℕ) → IsSeen after q ↔ (IsSeen before q ⊎ (q ≡ id))
+
+-- the same of an override that may have one
+abbrev pub IsNotedIf : (before after : OverrideIds) → Option ℕ → (own : Bool) → Type 0
+IsNotedIf before after None own = (own ≡ true) × ((q : ℕ) → IsSeen after q ↔ IsSeen before q)
+IsNotedIf before after (Some id) own = IsNoted before after id own

@@ -10,17 +10,15 @@ use Rattle.spec_expressions.specs.Typing.{HasGlobalType}
 use Rattle.type_checks.specs.Known.{AreInfos}
 use Rattle.typing_forms.specs.Forms.{form_of_type}
 use Rattle.typing_forms.specs.declared.form.Form.{Form}
-use Rattle.typing_forms.specs.declared.resolution.TypeResolution.{TypeResolution}
 use Rattle.typing_layout.specs.Constness.{AreKinds}
-use Rattle.typing_operands.specs.Answers.{form_given}
 
 abbrev pub module_in : GlobalContext → PlainModule
 module_in c = module_view c.«module».now
 
--- each is the type of the global expression at its index
-pub record AreTyped (m : PlainModule) (resolutions : List TypeResolution) : Type 0 where
-  pub many : length resolutions ≡ length m.global_expressions
-  pub each : (handle : ℕ) (r : TypeResolution) → slice_get resolutions handle ≡ Some r → HasGlobalType m handle (form_given m.types r)
+-- each is the form of the type of the global expression at its index
+pub record AreTyped (m : PlainModule) (forms : List Form) : Type 0 where
+  pub many : length forms ≡ length m.global_expressions
+  pub each : (handle : ℕ) (t : Form) → slice_get forms handle ≡ Some t → HasGlobalType m handle t
 
 -- the types and the global expressions that constants, overrides and compositions name are there
 pub record AreThere (m : PlainModule) : Type 0 where
@@ -34,7 +32,7 @@ pub record AreThere (m : PlainModule) : Type 0 where
 pub record IsKnown (c : GlobalContext) : Type 0 where
   pub there : AreThere (module_in c)
   pub kinds : AreKinds (module_in c).global_expressions c.kinds.now
-  pub typed : AreTyped (module_in c) c.resolutions.now
+  pub typed : AreTyped (module_in c) c.forms.now
   pub many : length c.infos.now ≡ length (module_in c).types
   pub told : AreInfos (module_in c).types c.infos.now
 

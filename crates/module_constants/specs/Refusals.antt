@@ -1,5 +1,5 @@
 -- Why constants, global expressions and overrides are refused.
-use Rattle.std.specs.Prelude.{◌≡◌, ◌≢◌, ◌⊎◌, ℕ, [], Option, Some, None, Bool, true, IsSome, length}
+use Rattle.std.specs.Prelude.{◌≡◌, ◌≢◌, ◌⊎◌, ℕ, [], Option, Some, None, Bool, true, IsSome}
 use Rattle.error_constants.specs.Constants.{IsConstantFault}
 use Rattle.error_constants.specs.Expressions.{IsConstExpressionFault}
 use Rattle.error_constants.specs.Overrides.{IsOverrideFault}
@@ -13,8 +13,6 @@ use Rattle.ir_faults.specs.declared.refusal.Refusal.TheVariants as refusal
 use Rattle.ir_flags.specs.declared.settings.Capabilities.{Capabilities}
 use Rattle.ir_globals.specs.Plain.{PlainConstant, PlainOverride}
 use Rattle.ir_items.specs.Plain.{PlainModule}
-use Rattle.module_constants.specs.Firsts.{IsFirstRefused}
-use Rattle.module_constants.specs.declared.overrides.InvalidOverride.{InvalidOverride}
 use Rattle.spec_constants.specs.Constants.{ConstantOK}
 use Rattle.spec_constants.specs.GlobalExpressions.{GlobalExpressionOK}
 use Rattle.spec_constants.specs.Overrides.{IsOverrideType, DefaultOK, OverrideOK}
@@ -64,16 +62,3 @@ pub record IsOverrideRefused (resolved : Bool) (m : PlainModule) (handle : ℕ) 
 abbrev pub IsOverrideRefusal : (resolved : Bool) → PlainModule → (handle : ℕ) → Refusal OverrideError → Type 0
 IsOverrideRefusal resolved m handle (refusal.Memory e) = Unit {0}
 IsOverrideRefusal resolved m handle (refusal.Fault f) = IsOverrideRefused resolved m handle (error_of f) × (spans_of f ≡ [])
-
--- a refusal tells the same as that of the override at a handle
-abbrev pub IsToldAt : (handle : ℕ) → Refusal OverrideError → Refusal InvalidOverride → Type 0
-IsToldAt handle (refusal.Memory e) (refusal.Memory d) = Unit {0}
-IsToldAt handle (refusal.Memory e) (refusal.Fault g) = ⊥
-IsToldAt handle (refusal.Fault f) (refusal.Memory d) = ⊥
-IsToldAt handle (refusal.Fault f) (refusal.Fault g) = ((error_of g).id ≡ handle) × ((error_of g).error ≡ error_of f) × (spans_of g ≡ [])
-
--- why not all overrides are accepted: one is refused, or there is no memory
-abbrev pub IsRefusal : (resolved : Bool) → PlainModule → Refusal InvalidOverride → Type 0
-IsRefusal resolved m (refusal.Memory e) = Unit {0}
-IsRefusal resolved m (refusal.Fault f) =
-    IsFirstRefused (OverrideOK resolved m) (λ handle. IsOverrideFault resolved m handle (error_of f).error) (length m.overrides) (error_of f).id × (spans_of f ≡ [])

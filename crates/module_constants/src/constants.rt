@@ -31,7 +31,7 @@ fn check_constant(context: &GlobalContext<'_>, item: &Constant) -> Result<(), Co
     requires known { IsKnown context.now }
     requires ty { item.now.ty < length context.now.infos.now }
     requires init { item.now.init < length context.now.kinds.now }
-    requires typed { item.now.init < length context.now.resolutions.now }
+    requires typed { item.now.init < length context.now.forms.now }
     ensures { MatchResult result
         (λ _. IsFineConstant (module_in context.now) (constant_view item.now))
         (IsFaultOf (module_in context.now) (constant_view item.now)) }

@@ -15,7 +15,7 @@ use ir_items::Module;
 use ir_types::key;
 use type_infos::{TypeFlags, TypeInfo};
 use typing_forms::laws::form_equality;
-use typing_forms::{TypeResolution, form_of, form_of_type};
+use typing_forms::{Form, form_of_type};
 use typing_layout::{ExpressionKind, ExpressionKindTracker};
 
 /// What the rules of global expressions, constants and overrides may look at.
@@ -29,8 +29,8 @@ pub struct GlobalContext<'a> {
     pub module: &'a Module,
     /// When the values of its global expressions are known.
     pub kinds: &'a ExpressionKindTracker,
-    /// The types of its global expressions.
-    pub resolutions: &'a [TypeResolution],
+    /// The forms of the types of its global expressions.
+    pub forms: &'a [Form],
     /// What is told of its types.
     pub infos: &'a [TypeInfo],
 }
@@ -60,14 +60,13 @@ pub(crate) fn has_type(
     ty: Handle<key::IrType>,
 ) -> bool
     requires known { IsKnown context.now }
-    requires within { expression < length context.now.resolutions.now }
+    requires within { expression < length context.now.forms.now }
     ensures { IsJudged (module_in context.now) expression ty result }
 {
-    let given = form_of(
-        &context.module.types,
-        &context.resolutions[expression.index()],
-    );
-    form_equality(given, form_of_type(&context.module.types, ty))
+    form_equality(
+        context.forms[expression.index()],
+        form_of_type(&context.module.types, ty),
+    )
 }
 
 // Whether values of a type of which this is told can be composed.

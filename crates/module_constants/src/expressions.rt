@@ -11,16 +11,16 @@ ghost use Rattle.spec_constants.specs.Compositions.{ComponentsOK};
 ghost use Rattle.spec_constants.specs.GlobalExpressions.{asked_of, IsMet, MayWait, GlobalExpressionOK};
 ghost use Rattle.spec_constants.specs.Literals.{LiteralOK};
 ghost use Rattle.spec_expressions.specs.Context.{outside};
-ghost use Rattle.type_checks.specs.Widths.{IsLiteralFault};
+ghost use Rattle.scalar_checks.specs.Widths.{IsLiteralFault};
 
 use crate::context::{GlobalContext, known_kind};
 use error_expressions::{ComposeError, ConstExpressionError};
 use ir_arena::handle::Handle;
 use ir_expressions::Expression;
 use ir_types::key;
-use module_expressions::{ComponentList, Components, check_composition};
+use module_expressions::{Components, check_composition};
+use scalar_checks::validate_literal;
 use thiserror::Error;
-use type_checks::validate_literal;
 use typing_layout::ExpressionKind;
 
 /// A global expression that is refused (naga's `ValidationError::ConstExpression`).
@@ -46,12 +46,9 @@ fn check_components(
         (λ _. ComponentsOK (outside (module_in context.now)) (module_in context.now).global_expressions ty components.now)
         (IsComponentsFault (outside (module_in context.now)) (module_in context.now).global_expressions ty components.now) }
 {
-    let named = Components {
-        types: &context.module.types,
-        list: ComponentList::Expressions {
-            resolutions: context.resolutions,
-            handles: components,
-        },
+    let named = Components::Expressions {
+        forms: context.forms,
+        handles: components,
     };
     check_composition(&context.module.types, ty, &named)
 }

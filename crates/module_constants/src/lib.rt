@@ -5,6 +5,7 @@
 mod constants;
 mod context;
 mod expressions;
+mod ids;
 mod overrides;
 
 pub use constants::{InvalidConstant, validate_constant, validate_constants};
@@ -12,4 +13,5 @@ pub use context::GlobalContext;
 pub use expressions::{
     InvalidGlobalExpression, validate_const_expression, validate_const_expressions,
 };
-pub use overrides::{InvalidOverride, validate_override, validate_overrides};
+pub use ids::OverrideIds;
+pub use overrides::validate_override;

@@ -1,17 +1,17 @@
-//! Overrides.
+//! Overrides, each alone.
 
-ghost use Rattle.std.specs.Prelude.{◌≡◌, ◌<◌, ◌+◌, ◌↔◌, ℕ, IsTrue, Contains, Some, length, slice_get, IfOk, IfErr, OnOk, MatchResult};
+ghost use Rattle.std.specs.Prelude.{◌≡◌, ◌<◌, ◌+◌, ◌↔◌, ℕ, IsTrue, Contains, Some, length, IfOk, IfErr, OnOk, MatchResult};
 ghost use Rattle.error_constants.specs.Overrides.{IsFaultOf};
 ghost use Rattle.ir_globals.specs.View.{override_view};
-ghost use Rattle.module_constants.specs.Firsts.{AreAccepted};
-ghost use Rattle.module_constants.specs.Ids.{AreIds, IsNoted};
+ghost use Rattle.module_constants.specs.Ids.{AreIds, IsNotedIf};
 ghost use Rattle.module_constants.specs.Known.{IsKnown, module_in};
 ghost use Rattle.module_constants.specs.Kinds.{integer_scalars, float_scalars};
-ghost use Rattle.module_constants.specs.Refusals.{IsDefaultFault, IsFineBesideId, IsOverrideRefusal, IsToldAt, IsRefusal};
+ghost use Rattle.module_constants.specs.Refusals.{IsDefaultFault, IsFineBesideId, IsOverrideRefusal};
 ghost use Rattle.spec_constants.specs.Overrides.{override_scalars, IsOverrideType, DefaultOK, OverrideOK};
 ghost use Rattle.typing_forms.specs.Resolutions.{types_view};
 
 use crate::context::{GlobalContext, has_type, is_composed, known_kind};
+use crate::ids::OverrideIds;
 use error_constants::OverrideError;
 use ir_arena::handle::Handle;
 use ir_faults::refusal::Refusal;
@@ -21,20 +21,8 @@ use ir_kinds::Scalar;
 use ir_types::{IrType, TypeInner, key};
 use ir_unique_arena::unique_arena::UniqueArena;
 use std::alloc::{AllocError, Global};
-use std::collections::BTreeSet;
-use thiserror::Error;
 use typing_forms::inner_of;
 use typing_layout::ExpressionKind;
-
-/// An override that is refused (naga's `ValidationError::Override`).
-#[derive(Clone, Copy, PartialEq, Debug, Error)]
-#[error("override {id:?} is refused: {error}")]
-pub struct InvalidOverride {
-    /// The override.
-    pub id: Handle<key::Override>,
-    /// What is wrong with it.
-    pub error: OverrideError,
-}
 
 // Whether a scalar is a truth value or an integer of which a pipeline may give a value.
 fn is_override_integer(scalar: Scalar) -> bool
@@ -90,7 +78,7 @@ fn check_default(
     init: Option<Handle<key::Expression>>,
 ) -> Result<(), OverrideError>
     requires known { IsKnown context.now }
-    requires within { (e : ℕ) → init ≡ Some e → e < length context.now.resolutions.now }
+    requires within { (e : ℕ) → init ≡ Some e → e < length context.now.forms.now }
     ensures { MatchResult result
         (λ _. DefaultOK context.now.overrides_resolved (module_in context.now) ty init)
         (IsDefaultFault context.now.overrides_resolved (module_in context.now) ty init) }
@@ -114,7 +102,7 @@ fn check_default(
 fn check_beside_id(context: &GlobalContext<'_>, item: &Override) -> Result<(), OverrideError>
     requires known { IsKnown context.now }
     requires ty { item.now.ty < length context.now.infos.now }
-    requires init { (e : ℕ) → item.now.init ≡ Some e → e < length context.now.resolutions.now }
+    requires init { (e : ℕ) → item.now.init ≡ Some e → e < length context.now.forms.now }
     ensures { MatchResult result
         (λ _. IsFineBesideId context.now.overrides_resolved (module_in context.now) (override_view item.now))
         (λ e. (handle : ℕ) → IsFaultOf context.now.overrides_resolved (module_in context.now) handle (override_view item.now) e) }
@@ -132,8 +120,8 @@ fn check_beside_id(context: &GlobalContext<'_>, item: &Override) -> Result<(), O
 }
 
 // Notes the id of an override, if it has one, and answers whether none was noted that is the same. The error is out of memory.
-fn note_id(ids: &mut BTreeSet<u16>, id: Option<u16>) -> Result<bool, AllocError>
-    ensures { IfOk result (IsNoted ids.old ids.new id) }
+fn note_id(ids: &mut OverrideIds, id: Option<u16>) -> Result<bool, AllocError>
+    ensures { IfOk result (IsNotedIf ids.old ids.new id) }
 {
     match id {
         Some(id) => {
@@ -155,7 +143,7 @@ fn note_id(ids: &mut BTreeSet<u16>, id: Option<u16>) -> Result<bool, AllocError>
 pub fn validate_override(
     alloc: Global,
     context: &GlobalContext<'_>,
-    ids: &mut BTreeSet<u16>,
+    ids: &mut OverrideIds,
     handle: Handle<key::Override>,
 ) -> Result<(), Refusal<OverrideError>>
     requires known { IsKnown context.now }
@@ -173,50 +161,4 @@ pub fn validate_override(
         Ok(()) => Ok(()),
         Err(error) => Err(Refusal::Fault(WithSpan::new(alloc, error))),
     }
-}
-
-// The refusal of an override, as one of all overrides.
-fn refusal_at(
-    alloc: Global,
-    id: Handle<key::Override>,
-    refusal: Refusal<OverrideError>,
-) -> Refusal<InvalidOverride>
-    ensures { IsToldAt id refusal result }
-{
-    match refusal {
-        Refusal::Memory(error) => Refusal::Memory(error),
-        Refusal::Fault(fault) => Refusal::Fault(WithSpan::new(
-            alloc,
-            InvalidOverride {
-                id,
-                error: fault.into_inner(),
-            },
-        )),
-    }
-}
-
-/// Whether a module may have its overrides. Each is looked at once, and its id looked up among those before it.
-///
-/// # Errors
-///
-/// The first that is refused, with a fault of its own and no span; or out of memory.
-pub fn validate_overrides(
-    alloc: Global,
-    context: &GlobalContext<'_>,
-) -> Result<(), Refusal<InvalidOverride>>
-    requires known { IsKnown context.now }
-    ensures accepted { IfOk result (λ _. AreAccepted
-        (OverrideOK context.now.overrides_resolved (module_in context.now))
-        (length (module_in context.now).overrides)) }
-    ensures refused { IfErr result (IsRefusal context.now.overrides_resolved (module_in context.now)) }
-{
-    let mut ids = BTreeSet::new(alloc);
-    for place in 0..context.module.overrides.len() {
-        let id = Handle::at(place);
-        match validate_override(alloc, context, &mut ids, id) {
-            Ok(()) => {}
-            Err(refusal) => return Err(refusal_at(alloc, id, refusal)),
-        }
-    }
-    Ok(())
 }

@@ -2,27 +2,27 @@
 use Rattle.std.proofs.Common.{◌≡◌, ◌<◌, ◌≤◌, ◌+◌, ◌⊎◌, inl, inr, ◌↔◌, ℕ, zero, suc, List, [], ◌∷◌, Some, Bool, true, IsTrue, map, length, sum, take, min, slice_get, get_or, refl, sym, ap, subst, ◌∙◌, arith, rules}
 use Rattle.std.proofs.lemmas.List.Sums.{sum-map, sum_by_more}
 use Rattle.error_constants.specs.Compositions.{in_32_bits}
-use Rattle.ir_types.specs.Plain.{PlainInner, PlainMember, PlainType, member_view}
+use Rattle.ir_types.specs.Plain.{PlainMember, PlainType, member_view}
 use Rattle.ir_types.specs.declared.types.StructMember.{StructMember}
-use Rattle.module_expressions.specs.Composed.{FitBelow, AllFit}
-use Rattle.spec_constants.specs.Compositions.{Fits, scalars_in}
+use Rattle.module_expressions.specs.Composed.{FitBelow, AllFit, IsMember}
+use Rattle.spec_constants.specs.Compositions.{scalars_in}
 use Rattle.typing_forms.specs.Forms.{form_of_type}
 use Rattle.typing_forms.specs.declared.form.Form.{Form}
 
 below_or_same : (h k : ℕ) → h < k + 1 → (h < k) ⊎ (h ≡ k)
 below_or_same h k lt = search rules
 
-pub fit_none : (types : List PlainType) (i : PlainInner) (forms : List Form) (place : ℕ) → place ≡ 0 → FitBelow types i forms place
-fit_none types i forms place first = record { each = λ k f lt at. absurd (omega (arith, first, lt)) }
+pub fit_none : (May : ℕ → Form → Type 0) (forms : List Form) (place : ℕ) → place ≡ 0 → FitBelow May forms place
+fit_none May forms place first = record { each = λ k f lt at. absurd (omega (arith, first, lt)) }
 
-pub fit_more : (types : List PlainType) (i : PlainInner) (forms : List Form) (place : ℕ) (g : Form) → FitBelow types i forms place → Some g ≡ slice_get forms place → Fits types i place g → FitBelow types i forms (place + 1)
-fit_more types i forms place g before here fits = record {
+pub fit_more : (May : ℕ → Form → Type 0) (forms : List Form) (place : ℕ) (g : Form) → FitBelow May forms place → Some g ≡ slice_get forms place → May place g → FitBelow May forms (place + 1)
+fit_more May forms place g before here fits = record {
   each = λ k f lt at. elim (below_or_same k place lt) [
     | inl less ↦ before.each k f less at
     | inr same ↦
         let there : slice_get forms place ≡ Some f = ap (slice_get forms) (sym same) ∙ at in
         let one : g ≡ f = cc in
-        subst (λ n. Fits types i n f) (sym same) (subst (Fits types i place) one fits)
+        subst (λ n. May n f) (sym same) (subst (May place) one fits)
   ];
 }
 
@@ -31,13 +31,10 @@ got_within [] k f e = cc
 got_within (x ∷ xs) zero f e = omega arith
 got_within (x ∷ xs) (suc k) f e = let h : k < length xs = got_within xs k f e in omega (arith, h)
 
-pub fit_all : (types : List PlainType) (i : PlainInner) (forms : List Form) (place : ℕ) → FitBelow types i forms place → length forms ≤ place → AllFit types i forms
-fit_all types i forms place below all = record { each = λ k f at. below.each k f (let h = got_within forms k f at in omega (arith, h, all)) at }
+pub fit_all : (May : ℕ → Form → Type 0) (forms : List Form) (place : ℕ) → FitBelow May forms place → length forms ≤ place → AllFit May forms
+fit_all May forms place below all = record { each = λ k f at. below.each k f (let h = got_within forms k f at in omega (arith, h, all)) at }
 
 -- ---- members
-
-abbrev pub FitsMember : List PlainType → List PlainMember → ℕ → Form → Type 0
-FitsMember types members place f = (m : PlainMember) → slice_get members place ≡ Some m → f ≡ form_of_type types m.ty
 
 member_here : (ms : List StructMember) (k : ℕ) (d : StructMember) → k < length ms → slice_get (map member_view ms) k ≡ Some (member_view (get_or ms k d))
 member_here [] k d lt = absurd (omega arith)
@@ -50,14 +47,14 @@ member_within (x ∷ xs) zero m e = omega arith
 member_within (x ∷ xs) (suc k) m e = let h : k < length xs = member_within xs k m e in omega (arith, h)
 
 pub member_fits : (types : List PlainType) (ms : List StructMember) (k : ℕ) (d : StructMember) (f t : Form) (r : Bool) → k < length ms → t ≡ form_of_type types (get_or ms k d).ty → IsTrue r ↔ (f ≡ t)
-    → IsTrue r ↔ FitsMember types (map member_view ms) k f
+    → IsTrue r ↔ IsMember types (map member_view ms) k f
 member_fits types ms k d f t r lt of same =
     let here : slice_get (map member_view ms) k ≡ Some (member_view (get_or ms k d)) = member_here ms k d lt in (
       λ yes m at. let one : member_view (get_or ms k d) ≡ m = cc in same.0 yes ∙ of ∙ ap (λ (x : PlainMember). form_of_type types x.ty) one,
       λ fits. same.1 (fits (member_view (get_or ms k d)) here ∙ sym of),
     )
 
-pub member_past : (types : List PlainType) (ms : List StructMember) (k : ℕ) (f : Form) → length ms ≤ k → IsTrue true ↔ FitsMember types (map member_view ms) k f
+pub member_past : (types : List PlainType) (ms : List StructMember) (k : ℕ) (f : Form) → length ms ≤ k → IsTrue true ↔ IsMember types (map member_view ms) k f
 member_past types ms k f past = ((λ yes m at. let h : k < length ms = member_within ms k m at in absurd (omega (arith, h, past))), (λ fits. refl))
 
 -- ---- sums

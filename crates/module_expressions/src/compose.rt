@@ -1,70 +1,25 @@
 //! Values that are composed.
 
-ghost use Rattle.std.specs.Prelude.{◌≡◌, ◌<◌, ◌≤◌, ◌↔◌, IsTrue, Some, length, map, slice_get, sum, MatchResult};
+ghost use Rattle.std.specs.Prelude.{◌≡◌, ◌<◌, ◌≤◌, ◌↔◌, ℕ, IsTrue, Some, length, map, slice_get, sum, MatchResult};
 ghost use Rattle.error_constants.specs.Compositions.{in_32_bits, IsComposeFault};
 ghost use Rattle.ir_types.specs.Plain.{PlainMember, inner_view, member_view};
-ghost use Rattle.module_expressions.specs.Composed.{AllFit, IsMisfit, IsOtherCount, forms_of};
-ghost use Rattle.spec_constants.specs.Compositions.{IsOfScalar, scalars_in, Fits, parts_given, ComposeOK};
+ghost use Rattle.error_expressions.specs.declared.compose.ComposeError.TheVariants as compose;
+ghost use Rattle.module_expressions.specs.Composed.{AllFit, IsMisfit, IsOtherCount, AreWhole, AreNotWhole, IsForm, IsScalars, IsMember, forms_of};
+ghost use Rattle.spec_constants.specs.Compositions.{scalars_in, Fits, parts_given, ComposeOK};
 ghost use Rattle.typing_forms.specs.Forms.{form_of_type};
 ghost use Rattle.typing_forms.specs.Resolutions.{types_view};
 ghost use Rattle.typing_operands.specs.Answers.{form_given};
 ghost use Rattle.typing_rules.specs.Parts.{components_of};
 
-use crate::components::{ComponentList, Components, count_of, form_at};
+use crate::components::{Components, count_of, form_at, scalars_of};
 use error_expressions::ComposeError;
 use ir_arena::handle::Handle;
 use ir_kinds::Scalar;
-use ir_types::{ArraySize, IrType, StructMember, TypeInner, key};
+use ir_types::{IrType, StructMember, TypeInner, key};
 use ir_unique_arena::unique_arena::UniqueArena;
 use typing_forms::laws::form_equality;
 use typing_forms::{Form, TypeResolution, form_of_type, inner_of};
 use typing_rules::TypeInnerExt;
-
-// Whether a value of this form is a scalar, or a vector of it.
-fn is_of_scalar(scalar: Scalar, form: Form) -> bool
-    ensures { IsTrue result ↔ IsOfScalar scalar form }
-{
-    match form {
-        Form::Scalar(found) => found == scalar,
-        Form::Vector { scalar: found, .. } => found == scalar,
-        Form::Matrix { .. }
-        | Form::CooperativeMatrix { .. }
-        | Form::Atomic(_)
-        | Form::Pointer { .. }
-        | Form::ValuePointer { .. }
-        | Form::Array { .. }
-        | Form::Struct(_)
-        | Form::Image { .. }
-        | Form::Sampler { .. }
-        | Form::AccelerationStructure { .. }
-        | Form::RayQuery { .. }
-        | Form::BindingArray { .. }
-        | Form::Nothing => false,
-    }
-}
-
-// How many scalars a component adds to a vector.
-fn scalars_in(form: Form) -> u32
-    ensures { result ≡ scalars_in form }
-{
-    match form {
-        Form::Scalar(_) => 1,
-        Form::Vector { size, .. } => u32::from(size),
-        Form::Matrix { .. }
-        | Form::CooperativeMatrix { .. }
-        | Form::Atomic(_)
-        | Form::Pointer { .. }
-        | Form::ValuePointer { .. }
-        | Form::Array { .. }
-        | Form::Struct(_)
-        | Form::Image { .. }
-        | Form::Sampler { .. }
-        | Form::AccelerationStructure { .. }
-        | Form::RayQuery { .. }
-        | Form::BindingArray { .. }
-        | Form::Nothing => 0,
-    }
-}
 
 // Whether a value of this form may be the member at a place.
 fn fits_member_at(
@@ -96,51 +51,6 @@ fn fits_member(
     true
 }
 
-// Whether a value of this form may be an element of an array of such elements.
-fn fits_element(
-    types: &UniqueArena<IrType, key::IrType>,
-    base: Handle<key::IrType>,
-    form: Form,
-) -> bool
-    ensures { IsTrue result ↔ (form ≡ form_of_type (types_view types.now) base) }
-{
-    form_equality(form, form_of_type(types, base))
-}
-
-// Whether a value of this form may be the component at a place.
-fn fits(
-    types: &UniqueArena<IrType, key::IrType>,
-    inner: &TypeInner,
-    place: usize,
-    form: Form,
-) -> bool
-    ensures { IsTrue result ↔ Fits (types_view types.now) (inner_view inner.now) place form }
-{
-    match *inner {
-        TypeInner::Vector { scalar, .. } => is_of_scalar(scalar, form),
-        TypeInner::Matrix { rows, scalar, .. } => {
-            form_equality(form, Form::Vector { size: rows, scalar })
-        }
-        TypeInner::Array { base, size, .. } => match size {
-            ArraySize::Constant(_) => fits_element(types, base, form),
-            ArraySize::Pending(_) | ArraySize::Dynamic => false,
-        },
-        TypeInner::Struct { ref members, .. } => {
-            fits_member(types, members.as_slice(), place, form)
-        }
-        TypeInner::Scalar(_)
-        | TypeInner::CooperativeMatrix { .. }
-        | TypeInner::Atomic(_)
-        | TypeInner::Pointer { .. }
-        | TypeInner::ValuePointer { .. }
-        | TypeInner::Image { .. }
-        | TypeInner::Sampler { .. }
-        | TypeInner::AccelerationStructure { .. }
-        | TypeInner::RayQuery { .. }
-        | TypeInner::BindingArray { .. } => false,
-    }
-}
-
 // A number as far as 32 bits tell it.
 fn in_32_bits(number: usize) -> u32
     ensures { result ≡ in_32_bits number }
@@ -152,32 +62,61 @@ fn in_32_bits(number: usize) -> u32
     }
 }
 
-// How many scalars the components add to a vector, as far as 32 bits tell it.
-fn scalars_given(components: &Components<'_>) -> u32
-    ensures { result ≡ in_32_bits (sum (map scalars_in (forms_of components.now))) }
+// The fault of the component at a place.
+fn misfit(place: usize) -> ComposeError
+    ensures { result ≡ compose.ComponentType (in_32_bits place) }
+{
+    ComposeError::ComponentType {
+        index: in_32_bits(place),
+    }
+}
+
+// How many scalars the components add to a vector of a scalar, as far as 32 bits tell it, where each may be one of its
+// components.
+fn scalars_of_all(scalar: Scalar, components: &Components<'_>) -> Result<u32, ComposeError>
+    ensures { MatchResult result
+        (λ given. AllFit (IsScalars scalar) (forms_of components.now) × (given ≡ in_32_bits (sum (map scalars_in (forms_of components.now)))))
+        (IsMisfit (IsScalars scalar) (forms_of components.now)) }
 {
     let mut given: u32 = 0;
     for place in 0..count_of(components) {
-        given = given.saturating_add(scalars_in(form_at(components, place)));
+        match scalars_of(scalar, form_at(components, place)) {
+            Some(more) => {
+                given = given.saturating_add(more);
+            }
+            None => return Err(misfit(place)),
+        }
     }
-    given
+    Ok(given)
 }
 
-// Whether each component fits at its place.
-fn check_each(
+// Whether each component is of one form.
+fn check_each(wanted: &Form, components: &Components<'_>) -> Result<(), ComposeError>
+    ensures { MatchResult result
+        (λ _. AllFit (IsForm wanted.now) (forms_of components.now))
+        (IsMisfit (IsForm wanted.now) (forms_of components.now)) }
+{
+    for place in 0..count_of(components) {
+        if !form_equality(form_at(components, place), *wanted) {
+            return Err(misfit(place));
+        }
+    }
+    Ok(())
+}
+
+// Whether each component may be the member at its place.
+fn check_each_member(
     types: &UniqueArena<IrType, key::IrType>,
-    inner: &TypeInner,
+    members: &[StructMember],
     components: &Components<'_>,
 ) -> Result<(), ComposeError>
     ensures { MatchResult result
-        (λ _. AllFit (types_view types.now) (inner_view inner.now) (forms_of components.now))
-        (IsMisfit (types_view types.now) (inner_view inner.now) (forms_of components.now)) }
+        (λ _. AllFit (IsMember (types_view types.now) (map member_view members.now)) (forms_of components.now))
+        (IsMisfit (IsMember (types_view types.now) (map member_view members.now)) (forms_of components.now)) }
 {
     for place in 0..count_of(components) {
-        if !fits(types, inner, place, form_at(components, place)) {
-            return Err(ComposeError::ComponentType {
-                index: in_32_bits(place),
-            });
+        if !fits_member(types, members, place, form_at(components, place)) {
+            return Err(misfit(place));
         }
     }
     Ok(())
@@ -196,14 +135,11 @@ fn check_many(given: usize, expected: usize) -> Result<(), ComposeError>
     })
 }
 
-// Whether components add up to a vector of so many scalars.
-fn check_total(components: &Components<'_>, expected: usize) -> Result<(), ComposeError>
+// Whether so many scalars, as far as 32 bits tell it, are as many as are wanted.
+fn check_total(given: u32, expected: usize) -> Result<(), ComposeError>
     requires { expected ≤ 4 }
-    ensures { MatchResult result
-        (λ _. sum (map scalars_in (forms_of components.now)) ≡ expected)
-        (IsOtherCount (sum (map scalars_in (forms_of components.now))) expected) }
+    ensures { (all : ℕ) → given ≡ in_32_bits all → MatchResult result (λ _. all ≡ expected) (IsOtherCount all expected) }
 {
-    let given = scalars_given(components);
     if given as usize == expected {
         return Ok(());
     }
@@ -213,27 +149,78 @@ fn check_total(components: &Components<'_>, expected: usize) -> Result<(), Compo
     })
 }
 
-// Whether the components are as many parts as the value has.
-fn check_count(
+// Whether the components make a vector of so many scalars.
+fn check_vector(
+    scalar: Scalar,
+    components: &Components<'_>,
+    expected: usize,
+) -> Result<(), ComposeError>
+    requires { expected ≤ 4 }
+    ensures { MatchResult result
+        (λ _. AreWhole (IsScalars scalar) (forms_of components.now) (sum (map scalars_in (forms_of components.now))) expected)
+        (AreNotWhole (IsScalars scalar) (forms_of components.now) (sum (map scalars_in (forms_of components.now))) expected) }
+{
+    let given = scalars_of_all(scalar, components)?;
+    check_total(given, expected)
+}
+
+// Whether the components are so many of one form.
+fn check_alike(
+    wanted: &Form,
+    components: &Components<'_>,
+    expected: usize,
+) -> Result<(), ComposeError>
+    ensures { MatchResult result
+        (λ _. AreWhole (IsForm wanted.now) (forms_of components.now) (length (forms_of components.now)) expected)
+        (AreNotWhole (IsForm wanted.now) (forms_of components.now) (length (forms_of components.now)) expected) }
+{
+    check_each(wanted, components)?;
+    check_many(count_of(components), expected)
+}
+
+// Whether the components are those of a struct.
+fn check_struct(
+    types: &UniqueArena<IrType, key::IrType>,
+    members: &[StructMember],
+    components: &Components<'_>,
+    expected: usize,
+) -> Result<(), ComposeError>
+    ensures { MatchResult result
+        (λ _. AreWhole (IsMember (types_view types.now) (map member_view members.now)) (forms_of components.now) (length (forms_of components.now)) expected)
+        (AreNotWhole (IsMember (types_view types.now) (map member_view members.now)) (forms_of components.now) (length (forms_of components.now)) expected) }
+{
+    check_each_member(types, members, components)?;
+    check_many(count_of(components), expected)
+}
+
+// Whether the components make a value of what is made of so many parts.
+fn check_parts(
+    types: &UniqueArena<IrType, key::IrType>,
     inner: &TypeInner,
     components: &Components<'_>,
     expected: usize,
 ) -> Result<(), ComposeError>
     requires { components_of (inner_view inner.now) ≡ Some expected }
     ensures { MatchResult result
-        (λ _. parts_given (inner_view inner.now) (forms_of components.now) ≡ expected)
-        (IsOtherCount (parts_given (inner_view inner.now) (forms_of components.now)) expected) }
+        (λ _. AreWhole (Fits (types_view types.now) (inner_view inner.now)) (forms_of components.now) (parts_given (inner_view inner.now) (forms_of components.now)) expected)
+        (AreNotWhole (Fits (types_view types.now) (inner_view inner.now)) (forms_of components.now) (parts_given (inner_view inner.now) (forms_of components.now)) expected) }
 {
     match *inner {
-        TypeInner::Vector { .. } => check_total(components, expected),
+        TypeInner::Vector { scalar, .. } => check_vector(scalar, components, expected),
+        TypeInner::Matrix { rows, scalar, .. } => {
+            check_alike(&Form::Vector { size: rows, scalar }, components, expected)
+        }
+        TypeInner::Array { base, .. } => {
+            check_alike(&form_of_type(types, base), components, expected)
+        }
+        TypeInner::Struct { ref members, .. } => {
+            check_struct(types, members.as_slice(), components, expected)
+        }
         TypeInner::Scalar(_)
-        | TypeInner::Matrix { .. }
         | TypeInner::CooperativeMatrix { .. }
         | TypeInner::Atomic(_)
         | TypeInner::Pointer { .. }
         | TypeInner::ValuePointer { .. }
-        | TypeInner::Array { .. }
-        | TypeInner::Struct { .. }
         | TypeInner::Image { .. }
         | TypeInner::Sampler { .. }
         | TypeInner::AccelerationStructure { .. }
@@ -263,8 +250,7 @@ pub fn check_composition(
     let Some(expected) = inner.components() else {
         return Err(ComposeError::Typing(ty));
     };
-    check_each(types, inner, components)?;
-    check_count(inner, components, expected)
+    check_parts(types, inner, components, expected)
 }
 
 /// Whether values of these types make one of the type at a handle (naga's `validate_compose`).
@@ -282,9 +268,9 @@ pub fn validate_compose(
         (λ _. ComposeOK (types_view types.now) ty (map (form_given (types_view types.now)) component_resolutions.now))
         (IsComposeFault (types_view types.now) ty (map (form_given (types_view types.now)) component_resolutions.now)) }
 {
-    let components = Components {
+    let components = Components::Types {
         types,
-        list: ComponentList::Types(component_resolutions),
+        resolutions: component_resolutions,
     };
     check_composition(types, ty, &components)
 }

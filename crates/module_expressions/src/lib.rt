@@ -3,6 +3,8 @@
 
 mod components;
 mod compose;
+mod given;
 
-pub use components::{ComponentList, Components};
+pub use components::Components;
 pub use compose::{check_composition, validate_compose};
+pub use given::forms_given;

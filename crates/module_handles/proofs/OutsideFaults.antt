@@ -10,7 +10,8 @@ use Rattle.ir_references.specs.Faults.{outside_functions, missing, item_missing}
 use Rattle.ir_references.specs.declared.fault.HandleFault.{HandleFault}
 use Rattle.ir_references.specs.declared.fault.HandleFault.TheVariants as fault
 use Rattle.ir_types.specs.Plain.{PlainInner, PlainType}
-use Rattle.module_handles.specs.Found.{first_missing, special_missing, leaf_missing, constant_missing, override_missing, variable_missing, entry_missing, pending_missing, type_of, init_of, forward, built_forward, counted_by, counted_forward, up_to, looked_through}
+use Rattle.module_handles.specs.Found.{first_missing, special_missing, leaf_missing, constant_missing, override_missing, variable_missing, entry_missing, pending_missing, built_forward, up_to, looked_through}
+use Rattle.module_lookups.specs.Found.{type_of, init_of, forward, counted_by, counted_forward}
 use Rattle.module_handles.specs.InOrder.{IsFaultIn, NamesForward, IsGlobalExpressionFault}
 use Rattle.spec_handles.specs.Expressions.{expression_item}
 use Rattle.spec_handles.specs.InOrder.{named_at, in_module}

@@ -22,7 +22,8 @@ use Rattle.ir_types.specs.declared.types.TypeInner.{TypeInner}
 use Rattle.ir_types.specs.declared.types.TypeInner.TheVariants as inner
 use Rattle.module_handles.proofs.OutsideFaults.{forward_none, pending_fault, built_fault, counted_fault, looked_fault}
 use Rattle.module_handles.proofs.PassLemmas.{below_or_same}
-use Rattle.module_handles.specs.Found.{pending_missing, forward, built_forward, counted_forward, named_forward, looked_through}
+use Rattle.module_handles.specs.Found.{pending_missing, built_forward, named_forward, looked_through}
+use Rattle.module_lookups.specs.Found.{forward, counted_forward}
 use Rattle.module_handles.specs.InOrder.{IsFaultIn, NamesBefore, NamesForward, TypeOK, TypesBelow, TypesOK}
 use Rattle.spec_handles.specs.declared.item.ItemKind.TheVariants as kind
 use Rattle.typing_forms.specs.Order.{named_types}

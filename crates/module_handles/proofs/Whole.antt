@@ -12,7 +12,8 @@ use Rattle.ir_types.specs.Plain.{PlainInner, PlainType}
 use Rattle.ir_walks.specs.Filters.{ParentsPrecede}
 use Rattle.module_handles.proofs.OutsideFaults.{forward_none, each_there, item_there, type_found}
 use Rattle.module_handles.specs.Conditions.{FunctionConditions, ModuleConditions, OrderGivesConditions}
-use Rattle.module_handles.specs.Found.{type_of, init_of, forward, counted_by, up_to, looked_through}
+use Rattle.module_handles.specs.Found.{up_to, looked_through}
+use Rattle.module_lookups.specs.Found.{type_of, init_of, forward, counted_by}
 use Rattle.module_handles.specs.InOrder.{TypesOK, ItemsOK, GlobalExpressionsOK, FunctionsOK, EntriesOK}
 use Rattle.spec_handles.specs.Conditions.{OperandsPrecede}
 use Rattle.spec_handles.specs.Expressions.{expression_operands, expression_item}

@@ -11,6 +11,7 @@ use Rattle.ir_references.specs.declared.bounds.Bounds.{Bounds}
 use Rattle.ir_references.specs.declared.fault.HandleFault.{HandleFault}
 use Rattle.ir_references.specs.declared.fault.HandleFault.TheVariants as fault
 use Rattle.ir_types.specs.Plain.{PlainInner}
+use Rattle.module_lookups.specs.Found.{type_of, init_of, forward, counted_by, counted_forward}
 use Rattle.spec_handles.specs.Expressions.{expression_item}
 use Rattle.spec_handles.specs.Items.{pending_of, special_types, mesh_types, mesh_expressions, entry_variables}
 use Rattle.spec_handles.specs.declared.item.ItemKind.{ItemKind}
@@ -55,30 +56,6 @@ pending_missing b i = option_and_then (missing kind.Override b.overrides) (pendi
 
 -- ---- what doesn't come before
 
--- the type that an item is, or has
-abbrev pub type_of : PlainModule → Target → Option ℕ
-type_of m (target.Type handle) = Some handle
-type_of m (target.Constant handle) = option_map (λ (x : PlainConstant). x.ty) (slice_get m.constants handle)
-type_of m (target.Override handle) = option_map (λ (x : PlainOverride). x.ty) (slice_get m.overrides handle)
-type_of m (target.GlobalVariable handle) = None
-type_of m (target.LocalVariable handle) = None
-type_of m (target.Function handle) = None
-type_of m (target.DiagnosticFilter handle) = None
-
--- the global expression that a constant or an override begins as
-abbrev pub init_of : PlainModule → Target → Option ℕ
-init_of m (target.Type handle) = None
-init_of m (target.Constant handle) = option_map (λ (x : PlainConstant). x.init) (slice_get m.constants handle)
-init_of m (target.Override handle) = option_and_then (λ (x : PlainOverride). x.init) (slice_get m.overrides handle)
-init_of m (target.GlobalVariable handle) = None
-init_of m (target.LocalVariable handle) = None
-init_of m (target.Function handle) = None
-init_of m (target.DiagnosticFilter handle) = None
-
--- an item of this kind depends on one that doesn't come before it
-abbrev pub forward : ItemKind → (place depends_on : ℕ) → Option HandleFault
-forward k place depends_on = if nat_lt depends_on place then None else Some (fault.Forward k place depends_on)
-
 -- of what the constant or the override that a global expression names begins as
 abbrev pub init_forward : PlainModule → ℕ → PlainExpression → Option HandleFault
 init_forward m e x = option_and_then (forward kind.Expression e) (option_and_then (init_of m) (expression_item x))
@@ -86,14 +63,6 @@ init_forward m e x = option_and_then (forward kind.Expression e) (option_and_the
 -- of the types that a type is built of
 abbrev pub built_forward : ℕ → PlainInner → Option HandleFault
 built_forward place i = option_map (λ t. fault.Forward kind.Type place t) (first_past place (named_types i))
-
--- the override that says how many elements a type has, as an item
-abbrev pub counted_by : PlainInner → Option Target
-counted_by i = option_map (λ o. target.Override o) (pending_of i)
-
--- of that override's type
-abbrev pub counted_forward : PlainModule → ℕ → PlainInner → Option HandleFault
-counted_forward m place i = option_and_then (forward kind.Type place) (option_and_then (type_of m) (counted_by i))
 
 -- of the type that a global expression names
 abbrev pub named_forward : PlainModule → ℕ → PlainExpression → Option HandleFault

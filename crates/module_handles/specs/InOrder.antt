@@ -7,7 +7,8 @@ use Rattle.ir_references.specs.Faults.{outside_functions, IsMissingFault, IsForw
 use Rattle.ir_references.specs.declared.fault.HandleFault.{HandleFault}
 use Rattle.ir_references.specs.declared.fault.HandleFault.TheVariants as fault
 use Rattle.ir_types.specs.Plain.{PlainInner, PlainType}
-use Rattle.module_handles.specs.Found.{special_missing, leaf_missing, constant_missing, override_missing, variable_missing, entry_missing, named_missing, pending_missing, init_forward, built_forward, counted_forward, named_forward, looked_through}
+use Rattle.module_handles.specs.Found.{special_missing, leaf_missing, constant_missing, override_missing, variable_missing, entry_missing, named_missing, pending_missing, init_forward, built_forward, named_forward, looked_through}
+use Rattle.module_lookups.specs.Found.{counted_forward}
 use Rattle.module_handles.specs.Conditions.{FunctionConditions}
 use Rattle.spec_handles.specs.Conditions.{HandlesInRange, OperandsPrecede}
 use Rattle.spec_handles.specs.InOrder.{IsMissing, IsRangeOut, IsForward}

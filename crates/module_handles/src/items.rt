@@ -9,7 +9,7 @@ ghost use Rattle.module_handles.specs.Found.{first_missing, special_missing, lea
 ghost use Rattle.module_handles.specs.InOrder.{IsFaultIn, ItemsOK};
 ghost use Rattle.spec_handles.specs.declared.item.ItemKind.TheVariants as kind;
 
-use crate::lists::{ItemCheck, fault_of_values, first_missing, place_of};
+use crate::lists::{ItemCheck, fault_of_values, first_missing};
 use indexmap::IndexMap;
 use ir_arena::handle::Handle;
 use ir_items::{
@@ -17,6 +17,7 @@ use ir_items::{
 };
 use ir_kinds::PredeclaredType;
 use ir_references::{Bounds, HandleFault};
+use module_lookups::place_of;
 use spec_handles::{ItemKind, Target};
 
 // The first of the types of what built-in functions answer that is not there.

@@ -8,7 +8,6 @@ mod functions;
 mod items;
 pub mod laws;
 mod lists;
-mod lookups;
 mod types;
 mod validate;
 

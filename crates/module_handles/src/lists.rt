@@ -56,16 +56,6 @@ pub(crate) fn fault_of_items<T, C: ItemCheck<T>>(check: &C, items: &[T]) -> Opti
     None
 }
 
-// The place of what is named.
-pub(crate) fn place_of<K>(handle: Option<Handle<K>>) -> Option<usize>
-    ensures { result ≡ handle }
-{
-    match handle {
-        Some(handle) => Some(handle.index()),
-        None => None,
-    }
-}
-
 // The first of the places that are given which does not come before the end.
 fn given_past(places: &[Option<usize>], end: usize) -> Option<usize>
     ensures { result ≡ first_past end (given places.now) }

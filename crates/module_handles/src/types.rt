@@ -7,17 +7,16 @@ ghost use Rattle.ir_items.specs.View.{module_view};
 ghost use Rattle.ir_references.specs.Faults.{outside_functions};
 ghost use Rattle.ir_references.specs.First.{first_past};
 ghost use Rattle.ir_types.specs.Plain.{inner_view, member_view};
-ghost use Rattle.module_handles.specs.Found.{pending_missing, built_forward, counted_by, counted_forward, named_forward, looked_through};
+ghost use Rattle.module_handles.specs.Found.{pending_missing, built_forward, named_forward, looked_through};
+ghost use Rattle.module_lookups.specs.Found.{counted_forward};
 ghost use Rattle.module_handles.specs.InOrder.{IsFaultIn, NamesBefore, NamesForward, TypesOK};
-ghost use Rattle.spec_handles.specs.Items.{pending_in, pending_of};
 ghost use Rattle.typing_forms.specs.Order.{named_types};
 ghost use Rattle.typing_forms.specs.Resolutions.{inner_at};
 
-use crate::lists::place_of;
-use crate::lookups::{forward, init_of, type_named, type_of};
 use ir_arena::handle::Handle;
-use ir_items::{ArraySize, Expression, Module, StructMember, TypeInner, key};
+use ir_items::{Expression, Module, StructMember, TypeInner, key};
 use ir_references::{Bounds, HandleFault};
+use module_lookups::{counted_by, counted_forward, forward, init_of, pending_of, type_named};
 use spec_handles::{ItemKind, Target};
 
 // The first of the types of members that does not come before the end.
@@ -65,46 +64,6 @@ fn built_past(inner: &TypeInner, end: usize) -> Option<usize>
     }
 }
 
-fn pending_in(size: ArraySize) -> Option<Handle<key::Override>>
-    ensures { result ≡ pending_in size }
-{
-    match size {
-        ArraySize::Pending(handle) => Some(handle),
-        ArraySize::Constant(_) | ArraySize::Dynamic => None,
-    }
-}
-
-// The override that says how many elements a type has.
-fn pending_of(inner: &TypeInner) -> Option<Handle<key::Override>>
-    ensures { result ≡ pending_of (inner_view inner.now) }
-{
-    match *inner {
-        TypeInner::Array { size, .. } | TypeInner::BindingArray { size, .. } => pending_in(size),
-        TypeInner::Scalar(_)
-        | TypeInner::Vector { .. }
-        | TypeInner::Matrix { .. }
-        | TypeInner::CooperativeMatrix { .. }
-        | TypeInner::Atomic(_)
-        | TypeInner::Pointer { .. }
-        | TypeInner::ValuePointer { .. }
-        | TypeInner::Struct { .. }
-        | TypeInner::Image { .. }
-        | TypeInner::Sampler { .. }
-        | TypeInner::AccelerationStructure { .. }
-        | TypeInner::RayQuery { .. } => None,
-    }
-}
-
-// The same as an item.
-fn counted_by(inner: &TypeInner) -> Option<Target>
-    ensures { result ≡ counted_by (inner_view inner.now) }
-{
-    match pending_of(inner) {
-        Some(handle) => Some(Target::Override(handle)),
-        None => None,
-    }
-}
-
 // The fault of that override, if it is not there.
 fn pending_missing(inner: &TypeInner, bounds: &Bounds) -> Option<HandleFault>
     ensures { result ≡ pending_missing bounds.now (inner_view inner.now) }
@@ -125,16 +84,6 @@ fn built_forward(inner: &TypeInner, index: usize) -> Option<HandleFault>
             index,
             depends_on,
         }),
-        None => None,
-    }
-}
-
-// The fault of the type of the override that says how many elements there are, if the type does not come after it.
-fn counted_forward(module: &Module, inner: &TypeInner, index: usize) -> Option<HandleFault>
-    ensures { result ≡ counted_forward (module_view «module».now) index (inner_view inner.now) }
-{
-    match counted_by(inner) {
-        Some(item) => forward(ItemKind::Type, index, place_of(type_of(module, item))),
         None => None,
     }
 }

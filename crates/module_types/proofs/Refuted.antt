@@ -4,7 +4,6 @@ use Rattle.ir_flags.specs.declared.settings.Capabilities.{Capabilities}
 use Rattle.ir_kinds.specs.declared.bindings.Binding.TheVariants as bound
 use Rattle.ir_kinds.specs.declared.scalars.Scalar.{Scalar}
 use Rattle.ir_kinds.specs.declared.scalars.ScalarKind.TheVariants.{Float}
-use Rattle.ir_kinds.specs.declared.scalars.ScalarKind.TheVariants as kind
 use Rattle.ir_kinds.specs.Images.{is_depth}
 use Rattle.ir_kinds.specs.declared.images.ImageClass.{ImageClass}
 use Rattle.ir_kinds.specs.declared.images.ImageDimension.{ImageDimension}
@@ -23,8 +22,8 @@ use Rattle.spec_flags.specs.Widths.{IsKindAllowed}
 use Rattle.spec_types.specs.View.{members_by, type_tree}
 use Rattle.type_checks.proofs.Known.{tree_of}
 use Rattle.type_checks.proofs.Places.{part_at, many_parts}
-use Rattle.type_checks.proofs.Scalars.{lacked, width_refuted, atomic_refuted}
-use Rattle.type_checks.specs.Checked.{IsTypeFault, IsInnerOK}
+use Rattle.scalar_checks.proofs.Scalars.{lacked, width_refuted, atomic_refuted}
+use Rattle.type_rules.specs.Checked.{IsTypeFault, IsInnerOK}
 use Rattle.type_checks.specs.Known.{types_in, tree_in, IsKnown}
 use Rattle.type_checks.specs.Placed.{part_of}
 use Rattle.type_checks.specs.declared.context.TypeContext.{TypeContext}
@@ -35,8 +34,6 @@ use Rattle.type_infos.specs.declared.error.TypeError.{TypeError}
 use Rattle.type_infos.specs.declared.error.TypeError.TheVariants as error
 use Rattle.type_infos.specs.declared.error.VaryingError.{VaryingError}
 use Rattle.type_infos.specs.declared.error.VaryingError.TheVariants as varying
-use Rattle.type_infos.specs.declared.error.WidthError.{WidthError}
-use Rattle.type_infos.specs.declared.error.WidthError.TheVariants as width
 use Rattle.typing_forms.specs.Resolutions.{inner_at}
 
 -- ---- structs

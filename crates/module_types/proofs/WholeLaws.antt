@@ -4,10 +4,10 @@ use Rattle.ir_types.specs.Plain.{PlainInner, struct as written_struct, plain, in
 use Rattle.ir_types.specs.declared.types.ArraySize.{ArraySize}
 use Rattle.ir_types.specs.declared.types.TypeInner.{TypeInner}
 use Rattle.ir_types.specs.declared.types.TypeInner.TheVariants as inner
-use Rattle.module_types.proofs.Inside.{somewhere_here}
-use Rattle.module_types.specs.Kinds.{whole_flags}
-use Rattle.module_types.specs.Layouts.{IsStructOf, IsArrayAt, IsScalarFit, IsScalarUnfit}
-use Rattle.module_types.specs.Sets.{AreOf}
+use Rattle.storage_layouts.proofs.Inside.{somewhere_here}
+use Rattle.type_flags.specs.Kinds.{whole_flags}
+use Rattle.storage_layouts.specs.Layouts.{IsStructOf, IsArrayAt, IsScalarFit, IsScalarUnfit}
+use Rattle.type_flags.specs.Sets.{AreOf}
 use Rattle.module_types.specs.Whole.{IsWhole}
 use Rattle.spec_flags.specs.Buffers.{IsStorage, IsUniform, uniform_alignment}
 use Rattle.spec_flags.specs.Flags.{HasFlag, HostShareable}

@@ -1,5 +1,2 @@
-pub mod Kinds
-pub mod Layouts
-pub mod Sets
 pub mod Whole
 pub mod Validated

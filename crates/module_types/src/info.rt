@@ -2,7 +2,7 @@
 
 ghost use Rattle.std.specs.Prelude.{◌≡◌, ◌<◌, ◌≤◌, ℕ, Some, All, length, map, MatchResult};
 ghost use Rattle.ir_types.specs.Plain.{inner_view, member_view};
-ghost use Rattle.module_types.specs.Layouts.{IsStructOf};
+ghost use Rattle.storage_layouts.specs.Layouts.{IsStructOf};
 ghost use Rattle.module_types.specs.Whole.{IsWhole};
 ghost use Rattle.spec_flags.specs.Buffers.{IsStorage, IsUniform, uniform_alignment};
 ghost use Rattle.spec_types.specs.Layout.{alignment};
@@ -14,14 +14,14 @@ ghost use Rattle.type_infos.specs.Infos.{AreFlags, HasInfo};
 ghost use Rattle.typing_forms.specs.Order.{named_types};
 ghost use Rattle.typing_forms.specs.Resolutions.{inner_at};
 
-use crate::flags::{flags_of_array, flags_of_struct, whole_flags};
 use crate::immediates::{immediates_of_struct, immediates_of_whole};
-use crate::storage::{storage_of_array, storage_of_struct};
 use crate::uniform::{uniform_of_array, uniform_of_struct};
 use bitflags::Flags;
 use ir_arena::handle::Handle;
 use ir_types::{ArraySize, StructMember, TypeInner, key};
+use storage_layouts::{storage_of_array, storage_of_struct};
 use type_checks::{TypeContext, facts_of, type_at};
+use type_flags::{flags_of_array, flags_of_struct, whole_flags};
 use type_infos::{Disalignment, LayoutCompatibility, TypeFlags, TypeInfo};
 use typing_layout::Alignment;
 

@@ -2,7 +2,7 @@
 
 ghost use Rattle.std.specs.Prelude.{◌≡◌, ◌<◌, All, length, map, MatchResult};
 ghost use Rattle.ir_types.specs.Plain.{member_view};
-ghost use Rattle.module_types.specs.Layouts.{IsArrayAt, IsStructAt, IsStructOf, IsUniformAlignment, UniformPart, free_before};
+ghost use Rattle.storage_layouts.specs.Layouts.{IsArrayAt, IsStructAt, IsStructOf, IsUniformAlignment, UniformPart, free_before};
 ghost use Rattle.spec_flags.specs.Buffers.{IsUniform, uniform_alignment};
 ghost use Rattle.spec_flags.specs.Parts.{before};
 ghost use Rattle.spec_types.specs.Layout.{alignment};
@@ -11,10 +11,10 @@ ghost use Rattle.type_checks.specs.Placed.{parts_in, AtPlace, IsPlaced};
 ghost use Rattle.type_infos.specs.BufferFaults.{BreaksUniform, IsBroken};
 ghost use Rattle.type_infos.specs.Infos.{AreFlags};
 
-use crate::storage::Broken;
 use bitflags::Flags;
 use ir_arena::handle::Handle;
 use ir_types::{StructMember, key};
+use storage_layouts::Broken;
 use type_checks::{Facts, Placed, TypeContext, at_least_sixteen, member_at, member_before};
 use type_infos::{Disalignment, LayoutCompatibility, TypeFlags};
 use typing_layout::Alignment;

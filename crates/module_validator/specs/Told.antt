@@ -1,7 +1,6 @@
 -- What is told of a module that is accepted.
 use Rattle.std.specs.Prelude.{◌≡◌, [], Bool, length}
 use Rattle.ir_items.specs.Plain.{PlainModule}
-use Rattle.module_constants.specs.declared.context.GlobalContext.{GlobalContext}
 use Rattle.module_info.specs.declared.info.ModuleInfo.{ModuleInfo}
 use Rattle.module_types.specs.Validated.{AreAccepted}
 use Rattle.module_validator.specs.declared.validator.ModuleValidator.{ModuleValidator}
@@ -18,11 +17,6 @@ pub record IsInfoOf (s : ModuleSettings) (m : PlainModule) (info : ModuleInfo) :
   pub expressions : AreTypes (outside m) m.global_expressions info.const_expression_types.items
   pub functions : info.functions.items ≡ []
   pub entry_points : info.entry_points.items ≡ []
-
--- what is asked where values are judged is what is asked of the module
-pub record AreSettingsOf (s : ModuleSettings) (c : GlobalContext) : Type 0 where
-  pub capabilities : c.capabilities ≡ s.capabilities
-  pub resolved : c.overrides_resolved ≡ s.overrides_resolved
 
 -- by what a validator judges
 abbrev pub settings_of : ModuleValidator → (resolved : Bool) → ModuleSettings

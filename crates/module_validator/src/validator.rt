@@ -2,22 +2,22 @@
 
 ghost use Rattle.std.specs.Prelude.{◌≡◌, [], MatchResult, IfOk, IfErr, OnOk, false, true};
 ghost use Rattle.ir_items.specs.View.{module_view};
-ghost use Rattle.module_validator.specs.Faults.{IsRefusal};
+ghost use Rattle.module_steps.specs.Faults.{IsRefusal};
 ghost use Rattle.module_validator.specs.Told.{IsInfoOf, settings_of};
 ghost use Rattle.spec_flags.specs.Widths.{ScalarOK};
 ghost use Rattle.spec_constants.specs.Literals.{LiteralOK};
 ghost use Rattle.spec_modules.specs.Steps.{ModuleOK};
 ghost use Rattle.type_infos.specs.Faults.{IsWidthFault};
-ghost use Rattle.type_checks.specs.Widths.{IsLiteralFault};
+ghost use Rattle.scalar_checks.specs.Widths.{IsLiteralFault};
 
-use crate::error::ModuleError;
-use crate::steps::{check_handles, expression_types, lay_out, type_infos};
-use crate::values::check_values;
 use ir_faults::refusal::Refusal;
 use ir_flags::{Capabilities, ValidationFlags};
 use ir_items::Module;
 use ir_kinds::{Literal, Scalar};
 use module_info::ModuleInfo;
+use module_steps::{
+    ModuleError, check_handles, check_values, expression_types, lay_out, type_infos,
+};
 use module_types::{LiteralError, WidthError, check_width, validate_literal};
 use spec_modules::ModuleSettings;
 use std::alloc::Global;
@@ -30,7 +30,7 @@ use typing_layout::Layouter;
 pub struct ModuleValidator {
     alloc: Global,
     flags: ValidationFlags,
-    capabilities: Capabilities,
+    pub(crate) capabilities: Capabilities,
     layouter: Layouter,
 }
 

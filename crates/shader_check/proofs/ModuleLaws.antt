@@ -6,9 +6,9 @@ use Rattle.ir_flags.specs.Settings.{PlainSettings}
 use Rattle.ir_items.specs.Plain.{PlainModule}
 use Rattle.judgement.specs.Steps.{module_settings, IsFinding}
 use Rattle.judgement.specs.declared.finding.Finding.TheVariants.{Refused}
-use Rattle.module_validator.specs.Faults.{IsExpressionRefused, IsModuleFault}
-use Rattle.module_validator.specs.declared.error.ModuleError.{ModuleError}
-use Rattle.module_validator.specs.declared.error.ModuleError.TheVariants as error
+use Rattle.module_steps.specs.Faults.{IsExpressionRefused, IsModuleFault}
+use Rattle.module_steps.specs.declared.error.ModuleError.{ModuleError}
+use Rattle.module_steps.specs.declared.error.ModuleError.TheVariants as error
 use Rattle.shader_check.specs.Modules.{step_of, refused_by, IsJudgedUpToOverrides}
 use Rattle.spec_modules.specs.Steps.{ModuleOK}
 

@@ -9,9 +9,9 @@ use Rattle.judgement.specs.declared.finding.Step.{Step}
 use Rattle.judgement.specs.declared.finding.Step.TheVariants.{Layout, «Type», Typing, Expression, Constant, Override, Function}
 use Rattle.judgement.specs.declared.finding.Finding.{Finding}
 use Rattle.judgement.specs.declared.finding.Finding.TheVariants.{Accepted, RefusedDocument, RefusedHandles, Refused}
-use Rattle.module_validator.specs.Faults.{IsModuleFault}
-use Rattle.module_validator.specs.declared.error.ModuleError.{ModuleError}
-use Rattle.module_validator.specs.declared.error.ModuleError.TheVariants as error
+use Rattle.module_steps.specs.Faults.{IsModuleFault}
+use Rattle.module_steps.specs.declared.error.ModuleError.{ModuleError}
+use Rattle.module_steps.specs.declared.error.ModuleError.TheVariants as error
 use Rattle.shader_check.specs.declared.examined.Examined.{Examined}
 use Rattle.shader_check.specs.declared.examined.Examined.TheVariants as examined
 use Rattle.spec_modules.specs.Steps.{ModuleOK}

@@ -17,8 +17,11 @@ pub use analysis_forms::{
 };
 pub use analysis_info::FunctionInfo;
 pub use constructor_sets::{ConstructorSet, Members, OneBitsIter, ScalarSet};
+pub use error_expressions::{ComposeError, ExpressionError};
 pub use error_functions::FunctionError;
-pub use error_statements::UniformityDisruptor;
+pub use error_statements::{
+    AtomicError, CallError, LocalVariableError, SubgroupError, UniformityDisruptor,
+};
 pub use overload_tables::{Arguments, Conclusion, ConstructorSize, Pattern, Rule, ValueType};
 pub use spec_expressions::TypingFault;
 pub use typing_compare::CompareTypes;

@@ -15,7 +15,7 @@ use Rattle.spec_checks.specs.Checks.{CheckOf}
 use Rattle.spec_checks.specs.Conversions.{IsConverted}
 use Rattle.spec_checks.specs.Expressions.{AskedOf}
 use Rattle.spec_checks.specs.Laws.{MoreCapabilities, under}
-use Rattle.spec_checks.specs.Results.{AreExchangeMembers, IsExchange, AtomicResultOK}
+use Rattle.spec_checks.specs.Results.{IsAtomicValue, AreExchangeMembers, IsExchange, AtomicResultOK}
 use Rattle.spec_checks.specs.Shapes.{IsAlone}
 use Rattle.spec_checks.specs.declared.shapes.Shaped.{Shaped}
 use Rattle.spec_flags.proofs.Capable.{more_capabilities as more_types}
@@ -46,7 +46,7 @@ value_more : (few many : Capabilities) (x : Option Shaped) → IsWithin few.0 ma
 value_more few many None more ok = ok
 value_more few many (Some x) more ok = (ok.0, atomic_more few many x.scalar more ok.1)
 
-members_more : (few many : Capabilities) (types : List PlainType) (members : List PlainMember) → IsWithin few.0 many.0 → AreExchangeMembers few types members → AreExchangeMembers many types members
+members_more : (few many : Capabilities) (types : List PlainType) (members : List PlainMember) → IsWithin few.0 many.0 → AreExchangeMembers (IsAtomicValue few) types members → AreExchangeMembers (IsAtomicValue many) types members
 members_more few many types [] more ok = ok
 members_more few many types (old ∷ []) more ok = ok
 members_more few many types (old ∷ exchanged ∷ []) more ok = record {

@@ -14,24 +14,28 @@ use Rattle.spec_checks.specs.Shapes.{shaped_of, IsAlone, IsTruth, IsMadeOf}
 abbrev pub IsAtomicValue : Capabilities → Form → Type 0
 IsAtomicValue capabilities t = IsSomeAnd (shaped_of t) (λ x. IsAlone x.shape × AtomicOK capabilities x.scalar)
 
--- the value that was there, and whether it was exchanged
-pub record AreExchanged (capabilities : Capabilities) (types : List PlainType) (old exchanged : PlainMember) : Type 0 where
+-- the value that was there, which is as `IsOld` says, and whether it was exchanged
+pub record AreExchanged (IsOld : Form → Type 0) (types : List PlainType) (old exchanged : PlainMember) : Type 0 where
   pub old_name : old.name ≡ Some (codes "old_value")
-  pub old_type : IsAtomicValue capabilities (form_of_type types old.ty)
+  pub old_type : IsOld (form_of_type types old.ty)
   pub exchanged_name : exchanged.name ≡ Some (codes "exchanged")
   pub exchanged_type : IsMadeOf IsAlone IsTruth (form_of_type types exchanged.ty)
 
-abbrev pub AreExchangeMembers : Capabilities → List PlainType → List PlainMember → Type 0
-AreExchangeMembers capabilities types [] = ⊥
-AreExchangeMembers capabilities types (old ∷ []) = ⊥
-AreExchangeMembers capabilities types (old ∷ exchanged ∷ []) = AreExchanged capabilities types old exchanged
-AreExchangeMembers capabilities types (old ∷ exchanged ∷ more ∷ rest) = ⊥
+abbrev pub AreExchangeMembers : (IsOld : Form → Type 0) → List PlainType → List PlainMember → Type 0
+AreExchangeMembers IsOld types [] = ⊥
+AreExchangeMembers IsOld types (old ∷ []) = ⊥
+AreExchangeMembers IsOld types (old ∷ exchanged ∷ []) = AreExchanged IsOld types old exchanged
+AreExchangeMembers IsOld types (old ∷ exchanged ∷ more ∷ rest) = ⊥
 
 -- a struct of exactly these members
+abbrev pub IsExchangeOf : (IsOld : Form → Type 0) → List PlainType → Option PlainInner → Type 0
+IsExchangeOf IsOld types (Some (struct members span)) = AreExchangeMembers IsOld types members
+IsExchangeOf IsOld types (Some (plain i)) = ⊥
+IsExchangeOf IsOld types None = ⊥
+
+-- of a scalar that atomics have
 abbrev pub IsExchange : Capabilities → List PlainType → Option PlainInner → Type 0
-IsExchange capabilities types (Some (struct members span)) = AreExchangeMembers capabilities types members
-IsExchange capabilities types (Some (plain i)) = ⊥
-IsExchange capabilities types None = ⊥
+IsExchange capabilities = IsExchangeOf (IsAtomicValue capabilities)
 
 -- an atomic operation answers a scalar, and an exchange that compares a struct of it
 abbrev pub AtomicResultOK : Capabilities → List PlainType → (type : ℕ) → (comparison : Bool) → Type 0

@@ -1,5 +1,2 @@
-pub mod Blends
-pub mod Checked
 pub mod Known
 pub mod Placed
-pub mod Widths

@@ -1,18 +1,10 @@
-//! The rules of a type: whether a module may have it, from what is told of the types that it names.
+//! What the rules of a type look at, what is told of the types that it names, and the members of a struct at their places.
 #![tactic(auto)]
 
-mod blends;
-mod check;
 mod context;
 mod facts;
-mod images;
 mod members;
-mod references;
-mod widths;
 
-pub use blends::has_source;
-pub use check::check_type;
 pub use context::TypeContext;
 pub use facts::{Facts, at_least_sixteen, facts_of, type_at};
-pub use members::{Placed, member_at, member_before};
-pub use widths::{check_atomic, check_literal_value, check_width, validate_literal};
+pub use members::{Placed, check_members, member_at, member_before};

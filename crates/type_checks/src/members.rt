@@ -157,7 +157,7 @@ fn check_member(
 }
 
 /// Whether a struct may have these members and this span. The error is that of one of its members, or that it has none.
-pub(crate) fn check_members(
+pub fn check_members(
     context: &TypeContext<'_>,
     members: &[StructMember],
     span: u32,

@@ -33,6 +33,6 @@ pub record IsFunctionInfo (m : PlainModule) (f : PlainFunction) (summaries : Lis
   pub expressions : AreExpressionInfos m f info.expressions.items
   pub globals : length info.uses.items ≡ length m.globals
   pub joined : IsJoined (length m.globals) f summaries (summary_of info)
-  pub sampling_set : info.sampling_set.items ≡ flat_map key_of info.sampling.keys
+  pub sampling_set : info.sampling_set.items ≡ flat_map key_of info.sampling.items
   pub available_stages : info.available_stages.0 ≡ known_bits shader_stages
   pub dual_source_blending : info.dual_source_blending ≡ false

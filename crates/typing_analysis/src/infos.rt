@@ -57,7 +57,7 @@ pub(crate) fn expression_infos(
 ) -> Result<Vec<ExpressionInfo>, AllocError>
     ensures { IfOk result (λ infos. infos.items ≡ infos_from uniformities.now counts.now globals.now 0 types.items) }
 {
-    let mut infos = Vec::new(alloc);
+    let mut infos = Vec::with_capacity(alloc, types.len())?;
     for ty in types {
         let index = infos.len();
         let info = ExpressionInfo {

@@ -174,13 +174,14 @@ impl Summarized {
         } = tally;
         let Counts { counts, uses } = counts;
         let Sampled { pairs, wrong: _ } = sampled;
-        let sampling_set = keys_of(alloc, pairs.as_slice())?;
+        let sampling = pairs.into_pairs()?;
+        let sampling_set = keys_of(alloc, &sampling)?;
         let expressions = expression_infos(alloc, types, &uniformities, &counts, &globals)?;
         Ok(FunctionInfo::of_parts(FunctionParts {
             may_kill,
             uses,
             expressions,
-            sampling: pairs,
+            sampling,
             sampling_set,
         }))
     }

@@ -96,6 +96,16 @@ fn keep(types: &mut Vec<TypeResolution>, found: TypeResolution) -> Result<(), Al
     Ok(())
 }
 
+// No types, with room for so many where there is memory.
+fn room_for(alloc: Global, count: usize) -> Vec<TypeResolution>
+    ensures { result.items ≡ [] }
+{
+    match Vec::with_capacity(alloc, count) {
+        Ok(room) => room,
+        Err(_) => Vec::new(alloc),
+    }
+}
+
 /// The types of all expressions of a list, in order. Asks that operands come before what has them, and that each item which an
 /// expression names is there.
 ///
@@ -114,7 +124,7 @@ pub fn types_of(
     ensures fault { IfErr result (IsFirstUntyped (context_view context.now) (map expression_view (values_of expressions.now))) }
 {
     let missing = missing_type();
-    let mut types = Vec::new(alloc);
+    let mut types = room_for(alloc, expressions.len());
     for (handle, expression) in expressions.iter() {
         match type_at(alloc, context, &types, &missing, handle, expression) {
             Ok(found) => match keep(&mut types, found) {

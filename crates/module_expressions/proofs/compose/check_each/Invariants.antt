@@ -1,8 +1,6 @@
--- The components that were passed fit.
-use Rattle.ir_types.specs.Plain.{inner_view}
-use Rattle.module_expressions.specs.Composed.{FitBelow, forms_of}
-use Rattle.typing_forms.specs.Resolutions.{types_view}
+-- The components that were passed are of the form.
+use Rattle.module_expressions.specs.Composed.{FitBelow, IsForm, forms_of}
 use Rattle.module_expressions.proofs.compose.check_each.Given as goal
 
 abbrev pub invariant-loop-place : goal.invariant-loop-place
-invariant-loop-place l = FitBelow (types_view l.types) (inner_view l.inner) (forms_of l.components) l.place
+invariant-loop-place l = FitBelow (IsForm l.wanted) (forms_of l.components) l.place

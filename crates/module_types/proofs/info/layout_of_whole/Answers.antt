@@ -1,5 +1,5 @@
 use Rattle.std.proofs.Common.{rules, ◌∙◌}
-use Rattle.module_types.proofs.LayoutLaws.{broken_here}
+use Rattle.storage_layouts.proofs.LayoutLaws.{broken_here}
 use Rattle.module_types.proofs.WholeLaws.{whole_storage, whole_uniform, whole_alignment}
 use Rattle.spec_flags.specs.Flags.{HasFlag, HostShareable}
 use Rattle.type_checks.specs.Known.{tree_in}

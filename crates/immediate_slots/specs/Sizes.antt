@@ -1,0 +1,19 @@
+-- How many bytes of immediate data a module takes.
+use Rattle.std.specs.Prelude.{◌≡◌, ◌≤◌, ◌<◌, ◌⊎◌, ℕ, Some, slice_get}
+use Rattle.ir_globals.specs.Plain.{PlainGlobal}
+use Rattle.ir_items.specs.Plain.{PlainModule}
+use Rattle.ir_kinds.specs.declared.spaces.AddressSpace.TheVariants.{Immediate}
+use Rattle.spec_types.specs.Layout.{size}
+use Rattle.spec_types.specs.View.{type_tree}
+
+-- the global variable at a handle is immediate data of so many bytes
+pub record TakesBytes (m : PlainModule) (handle bytes : ℕ) : Type 0 where
+  pub g : PlainGlobal
+  pub at : slice_get m.globals handle ≡ Some g
+  pub immediate : g.space ≡ Immediate
+  pub is : size (type_tree m.types g.ty) ≡ bytes
+
+-- the greatest of the first so many, and 0 where there is none
+pub record AreGreatest (m : PlainModule) (many bytes : ℕ) : Type 0 where
+  pub least : (handle other : ℕ) → handle < many → TakesBytes m handle other → other ≤ bytes
+  pub is : (bytes ≡ 0) ⊎ ((handle : ℕ) × TakesBytes m handle bytes)

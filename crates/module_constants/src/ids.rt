@@ -1,0 +1,59 @@
+//! The ids that overrides have.
+
+ghost use Rattle.std.specs.Prelude.{◌≡◌, ◌<◌, ◌↔◌, ℕ, IsTrue, OnOk, IfOk, length, slice_index_or};
+ghost use Rattle.std.specs.Int.{bit_at};
+ghost use Rattle.module_constants.specs.Ids.{IsNoted, IsSeen};
+
+use std::alloc::{AllocError, Global};
+
+/// Ids that overrides have: a bit for each, 64 in a word, so that noting one takes the same time whatever the others are.
+#[derive(Drop)]
+pub struct OverrideIds {
+    words: Vec<u64>,
+}
+
+// Whether a word has a bit.
+fn has_bit(word: u64, bit: u16) -> bool
+    requires { bit < 64 }
+    ensures { IsTrue result ↔ (bit_at word bit ≡ 1) }
+{
+    (word >> bit) % 2 == 1
+}
+
+// Adds empty words until there is one at a place. The error is out of memory.
+fn make_room(words: &mut Vec<u64>, place: usize) -> Result<(), AllocError>
+    requires { place < 1024 }
+    ensures long { OnOk result (place < length words.new.items) }
+    ensures kept { OnOk result ((q : ℕ) → slice_index_or words.new.items q 0 ≡ slice_index_or words.old.items q 0) }
+{
+    for _ in words.len()..place + 1 {
+        words.push(0)?;
+    }
+    Ok(())
+}
+
+impl OverrideIds {
+    /// No ids. It takes no memory.
+    pub fn new(alloc: Global) -> OverrideIds
+        ensures { (id : ℕ) → ¬ IsSeen result id }
+    {
+        OverrideIds {
+            words: Vec::new(alloc),
+        }
+    }
+
+    /// Notes an id, and answers whether it was none of them. The error is out of memory.
+    pub fn insert(&mut self, id: u16) -> Result<bool, AllocError>
+        ensures { IfOk result (IsNoted self.old self.new id) }
+    {
+        let place = usize::from(id / 64);
+        let bit = id % 64;
+        make_room(&mut self.words, place)?;
+        let word = self.words[place];
+        if has_bit(word, bit) {
+            return Ok(false);
+        }
+        self.words[place] = word | (1 << bit);
+        Ok(true)
+    }
+}

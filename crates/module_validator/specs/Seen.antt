@@ -1,0 +1,9 @@
+-- What expressions are judged by.
+use Rattle.check_operands.specs.View.{scene_in}
+use Rattle.check_operands.specs.declared.context.CheckContext.{CheckContext}
+use Rattle.ir_flags.specs.declared.settings.Capabilities.{Capabilities}
+use Rattle.spec_checks.specs.Scene.{Scene}
+
+-- what a context holds, where shaders may use this
+abbrev pub scene_by : Capabilities → CheckContext → Scene
+scene_by capabilities c = record (scene_in c) { capabilities = capabilities }

@@ -1,0 +1,2 @@
+mod FlagLaws
+mod Sets

@@ -1,0 +1,3 @@
+pub mod Blends
+pub mod Checked
+pub mod Images
