@@ -1,0 +1,5 @@
+pub mod View
+pub mod Atomics
+pub mod StorageImages
+pub mod UniformLoads
+pub mod Laws

@@ -1,0 +1,3 @@
+pub mod Allowed
+pub mod Faults
+pub mod Laws

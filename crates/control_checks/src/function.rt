@@ -1,0 +1,27 @@
+//! How the statements of a function leave their blocks.
+
+ghost use Rattle.std.specs.Prelude.{MatchResult};
+ghost use Rattle.ir_blocks.specs.Control.{ControlOK};
+ghost use Rattle.ir_blocks.specs.View.{block_view};
+ghost use Rattle.control_checks.specs.Faults.{IsControlFault};
+
+use crate::control::Allowed;
+use crate::walk::check_block;
+use error_functions::FunctionError;
+use ir_items::Block;
+
+/// Whether each statement of a function's body that leaves its block may do so where it stands (naga's `ControlFlowAbility`).
+///
+/// # Errors
+///
+/// Of the first statement that may not: [`FunctionError::BreakOutsideOfLoopOrSwitch`], [`FunctionError::ContinueOutsideOfLoop`],
+/// or [`FunctionError::InvalidReturnSpot`] in a continuing part.
+#[tactic(auto, using(crate::proofs::Places::control_fine, crate::proofs::Places::control_wrong))]
+pub fn check_control(body: &Block) -> Result<(), FunctionError>
+    ensures { MatchResult result (λ _. ControlOK (block_view body.now)) (IsControlFault (block_view body.now)) }
+{
+    match check_block(Allowed::BODY, body) {
+        Ok(()) => Ok(()),
+        Err(error) => Err(error),
+    }
+}

@@ -1,0 +1,7 @@
+-- The stages that are noted in what is kept of functions.
+use Rattle.std.specs.Prelude.{List, map}
+use Rattle.analysis_info.specs.declared.function_info.FunctionInfo.{FunctionInfo}
+use Rattle.ir_flags.specs.declared.stages.ShaderStages.{ShaderStages}
+
+abbrev pub noted : List FunctionInfo → List ShaderStages
+noted infos = map (λ (i : FunctionInfo). i.available_stages) infos

@@ -1,0 +1,5 @@
+pub mod Known
+pub mod Below
+pub mod Refuted
+pub mod Widened
+pub mod AnsweredLemmas

@@ -1,0 +1,34 @@
+-- Whether what stands for answers is answered.
+use Rattle.std.specs.Prelude.{◌≡◌, ◌<◌, ℕ, List, Some, Bool, true, slice_get}
+use Rattle.error_functions.specs.declared.error.FunctionError.{FunctionError}
+use Rattle.error_functions.specs.declared.error.FunctionError.TheVariants as error
+use Rattle.ir_expressions.specs.Plain.{PlainExpression, plain}
+use Rattle.ir_expressions.specs.declared.expressions.Expression.TheVariants as x
+use Rattle.spec_statements.specs.Results.{StandsForAnswer}
+
+-- an expression stands for the answer of a call or of an atomic operation
+abbrev pub Stands : PlainExpression → Type 0
+Stands (plain (x.CallResult function)) = Unit {0}
+Stands (plain (x.AtomicResult type comparison)) = Unit {0}
+Stands _ = ⊥
+
+-- one that stands for an answer has been answered
+abbrev pub IsAnswered : List PlainExpression → List Bool → ℕ → Type 0
+IsAnswered expressions answered e = StandsForAnswer expressions e → slice_get answered e ≡ Some true
+
+-- so has each
+abbrev pub AllAnswered : List PlainExpression → List Bool → Type 0
+AllAnswered expressions answered = (e : ℕ) → IsAnswered expressions answered e
+
+pub record AnsweredBelow (expressions : List PlainExpression) (answered : List Bool) (end : ℕ) : Type 0 where
+  pub each : (e : ℕ) → e < end → IsAnswered expressions answered e
+
+-- one stands for an answer and has not been answered, while those before it have
+pub record IsUnanswered (expressions : List PlainExpression) (answered : List Bool) (e : ℕ) : Type 0 where
+  pub stands : StandsForAnswer expressions e
+  pub unanswered : ¬ (slice_get answered e ≡ Some true)
+  pub before : AnsweredBelow expressions answered e
+
+abbrev pub IsUnansweredFault : List PlainExpression → List Bool → FunctionError → Type 0
+IsUnansweredFault expressions answered (error.UnvisitedExpression e) = IsUnanswered expressions answered e
+IsUnansweredFault expressions answered _ = ⊥

@@ -1,0 +1,10 @@
+-- What is told of a module's types.
+use Rattle.std.specs.Prelude.{◌≡◌, List, length}
+use Rattle.ir_types.specs.Plain.{PlainType}
+use Rattle.type_checks.specs.Known.{AreInfos}
+use Rattle.type_infos.specs.declared.info.TypeInfo.{TypeInfo}
+
+-- the infos are those of all types
+pub record AreTold (types : List PlainType) (infos : List TypeInfo) : Type 0 where
+  pub told : AreInfos types infos
+  pub many : length infos ≡ length types

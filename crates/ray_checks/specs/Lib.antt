@@ -1,0 +1,4 @@
+pub mod RayQueries
+pub mod RayPipelines
+pub mod Payloads
+pub mod Laws

@@ -1,0 +1,6 @@
+mod Lists
+mod Tables
+mod Walks
+mod Conversions
+mod FaultLaws
+mod Refuted

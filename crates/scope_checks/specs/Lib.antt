@@ -1,0 +1,4 @@
+pub mod Lists
+pub mod Carried
+pub mod Faults
+pub mod Laws

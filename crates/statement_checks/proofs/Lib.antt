@@ -1,0 +1,3 @@
+pub mod EmitLemmas
+pub mod CallLemmas
+pub mod Refuted

@@ -1,0 +1,9 @@
+pub mod View
+pub mod Barriers
+pub mod Calls
+pub mod Conditions
+pub mod CooperativeStores
+pub mod Emits
+pub mod Returns
+pub mod Stores
+pub mod Laws

@@ -1,0 +1,18 @@
+-- What a context holds, as plain data.
+use Rattle.ir_items.specs.View.{function_view, module_view}
+use Rattle.spec_statements.specs.BlockContext.{BlockContext as PlainContext}
+use Rattle.statement_checks.specs.declared.context.BlockContext.{BlockContext}
+use Rattle.typing_layout.specs.Constness.{AreKinds}
+
+abbrev pub context_view : BlockContext → PlainContext
+context_view c = record {
+  capabilities = c.capabilities;
+  operations = c.operations;
+  m = module_view c.«module».now;
+  f = function_view c.function.now;
+  forms = c.forms.now;
+}
+
+-- the kinds are those of all expressions
+abbrev pub IsKnown : BlockContext → Type 0
+IsKnown c = AreKinds (context_view c).f.expressions c.kinds.now

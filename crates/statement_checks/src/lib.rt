@@ -1,0 +1,25 @@
+//! Whether statements meet the rules of their kinds: barriers, stores, calls, choices and what is emitted.
+#![tactic(auto)]
+
+mod barriers;
+mod calls;
+mod conditions;
+mod context;
+mod cooperative_stores;
+mod emits;
+pub mod laws;
+mod pointers;
+mod returns;
+mod stores;
+mod variables;
+
+pub use barriers::check_barrier;
+pub use calls::check_call;
+pub use conditions::check_condition;
+pub use context::BlockContext;
+pub use cooperative_stores::check_cooperative_store;
+pub use emits::check_emit;
+pub use pointers::{base_at, pointer_space};
+pub use returns::check_return;
+pub use stores::check_store;
+pub use variables::{accessed_at, named_at, variable_at};

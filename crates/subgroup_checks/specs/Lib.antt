@@ -1,0 +1,2 @@
+pub mod Subgroups
+pub mod Laws
