@@ -1,2 +1,2 @@
 mod Places
-mod Refuted
+pub mod Refuted

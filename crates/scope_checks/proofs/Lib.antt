@@ -3,4 +3,4 @@ mod Tables
 mod Walks
 mod Conversions
 mod FaultLaws
-mod Refuted
+pub mod Refuted

@@ -20,12 +20,13 @@ use Rattle.spec_statements.specs.Scope.{ScopeOK}
 use Rattle.spec_statements.specs.Stages.{statement_stages}
 use Rattle.spec_statements.specs.Statements.{StatementOK}
 
--- What a lower layer says of a function: the forms of the types of its expressions, whether its analysis finds no fault,
--- which of its expressions are accepted, and which stages may run them.
+-- What a lower layer says of a function: the forms of the types of its expressions, whether its analysis finds no fault under
+-- some flags, which of its expressions are accepted where their types have these forms and shaders may use this, and which
+-- stages may run them.
 pub record Reading : Type 1 where
   pub HasForm : (expression : ℕ) → Form → Type 0
-  pub IsAnalysed : Type 0
-  pub IsAccepted : (expression : ℕ) → Type 0
+  pub IsAnalysed : ValidationFlags → Type 0
+  pub IsAccepted : Capabilities → (forms : List Form) → (expression : ℕ) → Type 0
   pub IsRunBy : (expression : ℕ) → ShaderStages → Type 0
 
 -- With what functions are judged.
@@ -61,11 +62,11 @@ pub record BodyOK (s : FunctionSettings) (c : BlockContext) : Type 0 where
 -- the rules of expressions under EXPRESSIONS and those of the body under BLOCKS.
 pub record FunctionOK (reading : Reading) (s : FunctionSettings) (m : PlainModule) (f : PlainFunction) : Type 0 where
   pub arity : AritiesMatch m f
-  pub analysed : reading.IsAnalysed
+  pub analysed : reading.IsAnalysed s.flags
   pub forms : List Form
   pub typed : AreFormsBy reading f forms
   pub interface : InterfaceOK (block_context s m f forms) s.entry
-  pub expressions : Has s.flags.0 EXPRESSIONS.0 → (e : ℕ) → e < length f.expressions → reading.IsAccepted e
+  pub expressions : Has s.flags.0 EXPRESSIONS.0 → (e : ℕ) → e < length f.expressions → reading.IsAccepted s.capabilities forms e
   pub body : Has s.flags.0 BLOCKS.0 → BodyOK s (block_context s m f forms)
 
 -- A stage may run a function of which the lower layer says so: it may run all statements, where these are asked, callees among

@@ -1,0 +1,15 @@
+-- What a lower layer is asked about.
+use Rattle.std.specs.Prelude.{List}
+use Rattle.ir_flags.specs.declared.stages.ShaderStages.{ShaderStages}
+use Rattle.ir_items.specs.Plain.{PlainFunction, PlainModule}
+use Rattle.spec_analysis.specs.Summaries.{Summary}
+
+-- A function of a module, where this is kept of the functions before it: their summaries, and the stages that may run them.
+pub record Question : Type 0 where
+  pub m : PlainModule
+  pub f : PlainFunction
+  pub summaries : List Summary
+  pub stages : List ShaderStages
+
+abbrev pub question : PlainModule → PlainFunction → List Summary → List ShaderStages → Question
+question m f summaries stages = record { m = m; f = f; summaries = summaries; stages = stages }

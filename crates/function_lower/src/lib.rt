@@ -1,0 +1,6 @@
+//! What the rules of functions ask of the layers below them: `Lower`.
+#![tactic(auto)]
+
+mod lower;
+
+pub use lower::Lower;

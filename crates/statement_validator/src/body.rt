@@ -1,0 +1,44 @@
+//! The statements of a function's body.
+
+ghost use Rattle.std.specs.Prelude.{MatchResult};
+ghost use Rattle.ir_blocks.specs.Places.{Place, StandsAt};
+ghost use Rattle.ir_blocks.specs.Plain.{PlainStatement};
+ghost use Rattle.ir_walks.specs.Bases.{BasesPrecede};
+ghost use Rattle.spec_handles.specs.Conditions.{AritiesMatch};
+ghost use Rattle.spec_statements.specs.Statements.{StatementOK};
+ghost use Rattle.statement_checks.specs.View.{context_view, IsKnown};
+ghost use Rattle.statement_validator.specs.Faults.{IsBodyRefusal};
+
+use crate::error::StatementError;
+use crate::walk::check_block;
+use error_functions::FunctionError;
+use ir_faults::refusal::Refusal;
+use ir_faults::with_span::WithSpan;
+use statement_checks::BlockContext;
+use std::alloc::Global;
+
+/// Whether each statement of the context's function, at any depth, meets the rule of its kind (a part of naga's
+/// `validate_block_impl`). Scope, and how statements leave their blocks, are no part of it. Asks that the base of each access
+/// comes before it, that the functions called are there, and that what the context tells of constants is told of all of them.
+///
+/// # Errors
+///
+/// [`Refusal::Fault`] with a fault of the first statement that has one, in the order of the text, as its check answers it.
+/// [`Refusal::Memory`] where memory ran out.
+pub fn validate_statements(
+    alloc: Global,
+    context: &BlockContext<'_>,
+) -> Result<(), Refusal<FunctionError>>
+    requires known { IsKnown context.now }
+    requires precede { BasesPrecede (context_view context.now).f.expressions }
+    requires arities { AritiesMatch (context_view context.now).m (context_view context.now).f }
+    ensures { MatchResult result
+        (λ _. (p : Place) (u : PlainStatement) → StandsAt (context_view context.now).f.body p u → StatementOK (context_view context.now) u)
+        (IsBodyRefusal (context_view context.now)) }
+{
+    match check_block(alloc, context, &context.function.body) {
+        Ok(()) => Ok(()),
+        Err(StatementError::Memory(error)) => Err(Refusal::Memory(error)),
+        Err(StatementError::Fault(error)) => Err(Refusal::Fault(WithSpan::new(alloc, error))),
+    }
+}
