@@ -1,2 +1,4 @@
 pub mod ScopeLaws
 pub mod AnswerLaws
+pub mod ScopeExamples
+pub mod AnswerExamples

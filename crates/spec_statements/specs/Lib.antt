@@ -23,4 +23,5 @@ pub mod Tables
 pub mod UniformLoads
 pub mod Variables
 pub mod Visible
+pub mod Worked
 pub mod Answered
