@@ -1,4 +1,2 @@
 pub mod ScopeLaws
 pub mod AnswerLaws
-pub mod ScopeExamples
-pub mod AnswerExamples

@@ -23,5 +23,4 @@ pub mod Tables
 pub mod UniformLoads
 pub mod Variables
 pub mod Visible
-pub mod Worked
 pub mod Answered

@@ -2,9 +2,7 @@
 //! and which stages may run it; and what is asked of a function as a whole, over any lower layer that types its expressions.
 //!
 //! The definitions stand in `specs/`, a file for each rule; `specs/Statements.antt` has one row for each kind. The functions here
-//! do nothing: their contracts are what is known of the definitions ([`laws`]), and what they say of small functions
-//! ([`worked`]).
+//! do nothing: their contracts are what is known of the definitions.
 #![tactic(auto)]
 
 pub mod laws;
-pub mod worked;

@@ -2,10 +2,10 @@ use Rattle.std.proofs.Common.{ℕ, ◌≡◌, ◌∷◌, [], zero, suc, Option, 
 use Rattle.ir_items.specs.Plain.{PlainArgument, PlainFunction}
 use Rattle.ir_kinds.specs.Scalars.{unsigned}
 use Rattle.spec_checks.specs.Shapes.{IsIntegerScalar}
-use Rattle.spec_statements.proofs.worked.statements.Goals as goal
+use Rattle.worked_statements.proofs.statements.Goals as goal
 use Rattle.spec_statements.specs.BlockContext.{form_at}
 use Rattle.spec_statements.specs.Stores.{itself}
-use Rattle.spec_statements.specs.Worked.{calling, given_first}
+use Rattle.worked_statements.specs.Worked.{calling, given_first}
 use Rattle.typing_forms.specs.Forms.{form_of_type}
 use Rattle.typing_forms.specs.declared.form.Form.TheVariants as form
 

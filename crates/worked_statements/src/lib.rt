@@ -1,6 +1,7 @@
-//! What the definitions say of small functions, worked out by hand.
+//! What the rules of statements say of small functions, worked out by hand and computed by the prover.
 //!
 //! The functions do nothing: their contracts are the examples.
+#![tactic(auto)]
 
 ghost use Rattle.std.specs.Prelude.{[], ◌∷◌, None, Some, true, false, pos};
 ghost use Rattle.ir_blocks.specs.Plain.{emit, block, if_, switch, loop, continue, call, stop, no_case, case};
@@ -18,7 +19,7 @@ ghost use Rattle.spec_statements.specs.Scope.{ScopeOK};
 ghost use Rattle.spec_statements.specs.Stores.{StoreOK};
 ghost use Rattle.spec_statements.specs.Subgroups.{BallotOK};
 ghost use Rattle.spec_statements.specs.Switches.{SwitchOK};
-ghost use Rattle.spec_statements.specs.Worked.{one, two, use_of, over_truths, over_answer, first_answered, storing, calling, answering, allowing};
+ghost use Rattle.worked_statements.specs.Worked.{one, two, use_of, over_truths, over_answer, first_answered, storing, calling, answering, allowing};
 ghost use Rattle.typing_forms.specs.declared.form.Form.TheVariants as form;
 
 /// What is in scope where.

@@ -2,8 +2,8 @@ use Rattle.std.proofs.Common.{[], Some, refl}
 use Rattle.ir_blocks.specs.Places.{here, later, inside}
 use Rattle.ir_blocks.specs.Plain.{call}
 use Rattle.ir_blocks.specs.Shapes.{inner}
-use Rattle.spec_statements.proofs.AnswerExamples.{none_answers, answered_once}
-use Rattle.spec_statements.proofs.worked.answers.Goals as goal
+use Rattle.worked_statements.proofs.AnswerExamples.{none_answers, answered_once}
+use Rattle.worked_statements.proofs.answers.Goals as goal
 use Rattle.spec_statements.specs.Results.{of_call}
 
 pub returns-clause-answered : goal.returns-clause-answered

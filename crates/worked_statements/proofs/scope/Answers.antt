@@ -1,8 +1,8 @@
 use Rattle.std.proofs.Common.{refl}
 use Rattle.ir_blocks.specs.Places.{here, later, inside}
 use Rattle.ir_blocks.specs.Shapes.{case_at, loop_continuing}
-use Rattle.spec_statements.proofs.ScopeExamples.{in_order, used_early, brought_again}
-use Rattle.spec_statements.proofs.worked.scope.Goals as goal
+use Rattle.worked_statements.proofs.ScopeExamples.{in_order, used_early, brought_again}
+use Rattle.worked_statements.proofs.scope.Goals as goal
 
 pub returns-clause-emitted_twice : goal.returns-clause-emitted_twice
 returns-clause-emitted_twice c = brought_again _ (later here) 1 refl refl

@@ -5,7 +5,7 @@ use Rattle.ir_blocks.specs.Plain.{call, stop}
 use Rattle.spec_statements.proofs.AnswerLaws.{by_held}
 use Rattle.spec_statements.proofs.ScopeLaws.{none_held}
 use Rattle.spec_statements.specs.Results.{AnswersBy, StandsForAnswer, of_call, of_atomic, AnsweredOnce}
-use Rattle.spec_statements.specs.Worked.{one, over_answer}
+use Rattle.worked_statements.specs.Worked.{one, over_answer}
 
 pub none_answers : {A : Type 0} (p : Place) (e : ℕ) → AnswersBy stop p e → A
 none_answers p e by = none_held e (by_held p stop e by)
