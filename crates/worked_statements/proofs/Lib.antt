@@ -1,0 +1,2 @@
+pub mod ScopeExamples
+pub mod AnswerExamples
