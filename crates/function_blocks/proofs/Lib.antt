@@ -1,0 +1,8 @@
+mod ArityLaws
+mod Below
+mod Bases
+mod Marks
+mod TakeLaws
+mod PartLaws
+mod Whole
+mod Refuted

@@ -1,0 +1,6 @@
+use Rattle.ir_items.specs.View.{function_view}
+use Rattle.function_blocks.proofs.Bases.{bases_precede}
+use Rattle.function_blocks.proofs.validate.judge.Goals as goal
+
+pub check_parts-requires-clause-precede : goal.check_parts-requires-clause-precede
+check_parts-requires-clause-precede g c = bases_precede (function_view c.args.function.now).expressions c.requires.precede

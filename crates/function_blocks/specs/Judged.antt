@@ -1,0 +1,71 @@
+-- What the parts of a check of a function find.
+use Rattle.std.specs.Prelude.{◌≡◌, ◌↔◌, ◌⊎◌, ◌<◌, ℕ, Contains, List, Option, length}
+use Rattle.function_blocks.specs.Faults.{AllAccepted, IsFaultOfBody, IsUnanswered}
+use Rattle.error_functions.specs.declared.error.FunctionError.{FunctionError}
+use Rattle.ir_blocks.specs.Control.{ControlOK}
+use Rattle.ir_blocks.specs.Places.{Place, StandsAt}
+use Rattle.ir_blocks.specs.Plain.{PlainStatement}
+use Rattle.ir_flags.specs.Sets.{Has}
+use Rattle.ir_flags.specs.declared.settings.TheConstants.ValidationFlags.{EXPRESSIONS, BLOCKS}
+use Rattle.ir_flags.specs.declared.stages.ShaderStages.{ShaderStages}
+use Rattle.ray_checks.specs.Payloads.{AreOfOneType}
+use Rattle.spec_checks.specs.Stages.{all_stages}
+use Rattle.spec_statements.specs.Answered.{EachOnce}
+use Rattle.spec_statements.specs.BlockContext.{BlockContext}
+use Rattle.spec_statements.specs.Functions.{FunctionSettings, Reading, BodyOK, AllowsStage}
+use Rattle.spec_statements.specs.Interfaces.{InterfaceOK}
+use Rattle.spec_statements.specs.Payloads.{IsHeldAfter}
+use Rattle.spec_statements.specs.Results.{AnswersBy, StandsForAnswer}
+use Rattle.spec_statements.specs.Scope.{ScopeOK}
+use Rattle.spec_statements.specs.Stages.{statement_stages}
+use Rattle.spec_statements.specs.Statements.{StatementOK}
+
+-- ---- expressions
+
+-- The expressions before a place are accepted, and these stages are those that may run them all.
+pub record AcceptedBelow (reading : Reading) (c : BlockContext) (end : ℕ) (stages : ShaderStages) : Type 0 where
+  pub each : (e : ℕ) → e < end → reading.IsAccepted c.capabilities c.forms e
+  pub run : (stage : ℕ) → Has stages.0 stage ↔ (Has all_stages.0 stage × ((e : ℕ) (own : ShaderStages) → e < end → reading.IsRunBy e own → Has own.0 stage))
+
+-- Where expressions are checked, all are accepted, and these stages are those that may run them all; else any.
+pub record AreExpressionsMet (reading : Reading) (s : FunctionSettings) (c : BlockContext) (stages : ShaderStages) : Type 0 where
+  pub accepted : AllAccepted reading s c
+  pub run : (stage : ℕ) → Has stages.0 stage ↔ (Has all_stages.0 stage × (Has s.flags.0 EXPRESSIONS.0 → (e : ℕ) (own : ShaderStages) → e < length c.f.expressions → reading.IsRunBy e own → Has own.0 stage))
+
+-- ---- the body
+
+-- All that is asked of a body is met, but that each that stands for an answer is answered; these are answered by, and this type
+-- of payloads is held after it.
+pub record IsBodyMet (s : FunctionSettings) (c : BlockContext) (answered : List ℕ) (held : Option ℕ) : Type 0 where
+  pub control : ControlOK c.f.body
+  pub scope : ScopeOK c.f
+  pub once : EachOnce c.f.body
+  pub asked : (p : Place) (e : ℕ) → AnswersBy c.f.body p e → Has s.flags.0 EXPRESSIONS.0
+  pub by : (e : ℕ) → Contains answered e ↔ ((p : Place) × AnswersBy c.f.body p e)
+  pub statements : (p : Place) (u : PlainStatement) → StandsAt c.f.body p u → StatementOK c u
+  pub payloads : AreOfOneType c.m c.f s.held held
+
+-- each that stands for an answer is answered by a statement
+abbrev pub AllAnswer : BlockContext → Type 0
+AllAnswer c = (e : ℕ) → StandsForAnswer c.f.expressions e → (p : Place) × AnswersBy c.f.body p e
+
+-- Where bodies are checked, all that is asked of this one is met, and these stages are those that may run all its statements;
+-- else any. This type of payloads is held after it.
+pub record AreBlocksMet (s : FunctionSettings) (c : BlockContext) (callees : List ShaderStages) (stages : ShaderStages) (held : Option ℕ) : Type 0 where
+  pub body : Has s.flags.0 BLOCKS.0 → BodyOK s c
+  pub run : (stage : ℕ) → Has stages.0 stage ↔ (Has all_stages.0 stage × (Has s.flags.0 BLOCKS.0 → (p : Place) (u : PlainStatement) → StandsAt c.f.body p u → Has (statement_stages s.subgroup_stages callees u).0 stage))
+  pub held_after : IsHeldAfter s.flags c.m c.f s.held held
+
+-- something is wrong with the body, or what stands for an answer is not answered
+abbrev pub IsBlocksFault : FunctionSettings → BlockContext → FunctionError → Type 0
+IsBlocksFault s c e = Has s.flags.0 BLOCKS.0 × (IsFaultOfBody s c e ⊎ (Has s.flags.0 EXPRESSIONS.0 × IsUnanswered c.f e))
+
+-- ---- all parts behind the analysis
+
+-- They are in order; these stages are those that may run the function, and this type of payloads is held after it.
+pub record ArePartsMet (reading : Reading) (s : FunctionSettings) (c : BlockContext) (callees : List ShaderStages) (stages : ShaderStages) (held : Option ℕ) : Type 0 where
+  pub interface : InterfaceOK c s.entry
+  pub expressions : AllAccepted reading s c
+  pub body : Has s.flags.0 BLOCKS.0 → BodyOK s c
+  pub run : (stage : ℕ) → Has stages.0 stage ↔ (Has all_stages.0 stage × AllowsStage reading s callees c.f stage)
+  pub held_after : IsHeldAfter s.flags c.m c.f s.held held

@@ -1,0 +1,4 @@
+pub mod Arities
+pub mod Settings
+pub mod Faults
+pub mod Judged
