@@ -1,0 +1,62 @@
+-- What the analysis of a function keeps is what is asked of a layer.
+use Rattle.std.proofs.Common.{◌≡◌, ℕ, List, Option, Some, None, Result, Ok, Err, IfOk, IfErr, map, option_map, length, slice_get, refl, sym, ap, subst, ◌∙◌}
+use Rattle.std.proofs.lemmas.List.{length-map}
+use Rattle.std.proofs.lemmas.Option.{slice_get-map}
+use Rattle.analysis_forms.specs.declared.expression_info.ExpressionInfo.{ExpressionInfo}
+use Rattle.analysis_info.specs.Infos.{summary_of}
+use Rattle.analysis_info.specs.declared.function_info.FunctionInfo.{FunctionInfo}
+use Rattle.error_functions.specs.declared.error.FunctionError.{FunctionError}
+use Rattle.function_lower.specs.Analysis.{IsKept, IsRefusedFor}
+use Rattle.function_lower.specs.Question.{question}
+use Rattle.ir_faults.specs.declared.refusal.Refusal.{Refusal}
+use Rattle.ir_faults.specs.declared.refusal.Refusal.TheVariants as refusal
+use Rattle.ir_flags.specs.declared.settings.ValidationFlags.{ValidationFlags}
+use Rattle.ir_flags.specs.declared.stages.ShaderStages.{ShaderStages}
+use Rattle.ir_items.specs.Plain.{PlainFunction, PlainModule}
+use Rattle.real_lower.specs.Made.{types_of}
+use Rattle.real_lower.specs.Readings.{reading_of, faults_of}
+use Rattle.spec_analysis.specs.Summaries.{Summary}
+use Rattle.spec_checks.specs.Stages.{all_stages}
+use Rattle.spec_expressions.specs.Typing.{HasType}
+use Rattle.typing_analysis.specs.Infos.{AreExpressionInfos}
+use Rattle.typing_forms.specs.declared.form.Form.{Form}
+use Rattle.typing_functions.specs.Processed.{IsAnalysed, IsProcessed}
+use Rattle.typing_operands.specs.Answers.{form_given}
+
+typed_at : (m : PlainModule) (f : PlainFunction) (e : ℕ) (t : Form) (o : Option ExpressionInfo)
+    → ((i : ExpressionInfo) → o ≡ Some i → HasType m f e (form_given m.types i.ty)) → option_map (form_given m.types) (option_map (λ (i : ExpressionInfo). i.ty) o) ≡ Some t → HasType m f e t
+typed_at m f e t None typed is = absurd (let x = is in cc)
+typed_at m f e t (Some i) typed is = subst (HasType m f e) (let x = is in cc) (typed i refl)
+
+all_kept : (m : PlainModule) (f : PlainFunction) (infos : List ExpressionInfo) → AreExpressionInfos m f infos → (e : ℕ) (t : Form)
+    → slice_get (map (form_given m.types) (map (λ (i : ExpressionInfo). i.ty) infos)) e ≡ Some t → HasType m f e t
+all_kept m f infos are e t at =
+    typed_at m f e t (slice_get infos e) (λ i is. (are.each e i is).ty)
+    (sym (slice_get-map (form_given m.types) (map (λ (i : ExpressionInfo). i.ty) infos) e ∙ ap (option_map (form_given m.types)) (slice_get-map (λ (i : ExpressionInfo). i.ty) infos e)) ∙ at)
+
+kept_of : (flags : ValidationFlags) (m : PlainModule) (f : PlainFunction) (summaries : List Summary) (stages : List ShaderStages) (info : FunctionInfo)
+    → IsAnalysed flags m f summaries info
+    → IsKept (reading_of (question m f summaries stages)) flags (question m f summaries stages) (types_of info) (summary_of info) info.available_stages info.dual_source_blending
+kept_of flags m f summaries stages info a = record {
+  analysed = a.clear;
+  typed = record {
+    many = length-map (types_of info) (form_given m.types) ∙ (length-map info.expressions.items (λ (i : ExpressionInfo). i.ty) ∙ a.info.expressions.len);
+    each = all_kept m f info.expressions.items a.info.expressions;
+  };
+  globals = a.info.globals;
+  joined = a.info.joined;
+  all_run = ap (λ bits. record { 0 = bits }) a.info.available_stages;
+  unblended = a.info.dual_source_blending;
+}
+
+pub kept_by : (flags : ValidationFlags) (m : PlainModule) (f : PlainFunction) (summaries : List Summary) (stages : List ShaderStages) (r : Result FunctionInfo (Refusal FunctionError))
+    → IsProcessed flags m f summaries r
+    → IfOk r (λ info. IsKept (reading_of (question m f summaries stages)) flags (question m f summaries stages) (types_of info) (summary_of info) info.available_stages info.dual_source_blending)
+kept_by flags m f summaries stages (Ok info) a = kept_of flags m f summaries stages info a
+kept_by flags m f summaries stages (Err e) a = tt
+
+pub fault_by : (flags : ValidationFlags) (m : PlainModule) (f : PlainFunction) (summaries : List Summary) (stages : List ShaderStages) (r : Result FunctionInfo (Refusal FunctionError))
+    → IsProcessed flags m f summaries r → IfErr r (IsRefusedFor ((faults_of (question m f summaries stages)).IsAnalysisFault flags))
+fault_by flags m f summaries stages (Ok info) a = tt
+fault_by flags m f summaries stages (Err (refusal.Memory e)) a = tt
+fault_by flags m f summaries stages (Err (refusal.Fault e)) a = a.0

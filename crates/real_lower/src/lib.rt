@@ -1,0 +1,7 @@
+//! The rules of functions over the typing, the analysis and the checks of this repository: `RealLower`.
+#![tactic(auto)]
+
+mod real;
+mod stages;
+
+pub use real::RealLower;

@@ -1,0 +1,162 @@
+//! The layer beneath the rules of functions.
+
+ghost use Rattle.std.specs.Prelude.{◌≡◌};
+
+use crate::stages::stages_by;
+use analysis_forms::{GlobalUse, SamplingPair};
+use analysis_info::FunctionInfo;
+use check_operands::CheckContext;
+use error_expressions::ExpressionError;
+use error_functions::FunctionError;
+use expression_validator::validate_expression;
+use function_lower::Lower;
+use ir_arena::handle::Handle;
+use ir_faults::refusal::Refusal;
+use ir_flags::{ShaderStages, ValidationFlags};
+use ir_items::{Function, Module};
+use ir_types::key;
+use module_info::ModuleInfo;
+use statement_checks::BlockContext;
+use std::alloc::Global;
+use type_infos::TypeInfo;
+use typing_forms::TypeResolution;
+use typing_functions::process_function;
+
+/// What is kept of a module, and with it the typing of its expressions, the analysis of its functions and the checks of their
+/// expressions.
+#[derive(Drop)]
+pub struct RealLower {
+    info: ModuleInfo,
+}
+
+impl RealLower {
+    /// The layer for the module of which this is kept.
+    pub fn new(info: ModuleInfo) -> RealLower
+        ensures { result.info ≡ info }
+    {
+        RealLower { info }
+    }
+
+    /// What is kept of the module.
+    pub fn info(&self) -> &ModuleInfo
+        ensures { result.now ≡ self.now.info }
+    {
+        &self.info
+    }
+}
+
+impl Lower for RealLower {
+    type Info = FunctionInfo;
+
+    ghost use Rattle.analysis_info.specs.Infos.{summary_of};
+    ghost use Rattle.real_lower.specs.Made.{IsMadeOf, types_of};
+    ghost use Rattle.real_lower.specs.Readings.{reading_of, faults_of};
+    ghost use Rattle.real_lower.specs.Laws.{one_form_by, one_run_by, expression_refuted_by};
+    ghost use Rattle.spec_expressions.specs.Typing.{HasGlobalType};
+
+    ghost is_for = { λ l m. IsMadeOf m l.info };
+
+    ghost reading = { λ _ q. reading_of q };
+
+    ghost faults = { λ _ q. faults_of q };
+
+    ghost told = { λ l. l.info.types.items };
+
+    ghost has_global_form = { λ _ m. HasGlobalType m };
+
+    ghost global_types = { λ l. l.info.const_expression_types.items };
+
+    ghost types = { λ _ info. types_of info };
+
+    ghost summary = { λ _ info. summary_of info };
+
+    ghost noted = { λ _ info. info.available_stages };
+
+    ghost blending = { λ _ info. info.dual_source_blending };
+
+    fn type_infos(&self) -> &[TypeInfo] {
+        self.info.types()
+    }
+
+    fn type_info(&self, ty: Handle<key::IrType>) -> &TypeInfo {
+        &self.info[ty]
+    }
+
+    fn global_resolution(&self, expression: Handle<key::Expression>) -> &TypeResolution {
+        &self.info[expression]
+    }
+
+    fn analyse(
+        &self,
+        alloc: Global,
+        module: &Module,
+        function: &Function,
+        callees: &[FunctionInfo],
+        flags: ValidationFlags,
+    ) -> Result<FunctionInfo, Refusal<FunctionError>> {
+        process_function(alloc, module, function, callees, flags)
+    }
+
+    fn resolution<'a>(
+        &self,
+        info: &'a FunctionInfo,
+        expression: Handle<key::Expression>,
+    ) -> &'a TypeResolution {
+        &info[expression].ty
+    }
+
+    fn check_expression(
+        &self,
+        context: &BlockContext<'_>,
+        expression: Handle<key::Expression>,
+        callees: &[FunctionInfo],
+    ) -> Result<ShaderStages, ExpressionError> {
+        let own = CheckContext {
+            capabilities: context.capabilities,
+            types: &context.module.types,
+            infos: self.info.types(),
+            expressions: &context.function.expressions,
+            forms: context.forms,
+            kinds: context.kinds,
+            callees: &[],
+        };
+        match validate_expression(&own, expression) {
+            Ok(stages) => Ok(stages_by(stages, &context.function.expressions[expression], callees)),
+            Err(error) => Err(error),
+        }
+    }
+
+    fn stages(&self, info: &FunctionInfo) -> ShaderStages {
+        info.available_stages
+    }
+
+    fn uses(&self, info: &FunctionInfo, global: Handle<key::GlobalVariable>) -> GlobalUse {
+        info[global]
+    }
+
+    fn pairs<'a>(&self, info: &'a FunctionInfo) -> &'a [SamplingPair] {
+        info.pairs()
+    }
+
+    fn note(
+        &self,
+        info: &mut FunctionInfo,
+        stages: ShaderStages,
+        uses: &[(Handle<key::GlobalVariable>, GlobalUse)],
+        dual_source_blending: bool,
+    ) {
+        info.note(stages, uses, dual_source_blending);
+    }
+
+    ghost told_of_all = { λ l m made. made.told };
+
+    ghost global_typed = { λ l m made. made.typed.each };
+
+    ghost one_form = { λ _ q e s t a b. one_form_by q e s t a b };
+
+    ghost one_run = { λ _ q e s t a b. one_run_by q e s t a b };
+
+    ghost fault_refutes = { λ _ q flags e fault clear. clear e fault };
+
+    ghost expression_refuted = { λ _ q capabilities forms e x fault ok. expression_refuted_by q capabilities forms e x fault ok };
+}
