@@ -1,0 +1,159 @@
+//! A validator of functions, over any layer beneath them.
+
+ghost use Rattle.std.specs.Prelude.{◌≡◌, ◌↔◌, ℕ, IfErr, IfOk, None, OnErr, OnOk, length, map};
+ghost use Rattle.function_blocks.specs.Faults.{IsFunctionFault};
+ghost use Rattle.function_lower.specs.Analysis.{IsRefusedFor};
+ghost use Rattle.function_lower.specs.Question.{question};
+ghost use Rattle.function_validator.specs.Settings.{settings_for};
+ghost use Rattle.ir_arena.specs.Arenas.{value_of_entry};
+ghost use Rattle.ir_expressions.specs.Plain.{expression_view};
+ghost use Rattle.ir_flags.specs.Sets.{Has};
+ghost use Rattle.ir_items.specs.View.{function_view, module_view};
+ghost use Rattle.ir_walks.specs.Filters.{ParentsPrecede};
+ghost use Rattle.spec_analysis.specs.Summaries.{CalleesKnown, IsSummary};
+ghost use Rattle.spec_checks.specs.Stages.{all_stages};
+ghost use Rattle.spec_handles.specs.Conditions.{HandlesInRange, OperandsPrecede};
+ghost use Rattle.spec_statements.specs.Functions.{FunctionOK, AllowsStage};
+ghost use Rattle.spec_statements.specs.Payloads.{IsHeldAfter};
+ghost use Rattle.typing_layout.specs.Constness.{OriginsPrecede};
+
+use bitflags::Flags;
+use error_functions::FunctionError;
+use function_blocks::{FunctionSettings, validate_function};
+use function_lower::Lower;
+use ir_arena::handle::Handle;
+use ir_faults::refusal::Refusal;
+use ir_flags::{Capabilities, ShaderStages, SubgroupOperationSet, ValidationFlags};
+use ir_items::{Function, Module};
+use ir_types::key;
+use std::alloc::Global;
+
+/// What judges the functions of a module, one after the other (naga's `Validator`, as far as it speaks of functions). It keeps
+/// the type of the payloads of the rays so far, and nothing else.
+#[derive(Drop)]
+pub struct Validator<L> {
+    alloc: Global,
+    /// The layer beneath.
+    pub lower: L,
+    /// The checks that are made.
+    pub flags: ValidationFlags,
+    /// What shaders may use beyond the common part.
+    pub capabilities: Capabilities,
+    /// The stages that have operations of subgroups.
+    pub stages: ShaderStages,
+    /// The operations of subgroups that may be used.
+    pub operations: SubgroupOperationSet,
+    /// The type of the payloads of the functions so far, if one has any.
+    pub held: Option<Handle<key::IrType>>,
+}
+
+impl<L: Lower> Validator<L> {
+    /// A validator that makes these checks, of shaders that may use this, without operations of subgroups. It takes no memory.
+    pub fn new(alloc: Global, lower: L, flags: ValidationFlags, capabilities: Capabilities) -> Self
+        ensures lower { result.lower ≡ lower }
+        ensures flags { result.flags ≡ flags }
+        ensures capabilities { result.capabilities ≡ capabilities }
+        ensures stages { result.stages.0 ≡ 0 }
+        ensures operations { result.operations.0 ≡ 0 }
+        ensures held { result.held ≡ None }
+    {
+        Validator {
+            alloc,
+            lower,
+            flags,
+            capabilities,
+            stages: ShaderStages(0),
+            operations: SubgroupOperationSet(0),
+            held: None,
+        }
+    }
+
+    /// Says which stages have operations of subgroups.
+    pub fn subgroup_stages(&mut self, stages: ShaderStages)
+        ensures stages { self.new.stages ≡ stages }
+        ensures lower { self.new.lower ≡ self.old.lower }
+        ensures flags { self.new.flags ≡ self.old.flags }
+        ensures capabilities { self.new.capabilities ≡ self.old.capabilities }
+        ensures operations { self.new.operations ≡ self.old.operations }
+        ensures held { self.new.held ≡ self.old.held }
+    {
+        self.stages = stages;
+    }
+
+    /// Says which operations of subgroups may be used.
+    pub fn subgroup_operations(&mut self, operations: SubgroupOperationSet)
+        ensures operations { self.new.operations ≡ operations }
+        ensures lower { self.new.lower ≡ self.old.lower }
+        ensures flags { self.new.flags ≡ self.old.flags }
+        ensures capabilities { self.new.capabilities ≡ self.old.capabilities }
+        ensures stages { self.new.stages ≡ self.old.stages }
+        ensures held { self.new.held ≡ self.old.held }
+    {
+        self.operations = operations;
+    }
+
+    /// Forgets the payloads of the functions that were judged.
+    pub fn reset(&mut self)
+        ensures held { self.new.held ≡ None }
+        ensures lower { self.new.lower ≡ self.old.lower }
+        ensures flags { self.new.flags ≡ self.old.flags }
+        ensures capabilities { self.new.capabilities ≡ self.old.capabilities }
+        ensures stages { self.new.stages ≡ self.old.stages }
+        ensures operations { self.new.operations ≡ self.old.operations }
+    {
+        self.held = None;
+    }
+
+    /// Whether a function of the module is accepted, and what is kept of it (naga's `Validator::validate_function`). `mod_info`
+    /// has what this call answered for the functions before it, in order, where stages and uses may have been noted since;
+    /// `entry_point` says that the function is an entry point's. The payload type is kept where the function is accepted; a
+    /// refusal leaves the validator as it was.
+    ///
+    /// Asks that the layer was made for the module, and that the handles of the function are in order.
+    ///
+    /// # Errors
+    ///
+    /// What [`validate_function`] answers.
+    pub fn validate_function(
+        &mut self,
+        fun: &Function,
+        module: &Module,
+        mod_info: &[L::Info],
+        entry_point: bool,
+    ) -> Result<L::Info, Refusal<FunctionError>>
+        requires made { L.is_for self.old.lower (module_view «module».now) }
+        requires handles { HandlesInRange (module_view «module».now) (function_view fun.now) }
+        requires precede { OperandsPrecede (function_view fun.now).expressions }
+        requires origins { OriginsPrecede (map expression_view (map value_of_entry fun.now.expressions)) }
+        requires parents { ParentsPrecede (module_view «module».now).filters }
+        ensures accepted { let q = question (module_view «module».now) (function_view fun.now) (map (L.summary self.old.lower) mod_info.now) (map (L.noted self.old.lower) mod_info.now) in
+            OnOk result (FunctionOK (L.reading self.old.lower q) (settings_for self.old.flags self.old.capabilities self.old.operations self.old.stages entry_point self.old.held) q.m q.f) }
+        ensures refused { let q = question (module_view «module».now) (function_view fun.now) (map (L.summary self.old.lower) mod_info.now) (map (L.noted self.old.lower) mod_info.now) in
+            IfErr result (IsRefusedFor (λ _. FunctionOK (L.reading self.old.lower q) (settings_for self.old.flags self.old.capabilities self.old.operations self.old.stages entry_point self.old.held) q.m q.f → ⊥)) }
+        ensures fault { let q = question (module_view «module».now) (function_view fun.now) (map (L.summary self.old.lower) mod_info.now) (map (L.noted self.old.lower) mod_info.now) in
+            IfErr result (IsRefusedFor (IsFunctionFault (L.reading self.old.lower q) (L.faults self.old.lower q) (settings_for self.old.flags self.old.capabilities self.old.operations self.old.stages entry_point self.old.held) q.m q.f)) }
+        ensures held { OnOk result (IsHeldAfter self.old.flags (module_view «module».now) (function_view fun.now) self.old.held self.new.held) }
+        ensures kept { OnErr result (self.new.held ≡ self.old.held) }
+        ensures lower { self.new.lower ≡ self.old.lower }
+        ensures flags { self.new.flags ≡ self.old.flags }
+        ensures capabilities { self.new.capabilities ≡ self.old.capabilities }
+        ensures stages { self.new.stages ≡ self.old.stages }
+        ensures operations { self.new.operations ≡ self.old.operations }
+    {
+        let settings = FunctionSettings {
+            flags: self.flags,
+            capabilities: self.capabilities,
+            operations: self.operations,
+            subgroup_stages: self.stages,
+            entry: entry_point,
+            held: self.held,
+        };
+        match validate_function(&self.lower, self.alloc, &settings, module, fun, mod_info) {
+            Ok(validated) => {
+                self.held = validated.held;
+                Ok(validated.info)
+            }
+            Err(refusal) => Err(refusal),
+        }
+    }
+}
