@@ -10,7 +10,7 @@ ghost use Rattle.ir_expressions.specs.Plain.{expression_view};
 ghost use Rattle.ir_flags.specs.Sets.{Has};
 ghost use Rattle.ir_items.specs.View.{function_view, module_view};
 ghost use Rattle.ir_walks.specs.Filters.{ParentsPrecede};
-ghost use Rattle.spec_analysis.specs.Summaries.{CalleesKnown, IsSummary};
+ghost use Rattle.spec_analysis.specs.Summaries.{CalleesKnown, IsJoined, IsSummary};
 ghost use Rattle.spec_checks.specs.Stages.{all_stages};
 ghost use Rattle.spec_handles.specs.Conditions.{HandlesInRange, OperandsPrecede};
 ghost use Rattle.spec_statements.specs.Functions.{FunctionOK, AllowsStage};
@@ -132,6 +132,11 @@ impl<L: Lower> Validator<L> {
             IfErr result (IsRefusedFor (λ _. FunctionOK (L.reading self.old.lower q) (settings_for self.old.flags self.old.capabilities self.old.operations self.old.stages entry_point self.old.held) q.m q.f → ⊥)) }
         ensures fault { let q = question (module_view «module».now) (function_view fun.now) (map (L.summary self.old.lower) mod_info.now) (map (L.noted self.old.lower) mod_info.now) in
             IfErr result (IsRefusedFor (IsFunctionFault (L.reading self.old.lower q) (L.faults self.old.lower q) (settings_for self.old.flags self.old.capabilities self.old.operations self.old.stages entry_point self.old.held) q.m q.f)) }
+        ensures noted { let q = question (module_view «module».now) (function_view fun.now) (map (L.summary self.old.lower) mod_info.now) (map (L.noted self.old.lower) mod_info.now) in
+            IfOk result (λ info. (stage : ℕ) → Has (L.noted self.old.lower info).0 stage ↔ (Has all_stages.0 stage × AllowsStage (L.reading self.old.lower q) (settings_for self.old.flags self.old.capabilities self.old.operations self.old.stages entry_point self.old.held) q.stages q.f stage)) }
+        ensures joined { IfOk result (λ info. IsJoined (length (module_view «module».now).globals) (function_view fun.now) (map (L.summary self.old.lower) mod_info.now) (L.summary self.old.lower info)) }
+        ensures chains { CalleesKnown (module_view «module».now) (function_view fun.now) (map (L.summary self.old.lower) mod_info.now)
+            → IfOk result (λ info. IsSummary (module_view «module».now) (function_view fun.now) (L.summary self.old.lower info)) }
         ensures held { OnOk result (IsHeldAfter self.old.flags (module_view «module».now) (function_view fun.now) self.old.held self.new.held) }
         ensures kept { OnErr result (self.new.held ≡ self.old.held) }
         ensures lower { self.new.lower ≡ self.old.lower }
