@@ -1,0 +1,59 @@
+//! The small layer, made for a module.
+
+ghost use Rattle.std.specs.Prelude.{IfOk, IfSome};
+ghost use Rattle.interface_checks.specs.Told.{AreTold};
+ghost use Rattle.ir_items.specs.View.{module_view};
+ghost use Rattle.tiny_lower.specs.Readings.{IsMadeOf};
+ghost use Rattle.typing_forms.specs.Resolutions.{types_view};
+
+use ir_faults::refusal::Refusal;
+use ir_flags::Capabilities;
+use ir_items::Module;
+use ir_types::{IrType, key};
+use ir_unique_arena::unique_arena::UniqueArena;
+use module_types::{TypeInfo, TypeSettings, validate_types};
+use std::alloc::{AllocError, Global};
+use tiny_lower::TinyLower;
+use typing_layout::Layouter;
+use typing_rules::types_go_back;
+
+// What is told of these types, where a module may have them. The error is out of memory.
+fn infos_of(
+    alloc: Global,
+    types: &UniqueArena<IrType, key::IrType>,
+) -> Result<Option<Vec<TypeInfo>>, AllocError>
+    ensures { IfOk result (λ found. IfSome found (λ infos. AreTold (types_view types.now) infos.items)) }
+{
+    if !types_go_back(types) {
+        return Ok(None);
+    }
+    let mut layouter = Layouter::new(alloc);
+    match layouter.update(types) {
+        Ok(()) => {}
+        Err(Refusal::Memory(error)) => return Err(error),
+        Err(Refusal::Fault(_)) => return Ok(None),
+    }
+    let settings = TypeSettings {
+        capabilities: Capabilities(0),
+        overrides_resolved: false,
+    };
+    match validate_types(alloc, settings, types, &layouter) {
+        Ok(infos) => Ok(Some(infos)),
+        Err(Refusal::Memory(error)) => Err(error),
+        Err(Refusal::Fault(_)) => Ok(None),
+    }
+}
+
+/// The layer for a module, if its types are accepted and it has no global variables. The error is out of memory.
+pub fn lower_for(alloc: Global, module: &Module) -> Result<Option<TinyLower>, AllocError>
+    ensures { IfOk result (λ found. IfSome found (λ lower. IsMadeOf (module_view «module».now) lower.infos.items)) }
+{
+    if !module.global_variables.is_empty() {
+        return Ok(None);
+    }
+    match infos_of(alloc, &module.types) {
+        Ok(Some(infos)) => Ok(Some(TinyLower::new(infos))),
+        Ok(None) => Ok(None),
+        Err(error) => Err(error),
+    }
+}

@@ -1,0 +1,46 @@
+-- What is kept of a function is what is asked of a layer.
+use Rattle.std.proofs.Common.{◌≡◌, ◌<◌, ℕ, Bool, List, [], ◌∷◌, Some, false, All, map, length, slice_get, refl, sym, ap, subst, ◌∙◌, inl, inr, arith}
+use Rattle.std.proofs.lemmas.List.Elements.{All-head}
+use Rattle.std.specs.Option.{is_some}
+use Rattle.analysis_forms.specs.declared.global_use.GlobalUse.{GlobalUse}
+use Rattle.analysis_info.specs.Infos.{NotesUse}
+use Rattle.function_lower.specs.Analysis.{IsKept}
+use Rattle.function_lower.specs.Question.{question}
+use Rattle.ir_flags.specs.declared.settings.ValidationFlags.{ValidationFlags}
+use Rattle.ir_flags.specs.declared.stages.ShaderStages.{ShaderStages}
+use Rattle.ir_items.specs.Plain.{PlainFunction, PlainModule}
+use Rattle.ir_references.specs.First.{first_in}
+use Rattle.spec_analysis.proofs.SummaryLaws.{joined_by_callees}
+use Rattle.spec_analysis.specs.Summaries.{Summary, AgreeOnCallees}
+use Rattle.spec_checks.specs.Stages.{all_stages}
+use Rattle.tiny_lower.proofs.Joined.{joined_of}
+use Rattle.tiny_lower.proofs.Typed.{none_untyped, many_told, has_form}
+use Rattle.tiny_lower.specs.Ends.{summary_of, noted_of, ends_in}
+use Rattle.tiny_lower.specs.Readings.{reading_of}
+use Rattle.tiny_lower.specs.Typing.{types_of}
+use Rattle.tiny_lower.specs.Values.{resolution_of}
+use Rattle.tiny_lower.specs.declared.tiny.TinyInfo.{TinyInfo}
+use Rattle.tiny_lower.specs.declared.value_type.ValueType.{ValueType}
+use Rattle.typing_forms.specs.declared.resolution.TypeResolution.{TypeResolution}
+use Rattle.typing_operands.specs.Answers.{form_given}
+
+pub kept_of : (flags : ValidationFlags) (m : PlainModule) (f : PlainFunction) (callees : List TinyInfo) (others : List Summary) (stages : List ShaderStages) (types : List ValueType) (told : List TypeResolution) (may_kill : Bool) (available : ShaderStages)
+    → m.globals ≡ [] → AgreeOnCallees f (map summary_of callees) others → map Some types ≡ types_of m f → told ≡ map resolution_of types
+    → may_kill ≡ is_some (first_in (ends_in (map summary_of callees)) f.body) → available.0 ≡ all_stages.0
+    → IsKept (reading_of (question m f others stages)) flags (question m f others stages) told (record { uses = []; pairs = []; may_kill = may_kill }) available false
+kept_of flags m f callees others stages types told may_kill available none agree are is kills all = record {
+  analysed = none_untyped m f types are;
+  typed = record {
+    many = ap (λ ts. length (map (form_given m.types) ts)) is ∙ many_told m f types are;
+    each = λ e t at. has_form m f types are e t (ap (λ ts. slice_get (map (form_given m.types) ts) e) (sym is) ∙ at);
+  };
+  globals = sym (ap length none);
+  joined = joined_by_callees f (map summary_of callees) others agree (length m.globals) _ (joined_of m f callees may_kill none (none_untyped m f types are) kills);
+  all_run = ap (λ bits. record { 0 = bits }) all;
+  unblended = refl;
+}
+
+-- where there is no global variable, none is noted
+pub none_noted : (noted : List (ℕ × GlobalUse)) (g k : ℕ) → All (λ u. u.0 < 0) noted → NotesUse noted g k → ⊥
+none_noted [] g k below r = elim r.1 [ ]
+none_noted (more ∷ rest) g k below r = let lt = All-head (λ (u : ℕ × GlobalUse). u.0 < 0) more rest below in omega (arith, lt)

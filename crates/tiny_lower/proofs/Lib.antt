@@ -1,0 +1,4 @@
+pub mod Typed
+mod Effects
+mod Joined
+mod Kept

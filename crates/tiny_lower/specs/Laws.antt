@@ -1,0 +1,25 @@
+-- The laws of a lower layer, of this one.
+use Rattle.std.specs.Prelude.{◌≡◌, ℕ, List, Some}
+use Rattle.error_functions.specs.declared.error.FunctionError.{FunctionError}
+use Rattle.function_lower.specs.Question.{Question}
+use Rattle.ir_flags.specs.declared.stages.ShaderStages.{ShaderStages}
+use Rattle.ir_items.specs.Plain.{PlainFunction, PlainModule}
+use Rattle.std.proofs.Common.{slice_get, sym, ◌∙◌, []}
+use Rattle.tiny_lower.specs.Readings.{IsRunBy, IsTypeFault, untyped}
+use Rattle.tiny_lower.specs.Typing.{HasForm, IsUntyped}
+use Rattle.typing_forms.specs.declared.form.Form.{Form}
+
+some_is : {X : Type 0} {x y : X} → Some x ≡ Some y → x ≡ y
+some_is e = cc (e)
+
+pub one_form_by : (q : Question) (e : ℕ) (s t : Form) → HasForm q.m q.f e s → HasForm q.m q.f e t → s ≡ t
+one_form_by q e s t a b = some_is (sym a ∙ b)
+
+pub one_run_by : (q : Question) (e : ℕ) (s t : ShaderStages) → IsRunBy q.stages q.f e s → IsRunBy q.stages q.f e t → s ≡ t
+one_run_by q e s t a b = some_is (sym a ∙ b)
+
+pub fault_refutes_by : (m : PlainModule) (f : PlainFunction) (e : FunctionError) → IsTypeFault m f e → ((k : ℕ) → IsUntyped m f k → ⊥) → ⊥
+fault_refutes_by m f _ (untyped {e = k} none) typed = typed k none
+
+pub none_given : {X : Type 0} (e : ℕ) (r : X) → slice_get [] e ≡ Some r → ⊥
+none_given e r at = cc (at)

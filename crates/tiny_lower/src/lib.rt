@@ -1,0 +1,12 @@
+//! The rules of functions over a small typing, of three scalars and of modules without global variables: `TinyLower`.
+#![tactic(auto)]
+
+mod ends;
+mod expressions;
+mod lookups;
+mod stages;
+mod tiny;
+mod types;
+mod value_type;
+
+pub use tiny::{TinyInfo, TinyLower};

@@ -1,0 +1,165 @@
+//! The layer beneath the rules of functions.
+
+ghost use Rattle.std.specs.Prelude.{◌≡◌};
+
+use crate::ends::may_kill;
+use crate::stages::stages_by;
+use crate::types::{resolutions_of, types_of};
+use analysis_forms::{GlobalUse, SamplingPair};
+use bitflags::Flags;
+use error_expressions::ExpressionError;
+use error_functions::FunctionError;
+use function_lower::Lower;
+use ir_arena::handle::Handle;
+use ir_faults::refusal::Refusal;
+use ir_flags::{ShaderStages, ValidationFlags};
+use ir_items::{Function, Module};
+use ir_types::key;
+use statement_checks::BlockContext;
+use std::alloc::Global;
+use type_infos::TypeInfo;
+use typing_forms::TypeResolution;
+
+/// What is kept of a function: the types of its expressions, whether it may end the fragment, and what is noted of it.
+#[derive(Drop)]
+pub struct TinyInfo {
+    types: Vec<TypeResolution>,
+    pub(crate) may_kill: bool,
+    pub(crate) stages: ShaderStages,
+    dual_source_blending: bool,
+}
+
+/// A layer for modules without global variables that types values of `u32`, `bool` and `f32`: literals, zeros, arguments,
+/// operations and the results of calls. Any other expression is a fault of its analysis.
+#[derive(Drop)]
+pub struct TinyLower {
+    infos: Vec<TypeInfo>,
+}
+
+impl TinyLower {
+    /// The layer for the module of whose types this is told.
+    pub fn new(infos: Vec<TypeInfo>) -> TinyLower
+        ensures { result.infos ≡ infos }
+    {
+        TinyLower { infos }
+    }
+}
+
+impl Lower for TinyLower {
+    type Info = TinyInfo;
+
+    ghost use Rattle.std.specs.Prelude.{[]};
+    ghost use Rattle.tiny_lower.specs.Ends.{noted_of, summary_of};
+    ghost use Rattle.tiny_lower.specs.Laws.{fault_refutes_by, none_given, one_form_by, one_run_by};
+    ghost use Rattle.tiny_lower.specs.Readings.{IsMadeOf, faults_of, reading_of};
+
+    ghost is_for = { λ l m. IsMadeOf m l.infos.items };
+
+    ghost reading = { λ _ q. reading_of q };
+
+    ghost faults = { λ _ q. faults_of q };
+
+    ghost told = { λ l. l.infos.items };
+
+    ghost has_global_form = { λ _ _ _ _. ⊥ };
+
+    ghost global_types = { λ _. [] };
+
+    ghost types = { λ _ info. info.types.items };
+
+    ghost summary = { λ _ info. summary_of info };
+
+    ghost noted = { λ _ info. noted_of info };
+
+    ghost blending = { λ _ info. info.dual_source_blending };
+
+    fn type_infos(&self) -> &[TypeInfo] {
+        &self.infos
+    }
+
+    fn type_info(&self, ty: Handle<key::IrType>) -> &TypeInfo {
+        &self.infos[ty.index()]
+    }
+
+    // There is none of which the type is told.
+    fn global_resolution(&self, _expression: Handle<key::Expression>) -> &TypeResolution {
+        unreachable!()
+    }
+
+    fn analyse(
+        &self,
+        alloc: Global,
+        module: &Module,
+        function: &Function,
+        callees: &[TinyInfo],
+        _flags: ValidationFlags,
+    ) -> Result<TinyInfo, Refusal<FunctionError>> {
+        let found = match types_of(alloc, module, function) {
+            Ok(found) => found,
+            Err(refusal) => return Err(refusal),
+        };
+        let types = match resolutions_of(alloc, found.as_slice()) {
+            Ok(types) => types,
+            Err(error) => return Err(Refusal::Memory(error)),
+        };
+        Ok(TinyInfo {
+            types,
+            may_kill: may_kill(function, callees),
+            stages: ShaderStages::all(),
+            dual_source_blending: false,
+        })
+    }
+
+    fn resolution<'a>(
+        &self,
+        info: &'a TinyInfo,
+        expression: Handle<key::Expression>,
+    ) -> &'a TypeResolution {
+        &info.types[expression.index()]
+    }
+
+    fn check_expression(
+        &self,
+        context: &BlockContext<'_>,
+        expression: Handle<key::Expression>,
+        callees: &[TinyInfo],
+    ) -> Result<ShaderStages, ExpressionError> {
+        Ok(stages_by(&context.function.expressions[expression], callees))
+    }
+
+    fn stages(&self, info: &TinyInfo) -> ShaderStages {
+        info.stages
+    }
+
+    // There is no global variable.
+    fn uses(&self, _info: &TinyInfo, _global: Handle<key::GlobalVariable>) -> GlobalUse {
+        unreachable!()
+    }
+
+    fn pairs<'a>(&self, _info: &'a TinyInfo) -> &'a [SamplingPair] {
+        &[]
+    }
+
+    fn note(
+        &self,
+        info: &mut TinyInfo,
+        stages: ShaderStages,
+        _uses: &[(Handle<key::GlobalVariable>, GlobalUse)],
+        dual_source_blending: bool,
+    ) {
+        info.stages = info.stages.intersection(stages);
+        info.dual_source_blending = info.dual_source_blending || dual_source_blending;
+    }
+
+    ghost told_of_all = { λ l m made. made.told };
+
+    ghost global_typed = { λ l m made e r at. none_given e r at };
+
+    ghost one_form = { λ _ q e s t a b. one_form_by q e s t a b };
+
+    ghost one_run = { λ _ q e s t a b. one_run_by q e s t a b };
+
+    ghost fault_refutes = { λ _ q flags e fault typed. fault_refutes_by q.m q.f e fault typed };
+
+    ghost expression_refuted = { λ _ q capabilities forms e x fault ok. fault };
+}
