@@ -16,10 +16,7 @@ const CASES: [(&str, &str); 12] = [
         r#"[null,[],[1,null],[],[["Literal","u32",1]],[["Return",0]],null]"#,
         "return",
     ),
-    (
-        r#"[null,[],null,[],[["Literal","u32",1],["Literal","f32",0],["Binary","Add",0,1]],[["Emit",2,3]],null]"#,
-        "expression",
-    ),
+    (TWO_TYPES, "expression"),
     (
         r#"[null,[["a",2,null]],[1,null],[],[["FunctionArgument",0],["ZeroValue",2],["Binary","Less",0,1],["Unary","LogicalNot",2]],[["Emit",2,4],["Return",3]],null]"#,
         "accepted 511 ",
@@ -54,10 +51,21 @@ const CASES: [(&str, &str); 12] = [
     ),
 ];
 
-// What is told of a module with these types, these global variables and these functions.
-fn found(alloc: Global, globals: &str, functions: &str) -> Result<String, AllocError> {
+// All flags, and all but those of expressions.
+const ALL: &str =
+    r#""EXPRESSIONS","BLOCKS","CONTROL_FLOW_UNIFORMITY","STRUCT_LAYOUTS","CONSTANTS","BINDINGS""#;
+
+const WITHOUT_EXPRESSIONS: &str =
+    r#""BLOCKS","CONTROL_FLOW_UNIFORMITY","STRUCT_LAYOUTS","CONSTANTS","BINDINGS""#;
+
+// A sum of values of two types.
+const TWO_TYPES: &str =
+    r#"[null,[],null,[],[["Literal","u32",1],["Literal","f32",0],["Binary","Add",0,1]],[["Emit",2,3]],null]"#;
+
+// What is told of a module with these global variables and these functions, under these flags.
+fn found(alloc: Global, flags: &str, globals: &str, functions: &str) -> Result<String, AllocError> {
     let text = format!(in alloc;
-        r#"[1,["EXPRESSIONS","BLOCKS","CONTROL_FLOW_UNIFORMITY","STRUCT_LAYOUTS","CONSTANTS","BINDINGS"],[],[[],[]],false,[[null,["Scalar","u32"]],[null,["Scalar","bool"]],[null,["Scalar","f32"]],[null,["Scalar","i32"]]],[null,null,null,[]],[[],null],[],[],[],[{globals}],[{functions}],[]]"#
+        r#"[1,[{flags}],[],[[],[]],false,[[null,["Scalar","u32"]],[null,["Scalar","bool"]],[null,["Scalar","f32"]],[null,["Scalar","i32"]]],[null,null,null,[]],[[],null],[],[],[],[{globals}],[{functions}],[]]"#
     )?;
     match read_document(alloc, text.as_bytes()) {
         Ok(document) => told_of(alloc, document.settings.flags, &document.module),
@@ -70,10 +78,12 @@ fn found(alloc: Global, globals: &str, functions: &str) -> Result<String, AllocE
 fn functions_over_the_small_layer(rt: HostRuntime) -> Result<(), Fail> {
     let alloc = rt.alloc();
     for (functions, expected) in CASES {
-        let told = found(alloc, "", functions)?;
+        let told = found(alloc, ALL, "", functions)?;
         assert!(rt; told.as_str() == expected, "{functions}: {told}");
     }
-    let told = found(alloc, r#"[null,"Private",null,0,null,[]]"#, "")?;
+    let unasked = found(alloc, WITHOUT_EXPRESSIONS, "", TWO_TYPES)?;
+    assert!(rt; unasked.as_str() == "accepted 511 ", "{unasked}");
+    let told = found(alloc, ALL, r#"[null,"Private",null,0,null,[]]"#, "")?;
     assert!(rt; told.as_str() == "no layer", "{told}");
     Ok(())
 }

@@ -1,11 +1,12 @@
 -- The laws of a lower layer, of this one.
-use Rattle.std.specs.Prelude.{◌≡◌, ℕ, List, Some}
+use Rattle.std.specs.Prelude.{◌≡◌, ℕ, IsTrue, List, Some}
+use Rattle.error_expressions.specs.declared.expressions.ExpressionError.{ExpressionError}
 use Rattle.error_functions.specs.declared.error.FunctionError.{FunctionError}
 use Rattle.function_lower.specs.Question.{Question}
 use Rattle.ir_flags.specs.declared.stages.ShaderStages.{ShaderStages}
 use Rattle.ir_items.specs.Plain.{PlainFunction, PlainModule}
-use Rattle.std.proofs.Common.{slice_get, sym, ◌∙◌, []}
-use Rattle.tiny_lower.specs.Readings.{IsRunBy, IsTypeFault, untyped}
+use Rattle.std.proofs.Common.{slice_get, sym, ◌∙◌, [], true≢false}
+use Rattle.tiny_lower.specs.Readings.{IsRunBy, IsTypeFault, untyped, IsUnfit, fits_at}
 use Rattle.tiny_lower.specs.Typing.{HasForm, IsUntyped}
 use Rattle.typing_forms.specs.declared.form.Form.{Form}
 
@@ -20,6 +21,9 @@ one_run_by q e s t a b = some_is (sym a ∙ b)
 
 pub fault_refutes_by : (m : PlainModule) (f : PlainFunction) (e : FunctionError) → IsTypeFault m f e → ((k : ℕ) → IsUntyped m f k → ⊥) → ⊥
 fault_refutes_by m f _ (untyped {e = k} none) typed = typed k none
+
+pub unfit_refutes_by : (f : PlainFunction) (forms : List Form) (e : ℕ) (x : ExpressionError) → IsUnfit f forms e x → IsTrue (fits_at forms f e) → ⊥
+unfit_refutes_by f forms e x unfit ok = true≢false (sym ok ∙ unfit.1)
 
 pub none_given : {X : Type 0} (e : ℕ) (r : X) → slice_get [] e ≡ Some r → ⊥
 none_given e r at = cc (at)

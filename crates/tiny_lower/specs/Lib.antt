@@ -1,5 +1,7 @@
 pub mod Values
+pub mod Known
 pub mod Typing
+pub mod Operations
 pub mod Ends
 pub mod Readings
 pub mod Laws

@@ -1,19 +1,24 @@
 -- What the layer says of a function.
-use Rattle.std.specs.Prelude.{◌≡◌, ℕ, List, [], Some, map, option_map, slice_get}
+use Rattle.std.specs.Prelude.{◌≡◌, ℕ, Bool, false, IsTrue, List, [], Option, Some, None, option_map, slice_get}
+use Rattle.error_expressions.specs.declared.expressions.ExpressionError.{ExpressionError}
 use Rattle.error_expressions.specs.declared.expressions.ExpressionError.TheVariants.{Other}
 use Rattle.error_functions.specs.declared.error.FunctionError.{FunctionError}
 use Rattle.error_functions.specs.declared.error.FunctionError.TheVariants.{Expression}
 use Rattle.function_lower.specs.Analysis.{Faults}
 use Rattle.function_lower.specs.Question.{Question}
 use Rattle.interface_checks.specs.Told.{AreTold}
-use Rattle.ir_expressions.specs.Plain.{PlainExpression, plain}
-use Rattle.ir_expressions.specs.declared.expressions.Expression.TheVariants.{CallResult}
+use Rattle.ir_expressions.specs.Plain.{PlainExpression}
 use Rattle.ir_flags.specs.declared.stages.ShaderStages.{ShaderStages}
 use Rattle.ir_items.specs.Plain.{PlainFunction, PlainModule}
 use Rattle.spec_checks.specs.Stages.{all_stages, callee_stages}
 use Rattle.spec_statements.specs.Functions.{Reading}
+use Rattle.tiny_lower.specs.Known.{known_of}
+use Rattle.tiny_lower.specs.Operations.{fits}
 use Rattle.tiny_lower.specs.Typing.{HasForm, IsUntyped}
+use Rattle.tiny_lower.specs.declared.known.Known.{Known}
+use Rattle.tiny_lower.specs.declared.known.Known.TheVariants as known
 use Rattle.type_infos.specs.declared.info.TypeInfo.{TypeInfo}
+use Rattle.typing_forms.specs.declared.form.Form.{Form}
 
 -- The module has no global variables, and of its types this is told.
 pub record IsMadeOf (m : PlainModule) (infos : List TypeInfo) : Type 0 where
@@ -21,28 +26,49 @@ pub record IsMadeOf (m : PlainModule) (infos : List TypeInfo) : Type 0 where
   pub no_globals : m.globals ≡ []
 
 -- the result of a call is read where the function may run, and all else everywhere
+abbrev pub stages_in : (callees : List ShaderStages) → Option Known → ShaderStages
+stages_in callees None = all_stages
+stages_in callees (Some (known.Literal value)) = all_stages
+stages_in callees (Some (known.ZeroValue type)) = all_stages
+stages_in callees (Some (known.FunctionArgument place)) = all_stages
+stages_in callees (Some (known.Unary op expr)) = all_stages
+stages_in callees (Some (known.Binary op left right)) = all_stages
+stages_in callees (Some (known.Select condition accept reject)) = all_stages
+stages_in callees (Some (known.CallResult function)) = callee_stages callees function
+
 abbrev pub stages_by : (callees : List ShaderStages) → PlainExpression → ShaderStages
-stages_by callees (plain (CallResult function)) = callee_stages callees function
-stages_by callees _ = all_stages
+stages_by callees expression = stages_in callees (known_of expression)
 
 abbrev pub IsRunBy : List ShaderStages → PlainFunction → ℕ → ShaderStages → Type 0
 IsRunBy callees f e stages = option_map (stages_by callees) (slice_get f.expressions e) ≡ Some stages
 
--- Each expression has a type, and more is not asked: what has one is accepted.
+-- the expression at a handle fits its operands, where types have these forms
+abbrev pub found_fits : List Form → Option PlainExpression → Bool
+found_fits forms (Some expression) = fits forms expression
+found_fits forms None = false
+
+abbrev pub fits_at : List Form → PlainFunction → ℕ → Bool
+fits_at forms f e = found_fits forms (slice_get f.expressions e)
+
+-- Each expression has a type, and operations fit their operands.
 abbrev pub reading_of : Question → Reading
 reading_of q = record {
   HasForm = HasForm q.m q.f;
   IsAnalysed = λ flags. (e : ℕ) → IsUntyped q.m q.f e → ⊥;
-  IsAccepted = λ capabilities forms e. Unit {0};
+  IsAccepted = λ capabilities forms e. IsTrue (fits_at forms q.f e);
   IsRunBy = IsRunBy q.stages q.f;
 }
 
--- The fault that is found is that of an expression without a type.
+-- The analysis refuses an expression without a type.
 pub data IsTypeFault (m : PlainModule) (f : PlainFunction) : FunctionError → Type 0 where
   untyped : {e : ℕ} → IsUntyped m f e → IsTypeFault m f (Expression e Other)
+
+-- an expression is refused where it doesn't fit its operands, or is of no kind that the layer knows
+abbrev pub IsUnfit : PlainFunction → List Form → ℕ → ExpressionError → Type 0
+IsUnfit f forms e x = (x ≡ Other) × (fits_at forms f e ≡ false)
 
 abbrev pub faults_of : Question → Faults
 faults_of q = record {
   IsAnalysisFault = λ flags. IsTypeFault q.m q.f;
-  IsFaultAt = λ capabilities forms e x. ⊥;
+  IsFaultAt = λ capabilities forms. IsUnfit q.f forms;
 }

@@ -35,6 +35,11 @@ abbrev pub type_of_inner : PlainInner → Option ValueType
 type_of_inner (plain (inner.Scalar s)) = type_of_scalar s
 type_of_inner _ = None
 
+-- the type of values of a form
+abbrev pub type_of_form : Form → Option ValueType
+type_of_form (form.Scalar s) = type_of_scalar s
+type_of_form _ = None
+
 -- ---- how a type is told
 
 abbrev pub resolution_of : ValueType → TypeResolution

@@ -1,16 +1,17 @@
 //! The type of an expression, by the types of those before it.
 
-ghost use Rattle.std.specs.Prelude.{◌≡◌, Some, map, option_and_then};
+ghost use Rattle.std.specs.Prelude.{◌≡◌, Some, map, option_map};
 ghost use Rattle.ir_expressions.specs.Plain.{expression_view};
 ghost use Rattle.ir_items.specs.View.{function_view, module_view};
-ghost use Rattle.tiny_lower.specs.Typing.{binary_type, earlier, expression_type, float, literal_type, number, ordered, same, shared, truth, unary_type, word};
+ghost use Rattle.tiny_lower.specs.Typing.{binary_type, earlier, expression_type, literal_type, type_in};
 
+use crate::known::{Known, known_of};
 use crate::lookups::{answer_type, argument_type, type_at};
 use crate::value_type::ValueType;
 use ir_arena::handle::Handle;
 use ir_expressions::Expression;
 use ir_items::{Function, Module};
-use ir_kinds::{BinaryOperator, Literal, UnaryOperator};
+use ir_kinds::{BinaryOperator, Literal};
 use ir_types::key;
 
 fn literal_type(value: Literal) -> Option<ValueType>
@@ -32,112 +33,31 @@ fn literal_type(value: Literal) -> Option<ValueType>
     }
 }
 
-// ---- operations
-
-fn word(ty: ValueType) -> Option<ValueType>
-    ensures { result ≡ word ty }
-{
-    match ty {
-        ValueType::U32 => Some(ValueType::U32),
-        ValueType::Bool | ValueType::F32 => None,
-    }
-}
-
-fn truth(ty: ValueType) -> Option<ValueType>
-    ensures { result ≡ truth ty }
-{
-    match ty {
-        ValueType::Bool => Some(ValueType::Bool),
-        ValueType::U32 | ValueType::F32 => None,
-    }
-}
-
-fn float(ty: ValueType) -> Option<ValueType>
-    ensures { result ≡ float ty }
-{
-    match ty {
-        ValueType::F32 => Some(ValueType::F32),
-        ValueType::U32 | ValueType::Bool => None,
-    }
-}
-
-fn number(ty: ValueType) -> Option<ValueType>
-    ensures { result ≡ number ty }
-{
-    match ty {
-        ValueType::U32 => Some(ValueType::U32),
-        ValueType::F32 => Some(ValueType::F32),
-        ValueType::Bool => None,
-    }
-}
-
-// The type that both have.
-fn shared(left: ValueType, right: ValueType) -> Option<ValueType>
-    ensures { result ≡ shared left right }
-{
-    match left {
-        ValueType::U32 => word(right),
-        ValueType::Bool => truth(right),
-        ValueType::F32 => float(right),
-    }
-}
-
-fn same(left: Option<ValueType>, right: Option<ValueType>) -> Option<ValueType>
-    ensures { result ≡ same left right }
-{
-    match left {
-        Some(left) => match right {
-            Some(right) => shared(left, right),
-            None => None,
-        },
-        None => None,
-    }
-}
-
-fn unary_type(op: UnaryOperator, ty: ValueType) -> Option<ValueType>
-    ensures { result ≡ unary_type op ty }
-{
-    match op {
-        UnaryOperator::Negate => float(ty),
-        UnaryOperator::LogicalNot => truth(ty),
-        UnaryOperator::BitwiseNot => word(ty),
-    }
-}
-
-// The type of a comparison of numbers.
-fn ordered(ty: ValueType) -> Option<ValueType>
-    ensures { result ≡ ordered ty }
-{
-    match number(ty) {
-        Some(_) => Some(ValueType::Bool),
-        None => None,
-    }
-}
-
-fn binary_type(op: BinaryOperator, ty: ValueType) -> Option<ValueType>
-    ensures { result ≡ binary_type op ty }
+// The type of an operation of which the left operand has this type.
+fn binary_type(op: BinaryOperator, left: ValueType) -> ValueType
+    ensures { result ≡ binary_type op left }
 {
     match op {
         BinaryOperator::Add
         | BinaryOperator::Subtract
         | BinaryOperator::Multiply
         | BinaryOperator::Divide
-        | BinaryOperator::Modulo => number(ty),
-        BinaryOperator::Equal | BinaryOperator::NotEqual => Some(ValueType::Bool),
-        BinaryOperator::Less
-        | BinaryOperator::LessEqual
-        | BinaryOperator::Greater
-        | BinaryOperator::GreaterEqual => ordered(ty),
-        BinaryOperator::And
+        | BinaryOperator::Modulo
+        | BinaryOperator::And
         | BinaryOperator::ExclusiveOr
         | BinaryOperator::InclusiveOr
         | BinaryOperator::ShiftLeft
-        | BinaryOperator::ShiftRight => word(ty),
-        BinaryOperator::LogicalAnd | BinaryOperator::LogicalOr => truth(ty),
+        | BinaryOperator::ShiftRight => left,
+        BinaryOperator::Equal
+        | BinaryOperator::NotEqual
+        | BinaryOperator::Less
+        | BinaryOperator::LessEqual
+        | BinaryOperator::Greater
+        | BinaryOperator::GreaterEqual
+        | BinaryOperator::LogicalAnd
+        | BinaryOperator::LogicalOr => ValueType::Bool,
     }
 }
-
-// ---- operands
 
 // The type of one of the expressions before.
 #[tactic(auto, using(crate::proofs::Typed::earlier_known))]
@@ -150,54 +70,35 @@ fn earlier(past: &[ValueType], operand: Handle<key::Expression>) -> Option<Value
     }
 }
 
-fn unary(
-    past: &[ValueType],
-    op: UnaryOperator,
-    operand: Handle<key::Expression>,
-) -> Option<ValueType>
-    ensures { result ≡ option_and_then (unary_type op) (earlier (map Some past.now) operand) }
-{
-    match earlier(past, operand) {
-        Some(ty) => unary_type(op, ty),
-        None => None,
-    }
-}
-
 fn binary(
     past: &[ValueType],
     op: BinaryOperator,
     left: Handle<key::Expression>,
-    right: Handle<key::Expression>,
 ) -> Option<ValueType>
-    ensures { result ≡ option_and_then (binary_type op) (same (earlier (map Some past.now) left) (earlier (map Some past.now) right)) }
+    ensures { result ≡ option_map (binary_type op) (earlier (map Some past.now) left) }
 {
-    match same(earlier(past, left), earlier(past, right)) {
-        Some(ty) => binary_type(op, ty),
+    match earlier(past, left) {
+        Some(ty) => Some(binary_type(op, ty)),
         None => None,
     }
 }
 
-// Whether a condition holds a truth value.
-fn condition(past: &[ValueType], operand: Handle<key::Expression>) -> Option<ValueType>
-    ensures { result ≡ option_and_then truth (earlier (map Some past.now) operand) }
-{
-    match earlier(past, operand) {
-        Some(ty) => truth(ty),
-        None => None,
-    }
-}
-
-fn select(
+fn type_in(
+    module: &Module,
+    function: &Function,
     past: &[ValueType],
-    test: Handle<key::Expression>,
-    accept: Handle<key::Expression>,
-    reject: Handle<key::Expression>,
+    known: &Known,
 ) -> Option<ValueType>
-    ensures { result ≡ option_and_then (λ t. same (earlier (map Some past.now) accept) (earlier (map Some past.now) reject)) (option_and_then truth (earlier (map Some past.now) test)) }
+    ensures { result ≡ type_in (module_view «module».now) (function_view function.now) (map Some past.now) known.now }
 {
-    match condition(past, test) {
-        Some(_) => same(earlier(past, accept), earlier(past, reject)),
-        None => None,
+    match *known {
+        Known::Literal(value) => literal_type(value),
+        Known::ZeroValue(ty) => type_at(&module.types, ty),
+        Known::FunctionArgument(place) => argument_type(&module.types, &function.arguments, place),
+        Known::Unary { expr, .. } => earlier(past, expr),
+        Known::Binary { op, left, .. } => binary(past, op, left),
+        Known::Select { accept, .. } => earlier(past, accept),
+        Known::CallResult(callee) => answer_type(module, callee),
     }
 }
 
@@ -210,46 +111,8 @@ pub(crate) fn expression_type(
 ) -> Option<ValueType>
     ensures { result ≡ expression_type (module_view «module».now) (function_view function.now) (map Some past.now) (expression_view expression.now) }
 {
-    match *expression {
-        Expression::Literal(value) => literal_type(value),
-        Expression::ZeroValue(ty) => type_at(&module.types, ty),
-        Expression::FunctionArgument(place) => {
-            argument_type(&module.types, &function.arguments, place)
-        }
-        Expression::Unary { op, expr } => unary(past, op, expr),
-        Expression::Binary { op, left, right } => binary(past, op, left, right),
-        Expression::Select {
-            condition,
-            accept,
-            reject,
-        } => select(past, condition, accept, reject),
-        Expression::CallResult(callee) => answer_type(module, callee),
-        Expression::Constant(_)
-        | Expression::Override(_)
-        | Expression::Compose { .. }
-        | Expression::Access { .. }
-        | Expression::AccessIndex { .. }
-        | Expression::Splat { .. }
-        | Expression::Swizzle { .. }
-        | Expression::GlobalVariable(_)
-        | Expression::LocalVariable(_)
-        | Expression::Load { .. }
-        | Expression::ImageSample { .. }
-        | Expression::ImageLoad { .. }
-        | Expression::ImageQuery { .. }
-        | Expression::Derivative { .. }
-        | Expression::Relational { .. }
-        | Expression::Math { .. }
-        | Expression::As { .. }
-        | Expression::AtomicResult { .. }
-        | Expression::WorkGroupUniformLoadResult { .. }
-        | Expression::ArrayLength(_)
-        | Expression::RayQueryVertexPositions { .. }
-        | Expression::RayQueryProceedResult
-        | Expression::RayQueryGetIntersection { .. }
-        | Expression::SubgroupBallotResult
-        | Expression::SubgroupOperationResult { .. }
-        | Expression::CooperativeLoad { .. }
-        | Expression::CooperativeMultiplyAdd { .. } => None,
+    match known_of(expression) {
+        Some(known) => type_in(module, function, past, &known),
+        None => None,
     }
 }

@@ -3,7 +3,9 @@
 
 mod ends;
 mod expressions;
+mod known;
 mod lookups;
+mod operations;
 mod stages;
 mod tiny;
 mod types;

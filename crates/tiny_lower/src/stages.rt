@@ -1,11 +1,12 @@
 //! The stages that may run an expression.
 
-ghost use Rattle.std.specs.Prelude.{◌≡◌, map};
+ghost use Rattle.std.specs.Prelude.{◌≡◌, Some, map};
 ghost use Rattle.ir_expressions.specs.Plain.{expression_view};
 ghost use Rattle.spec_checks.specs.Stages.{callee_stages};
 ghost use Rattle.tiny_lower.specs.Ends.{noted_of};
-ghost use Rattle.tiny_lower.specs.Readings.{stages_by};
+ghost use Rattle.tiny_lower.specs.Readings.{stages_by, stages_in};
 
+use crate::known::{Known, known_of};
 use crate::tiny::TinyInfo;
 use bitflags::Flags;
 use ir_arena::handle::Handle;
@@ -23,44 +24,26 @@ fn stages_at(callees: &[TinyInfo], function: Handle<key::Function>) -> ShaderSta
     }
 }
 
+fn stages_in(known: &Known, callees: &[TinyInfo]) -> ShaderStages
+    ensures { result ≡ stages_in (map noted_of callees.now) (Some known.now) }
+{
+    match *known {
+        Known::CallResult(function) => stages_at(callees, function),
+        Known::Literal(_)
+        | Known::ZeroValue(_)
+        | Known::FunctionArgument(_)
+        | Known::Unary { .. }
+        | Known::Binary { .. }
+        | Known::Select { .. } => ShaderStages::all(),
+    }
+}
+
 /// The stages that may run an expression, where this is kept of functions.
 pub(crate) fn stages_by(expression: &Expression, callees: &[TinyInfo]) -> ShaderStages
     ensures { result ≡ stages_by (map noted_of callees.now) (expression_view expression.now) }
 {
-    match *expression {
-        Expression::CallResult(function) => stages_at(callees, function),
-        Expression::Literal(_)
-        | Expression::Constant(_)
-        | Expression::Override(_)
-        | Expression::ZeroValue(_)
-        | Expression::Compose { .. }
-        | Expression::Access { .. }
-        | Expression::AccessIndex { .. }
-        | Expression::Splat { .. }
-        | Expression::Swizzle { .. }
-        | Expression::FunctionArgument(_)
-        | Expression::GlobalVariable(_)
-        | Expression::LocalVariable(_)
-        | Expression::Load { .. }
-        | Expression::ImageSample { .. }
-        | Expression::ImageLoad { .. }
-        | Expression::ImageQuery { .. }
-        | Expression::Unary { .. }
-        | Expression::Binary { .. }
-        | Expression::Select { .. }
-        | Expression::Derivative { .. }
-        | Expression::Relational { .. }
-        | Expression::Math { .. }
-        | Expression::As { .. }
-        | Expression::AtomicResult { .. }
-        | Expression::WorkGroupUniformLoadResult { .. }
-        | Expression::ArrayLength(_)
-        | Expression::RayQueryVertexPositions { .. }
-        | Expression::RayQueryProceedResult
-        | Expression::RayQueryGetIntersection { .. }
-        | Expression::SubgroupBallotResult
-        | Expression::SubgroupOperationResult { .. }
-        | Expression::CooperativeLoad { .. }
-        | Expression::CooperativeMultiplyAdd { .. } => ShaderStages::all(),
+    match known_of(expression) {
+        Some(known) => stages_in(&known, callees),
+        None => ShaderStages::all(),
     }
 }

@@ -3,6 +3,7 @@
 ghost use Rattle.std.specs.Prelude.{◌≡◌};
 
 use crate::ends::may_kill;
+use crate::operations::fits;
 use crate::stages::stages_by;
 use crate::types::{resolutions_of, types_of};
 use analysis_forms::{GlobalUse, SamplingPair};
@@ -50,7 +51,7 @@ impl Lower for TinyLower {
 
     ghost use Rattle.std.specs.Prelude.{[]};
     ghost use Rattle.tiny_lower.specs.Ends.{noted_of, summary_of};
-    ghost use Rattle.tiny_lower.specs.Laws.{fault_refutes_by, none_given, one_form_by, one_run_by};
+    ghost use Rattle.tiny_lower.specs.Laws.{fault_refutes_by, none_given, one_form_by, one_run_by, unfit_refutes_by};
     ghost use Rattle.tiny_lower.specs.Readings.{IsMadeOf, faults_of, reading_of};
 
     ghost is_for = { λ l m. IsMadeOf m l.infos.items };
@@ -124,7 +125,12 @@ impl Lower for TinyLower {
         expression: Handle<key::Expression>,
         callees: &[TinyInfo],
     ) -> Result<ShaderStages, ExpressionError> {
-        Ok(stages_by(&context.function.expressions[expression], callees))
+        let checked = &context.function.expressions[expression];
+        if fits(context.forms, checked) {
+            Ok(stages_by(checked, callees))
+        } else {
+            Err(ExpressionError::Other)
+        }
     }
 
     fn stages(&self, info: &TinyInfo) -> ShaderStages {
@@ -161,5 +167,5 @@ impl Lower for TinyLower {
 
     ghost fault_refutes = { λ _ q flags e fault typed. fault_refutes_by q.m q.f e fault typed };
 
-    ghost expression_refuted = { λ _ q capabilities forms e x fault ok. fault };
+    ghost expression_refuted = { λ _ q capabilities forms e x fault ok. unfit_refutes_by q.f forms e x fault ok };
 }

@@ -1,12 +1,12 @@
 //! The types that values may have.
 
 ghost use Rattle.std.specs.Prelude.{◌≡◌};
-ghost use Rattle.tiny_lower.specs.Values.{scalar_of, type_of_inner, type_of_scalar, resolution_of};
+ghost use Rattle.tiny_lower.specs.Values.{resolution_of, scalar_of, type_of_form, type_of_inner, type_of_scalar};
 ghost use Rattle.ir_types.specs.Plain.{inner_view};
 
 use ir_kinds::{Scalar, ScalarKind};
 use ir_types::TypeInner;
-use typing_forms::TypeResolution;
+use typing_forms::{Form, TypeResolution};
 
 /// A type that a value may have.
 #[derive(Clone, Copy)]
@@ -62,6 +62,29 @@ pub(crate) fn type_of_inner(inner: &TypeInner) -> Option<ValueType>
         | TypeInner::AccelerationStructure { .. }
         | TypeInner::RayQuery { .. }
         | TypeInner::BindingArray { .. } => None,
+    }
+}
+
+/// The type of values of a form.
+pub(crate) fn type_of_form(form: &Form) -> Option<ValueType>
+    ensures { result ≡ type_of_form form.now }
+{
+    match *form {
+        Form::Scalar(scalar) => type_of_scalar(scalar),
+        Form::Vector { .. }
+        | Form::Matrix { .. }
+        | Form::CooperativeMatrix { .. }
+        | Form::Atomic(_)
+        | Form::Pointer { .. }
+        | Form::ValuePointer { .. }
+        | Form::Array { .. }
+        | Form::Struct(_)
+        | Form::Image { .. }
+        | Form::Sampler { .. }
+        | Form::AccelerationStructure { .. }
+        | Form::RayQuery { .. }
+        | Form::BindingArray { .. }
+        | Form::Nothing => None,
     }
 }
 
