@@ -1,1 +1,1 @@
-mod Made
+mod Accepted
