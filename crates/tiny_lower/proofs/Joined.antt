@@ -1,18 +1,17 @@
 -- A function that the layer types is joined of its own statements and of its callees'.
-use Rattle.std.proofs.Common.{◌≡◌, ◌+◌, ◌⊎◌, ◌<◌, ◌||◌, ℕ, zero, suc, Bool, true, false, if◌then◌else◌, Option, Some, None, IsTrue, List, [], ◌∷◌, ◌++◌, length, map, slice_get, refl, sym, ap, subst, ◌∙◌, inl, inr, arith}
+use Rattle.std.proofs.Common.{◌≡◌, ◌+◌, ◌⊎◌, ◌||◌, ℕ, zero, suc, Bool, true, false, if◌then◌else◌, Option, Some, None, IsTrue, List, [], ◌∷◌, length, map, slice_get, refl, sym, ap, subst, ◌∙◌, inl, inr, arith}
 use Rattle.std.proofs.lemmas.List.Folds.{list_any-append}
 use Rattle.std.specs.List.{list_any}
 use Rattle.std.specs.Option.{is_some}
 use Rattle.ir_blocks.specs.Plain.{PlainStatement, emit, block, if_, switch, loop, break, continue, return, kill, operation, call, PlainBlock}
-use Rattle.ir_expressions.specs.Plain.{PlainExpression, compose, plain}
+use Rattle.ir_expressions.specs.Plain.{PlainExpression, plain}
 use Rattle.ir_expressions.specs.declared.expressions.Expression.TheVariants as x
 use Rattle.ir_items.specs.Plain.{PlainFunction, PlainModule}
 use Rattle.ir_references.proofs.FirstLaws.{place_found}
 use Rattle.ir_references.specs.First.{first_in}
 use Rattle.overload_tables.specs.Laws.{IsAmong}
-use Rattle.analysis_forms.specs.Pairs.{SamplingPair}
 use Rattle.spec_analysis.proofs.Members.{among-cases}
-use Rattle.spec_analysis.specs.Chains.{place, Samples, Discards}
+use Rattle.spec_analysis.specs.Chains.{Discards}
 use Rattle.spec_analysis.specs.Effects.{Effect, takes, samples, runs, discards, sampling_at, expression_effects, expressions_effects, leaving_effects, effects_in, effects_of}
 use Rattle.spec_analysis.specs.Operands.{Operand, expression_operands}
 use Rattle.spec_analysis.specs.Summaries.{Summary, CallsOne, IsJoined}

@@ -1,5 +1,5 @@
 -- What is kept of a function is what is asked of a layer.
-use Rattle.std.proofs.Common.{◌≡◌, ◌<◌, ℕ, Bool, List, [], ◌∷◌, Some, false, All, map, length, slice_get, refl, sym, ap, subst, ◌∙◌, inl, inr, arith}
+use Rattle.std.proofs.Common.{◌≡◌, ◌<◌, ℕ, Bool, List, [], ◌∷◌, Some, false, All, map, length, slice_get, refl, sym, ap, ◌∙◌, arith}
 use Rattle.std.proofs.lemmas.List.Elements.{All-head}
 use Rattle.std.specs.Option.{is_some}
 use Rattle.analysis_forms.specs.declared.global_use.GlobalUse.{GlobalUse}
@@ -15,7 +15,7 @@ use Rattle.spec_analysis.specs.Summaries.{Summary, AgreeOnCallees}
 use Rattle.spec_checks.specs.Stages.{all_stages}
 use Rattle.tiny_lower.proofs.Joined.{joined_of}
 use Rattle.tiny_lower.proofs.Typed.{none_untyped, many_told, has_form}
-use Rattle.tiny_lower.specs.Ends.{summary_of, noted_of, ends_in}
+use Rattle.tiny_lower.specs.Ends.{summary_of, ends_in}
 use Rattle.tiny_lower.specs.Readings.{reading_of}
 use Rattle.tiny_lower.specs.Typing.{types_of}
 use Rattle.tiny_lower.specs.Values.{resolution_of}

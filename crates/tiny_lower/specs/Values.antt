@@ -4,7 +4,7 @@ use Rattle.ir_kinds.specs.Scalars.{unsigned, floating, boolean}
 use Rattle.ir_kinds.specs.declared.scalars.Scalar.{Scalar}
 use Rattle.ir_kinds.specs.declared.scalars.ScalarKind.{ScalarKind}
 use Rattle.ir_kinds.specs.declared.scalars.ScalarKind.TheVariants as kind
-use Rattle.ir_types.specs.Plain.{PlainInner, struct, plain}
+use Rattle.ir_types.specs.Plain.{PlainInner, plain}
 use Rattle.ir_types.specs.declared.types.TypeInner.TheVariants as inner
 use Rattle.tiny_lower.specs.declared.value_type.ValueType.{ValueType}
 use Rattle.tiny_lower.specs.declared.value_type.ValueType.TheVariants.{U32, Bool, F32}
