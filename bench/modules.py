@@ -92,15 +92,20 @@ def of_call(said, name):
     return int(found.group(1).replace(",", "")) if found else 0
 
 
-def counted(room, path):
-    """The instructions of the steps and of the JSON reader."""
+def called(room, path):
+    """What callgrind says of a run on the document, which has to be accepted."""
     with open(path) as it:
         ended = subprocess.run(["valgrind", "--tool=callgrind", f"--callgrind-out-file={room}/calls", CHECKER], stdin=it,
                                capture_output=True, text=True)
     if ended.stdout != "accepted\n":
         sys.exit(f"modules: {ended.stdout}{ended.stderr[-300:]}")
-    said = subprocess.run(["callgrind_annotate", "--inclusive=yes", "--threshold=100", f"{room}/calls"],
+    return subprocess.run(["callgrind_annotate", "--inclusive=yes", "--threshold=100", f"{room}/calls"],
                           capture_output=True, text=True).stdout
+
+
+def counted(room, path):
+    """The instructions of the steps and of the JSON reader."""
+    said = called(room, path)
     reader = of_call(said, "serde_json::de::read_items") + of_call(said, "document_reader::serde_json++value++Value+Destruct::drop")
     return of_call(said, "module_validator::validator::ModuleValidator::judge"), reader
 

@@ -25,7 +25,7 @@ PAGES = [
     ("document_reader", "From bytes to a document.",
      ("cases/src/modules.rt", "pub fn document_of("), ["document_forms", "document_reader"]),
     ("shader_check", "The check of a document, from a reader to a writer.",
-     ("checker/src/main.rt", "fn main("), ["document_within", "judgement", "shader_check"]),
+     ("checker/src/main.rt", "fn main("), ["judgement", "shader_check"]),
 ]
 
 

@@ -153,7 +153,7 @@ WORDS = {
     "axis": lambda it: of_expression(["Derivative", it, "None", 0]),
     "control": lambda it: of_expression(["Derivative", "X", it, 0]),
     "question": lambda it: of_expression(["Relational", it, 0]),
-    "function of numbers": lambda it: of_expression(["Math", it, 0, None, None, None]),
+    "math function": lambda it: of_expression(["Math", it, 0, None, None, None]),
     "barrier": lambda it: of_statement(["MemoryBarrier", [it]]),
     "operation": lambda it: of_statement(["SubgroupCollectiveOperation", it, "Reduce", 0, 1]),
     "collective": lambda it: of_statement(["SubgroupCollectiveOperation", "Add", it, 0, 1]),

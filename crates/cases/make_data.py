@@ -4,11 +4,17 @@
     make_data.py                            examples.json, from the folder examples at the top, the files of rows, and
                                             format.json, from the examples and the words of docs/FORMAT.md
     make_data.py --check                    says which of these would change, and writes nothing
-    make_data.py --corpus NAME CASES.jsonl  NAME.json, from a file that has one case a line
+    make_data.py --corpus NAME CASES.jsonl [OUT]
+                                            NAME.json, from a file that has one case a line, in the folder OUT, or else data
+    make_data.py --some NAME CASES.jsonl    the same, of the shortest inputs alone: EACH for each output, and EACH for each
+                                            word in which names end
 
 A case is an object: its name, its input (or input_b64, in Base64, where that is no UTF-8), spaces, a number of blanks
 that are to follow the input (none where it is left out), and the output that is due; or, where it has a form, whether
-its input is a document. The answers of the rows below were worked out by hand. A new data file also needs its name in data/files.json and its line in stdout.
+its input is a document. In CASES.jsonl a case may have a document in the place of the input, and whole, the output that is
+due where the whole form is judged: it is taken where a document has no global variables and no entry points, which are not
+judged yet. Further fields are left out. The answers of the rows below were worked out by hand. A new data file also needs
+its name in data/files.json and its line in stdout.
 """
 import base64
 import json
@@ -44,6 +50,7 @@ SCALARS = {
 }
 
 MOST_BYTES = 16777216
+EACH = 2
 
 
 def written(value):
@@ -705,9 +712,41 @@ def listed(lines):
     return "[\n" + ",\n".join(lines) + "\n]\n"
 
 
+def is_judged(read):
+    """Whether the program judges a document of which the answer is known where the whole form is judged."""
+    given = json.loads(read["document"])
+    return not given[11] and not given[13]
+
+
+def corpus(file):
+    """The cases of a file, each as it stands, or with its document as the input."""
+    for line in file.read_text().rstrip("\n").split("\n"):
+        read = json.loads(line)
+        if "document" in read:
+            output = read["whole"] if "whole" in read and is_judged(read) else read["output"]
+            line = json.dumps({"name": read["name"], "input": read["document"], "output": output})
+        yield line
+
+
+def some(lines):
+    """The shortest of these cases, EACH for each output and for each word in which names end, in the same order."""
+    lines = list(lines)
+    count, taken = {}, set()
+    for place in sorted(range(len(lines)), key=lambda it: len(lines[it])):
+        read = json.loads(lines[place])
+        marks = ("output", read["output"]), ("word", read["name"].split("/")[-1])
+        if any(count.get(mark, 0) < EACH for mark in marks):
+            taken.add(place)
+            for mark in marks:
+                count[mark] = count.get(mark, 0) + 1
+    return [lines[place] for place in sorted(taken)]
+
+
 def main(words):
-    if words[:1] == ["--corpus"] and len(words) == 3:
-        (DATA / f"{words[1]}.json").write_text(listed(Path(words[2]).read_text().splitlines()))
+    if words[:1] in (["--corpus"], ["--some"]) and len(words) in (3, 4):
+        lines = corpus(Path(words[2]))
+        file = Path(*words[3:] or [DATA]) / f"{words[1]}.json"
+        file.write_text(listed(some(lines) if words[0] == "--some" else lines))
         return 0
     if words not in ([], ["--check"]):
         sys.exit(__doc__)

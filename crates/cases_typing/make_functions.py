@@ -4,8 +4,8 @@
 FOLDER has functions.jsonl and whole.jsonl. A line of them is an object with `name`, `document` (the text of a document) and
 `output`, what the whole program answers: the former's documents have no global variables and no entry points. Asked are the
 documents whose items before the functions, and global variables, are accepted. OUT is where the file of cases goes, data/
-beside this script where none is given. Without --all the shortest documents are chosen, a few for each thing that they show,
-up to MOST; the worked rows below are always taken.
+beside this script where none is given. Without --all the shortest documents are chosen, EACH for each thing that they show,
+and one for each set of flags; the worked rows below are always taken.
 
 The answer is `accepted`, or the first function that is refused, or else the first entry point's, with the error as
 model_functions.py tells it. The model has to refuse what the corpus says is refused. A case has two answers where either of
@@ -18,7 +18,7 @@ from pathlib import Path
 from make_data import SIX, module
 from model_functions import Function, Module, places
 
-MOST, EACH = 900, 3
+EACH = 2
 
 # ---- worked out by hand
 
@@ -214,7 +214,7 @@ def names(error):
 
 def marks(document, told):
     """What a document shows that another may not: kinds of statements and expressions, flags, and errors."""
-    yield told[0].split()[0], tuple(sorted(set(document[1])))
+    yield "flags", told[0].split()[0], *sorted(set(document[1]))
     if told == ["accepted"]:
         for function in document[12] + [entry[-1] for entry in document[13]]:
             yield from (("statement", statement[0], *kind(statement)) for statement in places(function[5]))
@@ -247,14 +247,14 @@ def cases(folder):
 
 
 def chosen(found):
-    """The shortest documents, a few for each thing that they show, those that show something new first."""
+    """The shortest documents for each thing that they show, those that show something new first."""
     count, first, more = {}, [], []
     for case, shown in sorted(found, key=lambda c: len(c[0][2])):
-        if any(count.get(mark, 0) < EACH for mark in shown):
+        if any(count.get(mark, 0) < (1 if mark[0] == "flags" else EACH) for mark in shown):
             (more if all(mark in count for mark in shown) else first).append(case)
             for mark in shown:
                 count[mark] = count.get(mark, 0) + 1
-    return (first + more)[:MOST - len(ROWS)]
+    return first + more
 
 
 def main():

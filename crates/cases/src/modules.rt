@@ -1,9 +1,9 @@
 // What modules and documents hold.
 use crate::item::read_at;
 use document_reader::{Document, DocumentError, read_document};
-use document_within::within;
 use ir_items::Module;
 use serde_json::Value;
+use shader_check::within;
 use std::alloc::{AllocError, Global};
 use test_support::call::{no_call, text, told};
 

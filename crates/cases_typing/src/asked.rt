@@ -2,6 +2,7 @@
 use crate::checks::{Overrides, checks_told};
 use crate::conditions::{Test, tests_told};
 use crate::constness::{kinds_told, tracked};
+use crate::functions::functions_told;
 use crate::handles::handles_told;
 use crate::infos::{Told, infos_told};
 use crate::layouts::{laid, layouts_told};
@@ -13,7 +14,15 @@ use std::alloc::{AllocError, Global};
 /// The answer to a question about the module of a document. `laid`, `tracked`, `typed`, `ordered`, `summarized` and `read` are
 /// there to measure by: they lay out all types, find all kinds or all types of expressions, ask whether the handles of all
 /// functions are in order, find besides what is kept of each function, or do nothing, and are answered by themselves.
-pub fn answer(alloc: Global, asked: &str, document: &Document) -> Result<String, AllocError> {
+pub fn answer(alloc: Global, asked: &str, document: &mut Document) -> Result<String, AllocError> {
+    match asked {
+        "functions" => functions_told(alloc, document),
+        _ => answer_unchanged(alloc, asked, document),
+    }
+}
+
+// The answer to a question that changes nothing.
+fn answer_unchanged(alloc: Global, asked: &str, document: &Document) -> Result<String, AllocError> {
     let module = &document.module;
     match asked {
         "layouts" => layouts_told(alloc, &module.types),

@@ -46,7 +46,7 @@ impl Case<'_> {
 // What the typing answers to a question about the document of these bytes.
 fn answer_of(alloc: Global, asked: &str, bytes: &[u8]) -> Result<String, AllocError> {
     match read_document(alloc, bytes) {
-        Ok(document) => answer(alloc, asked, &document),
+        Ok(mut document) => answer(alloc, asked, &mut document),
         Err(DocumentError::Memory) => Err(AllocError),
         Err(_) => String::from_str(alloc, "no document"),
     }

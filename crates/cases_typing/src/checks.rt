@@ -34,8 +34,8 @@ fn type_told(alloc: Global, refused: &InvalidType) -> Result<String, AllocError>
     item_told(alloc, "type", index, &refused.error)
 }
 
-// The step that refuses a module, and why.
-fn error_told(alloc: Global, error: &ModuleError) -> Result<String, AllocError> {
+/// The step that refuses a module, and why.
+pub fn error_told(alloc: Global, error: &ModuleError) -> Result<String, AllocError> {
     match error {
         ModuleError::InvalidHandle(error) => {
             format!(in alloc; "handles {}", handle_fault(error))

@@ -1,12 +1,14 @@
 // Asks what the files of data/ ask of modules: layouts, kinds of expressions, their types, tests of handles, what types may be
-// used for and why they are refused, whether all handles are in order, whether a module is accepted up to its overrides, and
-// what the analysis keeps of functions. Tells which answers are others than those that stand there.
+// used for and why they are refused, whether all handles are in order, whether a module is accepted up to its overrides, what
+// the analysis keeps of functions, and whether functions are accepted and why not. Tells which answers are others than those
+// that stand there.
 //
 // A line of a data file is a list of texts: the case's name, what is asked, a document, and the answer, or two of which either
-// is right. `make_data.py`, `make_types.py`, `make_tests.py`, `make_infos.py`, `make_checks.py`, `make_summaries.py` and
-// `make_chains.py` write these files. The answers come from two implementations that were written independently of this one,
-// those of chains of calls from the model in `make_chains.py`. Beside that it makes each call
-// of layouts, of kinds and of slots of immediate data once.
+// is right. `make_data.py`, `make_types.py`, `make_tests.py`, `make_infos.py`, `make_checks.py`, `make_summaries.py`,
+// `make_chains.py` and `make_functions.py` write these files. The answers come from two implementations that were written
+// independently of this one, those of chains of calls from the model in `make_chains.py`; which function is refused comes from
+// those two as well, and why from the model in `model_functions.py`. Beside that it makes each call of layouts, of kinds and of
+// slots of immediate data once.
 #![tactic(auto)]
 
 mod asked;
@@ -15,9 +17,11 @@ mod case;
 mod checks;
 mod conditions;
 mod constness;
+mod functions;
 mod handles;
 mod infos;
 mod layouts;
+mod refusals;
 mod summaries;
 mod types;
 
@@ -28,7 +32,7 @@ use serde_json::Value;
 use std::fs;
 
 /// The files of cases.
-const FILES: [&str; 9] = [
+const FILES: [&str; 10] = [
     "layouts.jsonl",
     "constness.jsonl",
     "types.jsonl",
@@ -38,6 +42,7 @@ const FILES: [&str; 9] = [
     "checks.jsonl",
     "summaries.jsonl",
     "chains.jsonl",
+    "functions.jsonl",
 ];
 
 // Asks what a line asks. Answers whether the answer is another one.

@@ -2,7 +2,7 @@
 use Rattle.judgement.specs.declared.finding.Finding.{Finding}
 use Rattle.judgement.specs.declared.finding.Finding.TheVariants as findings
 use Rattle.judgement.specs.declared.finding.Step.TheVariants.{Function}
-use Rattle.shader_check.specs.Modules.{refused_by}
+use Rattle.shader_check.specs.Examined.{refused_by}
 use Rattle.explain.specs.declared.explanation.Explanation.{Explanation}
 use Rattle.explain.specs.declared.explanation.Explanation.TheVariants.{NoDocument, NotChecked, Accepted, RefusedModule, RefusedFunction}
 
@@ -12,4 +12,4 @@ finding_of (NoDocument error) = findings.RefusedDocument
 finding_of (NotChecked place) = findings.RefusedDocument
 finding_of Accepted = findings.Accepted
 finding_of (RefusedModule name error) = refused_by error
-finding_of (RefusedFunction index name) = findings.Refused Function index
+finding_of (RefusedFunction name error) = findings.Refused Function error.function

@@ -1,6 +1,6 @@
 // What is told of a document.
 ghost use Rattle.std.specs.Prelude.{◌≡◌, IfOk};
-ghost use Rattle.shader_check.specs.Modules.{finding_in};
+ghost use Rattle.shader_check.specs.Examined.{finding_in};
 ghost use Rattle.shader_check.specs.Theorem.{Judged};
 ghost use Rattle.explain.specs.Explained.{finding_of};
 
@@ -10,7 +10,9 @@ use crate::unchecked::{Steps, first_unchecked};
 use document_forms::Place;
 use document_reader::{DocumentError, MAX_LEN, read_document};
 use ir_items::Module;
-use shader_check::{Examined, Finding, ModuleError, Step, examine_document, refused_by};
+use shader_check::{
+    Examined, Finding, InvalidFunction, ModuleError, Step, examine_document, refused_by,
+};
 use std::alloc::{AllocError, Global};
 use std::fmt::{self, Display};
 
@@ -25,8 +27,8 @@ pub enum Explanation {
     Accepted,
     /// Handles are out of order, or a step up to overrides fails: the name of the first item that fails it, and why it does.
     RefusedModule(Option<String>, ModuleError),
-    /// The first function that fails its rules, and its name.
-    RefusedFunction(usize, Option<String>),
+    /// The first function that fails its rules: its name, and why it does.
+    RefusedFunction(Option<String>, InvalidFunction),
 }
 
 // What is told of what is found.
@@ -40,9 +42,9 @@ fn told(alloc: Global, examined: Examined, module: &Module) -> Result<Explanatio
             let name = refused_name(alloc, module, &error)?;
             Ok(Explanation::RefusedModule(name, error))
         }
-        Examined::RefusedFunction(index) => {
-            let name = function_name(alloc, module, index)?;
-            Ok(Explanation::RefusedFunction(index, name))
+        Examined::RefusedFunction(error) => {
+            let name = function_name(alloc, module, error.function.index())?;
+            Ok(Explanation::RefusedFunction(name, error))
         }
     }
 }
@@ -138,8 +140,9 @@ impl Display for Explanation {
                 }
                 write_reason(f, error)
             }
-            Explanation::RefusedFunction(index, name) => {
-                write_item(f, Step::Function, *index, name)
+            Explanation::RefusedFunction(name, error) => {
+                write_item(f, Step::Function, error.function.index(), name)?;
+                write!(f, ": {}", error.error)
             }
         }
     }

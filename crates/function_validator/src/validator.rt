@@ -1,9 +1,10 @@
 //! A validator of functions, over any layer beneath them.
 
-ghost use Rattle.std.specs.Prelude.{◌≡◌, ◌↔◌, ℕ, IfErr, IfOk, None, OnErr, OnOk, length, map};
+ghost use Rattle.std.specs.Prelude.{◌≡◌, ◌↔◌, ℕ, IfErr, IfOk, MatchResult, None, OnErr, OnOk, false, length, map};
 ghost use Rattle.function_blocks.specs.Faults.{IsFunctionFault};
 ghost use Rattle.function_lower.specs.Analysis.{IsRefusedFor};
 ghost use Rattle.function_lower.specs.Question.{question};
+ghost use Rattle.function_validator.specs.Judged.{AreJudged, IsRefusal};
 ghost use Rattle.function_validator.specs.Settings.{settings_for};
 ghost use Rattle.ir_arena.specs.Arenas.{value_of_entry};
 ghost use Rattle.ir_expressions.specs.Plain.{expression_view};
@@ -13,10 +14,12 @@ ghost use Rattle.ir_walks.specs.Filters.{ParentsPrecede};
 ghost use Rattle.spec_analysis.specs.Summaries.{CalleesKnown, IsJoined, IsSummary};
 ghost use Rattle.spec_checks.specs.Stages.{all_stages};
 ghost use Rattle.spec_handles.specs.Conditions.{HandlesInRange, OperandsPrecede};
+ghost use Rattle.spec_handles.specs.InOrder.{HandlesOK};
 ghost use Rattle.spec_statements.specs.Functions.{FunctionOK, AllowsStage};
 ghost use Rattle.spec_statements.specs.Payloads.{IsHeldAfter};
 ghost use Rattle.typing_layout.specs.Constness.{OriginsPrecede};
 
+use crate::functions::{InvalidFunction, judge_all};
 use bitflags::Flags;
 use error_functions::FunctionError;
 use function_blocks::{FunctionSettings, validate_function};
@@ -32,7 +35,7 @@ use std::alloc::Global;
 /// the type of the payloads of the rays so far, and nothing else.
 #[derive(Drop)]
 pub struct Validator<L> {
-    alloc: Global,
+    pub(crate) alloc: Global,
     /// The layer beneath.
     pub lower: L,
     /// The checks that are made.
@@ -157,6 +160,43 @@ impl<L: Lower> Validator<L> {
             Ok(validated) => {
                 self.held = validated.held;
                 Ok(validated.info)
+            }
+            Err(refusal) => Err(refusal),
+        }
+    }
+
+    /// Judges all functions of a module in order, and tells what is kept of each (the part of naga's `Validator::validate` that
+    /// speaks of functions). What was judged before is forgotten first, so that the answer is that of a fresh validator; after
+    /// it the type of the payloads of these functions is held, and after a refusal none.
+    ///
+    /// Asks that the layer was made for the module, and that its handles are in order.
+    ///
+    /// # Errors
+    ///
+    /// The first function that is refused, with a fault of its own and no span, as [`validate_function`] answers it; or out of
+    /// memory.
+    pub fn validate_functions(
+        &mut self,
+        module: &Module,
+    ) -> Result<Vec<L::Info>, Refusal<InvalidFunction>>
+        requires made { L.is_for self.old.lower (module_view «module».now) }
+        requires handles { HandlesOK (module_view «module».now) }
+        ensures judged { let s = settings_for self.old.flags self.old.capabilities self.old.operations self.old.stages false None in
+            MatchResult result
+            (λ infos. AreJudged (L.reading self.old.lower) s (module_view «module».now) (length (module_view «module».now).functions) (map (L.summary self.old.lower) infos.items) self.new.held)
+            (IsRefusal (L.reading self.old.lower) (L.faults self.old.lower) s (module_view «module».now)) }
+        ensures none_held { OnErr result (self.new.held ≡ None) }
+        ensures lower { self.new.lower ≡ self.old.lower }
+        ensures flags { self.new.flags ≡ self.old.flags }
+        ensures capabilities { self.new.capabilities ≡ self.old.capabilities }
+        ensures stages { self.new.stages ≡ self.old.stages }
+        ensures operations { self.new.operations ≡ self.old.operations }
+    {
+        self.reset();
+        match judge_all(self, module) {
+            Ok(judged) => {
+                self.held = judged.held;
+                Ok(judged.infos)
             }
             Err(refusal) => Err(refusal),
         }

@@ -1,3 +1,2 @@
-pub mod Functions
 pub mod Steps
 pub mod Text

@@ -1,15 +1,7 @@
-pub mod EverywhereLaws
-pub mod StepLaws
-pub mod ValueEquality
-pub mod SwitchLaws
-pub mod ValueLaws
-pub mod RuleLaws
-pub mod FunctionLaws
-pub mod FindingLaws
+pub mod ScopeLaws
 pub mod ModuleLaws
 pub mod JudgedLaws
 pub mod Expected
 pub mod Once
-pub mod DistinctLemmas
 pub mod Classical
 pub mod SomeText

@@ -1,5 +1,5 @@
 -- What a module is refused for is what the judgement finds of it.
-use Rattle.std.proofs.Common.{◌≡◌, inl, inr, ℕ, Option, Some, None}
+use Rattle.std.proofs.Common.{inl, inr, ℕ}
 use Rattle.error_expressions.specs.declared.const_expressions.ConstExpressionError.{ConstExpressionError}
 use Rattle.error_expressions.specs.declared.const_expressions.ConstExpressionError.TheVariants as constant
 use Rattle.ir_flags.specs.Settings.{PlainSettings}
@@ -9,8 +9,9 @@ use Rattle.judgement.specs.declared.finding.Finding.TheVariants.{Refused}
 use Rattle.module_steps.specs.Faults.{IsExpressionRefused, IsModuleFault}
 use Rattle.module_steps.specs.declared.error.ModuleError.{ModuleError}
 use Rattle.module_steps.specs.declared.error.ModuleError.TheVariants as error
-use Rattle.shader_check.specs.Modules.{step_of, refused_by, IsJudgedUpToOverrides}
-use Rattle.spec_modules.specs.Steps.{ModuleOK}
+use Rattle.shader_check.specs.Examined.{step_of, refused_by, finding_in, IsExamined}
+use Rattle.shader_check.specs.declared.examined.Examined.{Examined}
+use Rattle.shader_check.specs.declared.examined.Examined.TheVariants as examined
 
 expression_is : (s : PlainSettings) (m : PlainModule) (h : ℕ) (e : ConstExpressionError) → IsExpressionRefused (module_settings s) m h e → IsFinding s m (Refused (step_of e) h)
 expression_is s m h constant.NonConstOrOverride (inl x) = absurd x.1
@@ -34,6 +35,9 @@ found_is s m (error.ConstExpression e) x = expression_is s m e.expression e.erro
 found_is s m (error.Constant e) x = x.0
 found_is s m (error.Override e) x = x.0
 
-pub passes : (s : PlainSettings) (m : PlainModule) (o : Option ModuleError) → o ≡ None → IsJudgedUpToOverrides s m o → ModuleOK (module_settings s) m
-passes s m None e x = x
-passes s m (Some error) e x = let h = e in cc
+-- what is found of a module with its error is found without it
+pub found_of : (s : PlainSettings) (m : PlainModule) (x : Examined) → IsExamined s m x → IsFinding s m (finding_in x)
+found_of s m examined.NotChecked h = absurd h
+found_of s m examined.Accepted h = h
+found_of s m (examined.RefusedModule e) h = found_is s m e h
+found_of s m (examined.RefusedFunction e) h = (h.0, h.1.first)

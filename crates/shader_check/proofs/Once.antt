@@ -6,31 +6,33 @@ use Rattle.ir_items.specs.Plain.{PlainModule}
 use Rattle.ir_items.proofs.Returned.{one_returned}
 use Rattle.document_reader.specs.Plain.{PlainDocument}
 use Rattle.document_reader.proofs.Seam.{one_document_lem}
-use Rattle.judgement.specs.Functions.{FunctionOK}
-use Rattle.judgement.specs.Steps.{AllMeet, IsLeastFailing, IsFinding, IsPrepared, module_settings}
+use Rattle.judgement.specs.Steps.{IsFinding, IsPrepared, module_settings, function_settings}
 use Rattle.judgement.specs.Text.{text_of}
 use Rattle.judgement.specs.declared.finding.Step.{Step}
 use Rattle.judgement.specs.declared.finding.Step.TheVariants.{Layout, «Type», Typing, Expression, Constant, Override, Function}
 use Rattle.judgement.specs.declared.finding.Finding.{Finding}
 use Rattle.judgement.specs.declared.finding.Finding.TheVariants.{Accepted, RefusedDocument, RefusedHandles, Refused}
+use Rattle.spec_functions.specs.Functions as functions
+use Rattle.spec_functions.specs.Functions.{FunctionsOK}
 use Rattle.spec_handles.specs.InOrder.{HandlesOK}
 use Rattle.spec_modules.proofs.Failures.{one_failure, none_fails}
 use Rattle.spec_modules.specs.Steps as step
 use Rattle.spec_modules.specs.Steps.{ModuleStep, IsFirstFailing, ModuleOK}
+use Rattle.spec_statements.specs.Functions.{FunctionSettings}
 use Rattle.shader_check.specs.Theorem.{Finds, FindsIn, Judged, OneText}
 
-least_once : {A : Type 0} (P : A → Type 0) (xs : List A) (i j : ℕ) → IsLeastFailing P xs i → IsLeastFailing P xs j → i ≡ j
-least_once P xs i j f g =
+least_once : (s : FunctionSettings) (m : PlainModule) (i j : ℕ) → functions.IsFirstFailing s m i → functions.IsFirstFailing s m j → i ≡ j
+least_once s m i j f g =
     elim (cases_lt i j) [
-      | inl lt ↦ absurd (f.fails (g.before i f.item lt f.here))
+      | inl lt ↦ absurd (f.fails (g.before i lt))
       | inr le ↦ elim (cases_lt j i) [
-        | inl lt ↦ absurd (g.fails (f.before j g.item lt g.here))
+        | inl lt ↦ absurd (g.fails (f.before j lt))
         | inr ge ↦ omega arith
       ]
     ]
 
-meets_none : {A : Type 0} (P : A → Type 0) (xs : List A) (i : ℕ) → AllMeet P xs → IsLeastFailing P xs i → ⊥
-meets_none P xs i all least = least.fails (all i least.item least.here)
+meets_none : (s : FunctionSettings) (m : PlainModule) (i : ℕ) → FunctionsOK s m → functions.IsFirstFailing s m i → ⊥
+meets_none s m i all first = first.fails (all i first.within)
 
 -- ---- the steps that are refused, as those up to overrides and that of functions
 
@@ -64,7 +66,7 @@ back Function = refl
 module _ (s : PlainSettings) (m : PlainModule) where
   abbrev IsFailing : Option ModuleStep → ℕ → Type 0
   IsFailing (Some k) i = IsFirstFailing (module_settings s) m k i
-  IsFailing None i = ModuleOK (module_settings s) m × IsLeastFailing (FunctionOK s m) m.functions i
+  IsFailing None i = ModuleOK (module_settings s) m × functions.IsFirstFailing (function_settings s) m i
 
   as_failing : (t : Step) (i : ℕ) → IsFinding s m (Refused t i) → IsFailing (step_in t) i
   as_failing Layout i x = x
@@ -81,7 +83,7 @@ module _ (s : PlainSettings) (m : PlainModule) where
 
   not_accepted : (o : Option ModuleStep) (i : ℕ) → IsFinding s m Accepted → IsFailing o i → ⊥
   not_accepted (Some k) i x y = none_fails (module_settings s) m k i y x.0
-  not_accepted None i x y = meets_none _ _ i x.1 y.1
+  not_accepted None i x y = meets_none _ m i x.1 y.1
 
   failing_once : (o p : Option ModuleStep) (i j : ℕ) → IsFailing o i → IsFailing p j → (o ≡ p) × (i ≡ j)
   failing_once (Some k) (Some l) i j x y =
@@ -89,7 +91,7 @@ module _ (s : PlainSettings) (m : PlainModule) where
       (ap Some e.0, e.1)
   failing_once (Some k) None i j x y = absurd (none_fails (module_settings s) m k i x y.0)
   failing_once None (Some l) i j x y = absurd (none_fails (module_settings s) m l j y x.0)
-  failing_once None None i j x y = (refl, least_once _ _ i j x.1 y.1)
+  failing_once None None i j x y = (refl, least_once _ m i j x.1 y.1)
 
   refused_once : (t u : Step) (i j : ℕ) → IsFinding s m (Refused t i) → IsFinding s m (Refused u j) → Refused t i ≡ Refused u j
   refused_once t u i j x y =

@@ -1,53 +1,42 @@
 -- There are no bytes for which no text is expected.
-use Rattle.std.proofs.Common.{◌≡◌, ◌↔◌, ◌⊎◌, inl, inr, ℕ, suc, List, Bool, true, false, true≢false, Option, Some, None, IsTrue, nat_eq, refl, sym, subst, ◌∙◌, arith}
-use borrow.Author.Tests.{eqb-true, eq-eqb}
-use Rattle.std.specs.Int.RustNames.{bit_and}
-use Rattle.std.specs.List.{enumerate_from}
-use Rattle.ir_flags.specs.Sets.{Has}
+use Rattle.std.proofs.Common.{◌≡◌, ◌⊎◌, inl, inr, ℕ, List, Bool, true, false, length, refl, subst}
 use Rattle.ir_flags.specs.Settings.{PlainSettings}
-use Rattle.ir_flags.specs.declared.settings.TheConstants.ValidationFlags.{BLOCKS}
-use Rattle.ir_items.specs.Plain.{PlainFunction, PlainModule}
+use Rattle.ir_items.specs.Plain.{PlainModule}
 use Rattle.ir_items.specs.Returned.{returned_module}
 use Rattle.ir_items.proofs.Returned.{returned_by_bodies}
 use Rattle.document_reader.specs.Plain.{PlainDocument}
 use Rattle.document_reader.specs.Distinct.{AreDistinct}
 use Rattle.document_reader.specs.Form.{Reads}
 use Rattle.document_reader.proofs.Candidates.{IsCandidate, candidate}
-use Rattle.document_within.specs.Scope.{IsWithin}
-use Rattle.document_within.specs.Decide.{plain_module}
-use Rattle.document_within.proofs.ScopeLaws.{module_sound, module_complete}
 use Rattle.spec_handles.specs.InOrder.{HandlesOK}
 use Rattle.spec_modules.proofs.Reached.{reach_first, reach, all_passed}
 use Rattle.spec_modules.specs.Steps.{ModuleStep, layout, type, typing, expression, constant, override, rank, item_count, StepOK, StepPasses, IsReached, IsFirstFailing, ModuleOK}
-use Rattle.judgement.specs.Steps.{IsFinding, IsPrepared, module_settings}
+use Rattle.judgement.specs.Steps.{IsFinding, IsPrepared, module_settings, function_settings}
 use Rattle.judgement.specs.Text.{text_of}
 use Rattle.judgement.specs.declared.finding.Step.TheVariants.{Layout, «Type», Typing, Expression, Constant, Override, Function}
 use Rattle.judgement.specs.declared.finding.Finding.{Finding}
 use Rattle.judgement.specs.declared.finding.Finding.TheVariants.{Accepted, RefusedDocument, RefusedHandles, Refused}
-use Rattle.shader_check.specs.Decide.{first_failing, function_ok}
+use Rattle.shader_check.specs.Scope.{IsWithin}
 use Rattle.shader_check.specs.Theorem.{Judged, SomeText}
+use Rattle.spec_functions.specs.Functions.{FunctionAtOK}
 use Rattle.shader_check.proofs.Classical.{Holds, surely, then, either, Sought, IsFirstWithout, all_or_first}
-use Rattle.shader_check.proofs.FindingLaws.{functions_meet, function_fails}
 use Rattle.shader_check.proofs.JudgedLaws.{found_in, judged}
 
 -- ---- of a module
-
--- whether a set has each of these bits
-has : (set flags : ℕ) → (b : Bool) × (IsTrue b ↔ Has set flags)
-has set flags = (nat_eq (bit_and set flags) flags, (eqb-true (bit_and set flags) flags, eq-eqb (bit_and set flags) flags))
 
 abbrev SomeFinding : PlainSettings → PlainModule → Type 0
 SomeFinding s m = (f : Finding) × IsFinding s m f
 
 module _ (s : PlainSettings) (m : PlainModule) where
-  by_functions : ModuleOK (module_settings s) m → SomeFinding s m
+  functions_told : ModuleOK (module_settings s) m → Sought (FunctionAtOK (function_settings s) m) (length m.functions) → SomeFinding s m
+  functions_told ok (inl all) = (Accepted, (ok, all))
+  functions_told ok (inr found) =
+      let f = found.1 in
+      (Refused Function found.0, (ok, record { within = f.within; before = f.before; fails = f.fails }))
+
+  by_functions : ModuleOK (module_settings s) m → Holds (SomeFinding s m)
   by_functions ok =
-      let blocks = has s.flags.0 BLOCKS.0 in
-      let test : ℕ → PlainFunction → Bool = λ _ f. function_ok blocks.0 m f in
-      elim (first_failing test (enumerate_from 0 m.functions)) as (λ o. first_failing test (enumerate_from 0 m.functions) ≡ o → SomeFinding s m) [
-        | None ↦ λ e. (Accepted, (ok, functions_meet s blocks.0 blocks.1 m e))
-        | Some r ↦ λ e. (Refused Function r, (ok, function_fails s blocks.0 blocks.1 m r e))
-      ] refl
+      then (all_or_first (FunctionAtOK (function_settings s) m) (length m.functions)) (λ o. surely (functions_told ok o))
 
   -- each item passes the step, or one is the first that fails it
   abbrev Outcome : ModuleStep → Type 0
@@ -75,7 +64,7 @@ module _ (s : PlainSettings) (m : PlainModule) where
 
   on_overrides : IsReached (module_settings s) m override → Holds (SomeFinding s m)
   on_overrides reached =
-      step_by_step override reached (λ i f. (Refused Override i, f)) (λ passes. surely (by_functions (all_passed (module_settings s) m reached passes)))
+      step_by_step override reached (λ i f. (Refused Override i, f)) (λ passes. by_functions (all_passed (module_settings s) m reached passes))
 
   on_constants : IsReached (module_settings s) m constant → Holds (SomeFinding s m)
   on_constants reached =
@@ -125,13 +114,12 @@ by_document bytes d r within =
     then (some_finding d.settings prepared.0) (λ found. surely (found.0, judged bytes d found.0 r (found_in d prepared.0 found.0 within prepared.1 found.1)))
 
 -- where there is one document that they may spell
-by_candidate : (bytes : List ℕ) (d : PlainDocument) → IsCandidate bytes d → (w : Bool) → plain_module d.content ≡ w → Holds (SomeJudged bytes)
-by_candidate bytes d c false not_within =
-    surely (RefusedDocument, λ other r. λ within. true≢false (sym (module_complete d.content (subst IsWithin (c.alone other r) within)) ∙ not_within))
-by_candidate bytes d c true plain =
+by_candidate : (bytes : List ℕ) (d : PlainDocument) → IsCandidate bytes d → IsWithin d ⊎ (¬ IsWithin d) → Holds (SomeJudged bytes)
+by_candidate bytes d c (inr not_within) = surely (RefusedDocument, λ other r. λ within. not_within (subst IsWithin (c.alone other r) within))
+by_candidate bytes d c (inl within) =
     then (either (AreDistinct d.content.types)) (λ o.
     elim o [
-      | inl distinct ↦ by_document bytes d (c.spelled distinct) (module_sound d.content plain)
+      | inl distinct ↦ by_document bytes d (c.spelled distinct) within
       | inr repeated ↦ surely (spell_none bytes (λ other r. repeated (subst (λ (x : PlainDocument). AreDistinct x.content.types) (c.alone other r) r.distinct)))
     ])
 
@@ -139,7 +127,7 @@ some_judged : (bytes : List ℕ) → Holds (SomeJudged bytes)
 some_judged bytes =
     elim (candidate bytes) [
       | inl none ↦ surely (spell_none bytes none)
-      | inr found ↦ by_candidate bytes found.0 found.1 (plain_module found.0.content) refl
+      | inr found ↦ then (either (IsWithin found.0)) (λ w. by_candidate bytes found.0 found.1 w)
     ]
 
 pub some_text_lem : SomeText

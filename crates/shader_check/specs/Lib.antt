@@ -1,6 +1,3 @@
-pub mod Everywhere
-pub mod Control
-pub mod Decide
-pub mod Modules
-pub mod Values
+pub mod Scope
+pub mod Examined
 pub mod Theorem

@@ -11,12 +11,12 @@ use Rattle.ports.specs.declared.source.TakeError.{TakeError}
 use Rattle.ports.specs.declared.source.TakeError.TheVariants as take
 use Rattle.ir_items.specs.Plain.{PlainModule}
 use Rattle.document_reader.specs.Plain.{PlainDocument}
-use Rattle.document_within.specs.Scope.{IsWithin}
 use Rattle.document_reader.specs.Form.{Reads}
 use Rattle.judgement.specs.Steps.{IsFinding, IsPrepared}
 use Rattle.judgement.specs.Text.{text_of}
 use Rattle.judgement.specs.declared.finding.Finding.{Finding}
 use Rattle.judgement.specs.declared.finding.Finding.TheVariants as finding
+use Rattle.shader_check.specs.Scope.{IsWithin}
 use Rattle.shader_check.specs.declared.check.TheConstants.{MAX_TAKEN}
 use Rattle.shader_check.specs.declared.check.Verdict.{Verdict}
 use Rattle.shader_check.specs.declared.check.Verdict.TheVariants.{Accepted, Refused}

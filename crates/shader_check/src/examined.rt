@@ -1,12 +1,13 @@
 // What is found of a document, with the errors.
 ghost use Rattle.std.specs.Prelude.{◌≡◌};
-ghost use Rattle.shader_check.specs.Modules.{step_of, refused_by, finding_in};
+ghost use Rattle.shader_check.specs.Examined.{step_of, refused_by, finding_in};
 
 use error_expressions::ConstExpressionError;
 use judgement::{Finding, Step};
+use module_functions::InvalidFunction;
 use module_validator::ModuleError;
 
-/// What is found of a document, with the error where its module is refused up to its overrides.
+/// What is found of a document, with the error where its module is refused.
 #[derive(Debug, Drop)]
 pub enum Examined {
     /// It is not checked so far.
@@ -15,8 +16,8 @@ pub enum Examined {
     Accepted,
     /// Its handles are out of order, or a step up to overrides fails.
     RefusedModule(ModuleError),
-    /// The first function that fails its rules.
-    RefusedFunction(usize),
+    /// A function fails its rules: the first, and why it does.
+    RefusedFunction(InvalidFunction),
 }
 
 // The step that refuses a global expression so.
@@ -58,7 +59,9 @@ impl Examined {
             Examined::NotChecked => Finding::RefusedDocument,
             Examined::Accepted => Finding::Accepted,
             Examined::RefusedModule(error) => refused_by(error),
-            Examined::RefusedFunction(index) => Finding::Refused(Step::Function, *index),
+            Examined::RefusedFunction(error) => {
+                Finding::Refused(Step::Function, error.function.index())
+            }
         }
     }
 }

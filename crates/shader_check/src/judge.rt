@@ -1,43 +1,45 @@
 // The judgement over bytes.
-ghost use Rattle.std.specs.Prelude.{◌↔◌, IfOk, IsTrue, OnOk};
-ghost use Rattle.ir_flags.specs.Sets.{Has};
+ghost use Rattle.std.specs.Prelude.{IfOk, OnOk};
 ghost use Rattle.ir_items.specs.View.{module_view};
 ghost use Rattle.document_reader.specs.View.{document_view, settings_view};
-ghost use Rattle.judgement.specs.Steps.{IsFinding, IsPrepared};
-ghost use Rattle.shader_check.specs.Modules.{finding_in, IsJudgedUpToOverrides};
+ghost use Rattle.judgement.specs.Steps.{IsPrepared, module_settings};
+ghost use Rattle.module_validator.specs.Told.{IsInfoOf};
+ghost use Rattle.shader_check.specs.Examined.{finding_in, IsExamined, IsExaminedDocument};
 ghost use Rattle.shader_check.specs.Theorem.{Judged, JudgedDocument};
+ghost use Rattle.spec_modules.specs.Steps.{ModuleOK};
 
 use crate::examined::Examined;
-use crate::functions::first_failing_function;
-use bitflags::Flags;
+use crate::scope::within;
 use document_reader::{Document, DocumentError, Settings, read_document};
-use document_within::within;
 use ir_faults::refusal::Refusal;
-use ir_flags::ValidationFlags;
 use ir_items::Module;
 use judgement::Finding;
-use module_validator::{ModuleError, ModuleValidator};
+use module_functions::{ModuleFunctionSettings, validate_functions};
+use module_info::ModuleInfo;
+use module_validator::ModuleValidator;
 use std::alloc::{AllocError, Global};
 
-fn has_blocks(flags: ValidationFlags) -> bool
-    ensures { IsTrue result ↔ Has flags.0 ValidationFlags.BLOCKS.0 }
-{
-    flags.contains(ValidationFlags::BLOCKS)
-}
-
-// Why the module is refused up to its overrides, if it is.
-fn module_fault(
+// The functions of a module that is accepted up to its overrides, of which this is told.
+fn examine_functions(
     alloc: Global,
     settings: &Settings,
     module: &Module,
-) -> Result<Option<ModuleError>, AllocError>
-    ensures { IfOk result (IsJudgedUpToOverrides (settings_view settings.now) (module_view «module».now)) }
+    info: ModuleInfo,
+) -> Result<Examined, AllocError>
+    requires accepted { ModuleOK (module_settings (settings_view settings.now)) (module_view «module».now) }
+    requires told { IsInfoOf (module_settings (settings_view settings.now)) (module_view «module».now) info }
+    ensures { IfOk result (IsExamined (settings_view settings.now) (module_view «module».now)) }
 {
-    let mut validator = ModuleValidator::new(alloc, settings.flags, settings.capabilities);
-    match validator.validate(module) {
-        Ok(_) => Ok(None),
+    let settings = ModuleFunctionSettings {
+        flags: settings.flags,
+        capabilities: settings.capabilities,
+        subgroup_stages: settings.subgroup_stages,
+        subgroup_operations: settings.subgroup_operations,
+    };
+    match validate_functions(alloc, &settings, module, info) {
+        Ok(_) => Ok(Examined::Accepted),
         Err(Refusal::Memory(error)) => Err(error),
-        Err(Refusal::Fault(fault)) => Ok(Some(fault.into_inner())),
+        Err(Refusal::Fault(fault)) => Ok(Examined::RefusedFunction(fault.into_inner())),
     }
 }
 
@@ -47,15 +49,13 @@ fn examine_module(
     settings: &Settings,
     module: &Module,
 ) -> Result<Examined, AllocError>
-    ensures { IfOk result (λ x. IsFinding (settings_view settings.now) (module_view «module».now) (finding_in x)) }
+    ensures { IfOk result (IsExamined (settings_view settings.now) (module_view «module».now)) }
 {
-    if let Some(error) = module_fault(alloc, settings, module)? {
-        return Ok(Examined::RefusedModule(error));
-    }
-    let blocks = has_blocks(settings.flags);
-    match first_failing_function(alloc, blocks, module)? {
-        Some(index) => Ok(Examined::RefusedFunction(index)),
-        None => Ok(Examined::Accepted),
+    let mut validator = ModuleValidator::new(alloc, settings.flags, settings.capabilities);
+    match validator.validate(module) {
+        Ok(info) => examine_functions(alloc, settings, module, info),
+        Err(Refusal::Memory(error)) => Err(error),
+        Err(Refusal::Fault(fault)) => Ok(Examined::RefusedModule(fault.into_inner())),
     }
 }
 
@@ -70,10 +70,10 @@ fn prepare(alloc: Global, returns: bool, module: &mut Module) -> Result<(), Allo
     }
 }
 
-/// What is found of the document, with the error where its module is refused. Returns are put into its module where its
-/// settings ask for them. The error is out of memory.
+/// What is found of the document, with the error where its module is refused: each error only where what it tells is wrong.
+/// Returns are put into its module where its settings ask for them. The error is out of memory.
 pub fn examine_document(alloc: Global, document: &mut Document) -> Result<Examined, AllocError>
-    ensures { IfOk result (λ x. JudgedDocument (document_view document.old) (finding_in x)) }
+    ensures { IfOk result (IsExaminedDocument (document_view document.old)) }
 {
     if !within(document) {
         return Ok(Examined::NotChecked);

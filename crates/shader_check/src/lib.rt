@@ -2,18 +2,17 @@
 #![tactic(auto)]
 
 mod check;
-mod control;
 mod examined;
-mod functions;
 mod judge;
 pub mod laws;
-mod walk;
+mod scope;
 
 pub use check::{Fault, MAX_TAKEN, Verdict, check_document, outcome};
 pub use document_reader::{Document, DocumentError, Settings, build_module, read_document};
-pub use document_within::within;
 pub use examined::{Examined, refused_by};
 pub use judge::{examine_document, judge_document};
 pub use judgement::{Finding, Step};
+pub use module_functions::InvalidFunction;
 pub use module_validator::ModuleError;
 pub use ports::{ReadCall, Sink, Source, WriteCall};
+pub use scope::within;

@@ -11,7 +11,6 @@ ghost use Rattle.ir_blocks.specs.Plain.{emit, block, if_, switch, loop, break, r
 ghost use Rattle.ir_blocks.specs.Shapes.{breaks, continues, returns, kills, inner, case_at, loop_body, loop_continuing};
 ghost use Rattle.ir_blocks.specs.Control.{may_leave};
 ghost use Rattle.ir_blocks.specs.Tails.{completed};
-ghost use Rattle.judgement.specs.Functions.{falls_at_end, case_values};
 ghost use Rattle.spec_flags.specs.Widths.{IsKindAllowed};
 ghost use Rattle.spec_handles.specs.Statements.{statement_operands, statement_callee, statement_result, statement_range};
 ghost use Rattle.judgement.specs.Text.{text_of};
@@ -75,12 +74,4 @@ pub fn completed_bodies()
     ensures in_one_side_of_an_if { completed (next (if_ 0 stop (next kill stop)) stop) ≡ next (if_ 0 (next (return None) stop) (next kill stop)) stop }
     ensures not_where_a_case_falls_through { completed (next (switch 0 (case (U32 1) stop true (case Default stop false no_case))) stop)
         ≡ next (switch 0 (case (U32 1) stop true (case Default (next (return None) stop) false no_case))) stop }
-{}
-
-/// The values of a switch's cases, and whether the last falls through.
-pub fn cases()
-    ensures values { case_values (case (U32 1) stop true (case Default stop false no_case)) ≡ U32 1 ∷ Default ∷ [] }
-    ensures last_falls { falls_at_end false (case Default stop false (case (U32 1) stop true no_case)) ≡ true }
-    ensures last_does_not { falls_at_end false (case (U32 1) stop true (case Default stop false no_case)) ≡ false }
-    ensures no_case_at_all { falls_at_end false no_case ≡ false }
 {}

@@ -1,0 +1,11 @@
+#!/bin/sh
+# Runs the program over all documents of functions.jsonl in a folder, of which data/ has some: ./whole.sh FOLDER
+#
+# The program has to be built (`rt run`, once); its last line counts the documents, and the status is 0 where none differs.
+
+crate=$(cd "$(dirname "$0")" && pwd) || exit 1
+room=$(mktemp -d) || exit 1
+trap 'rm -rf "$room"' EXIT
+python3 "$crate/make_data.py" --corpus functions "$1/functions.jsonl" "$room" || exit 1
+echo '["functions.json"]' > "$room/files.json"
+cd "$room" && "$crate/out/cases" < /dev/null

@@ -1,0 +1,11 @@
+use Rattle.std.proofs.Common.{false, None, map}
+use Rattle.function_validator.specs.Judged.{AreJudged}
+use Rattle.function_validator.specs.Settings.{settings_for}
+use Rattle.ir_items.specs.View.{module_view}
+use Rattle.function_validator.proofs.functions.judge_all.Given as goal
+
+-- the functions before this one are judged
+abbrev pub invariant-loop-index : goal.invariant-loop-index
+invariant-loop-index g l =
+    AreJudged (g.L.Lower.reading l.validator.lower) (settings_for l.validator.flags l.validator.capabilities l.validator.operations l.validator.stages false None) (module_view l.«module») l.index
+    (map (g.L.Lower.summary l.validator.lower) l.infos.items) l.held

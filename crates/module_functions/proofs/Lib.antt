@@ -1,0 +1,2 @@
+mod ByChains
+mod Kept

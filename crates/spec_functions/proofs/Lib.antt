@@ -1,0 +1,3 @@
+pub mod HeldLaws
+pub mod FormLaws
+pub mod CallLaws

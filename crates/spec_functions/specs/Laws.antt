@@ -1,0 +1,20 @@
+-- What is known of the functions of a module.
+use Rattle.std.specs.Prelude.{◌≡◌, ◌↔◌, ℕ, List, Option}
+use Rattle.ir_flags.specs.declared.settings.ValidationFlags.{ValidationFlags}
+use Rattle.ir_items.specs.Plain.{PlainFunction, PlainModule}
+use Rattle.spec_analysis.specs.Summaries.{Summary, CalleesKnown, CallsBelow, IsFormFault}
+use Rattle.spec_functions.specs.Analysis.{HasWrongForm}
+use Rattle.spec_functions.specs.Held.{IsHeldBefore}
+use Rattle.spec_handles.specs.Conditions.{CalleesPrecede}
+
+-- at most one type is held
+abbrev pub OneHeld : Type 0
+OneHeld = (flags : ValidationFlags) (m : PlainModule) (count : ℕ) (held other : Option ℕ) → IsHeldBefore flags m count held → IsHeldBefore flags m count other → held ≡ other
+
+-- wrong forms by chains are those by summaries of the callees
+abbrev pub FormsByCallees : Type 0
+FormsByCallees = (m : PlainModule) (f : PlainFunction) (summaries : List Summary) → CalleesKnown m f summaries → (e : ℕ) → HasWrongForm m f e ↔ IsFormFault f summaries e
+
+-- a function calls none but those that it names
+abbrev pub CallsPrecede : Type 0
+CallsPrecede = (f : PlainFunction) (before : ℕ) → CalleesPrecede before f → CallsBelow f before

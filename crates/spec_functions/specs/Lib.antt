@@ -1,0 +1,4 @@
+pub mod Held
+pub mod Analysis
+pub mod Functions
+pub mod Laws

@@ -1,0 +1,19 @@
+//! What is known of the functions of a module.
+
+ghost use Rattle.spec_functions.specs.Laws.{OneHeld, FormsByCallees, CallsPrecede};
+
+/// At most one type of payloads is held before a function.
+#[tactic(auto, using(crate::proofs::HeldLaws::one_held))]
+pub fn one_held()
+    ensures { OneHeld }
+{}
+
+/// What is of a wrong form by the pairs of callees over their chains is so by any summaries of theirs.
+pub fn forms_by_callees()
+    ensures { FormsByCallees }
+{}
+
+/// A function before which those come that it names calls only these.
+pub fn calls_precede()
+    ensures { CallsPrecede }
+{}
