@@ -1,0 +1,47 @@
+-- What a variable begins as.
+use Rattle.std.proofs.Common.{◌≡◌, ◌↔◌, ◌⊎◌, inl, inr, ◌<◌, ℕ, List, Bool, true, false, length, get_or, Option, Some, IsTrue, refl, sym, subst, ◌∙◌, slice_get}
+use Rattle.std.proofs.lemmas.Option.{slice_get-get_or}
+use Rattle.ir_items.specs.Plain.{PlainModule}
+use Rattle.module_constants.specs.Known.{AreTyped}
+use Rattle.spec_constants.specs.Overrides.{IsKnownByOverrides}
+use Rattle.spec_expressions.proofs.TypingLaws.{one_type}
+use Rattle.spec_expressions.specs.Context.{outside}
+use Rattle.spec_expressions.specs.Typing.{HasGlobalType}
+use Rattle.typing_forms.specs.declared.form.Form.{Form}
+use Rattle.typing_layout.proofs.Latest.{one_kind}
+use Rattle.typing_layout.specs.Constness.{AreKinds, IsOfKind}
+use Rattle.typing_layout.specs.declared.constness.ExpressionKind.{ExpressionKind}
+use Rattle.typing_layout.specs.declared.constness.ExpressionKind.TheVariants.{Const, Override, Runtime}
+
+-- the test of the tracker
+abbrev Tests : List ExpressionKind → ℕ → Bool → Type 0
+Tests kinds init b = IsTrue b ↔ ((slice_get kinds init ≡ Some Const) ⊎ (slice_get kinds init ≡ Some Override))
+
+module _ (m : PlainModule) (kinds : List ExpressionKind) (are : AreKinds m.global_expressions kinds) (init : ℕ) (b : Bool) (test : Tests kinds init b) where
+  pub known : b ≡ true → IsKnownByOverrides m init
+  known is = elim (test.0 is) [
+    | inl e ↦ inl (are.each init Const e)
+    | inr e ↦ inr (are.each init Override e)
+  ]
+
+  not_both : IsKnownByOverrides m init → IsOfKind m.global_expressions init Runtime → ⊥
+  not_both (inl k) r = let e = one_kind m.global_expressions init Runtime Const r k in cc
+  not_both (inr k) r = let e = one_kind m.global_expressions init Runtime Override r k in cc
+
+  unknown_at : (k : ExpressionKind) → slice_get kinds init ≡ Some k → b ≡ false → IsKnownByOverrides m init → ⊥
+  unknown_at Const at is h = let t = test.1 (inl at) in cc
+  unknown_at Override at is h = let t = test.1 (inr at) in cc
+  unknown_at Runtime at is h = not_both h (are.each init Runtime at)
+
+  pub unknown : (other : ExpressionKind) → init < length kinds → b ≡ false → IsKnownByOverrides m init → ⊥
+  unknown other lt is h = unknown_at (get_or kinds init other) (slice_get-get_or kinds init other lt) is h
+
+module _ (m : PlainModule) (forms : List Form) (are : AreTyped m forms) (init k : ℕ) (other : Form) (lt : init < length forms) (index : k ≡ init) where
+  pub typed_at : HasGlobalType m init (get_or forms k other)
+  typed_at = subst (λ n. HasGlobalType m init (get_or forms n other)) (sym index) (are.each init (get_or forms init other) (slice_get-get_or forms init other lt))
+
+  pub typed_as : (t : Form) → get_or forms k other ≡ t → HasGlobalType m init t
+  typed_as t e = subst (HasGlobalType m init) e typed_at
+
+  pub not_typed_as : (t : Form) → (get_or forms k other ≡ t → ⊥) → HasGlobalType m init t → ⊥
+  not_typed_as t differ h = differ (one_type (outside m) m.global_expressions init (get_or forms k other) t typed_at h)

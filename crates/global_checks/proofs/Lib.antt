@@ -1,0 +1,5 @@
+mod Arrays
+mod Needs
+mod Begins
+mod Lies
+mod Whole

@@ -1,0 +1,104 @@
+//! What is bound by handles.
+
+ghost use Rattle.std.specs.Prelude.{◌≡◌, Some};
+ghost use Rattle.ir_types.specs.Plain.{inner_view};
+ghost use Rattle.spec_globals.specs.Handles.{is_handle, is_norm_16, handle_capability, class_array_capability, handles_capability};
+ghost use Rattle.spec_globals.specs.Spaces.{array_base};
+
+use ir_arena::handle::Handle;
+use ir_flags::Capabilities;
+use ir_kinds::{ImageClass, StorageFormat};
+use ir_types::{TypeInner, key};
+
+/// Whether what is made of this is bound by a handle.
+pub(crate) fn is_handle(inner: &TypeInner) -> bool
+    ensures { result ≡ is_handle (Some (inner_view inner.now)) }
+{
+    match inner {
+        TypeInner::Image { .. }
+        | TypeInner::Sampler { .. }
+        | TypeInner::AccelerationStructure { .. }
+        | TypeInner::RayQuery { .. } => true,
+        TypeInner::Scalar(_)
+        | TypeInner::Vector { .. }
+        | TypeInner::Matrix { .. }
+        | TypeInner::CooperativeMatrix { .. }
+        | TypeInner::Atomic(_)
+        | TypeInner::Pointer { .. }
+        | TypeInner::ValuePointer { .. }
+        | TypeInner::Array { .. }
+        | TypeInner::Struct { .. }
+        | TypeInner::BindingArray { .. } => false,
+    }
+}
+
+// Whether a format has 16 bits a channel that stand for numbers from 0 to 1 or from -1 to 1.
+const fn is_norm_16(format: StorageFormat) -> bool
+    ensures { result ≡ is_norm_16 format }
+{
+    matches!(
+        format,
+        StorageFormat::R16Unorm
+            | StorageFormat::R16Snorm
+            | StorageFormat::Rg16Unorm
+            | StorageFormat::Rg16Snorm
+            | StorageFormat::Rgba16Unorm
+            | StorageFormat::Rgba16Snorm
+    )
+}
+
+/// What a binding of this by a handle needs, if it needs any capability.
+pub(crate) fn handle_capability(inner: &TypeInner) -> Option<Capabilities>
+    ensures { result ≡ handle_capability (Some (inner_view inner.now)) }
+{
+    match inner {
+        TypeInner::Image {
+            class: ImageClass::Storage { format, .. },
+            ..
+        } => {
+            if is_norm_16(*format) {
+                Some(Capabilities::STORAGE_TEXTURE_16BIT_NORM_FORMATS)
+            } else {
+                None
+            }
+        }
+        _ => None,
+    }
+}
+
+// What binding arrays of images of a class need; `None` where there are none.
+const fn class_array_capability(class: ImageClass) -> Option<Capabilities>
+    ensures { result ≡ class_array_capability class }
+{
+    match class {
+        ImageClass::Sampled { .. } | ImageClass::Depth { .. } => {
+            Some(Capabilities::TEXTURE_AND_SAMPLER_BINDING_ARRAY)
+        }
+        ImageClass::Storage { .. } => Some(Capabilities::STORAGE_TEXTURE_BINDING_ARRAY),
+        ImageClass::External => None,
+    }
+}
+
+/// What binding arrays of this by handles need; `None` where there are none.
+pub(crate) fn handles_capability(inner: &TypeInner) -> Option<Capabilities>
+    ensures { result ≡ handles_capability (Some (inner_view inner.now)) }
+{
+    match inner {
+        TypeInner::Image { class, .. } => class_array_capability(*class),
+        TypeInner::Sampler { .. } => Some(Capabilities::TEXTURE_AND_SAMPLER_BINDING_ARRAY),
+        TypeInner::AccelerationStructure { .. } => {
+            Some(Capabilities::ACCELERATION_STRUCTURE_BINDING_ARRAY)
+        }
+        _ => None,
+    }
+}
+
+/// The type of the elements of a binding array; `None` of anything else.
+pub(crate) fn array_base(inner: &TypeInner) -> Option<Handle<key::IrType>>
+    ensures { result ≡ array_base (Some (inner_view inner.now)) }
+{
+    match inner {
+        TypeInner::BindingArray { base, .. } => Some(*base),
+        _ => None,
+    }
+}

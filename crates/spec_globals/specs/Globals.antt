@@ -1,0 +1,48 @@
+-- Which global variables a module may have.
+use Rattle.std.specs.Prelude.{◌≡◌, ◌≢◌, ◌↔◌, ℕ, IsTrue, Option, Some, None, IfSome, IsSome, slice_get}
+use Rattle.ir_flags.specs.Sets.{Has}
+use Rattle.ir_flags.specs.declared.memory.MemoryDecorations.{MemoryDecorations}
+use Rattle.ir_flags.specs.declared.memory.TheConstants.MemoryDecorations.{COHERENT, VOLATILE}
+use Rattle.ir_flags.specs.declared.settings.Capabilities.{Capabilities}
+use Rattle.ir_flags.specs.declared.settings.TheConstants.Capabilities.{MEMORY_DECORATION_COHERENT, MEMORY_DECORATION_VOLATILE}
+use Rattle.ir_flags.specs.declared.settings.ValidationFlags.{ValidationFlags}
+use Rattle.ir_flags.specs.declared.settings.TheConstants.ValidationFlags.{BINDINGS}
+use Rattle.ir_globals.specs.Plain.{PlainGlobal}
+use Rattle.ir_items.specs.Plain.{PlainModule}
+use Rattle.ir_kinds.specs.declared.spaces.AddressSpace.{AddressSpace}
+use Rattle.ir_kinds.specs.declared.spaces.AddressSpace.TheVariants.{Private}
+use Rattle.spec_constants.specs.Overrides.{IsKnownByOverrides}
+use Rattle.spec_expressions.specs.Typing.{HasGlobalType}
+use Rattle.spec_globals.specs.Spaces.{counted, ArraysOK, required, HasAll, space_capability, LiesIn, is_resource, is_storage}
+use Rattle.spec_types.specs.View.{type_tree}
+use Rattle.typing_forms.specs.Forms.{form_of_type}
+use Rattle.typing_forms.specs.Resolutions.{inner_at}
+
+-- what is said of the memory is said of storage buffers, each word with its capability
+pub record DecorationsOK (capabilities : Capabilities) (space : AddressSpace) (decorations : MemoryDecorations) : Type 0 where
+  pub storage : decorations.0 ≢ 0 → IsTrue (is_storage space)
+  pub coherent : Has decorations.0 COHERENT.0 → Has capabilities.0 MEMORY_DECORATION_COHERENT.0
+  pub volatile : Has decorations.0 VOLATILE.0 → Has capabilities.0 MEMORY_DECORATION_VOLATILE.0
+
+-- what a variable begins as is known once overrides are resolved, and of the variable's type; only an invocation's own begins as
+-- something
+pub record BeginsOK (m : PlainModule) (space : AddressSpace) (type init : ℕ) : Type 0 where
+  pub own : space ≡ Private
+  pub known : IsKnownByOverrides m init
+  pub typed : HasGlobalType m init (form_of_type m.types type)
+
+-- A module may have the variable.
+pub record VariableOK (flags : ValidationFlags) (capabilities : Capabilities) (m : PlainModule) (v : PlainGlobal) : Type 0 where
+  pub arrays : ArraysOK capabilities v.space m.types v.ty
+  pub needed : IfSome (space_capability v.space (inner_at m.types (counted m.types v.ty))) (λ c. Has capabilities.0 c.0)
+  pub lies : LiesIn flags v.space (inner_at m.types (counted m.types v.ty)) (type_tree m.types (counted m.types v.ty))
+  pub used : HasAll (required v.space) (type_tree m.types (counted m.types v.ty))
+  pub bound : Has flags.0 BINDINGS.0 → IsTrue (is_resource v.space) ↔ IsSome v.binding
+  pub decorated : DecorationsOK capabilities v.space v.decorations
+  pub begins : IfSome v.init (BeginsOK m v.space v.ty)
+
+-- the global variable at a handle is such
+pub record GlobalOK (flags : ValidationFlags) (capabilities : Capabilities) (m : PlainModule) (handle : ℕ) : Type 0 where
+  pub variable : PlainGlobal
+  pub at : slice_get m.globals handle ≡ Some variable
+  pub ok : VariableOK flags capabilities m variable
