@@ -44,7 +44,8 @@ fn infos_of(
     }
 }
 
-/// The layer for a module, if its types are accepted and it has no global variables. The error is out of memory.
+/// The layer for a module, if its types are accepted and it has no global variables. It is given no type of a global
+/// expression: the rules of functions ask for none. The error is out of memory.
 pub fn lower_for(alloc: Global, module: &Module) -> Result<Option<TinyLower>, AllocError>
     ensures { IfOk result (λ found. IfSome found (λ lower. IsMadeOf (module_view «module».now) lower.infos.items)) }
 {
@@ -52,7 +53,7 @@ pub fn lower_for(alloc: Global, module: &Module) -> Result<Option<TinyLower>, Al
         return Ok(None);
     }
     match infos_of(alloc, &module.types) {
-        Ok(Some(infos)) => Ok(Some(TinyLower::new(infos))),
+        Ok(Some(infos)) => Ok(Some(TinyLower::new(infos, Vec::new(alloc)))),
         Ok(None) => Ok(None),
         Err(error) => Err(error),
     }

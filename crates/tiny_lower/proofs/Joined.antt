@@ -3,6 +3,7 @@ use Rattle.std.proofs.Common.{◌≡◌, ◌+◌, ◌⊎◌, ◌||◌, ℕ, zero
 use Rattle.std.proofs.lemmas.List.Folds.{list_any-append}
 use Rattle.std.specs.List.{list_any}
 use Rattle.std.specs.Option.{is_some}
+use Rattle.analysis_forms.specs.declared.global_use.GlobalUse.{GlobalUse}
 use Rattle.ir_blocks.specs.Plain.{PlainStatement, emit, block, if_, switch, loop, break, continue, return, kill, operation, call, PlainBlock}
 use Rattle.ir_expressions.specs.Plain.{PlainExpression, plain}
 use Rattle.ir_expressions.specs.declared.expressions.Expression.TheVariants as x
@@ -151,10 +152,10 @@ no_pairs [] i t at = absurd (let h = at in cc)
 no_pairs (c ∷ cs) zero t at = let same : summary_of c ≡ t = (let h = at in cc) in sym (ap (λ (s : Summary). s.pairs) same)
 no_pairs (c ∷ cs) (suc i) t at = no_pairs cs i t at
 
-pub joined_of : (m : PlainModule) (f : PlainFunction) (callees : List TinyInfo) (may_kill : Bool) → m.globals ≡ [] → ((e : ℕ) → IsUntyped m f e → ⊥)
+pub joined_of : (m : PlainModule) (f : PlainFunction) (callees : List TinyInfo) (uses : List GlobalUse) (may_kill : Bool) → m.globals ≡ [] → ((e : ℕ) → IsUntyped m f e → ⊥)
     → may_kill ≡ is_some (first_in (ends_in (map summary_of callees)) f.body)
-    → IsJoined (length m.globals) f (map summary_of callees) (record { uses = []; pairs = []; may_kill = may_kill })
-joined_of m f callees may_kill none typed is = record {
+    → IsJoined (length m.globals) f (map summary_of callees) (record { uses = uses; pairs = []; may_kill = may_kill })
+joined_of m f callees uses may_kill none typed is = record {
   uses = λ g k lt. absurd (let long = ap length none in omega (arith, lt, long));
   pairs = λ p. (
     λ h. elim h [ ],

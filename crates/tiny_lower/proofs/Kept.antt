@@ -1,9 +1,7 @@
 -- What is kept of a function is what is asked of a layer.
-use Rattle.std.proofs.Common.{◌≡◌, ◌<◌, ℕ, Bool, List, [], ◌∷◌, Some, false, All, map, length, slice_get, refl, sym, ap, ◌∙◌, arith}
-use Rattle.std.proofs.lemmas.List.Elements.{All-head}
+use Rattle.std.proofs.Common.{◌≡◌, Bool, List, [], Some, false, map, length, slice_get, refl, sym, ap, ◌∙◌}
 use Rattle.std.specs.Option.{is_some}
 use Rattle.analysis_forms.specs.declared.global_use.GlobalUse.{GlobalUse}
-use Rattle.analysis_info.specs.Infos.{NotesUse}
 use Rattle.function_lower.specs.Analysis.{IsKept}
 use Rattle.function_lower.specs.Question.{question}
 use Rattle.ir_flags.specs.declared.settings.ValidationFlags.{ValidationFlags}
@@ -24,23 +22,18 @@ use Rattle.tiny_lower.specs.declared.value_type.ValueType.{ValueType}
 use Rattle.typing_forms.specs.declared.resolution.TypeResolution.{TypeResolution}
 use Rattle.typing_operands.specs.Answers.{form_given}
 
-pub kept_of : (flags : ValidationFlags) (m : PlainModule) (f : PlainFunction) (callees : List TinyInfo) (others : List Summary) (stages : List ShaderStages) (types : List ValueType) (told : List TypeResolution) (may_kill : Bool) (available : ShaderStages)
+pub kept_of : (flags : ValidationFlags) (m : PlainModule) (f : PlainFunction) (callees : List TinyInfo) (others : List Summary) (stages : List ShaderStages) (types : List ValueType) (told : List TypeResolution) (may_kill : Bool) (available : ShaderStages) (uses : List GlobalUse)
     → m.globals ≡ [] → AgreeOnCallees f (map summary_of callees) others → map Some types ≡ types_of m f → told ≡ map resolution_of types
-    → may_kill ≡ is_some (first_in (ends_in (map summary_of callees)) f.body) → available.0 ≡ all_stages.0
-    → IsKept (reading_of (question m f others stages)) flags (question m f others stages) told (record { uses = []; pairs = []; may_kill = may_kill }) available false
-kept_of flags m f callees others stages types told may_kill available none agree are is kills all = record {
+    → may_kill ≡ is_some (first_in (ends_in (map summary_of callees)) f.body) → available.0 ≡ all_stages.0 → uses ≡ []
+    → IsKept (reading_of (question m f others stages)) flags (question m f others stages) told (record { uses = uses; pairs = []; may_kill = may_kill }) available false
+kept_of flags m f callees others stages types told may_kill available uses none agree are is kills all unused = record {
   analysed = none_untyped m f types are;
   typed = record {
     many = ap (λ ts. length (map (form_given m.types) ts)) is ∙ many_told m f types are;
     each = λ e t at. has_form m f types are e t (ap (λ ts. slice_get (map (form_given m.types) ts) e) (sym is) ∙ at);
   };
-  globals = sym (ap length none);
-  joined = joined_by_callees f (map summary_of callees) others agree (length m.globals) _ (joined_of m f callees may_kill none (none_untyped m f types are) kills);
+  globals = ap length unused ∙ sym (ap length none);
+  joined = joined_by_callees f (map summary_of callees) others agree (length m.globals) _ (joined_of m f callees uses may_kill none (none_untyped m f types are) kills);
   all_run = ap (λ bits. record { 0 = bits }) all;
   unblended = refl;
 }
-
--- where there is no global variable, none is noted
-pub none_noted : (noted : List (ℕ × GlobalUse)) (g k : ℕ) → All (λ u. u.0 < 0) noted → NotesUse noted g k → ⊥
-none_noted [] g k below r = elim r.1 [ ]
-none_noted (more ∷ rest) g k below r = let lt = All-head (λ (u : ℕ × GlobalUse). u.0 < 0) more rest below in omega (arith, lt)

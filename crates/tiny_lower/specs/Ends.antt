@@ -5,9 +5,9 @@ use Rattle.ir_flags.specs.declared.stages.ShaderStages.{ShaderStages}
 use Rattle.spec_analysis.specs.Summaries.{Summary}
 use Rattle.tiny_lower.specs.declared.tiny.TinyInfo.{TinyInfo}
 
--- no global variable is used, and no image is sampled
+-- of global variables there are the uses that are noted, and no image is sampled
 abbrev pub summary_of : TinyInfo → Summary
-summary_of info = record { uses = []; pairs = []; may_kill = info.may_kill }
+summary_of info = record { uses = info.uses.items; pairs = []; may_kill = info.may_kill }
 
 -- the stages that may run it, as far as they are noted
 abbrev pub noted_of : TinyInfo → ShaderStages

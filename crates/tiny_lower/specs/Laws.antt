@@ -5,10 +5,12 @@ use Rattle.error_functions.specs.declared.error.FunctionError.{FunctionError}
 use Rattle.function_lower.specs.Question.{Question}
 use Rattle.ir_flags.specs.declared.stages.ShaderStages.{ShaderStages}
 use Rattle.ir_items.specs.Plain.{PlainFunction, PlainModule}
-use Rattle.std.proofs.Common.{slice_get, sym, ◌∙◌, [], true≢false}
-use Rattle.tiny_lower.specs.Readings.{IsRunBy, IsTypeFault, untyped, IsUnfit, fits_at}
+use Rattle.std.proofs.Common.{slice_get, refl, sym, ◌∙◌, true≢false}
+use Rattle.tiny_lower.specs.Readings.{IsGiven, IsRunBy, IsTypeFault, untyped, IsUnfit, fits_at}
 use Rattle.tiny_lower.specs.Typing.{HasForm, IsUntyped}
 use Rattle.typing_forms.specs.declared.form.Form.{Form}
+use Rattle.typing_forms.specs.declared.resolution.TypeResolution.{TypeResolution}
+use Rattle.typing_operands.specs.Answers.{form_given}
 
 some_is : {X : Type 0} {x y : X} → Some x ≡ Some y → x ≡ y
 some_is e = cc (e)
@@ -25,5 +27,5 @@ fault_refutes_by m f _ (untyped {e = k} none) typed = typed k none
 pub unfit_refutes_by : (f : PlainFunction) (forms : List Form) (e : ℕ) (x : ExpressionError) → IsUnfit f forms e x → IsTrue (fits_at forms f e) → ⊥
 unfit_refutes_by f forms e x unfit ok = true≢false (sym ok ∙ unfit.1)
 
-pub none_given : {X : Type 0} (e : ℕ) (r : X) → slice_get [] e ≡ Some r → ⊥
-none_given e r at = cc (at)
+pub given_by : (m : PlainModule) (types : List TypeResolution) (e : ℕ) (r : TypeResolution) → slice_get types e ≡ Some r → IsGiven m types e (form_given m.types r)
+given_by m types e r at = record { type = r; given = at; form = refl }

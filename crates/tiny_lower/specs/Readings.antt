@@ -19,11 +19,19 @@ use Rattle.tiny_lower.specs.declared.known.Known.{Known}
 use Rattle.tiny_lower.specs.declared.known.Known.TheVariants as known
 use Rattle.type_infos.specs.declared.info.TypeInfo.{TypeInfo}
 use Rattle.typing_forms.specs.declared.form.Form.{Form}
+use Rattle.typing_forms.specs.declared.resolution.TypeResolution.{TypeResolution}
+use Rattle.typing_operands.specs.Answers.{form_given}
 
 -- The module has no global variables, and of its types this is told.
 pub record IsMadeOf (m : PlainModule) (infos : List TypeInfo) : Type 0 where
   pub told : AreTold m.types infos
   pub no_globals : m.globals ≡ []
+
+-- The form is that of the type which is given for the global expression.
+pub record IsGiven (m : PlainModule) (types : List TypeResolution) (expression : ℕ) (of : Form) : Type 0 where
+  pub type : TypeResolution
+  pub given : slice_get types expression ≡ Some type
+  pub form : of ≡ form_given m.types type
 
 -- the result of a call is read where the function may run, and all else everywhere
 abbrev pub stages_in : (callees : List ShaderStages) → Option Known → ShaderStages

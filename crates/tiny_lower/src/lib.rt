@@ -9,6 +9,7 @@ mod operations;
 mod stages;
 mod tiny;
 mod types;
+mod uses;
 mod value_type;
 
 pub use tiny::{TinyInfo, TinyLower};

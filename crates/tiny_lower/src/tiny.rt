@@ -6,6 +6,7 @@ use crate::ends::may_kill;
 use crate::operations::fits;
 use crate::stages::stages_by;
 use crate::types::{resolutions_of, types_of};
+use crate::uses::mark_all;
 use analysis_forms::{GlobalUse, SamplingPair};
 use bitflags::Flags;
 use error_expressions::ExpressionError;
@@ -21,13 +22,15 @@ use std::alloc::Global;
 use type_infos::TypeInfo;
 use typing_forms::TypeResolution;
 
-/// What is kept of a function: the types of its expressions, whether it may end the fragment, and what is noted of it.
+/// What is kept of a function: the types of its expressions, whether it may end the fragment, and what is noted of it. Of uses
+/// there are those that are noted alone: the function itself has none.
 #[derive(Drop)]
 pub struct TinyInfo {
     types: Vec<TypeResolution>,
     pub(crate) may_kill: bool,
     pub(crate) stages: ShaderStages,
     dual_source_blending: bool,
+    uses: Vec<GlobalUse>,
 }
 
 /// A layer for modules without global variables that types values of `u32`, `bool` and `f32`: literals, zeros, arguments,
@@ -35,24 +38,25 @@ pub struct TinyInfo {
 #[derive(Drop)]
 pub struct TinyLower {
     infos: Vec<TypeInfo>,
+    globals: Vec<TypeResolution>,
 }
 
 impl TinyLower {
-    /// The layer for the module of whose types this is told.
-    pub fn new(infos: Vec<TypeInfo>) -> TinyLower
-        ensures { result.infos ≡ infos }
+    /// The layer for the module of whose types this is told, and whose global expressions have these types.
+    pub fn new(infos: Vec<TypeInfo>, globals: Vec<TypeResolution>) -> TinyLower
+        ensures infos { result.infos ≡ infos }
+        ensures globals { result.globals ≡ globals }
     {
-        TinyLower { infos }
+        TinyLower { infos, globals }
     }
 }
 
 impl Lower for TinyLower {
     type Info = TinyInfo;
 
-    ghost use Rattle.std.specs.Prelude.{[]};
     ghost use Rattle.tiny_lower.specs.Ends.{noted_of, summary_of};
-    ghost use Rattle.tiny_lower.specs.Laws.{fault_refutes_by, none_given, one_form_by, one_run_by, unfit_refutes_by};
-    ghost use Rattle.tiny_lower.specs.Readings.{IsMadeOf, faults_of, reading_of};
+    ghost use Rattle.tiny_lower.specs.Laws.{fault_refutes_by, given_by, one_form_by, one_run_by, unfit_refutes_by};
+    ghost use Rattle.tiny_lower.specs.Readings.{IsGiven, IsMadeOf, faults_of, reading_of};
 
     ghost is_for = { λ l m. IsMadeOf m l.infos.items };
 
@@ -62,9 +66,9 @@ impl Lower for TinyLower {
 
     ghost told = { λ l. l.infos.items };
 
-    ghost has_global_form = { λ _ _ _ _. ⊥ };
+    ghost has_global_form = { λ l m e form. IsGiven m l.globals.items e form };
 
-    ghost global_types = { λ _. [] };
+    ghost global_types = { λ l. l.globals.items };
 
     ghost types = { λ _ info. info.types.items };
 
@@ -82,9 +86,8 @@ impl Lower for TinyLower {
         &self.infos[ty.index()]
     }
 
-    // There is none of which the type is told.
-    fn global_resolution(&self, _expression: Handle<key::Expression>) -> &TypeResolution {
-        unreachable!()
+    fn global_resolution(&self, expression: Handle<key::Expression>) -> &TypeResolution {
+        &self.globals[expression.index()]
     }
 
     fn analyse(
@@ -108,6 +111,7 @@ impl Lower for TinyLower {
             may_kill: may_kill(function, callees),
             stages: ShaderStages::all(),
             dual_source_blending: false,
+            uses: Vec::new(alloc),
         })
     }
 
@@ -137,9 +141,8 @@ impl Lower for TinyLower {
         info.stages
     }
 
-    // There is no global variable.
-    fn uses(&self, _info: &TinyInfo, _global: Handle<key::GlobalVariable>) -> GlobalUse {
-        unreachable!()
+    fn uses(&self, info: &TinyInfo, global: Handle<key::GlobalVariable>) -> GlobalUse {
+        info.uses[global.index()]
     }
 
     fn pairs<'a>(&self, _info: &'a TinyInfo) -> &'a [SamplingPair] {
@@ -150,16 +153,17 @@ impl Lower for TinyLower {
         &self,
         info: &mut TinyInfo,
         stages: ShaderStages,
-        _uses: &[(Handle<key::GlobalVariable>, GlobalUse)],
+        uses: &[(Handle<key::GlobalVariable>, GlobalUse)],
         dual_source_blending: bool,
     ) {
         info.stages = info.stages.intersection(stages);
         info.dual_source_blending = info.dual_source_blending || dual_source_blending;
+        mark_all(&mut info.uses, uses);
     }
 
     ghost told_of_all = { λ l m made. made.told };
 
-    ghost global_typed = { λ l m made e r at. none_given e r at };
+    ghost global_typed = { λ l m _ e r at. given_by m l.globals.items e r at };
 
     ghost one_form = { λ _ q e s t a b. one_form_by q e s t a b };
 
