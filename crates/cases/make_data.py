@@ -6,14 +6,14 @@
     make_data.py --check                    says which of these would change, and writes nothing
     make_data.py --corpus NAME CASES.jsonl [OUT]
                                             NAME.json, from a file that has one case a line, in the folder OUT, or else data
-    make_data.py --some NAME CASES.jsonl    the same, of the shortest inputs alone: EACH for each output, and EACH for each
-                                            word in which names end
+    make_data.py --some NAME CASES.jsonl    the same, of the shortest inputs alone: EACH for each verdict, for each number of
+                                            lines of a report, and for each word in which names end
 
 A case is an object: its name, its input (or input_b64, in Base64, where that is no UTF-8), spaces, a number of blanks
 that are to follow the input (none where it is left out), and the output that is due; or, where it has a form, whether
 its input is a document. In CASES.jsonl a case may have a document in the place of the input, and whole, the output that is
-due where the whole form is judged: it is taken where a document has no global variables and no entry points, which are not
-judged yet. Further fields are left out. The answers of the rows below were worked out by hand. A new data file also needs
+due where the whole form is judged: it is taken where there is one. A document with entry points, which are not judged yet,
+is left out. Further fields are left out. The answers of the rows below were worked out by hand. A new data file also needs
 its name in data/files.json and its line in stdout.
 """
 import base64
@@ -713,28 +713,38 @@ def listed(lines):
 
 
 def is_judged(read):
-    """Whether the program judges a document of which the answer is known where the whole form is judged."""
-    given = json.loads(read["document"])
-    return not given[11] and not given[13]
+    """Whether the program judges a document: whether it has no entry points."""
+    try:
+        given = json.loads(read["document"])
+    except ValueError:
+        return True
+    return not isinstance(given, list) or len(given) != 14 or not given[13]
 
 
 def corpus(file):
-    """The cases of a file, each as it stands, or with its document as the input."""
-    for line in file.read_text().rstrip("\n").split("\n"):
+    """The cases of a file, each as it stands, or with its document as the input; a name that comes again gets its line."""
+    seen = set()
+    for number, line in enumerate(file.read_text().rstrip("\n").split("\n")):
         read = json.loads(line)
         if "document" in read:
-            output = read["whole"] if "whole" in read and is_judged(read) else read["output"]
-            line = json.dumps({"name": read["name"], "input": read["document"], "output": output})
+            if not is_judged(read):
+                continue
+            output = read.get("whole", read["output"])
+            name = f"{read['name']}/{number}" if read["name"] in seen else read["name"]
+            seen.add(name)
+            line = json.dumps({"name": name, "input": read["document"], "output": output})
         yield line
 
 
 def some(lines):
-    """The shortest of these cases, EACH for each output and for each word in which names end, in the same order."""
+    """The shortest of these cases, EACH for each verdict, for each number of lines of a report, and for each word in which
+    names end, in the same order."""
     lines = list(lines)
     count, taken = {}, set()
     for place in sorted(range(len(lines)), key=lambda it: len(lines[it])):
         read = json.loads(lines[place])
-        marks = ("output", read["output"]), ("word", read["name"].split("/")[-1])
+        told = read["output"].split("\n")
+        marks = ("verdict", told[0]), ("lines", len(told)), ("word", [it for it in read["name"].split("/") if not it.isdigit()][-1])
         if any(count.get(mark, 0) < EACH for mark in marks):
             taken.add(place)
             for mark in marks:

@@ -1,11 +1,14 @@
 #!/bin/sh
-# Runs the program over all documents of functions.jsonl in a folder, of which data/ has some: ./whole.sh FOLDER
+# Runs the program over all documents of functions.jsonl and whole.jsonl in a folder that it judges, of which data/ has some:
+# ./whole.sh FOLDER
 #
-# The program has to be built (`rt run`, once); its last line counts the documents, and the status is 0 where none differs.
+# The program has to be built (`rt run`, once); its last lines count the documents, and the status is 0 where none differs.
 
 crate=$(cd "$(dirname "$0")" && pwd) || exit 1
 room=$(mktemp -d) || exit 1
 trap 'rm -rf "$room"' EXIT
-python3 "$crate/make_data.py" --corpus functions "$1/functions.jsonl" "$room" || exit 1
-echo '["functions.json"]' > "$room/files.json"
+for name in functions whole; do
+    python3 "$crate/make_data.py" --corpus "$name" "$1/$name.jsonl" "$room" || exit 1
+done
+echo '["functions.json", "whole.json"]' > "$room/files.json"
 cd "$room" && "$crate/out/cases" < /dev/null

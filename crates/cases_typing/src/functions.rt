@@ -1,13 +1,10 @@
 // Whether the functions and the entry points of a module are accepted, and why one is not.
-ghost use Rattle.std.specs.Prelude.{◌≡◌, IsTrue, map};
-ghost use Rattle.ir_arena.specs.Arenas.{value_of_entry};
-ghost use Rattle.ir_expressions.specs.Plain.{expression_view};
+ghost use Rattle.std.specs.Prelude.{◌≡◌, IsTrue};
 ghost use Rattle.ir_items.specs.View.{function_view, module_view};
 ghost use Rattle.ir_walks.specs.Filters.{ParentsPrecede};
 ghost use Rattle.real_lower.specs.Made.{IsMadeOf};
 ghost use Rattle.spec_handles.specs.Conditions.{HandlesInRange, OperandsPrecede};
 ghost use Rattle.spec_handles.specs.InOrder.{HandlesOK};
-ghost use Rattle.typing_layout.specs.Constness.{OriginsPrecede};
 
 use crate::checks::error_told;
 use crate::refusals::refusal_told;
@@ -21,18 +18,15 @@ use module_validator::ModuleValidator;
 use real_lower::RealLower;
 use std::alloc::{AllocError, Global};
 use typing_conditions::{filter_parents_precede, handles_in_range, operands_precede};
-use typing_layout::origins_precede;
 
 // Whether the handles of a function are in order, as a validator of functions asks it.
 fn is_in_order(function: &Function, module: &Module) -> bool
     ensures handles { IsTrue result → HandlesInRange (module_view «module».now) (function_view function.now) }
     ensures precede { IsTrue result → OperandsPrecede (function_view function.now).expressions }
-    ensures origins { IsTrue result → OriginsPrecede (map expression_view (map value_of_entry function.now.expressions)) }
     ensures parents { IsTrue result → ParentsPrecede (module_view «module».now).filters }
 {
     handles_in_range(function, module)
         && operands_precede(function, module)
-        && origins_precede(&function.expressions)
         && filter_parents_precede(function, module)
 }
 

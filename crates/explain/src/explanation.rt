@@ -4,14 +4,15 @@ ghost use Rattle.shader_check.specs.Examined.{finding_in};
 ghost use Rattle.shader_check.specs.Theorem.{Judged};
 ghost use Rattle.explain.specs.Explained.{finding_of};
 
-use crate::names::{function_name, refused_name};
+use crate::names::{function_name, global_name, refused_name};
 use crate::place::Told;
 use crate::unchecked::{Steps, first_unchecked};
 use document_forms::Place;
 use document_reader::{DocumentError, MAX_LEN, read_document};
 use ir_items::Module;
 use shader_check::{
-    Examined, Finding, InvalidFunction, ModuleError, Step, examine_document, refused_by,
+    Examined, Finding, InvalidFunction, InvalidGlobalVariable, ModuleError, Step, examine_document,
+    refused_by,
 };
 use std::alloc::{AllocError, Global};
 use std::fmt::{self, Display};
@@ -27,6 +28,8 @@ pub enum Explanation {
     Accepted,
     /// Handles are out of order, or a step up to overrides fails: the name of the first item that fails it, and why it does.
     RefusedModule(Option<String>, ModuleError),
+    /// The first global variable that is refused: its name, and why it is.
+    RefusedGlobal(Option<String>, InvalidGlobalVariable),
     /// The first function that fails its rules: its name, and why it does.
     RefusedFunction(Option<String>, InvalidFunction),
 }
@@ -36,11 +39,15 @@ fn told(alloc: Global, examined: Examined, module: &Module) -> Result<Explanatio
     ensures { IfOk result (λ e. finding_of e ≡ finding_in examined) }
 {
     match examined {
-        Examined::NotChecked => Ok(Explanation::NotChecked(first_unchecked(module))),
-        Examined::Accepted => Ok(Explanation::Accepted),
+        Examined::NotChecked => Ok(Explanation::NotChecked(first_unchecked())),
+        Examined::Accepted(_) => Ok(Explanation::Accepted),
         Examined::RefusedModule(error) => {
             let name = refused_name(alloc, module, &error)?;
             Ok(Explanation::RefusedModule(name, error))
+        }
+        Examined::RefusedGlobal(error) => {
+            let name = global_name(alloc, module, error.global.index())?;
+            Ok(Explanation::RefusedGlobal(name, error))
         }
         Examined::RefusedFunction(error) => {
             let name = function_name(alloc, module, error.function.index())?;
@@ -139,6 +146,10 @@ impl Display for Explanation {
                     write_item(f, step, index, name)?;
                 }
                 write_reason(f, error)
+            }
+            Explanation::RefusedGlobal(name, error) => {
+                write_item(f, Step::Global, error.global.index(), name)?;
+                write!(f, ": {}", error.error)
             }
             Explanation::RefusedFunction(name, error) => {
                 write_item(f, Step::Function, error.function.index(), name)?;

@@ -21,6 +21,20 @@ fn type_name(alloc: Global, module: &Module, index: usize) -> Result<Option<Stri
     Ok(None)
 }
 
+/// The name of the global variable at this index, or `None` where it has none.
+pub fn global_name(
+    alloc: Global,
+    module: &Module,
+    index: usize,
+) -> Result<Option<String>, AllocError> {
+    for (handle, item) in module.global_variables.iter() {
+        if handle.index() == index {
+            return copied(alloc, &item.name);
+        }
+    }
+    Ok(None)
+}
+
 /// The name of the function at this index, or `None` where it has none.
 pub fn function_name(
     alloc: Global,

@@ -6,8 +6,6 @@ ghost use Rattle.function_blocks.specs.Judged.{ArePartsMet};
 ghost use Rattle.function_blocks.specs.Settings.{settings_view};
 ghost use Rattle.function_lower.specs.Analysis.{IsRefusedFor};
 ghost use Rattle.function_lower.specs.Question.{question};
-ghost use Rattle.ir_arena.specs.Arenas.{value_of_entry};
-ghost use Rattle.ir_expressions.specs.Plain.{expression_view};
 ghost use Rattle.ir_flags.specs.Sets.{Has};
 ghost use Rattle.ir_items.specs.View.{function_view, module_view};
 ghost use Rattle.ir_walks.specs.Filters.{ParentsPrecede};
@@ -16,7 +14,6 @@ ghost use Rattle.spec_checks.specs.Stages.{all_stages};
 ghost use Rattle.spec_handles.specs.Conditions.{AritiesMatch, HandlesInRange, OperandsPrecede};
 ghost use Rattle.spec_statements.specs.Functions.{FunctionOK, AllowsStage, block_context};
 ghost use Rattle.spec_statements.specs.Payloads.{IsHeldAfter};
-ghost use Rattle.typing_layout.specs.Constness.{OriginsPrecede};
 ghost use Rattle.typing_operands.specs.Answers.{form_given};
 
 use crate::arities::check_arities;
@@ -55,7 +52,6 @@ fn judge<L: Lower>(
 ) -> Result<Met, Refusal<FunctionError>>
     requires made { L.is_for lower.now (module_view «module».now) }
     requires precede { OperandsPrecede (function_view function.now).expressions }
-    requires origins { OriginsPrecede (map expression_view (map value_of_entry function.now.expressions)) }
     requires arities { AritiesMatch (module_view «module».now) (function_view function.now) }
     requires many { length (function_view function.now).expressions ≡ length (L.types lower.now info.now) }
     ensures { let q = question (module_view «module».now) (function_view function.now) (map (L.summary lower.now) callees.now) (map (L.noted lower.now) callees.now) in
@@ -128,7 +124,6 @@ pub fn validate_function<L: Lower>(
     requires made { L.is_for lower.now (module_view «module».now) }
     requires handles { HandlesInRange (module_view «module».now) (function_view function.now) }
     requires precede { OperandsPrecede (function_view function.now).expressions }
-    requires origins { OriginsPrecede (map expression_view (map value_of_entry function.now.expressions)) }
     requires parents { ParentsPrecede (module_view «module».now).filters }
     ensures accepted { let q = question (module_view «module».now) (function_view function.now) (map (L.summary lower.now) callees.now) (map (L.noted lower.now) callees.now) in
         OnOk result (FunctionOK (L.reading lower.now q) (settings_view settings.now) q.m q.f) }

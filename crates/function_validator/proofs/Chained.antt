@@ -1,28 +1,30 @@
 -- The functions of a module, one more of them judged.
-use Rattle.std.proofs.Common.{◌≡◌, ◌⊎◌, inl, inr, ℕ, zero, suc, ◌+◌, ◌<◌, List, [], ◌∷◌, ◌++◌, map, length, Option, Some, None, refl, sym, ap, subst, ◌∙◌, arith, slice_get}
+use Rattle.std.proofs.Common.{◌≡◌, ◌↔◌, ◌⊎◌, inl, inr, ℕ, zero, suc, ◌+◌, ◌<◌, List, [], ◌∷◌, ◌++◌, map, length, Option, Some, None, refl, sym, ap, subst, ◌∙◌, arith, slice_get}
 use Rattle.std.proofs.lemmas.Bool.{cases_eq}
 use Rattle.std.proofs.lemmas.Option.{slice_get_within}
 use Rattle.error_functions.specs.declared.error.FunctionError.{FunctionError}
 use Rattle.function_blocks.specs.Faults.{IsFunctionFault}
 use Rattle.function_lower.specs.Analysis.{Faults, IsRefusedFor}
 use Rattle.function_lower.specs.Question.{Question, question}
-use Rattle.function_validator.specs.Judged.{Preceding, IsAcceptedAt, IsRefusedAt, AreJudged, IsFirstRefused, IsToldAt, IsRefusal}
+use Rattle.function_validator.specs.Judged.{Preceding, IsAcceptedAt, IsRefusedAt, IsNotedAt, AreNoted, AreJudged, IsFirstRefused, IsToldAt, IsRefusal}
 use Rattle.function_validator.specs.declared.functions.InvalidFunction.{InvalidFunction}
 use Rattle.ir_faults.specs.Faults.{error_of}
 use Rattle.ir_faults.specs.declared.refusal.Refusal.{Refusal}
 use Rattle.ir_faults.specs.declared.refusal.Refusal.TheVariants as refusal
+use Rattle.ir_flags.specs.Sets.{Has}
 use Rattle.ir_flags.specs.declared.stages.ShaderStages.{ShaderStages}
 use Rattle.ir_items.specs.Plain.{PlainFunction, PlainModule}
 use Rattle.module_handles.proofs.Whole.{order_gives_conditions}
 use Rattle.module_handles.specs.Conditions.{FunctionConditions}
 use Rattle.spec_analysis.proofs.SummaryLaws.{callees_known}
 use Rattle.spec_analysis.specs.Summaries.{Summary, IsSummary, CalleesKnown, AreSummaries, CallsBelow}
+use Rattle.spec_checks.specs.Stages.{all_stages}
 use Rattle.spec_functions.proofs.CallLaws.{calls_precede}
 use Rattle.spec_functions.proofs.HeldLaws.{held_next}
 use Rattle.spec_functions.specs.Functions.{settings_with}
 use Rattle.spec_functions.specs.Held.{IsHeldBefore}
 use Rattle.spec_handles.specs.InOrder.{HandlesOK}
-use Rattle.spec_statements.specs.Functions.{Reading, FunctionSettings, FunctionOK}
+use Rattle.spec_statements.specs.Functions.{Reading, FunctionSettings, FunctionOK, AllowsStage}
 use Rattle.spec_statements.specs.Payloads.{IsHeldAfter}
 
 -- ---- summaries
@@ -46,10 +48,16 @@ more_summaries m n f summaries t many at known is i g s found summary = elim (on
       subst (λ u. IsSummary m g u) last.1 (subst (λ h. IsSummary m h t) same is))
 ]
 
-one_longer : (summaries : List Summary) (t : Summary) (n : ℕ) → length summaries ≡ n → length (summaries ++ t ∷ []) ≡ n + 1
+one_longer : {A : Type 0} (xs : List A) (t : A) (n : ℕ) → length xs ≡ n → length (xs ++ t ∷ []) ≡ n + 1
 one_longer [] t n e = omega (arith, e)
-one_longer (s ∷ rest) t zero e = absurd (omega (arith, e))
-one_longer (s ∷ rest) t (suc n) e = let r = one_longer rest t n (omega (arith, e)) in omega (arith, r)
+one_longer (x ∷ xs) t zero e = absurd (omega (arith, e))
+one_longer (x ∷ xs) t (suc n) e = let r = one_longer xs t n (omega (arith, e)) in omega (arith, r)
+
+-- what stands in a list stands there still with one more behind it
+still_there : {A : Type 0} (xs : List A) (t : A) (i : ℕ) → i < length xs → slice_get xs i ≡ slice_get (xs ++ t ∷ []) i
+still_there [] t i lt = absurd (omega (arith, lt))
+still_there (x ∷ xs) t zero lt = refl
+still_there (x ∷ xs) t (suc i) lt = still_there xs t i (omega (arith, lt))
 
 -- ---- one more function
 
@@ -67,21 +75,44 @@ module _ (m : PlainModule) (handles : HandlesOK m) where
       let within : n < length m.functions = slice_get_within m.functions n f at in
       callees_known m f summaries known (λ callee arguments run. (let lt = below callee arguments run in omega (arith, lt, many))) (λ callee arguments run. (let lt = below callee arguments run in omega (arith, lt, within)))
 
-  module _ (reading : Question → Reading) (s : FunctionSettings) (n : ℕ) (summaries : List Summary) (held : Option ℕ) (judged : AreJudged reading s m n summaries held) (f : PlainFunction) (at : slice_get m.functions n ≡ Some f) (stages : List ShaderStages) where
+  module _ (reading : Question → Reading) (s : FunctionSettings) (n : ℕ) (summaries : List Summary) (stages : List ShaderStages) (held : Option ℕ) (judged : AreJudged reading s m n summaries stages held) (f : PlainFunction) (at : slice_get m.functions n ≡ Some f) where
     abbrev given_here : Preceding s.flags m n f
     given_here = record { summaries = summaries; known = known_at n f summaries at judged.many judged.known; stages = stages; held = held; before = judged.payloads }
 
     pub accepted_here : FunctionOK (reading (question m f summaries stages)) (settings_with s held) m f → IsAcceptedAt reading s m n
     accepted_here ok = record { function = f; at = at; given = given_here; ok = ok }
 
-    pub judged_more : (t : Summary) (after : Option ℕ) → FunctionOK (reading (question m f summaries stages)) (settings_with s held) m f → (CalleesKnown m f summaries → IsSummary m f t) → IsHeldAfter s.flags m f held after
-        → AreJudged reading s m (n + 1) (summaries ++ t ∷ []) after
-    judged_more t after ok is h = record {
+    abbrev Exact : ShaderStages → Type 0
+    Exact own = (stage : ℕ) → Has own.0 stage ↔ (Has all_stages.0 stage × AllowsStage (reading (question m f summaries stages)) (settings_with s held) stages f stage)
+
+    noted_before : (own : ShaderStages) (i : ℕ) (x : ShaderStages) → slice_get stages i ≡ Some x → IsNotedAt reading s m (stages ++ own ∷ []) i x
+    noted_before own i x there =
+        let e = judged.stages i x there in
+        let lt = slice_get_within stages i x there in
+        record { function = e.function; at = e.at; given = e.given; many = e.many; same = λ j less. e.same j less ∙ still_there stages own j (omega (arith, less, lt)); exact = e.exact }
+
+    noted_here : (own : ShaderStages) → Exact own → (i : ℕ) → i ≡ n → IsNotedAt reading s m (stages ++ own ∷ []) i own
+    noted_here own exact i here =
+        let counted = judged.counted in
+        subst (λ k. IsNotedAt reading s m (stages ++ own ∷ []) k own) (sym here)
+        (record { function = f; at = at; given = given_here; many = counted; same = λ j less. still_there stages own j (omega (arith, less, counted)); exact = exact })
+
+    noted_more : (own : ShaderStages) → Exact own → AreNoted reading s m (stages ++ own ∷ [])
+    noted_more own exact i x there = elim (one_more_at stages own i x there) [
+      | inl before ↦ noted_before own i x before
+      | inr last ↦ subst (IsNotedAt reading s m (stages ++ own ∷ []) i) last.1 (noted_here own exact i (last.0 ∙ judged.counted))
+    ]
+
+    pub judged_more : (t : Summary) (own : ShaderStages) (after : Option ℕ) → FunctionOK (reading (question m f summaries stages)) (settings_with s held) m f → (CalleesKnown m f summaries → IsSummary m f t) → Exact own
+        → IsHeldAfter s.flags m f held after → AreJudged reading s m (n + 1) (summaries ++ t ∷ []) (stages ++ own ∷ []) after
+    judged_more t own after ok is exact h = record {
       accepted = λ i lt. elim (below_or_here i n lt) [
         | inl before ↦ judged.accepted i before
         | inr same ↦ subst (IsAcceptedAt reading s m) (sym same) (accepted_here ok)
       ];
       many = one_longer summaries t n judged.many;
+      stages = noted_more own exact;
+      counted = one_longer stages own n judged.counted;
       known = more_summaries m n f summaries t judged.many at judged.known (is given_here.known);
       payloads = subst (λ k. IsHeldBefore s.flags m k after) (omega arith) (held_next s.flags m n f at held after judged.payloads (λ asked. (ok.body asked).payloads) h);
     }

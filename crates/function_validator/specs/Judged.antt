@@ -1,5 +1,5 @@
 -- What is said of the functions of a module that are judged one after the other.
-use Rattle.std.specs.Prelude.{◌≡◌, ◌<◌, ℕ, [], List, length, Option, Some, slice_get}
+use Rattle.std.specs.Prelude.{◌≡◌, ◌<◌, ◌↔◌, ℕ, [], List, length, Option, Some, slice_get}
 use Rattle.error_functions.specs.declared.error.FunctionError.{FunctionError}
 use Rattle.function_blocks.specs.Faults.{IsFunctionFault}
 use Rattle.function_lower.specs.Analysis.{Faults}
@@ -8,13 +8,15 @@ use Rattle.function_validator.specs.declared.functions.InvalidFunction.{InvalidF
 use Rattle.ir_faults.specs.Faults.{error_of, spans_of}
 use Rattle.ir_faults.specs.declared.refusal.Refusal.{Refusal}
 use Rattle.ir_faults.specs.declared.refusal.Refusal.TheVariants as refusal
+use Rattle.ir_flags.specs.Sets.{Has}
 use Rattle.ir_flags.specs.declared.settings.ValidationFlags.{ValidationFlags}
 use Rattle.ir_flags.specs.declared.stages.ShaderStages.{ShaderStages}
 use Rattle.ir_items.specs.Plain.{PlainFunction, PlainModule}
 use Rattle.spec_analysis.specs.Summaries.{Summary, CalleesKnown, AreSummaries}
+use Rattle.spec_checks.specs.Stages.{all_stages}
 use Rattle.spec_functions.specs.Functions.{settings_with}
 use Rattle.spec_functions.specs.Held.{IsHeldBefore}
-use Rattle.spec_statements.specs.Functions.{Reading, FunctionSettings, FunctionOK}
+use Rattle.spec_statements.specs.Functions.{Reading, FunctionSettings, FunctionOK, AllowsStage}
 
 -- What is known where the function at an index is judged: what its callees have over their chains, the stages of the functions
 -- before it, and the type of the payloads before it.
@@ -40,10 +42,28 @@ pub record IsRefusedAt (reading : Question → Reading) (faults : Question → F
   pub refused : FunctionOK (reading (question m function given.summaries given.stages)) (settings_with s given.held) m function → ⊥
   pub fault : IsFunctionFault (reading (question m function given.summaries given.stages)) (faults (question m function given.summaries given.stages)) (settings_with s given.held) m function e
 
--- The first so many functions are accepted; these summaries are theirs, and this type of payloads is held after them.
-pub record AreJudged (reading : Question → Reading) (s : FunctionSettings) (m : PlainModule) (count : ℕ) (summaries : List Summary) (held : Option ℕ) : Type 0 where
+-- These stages may run the function at an index, with what is known there; those of the functions before it are the first of
+-- a list.
+pub record IsNotedAt (reading : Question → Reading) (s : FunctionSettings) (m : PlainModule) (noted : List ShaderStages) (index : ℕ) (own : ShaderStages) : Type 0 where
+  pub function : PlainFunction
+  pub at : slice_get m.functions index ≡ Some function
+  pub given : Preceding s.flags m index function
+  pub many : length given.stages ≡ index
+  pub same : (earlier : ℕ) → earlier < index → slice_get given.stages earlier ≡ slice_get noted earlier
+  pub exact : (stage : ℕ) → Has own.0 stage
+      ↔ (Has all_stages.0 stage × AllowsStage (reading (question m function given.summaries given.stages)) (settings_with s given.held) given.stages function stage)
+
+-- each of the list is noted so of the function at its place
+abbrev pub AreNoted : (Question → Reading) → FunctionSettings → PlainModule → List ShaderStages → Type 0
+AreNoted reading s m noted = (index : ℕ) (own : ShaderStages) → slice_get noted index ≡ Some own → IsNotedAt reading s m noted index own
+
+-- The first so many functions are accepted; these summaries are theirs, these stages may run them, and this type of payloads is
+-- held after them.
+pub record AreJudged (reading : Question → Reading) (s : FunctionSettings) (m : PlainModule) (count : ℕ) (summaries : List Summary) (noted : List ShaderStages) (held : Option ℕ) : Type 0 where
   pub accepted : (index : ℕ) → index < count → IsAcceptedAt reading s m index
   pub many : length summaries ≡ count
+  pub stages : AreNoted reading s m noted
+  pub counted : length noted ≡ count
   pub known : AreSummaries m summaries
   pub payloads : IsHeldBefore s.flags m count held
 

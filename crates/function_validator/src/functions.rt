@@ -66,10 +66,11 @@ fn judge_next<L: Lower>(
     requires made { L.is_for validator.now.lower (module_view «module».now) }
     requires handles { HandlesOK (module_view «module».now) }
     requires within { handle < length (module_view «module».now).functions }
-    requires before { AreJudged (L.reading validator.now.lower) (settings_for validator.now.flags validator.now.capabilities validator.now.operations validator.now.stages false None) (module_view «module».now) handle (map (L.summary validator.now.lower) infos.now) held }
+    requires before { AreJudged (L.reading validator.now.lower) (settings_for validator.now.flags validator.now.capabilities validator.now.operations validator.now.stages false None) (module_view «module».now) handle (map (L.summary validator.now.lower) infos.now) (map (L.noted validator.now.lower) infos.now) held }
     ensures { let s = settings_for validator.now.flags validator.now.capabilities validator.now.operations validator.now.stages false None in
         MatchResult result
-        (λ v. AreJudged (L.reading validator.now.lower) s (module_view «module».now) (handle + 1) (map (L.summary validator.now.lower) infos.now ++ L.summary validator.now.lower v.info ∷ []) v.held)
+        (λ v. AreJudged (L.reading validator.now.lower) s (module_view «module».now) (handle + 1) (map (L.summary validator.now.lower) infos.now ++ L.summary validator.now.lower v.info ∷ [])
+        (map (L.noted validator.now.lower) infos.now ++ L.noted validator.now.lower v.info ∷ []) v.held)
         (IsRefusal (L.reading validator.now.lower) (L.faults validator.now.lower) s (module_view «module».now)) }
 {
     let settings = FunctionSettings {
@@ -103,7 +104,7 @@ pub(crate) fn judge_all<L: Lower>(
     requires handles { HandlesOK (module_view «module».now) }
     ensures { let s = settings_for validator.now.flags validator.now.capabilities validator.now.operations validator.now.stages false None in
         MatchResult result
-        (λ j. AreJudged (L.reading validator.now.lower) s (module_view «module».now) (length (module_view «module».now).functions) (map (L.summary validator.now.lower) j.infos.items) j.held)
+        (λ j. AreJudged (L.reading validator.now.lower) s (module_view «module».now) (length (module_view «module».now).functions) (map (L.summary validator.now.lower) j.infos.items) (map (L.noted validator.now.lower) j.infos.items) j.held)
         (IsRefusal (L.reading validator.now.lower) (L.faults validator.now.lower) s (module_view «module».now)) }
 {
     let count = module.functions.len();

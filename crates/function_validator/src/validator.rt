@@ -6,8 +6,6 @@ ghost use Rattle.function_lower.specs.Analysis.{IsRefusedFor};
 ghost use Rattle.function_lower.specs.Question.{question};
 ghost use Rattle.function_validator.specs.Judged.{AreJudged, IsRefusal};
 ghost use Rattle.function_validator.specs.Settings.{settings_for};
-ghost use Rattle.ir_arena.specs.Arenas.{value_of_entry};
-ghost use Rattle.ir_expressions.specs.Plain.{expression_view};
 ghost use Rattle.ir_flags.specs.Sets.{Has};
 ghost use Rattle.ir_items.specs.View.{function_view, module_view};
 ghost use Rattle.ir_walks.specs.Filters.{ParentsPrecede};
@@ -17,7 +15,6 @@ ghost use Rattle.spec_handles.specs.Conditions.{HandlesInRange, OperandsPrecede}
 ghost use Rattle.spec_handles.specs.InOrder.{HandlesOK};
 ghost use Rattle.spec_statements.specs.Functions.{FunctionOK, AllowsStage};
 ghost use Rattle.spec_statements.specs.Payloads.{IsHeldAfter};
-ghost use Rattle.typing_layout.specs.Constness.{OriginsPrecede};
 
 use crate::functions::{InvalidFunction, judge_all};
 use bitflags::Flags;
@@ -127,7 +124,6 @@ impl<L: Lower> Validator<L> {
         requires made { L.is_for self.old.lower (module_view «module».now) }
         requires handles { HandlesInRange (module_view «module».now) (function_view fun.now) }
         requires precede { OperandsPrecede (function_view fun.now).expressions }
-        requires origins { OriginsPrecede (map expression_view (map value_of_entry fun.now.expressions)) }
         requires parents { ParentsPrecede (module_view «module».now).filters }
         ensures accepted { let q = question (module_view «module».now) (function_view fun.now) (map (L.summary self.old.lower) mod_info.now) (map (L.noted self.old.lower) mod_info.now) in
             OnOk result (FunctionOK (L.reading self.old.lower q) (settings_for self.old.flags self.old.capabilities self.old.operations self.old.stages entry_point self.old.held) q.m q.f) }
@@ -183,7 +179,7 @@ impl<L: Lower> Validator<L> {
         requires handles { HandlesOK (module_view «module».now) }
         ensures judged { let s = settings_for self.old.flags self.old.capabilities self.old.operations self.old.stages false None in
             MatchResult result
-            (λ infos. AreJudged (L.reading self.old.lower) s (module_view «module».now) (length (module_view «module».now).functions) (map (L.summary self.old.lower) infos.items) self.new.held)
+            (λ infos. AreJudged (L.reading self.old.lower) s (module_view «module».now) (length (module_view «module».now).functions) (map (L.summary self.old.lower) infos.items) (map (L.noted self.old.lower) infos.items) self.new.held)
             (IsRefusal (L.reading self.old.lower) (L.faults self.old.lower) s (module_view «module».now)) }
         ensures none_held { OnErr result (self.new.held ≡ None) }
         ensures lower { self.new.lower ≡ self.old.lower }

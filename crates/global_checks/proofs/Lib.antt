@@ -3,3 +3,5 @@ mod Needs
 mod Begins
 mod Lies
 mod Whole
+mod Broken
+pub mod Refuted

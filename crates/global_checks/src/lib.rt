@@ -4,6 +4,7 @@
 mod error;
 mod globals;
 mod handles;
+pub mod laws;
 mod spaces;
 
 pub use error::GlobalVariableError;

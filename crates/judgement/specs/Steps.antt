@@ -5,12 +5,14 @@ use Rattle.ir_items.specs.Plain.{PlainModule}
 use Rattle.ir_items.specs.Returned.{IsReturned}
 use Rattle.spec_functions.specs.Functions as functions
 use Rattle.spec_functions.specs.Functions.{FunctionsOK}
+use Rattle.spec_globals.specs.Globals as globals
+use Rattle.spec_globals.specs.Globals.{GlobalsOK}
 use Rattle.spec_handles.specs.InOrder.{HandlesOK}
 use Rattle.spec_modules.specs.Steps as step
 use Rattle.spec_modules.specs.Steps.{ModuleOK, IsFirstFailing}
 use Rattle.spec_modules.specs.declared.settings.ModuleSettings.{ModuleSettings}
 use Rattle.spec_statements.specs.Functions.{FunctionSettings}
-use Rattle.judgement.specs.declared.finding.Step.TheVariants.{Layout, «Type», Typing, Expression, Constant, Override, Function}
+use Rattle.judgement.specs.declared.finding.Step.TheVariants.{Layout, «Type», Typing, Expression, Constant, Override, Global, Function}
 use Rattle.judgement.specs.declared.finding.Finding.{Finding}
 use Rattle.judgement.specs.declared.finding.Finding.TheVariants.{Accepted, RefusedDocument, RefusedHandles, Refused}
 
@@ -35,9 +37,9 @@ IsPrepared true m n = IsReturned m n
 IsPrepared false m n = n ≡ m
 
 -- What is found of the module that is judged, under the settings: the first step that fails, and the least index that
--- fails it. Functions come after all steps up to overrides.
+-- fails it. Global variables come after all steps up to overrides, and then functions.
 abbrev pub IsFinding : PlainSettings → PlainModule → Finding → Type 0
-IsFinding s m Accepted = ModuleOK (module_settings s) m × FunctionsOK (function_settings s) m
+IsFinding s m Accepted = ModuleOK (module_settings s) m × GlobalsOK s.flags s.capabilities m × FunctionsOK (function_settings s) m
 IsFinding s m RefusedDocument = ⊥
 IsFinding s m RefusedHandles = ¬ HandlesOK m
 IsFinding s m (Refused Layout i) = IsFirstFailing (module_settings s) m step.layout i
@@ -46,4 +48,5 @@ IsFinding s m (Refused Typing i) = IsFirstFailing (module_settings s) m step.typ
 IsFinding s m (Refused Expression i) = IsFirstFailing (module_settings s) m step.expression i
 IsFinding s m (Refused Constant i) = IsFirstFailing (module_settings s) m step.constant i
 IsFinding s m (Refused Override i) = IsFirstFailing (module_settings s) m step.override i
-IsFinding s m (Refused Function i) = ModuleOK (module_settings s) m × functions.IsFirstFailing (function_settings s) m i
+IsFinding s m (Refused Global i) = ModuleOK (module_settings s) m × globals.IsFirstFailing s.flags s.capabilities m i
+IsFinding s m (Refused Function i) = ModuleOK (module_settings s) m × GlobalsOK s.flags s.capabilities m × functions.IsFirstFailing (function_settings s) m i

@@ -19,6 +19,8 @@ pub enum Step {
     Constant,
     /// The rules of overrides.
     Override,
+    /// The rules of global variables.
+    Global,
     /// The rules of functions.
     Function,
 }
@@ -38,6 +40,7 @@ impl Display for Step {
             Step::Expression => write!(f, "expression"),
             Step::Constant => write!(f, "constant"),
             Step::Override => write!(f, "override"),
+            Step::Global => write!(f, "global"),
             Step::Function => write!(f, "function"),
         }
     }

@@ -1,2 +1,5 @@
 pub mod Expressions
 pub mod Origins
+pub mod Forms
+pub mod Values
+pub mod Types

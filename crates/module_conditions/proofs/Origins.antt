@@ -64,7 +64,8 @@ kind_operands P (x.SubgroupOperationResult type) all = All-nil P
 kind_operands P (x.CooperativeLoad columns rows role place) all = All-nil P
 kind_operands P (x.CooperativeMultiplyAdd p q r) all = All-nil P
 
-origins : (entries : List (Expression × Span)) → OperandsPrecede (map expression_view (values_of entries)) → OriginsPrecede (map expression_view (map value_of_entry entries))
+-- expressions whose operands precede have their kinds from earlier ones
+pub origins : (entries : List (Expression × Span)) → OperandsPrecede (map expression_view (values_of entries)) → OriginsPrecede (map expression_view (map value_of_entry entries))
 origins entries precede place e at =
     let r = map_some expression_view (slice_get (values_of entries) place) e (sym (slice_get-map expression_view (values_of entries) place) ∙ at) in
     subst (λ y. All (λ operand. operand < place) (operands_from (origin_of y))) (sym r.2)

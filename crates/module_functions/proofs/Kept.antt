@@ -19,8 +19,8 @@ use Rattle.spec_analysis.specs.Summaries.{Summary}
 use Rattle.spec_statements.specs.Functions.{FunctionSettings}
 
 module _ (s : FunctionSettings) (m : PlainModule) where
-  kept : (summaries : List Summary) (held : Option ℕ) → AreJudged reading_of s m (length m.functions) summaries held → AreKept s m summaries
-  kept summaries held j = record { accepted = λ i lt. accepted_at s m i (j.accepted i lt); many = j.many; known = j.known }
+  pub kept : (summaries : List Summary) (stages : List ShaderStages) (held : Option ℕ) → AreJudged reading_of s m (length m.functions) summaries stages held → AreKept s m summaries
+  kept summaries stages held j = record { accepted = λ i lt. accepted_at s m i (j.accepted i lt); many = j.many; known = j.known }
 
   fault : (e : InvalidFunction) → IsFirstRefused reading_of faults_of s m e → IsFunctionFault s m e
   fault e r = record {
@@ -32,11 +32,9 @@ module _ (s : FunctionSettings) (m : PlainModule) where
     fault = r.here;
   }
 
-  pub kept_by : {T : Type 0} (r : Result T (Refusal InvalidFunction)) (summaries : T → List Summary) (held : Option ℕ)
-      → MatchResult r (λ t. AreJudged reading_of s m (length m.functions) (summaries t) held) (judged.IsRefusal reading_of faults_of s m) → MatchResult r (λ t. AreKept s m (summaries t)) (IsRefusal s m)
-  kept_by (Ok t) summaries held h = kept (summaries t) held h
-  kept_by (Err (refusal.Memory e)) summaries held h = tt
-  kept_by (Err (refusal.Fault e)) summaries held h = (fault _ h.0, h.1)
+  pub refused_by : (r : Refusal InvalidFunction) → judged.IsRefusal reading_of faults_of s m r → IsRefusal s m r
+  refused_by (refusal.Memory e) h = tt
+  refused_by (refusal.Fault e) h = (fault _ h.0, h.1)
 
 pub settings_alike : (a x : ValidationFlags) (b y : Capabilities) (p z : SubgroupOperationSet) (q w : ShaderStages) → a ≡ x → b ≡ y → p ≡ z → q ≡ w → settings_for a b p q false None ≡ settings_for x y z w false None
 settings_alike a x b y p z q w e f g h =

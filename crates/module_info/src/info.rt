@@ -109,6 +109,40 @@ impl ModuleInfo {
         &self.entry_points[index]
     }
 
+    /// The same, but what is kept of the functions is this, in order. It takes no memory.
+    pub fn with_functions(self, functions: Vec<FunctionInfo>) -> ModuleInfo
+        ensures functions { result.functions ≡ functions }
+        ensures types { result.types ≡ self.types }
+        ensures layouts { result.layouter ≡ self.layouter }
+        ensures expressions { result.const_expression_types ≡ self.const_expression_types }
+        ensures entry_points { result.entry_points ≡ self.entry_points }
+    {
+        ModuleInfo {
+            types: self.types,
+            layouter: self.layouter,
+            const_expression_types: self.const_expression_types,
+            functions,
+            entry_points: self.entry_points,
+        }
+    }
+
+    /// The same, but what is kept of the functions of entry points is this, in order. It takes no memory.
+    pub fn with_entry_points(self, entry_points: Vec<FunctionInfo>) -> ModuleInfo
+        ensures entry_points { result.entry_points ≡ entry_points }
+        ensures types { result.types ≡ self.types }
+        ensures layouts { result.layouter ≡ self.layouter }
+        ensures expressions { result.const_expression_types ≡ self.const_expression_types }
+        ensures functions { result.functions ≡ self.functions }
+    {
+        ModuleInfo {
+            types: self.types,
+            layouter: self.layouter,
+            const_expression_types: self.const_expression_types,
+            functions: self.functions,
+            entry_points,
+        }
+    }
+
     /// Keeps what is known of the next function. The error is out of memory; the info is let go then, and nothing else changes.
     pub fn push_function(&mut self, info: FunctionInfo) -> Result<(), AllocError>
         ensures added { OnOk result (self.new.functions.items ≡ self.old.functions.items ++ info ∷ []) }

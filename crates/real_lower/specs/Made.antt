@@ -1,4 +1,4 @@
--- What is kept of a module is that of this one.
+-- What is kept of a module is that of this one, whose handles are in order.
 use Rattle.std.specs.Prelude.{List, map}
 use Rattle.analysis_forms.specs.declared.expression_info.ExpressionInfo.{ExpressionInfo}
 use Rattle.analysis_info.specs.declared.function_info.FunctionInfo.{FunctionInfo}
@@ -6,11 +6,13 @@ use Rattle.interface_checks.specs.Told.{AreTold}
 use Rattle.ir_items.specs.Plain.{PlainModule}
 use Rattle.module_info.specs.declared.info.ModuleInfo.{ModuleInfo}
 use Rattle.spec_expressions.specs.Context.{outside}
+use Rattle.spec_handles.specs.InOrder.{HandlesOK}
 use Rattle.typing_expressions.specs.Types.{AreTypes}
 use Rattle.typing_forms.specs.declared.resolution.TypeResolution.{TypeResolution}
 
--- it tells of all types of the module, and has the types of all its global expressions
+-- the handles of the module are in order; it tells of all types of the module, and has the types of all its global expressions
 pub record IsMadeOf (m : PlainModule) (info : ModuleInfo) : Type 0 where
+  pub handles : HandlesOK m
   pub told : AreTold m.types info.types.items
   pub typed : AreTypes (outside m) m.global_expressions info.const_expression_types.items
 

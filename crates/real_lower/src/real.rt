@@ -43,6 +43,13 @@ impl RealLower {
     {
         &self.info
     }
+
+    /// What is kept of the module, handed back.
+    pub fn into_info(self) -> ModuleInfo
+        ensures { result ≡ self.info }
+    {
+        self.info
+    }
 }
 
 impl Lower for RealLower {

@@ -5,3 +5,4 @@ pub mod Expected
 pub mod Once
 pub mod Classical
 pub mod SomeText
+pub mod Kept

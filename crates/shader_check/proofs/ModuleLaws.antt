@@ -38,6 +38,7 @@ found_is s m (error.Override e) x = x.0
 -- what is found of a module with its error is found without it
 pub found_of : (s : PlainSettings) (m : PlainModule) (x : Examined) → IsExamined s m x → IsFinding s m (finding_in x)
 found_of s m examined.NotChecked h = absurd h
-found_of s m examined.Accepted h = h
+found_of s m (examined.Accepted info) h = (h.ok, h.globals, h.functions)
 found_of s m (examined.RefusedModule e) h = found_is s m e h
-found_of s m (examined.RefusedFunction e) h = (h.0, h.1.first)
+found_of s m (examined.RefusedGlobal e) h = (h.0, h.1.first)
+found_of s m (examined.RefusedFunction e) h = (h.0, h.1, h.2.first)

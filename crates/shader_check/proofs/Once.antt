@@ -1,5 +1,5 @@
 -- One text is expected for some bytes.
-use Rattle.std.proofs.Common.{◌≡◌, inl, inr, ℕ, Bool, true, false, List, Option, Some, None, refl, sym, ap, subst, ◌∙◌, arith}
+use Rattle.std.proofs.Common.{◌≡◌, inl, inr, ℕ, ◌<◌, Bool, true, false, List, ◌++◌, refl, sym, ap, subst, ◌∙◌, arith}
 use Rattle.std.proofs.lemmas.Bool.{cases_lt}
 use Rattle.ir_flags.specs.Settings.{PlainSettings}
 use Rattle.ir_items.specs.Plain.{PlainModule}
@@ -9,50 +9,58 @@ use Rattle.document_reader.proofs.Seam.{one_document_lem}
 use Rattle.judgement.specs.Steps.{IsFinding, IsPrepared, module_settings, function_settings}
 use Rattle.judgement.specs.Text.{text_of}
 use Rattle.judgement.specs.declared.finding.Step.{Step}
-use Rattle.judgement.specs.declared.finding.Step.TheVariants.{Layout, «Type», Typing, Expression, Constant, Override, Function}
+use Rattle.judgement.specs.declared.finding.Step.TheVariants.{Layout, «Type», Typing, Expression, Constant, Override, Global, Function}
 use Rattle.judgement.specs.declared.finding.Finding.{Finding}
 use Rattle.judgement.specs.declared.finding.Finding.TheVariants.{Accepted, RefusedDocument, RefusedHandles, Refused}
 use Rattle.spec_functions.specs.Functions as functions
-use Rattle.spec_functions.specs.Functions.{FunctionsOK}
+use Rattle.spec_functions.specs.Functions.{FunctionAtOK, FunctionsOK}
+use Rattle.spec_globals.specs.Globals as globals
+use Rattle.spec_globals.specs.Globals.{GlobalOK, GlobalsOK}
 use Rattle.spec_handles.specs.InOrder.{HandlesOK}
 use Rattle.spec_modules.proofs.Failures.{one_failure, none_fails}
 use Rattle.spec_modules.specs.Steps as step
 use Rattle.spec_modules.specs.Steps.{ModuleStep, IsFirstFailing, ModuleOK}
-use Rattle.spec_statements.specs.Functions.{FunctionSettings}
-use Rattle.shader_check.specs.Theorem.{Finds, FindsIn, Judged, OneText}
+use Rattle.spec_report.proofs.OneReport.{one_report}
+use Rattle.spec_report.specs.Reports.{IsReport}
+use Rattle.shader_check.specs.Theorem.{Finds, FindsIn, Judged, OneText, IsReportOn, IsTold}
 
-least_once : (s : FunctionSettings) (m : PlainModule) (i j : ℕ) → functions.IsFirstFailing s m i → functions.IsFirstFailing s m j → i ≡ j
-least_once s m i j f g =
+-- the first that is not such is one
+first_once : (OK : ℕ → Type 0) (i j : ℕ) → ((k : ℕ) → k < i → OK k) → ¬ OK i → ((k : ℕ) → k < j → OK k) → ¬ OK j → i ≡ j
+first_once OK i j before fails before' fails' =
     elim (cases_lt i j) [
-      | inl lt ↦ absurd (f.fails (g.before i lt))
+      | inl lt ↦ absurd (fails (before' i lt))
       | inr le ↦ elim (cases_lt j i) [
-        | inl lt ↦ absurd (g.fails (f.before j lt))
+        | inl lt ↦ absurd (fails' (before j lt))
         | inr ge ↦ omega arith
       ]
     ]
 
-meets_none : (s : FunctionSettings) (m : PlainModule) (i : ℕ) → FunctionsOK s m → functions.IsFirstFailing s m i → ⊥
-meets_none s m i all first = first.fails (all i first.within)
+-- ---- the steps that are refused: those up to overrides, and those behind
 
--- ---- the steps that are refused, as those up to overrides and that of functions
+data Family : Type 0 where
+  up_to_overrides : ModuleStep → Family
+  at_variables : Family
+  at_functions : Family
 
-abbrev step_in : Step → Option ModuleStep
-step_in Layout = Some step.layout
-step_in «Type» = Some step.type
-step_in Typing = Some step.typing
-step_in Expression = Some step.expression
-step_in Constant = Some step.constant
-step_in Override = Some step.override
-step_in Function = None
+abbrev step_in : Step → Family
+step_in Layout = up_to_overrides step.layout
+step_in «Type» = up_to_overrides step.type
+step_in Typing = up_to_overrides step.typing
+step_in Expression = up_to_overrides step.expression
+step_in Constant = up_to_overrides step.constant
+step_in Override = up_to_overrides step.override
+step_in Global = at_variables
+step_in Function = at_functions
 
-abbrev step_back : Option ModuleStep → Step
-step_back (Some step.layout) = Layout
-step_back (Some step.type) = «Type»
-step_back (Some step.typing) = Typing
-step_back (Some step.expression) = Expression
-step_back (Some step.constant) = Constant
-step_back (Some step.override) = Override
-step_back None = Function
+abbrev step_back : Family → Step
+step_back (up_to_overrides step.layout) = Layout
+step_back (up_to_overrides step.type) = «Type»
+step_back (up_to_overrides step.typing) = Typing
+step_back (up_to_overrides step.expression) = Expression
+step_back (up_to_overrides step.constant) = Constant
+step_back (up_to_overrides step.override) = Override
+step_back at_variables = Global
+step_back at_functions = Function
 
 back : (t : Step) → step_back (step_in t) ≡ t
 back Layout = refl
@@ -61,12 +69,14 @@ back Typing = refl
 back Expression = refl
 back Constant = refl
 back Override = refl
+back Global = refl
 back Function = refl
 
 module _ (s : PlainSettings) (m : PlainModule) where
-  abbrev IsFailing : Option ModuleStep → ℕ → Type 0
-  IsFailing (Some k) i = IsFirstFailing (module_settings s) m k i
-  IsFailing None i = ModuleOK (module_settings s) m × functions.IsFirstFailing (function_settings s) m i
+  abbrev IsFailing : Family → ℕ → Type 0
+  IsFailing (up_to_overrides k) i = IsFirstFailing (module_settings s) m k i
+  IsFailing at_variables i = ModuleOK (module_settings s) m × globals.IsFirstFailing s.flags s.capabilities m i
+  IsFailing at_functions i = ModuleOK (module_settings s) m × GlobalsOK s.flags s.capabilities m × functions.IsFirstFailing (function_settings s) m i
 
   as_failing : (t : Step) (i : ℕ) → IsFinding s m (Refused t i) → IsFailing (step_in t) i
   as_failing Layout i x = x
@@ -75,23 +85,44 @@ module _ (s : PlainSettings) (m : PlainModule) where
   as_failing Expression i x = x
   as_failing Constant i x = x
   as_failing Override i x = x
+  as_failing Global i x = x
   as_failing Function i x = x
 
-  in_order : (o : Option ModuleStep) (i : ℕ) → IsFailing o i → HandlesOK m
-  in_order (Some k) i x = x.reached.handles
-  in_order None i x = x.0.handles
+  in_order : (o : Family) (i : ℕ) → IsFailing o i → HandlesOK m
+  in_order (up_to_overrides k) i x = x.reached.handles
+  in_order at_variables i x = x.0.handles
+  in_order at_functions i x = x.0.handles
 
-  not_accepted : (o : Option ModuleStep) (i : ℕ) → IsFinding s m Accepted → IsFailing o i → ⊥
-  not_accepted (Some k) i x y = none_fails (module_settings s) m k i y x.0
-  not_accepted None i x y = meets_none _ m i x.1 y.1
+  -- no global variable fails where all are accepted
+  no_variable : (i : ℕ) → GlobalsOK s.flags s.capabilities m → globals.IsFirstFailing s.flags s.capabilities m i → ⊥
+  no_variable i all first = first.fails (all i first.within)
 
-  failing_once : (o p : Option ModuleStep) (i j : ℕ) → IsFailing o i → IsFailing p j → (o ≡ p) × (i ≡ j)
-  failing_once (Some k) (Some l) i j x y =
+  no_function : (i : ℕ) → FunctionsOK (function_settings s) m → functions.IsFirstFailing (function_settings s) m i → ⊥
+  no_function i all first = first.fails (all i first.within)
+
+  not_accepted : (o : Family) (i : ℕ) → IsFinding s m Accepted → IsFailing o i → ⊥
+  not_accepted (up_to_overrides k) i x y = none_fails (module_settings s) m k i y x.0
+  not_accepted at_variables i x y = no_variable i x.1 y.1
+  not_accepted at_functions i x y = no_function i x.2 y.2
+
+  variable_once : (i j : ℕ) → globals.IsFirstFailing s.flags s.capabilities m i → globals.IsFirstFailing s.flags s.capabilities m j → i ≡ j
+  variable_once i j f g = first_once (GlobalOK s.flags s.capabilities m) i j f.before f.fails g.before g.fails
+
+  function_once : (i j : ℕ) → functions.IsFirstFailing (function_settings s) m i → functions.IsFirstFailing (function_settings s) m j → i ≡ j
+  function_once i j f g = first_once (FunctionAtOK (function_settings s) m) i j f.before f.fails g.before g.fails
+
+  failing_once : (o p : Family) (i j : ℕ) → IsFailing o i → IsFailing p j → (o ≡ p) × (i ≡ j)
+  failing_once (up_to_overrides k) (up_to_overrides l) i j x y =
       let e = one_failure (module_settings s) m k l i j x y in
-      (ap Some e.0, e.1)
-  failing_once (Some k) None i j x y = absurd (none_fails (module_settings s) m k i x y.0)
-  failing_once None (Some l) i j x y = absurd (none_fails (module_settings s) m l j y x.0)
-  failing_once None None i j x y = (refl, least_once _ m i j x.1 y.1)
+      (ap up_to_overrides e.0, e.1)
+  failing_once (up_to_overrides k) at_variables i j x y = absurd (none_fails (module_settings s) m k i x y.0)
+  failing_once (up_to_overrides k) at_functions i j x y = absurd (none_fails (module_settings s) m k i x y.0)
+  failing_once at_variables (up_to_overrides l) i j x y = absurd (none_fails (module_settings s) m l j y x.0)
+  failing_once at_variables at_variables i j x y = (refl, variable_once i j x.1 y.1)
+  failing_once at_variables at_functions i j x y = absurd (no_variable i y.1 x.1)
+  failing_once at_functions (up_to_overrides l) i j x y = absurd (none_fails (module_settings s) m l j y x.0)
+  failing_once at_functions at_variables i j x y = absurd (no_variable j x.1 y.1)
+  failing_once at_functions at_functions i j x y = (refl, function_once i j x.2 y.2)
 
   refused_once : (t u : Step) (i j : ℕ) → IsFinding s m (Refused t i) → IsFinding s m (Refused u j) → Refused t i ≡ Refused u j
   refused_once t u i j x y =
@@ -145,6 +176,23 @@ judged_once bytes (Refused s i) Accepted x y = finds_once bytes (Refused s i) Ac
 judged_once bytes (Refused s i) RefusedHandles x y = finds_once bytes (Refused s i) RefusedHandles x y
 judged_once bytes (Refused s i) (Refused t j) x y = finds_once bytes (Refused s i) (Refused t j) x y
 
+-- ---- what is told behind the line
+
+report_once : (d : PlainDocument) (a b : List ℕ) → IsReportOn d a → IsReportOn d b → a ≡ b
+report_once d a b x y =
+    let same = prepared_once d.settings.returns d.content x.judged y.judged x.prepared y.prepared in
+    one_report x.judged a b x.is (subst (λ m. IsReport m b) (sym same) y.is)
+
+told_once : (bytes : List ℕ) (f : Finding) (a b : List ℕ) → IsTold bytes f a → IsTold bytes f b → a ≡ b
+told_once bytes Accepted a b x y =
+    let same = one_document_lem bytes x.document y.document x.reads y.reads in
+    report_once x.document a b x.reports (subst (λ d. IsReportOn d b) (sym same) y.reports)
+told_once bytes RefusedDocument a b x y = x ∙ sym y
+told_once bytes RefusedHandles a b x y = x ∙ sym y
+told_once bytes (Refused t i) a b x y = x ∙ sym y
+
 pub one_text_lem : OneText
 one_text_lem bytes s t x y =
-    x.text_is ∙ (ap text_of (judged_once bytes x.finding y.finding x.judged y.judged) ∙ sym y.text_is)
+    let same = judged_once bytes x.finding y.finding x.judged y.judged in
+    let behind = told_once bytes x.finding x.behind y.behind x.told (subst (λ f. IsTold bytes f y.behind) (sym same) y.told) in
+    x.text_is ∙ (ap (λ f. text_of f ++ x.behind) same ∙ (ap (λ z. text_of y.finding ++ z) behind ∙ sym y.text_is))

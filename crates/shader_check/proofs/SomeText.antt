@@ -1,5 +1,5 @@
 -- There are no bytes for which no text is expected.
-use Rattle.std.proofs.Common.{◌≡◌, ◌⊎◌, inl, inr, ℕ, List, Bool, true, false, length, refl, subst}
+use Rattle.std.proofs.Common.{◌≡◌, ◌⊎◌, ◌∙◌, inl, inr, ℕ, List, [], ◌∷◌, ◌++◌, Bool, true, false, length, refl, sym, ap, subst}
 use Rattle.ir_flags.specs.Settings.{PlainSettings}
 use Rattle.ir_items.specs.Plain.{PlainModule}
 use Rattle.ir_items.specs.Returned.{returned_module}
@@ -13,14 +13,18 @@ use Rattle.spec_modules.proofs.Reached.{reach_first, reach, all_passed}
 use Rattle.spec_modules.specs.Steps.{ModuleStep, layout, type, typing, expression, constant, override, rank, item_count, StepOK, StepPasses, IsReached, IsFirstFailing, ModuleOK}
 use Rattle.judgement.specs.Steps.{IsFinding, IsPrepared, module_settings, function_settings}
 use Rattle.judgement.specs.Text.{text_of}
-use Rattle.judgement.specs.declared.finding.Step.TheVariants.{Layout, «Type», Typing, Expression, Constant, Override, Function}
+use Rattle.judgement.specs.declared.finding.Step.TheVariants.{Layout, «Type», Typing, Expression, Constant, Override, Global, Function}
 use Rattle.judgement.specs.declared.finding.Finding.{Finding}
 use Rattle.judgement.specs.declared.finding.Finding.TheVariants.{Accepted, RefusedDocument, RefusedHandles, Refused}
 use Rattle.shader_check.specs.Scope.{IsWithin}
-use Rattle.shader_check.specs.Theorem.{Judged, SomeText}
+use Rattle.shader_check.specs.Theorem.{Judged, IsTold, SomeText}
 use Rattle.spec_functions.specs.Functions.{FunctionAtOK}
+use Rattle.spec_globals.specs.Globals.{GlobalOK, GlobalsOK}
+use Rattle.spec_report.specs.Lines.{buffers}
+use Rattle.spec_report.specs.Reports.{IsReport}
 use Rattle.shader_check.proofs.Classical.{Holds, surely, then, either, Sought, IsFirstWithout, all_or_first}
 use Rattle.shader_check.proofs.JudgedLaws.{found_in, judged}
+use Rattle.shader_check.proofs.ScopeLaws.{none_put_in}
 
 -- ---- of a module
 
@@ -28,15 +32,24 @@ abbrev SomeFinding : PlainSettings → PlainModule → Type 0
 SomeFinding s m = (f : Finding) × IsFinding s m f
 
 module _ (s : PlainSettings) (m : PlainModule) where
-  functions_told : ModuleOK (module_settings s) m → Sought (FunctionAtOK (function_settings s) m) (length m.functions) → SomeFinding s m
-  functions_told ok (inl all) = (Accepted, (ok, all))
-  functions_told ok (inr found) =
+  functions_told : ModuleOK (module_settings s) m → GlobalsOK s.flags s.capabilities m → Sought (FunctionAtOK (function_settings s) m) (length m.functions) → SomeFinding s m
+  functions_told ok variables (inl all) = (Accepted, (ok, variables, all))
+  functions_told ok variables (inr found) =
       let f = found.1 in
-      (Refused Function found.0, (ok, record { within = f.within; before = f.before; fails = f.fails }))
+      (Refused Function found.0, (ok, variables, record { within = f.within; before = f.before; fails = f.fails }))
 
-  by_functions : ModuleOK (module_settings s) m → Holds (SomeFinding s m)
-  by_functions ok =
-      then (all_or_first (FunctionAtOK (function_settings s) m) (length m.functions)) (λ o. surely (functions_told ok o))
+  by_functions : ModuleOK (module_settings s) m → GlobalsOK s.flags s.capabilities m → Holds (SomeFinding s m)
+  by_functions ok variables =
+      then (all_or_first (FunctionAtOK (function_settings s) m) (length m.functions)) (λ o. surely (functions_told ok variables o))
+
+  variables_told : ModuleOK (module_settings s) m → Sought (GlobalOK s.flags s.capabilities m) (length m.globals) → Holds (SomeFinding s m)
+  variables_told ok (inl all) = by_functions ok all
+  variables_told ok (inr found) =
+      let f = found.1 in
+      surely (Refused Global found.0, (ok, record { within = f.within; before = f.before; fails = f.fails }))
+
+  by_variables : ModuleOK (module_settings s) m → Holds (SomeFinding s m)
+  by_variables ok = then (all_or_first (GlobalOK s.flags s.capabilities m) (length m.globals)) (λ o. variables_told ok o)
 
   -- each item passes the step, or one is the first that fails it
   abbrev Outcome : ModuleStep → Type 0
@@ -64,7 +77,7 @@ module _ (s : PlainSettings) (m : PlainModule) where
 
   on_overrides : IsReached (module_settings s) m override → Holds (SomeFinding s m)
   on_overrides reached =
-      step_by_step override reached (λ i f. (Refused Override i, f)) (λ passes. by_functions (all_passed (module_settings s) m reached passes))
+      step_by_step override reached (λ i f. (Refused Override i, f)) (λ passes. by_variables (all_passed (module_settings s) m reached passes))
 
   on_constants : IsReached (module_settings s) m constant → Holds (SomeFinding s m)
   on_constants reached =
@@ -130,6 +143,27 @@ some_judged bytes =
       | inr found ↦ then (either (IsWithin found.0)) (λ w. by_candidate bytes found.0 found.1 w)
     ]
 
+-- ---- what is told
+
+-- the report on a module without entry points tells of its buffers alone
+buffers_told : (m : PlainModule) → m.entries ≡ [] → IsReport m (buffers m ++ [])
+buffers_told m none = record {
+  entries = [];
+  are_entries = record { many = sym (ap length none); each = λ number e lines at there. cc (there) };
+  told = refl;
+}
+
+some_told : (bytes : List ℕ) (f : Finding) → Judged bytes f → (behind : List ℕ) × IsTold bytes f behind
+some_told bytes Accepted h =
+    let found = h.found in
+    let none = none_put_in h.document.settings.returns h.document.content found.judged found.prepared found.within in
+    (buffers found.judged ++ [], record { document = h.document; reads = h.reads; reports = record { judged = found.judged; prepared = found.prepared; is = buffers_told found.judged none } })
+some_told bytes RefusedDocument h = ([], refl)
+some_told bytes RefusedHandles h = ([], refl)
+some_told bytes (Refused step index) h = ([], refl)
+
 pub some_text_lem : SomeText
 some_text_lem bytes =
-    λ none. some_judged bytes (λ found. none (text_of found.0) (record { finding = found.0; judged = found.1; text_is = refl }))
+    λ none. some_judged bytes (λ found.
+    let told = some_told bytes found.0 found.1 in
+    none (text_of found.0 ++ told.0) (record { finding = found.0; judged = found.1; behind = told.0; told = told.1; text_is = refl }))

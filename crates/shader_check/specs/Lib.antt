@@ -1,3 +1,4 @@
 pub mod Scope
 pub mod Examined
 pub mod Theorem
+pub mod Judgements

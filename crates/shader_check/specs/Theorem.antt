@@ -1,6 +1,6 @@
--- The theorem of the program: what is found of bytes, the text that tells it, and what a check reads, writes and answers.
+-- The theorem of the program: what is found of bytes, the text that tells it with its report, and what a check reads, writes and answers.
 -- `check_document` and `outcome` are contracted over these words.
-use Rattle.std.specs.Prelude.{◌≡◌, ◌↔◌, ℕ, List, [], Option, IfSome, IsTrue, Result, Ok, Err, codes, nat_eq}
+use Rattle.std.specs.Prelude.{◌≡◌, ◌↔◌, ℕ, List, [], ◌++◌, Option, IfSome, IsTrue, Result, Ok, Err, codes, nat_eq}
 use Rattle.std.specs.List.{starts_with}
 use Rattle.std.specs.Io.KnownBytes.{Appends}
 use Rattle.ports.specs.Calls.{Call}
@@ -17,6 +17,7 @@ use Rattle.judgement.specs.Text.{text_of}
 use Rattle.judgement.specs.declared.finding.Finding.{Finding}
 use Rattle.judgement.specs.declared.finding.Finding.TheVariants as finding
 use Rattle.shader_check.specs.Scope.{IsWithin}
+use Rattle.spec_report.specs.Reports.{IsReport}
 use Rattle.shader_check.specs.declared.check.TheConstants.{MAX_TAKEN}
 use Rattle.shader_check.specs.declared.check.Verdict.{Verdict}
 use Rattle.shader_check.specs.declared.check.Verdict.TheVariants.{Accepted, Refused}
@@ -52,11 +53,41 @@ Judged bytes finding.Accepted = Finds bytes finding.Accepted
 Judged bytes finding.RefusedHandles = Finds bytes finding.RefusedHandles
 Judged bytes (finding.Refused step index) = Finds bytes (finding.Refused step index)
 
+-- ---- what is told
+
+-- It is the report on the document's module, with returns put in where its settings ask for them.
+pub record IsReportOn (d : PlainDocument) (report : List ℕ) : Type 0 where
+  pub judged : PlainModule
+  pub prepared : IsPrepared d.settings.returns d.content judged
+  pub is : IsReport judged report
+
+-- what is told of a document behind the line of what is found: nothing, but the report where it is accepted
+abbrev pub IsToldOf : PlainDocument → Finding → (behind : List ℕ) → Type 0
+IsToldOf d finding.Accepted behind = IsReportOn d behind
+IsToldOf d finding.RefusedDocument behind = behind ≡ []
+IsToldOf d finding.RefusedHandles behind = behind ≡ []
+IsToldOf d (finding.Refused step index) behind = behind ≡ []
+
+-- It is the report on the document that the bytes spell.
+pub record IsReportFor (bytes report : List ℕ) : Type 0 where
+  pub document : PlainDocument
+  pub reads : Reads bytes document
+  pub reports : IsReportOn document report
+
+-- what is told of bytes behind the line of what is found
+abbrev pub IsTold : List ℕ → Finding → (behind : List ℕ) → Type 0
+IsTold bytes finding.Accepted behind = IsReportFor bytes behind
+IsTold bytes finding.RefusedDocument behind = behind ≡ []
+IsTold bytes finding.RefusedHandles behind = behind ≡ []
+IsTold bytes (finding.Refused step index) behind = behind ≡ []
+
 -- The text that is expected for these bytes.
 pub record IsExpected (bytes text : List ℕ) : Type 0 where
   pub finding : Finding
   pub judged : Judged bytes finding
-  pub text_is : text ≡ text_of finding
+  pub behind : List ℕ
+  pub told : IsTold bytes finding behind
+  pub text_is : text ≡ text_of finding ++ behind
 
 -- one text is expected for some bytes
 abbrev pub OneText : Type 0

@@ -125,10 +125,10 @@ pub fn check_document<R: ReadCall, W: WriteCall>(
         (reader_of source.new) MAX_TAKEN MAX_CALLS calls }
 {
     let bytes = source.take_all(alloc, MAX_TAKEN)?;
-    let finding = judge(alloc, &bytes)?;
-    let text = finding.text(alloc)?;
+    let judgement = judge(alloc, &bytes)?;
+    let text = judgement.text(alloc)?;
     sink.write_all(text.as_bytes())?;
-    Ok(verdict_of(finding))
+    Ok(verdict_of(judgement.finding))
 }
 
 /// The exit status of an answer, 0 for accepted, 1 for refused and 2 for a fault, and what is said of it on standard

@@ -5,17 +5,21 @@ ghost use Rattle.shader_check.specs.Examined.{step_of, refused_by, finding_in};
 use error_expressions::ConstExpressionError;
 use judgement::{Finding, Step};
 use module_functions::InvalidFunction;
+use module_globals::InvalidGlobalVariable;
+use module_info::ModuleInfo;
 use module_validator::ModuleError;
 
 /// What is found of a document, with the error where its module is refused.
-#[derive(Debug, Drop)]
+#[derive(Drop)]
 pub enum Examined {
     /// It is not checked so far.
     NotChecked,
-    /// No step fails.
-    Accepted,
+    /// No step fails; this is kept of its module.
+    Accepted(ModuleInfo),
     /// Its handles are out of order, or a step up to overrides fails.
     RefusedModule(ModuleError),
+    /// A global variable is refused: the first, and why it is.
+    RefusedGlobal(InvalidGlobalVariable),
     /// A function fails its rules: the first, and why it does.
     RefusedFunction(InvalidFunction),
 }
@@ -57,8 +61,11 @@ impl Examined {
     {
         match self {
             Examined::NotChecked => Finding::RefusedDocument,
-            Examined::Accepted => Finding::Accepted,
+            Examined::Accepted(_) => Finding::Accepted,
             Examined::RefusedModule(error) => refused_by(error),
+            Examined::RefusedGlobal(error) => {
+                Finding::Refused(Step::Global, error.global.index())
+            }
             Examined::RefusedFunction(error) => {
                 Finding::Refused(Step::Function, error.function.index())
             }

@@ -6,6 +6,7 @@ mod examined;
 mod judge;
 pub mod laws;
 mod scope;
+mod told;
 
 pub use check::{Fault, MAX_TAKEN, Verdict, check_document, outcome};
 pub use document_reader::{Document, DocumentError, Settings, build_module, read_document};
@@ -13,6 +14,8 @@ pub use examined::{Examined, refused_by};
 pub use judge::{examine_document, judge_document};
 pub use judgement::{Finding, Step};
 pub use module_functions::InvalidFunction;
+pub use module_globals::InvalidGlobalVariable;
 pub use module_validator::ModuleError;
 pub use ports::{ReadCall, Sink, Source, WriteCall};
 pub use scope::within;
+pub use told::Judgement;

@@ -5,10 +5,9 @@ ghost use Rattle.shader_check.specs.Scope.{IsWithin};
 
 use document_reader::Document;
 
-/// Whether the program checks such a document so far: it has no global variables and no entry points; no more is asked of what
-/// else it holds.
+/// Whether the program checks such a document so far: it has no entry points; no more is asked of what else it holds.
 pub fn within(document: &Document) -> bool
     ensures { IsTrue result ↔ IsWithin (document_view document.now) }
 {
-    document.module.global_variables.is_empty() && document.module.entry_points.is_empty()
+    document.module.entry_points.is_empty()
 }

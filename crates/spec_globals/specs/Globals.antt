@@ -1,5 +1,5 @@
 -- Which global variables a module may have.
-use Rattle.std.specs.Prelude.{◌≡◌, ◌≢◌, ◌↔◌, ℕ, IsTrue, Option, Some, None, IfSome, IsSome, slice_get}
+use Rattle.std.specs.Prelude.{◌≡◌, ◌≢◌, ◌↔◌, ◌<◌, ℕ, IsTrue, Option, Some, None, IfSome, IsSome, length, slice_get}
 use Rattle.ir_flags.specs.Sets.{Has}
 use Rattle.ir_flags.specs.declared.memory.MemoryDecorations.{MemoryDecorations}
 use Rattle.ir_flags.specs.declared.memory.TheConstants.MemoryDecorations.{COHERENT, VOLATILE}
@@ -46,3 +46,13 @@ pub record GlobalOK (flags : ValidationFlags) (capabilities : Capabilities) (m :
   pub variable : PlainGlobal
   pub at : slice_get m.globals handle ≡ Some variable
   pub ok : VariableOK flags capabilities m variable
+
+-- all global variables of a module are
+abbrev pub GlobalsOK : ValidationFlags → Capabilities → PlainModule → Type 0
+GlobalsOK flags capabilities m = (handle : ℕ) → handle < length m.globals → GlobalOK flags capabilities m handle
+
+-- The one at a handle is the first that is not.
+pub record IsFirstFailing (flags : ValidationFlags) (capabilities : Capabilities) (m : PlainModule) (handle : ℕ) : Type 0 where
+  pub within : handle < length m.globals
+  pub before : (other : ℕ) → other < handle → GlobalOK flags capabilities m other
+  pub fails : ¬ GlobalOK flags capabilities m handle

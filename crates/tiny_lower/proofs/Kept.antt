@@ -1,5 +1,5 @@
 -- What is kept of a function is what is asked of a layer.
-use Rattle.std.proofs.Common.{◌≡◌, Bool, List, [], Some, false, map, length, slice_get, refl, sym, ap, ◌∙◌}
+use Rattle.std.proofs.Common.{◌≡◌, ℕ, zero, suc, Bool, List, [], ◌∷◌, Some, false, map, length, slice_get, refl, sym, ap, subst, ◌∙◌}
 use Rattle.std.specs.Option.{is_some}
 use Rattle.analysis_forms.specs.declared.global_use.GlobalUse.{GlobalUse}
 use Rattle.function_lower.specs.Analysis.{IsKept}
@@ -19,8 +19,15 @@ use Rattle.tiny_lower.specs.Typing.{types_of}
 use Rattle.tiny_lower.specs.Values.{resolution_of}
 use Rattle.tiny_lower.specs.declared.tiny.TinyInfo.{TinyInfo}
 use Rattle.tiny_lower.specs.declared.value_type.ValueType.{ValueType}
+use Rattle.typing_forms.specs.Forms.{NoStructValue}
+use Rattle.typing_forms.specs.Resolutions.{resolution_view}
 use Rattle.typing_forms.specs.declared.resolution.TypeResolution.{TypeResolution}
 use Rattle.typing_operands.specs.Answers.{form_given}
+
+none_named : (types : List ValueType) (e : ℕ) (r : TypeResolution) → slice_get (map resolution_of types) e ≡ Some r → NoStructValue (resolution_view r)
+none_named [] e r at = cc (at)
+none_named (t ∷ ts) zero r at = subst (λ (x : TypeResolution). NoStructValue (resolution_view x)) (let same : resolution_of t ≡ r = (let f = at in cc (f)) in same) (λ is. is)
+none_named (t ∷ ts) (suc e) r at = none_named ts e r at
 
 pub kept_of : (flags : ValidationFlags) (m : PlainModule) (f : PlainFunction) (callees : List TinyInfo) (others : List Summary) (stages : List ShaderStages) (types : List ValueType) (told : List TypeResolution) (may_kill : Bool) (available : ShaderStages) (uses : List GlobalUse)
     → m.globals ≡ [] → AgreeOnCallees f (map summary_of callees) others → map Some types ≡ types_of m f → told ≡ map resolution_of types
@@ -32,6 +39,7 @@ kept_of flags m f callees others stages types told may_kill available uses none 
     many = ap (λ ts. length (map (form_given m.types) ts)) is ∙ many_told m f types are;
     each = λ e t at. has_form m f types are e t (ap (λ ts. slice_get (map (form_given m.types) ts) e) (sym is) ∙ at);
   };
+  named = λ e r at. none_named types e r (ap (λ ts. slice_get ts e) (sym is) ∙ at);
   globals = ap length unused ∙ sym (ap length none);
   joined = joined_by_callees f (map summary_of callees) others agree (length m.globals) _ (joined_of m f callees uses may_kill none (none_untyped m f types are) kills);
   all_run = ap (λ bits. record { 0 = bits }) all;

@@ -8,4 +8,4 @@ use Rattle.function_validator.proofs.functions.judge_all.Given as goal
 abbrev pub invariant-loop-index : goal.invariant-loop-index
 invariant-loop-index g l =
     AreJudged (g.L.Lower.reading l.validator.lower) (settings_for l.validator.flags l.validator.capabilities l.validator.operations l.validator.stages false None) (module_view l.«module») l.index
-    (map (g.L.Lower.summary l.validator.lower) l.infos.items) l.held
+    (map (g.L.Lower.summary l.validator.lower) l.infos.items) (map (g.L.Lower.noted l.validator.lower) l.infos.items) l.held

@@ -1,22 +1,23 @@
+use Rattle.std.proofs.Common.{◌++◌, string_bytes}
 use Rattle.judgement.specs.Text.{text_of}
 use Rattle.shader_check.proofs.Expected.{expected_for, verdict_is}
 use Rattle.shader_check.proofs.check.check_document.Goals as goal
 
 pub returns-in_err-write_all-clause-write_prefix : goal.returns-in_err-write_all-clause-write_prefix
 returns-in_err-write_all-clause-write_prefix g c = λ _.
-    let judged = rw c.deref.ensures.value at c.in_ok-finding.ensures in
+    let judged = rw c.deref.ensures.value at c.in_ok-judgement.ensures in
     record {
-      text = text_of c.in_ok-finding.finding;
+      text = text_of c.in_ok-judgement.judgement.finding ++ string_bytes c.in_ok-judgement.judgement.report;
       expected = expected_for _ _ c.in_ok-bytes.bytes.items _ c.in_ok-bytes.ensures.ok judged;
       received = rw (← c.in_ok-text.ensures) (rw (← c.as_bytes.ensures.value) c.in_err-write_all.ensures.err);
     }
 
 pub returns-clause-ok : goal.returns-clause-ok
 returns-clause-ok g c =
-    let judged = rw c.deref.ensures.value at c.in_ok-finding.ensures in
+    let judged = rw c.deref.ensures.value at c.in_ok-judgement.ensures in
     record {
-      text = text_of c.in_ok-finding.finding;
+      text = text_of c.in_ok-judgement.judgement.finding ++ string_bytes c.in_ok-judgement.judgement.report;
       expected = expected_for _ _ c.in_ok-bytes.bytes.items _ c.in_ok-bytes.ensures.ok judged;
       received = rw (← c.in_ok-text.ensures) (rw (← c.as_bytes.ensures.value) c.in_ok-write_all.ensures.ok);
-      verdict_is = rw c.verdict_of.ensures (verdict_is c.in_ok-finding.finding);
+      verdict_is = rw c.verdict_of.ensures (verdict_is c.in_ok-judgement.judgement.finding (string_bytes c.in_ok-judgement.judgement.report));
     }

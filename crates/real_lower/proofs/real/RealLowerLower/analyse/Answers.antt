@@ -7,7 +7,7 @@ use Rattle.real_lower.proofs.real.RealLowerLower.analyse.Goals as goal
 pub returns-clause-kept : goal.returns-clause-kept
 returns-clause-kept c = λ others agree.
     kept_by c.args.flags (module_view c.args.«module».now) (function_view c.args.function.now) others (map (λ (i : FunctionInfo). i.available_stages) c.args.callees.now) c.process_function.result
-    (c.process_function.ensures.callees_alone others agree)
+    c.requires.made.handles c.requires.handles (c.process_function.ensures.callees_alone others agree)
 
 pub returns-clause-fault : goal.returns-clause-fault
 returns-clause-fault c = λ others agree.

@@ -1,0 +1,4 @@
+pub mod Sorting
+pub mod Counted
+pub mod Written
+pub mod Noted

@@ -1,0 +1,4 @@
+pub mod Pairs
+pub mod Uses
+pub mod OneReport
+pub mod Named
