@@ -3,7 +3,7 @@
 ghost use Rattle.std.specs.Prelude.{◌≡◌, Some, Option, map, slice_get, option_map};
 ghost use Rattle.std.specs.Option.{option_copied};
 ghost use Rattle.ir_expressions.specs.Plain.{expression_view};
-ghost use Rattle.ir_globals.specs.View.{values_of, global_view};
+ghost use Rattle.ir_items.specs.GlobalView.{values_of, global_view};
 ghost use Rattle.ir_items.specs.View.{argument_view, function_view, module_view};
 ghost use Rattle.ir_types.specs.Plain.{inner_view, type_view};
 ghost use Rattle.spec_analysis.specs.Values.{may_store, space_varies, class_varies, inner_varies, type_varies, global_varies, built_in_varies, binding_varies, argument_varies, is_source};
@@ -12,7 +12,7 @@ use bitflags::Flags;
 use ir_arena::handle::Handle;
 use ir_expressions::Expression;
 use ir_flags::StorageAccess;
-use ir_globals::GlobalVariable;
+use ir_items::GlobalVariable;
 use ir_items::{Function, FunctionArgument, Module};
 use ir_kinds::{AddressSpace, Binding, BuiltIn, ImageClass};
 use ir_types::{IrType, TypeInner, key};

@@ -3,7 +3,7 @@
 ghost use Rattle.std.specs.Prelude.{◌≡◌, Some, map, slice_get, option_map};
 ghost use Rattle.std.specs.Option.{option_copied};
 ghost use Rattle.ir_expressions.specs.Plain.{expression_view};
-ghost use Rattle.ir_globals.specs.View.{values_of};
+ghost use Rattle.ir_items.specs.GlobalView.{values_of};
 ghost use Rattle.spec_analysis.specs.Chains.{place, base_stands_for, stands_for};
 
 use analysis_forms::GlobalOrArgument;

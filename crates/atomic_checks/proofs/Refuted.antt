@@ -8,8 +8,8 @@ use Rattle.atomic_checks.proofs.Present.{missing, both}
 use Rattle.atomic_checks.proofs.Texels.{store_refuted, change_refuted}
 use Rattle.error_functions.specs.declared.error.FunctionError.{FunctionError}
 use Rattle.error_functions.specs.declared.error.FunctionError.TheVariants as error
-use Rattle.error_statements.specs.declared.atomics.AtomicError.{AtomicError}
-use Rattle.error_statements.specs.declared.atomics.AtomicError.TheVariants as fault
+use Rattle.error_functions.specs.declared.atomics.AtomicError.{AtomicError}
+use Rattle.error_functions.specs.declared.atomics.AtomicError.TheVariants as fault
 use Rattle.ir_blocks.specs.declared.operations.AtomicFunction.{AtomicFunction}
 use Rattle.ir_flags.specs.declared.settings.Capabilities.{Capabilities}
 use Rattle.ir_kinds.specs.declared.scalars.Scalar.{Scalar}

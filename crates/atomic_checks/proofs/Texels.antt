@@ -4,8 +4,8 @@ use Rattle.std.specs.Prelude.{option_and_then}
 use Rattle.std.specs.Option.{option_or}
 use Rattle.atomic_checks.specs.StorageImages.{IsElementFault, IsWrittenImageFault, IsChangedImageFault, IsTexelFault, format_of, IsClassFault, IsPlaceFault, IsMisfit, IsImageStoreFault, IsWideFault, IsNarrowFault, IsFormatFault, IsAccess, IsOperandFault, IsStorageFault, IsChangeFault, IsWrongTexel, IsImageAtomicFault}
 use Rattle.atomic_checks.proofs.Present.{missing, both}
-use Rattle.error_expressions.specs.declared.expressions.ExpressionError.{ExpressionError}
-use Rattle.error_expressions.specs.declared.expressions.ExpressionError.TheVariants as fault
+use Rattle.error_functions.specs.declared.expressions.ExpressionError.{ExpressionError}
+use Rattle.error_functions.specs.declared.expressions.ExpressionError.TheVariants as fault
 use Rattle.error_functions.specs.declared.error.FunctionError.{FunctionError}
 use Rattle.error_functions.specs.declared.error.FunctionError.TheVariants as error
 use Rattle.ir_blocks.specs.declared.operations.AtomicFunction.{AtomicFunction}
@@ -15,7 +15,7 @@ use Rattle.ir_flags.specs.Sets.{Has}
 use Rattle.ir_flags.specs.declared.memory.StorageAccess.{StorageAccess}
 use Rattle.ir_flags.specs.declared.settings.Capabilities.{Capabilities}
 use Rattle.ir_flags.specs.declared.settings.TheConstants.Capabilities.{TEXTURE_ATOMIC, TEXTURE_INT64_ATOMIC}
-use Rattle.ir_globals.specs.Plain.{PlainGlobal}
+use Rattle.ir_items.specs.GlobalPlain.{PlainGlobal}
 use Rattle.ir_items.specs.Plain.{PlainFunction, PlainModule}
 use Rattle.ir_kinds.specs.Images.{format_scalar}
 use Rattle.ir_kinds.specs.declared.images.ImageClass.{ImageClass}
@@ -24,8 +24,8 @@ use Rattle.ir_kinds.specs.declared.images.StorageFormat.{StorageFormat}
 use Rattle.ir_kinds.specs.declared.scalars.VectorSize.TheVariants.{Quad}
 use Rattle.ir_types.specs.Plain.{PlainType}
 use Rattle.ir_walks.specs.Bases.{base_of, global_of}
-use Rattle.spec_checks.specs.Shapes.{ExactlyIf, picture_of}
-use Rattle.spec_checks.specs.declared.shapes.Picture.{Picture}
+use Rattle.spec_statements.specs.Shapes.{ExactlyIf, picture_of}
+use Rattle.spec_statements.specs.declared.shapes.Picture.{Picture}
 use Rattle.spec_statements.specs.BlockContext.{BlockContext, form_at}
 use Rattle.spec_statements.specs.StorageImages.{resource_of, written_image, picture_in, changed_image, IsTexelOf, IsWritten, ImageStoreOK, IsExtremum, IsDoneAtTexels, FormatAllows, wide, unsigned, signed, IsChangedBy, IsChanged, ImageAtomicOK}
 use Rattle.spec_statements.specs.Variables.{variable_at, accessed_at}

@@ -2,15 +2,15 @@
 use Rattle.std.specs.Prelude.{◌≡◌, ◌⊎◌, ℕ, Option, Some, None, true, false, IsSomeAnd, option_and_then, slice_get}
 use Rattle.error_functions.specs.declared.error.FunctionError.{FunctionError}
 use Rattle.error_functions.specs.declared.error.FunctionError.TheVariants as error
-use Rattle.error_statements.specs.declared.atomics.AtomicError.{AtomicError}
-use Rattle.error_statements.specs.declared.atomics.AtomicError.TheVariants as fault
+use Rattle.error_functions.specs.declared.atomics.AtomicError.{AtomicError}
+use Rattle.error_functions.specs.declared.atomics.AtomicError.TheVariants as fault
 use Rattle.ir_blocks.specs.declared.operations.AtomicFunction.{AtomicFunction}
 use Rattle.ir_flags.specs.Sets.{Has}
 use Rattle.ir_flags.specs.declared.settings.Capabilities.{Capabilities}
 use Rattle.ir_flags.specs.declared.settings.TheConstants.Capabilities.{SHADER_FLOAT32_ATOMIC, SHADER_INT64_ATOMIC_MIN_MAX, SHADER_INT64_ATOMIC_ALL_OPS}
 use Rattle.ir_kinds.specs.Scalars.{floating, signed, unsigned}
 use Rattle.ir_kinds.specs.declared.scalars.Scalar.{Scalar}
-use Rattle.spec_checks.specs.Results.{IsExchangeOf}
+use Rattle.spec_statements.specs.ExpressionResults.{IsExchangeOf}
 use Rattle.spec_handles.specs.Statements.{compared}
 use Rattle.spec_statements.specs.Atomics.{changed_scalar, IsInStorage, IsKeptExtremum, IsDoneWithFloats, AtomicAnswer, declared_answer, MayBeUnanswered}
 use Rattle.spec_statements.specs.BlockContext.{BlockContext, form_at}

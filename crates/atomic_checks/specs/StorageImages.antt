@@ -1,8 +1,8 @@
 -- What is wrong with texels that are written, and with texels that are changed at once.
 use Rattle.std.specs.Prelude.{◌≡◌, ◌⊎◌, ℕ, List, [], Option, Some, None, IsSomeAnd}
 use Rattle.std.specs.Option.{option_or}
-use Rattle.error_expressions.specs.declared.expressions.ExpressionError.{ExpressionError}
-use Rattle.error_expressions.specs.declared.expressions.ExpressionError.TheVariants as fault
+use Rattle.error_functions.specs.declared.expressions.ExpressionError.{ExpressionError}
+use Rattle.error_functions.specs.declared.expressions.ExpressionError.TheVariants as fault
 use Rattle.error_functions.specs.declared.error.FunctionError.{FunctionError}
 use Rattle.error_functions.specs.declared.error.FunctionError.TheVariants as error
 use Rattle.ir_blocks.specs.declared.operations.AtomicFunction.{AtomicFunction}
@@ -22,9 +22,9 @@ use Rattle.ir_kinds.specs.declared.images.StorageFormat.TheVariants as format
 use Rattle.ir_kinds.specs.declared.scalars.VectorSize.TheVariants.{Quad}
 use Rattle.ir_types.specs.Plain.{PlainInner, plain, PlainType, inner_view}
 use Rattle.ir_types.specs.declared.types.TypeInner.TheVariants as inner
-use Rattle.spec_checks.specs.ImageLoads.{IsTexel}
-use Rattle.spec_checks.specs.Shapes.{ExactlyIf, IsIntegerScalar, picture_of}
-use Rattle.spec_checks.specs.declared.shapes.Picture.{Picture}
+use Rattle.spec_statements.specs.ImageLoads.{IsTexel}
+use Rattle.spec_statements.specs.Shapes.{ExactlyIf, IsIntegerScalar, picture_of}
+use Rattle.spec_statements.specs.declared.shapes.Picture.{Picture}
 use Rattle.spec_statements.specs.BlockContext.{BlockContext, form_at}
 use Rattle.spec_statements.specs.StorageImages.{resource_of, written_image, picture_in, changed_image, IsExtremum, IsDoneAtTexels}
 use Rattle.spec_statements.specs.Variables.{variable_at, accessed_at}

@@ -1,5 +1,5 @@
 // Whether the handles of a module are in order.
-use error_handles::InvalidHandleError;
+use module_handles::InvalidHandleError;
 use ir_items::Module;
 use module_handles::validate_module_handles;
 use std::alloc::{AllocError, Global};

@@ -12,7 +12,7 @@ use module_types::{InvalidType, TypeSettings, validate_types};
 use std::alloc::{AllocError, Global};
 use type_infos::{TypeError, TypeInfo};
 use typing_layout::Layouter;
-use typing_rules::types_go_back;
+use typing_forms::types_go_back;
 
 /// What is asked of the types of a module.
 #[derive(Clone, Copy)]

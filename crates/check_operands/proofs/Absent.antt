@@ -2,7 +2,7 @@
 use Rattle.std.proofs.Common.{◌≡◌, ◌<◌, ◌≤◌, ◌↔◌, ◌==◌, ℕ, zero, suc, List, [], ◌∷◌, Some, None, Bool, false, IsTrue, length, get_or, slice_get, option_map, bit_and, true≢false, refl, sym, ap, subst, ◌∙◌, arith, rules, tests}
 use Rattle.std.proofs.lemmas.Option.{slice_get-get_or}
 use Rattle.ir_types.specs.Plain.{PlainType}
-use Rattle.spec_flags.specs.Flags.{TypeFlag, bit, HasFlag, Data, Sized, Constructible}
+use Rattle.spec_types.specs.Flags.{TypeFlag, bit, HasFlag, Data, Sized, Constructible}
 use Rattle.type_checks.specs.Known.{AreInfos}
 use Rattle.type_infos.specs.declared.info.TypeInfo.{TypeInfo}
 use Rattle.spec_types.specs.Tree.{no_type}

@@ -1,7 +1,7 @@
 -- How an answer about a test is one about a rule.
 use Rattle.std.proofs.Common.{◌↔◌, Bool, IsTrue, Result, Ok, Err, MatchResult}
 use Rattle.check_operands.specs.Refused.{IsRefused}
-use Rattle.error_expressions.specs.declared.expressions.ExpressionError.{ExpressionError}
+use Rattle.error_functions.specs.declared.expressions.ExpressionError.{ExpressionError}
 
 -- a test that holds exactly where the rule does refuses for the rule
 pub by_test : (Rule : Type 0) (holds : Bool) (r : Result (Unit {0}) ExpressionError) → IsTrue holds ↔ Rule

@@ -1,7 +1,7 @@
 -- How an expression is refused that breaks a rule without a name.
 use Rattle.std.specs.Prelude.{◌≡◌}
-use Rattle.error_expressions.specs.declared.expressions.ExpressionError.{ExpressionError}
-use Rattle.error_expressions.specs.declared.expressions.ExpressionError.TheVariants.{Other}
+use Rattle.error_functions.specs.declared.expressions.ExpressionError.{ExpressionError}
+use Rattle.error_functions.specs.declared.expressions.ExpressionError.TheVariants.{Other}
 
 -- the rule does not hold
 abbrev pub IsRefused : (Rule : Type 0) → ExpressionError → Type 0

@@ -1,9 +1,9 @@
 -- What a context holds, as plain data.
 use Rattle.std.specs.Prelude.{◌≡◌, List, length, map}
 use Rattle.ir_expressions.specs.Plain.{PlainExpression, expression_view}
-use Rattle.ir_globals.specs.View.{values_of}
+use Rattle.ir_items.specs.GlobalView.{values_of}
 use Rattle.ir_types.specs.Plain.{PlainType}
-use Rattle.spec_checks.specs.Scene.{Scene}
+use Rattle.spec_statements.specs.Scene.{Scene}
 use Rattle.type_checks.specs.Known.{AreInfos}
 use Rattle.typing_forms.specs.Resolutions.{types_view}
 use Rattle.typing_layout.specs.Constness.{AreKinds}

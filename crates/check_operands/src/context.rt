@@ -4,10 +4,10 @@ ghost use Rattle.std.specs.Prelude.{◌≡◌, ◌↔◌, IsTrue, option_and_the
 ghost use Rattle.ir_expressions.specs.Plain.{expression_view};
 ghost use Rattle.ir_types.specs.Plain.{inner_view};
 ghost use Rattle.check_operands.specs.View.{scene_in, expressions_in, types_in, IsKnown};
-ghost use Rattle.spec_checks.specs.Access.{literal_of};
-ghost use Rattle.spec_checks.specs.Scene.{form_at};
-ghost use Rattle.spec_checks.specs.Shapes.{pointed_in};
-ghost use Rattle.spec_flags.specs.Flags.{HasFlag, Data, Sized, Constructible};
+ghost use Rattle.spec_statements.specs.Access.{literal_of};
+ghost use Rattle.spec_statements.specs.Scene.{form_at};
+ghost use Rattle.spec_statements.specs.Shapes.{pointed_in};
+ghost use Rattle.spec_types.specs.Flags.{HasFlag, Data, Sized, Constructible};
 ghost use Rattle.spec_types.specs.View.{type_tree};
 ghost use Rattle.typing_layout.specs.Constness.{IsOfKind};
 ghost use Rattle.typing_layout.specs.declared.constness.ExpressionKind.TheVariants.{Const};

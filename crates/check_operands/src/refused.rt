@@ -3,7 +3,7 @@
 ghost use Rattle.std.specs.Prelude.{IsTrue, MatchResult};
 ghost use Rattle.check_operands.specs.Refused.{IsRefused};
 
-use error_expressions::ExpressionError;
+use error_functions::ExpressionError;
 
 /// Refuses an expression unless its rule holds.
 ///

@@ -1,12 +1,12 @@
 //! What a type is made of.
 
 ghost use Rattle.std.specs.Prelude.{◌≡◌, ◌↔◌, IsTrue};
-ghost use Rattle.spec_checks.specs.Shapes.{IsInteger, IsFloating, IsTruth, IsNumeric, IsIntegerScalar, shaped_of, form_of_shape, picture_of, sampler_of, pointee_of};
+ghost use Rattle.spec_statements.specs.Shapes.{IsInteger, IsFloating, IsTruth, IsNumeric, IsIntegerScalar, shaped_of, form_of_shape, picture_of, sampler_of, pointee_of};
 
 use ir_arena::handle::Handle;
 use ir_kinds::{Scalar, ScalarKind};
 use ir_types::key;
-use spec_checks::{Picture, Shape, Shaped};
+use spec_statements::{Picture, Shape, Shaped};
 use typing_forms::Form;
 
 /// Whether a kind of scalar is one of integers.

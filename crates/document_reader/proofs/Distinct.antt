@@ -8,7 +8,7 @@ use Rattle.ir_types.specs.Plain.{PlainType, type_view}
 use Rattle.ir_types.specs.declared.types.IrType.{IrType}
 use Rattle.ir_types.specs.contracts.types.IrTypePartialEq.TheImpl.{ghosts}
 use Rattle.ir_types.proofs.TypeEquality.{type_eq}
-use Rattle.ir_globals.specs.View.{values_of}
+use Rattle.ir_items.specs.GlobalView.{values_of}
 use Rattle.document_forms.specs.Refusals.{IsRefused, NoneTaken}
 use Rattle.document_reader.specs.Distinct.{AreDistinct}
 

@@ -11,7 +11,7 @@ use Rattle.ir_flags.specs.declared.stages.SubgroupOperationSet.{SubgroupOperatio
 use Rattle.ir_flags.specs.Settings.{PlainSettings}
 use Rattle.ir_types.specs.Plain.{PlainType}
 use Rattle.ir_expressions.specs.Plain.{PlainExpression}
-use Rattle.ir_globals.specs.Plain.{PlainConstant, PlainOverride, PlainGlobal, PlainNode, PlainSpecial}
+use Rattle.ir_items.specs.GlobalPlain.{PlainConstant, PlainOverride, PlainGlobal, PlainNode, PlainSpecial}
 use Rattle.ir_items.specs.Plain.{PlainFunction, PlainEntry, PlainModule}
 use Rattle.document_words.specs.Tables.{flags, capabilities, stages, operations}
 use Rattle.document_words.specs.Unions.{flag_union, capability_union, stage_union, operation_union}

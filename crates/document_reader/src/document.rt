@@ -2,7 +2,7 @@
 ghost use Rattle.std.specs.Prelude.{◌≡◌, ◌≢◌, List, Some, map, IfOk, IfErr};
 ghost use Rattle.serde_json.specs.View.{view as data_of, items_view};
 ghost use Rattle.ir_types.specs.Plain.{PlainType, type_view};
-ghost use Rattle.ir_globals.specs.View.{values_of};
+ghost use Rattle.ir_items.specs.GlobalView.{values_of};
 ghost use Rattle.ir_items.specs.Plain.{PlainModule};
 ghost use Rattle.ir_items.specs.View.{module_view};
 ghost use Rattle.document_forms.specs.Decide.{all_of};

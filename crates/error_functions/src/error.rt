@@ -1,8 +1,8 @@
 //! Why a function is refused.
 
 use analysis_forms::UniformityRequirements;
-use error_expressions::ExpressionError;
-use error_statements::{
+use crate::ExpressionError;
+use crate::{
     AtomicError, CallError, LocalVariableError, SubgroupError, UniformityDisruptor,
 };
 use ir_arena::handle::Handle;

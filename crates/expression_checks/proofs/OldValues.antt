@@ -3,8 +3,8 @@ use Rattle.std.proofs.Common.{◌≡◌, ◌↔◌, List, [], ◌∷◌, Option,
 use Rattle.ir_types.specs.Plain.{PlainInner, PlainMember, PlainType, struct, plain}
 use Rattle.typing_forms.specs.Forms.{form_of_type}
 use Rattle.typing_forms.specs.declared.form.Form.{Form}
-use Rattle.spec_checks.specs.Results.{AreExchanged, IsExchangeOf}
-use Rattle.spec_checks.specs.Shapes.{IsMadeOf, IsAlone, IsTruth}
+use Rattle.spec_statements.specs.ExpressionResults.{AreExchanged, IsExchangeOf}
+use Rattle.spec_statements.specs.Shapes.{IsMadeOf, IsAlone, IsTruth}
 
 -- ---- two members
 

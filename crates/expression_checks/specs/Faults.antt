@@ -1,12 +1,12 @@
 -- How literals and compositions are refused.
 use Rattle.std.specs.Prelude.{ℕ, List}
-use Rattle.error_constants.specs.Compositions.{IsComposeFault}
-use Rattle.error_expressions.specs.declared.expressions.ExpressionError.{ExpressionError}
-use Rattle.error_expressions.specs.declared.expressions.ExpressionError.TheVariants as error
+use Rattle.module_expressions.specs.Compositions.{IsComposeFault}
+use Rattle.error_functions.specs.declared.expressions.ExpressionError.{ExpressionError}
+use Rattle.error_functions.specs.declared.expressions.ExpressionError.TheVariants as error
 use Rattle.ir_flags.specs.declared.settings.Capabilities.{Capabilities}
 use Rattle.ir_kinds.specs.declared.values.Literal.{Literal}
 use Rattle.ir_types.specs.Plain.{PlainType}
-use Rattle.scalar_checks.specs.Widths.{IsLiteralFault}
+use Rattle.type_checks.specs.Widths.{IsLiteralFault}
 use Rattle.typing_forms.specs.declared.form.Form.{Form}
 
 -- the literal may not be used

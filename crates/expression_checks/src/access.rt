@@ -4,12 +4,12 @@ ghost use Rattle.std.specs.Prelude.{◌≡◌, ◌<◌, ◌↔◌, IfSome, IsTru
 ghost use Rattle.check_operands.specs.Refused.{IsRefused};
 ghost use Rattle.check_operands.specs.View.{scene_in, types_in, expressions_in};
 ghost use Rattle.ir_types.specs.Plain.{inner_view};
-ghost use Rattle.spec_checks.specs.Access.{element_count, pointed_count, row_count, known_length, literal_of, index_of, IsIndexOf, AccessOK, AccessIndexOK};
-ghost use Rattle.spec_checks.specs.Scene.{form_at};
+ghost use Rattle.spec_statements.specs.Access.{element_count, pointed_count, row_count, known_length, literal_of, index_of, IsIndexOf, AccessOK, AccessIndexOK};
+ghost use Rattle.spec_statements.specs.Scene.{form_at};
 ghost use Rattle.typing_forms.specs.Resolutions.{inner_at};
 
 use check_operands::{CheckContext, is_integer_scalar, refused_unless};
-use error_expressions::ExpressionError;
+use error_functions::ExpressionError;
 use ir_arena::handle::Handle;
 use ir_kinds::{Literal, VectorSize};
 use ir_types::{ArraySize, TypeInner, key};

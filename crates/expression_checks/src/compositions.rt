@@ -5,17 +5,17 @@ ghost use Rattle.check_operands.specs.Refused.{IsRefused};
 ghost use Rattle.check_operands.specs.View.{scene_in, types_in};
 ghost use Rattle.expression_checks.specs.Faults.{IsBadComposition};
 ghost use Rattle.expression_checks.specs.Letters.{MayStand};
-ghost use Rattle.spec_checks.specs.Compositions.{AreComponents, SwizzleOK};
-ghost use Rattle.spec_checks.specs.Scene.{form_at};
-ghost use Rattle.spec_constants.specs.Compositions.{ComposeOK};
+ghost use Rattle.spec_statements.specs.Compositions.{AreComponents, SwizzleOK};
+ghost use Rattle.spec_statements.specs.Scene.{form_at};
+ghost use Rattle.spec_expressions.specs.ConstantCompositions.{ComposeOK};
 
 use check_operands::{CheckContext, refused_unless, shaped_of};
-use error_expressions::ExpressionError;
+use error_functions::ExpressionError;
 use ir_arena::handle::Handle;
 use ir_kinds::{SwizzleComponent, VectorSize};
 use ir_types::key;
 use module_expressions::{Components, check_composition};
-use spec_checks::Shape;
+use spec_statements::Shape;
 use typing_forms::Form;
 
 /// Whether components make a value of a type (naga's `validate_compose`).

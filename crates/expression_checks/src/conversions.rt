@@ -3,17 +3,17 @@
 ghost use Rattle.std.specs.Prelude.{◌↔◌, IsTrue, MatchResult};
 ghost use Rattle.check_operands.specs.Refused.{IsRefused};
 ghost use Rattle.check_operands.specs.View.{scene_in};
-ghost use Rattle.spec_checks.specs.Conversions.{IsConverted, AsOK};
-ghost use Rattle.spec_checks.specs.Scene.{form_at};
-ghost use Rattle.spec_flags.specs.Widths.{ScalarOK};
+ghost use Rattle.spec_statements.specs.Conversions.{IsConverted, AsOK};
+ghost use Rattle.spec_statements.specs.Scene.{form_at};
+ghost use Rattle.spec_types.specs.Widths.{ScalarOK};
 
 use check_operands::{CheckContext, refused_unless, shaped_of};
-use error_expressions::ExpressionError;
+use error_functions::ExpressionError;
 use ir_arena::handle::Handle;
 use ir_flags::Capabilities;
 use ir_kinds::{Bytes, Scalar, ScalarKind};
 use ir_types::key;
-use scalar_checks::check_width;
+use type_checks::check_width;
 use typing_forms::Form;
 
 // Whether there is a scalar.

@@ -3,15 +3,15 @@
 ghost use Rattle.std.specs.Prelude.{◌↔◌, IsTrue, MatchResult};
 ghost use Rattle.check_operands.specs.Refused.{IsRefused};
 ghost use Rattle.check_operands.specs.View.{scene_in};
-ghost use Rattle.spec_checks.specs.CooperativeMatrices.{CooperativeLoadOK, IsAddend, IsRightFactor, AreFactors, MultiplyAddOK};
-ghost use Rattle.spec_checks.specs.Scene.{form_at};
+ghost use Rattle.spec_statements.specs.CooperativeMatrices.{CooperativeLoadOK, IsAddend, IsRightFactor, AreFactors, MultiplyAddOK};
+ghost use Rattle.spec_statements.specs.Scene.{form_at};
 
 use check_operands::{CheckContext, are_same, refused_unless, shaped_of};
-use error_expressions::ExpressionError;
+use error_functions::ExpressionError;
 use ir_arena::handle::Handle;
 use ir_kinds::{CooperativeRole, CooperativeSize, Scalar};
 use ir_types::key;
-use spec_checks::Shape;
+use spec_statements::Shape;
 use typing_forms::Form;
 
 // ---- loads

@@ -3,11 +3,11 @@
 ghost use Rattle.std.specs.Prelude.{◌↔◌, IsTrue, MatchResult};
 ghost use Rattle.check_operands.specs.Refused.{IsRefused};
 ghost use Rattle.check_operands.specs.View.{scene_in};
-ghost use Rattle.spec_checks.specs.Derivatives.{DerivativeOK};
-ghost use Rattle.spec_checks.specs.Scene.{form_at};
+ghost use Rattle.spec_statements.specs.Derivatives.{DerivativeOK};
+ghost use Rattle.spec_statements.specs.Scene.{form_at};
 
 use check_operands::{CheckContext, is_floating, refused_unless};
-use error_expressions::ExpressionError;
+use error_functions::ExpressionError;
 use ir_arena::handle::Handle;
 use ir_types::key;
 use typing_forms::Form;

@@ -2,7 +2,7 @@
 
 ghost use Rattle.std.specs.Prelude.{◌≡◌, ◌↔◌, IsTrue, Some, map};
 ghost use Rattle.ir_types.specs.Plain.{inner_view, member_view};
-ghost use Rattle.spec_checks.specs.Results.{AreExchanged, AreExchangeMembers, IsExchangeOf};
+ghost use Rattle.spec_statements.specs.ExpressionResults.{AreExchanged, AreExchangeMembers, IsExchangeOf};
 ghost use Rattle.typing_forms.specs.Resolutions.{inner_at, types_view};
 ghost use Rattle.typing_forms.specs.declared.form.Form.{Form};
 

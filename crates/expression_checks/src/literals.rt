@@ -4,16 +4,16 @@ ghost use Rattle.std.specs.Prelude.{MatchResult};
 ghost use Rattle.check_operands.specs.Refused.{IsRefused};
 ghost use Rattle.check_operands.specs.View.{types_in, IsKnown};
 ghost use Rattle.expression_checks.specs.Faults.{IsBadLiteral};
-ghost use Rattle.spec_checks.specs.Literals.{ZeroOK};
-ghost use Rattle.spec_constants.specs.Literals.{LiteralOK};
+ghost use Rattle.spec_statements.specs.Literals.{ZeroOK};
+ghost use Rattle.spec_expressions.specs.ConstantLiterals.{LiteralOK};
 
 use check_operands::{CheckContext, refused_unless};
-use error_expressions::ExpressionError;
+use error_functions::ExpressionError;
 use ir_arena::handle::Handle;
 use ir_flags::Capabilities;
 use ir_kinds::Literal;
 use ir_types::key;
-use scalar_checks::validate_literal;
+use type_checks::validate_literal;
 
 /// Whether a literal may be used.
 ///

@@ -4,11 +4,11 @@ ghost use Rattle.std.specs.Prelude.{◌↔◌, IsTrue, MatchResult, Some};
 ghost use Rattle.check_operands.specs.Refused.{IsRefused};
 ghost use Rattle.check_operands.specs.View.{scene_in, types_in, IsKnown};
 ghost use Rattle.ir_types.specs.Plain.{inner_view};
-ghost use Rattle.spec_checks.specs.Loads.{LoadOK, IsDynamic, IsRuntimeArray, ArrayLengthOK};
-ghost use Rattle.spec_checks.specs.Scene.{form_at};
+ghost use Rattle.spec_statements.specs.Loads.{LoadOK, IsDynamic, IsRuntimeArray, ArrayLengthOK};
+ghost use Rattle.spec_statements.specs.Scene.{form_at};
 
 use check_operands::{CheckContext, refused_unless};
-use error_expressions::ExpressionError;
+use error_functions::ExpressionError;
 use ir_arena::handle::Handle;
 use ir_types::{ArraySize, TypeInner, key};
 use typing_forms::Form;

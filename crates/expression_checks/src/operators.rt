@@ -3,20 +3,20 @@
 ghost use Rattle.std.specs.Prelude.{◌≡◌, ◌↔◌, IsTrue, MatchResult};
 ghost use Rattle.check_operands.specs.Refused.{IsRefused};
 ghost use Rattle.check_operands.specs.View.{scene_in};
-ghost use Rattle.spec_checks.specs.Operators.{IsSigned, IsBits, TakesKind, IsAdded, AreMultiplied, UnaryOK, SumOK, ProductOK, ShiftOK, BinaryOK};
-ghost use Rattle.spec_checks.specs.Scene.{form_at};
-ghost use Rattle.spec_checks.specs.Shapes.{AnyShape, IsAlone, IsOfValue, IsInteger, IsNumeric, IsTruth, IsMadeOf, IsValue};
+ghost use Rattle.spec_statements.specs.Operators.{IsSigned, IsBits, TakesKind, IsAdded, AreMultiplied, UnaryOK, SumOK, ProductOK, ShiftOK, BinaryOK};
+ghost use Rattle.spec_statements.specs.Scene.{form_at};
+ghost use Rattle.spec_statements.specs.Shapes.{AnyShape, IsAlone, IsOfValue, IsInteger, IsNumeric, IsTruth, IsMadeOf, IsValue};
 
 use crate::shapes::{is_alone, is_of_value, is_one_truth};
 use check_operands::{
     CheckContext, are_same, form_of_shape, is_integer, is_numeric, is_truth, refused_unless,
     shaped_of,
 };
-use error_expressions::ExpressionError;
+use error_functions::ExpressionError;
 use ir_arena::handle::Handle;
 use ir_kinds::{BinaryOperator, Scalar, ScalarKind, UnaryOperator, VectorSize};
 use ir_types::key;
-use spec_checks::Shape;
+use spec_statements::Shape;
 use typing_forms::Form;
 
 // ---- on one value

@@ -4,12 +4,12 @@ ghost use Rattle.std.specs.Prelude.{◌≡◌, ◌↔◌, IsTrue, MatchResult, S
 ghost use Rattle.check_operands.specs.Refused.{IsRefused};
 ghost use Rattle.check_operands.specs.View.{scene_in, types_in};
 ghost use Rattle.ir_types.specs.Plain.{inner_view};
-ghost use Rattle.spec_checks.specs.RayQueries.{query_of, VertexPositionsOK, IntersectionOK};
-ghost use Rattle.spec_checks.specs.Scene.{form_at};
-ghost use Rattle.spec_checks.specs.Shapes.{pointed_in};
+ghost use Rattle.spec_statements.specs.ExpressionRayQueries.{query_of, VertexPositionsOK, IntersectionOK};
+ghost use Rattle.spec_statements.specs.Scene.{form_at};
+ghost use Rattle.spec_statements.specs.Shapes.{pointed_in};
 
 use check_operands::{CheckContext, refused_unless};
-use error_expressions::ExpressionError;
+use error_functions::ExpressionError;
 use ir_arena::handle::Handle;
 use ir_types::{TypeInner, key};
 use typing_forms::Form;

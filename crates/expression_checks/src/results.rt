@@ -3,19 +3,19 @@
 ghost use Rattle.std.specs.Prelude.{◌↔◌, IsTrue, MatchResult};
 ghost use Rattle.check_operands.specs.Refused.{IsRefused};
 ghost use Rattle.check_operands.specs.View.{types_in, IsKnown};
-ghost use Rattle.spec_checks.specs.Results.{IsAtomicValue, IsExchange, AtomicResultOK, UniformLoadOK};
-ghost use Rattle.spec_flags.specs.Widths.{AtomicOK};
+ghost use Rattle.spec_statements.specs.ExpressionResults.{IsAtomicValue, IsExchange, AtomicResultOK, UniformLoadOK};
+ghost use Rattle.spec_types.specs.Widths.{AtomicOK};
 ghost use Rattle.typing_forms.specs.Resolutions.{inner_at};
 
 use crate::exchanges::exchanged_value;
 use crate::shapes::is_alone;
 use check_operands::{CheckContext, refused_unless, shaped_of};
-use error_expressions::ExpressionError;
+use error_functions::ExpressionError;
 use ir_arena::handle::Handle;
 use ir_flags::Capabilities;
 use ir_kinds::Scalar;
 use ir_types::key;
-use scalar_checks::check_atomic;
+use type_checks::check_atomic;
 use typing_forms::{Form, form_of_type};
 
 // ---- atomic operations

@@ -3,17 +3,17 @@
 ghost use Rattle.std.specs.Prelude.{◌↔◌, IsTrue, MatchResult};
 ghost use Rattle.check_operands.specs.Refused.{IsRefused};
 ghost use Rattle.check_operands.specs.View.{scene_in};
-ghost use Rattle.spec_checks.specs.Scene.{form_at};
-ghost use Rattle.spec_checks.specs.Selections.{ChoosesFrom, IsCondition, SelectOK, RelationalOK};
-ghost use Rattle.spec_checks.specs.Shapes.{IsRow, IsOfValue, IsFloating, IsTruth, IsMadeOf};
+ghost use Rattle.spec_statements.specs.Scene.{form_at};
+ghost use Rattle.spec_statements.specs.Selections.{ChoosesFrom, IsCondition, SelectOK, RelationalOK};
+ghost use Rattle.spec_statements.specs.Shapes.{IsRow, IsOfValue, IsFloating, IsTruth, IsMadeOf};
 
 use crate::shapes::is_of_value;
 use check_operands::{CheckContext, are_same, is_floating, is_truth, refused_unless, shaped_of};
-use error_expressions::ExpressionError;
+use error_functions::ExpressionError;
 use ir_arena::handle::Handle;
 use ir_kinds::{RelationalFunction, VectorSize};
 use ir_types::key;
-use spec_checks::Shape;
+use spec_statements::Shape;
 use typing_forms::Form;
 
 // ---- selections

@@ -1,10 +1,10 @@
 //! Shapes that several families ask for.
 
 ghost use Rattle.std.specs.Prelude.{◌↔◌, IsTrue};
-ghost use Rattle.spec_checks.specs.Shapes.{IsAlone, IsOfValue, IsTruth, IsMadeOf};
+ghost use Rattle.spec_statements.specs.Shapes.{IsAlone, IsOfValue, IsTruth, IsMadeOf};
 
 use check_operands::{is_truth, shaped_of};
-use spec_checks::Shape;
+use spec_statements::Shape;
 use typing_forms::Form;
 
 /// Whether a shape is that of one scalar.

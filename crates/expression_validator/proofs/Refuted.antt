@@ -1,20 +1,20 @@
 -- An expression with a fault is not accepted.
 use Rattle.std.proofs.Common.{◌≡◌, Option, Some, None, refl, subst}
-use Rattle.error_constants.proofs.Compositions.{composition_refuted}
-use Rattle.error_constants.proofs.Literals.{literal_refuted}
-use Rattle.error_expressions.specs.declared.expressions.ExpressionError.{ExpressionError}
-use Rattle.error_expressions.specs.declared.expressions.ExpressionError.TheVariants as error
+use Rattle.module_expressions.proofs.Compositions.{composition_refuted}
+use Rattle.module_expressions.proofs.Literals.{literal_refuted}
+use Rattle.error_functions.specs.declared.expressions.ExpressionError.{ExpressionError}
+use Rattle.error_functions.specs.declared.expressions.ExpressionError.TheVariants as error
 use Rattle.expression_validator.specs.Faults.{IsPlainFault, IsFaultOf}
 use Rattle.expression_validator.specs.Laws.{ExpressionRefuted}
 use Rattle.ir_expressions.specs.Plain.{PlainExpression, compose, plain}
 use Rattle.ir_expressions.specs.declared.expressions.Expression.{Expression}
 use Rattle.ir_expressions.specs.declared.expressions.Expression.TheVariants as x
 use Rattle.ir_kinds.specs.declared.values.Literal.{Literal}
-use Rattle.spec_checks.specs.Access.{literal_in}
-use Rattle.spec_checks.specs.Checks.{CheckOf}
-use Rattle.spec_checks.specs.Expressions.{AskedOf}
-use Rattle.spec_checks.specs.Scene.{Scene}
-use Rattle.spec_constants.specs.Literals.{LiteralOK}
+use Rattle.spec_statements.specs.Access.{literal_in}
+use Rattle.spec_statements.specs.Checks.{CheckOf}
+use Rattle.spec_statements.specs.Expressions.{AskedOf}
+use Rattle.spec_statements.specs.Scene.{Scene}
+use Rattle.spec_expressions.specs.ConstantLiterals.{LiteralOK}
 
 -- what is asked of a literal
 asked_literal : (s : Scene) (e : Expression) (value : Literal) → literal_in e ≡ Some value → CheckOf s e → LiteralOK s.capabilities value

@@ -1,14 +1,14 @@
 -- Why an expression is refused.
 use Rattle.std.specs.Prelude.{◌≡◌, ℕ, Option, Some, None, map, slice_get}
 use Rattle.check_operands.specs.Refused.{IsRefused}
-use Rattle.error_expressions.specs.declared.expressions.ExpressionError.{ExpressionError}
+use Rattle.error_functions.specs.declared.expressions.ExpressionError.{ExpressionError}
 use Rattle.expression_checks.specs.Faults.{IsBadLiteral, IsBadComposition}
 use Rattle.ir_expressions.specs.Plain.{PlainExpression, compose, plain}
 use Rattle.ir_expressions.specs.declared.expressions.Expression.{Expression}
 use Rattle.ir_kinds.specs.declared.values.Literal.{Literal}
-use Rattle.spec_checks.specs.Access.{literal_in}
-use Rattle.spec_checks.specs.Checks.{CheckOf}
-use Rattle.spec_checks.specs.Scene.{Scene, form_at}
+use Rattle.spec_statements.specs.Access.{literal_in}
+use Rattle.spec_statements.specs.Checks.{CheckOf}
+use Rattle.spec_statements.specs.Scene.{Scene, form_at}
 
 -- a literal that may not be used; of any other kind what is asked does not hold, and the error has no name
 abbrev pub IsPlainFault : Scene → Expression → Option Literal → ExpressionError → Type 0

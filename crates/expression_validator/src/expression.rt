@@ -4,12 +4,12 @@ ghost use Rattle.std.specs.Prelude.{◌<◌, length, MatchResult};
 ghost use Rattle.check_operands.specs.View.{scene_in, IsKnown};
 ghost use Rattle.expression_validator.specs.Faults.{IsFaultOf, IsExpressionFault};
 ghost use Rattle.ir_expressions.specs.Plain.{expression_view};
-ghost use Rattle.spec_checks.specs.Expressions.{AskedOf, ExpressionOK};
-ghost use Rattle.spec_checks.specs.Stages.{IsRunBy};
+ghost use Rattle.spec_statements.specs.Expressions.{AskedOf, ExpressionOK};
+ghost use Rattle.spec_statements.specs.ExpressionStages.{IsRunBy};
 
 use crate::stages::stages_of;
 use check_operands::CheckContext;
-use error_expressions::ExpressionError;
+use error_functions::ExpressionError;
 use expression_checks::{
     check_access, check_access_index, check_array_length, check_as, check_atomic_result,
     check_binary, check_compose, check_cooperative_load, check_derivative, check_intersection,
@@ -21,7 +21,7 @@ use ir_arena::handle::Handle;
 use ir_expressions::Expression;
 use ir_flags::ShaderStages;
 use ir_types::key;
-use spec_checks::Sampling;
+use spec_statements::Sampling;
 
 // Whether what is asked of an expression is met.
 fn check_expression(

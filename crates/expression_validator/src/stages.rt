@@ -2,7 +2,7 @@
 
 ghost use Rattle.std.specs.Prelude.{◌≡◌};
 ghost use Rattle.ir_expressions.specs.Plain.{expression_view};
-ghost use Rattle.spec_checks.specs.Stages.{all_stages, sample_stages, callee_stages, stages_of};
+ghost use Rattle.spec_statements.specs.ExpressionStages.{all_stages, sample_stages, callee_stages, stages_of};
 
 use bitflags::Flags;
 use ir_arena::handle::Handle;

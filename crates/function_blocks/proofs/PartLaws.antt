@@ -14,9 +14,9 @@ use Rattle.ir_faults.specs.declared.refusal.Refusal.TheVariants as refusal
 use Rattle.ir_flags.specs.Sets.{Has}
 use Rattle.ir_flags.specs.declared.settings.TheConstants.ValidationFlags.{EXPRESSIONS, BLOCKS}
 use Rattle.ir_flags.specs.declared.stages.ShaderStages.{ShaderStages}
-use Rattle.function_stages.specs.Bodies.{MayRun}
+use Rattle.interface_checks.specs.Bodies.{MayRun}
 use Rattle.scope_checks.specs.Faults.{IsScopeFault, IsScopeRefusal}
-use Rattle.spec_checks.specs.Stages.{all_stages}
+use Rattle.spec_statements.specs.ExpressionStages.{all_stages}
 use Rattle.spec_statements.specs.BlockContext.{BlockContext}
 use Rattle.spec_statements.specs.Functions.{Reading, FunctionSettings, BodyOK, AllowsStage}
 use Rattle.spec_statements.specs.Interfaces.{InterfaceOK}

@@ -2,11 +2,11 @@
 use Rattle.std.proofs.Common.{◌≡◌, ◌⊎◌, inl, inr, ◌<◌, zero, suc, ℕ, List, [], ◌∷◌, Some, length, refl, sym, ap, subst, slice_get, ◌∙◌, arith}
 use Rattle.std.proofs.lemmas.Option.{slice_get_within}
 use Rattle.control_checks.proofs.Refuted.{faults_refute_lem as by_control}
-use Rattle.error_expressions.specs.declared.expressions.ExpressionError.{ExpressionError}
+use Rattle.error_functions.specs.declared.expressions.ExpressionError.{ExpressionError}
 use Rattle.error_functions.specs.declared.error.FunctionError.{FunctionError}
 use Rattle.error_functions.specs.declared.error.FunctionError.TheVariants as error
-use Rattle.error_statements.specs.declared.calls.CallError.{CallError}
-use Rattle.error_statements.specs.declared.calls.CallError.TheVariants as call_error
+use Rattle.error_functions.specs.declared.calls.CallError.{CallError}
+use Rattle.error_functions.specs.declared.calls.CallError.TheVariants as call_error
 use Rattle.function_lower.specs.Analysis.{Faults}
 use Rattle.interface_checks.proofs.Refuted.{faults_refute_lem as by_interface}
 use Rattle.ir_flags.specs.Sets.{Has}

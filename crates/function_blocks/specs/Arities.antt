@@ -2,8 +2,8 @@
 use Rattle.std.specs.Prelude.{◌≡◌, ◌≢◌, ◌==◌, ℕ, List, length, Option, Some, None, if◌then◌else◌, slice_get}
 use Rattle.error_functions.specs.declared.error.FunctionError.{FunctionError}
 use Rattle.error_functions.specs.declared.error.FunctionError.TheVariants as error
-use Rattle.error_statements.specs.declared.calls.CallError.{CallError}
-use Rattle.error_statements.specs.declared.calls.CallError.TheVariants as call_error
+use Rattle.error_functions.specs.declared.calls.CallError.{CallError}
+use Rattle.error_functions.specs.declared.calls.CallError.TheVariants as call_error
 use Rattle.function_blocks.specs.declared.arities.ArityFault.{ArityFault}
 use Rattle.ir_blocks.specs.Places.{Place, StandsAt}
 use Rattle.ir_blocks.specs.Plain.{PlainStatement, emit, block, if_, switch, loop, break, continue, return, kill, operation, call}

@@ -1,7 +1,7 @@
 -- What is wrong with a function: of its parts in their order the first with which something is wrong.
 use Rattle.std.specs.Prelude.{◌≡◌, ◌⊎◌, ◌<◌, ℕ, List, length}
 use Rattle.control_checks.specs.Faults.{IsControlFault}
-use Rattle.error_expressions.specs.declared.expressions.ExpressionError.{ExpressionError}
+use Rattle.error_functions.specs.declared.expressions.ExpressionError.{ExpressionError}
 use Rattle.error_functions.specs.declared.error.FunctionError.{FunctionError}
 use Rattle.error_functions.specs.declared.error.FunctionError.TheVariants as error
 use Rattle.function_lower.specs.Analysis.{Faults}

@@ -2,7 +2,7 @@
 
 use bitflags::Flags;
 use function_lower::Lower;
-use function_stages::CalleeStages;
+use interface_checks::CalleeStages;
 use ir_arena::handle::Handle;
 use ir_flags::ShaderStages;
 use ir_types::key;

@@ -22,7 +22,7 @@ use crate::settings::FunctionSettings;
 use bitflags::Flags;
 use error_functions::FunctionError;
 use function_lower::Lower;
-use function_stages::stages_of;
+use interface_checks::stages_of;
 use interface_checks::check_interface;
 use ir_arena::handle::Handle;
 use ir_faults::refusal::Refusal;

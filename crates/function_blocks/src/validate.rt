@@ -10,7 +10,7 @@ ghost use Rattle.ir_flags.specs.Sets.{Has};
 ghost use Rattle.ir_items.specs.View.{function_view, module_view};
 ghost use Rattle.ir_walks.specs.Filters.{ParentsPrecede};
 ghost use Rattle.spec_analysis.specs.Summaries.{CalleesKnown, HasUseBit, IsJoined, IsSummary};
-ghost use Rattle.spec_checks.specs.Stages.{all_stages};
+ghost use Rattle.spec_statements.specs.ExpressionStages.{all_stages};
 ghost use Rattle.spec_handles.specs.Conditions.{AritiesMatch, HandlesInRange, OperandsPrecede};
 ghost use Rattle.spec_statements.specs.Functions.{FunctionOK, AllowsStage, block_context};
 ghost use Rattle.spec_statements.specs.Payloads.{IsHeldAfter};

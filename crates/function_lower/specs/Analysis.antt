@@ -1,6 +1,6 @@
 -- What a lower layer's analysis of a function answers.
 use Rattle.std.specs.Prelude.{◌≡◌, ℕ, Bool, false, List, Some, length, map, slice_get}
-use Rattle.error_expressions.specs.declared.expressions.ExpressionError.{ExpressionError}
+use Rattle.error_functions.specs.declared.expressions.ExpressionError.{ExpressionError}
 use Rattle.error_functions.specs.declared.error.FunctionError.{FunctionError}
 use Rattle.ir_faults.specs.Faults.{error_of}
 use Rattle.ir_faults.specs.declared.refusal.Refusal.{Refusal}
@@ -9,7 +9,7 @@ use Rattle.ir_flags.specs.declared.settings.Capabilities.{Capabilities}
 use Rattle.ir_flags.specs.declared.settings.ValidationFlags.{ValidationFlags}
 use Rattle.ir_flags.specs.declared.stages.ShaderStages.{ShaderStages}
 use Rattle.spec_analysis.specs.Summaries.{Summary, IsJoined}
-use Rattle.spec_checks.specs.Stages.{all_stages}
+use Rattle.spec_statements.specs.ExpressionStages.{all_stages}
 use Rattle.spec_statements.specs.Functions.{Reading, AreFormsBy}
 use Rattle.typing_forms.specs.Forms.{NoStructValue}
 use Rattle.typing_forms.specs.Resolutions.{resolution_view}

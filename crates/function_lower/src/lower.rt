@@ -2,7 +2,7 @@
 
 ghost use Rattle.std.specs.Prelude.{◌≡◌, ◌<◌, ◌↔◌, ◌⊎◌, ◌||◌, ℕ, All, Bool, IfErr, IfOk, List, MatchResult, Some, bit_and, length, map, slice_get};
 ghost use Rattle.analysis_info.specs.Infos.{NotesUse};
-ghost use Rattle.error_expressions.specs.declared.expressions.ExpressionError.{ExpressionError};
+ghost use Rattle.error_functions.specs.declared.expressions.ExpressionError.{ExpressionError};
 ghost use Rattle.error_functions.specs.declared.error.FunctionError.{FunctionError};
 ghost use Rattle.function_lower.specs.Analysis.{Faults, IsKept, IsRefusedFor};
 ghost use Rattle.function_lower.specs.Question.{Question, question};
@@ -23,7 +23,7 @@ ghost use Rattle.typing_forms.specs.declared.resolution.TypeResolution.{TypeReso
 ghost use Rattle.typing_operands.specs.Answers.{form_given};
 
 use analysis_forms::{GlobalUse, SamplingPair};
-use error_expressions::ExpressionError;
+use error_functions::ExpressionError;
 use error_functions::FunctionError;
 use ir_arena::handle::Handle;
 use ir_faults::refusal::Refusal;

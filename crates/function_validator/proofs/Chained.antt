@@ -18,7 +18,7 @@ use Rattle.module_handles.proofs.Whole.{order_gives_conditions}
 use Rattle.module_handles.specs.Conditions.{FunctionConditions}
 use Rattle.spec_analysis.proofs.SummaryLaws.{callees_known}
 use Rattle.spec_analysis.specs.Summaries.{Summary, IsSummary, CalleesKnown, AreSummaries, CallsBelow}
-use Rattle.spec_checks.specs.Stages.{all_stages}
+use Rattle.spec_statements.specs.ExpressionStages.{all_stages}
 use Rattle.spec_functions.proofs.CallLaws.{calls_precede}
 use Rattle.spec_functions.proofs.HeldLaws.{held_next}
 use Rattle.spec_functions.specs.Functions.{settings_with}

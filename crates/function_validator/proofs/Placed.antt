@@ -3,7 +3,7 @@ use Rattle.std.proofs.Common.{◌≡◌, ℕ, List, map, option_map, Some, sym, 
 use Rattle.std.proofs.lemmas.Option.{slice_get-map}
 use Rattle.ir_arena.specs.Arenas.{value_at, value_of_entry}
 use Rattle.ir_arena.specs.declared.span.Span.{Span}
-use Rattle.ir_globals.specs.View.{values_of}
+use Rattle.ir_items.specs.GlobalView.{values_of}
 
 module _ {T : Type 0} (entries : List (T × Span)) (h : ℕ) (v : T) (at : Some v ≡ value_at entries h) where
   pub value_there : slice_get (values_of entries) h ≡ Some v

@@ -13,7 +13,7 @@ use Rattle.ir_flags.specs.declared.settings.ValidationFlags.{ValidationFlags}
 use Rattle.ir_flags.specs.declared.stages.ShaderStages.{ShaderStages}
 use Rattle.ir_items.specs.Plain.{PlainFunction, PlainModule}
 use Rattle.spec_analysis.specs.Summaries.{Summary, CalleesKnown, AreSummaries}
-use Rattle.spec_checks.specs.Stages.{all_stages}
+use Rattle.spec_statements.specs.ExpressionStages.{all_stages}
 use Rattle.spec_functions.specs.Functions.{settings_with}
 use Rattle.spec_functions.specs.Held.{IsHeldBefore}
 use Rattle.spec_statements.specs.Functions.{Reading, FunctionSettings, FunctionOK, AllowsStage}

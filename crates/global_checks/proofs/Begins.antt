@@ -3,7 +3,7 @@ use Rattle.std.proofs.Common.{◌≡◌, ◌↔◌, ◌⊎◌, inl, inr, ◌<◌
 use Rattle.std.proofs.lemmas.Option.{slice_get-get_or}
 use Rattle.ir_items.specs.Plain.{PlainModule}
 use Rattle.module_constants.specs.Known.{AreTyped}
-use Rattle.spec_constants.specs.Overrides.{IsKnownByOverrides}
+use Rattle.spec_expressions.specs.Overrides.{IsKnownByOverrides}
 use Rattle.spec_expressions.proofs.TypingLaws.{one_type}
 use Rattle.spec_expressions.specs.Context.{outside}
 use Rattle.spec_expressions.specs.Typing.{HasGlobalType}

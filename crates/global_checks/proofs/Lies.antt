@@ -9,14 +9,14 @@ use Rattle.ir_flags.specs.declared.memory.TheConstants.StorageAccess.{STORE}
 use Rattle.ir_flags.specs.declared.settings.Capabilities.{Capabilities}
 use Rattle.ir_flags.specs.declared.settings.ValidationFlags.{ValidationFlags}
 use Rattle.ir_flags.specs.declared.settings.TheConstants.ValidationFlags.{STRUCT_LAYOUTS}
-use Rattle.ir_globals.specs.Plain.{PlainGlobal}
+use Rattle.ir_items.specs.GlobalPlain.{PlainGlobal}
 use Rattle.ir_items.specs.Plain.{PlainModule}
 use Rattle.ir_kinds.specs.declared.spaces.AddressSpace.{AddressSpace}
 use Rattle.ir_kinds.specs.declared.spaces.AddressSpace.TheVariants.{Uniform, Storage, Immediate, TaskPayload}
 use Rattle.ir_types.specs.Plain.{PlainInner, PlainType}
 use Rattle.immediate_slots.proofs.SizeLemmas.{size_found}
-use Rattle.spec_flags.specs.Buffers.{IsStorage, IsUniform, uniform_alignment}
-use Rattle.spec_flags.specs.Immediates.{FitsImmediates}
+use Rattle.spec_types.specs.Buffers.{IsStorage, IsUniform, uniform_alignment}
+use Rattle.spec_types.specs.Immediates.{FitsImmediates}
 use Rattle.spec_globals.specs.Spaces.{LiesIn, counted, is_storage}
 use Rattle.spec_types.specs.Layout.{alignment}
 use Rattle.spec_types.specs.Tree.{Tree}
@@ -25,7 +25,7 @@ use Rattle.type_infos.specs.Infos.{HasInfo}
 use Rattle.type_infos.specs.declared.error.Disalignment.{Disalignment}
 use Rattle.type_infos.specs.declared.error.ImmediateError.{ImmediateError}
 use Rattle.type_infos.specs.declared.info.TypeInfo.{TypeInfo}
-use Rattle.typing_rules.specs.Sizes.{type_size}
+use Rattle.typing_forms.specs.Sizes.{type_size}
 
 laid : (P : ℕ → Type 0) (Q : ℕ × Disalignment → Type 0) (l : Result ℕ (ℕ × Disalignment)) → MatchResult l P Q → IsOk l → (a : ℕ) × P a
 laid P Q (Ok a) m is = (a, m)

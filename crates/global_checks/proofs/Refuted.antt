@@ -9,12 +9,12 @@ use Rattle.ir_flags.specs.Sets.{Has}
 use Rattle.ir_flags.specs.declared.settings.Capabilities.{Capabilities}
 use Rattle.ir_flags.specs.declared.settings.ValidationFlags.{ValidationFlags}
 use Rattle.ir_flags.specs.declared.settings.TheConstants.ValidationFlags.{STRUCT_LAYOUTS}
-use Rattle.ir_globals.specs.Plain.{PlainGlobal}
+use Rattle.ir_items.specs.GlobalPlain.{PlainGlobal}
 use Rattle.ir_items.specs.Plain.{PlainModule}
 use Rattle.ir_kinds.specs.declared.spaces.AddressSpace.{AddressSpace}
 use Rattle.ir_kinds.specs.declared.spaces.AddressSpace.TheVariants.{Storage}
 use Rattle.ir_types.specs.Plain.{PlainInner}
-use Rattle.spec_flags.specs.Buffers.{IsStorage}
+use Rattle.spec_types.specs.Buffers.{IsStorage}
 use Rattle.spec_globals.specs.Globals.{BeginsOK, VariableOK, GlobalOK}
 use Rattle.spec_globals.specs.Spaces.{array_capability, space_capability, BindingArrayOK, LiesIn, is_storage}
 use Rattle.spec_types.specs.Tree.{Tree}

@@ -9,8 +9,8 @@ use Rattle.ir_arena.specs.Arenas.{value_at, value_of_entry}
 use Rattle.ir_arena.specs.declared.span.Span.{Span}
 use Rattle.ir_flags.specs.declared.settings.Capabilities.{Capabilities}
 use Rattle.ir_flags.specs.declared.settings.ValidationFlags.{ValidationFlags}
-use Rattle.ir_globals.specs.Plain.{PlainGlobal}
-use Rattle.ir_globals.specs.View.{values_of}
+use Rattle.ir_items.specs.GlobalPlain.{PlainGlobal}
+use Rattle.ir_items.specs.GlobalView.{values_of}
 use Rattle.ir_items.specs.Plain.{PlainModule}
 use Rattle.ir_types.specs.Plain.{PlainType}
 use Rattle.spec_globals.specs.Globals.{BeginsOK, VariableOK, GlobalOK}

@@ -10,12 +10,12 @@ use Rattle.ir_flags.specs.declared.settings.Capabilities.{Capabilities}
 use Rattle.ir_flags.specs.declared.settings.TheConstants.Capabilities.{MEMORY_DECORATION_COHERENT, MEMORY_DECORATION_VOLATILE}
 use Rattle.ir_flags.specs.declared.settings.ValidationFlags.{ValidationFlags}
 use Rattle.ir_flags.specs.declared.settings.TheConstants.ValidationFlags.{BINDINGS, STRUCT_LAYOUTS}
-use Rattle.ir_globals.specs.Plain.{PlainGlobal}
+use Rattle.ir_items.specs.GlobalPlain.{PlainGlobal}
 use Rattle.ir_items.specs.Plain.{PlainModule}
 use Rattle.ir_kinds.specs.declared.spaces.AddressSpace.{AddressSpace}
 use Rattle.ir_kinds.specs.declared.spaces.AddressSpace.TheVariants.{Function, Private, WorkGroup, Uniform, Storage, Handle, Immediate, TaskPayload, RayPayload, IncomingRayPayload}
 use Rattle.ir_types.specs.Plain.{PlainInner, PlainType}
-use Rattle.spec_constants.specs.Overrides.{IsKnownByOverrides}
+use Rattle.spec_expressions.specs.Overrides.{IsKnownByOverrides}
 use Rattle.spec_expressions.specs.Typing.{HasGlobalType}
 use Rattle.spec_globals.specs.Handles.{is_handle}
 use Rattle.spec_globals.specs.Spaces.{array_base, counted, array_capability, space_capability, required, HasAll, is_resource, is_storage}

@@ -1,6 +1,6 @@
 -- What is asked of a module in which a global variable is judged.
 use Rattle.std.specs.Prelude.{◌≡◌, ◌<◌, ℕ, Some, IfSome, length, slice_get}
-use Rattle.ir_globals.specs.Plain.{PlainGlobal}
+use Rattle.ir_items.specs.GlobalPlain.{PlainGlobal}
 use Rattle.ir_items.specs.Plain.{PlainModule}
 use Rattle.typing_forms.specs.Order.{TypesGoBack}
 

@@ -6,14 +6,14 @@ ghost use Rattle.global_checks.specs.declared.error.GlobalVariableError.TheVaria
 ghost use Rattle.global_checks.specs.There.{IsPlaced, IsThere};
 ghost use Rattle.ir_flags.specs.Sets.{Has};
 ghost use Rattle.ir_flags.specs.declared.settings.TheConstants.ValidationFlags.{BINDINGS, STRUCT_LAYOUTS};
-ghost use Rattle.ir_globals.specs.View.{global_view};
+ghost use Rattle.ir_items.specs.GlobalView.{global_view};
 ghost use Rattle.module_constants.specs.Known.{IsKnown, module_in};
 ghost use Rattle.spec_globals.specs.Globals.{BeginsOK, DecorationsOK, VariableOK, GlobalOK};
 ghost use Rattle.spec_globals.specs.Spaces.{counted, ArraysOK, space_capability, LiesIn, required, HasAll, is_resource};
 ghost use Rattle.ir_types.specs.Plain.{inner_view};
 ghost use Rattle.typing_forms.specs.Order.{TypesGoBack};
 ghost use Rattle.typing_forms.specs.Resolutions.{inner_at};
-ghost use Rattle.typing_rules.specs.Sizes.{type_size};
+ghost use Rattle.typing_forms.specs.Sizes.{type_size};
 
 use crate::error::GlobalVariableError;
 use crate::handles::{array_base, is_handle};
@@ -21,14 +21,14 @@ use crate::spaces::{array_capability, is_resource, is_storage, required, space_c
 use bitflags::Flags;
 use ir_arena::handle::Handle;
 use ir_flags::{Capabilities, MemoryDecorations, StorageAccess, ValidationFlags};
-use ir_globals::GlobalVariable;
+use ir_items::GlobalVariable;
 use ir_kinds::AddressSpace;
 use ir_types::{TypeInner, key};
 use module_constants::GlobalContext;
 use type_infos::LayoutCompatibility;
 use typing_forms::form_of_type;
 use typing_forms::laws::form_equality;
-use typing_rules::TypeInnerExt;
+use typing_forms::TypeInnerExt;
 
 // What a type is made of.
 fn inner_of<'a>(context: &GlobalContext<'a>, ty: Handle<key::IrType>) -> &'a TypeInner

@@ -3,21 +3,21 @@
 ghost use Rattle.std.specs.Prelude.{◌↔◌, IsTrue, MatchResult};
 ghost use Rattle.check_operands.specs.Refused.{IsRefused};
 ghost use Rattle.check_operands.specs.View.{scene_in};
-ghost use Rattle.spec_checks.specs.ImageLoads.{IsFlat, IsTexel, IsReadable, IsTexelLoad, ImageLoadOK, IsAnswered, ImageQueryOK};
-ghost use Rattle.spec_checks.specs.Scene.{form_at};
+ghost use Rattle.spec_statements.specs.ImageLoads.{IsFlat, IsTexel, IsReadable, IsTexelLoad, ImageLoadOK, IsAnswered, ImageQueryOK};
+ghost use Rattle.spec_statements.specs.Scene.{form_at};
 
 use crate::operands::{along, is_number_if};
 use bitflags::Flags;
 use check_operands::{
     CheckContext, are_same, is_integer, is_integer_scalar, picture_of, refused_unless, shaped_of,
 };
-use error_expressions::ExpressionError;
+use error_functions::ExpressionError;
 use ir_arena::handle::Handle;
 use ir_expressions::ImageQuery;
 use ir_flags::StorageAccess;
 use ir_kinds::{ImageClass, ImageDimension};
 use ir_types::key;
-use spec_checks::Picture;
+use spec_statements::Picture;
 use typing_forms::Form;
 
 // ---- loads

@@ -5,18 +5,18 @@ ghost use Rattle.check_operands.specs.Refused.{IsRefused};
 ghost use Rattle.check_operands.specs.View.{scene_in, expressions_in, IsKnown};
 ghost use Rattle.ir_kinds.specs.Images.{is_depth, is_multisampled};
 ghost use Rattle.ir_kinds.specs.Scalars.{floating};
-ghost use Rattle.spec_checks.specs.ImageSamples.{IsFloat32, IsFiltered, IsOffset, IsGathered, IsLevel, ClampOK, OutsideOK, IsSampled, ImageSampleOK};
-ghost use Rattle.spec_checks.specs.Scene.{form_at};
-ghost use Rattle.spec_checks.specs.Shapes.{IsIntegerScalar, ExactlyIf, along, sampler_of};
+ghost use Rattle.spec_statements.specs.ImageSamples.{IsFloat32, IsFiltered, IsOffset, IsGathered, IsLevel, ClampOK, OutsideOK, IsSampled, ImageSampleOK};
+ghost use Rattle.spec_statements.specs.Scene.{form_at};
+ghost use Rattle.spec_statements.specs.Shapes.{IsIntegerScalar, ExactlyIf, along, sampler_of};
 
 use crate::levels::{gathers_if, is_clamp, is_float32, is_level, is_outside};
 use crate::operands::{along, is_number_if};
 use check_operands::{CheckContext, are_same, picture_of, refused_unless, sampler_of};
-use error_expressions::ExpressionError;
+use error_functions::ExpressionError;
 use ir_arena::handle::Handle;
 use ir_kinds::{ImageClass, ImageDimension, Scalar, ScalarKind, SwizzleComponent};
 use ir_types::key;
-use spec_checks::{Picture, Sampling};
+use spec_statements::{Picture, Sampling};
 use typing_forms::Form;
 
 // ---- samplers

@@ -2,15 +2,15 @@
 
 ghost use Rattle.std.specs.Prelude.{◌≡◌, ◌↔◌, IsTrue, IfSome, Bool};
 ghost use Rattle.check_operands.specs.View.{scene_in};
-ghost use Rattle.spec_checks.specs.ImageSamples.{IsFloat32, HasNeighbours, IsGathered, IsLevel, IsClamped, ClampOK, OutsideOK};
-ghost use Rattle.spec_checks.specs.Scene.{form_at};
+ghost use Rattle.spec_statements.specs.ImageSamples.{IsFloat32, HasNeighbours, IsGathered, IsLevel, IsClamped, ClampOK, OutsideOK};
+ghost use Rattle.spec_statements.specs.Scene.{form_at};
 
 use check_operands::{CheckContext, are_same, is_integer_scalar};
 use ir_arena::handle::Handle;
 use ir_expressions::SampleLevel;
 use ir_kinds::{ImageClass, ImageDimension, Scalar, ScalarKind, SwizzleComponent};
 use ir_types::key;
-use spec_checks::Picture;
+use spec_statements::Picture;
 use typing_forms::Form;
 
 /// Whether a type is that of a 32-bit float.

@@ -1,5 +1,5 @@
 //! What is asked of expressions that look at images beside their types: a module a family, of the name that its definitions
-//! have in `spec_checks`.
+//! have in `spec_statements`.
 #![tactic(auto)]
 
 mod image_loads;

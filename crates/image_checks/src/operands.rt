@@ -2,8 +2,8 @@
 
 ghost use Rattle.std.specs.Prelude.{◌≡◌, ◌↔◌, IsTrue};
 ghost use Rattle.check_operands.specs.View.{scene_in};
-ghost use Rattle.spec_checks.specs.Scene.{form_at};
-ghost use Rattle.spec_checks.specs.Shapes.{IsIntegerScalar, ExactlyIf, along};
+ghost use Rattle.spec_statements.specs.Scene.{form_at};
+ghost use Rattle.spec_statements.specs.Shapes.{IsIntegerScalar, ExactlyIf, along};
 
 use check_operands::{CheckContext, is_integer_scalar};
 use ir_arena::handle::Handle;

@@ -5,9 +5,9 @@ use Rattle.immediate_slots.specs.Reached.{IsMet, IsReached, IsReachedIn}
 use Rattle.immediate_slots.specs.Slots.{IsIn, Meets}
 use Rattle.ir_types.specs.declared.types.ArraySize.{ArraySize}
 use Rattle.ir_types.specs.declared.types.ArraySize.TheVariants as count
-use Rattle.spec_leaves.specs.Leaves.{Leaf, inside, repeated, held_in, leaves, member_leaves}
+use Rattle.immediate_slots.specs.Leaves.{Leaf, inside, repeated, held_in, leaves, member_leaves}
 use Rattle.spec_types.specs.Tree.{Tree, scalar, vector, matrix, cooperative_matrix, atomic, pointer, value_pointer, array, struct, image, sampler, acceleration_structure, ray_query, binding_array, Members, no_members, member}
-use Rattle.typing_rules.specs.Sizes.{counted}
+use Rattle.typing_forms.specs.Sizes.{counted}
 
 -- ---- some leaf of a list
 

@@ -4,9 +4,9 @@ use Rattle.std.proofs.lemmas.Bool.{cases_lt}
 use Rattle.immediate_slots.specs.Sizes.{AreGreatest, TakesBytes}
 use Rattle.ir_arena.specs.Arenas.{value_at}
 use Rattle.ir_arena.specs.declared.span.Span.{Span}
-use Rattle.ir_globals.specs.Plain.{PlainGlobal}
-use Rattle.ir_globals.specs.View.{values_of, global_view}
-use Rattle.ir_globals.specs.declared.globals.GlobalVariable.{GlobalVariable}
+use Rattle.ir_items.specs.GlobalPlain.{PlainGlobal}
+use Rattle.ir_items.specs.GlobalView.{values_of, global_view}
+use Rattle.ir_items.specs.declared.globals.GlobalVariable.{GlobalVariable}
 use Rattle.ir_items.specs.Plain.{PlainModule}
 use Rattle.ir_kinds.specs.declared.spaces.AddressSpace.TheVariants.{Immediate}
 use Rattle.ir_types.specs.Plain.{PlainInner, PlainType}
@@ -14,7 +14,7 @@ use Rattle.spec_types.proofs.Sizes.{size_of_tree}
 use Rattle.spec_types.specs.Layout.{size}
 use Rattle.spec_types.specs.View.{tree_found, tree_along, type_tree}
 use Rattle.typing_forms.specs.Resolutions.{inner_at}
-use Rattle.typing_rules.specs.Sizes.{type_size}
+use Rattle.typing_forms.specs.Sizes.{type_size}
 
 pub size_found : (types : List PlainType) (handle : ℕ) (i : PlainInner) → inner_at types handle ≡ Some i → type_size i ≡ size (type_tree types handle)
 unfolding tree_along type_tree

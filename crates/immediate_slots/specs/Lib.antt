@@ -1,3 +1,4 @@
 pub mod Reached
 pub mod Sizes
 pub mod Slots
+pub mod Leaves

@@ -8,14 +8,14 @@ ghost use Rattle.spec_types.specs.Tree.{Tree};
 ghost use Rattle.spec_types.specs.View.{members_by, tree_by, tree_along, type_tree};
 ghost use Rattle.typing_forms.specs.Order.{TypesGoBack};
 ghost use Rattle.typing_forms.specs.Resolutions.{types_view};
-ghost use Rattle.typing_rules.specs.Sizes.{counted, type_size};
+ghost use Rattle.typing_forms.specs.Sizes.{counted, type_size};
 
 use crate::slots::ImmediateSlots;
 use ir_arena::handle::Handle;
 use ir_types::{ArraySize, IrType, StructMember, TypeInner, key};
 use ir_unique_arena::unique_arena::UniqueArena;
 use typing_forms::inner_of;
-use typing_rules::TypeInnerExt;
+use typing_forms::TypeInnerExt;
 
 // A number of bytes, as far as it counts for slots.
 fn capped(size: u64) -> u32

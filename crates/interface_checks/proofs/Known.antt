@@ -4,7 +4,7 @@ use Rattle.std.proofs.lemmas.Option.{slice_get_within}
 use Rattle.check_operands.proofs.Absent.{none_there}
 use Rattle.ir_expressions.specs.Plain.{PlainExpression}
 use Rattle.ir_types.specs.Plain.{PlainType}
-use Rattle.spec_flags.specs.Flags.{HasFlag, Argument}
+use Rattle.spec_types.specs.Flags.{HasFlag, Argument}
 use Rattle.spec_types.specs.View.{type_tree}
 use Rattle.typing_layout.proofs.Latest.{one_kind}
 use Rattle.typing_layout.specs.Constness.{AreKinds, IsOfKind, by_itself, by_operands}

@@ -3,3 +3,4 @@ pub mod Below
 pub mod Refuted
 pub mod Widened
 pub mod AnsweredLemmas
+pub mod Runs

@@ -2,8 +2,8 @@
 use Rattle.std.proofs.Common.{inl, inr, ℕ, List, Bool, Option, Some, None, IfSome, IsSomeAnd, subst}
 use Rattle.error_functions.specs.declared.error.FunctionError.{FunctionError}
 use Rattle.error_functions.specs.declared.error.FunctionError.TheVariants as error
-use Rattle.error_statements.specs.declared.locals.LocalVariableError.{LocalVariableError}
-use Rattle.error_statements.specs.declared.locals.LocalVariableError.TheVariants.{InvalidType, InitializerType, NonConstOrOverrideInitializer}
+use Rattle.error_functions.specs.declared.locals.LocalVariableError.{LocalVariableError}
+use Rattle.error_functions.specs.declared.locals.LocalVariableError.TheVariants.{InvalidType, InitializerType, NonConstOrOverrideInitializer}
 use Rattle.interface_checks.specs.Answered.{AllAnswered, IsUnansweredFault}
 use Rattle.interface_checks.specs.Arguments.{IsArgumentFault, IsArgumentsFault}
 use Rattle.interface_checks.specs.Interfaces.{IsInterfaceFault}

@@ -1,7 +1,7 @@
 -- A function with a fault does not meet its rule.
 use Rattle.std.specs.Prelude.{Bool, IfSome, List}
 use Rattle.error_functions.specs.declared.error.FunctionError.{FunctionError}
-use Rattle.error_statements.specs.declared.locals.LocalVariableError.{LocalVariableError}
+use Rattle.error_functions.specs.declared.locals.LocalVariableError.{LocalVariableError}
 use Rattle.interface_checks.specs.Answered.{AllAnswered, IsUnansweredFault}
 use Rattle.interface_checks.specs.Arguments.{IsArgumentsFault}
 use Rattle.interface_checks.specs.Interfaces.{IsInterfaceFault}

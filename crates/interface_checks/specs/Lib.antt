@@ -8,3 +8,6 @@ pub mod Results
 pub mod Interfaces
 pub mod Answered
 pub mod Laws
+pub mod Callees
+pub mod Bodies
+pub mod Left

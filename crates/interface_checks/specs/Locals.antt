@@ -2,12 +2,12 @@
 use Rattle.std.specs.Prelude.{◌≡◌, ◌⊎◌, ℕ, IsSomeAnd, string_bytes}
 use Rattle.error_functions.specs.declared.error.FunctionError.{FunctionError}
 use Rattle.error_functions.specs.declared.error.FunctionError.TheVariants as error
-use Rattle.error_statements.specs.declared.locals.LocalVariableError.{LocalVariableError}
-use Rattle.error_statements.specs.declared.locals.LocalVariableError.TheVariants.{InvalidType, InitializerType, NonConstOrOverrideInitializer}
+use Rattle.error_functions.specs.declared.locals.LocalVariableError.{LocalVariableError}
+use Rattle.error_functions.specs.declared.locals.LocalVariableError.TheVariants.{InvalidType, InitializerType, NonConstOrOverrideInitializer}
 use Rattle.interface_checks.specs.Items.{IsFirstAt}
 use Rattle.interface_checks.specs.Named.{name_of}
 use Rattle.ir_items.specs.Plain.{PlainLocal}
-use Rattle.spec_flags.specs.Flags.{HasFlag, Constructible}
+use Rattle.spec_types.specs.Flags.{HasFlag, Constructible}
 use Rattle.spec_statements.specs.BlockContext.{BlockContext, form_at}
 use Rattle.spec_statements.specs.Interfaces.{LocalOK}
 use Rattle.spec_types.specs.View.{type_tree}

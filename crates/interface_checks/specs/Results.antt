@@ -2,7 +2,7 @@
 use Rattle.std.specs.Prelude.{◌≡◌, Bool, false, None, IsSomeAnd}
 use Rattle.error_functions.specs.declared.error.FunctionError.{FunctionError}
 use Rattle.error_functions.specs.declared.error.FunctionError.TheVariants as error
-use Rattle.spec_flags.specs.Flags.{HasFlag, Constructible}
+use Rattle.spec_types.specs.Flags.{HasFlag, Constructible}
 use Rattle.spec_statements.specs.BlockContext.{BlockContext}
 use Rattle.spec_types.specs.View.{type_tree}
 

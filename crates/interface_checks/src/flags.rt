@@ -3,7 +3,7 @@
 ghost use Rattle.std.specs.Prelude.{◌↔◌, IsTrue, List};
 ghost use Rattle.interface_checks.specs.Told.{AreTold};
 ghost use Rattle.ir_types.specs.Plain.{PlainType};
-ghost use Rattle.spec_flags.specs.Flags.{HasFlag, Argument, Constructible};
+ghost use Rattle.spec_types.specs.Flags.{HasFlag, Argument, Constructible};
 ghost use Rattle.spec_types.specs.View.{type_tree};
 
 use bitflags::Flags;

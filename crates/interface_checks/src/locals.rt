@@ -16,7 +16,7 @@ use crate::flags::is_constructible;
 use crate::names::name_of;
 use check_operands::are_same;
 use error_functions::FunctionError;
-use error_statements::LocalVariableError;
+use error_functions::LocalVariableError;
 use ir_arena::handle::Handle;
 use ir_faults::refusal::Refusal;
 use ir_faults::with_span::WithSpan;

@@ -3,7 +3,7 @@ use Rattle.std.proofs.Common.{◌≡◌, List, [], ◌∷◌, map, option_map, s
 use Rattle.ir_expressions.specs.Plain.{expression_view}
 use Rattle.ir_types.specs.Plain.{type_view}
 use Rattle.ir_blocks.specs.View.{block_view, block_spans}
-use Rattle.ir_globals.specs.View.{values_of, special_view, constant_view, override_view, global_view, node_view}
+use Rattle.ir_items.specs.GlobalView.{values_of, special_view, constant_view, override_view, global_view, node_view}
 use Rattle.ir_items.specs.View.{argument_view, local_view, function_view, entry_view}
 use Rattle.ir_arena.specs.Copies.{entry_of}
 use Rattle.ir_items.specs.Copies.{SpannedFunction, spanned_function, SpannedEntry, spanned_entry, spanned_module}

@@ -4,7 +4,7 @@ use Rattle.std.specs.Prelude.{Vec}
 use Rattle.std.specs.declared.alloc.Global.{Global}
 use Rattle.ir_arena.specs.declared.span.Span.{Span}
 use Rattle.ir_arena.specs.Copies.{entry_of}
-use Rattle.ir_globals.specs.View.{values_of}
+use Rattle.ir_items.specs.GlobalView.{values_of}
 use Rattle.ir_items.specs.Copies.{SpannedFunction, SpannedEntry, spanned_function, spanned_entry, spanned_module}
 use Rattle.ir_items.specs.Returned.{returned_function, returned_entry, returned_function_spans, returned_entry_spans, returned_module_spans}
 use Rattle.ir_items.specs.View.{function_view, entry_view}

@@ -3,12 +3,12 @@ use Rattle.std.specs.Prelude.{List, map}
 use Rattle.ir_arena.specs.declared.span.Span.{Span}
 use Rattle.ir_types.specs.Plain.{PlainType, type_view}
 use Rattle.ir_expressions.specs.Plain.{PlainExpression, expression_view}
-use Rattle.ir_globals.specs.Plain.{PlainConstant, PlainOverride, PlainGlobal, PlainNode}
+use Rattle.ir_items.specs.GlobalPlain.{PlainConstant, PlainOverride, PlainGlobal, PlainNode}
 use Rattle.ir_items.specs.Plain.{PlainLocal, PlainFunction, PlainEntry, PlainModule}
 use Rattle.ir_blocks.specs.Spans.{BlockSpans}
 use Rattle.ir_arena.specs.Copies.{entry_of}
 use Rattle.ir_blocks.specs.View.{block_spans}
-use Rattle.ir_globals.specs.View.{constant_view, override_view, global_view, node_view}
+use Rattle.ir_items.specs.GlobalView.{constant_view, override_view, global_view, node_view}
 use Rattle.ir_items.specs.View.{local_view, function_view, entry_view, module_view}
 use Rattle.ir_items.specs.declared.functions.Function.{Function}
 use Rattle.ir_items.specs.declared.entries.EntryPoint.{EntryPoint}

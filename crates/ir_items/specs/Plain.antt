@@ -8,7 +8,7 @@ use Rattle.ir_expressions.specs.Plain.{PlainExpression}
 use Rattle.ir_items.specs.declared.entries.MeshStageInfo.{MeshStageInfo}
 use Rattle.ir_items.specs.declared.functions.FunctionResult.{FunctionResult}
 use Rattle.ir_blocks.specs.Plain.{PlainBlock}
-use Rattle.ir_globals.specs.Plain.{PlainConstant, PlainOverride, PlainGlobal, PlainNode, PlainSpecial}
+use Rattle.ir_items.specs.GlobalPlain.{PlainConstant, PlainOverride, PlainGlobal, PlainNode, PlainSpecial}
 
 pub record PlainArgument : Type 0 where
   pub name : Option (List ℕ)

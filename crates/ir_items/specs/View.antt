@@ -10,7 +10,7 @@ use Rattle.ir_items.specs.declared.functions.Function.{Function}
 use Rattle.ir_items.specs.declared.entries.EntryPoint.{EntryPoint}
 use Rattle.ir_items.specs.declared.module.Module.{Module}
 use Rattle.ir_blocks.specs.View.{block_view}
-use Rattle.ir_globals.specs.View.{values_of, constant_view, override_view, global_view, node_view, special_view, no_special}
+use Rattle.ir_items.specs.GlobalView.{values_of, constant_view, override_view, global_view, node_view, special_view, no_special}
 
 abbrev pub argument_view : FunctionArgument → PlainArgument
 argument_view a = record { name = option_map string_bytes a.name; ty = a.ty; binding = a.binding }

@@ -3,7 +3,7 @@ ghost use Rattle.std.specs.Prelude.{◌≡◌, IfOk, map};
 ghost use Rattle.ir_expressions.specs.Plain.{expression_view};
 ghost use Rattle.ir_types.specs.Plain.{type_view};
 ghost use Rattle.ir_arena.specs.Copies.{entry_of};
-ghost use Rattle.ir_globals.specs.View.{special_view, constant_view, override_view, global_view, node_view};
+ghost use Rattle.ir_items.specs.GlobalView.{special_view, constant_view, override_view, global_view, node_view};
 ghost use Rattle.ir_items.specs.Copies.{spanned_function, spanned_entry};
 
 use crate::entries::EntryPoint;
@@ -12,7 +12,7 @@ use crate::module::Module;
 use ir_arena::arena::Arena;
 use ir_arena::copied::copy_list;
 use ir_expressions::Expression;
-use ir_globals::{Constant, DiagnosticFilterNode, GlobalVariable, Override, SpecialTypes};
+use crate::{Constant, DiagnosticFilterNode, GlobalVariable, Override, SpecialTypes};
 use ir_types::{IrType, key};
 use ir_unique_arena::unique_arena::UniqueArena;
 use std::alloc::{AllocError, Global};

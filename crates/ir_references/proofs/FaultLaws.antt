@@ -8,8 +8,8 @@ use Rattle.ir_blocks.specs.Plain.{PlainStatement}
 use Rattle.ir_blocks.specs.Places.{Place, StandsAt}
 use Rattle.ir_expressions.specs.Plain.{expression_view}
 use Rattle.ir_expressions.specs.declared.expressions.Expression.{Expression}
-use Rattle.ir_globals.specs.View.{values_of, node_view}
-use Rattle.ir_globals.specs.declared.filters.DiagnosticFilterNode.{DiagnosticFilterNode}
+use Rattle.ir_items.specs.GlobalView.{values_of, node_view}
+use Rattle.ir_items.specs.declared.filters.DiagnosticFilterNode.{DiagnosticFilterNode}
 use Rattle.ir_items.specs.Plain.{PlainFunction, PlainModule}
 use Rattle.ir_items.specs.declared.functions.FunctionResult.{FunctionResult}
 use Rattle.ir_walks.specs.Filters.{ParentsPrecede}

@@ -11,7 +11,7 @@ use Rattle.ir_arena.specs.declared.span.Span.{Span}
 use Rattle.ir_blocks.specs.Plain.{PlainStatement, emit, block, if_, switch, loop, break, continue, return, kill, operation, call, PlainBlock, stop, next, PlainCases, no_case, case}
 use Rattle.ir_blocks.specs.Shapes.{shape_of, Part, inner, accepting, rejecting, case_at, loop_body, loop_continuing, case_body, part_of}
 use Rattle.ir_blocks.specs.Places.{Place, here, later, inside, condition, StandsAt}
-use Rattle.ir_globals.specs.View.{values_of}
+use Rattle.ir_items.specs.GlobalView.{values_of}
 use Rattle.ir_references.specs.First.{first_past, first_of, first_in, first_at, first_in_cases}
 
 module _ {F : Type 0} where

@@ -3,7 +3,7 @@ use Rattle.std.specs.Prelude.{◌≡◌, ℕ, ◌<◌, List, length, ◌&&◌, C
 use Rattle.std.specs.Option.{option_or}
 use Rattle.ir_blocks.specs.Plain.{PlainStatement}
 use Rattle.ir_expressions.specs.Plain.{PlainExpression}
-use Rattle.ir_globals.specs.Plain.{PlainNode}
+use Rattle.ir_items.specs.GlobalPlain.{PlainNode}
 use Rattle.ir_items.specs.Plain.{PlainArgument, PlainLocal, PlainFunction, PlainModule}
 use Rattle.ir_items.specs.declared.functions.FunctionResult.{FunctionResult}
 use Rattle.ir_references.specs.First.{first_past, first_of, first_in}

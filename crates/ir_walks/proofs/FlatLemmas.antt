@@ -9,7 +9,7 @@ use Rattle.std.proofs.lemmas.List.Elements.{All-nil, All-head, All-tail, All-app
 use Rattle.ir_arena.specs.declared.span.Span.{Span}
 use Rattle.ir_expressions.specs.declared.expressions.Expression.{Expression}
 use Rattle.ir_expressions.specs.Plain.{PlainExpression, expression_view}
-use Rattle.ir_globals.specs.View.{values_of}
+use Rattle.ir_items.specs.GlobalView.{values_of}
 use Rattle.ir_walks.specs.Bases.{expressions_of}
 use Rattle.ir_walks.specs.Flat.{parts_of, PartsPrecede, AreLeaves, none, leaf, taken_apart, OneFlattening}
 use Rattle.ir_walks.proofs.Places.{item_at}

@@ -4,7 +4,7 @@ use Rattle.std.specs.Option.{option_and_then}
 use Rattle.std.proofs.lemmas.Option.{slice_get_within}
 use Rattle.ir_kinds.specs.declared.diagnostics.Severity.{Severity}
 use Rattle.ir_kinds.specs.declared.diagnostics.StandardFilterableTriggeringRule.{StandardFilterableTriggeringRule}
-use Rattle.ir_globals.specs.Plain.{PlainNode, standard}
+use Rattle.ir_items.specs.GlobalPlain.{PlainNode, standard}
 use Rattle.ir_walks.proofs.Places.{item_at}
 use Rattle.ir_walks.specs.Filters.{ParentsPrecede, IsPath, IsNearest, HasSeverity, OneSeverity}
 

@@ -4,7 +4,7 @@ use Rattle.ir_arena.specs.declared.span.Span.{Span}
 use Rattle.ir_expressions.specs.declared.expressions.Expression.{Expression}
 use Rattle.ir_expressions.specs.declared.expressions.Expression.TheVariants.{Access, AccessIndex, GlobalVariable}
 use Rattle.ir_expressions.specs.Plain.{PlainExpression, plain, expression_view}
-use Rattle.ir_globals.specs.View.{values_of}
+use Rattle.ir_items.specs.GlobalView.{values_of}
 
 -- the expressions of an arena
 abbrev pub expressions_of : List (Expression × Span) → List PlainExpression

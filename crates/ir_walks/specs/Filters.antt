@@ -5,9 +5,9 @@ use Rattle.ir_arena.specs.declared.span.Span.{Span}
 use Rattle.ir_kinds.specs.declared.diagnostics.Severity.{Severity}
 use Rattle.ir_kinds.specs.declared.diagnostics.Severity.TheVariants.{Error}
 use Rattle.ir_kinds.specs.declared.diagnostics.StandardFilterableTriggeringRule.{StandardFilterableTriggeringRule}
-use Rattle.ir_globals.specs.declared.filters.DiagnosticFilterNode.{DiagnosticFilterNode}
-use Rattle.ir_globals.specs.Plain.{PlainNode, standard}
-use Rattle.ir_globals.specs.View.{node_view, values_of}
+use Rattle.ir_items.specs.declared.filters.DiagnosticFilterNode.{DiagnosticFilterNode}
+use Rattle.ir_items.specs.GlobalPlain.{PlainNode, standard}
+use Rattle.ir_items.specs.GlobalView.{node_view, values_of}
 
 -- the nodes of an arena
 abbrev pub nodes_of : List (DiagnosticFilterNode × Span) → List PlainNode

@@ -9,7 +9,7 @@ use Rattle.ir_types.specs.declared.types.TypeInner.TheVariants.{Vector}
 use Rattle.ir_types.specs.Plain.{PlainType, PlainInner, plain as other, type_view}
 use Rattle.ir_expressions.specs.declared.expressions.Expression.TheVariants.{Splat}
 use Rattle.ir_expressions.specs.Plain.{PlainExpression, compose, plain}
-use Rattle.ir_globals.specs.View.{values_of}
+use Rattle.ir_items.specs.GlobalView.{values_of}
 
 -- the types of an arena
 abbrev pub types_of : List (IrType × Span) → List PlainType

@@ -1,8 +1,8 @@
 //! Diagnostic filters.
 ghost use Rattle.std.specs.Prelude.{◌≡◌, ◌<◌, ◌↔◌, length, map, IsTrue};
 ghost use Rattle.std.specs.Option.{ForSome};
-ghost use Rattle.ir_globals.specs.Plain.{PlainNode, standard};
-ghost use Rattle.ir_globals.specs.View.{node_view, values_of};
+ghost use Rattle.ir_items.specs.GlobalPlain.{PlainNode, standard};
+ghost use Rattle.ir_items.specs.GlobalView.{node_view, values_of};
 ghost use Rattle.ir_walks.specs.Filters.{nodes_of, ParentsPrecede, HasSeverity};
 
 use ir_arena::arena::Arena;
@@ -30,7 +30,7 @@ pub trait DiagnosticFilterNodeExt: Sized {
 }
 
 impl DiagnosticFilterNodeExt for DiagnosticFilterNode {
-    ghost use Rattle.ir_globals.specs.View.{node_view};
+    ghost use Rattle.ir_items.specs.GlobalView.{node_view};
 
     ghost node_of = { node_view };
 

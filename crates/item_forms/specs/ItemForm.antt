@@ -8,7 +8,7 @@ use Rattle.ir_kinds.specs.declared.stages.ShaderStage.{ShaderStage}
 use Rattle.ir_kinds.specs.declared.stages.EarlyDepthTest.{EarlyDepthTest}
 use Rattle.ir_kinds.specs.declared.stages.EarlyDepthTest.TheVariants as early
 use Rattle.ir_items.specs.declared.entries.MeshStageInfo.{MeshStageInfo}
-use Rattle.ir_globals.specs.Plain.{PlainConstant, PlainOverride, PlainGlobal, PlainRule, standard, unknown, user, PlainNode, PlainSpecial}
+use Rattle.ir_items.specs.GlobalPlain.{PlainConstant, PlainOverride, PlainGlobal, PlainRule, standard, unknown, user, PlainNode, PlainSpecial}
 use Rattle.document_words.specs.Unions.{decoration_union}
 use Rattle.document_words.specs.Tables.{scalars, severities, standard_rules, conservative_depths, topologies, entry_stages, memory_decorations}
 use Rattle.document_forms.specs.Form.{AU16, AHandle, AU32, ASize, AText, AWord, ASet, Maybe, AnArray, AList, Ends, ◌▸◌, Tagged}

@@ -13,7 +13,7 @@ use Rattle.ir_kinds.specs.declared.predeclared.PredeclaredType.{PredeclaredType}
 use Rattle.ir_kinds.specs.declared.predeclared.PredeclaredType.TheVariants as predeclared_types
 use Rattle.ir_kinds.specs.contracts.predeclared.PredeclaredTypePartialEq.TheImpl as same
 use Rattle.ir_kinds.specs.contracts.predeclared.PredeclaredTypeEq.TheImpl.Laws as laws
-use Rattle.ir_globals.specs.Plain.{PlainSpecial}
+use Rattle.ir_items.specs.GlobalPlain.{PlainSpecial}
 use Rattle.document_words.specs.Tables.{scalars}
 use Rattle.document_forms.specs.Exact.{deepest, IsExact, FormOf}
 use Rattle.document_forms.specs.Form.{AList}

@@ -1,7 +1,7 @@
 // Diagnostic filters.
 ghost use Rattle.std.specs.Prelude.{◌≡◌, ℕ, List, Option, map, option_map};
-ghost use Rattle.ir_globals.specs.Plain.{PlainRule, PlainNode};
-ghost use Rattle.ir_globals.specs.View.{rule_view, node_view};
+ghost use Rattle.ir_items.specs.GlobalPlain.{PlainRule, PlainNode};
+ghost use Rattle.ir_items.specs.GlobalView.{rule_view, node_view};
 ghost use Rattle.item_forms.specs.Items.{a_rule, a_filter, the_filters};
 
 use crate::kinds::RuleKind;

@@ -1,7 +1,7 @@
 // Constants, overrides and global variables.
 ghost use Rattle.std.specs.Prelude.{◌≡◌, option_map};
-ghost use Rattle.ir_globals.specs.Plain.{PlainConstant, PlainOverride, PlainGlobal};
-ghost use Rattle.ir_globals.specs.View.{constant_view, override_view, global_view};
+ghost use Rattle.ir_items.specs.GlobalPlain.{PlainConstant, PlainOverride, PlainGlobal};
+ghost use Rattle.ir_items.specs.GlobalView.{constant_view, override_view, global_view};
 ghost use Rattle.item_forms.specs.Items.{a_constant, an_override, a_global};
 
 use crate::bindings::ResourceForm;

@@ -2,8 +2,8 @@
 ghost use Rattle.std.specs.Prelude.{◌≡◌, ℕ, List, option_map};
 ghost use Rattle.serde_json.specs.View.{view as data_of};
 ghost use Rattle.ir_kinds.specs.declared.predeclared.PredeclaredType.{PredeclaredType};
-ghost use Rattle.ir_globals.specs.Plain.{PlainSpecial};
-ghost use Rattle.ir_globals.specs.View.{special_view};
+ghost use Rattle.ir_items.specs.GlobalPlain.{PlainSpecial};
+ghost use Rattle.ir_items.specs.GlobalView.{special_view};
 ghost use Rattle.item_forms.specs.Special.{a_predeclared, a_pair, the_pairs, the_special};
 
 use crate::kinds::PredeclaredKind;

@@ -7,7 +7,7 @@ use Rattle.ir_arena.specs.declared.span.Span.{Span}
 use Rattle.ir_expressions.specs.Plain.{expression_view}
 use Rattle.ir_expressions.specs.declared.expressions.Expression.{Expression}
 use Rattle.ir_expressions.specs.declared.expressions.Expression.TheVariants as x
-use Rattle.ir_globals.specs.View.{values_of}
+use Rattle.ir_items.specs.GlobalView.{values_of}
 use Rattle.ir_items.specs.View.{function_view, entry_view, module_view}
 use Rattle.ir_references.proofs.FaultLaws.{map_some}
 use Rattle.module_conditions.specs.Steps.{OrderGivesOrigins}

@@ -2,7 +2,7 @@
 use Rattle.std.specs.Prelude.{◌≡◌, ℕ, List, Some, map, slice_get}
 use Rattle.ir_arena.specs.Arenas.{value_of_entry}
 use Rattle.ir_expressions.specs.Plain.{PlainExpression, expression_view}
-use Rattle.ir_globals.specs.View.{values_of}
+use Rattle.ir_items.specs.GlobalView.{values_of}
 use Rattle.ir_items.specs.Plain.{PlainFunction, PlainEntry, PlainModule}
 use Rattle.ir_items.specs.View.{module_view}
 use Rattle.ir_items.specs.declared.entries.EntryPoint.{EntryPoint}

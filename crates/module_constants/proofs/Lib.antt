@@ -3,3 +3,4 @@ pub mod FlagLemmas
 pub mod IdLemmas
 pub mod ScalarLemmas
 pub mod Told
+mod OverrideTold

@@ -1,29 +1,29 @@
 -- What is told of an item in a list is told of it at its handle.
 use Rattle.std.proofs.Common.{◌≡◌, ◌≢◌, inl, inr, ◌<◌, ◌+◌, ◌∙◌, ℕ, List, [], ◌∷◌, Some, Bool, Result, Ok, Err, MatchResult, length, map, slice_get, sym, subst, refl, arith}
-use Rattle.error_constants.proofs.Expressions.{expression_refuted}
-use Rattle.error_constants.proofs.Items.{constant_refuted, override_refuted}
-use Rattle.error_constants.specs.Constants.{IsFaultOf, IsConstantFault}
-use Rattle.error_constants.specs.Expressions.{IsConstExpressionFault}
-use Rattle.error_constants.specs.Overrides.{IsFaultOf as IsOverrideFaultOf, IsOverrideFault}
-use Rattle.error_constants.specs.declared.constants.ConstantError.{ConstantError}
-use Rattle.error_constants.specs.declared.overrides.OverrideError.{OverrideError}
-use Rattle.error_expressions.specs.declared.const_expressions.ConstExpressionError.{ConstExpressionError}
-use Rattle.error_expressions.specs.declared.const_expressions.ConstExpressionError.TheVariants as error
+use Rattle.module_expressions.proofs.Expressions.{expression_refuted}
+use Rattle.module_expressions.proofs.Items.{constant_refuted, override_refuted}
+use Rattle.module_expressions.specs.Constants.{IsFaultOf, IsConstantFault}
+use Rattle.module_expressions.specs.Expressions.{IsConstExpressionFault}
+use Rattle.module_expressions.specs.Overrides.{IsFaultOf as IsOverrideFaultOf, IsOverrideFault}
+use Rattle.module_expressions.specs.declared.constants.ConstantError.{ConstantError}
+use Rattle.module_expressions.specs.declared.overrides.OverrideError.{OverrideError}
+use Rattle.error_functions.specs.declared.const_expressions.ConstExpressionError.{ConstExpressionError}
+use Rattle.error_functions.specs.declared.const_expressions.ConstExpressionError.TheVariants as error
 use Rattle.ir_arena.specs.declared.span.Span.{Span}
 use Rattle.ir_expressions.specs.Plain.{PlainExpression}
 use Rattle.ir_faults.specs.Faults.{error_of}
 use Rattle.ir_faults.specs.declared.refusal.Refusal.{Refusal}
 use Rattle.ir_faults.specs.declared.refusal.Refusal.TheVariants as refusal
 use Rattle.ir_flags.specs.declared.settings.Capabilities.{Capabilities}
-use Rattle.ir_globals.specs.Plain.{PlainConstant, PlainOverride}
-use Rattle.ir_globals.specs.View.{values_of}
+use Rattle.ir_items.specs.GlobalPlain.{PlainConstant, PlainOverride}
+use Rattle.ir_items.specs.GlobalView.{values_of}
 use Rattle.ir_items.specs.Plain.{PlainModule}
 use Rattle.module_constants.proofs.IdLemmas.{below_or_same}
 use Rattle.module_constants.specs.Asked.{IsUnmet}
 use Rattle.module_constants.specs.Refusals.{IsFineConstant, IsConstantRefused, IsExpressionRefused, IsFineBesideId, IsOverrideRefused}
-use Rattle.spec_constants.specs.Constants.{ConstantOK}
-use Rattle.spec_constants.specs.GlobalExpressions.{Asked, of_literal, of_composition, of_value, to_work_out, asked_of, IsMet, GlobalExpressionOK}
-use Rattle.spec_constants.specs.Overrides.{IsTaken, OverrideOK}
+use Rattle.spec_expressions.specs.Constants.{ConstantOK}
+use Rattle.spec_expressions.specs.GlobalExpressions.{Asked, of_literal, of_composition, of_value, to_work_out, asked_of, IsMet, GlobalExpressionOK}
+use Rattle.spec_expressions.specs.Overrides.{IsTaken, OverrideOK}
 use Rattle.typing_layout.specs.Constness.{IsOfKind}
 use Rattle.typing_layout.specs.declared.constness.ExpressionKind.{ExpressionKind}
 use Rattle.typing_layout.specs.declared.constness.ExpressionKind.TheVariants.{Runtime}

@@ -4,3 +4,4 @@ pub mod Ids
 pub mod Kinds
 pub mod Known
 pub mod Refusals
+pub mod OverrideRefusals

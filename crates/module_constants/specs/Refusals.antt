@@ -1,23 +1,23 @@
 -- Why constants, global expressions and overrides are refused.
 use Rattle.std.specs.Prelude.{◌≡◌, ◌≢◌, ◌⊎◌, ℕ, [], Option, Some, None, Bool, true, IsSome}
-use Rattle.error_constants.specs.Constants.{IsConstantFault}
-use Rattle.error_constants.specs.Expressions.{IsConstExpressionFault}
-use Rattle.error_constants.specs.Overrides.{IsOverrideFault}
-use Rattle.error_constants.specs.declared.constants.ConstantError.{ConstantError}
-use Rattle.error_constants.specs.declared.overrides.OverrideError.{OverrideError}
-use Rattle.error_constants.specs.declared.overrides.OverrideError.TheVariants as error
-use Rattle.error_expressions.specs.declared.const_expressions.ConstExpressionError.{ConstExpressionError}
+use Rattle.module_expressions.specs.Constants.{IsConstantFault}
+use Rattle.module_expressions.specs.Expressions.{IsConstExpressionFault}
+use Rattle.module_expressions.specs.Overrides.{IsOverrideFault}
+use Rattle.module_expressions.specs.declared.constants.ConstantError.{ConstantError}
+use Rattle.module_expressions.specs.declared.overrides.OverrideError.{OverrideError}
+use Rattle.module_expressions.specs.declared.overrides.OverrideError.TheVariants as error
+use Rattle.error_functions.specs.declared.const_expressions.ConstExpressionError.{ConstExpressionError}
 use Rattle.ir_faults.specs.Faults.{error_of, spans_of}
 use Rattle.ir_faults.specs.declared.refusal.Refusal.{Refusal}
 use Rattle.ir_faults.specs.declared.refusal.Refusal.TheVariants as refusal
 use Rattle.ir_flags.specs.declared.settings.Capabilities.{Capabilities}
-use Rattle.ir_globals.specs.Plain.{PlainConstant, PlainOverride}
+use Rattle.ir_items.specs.GlobalPlain.{PlainConstant, PlainOverride}
 use Rattle.ir_items.specs.Plain.{PlainModule}
-use Rattle.spec_constants.specs.Constants.{ConstantOK}
-use Rattle.spec_constants.specs.GlobalExpressions.{GlobalExpressionOK}
-use Rattle.spec_constants.specs.Overrides.{IsOverrideType, DefaultOK, OverrideOK}
+use Rattle.spec_expressions.specs.Constants.{ConstantOK}
+use Rattle.spec_expressions.specs.GlobalExpressions.{GlobalExpressionOK}
+use Rattle.spec_expressions.specs.Overrides.{IsOverrideType, DefaultOK, OverrideOK}
 use Rattle.spec_expressions.specs.Typing.{HasGlobalType}
-use Rattle.spec_flags.specs.Flags.{HasFlag, Constructible}
+use Rattle.spec_types.specs.Flags.{HasFlag, Constructible}
 use Rattle.spec_types.specs.View.{type_tree}
 use Rattle.typing_forms.specs.Forms.{form_of_type}
 use Rattle.typing_forms.specs.declared.form.Form.{Form}

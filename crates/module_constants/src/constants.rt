@@ -1,17 +1,17 @@
 //! Constants.
 
 ghost use Rattle.std.specs.Prelude.{◌<◌, length, MatchResult};
-ghost use Rattle.error_constants.specs.Constants.{IsConstantFault, IsFaultOf};
-ghost use Rattle.ir_globals.specs.View.{constant_view};
+ghost use Rattle.module_expressions.specs.Constants.{IsConstantFault, IsFaultOf};
+ghost use Rattle.ir_items.specs.GlobalView.{constant_view};
 ghost use Rattle.module_constants.specs.Firsts.{AreAccepted, IsFirstRefused};
 ghost use Rattle.module_constants.specs.Known.{IsKnown, module_in};
 ghost use Rattle.module_constants.specs.Refusals.{IsFineConstant, IsConstantRefused};
-ghost use Rattle.spec_constants.specs.Constants.{ConstantOK};
+ghost use Rattle.spec_expressions.specs.Constants.{ConstantOK};
 
 use crate::context::{GlobalContext, has_type, is_composed, known_kind};
-use error_constants::ConstantError;
+use module_expressions::ConstantError;
 use ir_arena::handle::Handle;
-use ir_globals::Constant;
+use ir_items::Constant;
 use ir_types::key;
 use thiserror::Error;
 use typing_layout::ExpressionKind;

@@ -1,25 +1,25 @@
 //! Global expressions.
 
 ghost use Rattle.std.specs.Prelude.{◌≡◌, ◌<◌, Some, length, slice_get, MatchResult};
-ghost use Rattle.error_constants.specs.Expressions.{IsComponentsFault, IsConstExpressionFault};
+ghost use Rattle.module_expressions.specs.Expressions.{IsComponentsFault, IsConstExpressionFault};
 ghost use Rattle.ir_expressions.specs.Plain.{compose, expression_view};
 ghost use Rattle.module_constants.specs.Asked.{IsLate, IsUnmet};
 ghost use Rattle.module_constants.specs.Firsts.{AreAccepted, IsFirstRefused};
 ghost use Rattle.module_constants.specs.Known.{IsKnown, module_in};
 ghost use Rattle.module_constants.specs.Refusals.{IsExpressionRefused};
-ghost use Rattle.spec_constants.specs.Compositions.{ComponentsOK};
-ghost use Rattle.spec_constants.specs.GlobalExpressions.{asked_of, IsMet, MayWait, GlobalExpressionOK};
-ghost use Rattle.spec_constants.specs.Literals.{LiteralOK};
+ghost use Rattle.spec_expressions.specs.ConstantCompositions.{ComponentsOK};
+ghost use Rattle.spec_expressions.specs.GlobalExpressions.{asked_of, IsMet, MayWait, GlobalExpressionOK};
+ghost use Rattle.spec_expressions.specs.ConstantLiterals.{LiteralOK};
 ghost use Rattle.spec_expressions.specs.Context.{outside};
-ghost use Rattle.scalar_checks.specs.Widths.{IsLiteralFault};
+ghost use Rattle.type_checks.specs.Widths.{IsLiteralFault};
 
 use crate::context::{GlobalContext, known_kind};
-use error_expressions::{ComposeError, ConstExpressionError};
+use error_functions::{ComposeError, ConstExpressionError};
 use ir_arena::handle::Handle;
 use ir_expressions::Expression;
 use ir_types::key;
 use module_expressions::{Components, check_composition};
-use scalar_checks::validate_literal;
+use type_checks::validate_literal;
 use thiserror::Error;
 use typing_layout::ExpressionKind;
 

@@ -1,11 +1,12 @@
 //! Which global expressions, constants and overrides a module may have, once its types are judged and its global expressions
-//! have types.
+//! have types; overrides one after the other, with the ids of those before each.
 #![tactic(auto)]
 
 mod constants;
 mod context;
 mod expressions;
 mod ids;
+mod listed_overrides;
 mod overrides;
 
 pub use constants::{InvalidConstant, validate_constant, validate_constants};
@@ -14,4 +15,5 @@ pub use expressions::{
     InvalidGlobalExpression, validate_const_expression, validate_const_expressions,
 };
 pub use ids::OverrideIds;
+pub use listed_overrides::{InvalidOverride, validate_overrides};
 pub use overrides::validate_override;

@@ -1,22 +1,22 @@
 //! Overrides, each alone.
 
 ghost use Rattle.std.specs.Prelude.{◌≡◌, ◌<◌, ◌+◌, ◌↔◌, ℕ, IsTrue, Contains, Some, length, IfOk, IfErr, OnOk, MatchResult};
-ghost use Rattle.error_constants.specs.Overrides.{IsFaultOf};
-ghost use Rattle.ir_globals.specs.View.{override_view};
+ghost use Rattle.module_expressions.specs.Overrides.{IsFaultOf};
+ghost use Rattle.ir_items.specs.GlobalView.{override_view};
 ghost use Rattle.module_constants.specs.Ids.{AreIds, IsNotedIf};
 ghost use Rattle.module_constants.specs.Known.{IsKnown, module_in};
 ghost use Rattle.module_constants.specs.Kinds.{integer_scalars, float_scalars};
 ghost use Rattle.module_constants.specs.Refusals.{IsDefaultFault, IsFineBesideId, IsOverrideRefusal};
-ghost use Rattle.spec_constants.specs.Overrides.{override_scalars, IsOverrideType, DefaultOK, OverrideOK};
+ghost use Rattle.spec_expressions.specs.Overrides.{override_scalars, IsOverrideType, DefaultOK, OverrideOK};
 ghost use Rattle.typing_forms.specs.Resolutions.{types_view};
 
 use crate::context::{GlobalContext, has_type, is_composed, known_kind};
 use crate::ids::OverrideIds;
-use error_constants::OverrideError;
+use module_expressions::OverrideError;
 use ir_arena::handle::Handle;
 use ir_faults::refusal::Refusal;
 use ir_faults::with_span::WithSpan;
-use ir_globals::Override;
+use ir_items::Override;
 use ir_kinds::Scalar;
 use ir_types::{IrType, TypeInner, key};
 use ir_unique_arena::unique_arena::UniqueArena;

@@ -1,13 +1,13 @@
 -- Compositions by the forms of their components.
 use Rattle.std.specs.Prelude.{◌≡◌, ◌≢◌, ◌<◌, ◌⊎◌, ℕ, List, Option, Some, None, map, slice_get, unwrap_or}
-use Rattle.error_constants.specs.Compositions.{in_32_bits}
-use Rattle.error_expressions.specs.declared.compose.ComposeError.{ComposeError}
-use Rattle.error_expressions.specs.declared.compose.ComposeError.TheVariants as compose
+use Rattle.module_expressions.specs.Compositions.{in_32_bits}
+use Rattle.error_functions.specs.declared.compose.ComposeError.{ComposeError}
+use Rattle.error_functions.specs.declared.compose.ComposeError.TheVariants as compose
 use Rattle.ir_kinds.specs.declared.scalars.Scalar.{Scalar}
 use Rattle.ir_types.specs.Plain.{PlainMember, PlainType}
 use Rattle.module_expressions.specs.declared.components.Components.{Components}
 use Rattle.module_expressions.specs.declared.components.Components.TheVariants.{Expressions, Types}
-use Rattle.spec_constants.specs.Compositions.{IsOfScalar, scalars_in}
+use Rattle.spec_expressions.specs.ConstantCompositions.{IsOfScalar, scalars_in}
 use Rattle.typing_forms.specs.Forms.{form_of_type}
 use Rattle.typing_forms.specs.Resolutions.{types_view}
 use Rattle.typing_forms.specs.declared.form.Form.{Form}

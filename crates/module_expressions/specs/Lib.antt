@@ -1,1 +1,6 @@
 pub mod Composed
+pub mod Compositions
+pub mod Constants
+pub mod Expressions
+pub mod Laws
+pub mod Overrides

@@ -1,25 +1,25 @@
 //! Values that are composed.
 
 ghost use Rattle.std.specs.Prelude.{◌≡◌, ◌<◌, ◌≤◌, ◌↔◌, ℕ, IsTrue, Some, length, map, slice_get, sum, MatchResult};
-ghost use Rattle.error_constants.specs.Compositions.{in_32_bits, IsComposeFault};
+ghost use Rattle.module_expressions.specs.Compositions.{in_32_bits, IsComposeFault};
 ghost use Rattle.ir_types.specs.Plain.{PlainMember, inner_view, member_view};
-ghost use Rattle.error_expressions.specs.declared.compose.ComposeError.TheVariants as compose;
+ghost use Rattle.error_functions.specs.declared.compose.ComposeError.TheVariants as compose;
 ghost use Rattle.module_expressions.specs.Composed.{AllFit, IsMisfit, IsOtherCount, AreWhole, AreNotWhole, IsForm, IsScalars, IsMember, forms_of};
-ghost use Rattle.spec_constants.specs.Compositions.{scalars_in, Fits, parts_given, ComposeOK};
+ghost use Rattle.spec_expressions.specs.ConstantCompositions.{scalars_in, Fits, parts_given, ComposeOK};
 ghost use Rattle.typing_forms.specs.Forms.{form_of_type};
 ghost use Rattle.typing_forms.specs.Resolutions.{types_view};
 ghost use Rattle.typing_operands.specs.Answers.{form_given};
-ghost use Rattle.typing_rules.specs.Parts.{components_of};
+ghost use Rattle.typing_forms.specs.Parts.{components_of};
 
 use crate::components::{Components, count_of, form_at, scalars_of};
-use error_expressions::ComposeError;
+use error_functions::ComposeError;
 use ir_arena::handle::Handle;
 use ir_kinds::Scalar;
 use ir_types::{IrType, StructMember, TypeInner, key};
 use ir_unique_arena::unique_arena::UniqueArena;
 use typing_forms::laws::form_equality;
 use typing_forms::{Form, TypeResolution, form_of_type, inner_of};
-use typing_rules::TypeInnerExt;
+use typing_forms::TypeInnerExt;
 
 // Whether a value of this form may be the member at a place.
 fn fits_member_at(

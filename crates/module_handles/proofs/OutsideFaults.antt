@@ -2,7 +2,7 @@
 use Rattle.std.proofs.Common.{◌≡◌, inl, inr, ℕ, ◌+◌, ◌<◌, ◌≤◌, List, true, false, if◌then◌else◌, Option, Some, None, option_map, option_and_then, nat_lt, refl, sym, ap, ◌∙◌, subst, slice_get, length, Contains, arith}
 use borrow.Author.Tests.{ltb-true, ltb-false}
 use Rattle.ir_expressions.specs.Plain.{PlainExpression}
-use Rattle.ir_globals.specs.Plain.{PlainConstant, PlainOverride, PlainGlobal}
+use Rattle.ir_items.specs.GlobalPlain.{PlainConstant, PlainOverride, PlainGlobal}
 use Rattle.ir_items.specs.Plain.{PlainEntry, PlainModule}
 use Rattle.ir_references.proofs.FaultLaws.{missing_none, missing_some, then_some, map_none, map_some}
 use Rattle.ir_references.proofs.FirstLaws.{or_some, some_is, below_each, past_one}
@@ -11,7 +11,7 @@ use Rattle.ir_references.specs.declared.fault.HandleFault.{HandleFault}
 use Rattle.ir_references.specs.declared.fault.HandleFault.TheVariants as fault
 use Rattle.ir_types.specs.Plain.{PlainInner, PlainType}
 use Rattle.module_handles.specs.Found.{first_missing, special_missing, leaf_missing, constant_missing, override_missing, variable_missing, entry_missing, pending_missing, built_forward, up_to, looked_through}
-use Rattle.module_lookups.specs.Found.{type_of, init_of, forward, counted_by, counted_forward}
+use Rattle.module_handles.specs.LookupFound.{type_of, init_of, forward, counted_by, counted_forward}
 use Rattle.module_handles.specs.InOrder.{IsFaultIn, NamesForward, IsGlobalExpressionFault}
 use Rattle.spec_handles.specs.Expressions.{expression_item}
 use Rattle.spec_handles.specs.InOrder.{named_at, in_module}

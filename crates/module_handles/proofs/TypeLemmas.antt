@@ -7,7 +7,7 @@ use borrow.Author.Tests.{ltb-false}
 use Rattle.ir_arena.specs.declared.span.Span.{Span}
 use Rattle.ir_expressions.specs.Plain.{PlainExpression, expression_view}
 use Rattle.ir_expressions.specs.declared.expressions.Expression.{Expression}
-use Rattle.ir_globals.specs.View.{values_of}
+use Rattle.ir_items.specs.GlobalView.{values_of}
 use Rattle.ir_items.specs.Plain.{PlainModule}
 use Rattle.ir_references.proofs.FaultLaws.{map_some}
 use Rattle.ir_references.proofs.FirstLaws.{or_none, or_some}
@@ -23,7 +23,7 @@ use Rattle.ir_types.specs.declared.types.TypeInner.TheVariants as inner
 use Rattle.module_handles.proofs.OutsideFaults.{forward_none, pending_fault, built_fault, counted_fault, looked_fault}
 use Rattle.module_handles.proofs.PassLemmas.{below_or_same}
 use Rattle.module_handles.specs.Found.{pending_missing, built_forward, named_forward, looked_through}
-use Rattle.module_lookups.specs.Found.{forward, counted_forward}
+use Rattle.module_handles.specs.LookupFound.{forward, counted_forward}
 use Rattle.module_handles.specs.InOrder.{IsFaultIn, NamesBefore, NamesForward, TypeOK, TypesBelow, TypesOK}
 use Rattle.spec_handles.specs.declared.item.ItemKind.TheVariants as kind
 use Rattle.typing_forms.specs.Order.{named_types}

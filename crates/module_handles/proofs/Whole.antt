@@ -3,7 +3,7 @@ use Rattle.std.proofs.Common.{◌≡◌, ℕ, ◌+◌, ◌<◌, List, Some, opti
 use Rattle.std.proofs.lemmas.List.Elements.{All-contains, All-contains_itself}
 use Rattle.std.proofs.lemmas.Option.{slice_get_within}
 use Rattle.ir_expressions.specs.Plain.{PlainExpression}
-use Rattle.ir_globals.specs.Plain.{PlainConstant, PlainOverride}
+use Rattle.ir_items.specs.GlobalPlain.{PlainConstant, PlainOverride}
 use Rattle.ir_items.specs.Plain.{PlainFunction, PlainEntry, PlainModule}
 use Rattle.ir_references.proofs.FaultLaws.{missing_none, then_none, map_none, map_some}
 use Rattle.ir_references.proofs.FirstLaws.{or_none, below_each}
@@ -13,7 +13,7 @@ use Rattle.ir_walks.specs.Filters.{ParentsPrecede}
 use Rattle.module_handles.proofs.OutsideFaults.{forward_none, each_there, item_there, type_found}
 use Rattle.module_handles.specs.Conditions.{FunctionConditions, ModuleConditions, OrderGivesConditions}
 use Rattle.module_handles.specs.Found.{up_to, looked_through}
-use Rattle.module_lookups.specs.Found.{type_of, init_of, forward, counted_by}
+use Rattle.module_handles.specs.LookupFound.{type_of, init_of, forward, counted_by}
 use Rattle.module_handles.specs.InOrder.{TypesOK, ItemsOK, GlobalExpressionsOK, FunctionsOK, EntriesOK}
 use Rattle.spec_handles.specs.Conditions.{OperandsPrecede}
 use Rattle.spec_handles.specs.Expressions.{expression_operands, expression_item}

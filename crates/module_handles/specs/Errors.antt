@@ -1,7 +1,7 @@
 -- What the errors of handles say.
 use Rattle.std.specs.Prelude.{◌≡◌, ℕ, List, codes}
-use Rattle.error_handles.specs.declared.InvalidHandleError.{InvalidHandleError}
-use Rattle.error_handles.specs.declared.InvalidHandleError.TheVariants as error
+use Rattle.module_handles.specs.declared.error.InvalidHandleError.{InvalidHandleError}
+use Rattle.module_handles.specs.declared.error.InvalidHandleError.TheVariants as error
 use Rattle.ir_items.specs.Plain.{PlainModule}
 use Rattle.spec_handles.specs.InOrder.{IsMissing, IsRangeOut, IsForward}
 use Rattle.spec_handles.specs.declared.item.ItemKind.{ItemKind}

@@ -3,7 +3,7 @@
 use Rattle.std.specs.Prelude.{ℕ, ◌+◌, List, nat_lt, if◌then◌else◌, Option, Some, None, option_map, option_and_then, slice_get}
 use Rattle.std.specs.Option.{option_or}
 use Rattle.ir_expressions.specs.Plain.{PlainExpression}
-use Rattle.ir_globals.specs.Plain.{PlainConstant, PlainOverride, PlainGlobal, PlainSpecial}
+use Rattle.ir_items.specs.GlobalPlain.{PlainConstant, PlainOverride, PlainGlobal, PlainSpecial}
 use Rattle.ir_items.specs.Plain.{PlainEntry, PlainModule}
 use Rattle.ir_references.specs.Faults.{missing, item_missing}
 use Rattle.ir_references.specs.First.{first_past}
@@ -11,7 +11,7 @@ use Rattle.ir_references.specs.declared.bounds.Bounds.{Bounds}
 use Rattle.ir_references.specs.declared.fault.HandleFault.{HandleFault}
 use Rattle.ir_references.specs.declared.fault.HandleFault.TheVariants as fault
 use Rattle.ir_types.specs.Plain.{PlainInner}
-use Rattle.module_lookups.specs.Found.{type_of, init_of, forward, counted_by, counted_forward}
+use Rattle.module_handles.specs.LookupFound.{type_of, init_of, forward, counted_by, counted_forward}
 use Rattle.spec_handles.specs.Expressions.{expression_item}
 use Rattle.spec_handles.specs.Items.{pending_of, special_types, mesh_types, mesh_expressions, entry_variables}
 use Rattle.spec_handles.specs.declared.item.ItemKind.{ItemKind}

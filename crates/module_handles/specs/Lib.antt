@@ -3,3 +3,4 @@ pub mod Found
 pub mod InOrder
 pub mod Errors
 pub mod Conditions
+pub mod LookupFound

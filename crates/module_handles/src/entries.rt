@@ -12,7 +12,7 @@ ghost use Rattle.spec_handles.specs.declared.item.ItemKind.TheVariants as kind;
 use crate::lists::{ItemCheck, fault_of_items, first_missing};
 use ir_items::{EntryPoint, MeshStageInfo, Module};
 use ir_references::{Bounds, HandleFault, forward_operand, missing_in_function};
-use module_lookups::place_of;
+use crate::place_of;
 use spec_handles::ItemKind;
 
 fn mesh_types_missing(mesh: &Option<MeshStageInfo>, there: usize) -> Option<HandleFault>

@@ -10,7 +10,7 @@ ghost use Rattle.module_handles.specs.InOrder.{IsFaultIn, GlobalExpressionsOK};
 use crate::lists::{ItemCheck, fault_of_values};
 use ir_items::{Expression, Module};
 use ir_references::{Bounds, HandleFault, item_of};
-use module_lookups::{forward, init_named};
+use crate::{forward, init_named};
 use spec_handles::ItemKind;
 
 fn named_missing(expression: &Expression, bounds: &Bounds) -> Option<HandleFault>

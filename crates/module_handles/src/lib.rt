@@ -1,15 +1,21 @@
-//! Whether the handles of a module are in order: the first of its checks, after which handles may be followed. It takes no
-//! memory. `spec_handles` says what is asked.
+//! Whether the handles of a module are in order: the first of its checks, after which handles may be followed; what the items
+//! that types and global expressions name are of and begin as; and why handles are refused. The check takes no memory.
+//! `spec_handles` says what is asked.
 #![tactic(auto)]
 
 mod entries;
+mod error;
 mod expressions;
 mod functions;
 mod items;
 pub mod laws;
 mod lists;
+mod lookups;
+mod sizes;
 mod types;
 mod validate;
 
-pub use error_handles::{FwdDepError, InvalidHandleError};
+pub use error::{FwdDepError, InvalidHandleError};
+pub use lookups::{forward, init_named, init_of, place_of, type_named, type_of};
+pub use sizes::{counted_by, counted_forward, pending_of};
 pub use validate::validate_module_handles;

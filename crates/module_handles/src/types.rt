@@ -8,7 +8,7 @@ ghost use Rattle.ir_references.specs.Faults.{outside_functions};
 ghost use Rattle.ir_references.specs.First.{first_past};
 ghost use Rattle.ir_types.specs.Plain.{inner_view, member_view};
 ghost use Rattle.module_handles.specs.Found.{pending_missing, built_forward, named_forward, looked_through};
-ghost use Rattle.module_lookups.specs.Found.{counted_forward};
+ghost use Rattle.module_handles.specs.LookupFound.{counted_forward};
 ghost use Rattle.module_handles.specs.InOrder.{IsFaultIn, NamesBefore, NamesForward, TypesOK};
 ghost use Rattle.typing_forms.specs.Order.{named_types};
 ghost use Rattle.typing_forms.specs.Resolutions.{inner_at};
@@ -16,7 +16,7 @@ ghost use Rattle.typing_forms.specs.Resolutions.{inner_at};
 use ir_arena::handle::Handle;
 use ir_items::{Expression, Module, StructMember, TypeInner, key};
 use ir_references::{Bounds, HandleFault};
-use module_lookups::{counted_by, counted_forward, forward, init_of, pending_of, type_named};
+use crate::{counted_by, counted_forward, forward, init_of, pending_of, type_named};
 use spec_handles::{ItemKind, Target};
 
 // The first of the types of members that does not come before the end.

@@ -15,7 +15,7 @@ use crate::expressions::fault_of_expressions;
 use crate::functions::fault_of_functions;
 use crate::items::fault_of_items;
 use crate::types::fault_of_types;
-use error_handles::{FwdDepError, InvalidHandleError};
+use crate::{FwdDepError, InvalidHandleError};
 use ir_arena::handle::{BadHandle, Kind};
 use ir_arena::range::{BadRangeError, Range};
 use ir_items::{Module, key};

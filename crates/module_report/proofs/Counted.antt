@@ -5,8 +5,8 @@ use Rattle.std.proofs.lemmas.List.Elements.{All-head}
 use Rattle.std.proofs.lemmas.Option.{slice_get-map}
 use Rattle.ir_arena.specs.Arenas.{value_at, value_of_entry}
 use Rattle.ir_arena.specs.declared.span.Span.{Span}
-use Rattle.ir_globals.specs.Plain.{PlainGlobal}
-use Rattle.ir_globals.specs.View.{values_of}
+use Rattle.ir_items.specs.GlobalPlain.{PlainGlobal}
+use Rattle.ir_items.specs.GlobalView.{values_of}
 use Rattle.ir_types.specs.Plain.{PlainInner, plain, PlainType}
 use Rattle.ir_types.specs.declared.types.TypeInner.TheVariants as inner
 use Rattle.spec_globals.specs.Spaces.{array_base, counted}

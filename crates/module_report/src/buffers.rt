@@ -1,7 +1,7 @@
 //! The lines of buffers.
 
 ghost use Rattle.std.specs.Prelude.{◌≡◌, ◌++◌, ◌<◌, OnOk, Some, length, string_bytes};
-ghost use Rattle.ir_globals.specs.View.{global_view};
+ghost use Rattle.ir_items.specs.GlobalView.{global_view};
 ghost use Rattle.ir_items.specs.View.{module_view};
 ghost use Rattle.ir_types.specs.Plain.{inner_view};
 ghost use Rattle.module_report.specs.Told.{AreLaid, IsReported};
@@ -10,7 +10,7 @@ ghost use Rattle.spec_report.specs.Lines.{is_buffer, buffer_of, buffers};
 
 use crate::lines::write_buffer;
 use ir_arena::handle::Handle;
-use ir_globals::GlobalVariable;
+use ir_items::GlobalVariable;
 use ir_items::Module;
 use ir_kinds::AddressSpace;
 use ir_types::{TypeInner, key};

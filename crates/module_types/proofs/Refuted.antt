@@ -12,18 +12,18 @@ use Rattle.ir_types.specs.Plain.{PlainInner, PlainMember, PlainType, struct as w
 use Rattle.ir_types.specs.declared.types.ArraySize.{ArraySize}
 use Rattle.ir_types.specs.declared.types.ArraySize.TheVariants as count
 use Rattle.ir_types.specs.declared.types.TypeInner.TheVariants as inner
-use Rattle.spec_flags.specs.Blends.{BlendOK, HasSource, BlendsOK, LocationOK, IsOnlySource, location_of, source_at}
-use Rattle.spec_flags.specs.Flags.{HasFlag, IoShareable, blend_source}
-use Rattle.spec_flags.specs.Images.{ImageOK, StructureOK, QueryOK}
-use Rattle.spec_flags.specs.Parts.{listed, before, end_of}
-use Rattle.spec_flags.specs.Rules.{ShapeOK, TypeOK, CooperativeOK, PointerOK, IsKnownCount, ArrayOK, BindingArrayOK}
-use Rattle.spec_flags.specs.Structs.{MemberOK, StructOK}
-use Rattle.spec_flags.specs.Widths.{IsKindAllowed}
+use Rattle.spec_types.specs.Blends.{BlendOK, HasSource, BlendsOK, LocationOK, IsOnlySource, location_of, source_at}
+use Rattle.spec_types.specs.Flags.{HasFlag, IoShareable, blend_source}
+use Rattle.spec_types.specs.Images.{ImageOK, StructureOK, QueryOK}
+use Rattle.spec_types.specs.Parts.{listed, before, end_of}
+use Rattle.spec_types.specs.Rules.{ShapeOK, TypeOK, CooperativeOK, PointerOK, IsKnownCount, ArrayOK, BindingArrayOK}
+use Rattle.spec_types.specs.Structs.{MemberOK, StructOK}
+use Rattle.spec_types.specs.Widths.{IsKindAllowed}
 use Rattle.spec_types.specs.View.{members_by, type_tree}
 use Rattle.type_checks.proofs.Known.{tree_of}
 use Rattle.type_checks.proofs.Places.{part_at, many_parts}
-use Rattle.scalar_checks.proofs.Scalars.{lacked, width_refuted, atomic_refuted}
-use Rattle.type_rules.specs.Checked.{IsTypeFault, IsInnerOK}
+use Rattle.type_checks.proofs.Scalars.{lacked, width_refuted, atomic_refuted}
+use Rattle.type_checks.specs.Checked.{IsTypeFault, IsInnerOK}
 use Rattle.type_checks.specs.Known.{types_in, tree_in, IsKnown}
 use Rattle.type_checks.specs.Placed.{part_of}
 use Rattle.type_checks.specs.declared.context.TypeContext.{TypeContext}

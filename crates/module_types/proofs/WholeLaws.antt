@@ -4,14 +4,14 @@ use Rattle.ir_types.specs.Plain.{PlainInner, struct as written_struct, plain, in
 use Rattle.ir_types.specs.declared.types.ArraySize.{ArraySize}
 use Rattle.ir_types.specs.declared.types.TypeInner.{TypeInner}
 use Rattle.ir_types.specs.declared.types.TypeInner.TheVariants as inner
-use Rattle.storage_layouts.proofs.Inside.{somewhere_here}
-use Rattle.type_flags.specs.Kinds.{whole_flags}
-use Rattle.storage_layouts.specs.Layouts.{IsStructOf, IsArrayAt, IsScalarFit, IsScalarUnfit}
-use Rattle.type_flags.specs.Sets.{AreOf}
+use Rattle.module_types.proofs.Inside.{somewhere_here}
+use Rattle.type_checks.specs.Kinds.{whole_flags}
+use Rattle.module_types.specs.Layouts.{IsStructOf, IsArrayAt, IsScalarFit, IsScalarUnfit}
+use Rattle.type_checks.specs.Sets.{AreOf}
 use Rattle.module_types.specs.Whole.{IsWhole}
-use Rattle.spec_flags.specs.Buffers.{IsStorage, IsUniform, uniform_alignment}
-use Rattle.spec_flags.specs.Flags.{HasFlag, HostShareable}
-use Rattle.spec_flags.specs.Immediates.{FitsImmediates, scalar_of}
+use Rattle.spec_types.specs.Buffers.{IsStorage, IsUniform, uniform_alignment}
+use Rattle.spec_types.specs.Flags.{HasFlag, HostShareable}
+use Rattle.spec_types.specs.Immediates.{FitsImmediates, scalar_of}
 use Rattle.spec_types.specs.Layout.{alignment}
 use Rattle.spec_types.specs.Tree.{Tree, scalar, vector, matrix, cooperative_matrix, atomic, pointer, value_pointer, array, struct, image, sampler, acceleration_structure, ray_query, binding_array}
 use Rattle.spec_types.specs.View.{tree_by, members_by}

@@ -2,9 +2,9 @@
 
 ghost use Rattle.std.specs.Prelude.{◌≡◌, ◌<◌, ◌≤◌, ℕ, Some, All, length, map, MatchResult};
 ghost use Rattle.ir_types.specs.Plain.{inner_view, member_view};
-ghost use Rattle.storage_layouts.specs.Layouts.{IsStructOf};
+ghost use Rattle.module_types.specs.Layouts.{IsStructOf};
 ghost use Rattle.module_types.specs.Whole.{IsWhole};
-ghost use Rattle.spec_flags.specs.Buffers.{IsStorage, IsUniform, uniform_alignment};
+ghost use Rattle.spec_types.specs.Buffers.{IsStorage, IsUniform, uniform_alignment};
 ghost use Rattle.spec_types.specs.Layout.{alignment};
 ghost use Rattle.spec_types.specs.Tree.{array};
 ghost use Rattle.spec_types.specs.View.{tree_by};
@@ -19,9 +19,9 @@ use crate::uniform::{uniform_of_array, uniform_of_struct};
 use bitflags::Flags;
 use ir_arena::handle::Handle;
 use ir_types::{ArraySize, StructMember, TypeInner, key};
-use storage_layouts::{storage_of_array, storage_of_struct};
+use crate::{storage_of_array, storage_of_struct};
 use type_checks::{TypeContext, facts_of, type_at};
-use type_flags::{flags_of_array, flags_of_struct, whole_flags};
+use type_checks::{flags_of_array, flags_of_struct, whole_flags};
 use type_infos::{Disalignment, LayoutCompatibility, TypeFlags, TypeInfo};
 use typing_layout::Alignment;
 

@@ -1,17 +1,20 @@
-//! What is told of a module's types: what they may be used for, and whether a host can lay them out.
+//! What is told of a module's types: what they may be used for, and whether a host can lay them out, in uniform and in storage
+//! buffers.
 #![tactic(auto)]
 
 mod immediates;
 mod info;
+mod storage;
 mod uniform;
 mod validate;
 
 pub use info::info_of;
-pub use scalar_checks::{check_literal_value, check_width, validate_literal};
-pub use type_checks::TypeContext;
+pub use storage::{Broken, storage_of_array, storage_of_struct};
+pub use type_checks::{
+    TypeContext, check_literal_value, check_type, check_width, validate_literal,
+};
 pub use type_infos::{
     Disalignment, ImmediateError, LayoutCompatibility, LiteralError, TypeError, TypeFlags,
     TypeInfo, VaryingError, WidthError,
 };
-pub use type_rules::check_type;
 pub use validate::{InvalidType, TypeSettings, validate_type, validate_types};

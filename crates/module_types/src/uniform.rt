@@ -2,9 +2,9 @@
 
 ghost use Rattle.std.specs.Prelude.{◌≡◌, ◌<◌, All, length, map, MatchResult};
 ghost use Rattle.ir_types.specs.Plain.{member_view};
-ghost use Rattle.storage_layouts.specs.Layouts.{IsArrayAt, IsStructAt, IsStructOf, IsUniformAlignment, UniformPart, free_before};
-ghost use Rattle.spec_flags.specs.Buffers.{IsUniform, uniform_alignment};
-ghost use Rattle.spec_flags.specs.Parts.{before};
+ghost use Rattle.module_types.specs.Layouts.{IsArrayAt, IsStructAt, IsStructOf, IsUniformAlignment, UniformPart, free_before};
+ghost use Rattle.spec_types.specs.Buffers.{IsUniform, uniform_alignment};
+ghost use Rattle.spec_types.specs.Parts.{before};
 ghost use Rattle.spec_types.specs.Layout.{alignment};
 ghost use Rattle.type_checks.specs.Known.{IsKnown, tree_in, types_in};
 ghost use Rattle.type_checks.specs.Placed.{parts_in, AtPlace, IsPlaced};
@@ -14,7 +14,7 @@ ghost use Rattle.type_infos.specs.Infos.{AreFlags};
 use bitflags::Flags;
 use ir_arena::handle::Handle;
 use ir_types::{StructMember, key};
-use storage_layouts::Broken;
+use crate::Broken;
 use type_checks::{Facts, Placed, TypeContext, at_least_sixteen, member_at, member_before};
 use type_infos::{Disalignment, LayoutCompatibility, TypeFlags};
 use typing_layout::Alignment;

@@ -18,7 +18,7 @@ use std::alloc::Global;
 use thiserror::Error;
 use type_checks::TypeContext;
 use type_infos::{TypeError, TypeInfo};
-use type_rules::check_type;
+use type_checks::check_type;
 use typing_layout::Layouter;
 
 /// A type that is refused (naga's `ValidationError::Type`).

@@ -2,7 +2,7 @@
 use Rattle.check_operands.specs.View.{scene_in}
 use Rattle.check_operands.specs.declared.context.CheckContext.{CheckContext}
 use Rattle.ir_flags.specs.declared.settings.Capabilities.{Capabilities}
-use Rattle.spec_checks.specs.Scene.{Scene}
+use Rattle.spec_statements.specs.Scene.{Scene}
 
 -- what a context holds, where shaders may use this
 abbrev pub scene_by : Capabilities → CheckContext → Scene

@@ -9,14 +9,14 @@ ghost use Rattle.module_constants.specs.Known.{IsKnown as IsKnownOfValues, modul
 ghost use Rattle.module_constants.specs.Refusals.{IsExpressionRefused};
 ghost use Rattle.module_types.specs.Validated.{IsAccepted, IsRefusedFor};
 ghost use Rattle.module_validator.specs.Seen.{scene_by};
-ghost use Rattle.spec_checks.specs.Expressions.{ExpressionOK};
-ghost use Rattle.spec_checks.specs.Stages.{IsRunBy};
-ghost use Rattle.spec_constants.specs.GlobalExpressions.{GlobalExpressionOK};
+ghost use Rattle.spec_statements.specs.Expressions.{ExpressionOK};
+ghost use Rattle.spec_statements.specs.ExpressionStages.{IsRunBy};
+ghost use Rattle.spec_expressions.specs.GlobalExpressions.{GlobalExpressionOK};
 ghost use Rattle.type_checks.specs.Known.{IsKnown as IsKnownOfTypes, types_in};
 
 use crate::validator::ModuleValidator;
 use check_operands::CheckContext;
-use error_expressions::{ConstExpressionError, ExpressionError};
+use error_functions::{ConstExpressionError, ExpressionError};
 use expression_validator::validate_expression;
 use ir_arena::handle::Handle;
 use ir_flags::ShaderStages;

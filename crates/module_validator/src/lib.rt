@@ -1,12 +1,20 @@
-//! The checks of a module up to its overrides: its handles, its types, its global expressions, constants and overrides.
+//! The checks of a module up to its global variables: its handles, its types, its global expressions, constants, overrides
+//! and variables, each step by itself, and why a module is refused.
 #![tactic(auto)]
 
+mod error;
+mod globals;
 mod items;
+mod steps;
 mod validator;
+mod values;
 
-pub use module_constants::{InvalidConstant, InvalidGlobalExpression};
+pub use error::ModuleError;
+pub use global_checks::GlobalVariableError;
+pub use globals::{InvalidGlobalVariable, validate_globals};
+pub use module_constants::{InvalidConstant, InvalidGlobalExpression, InvalidOverride};
 pub use module_info::ModuleInfo;
-pub use module_overrides::InvalidOverride;
-pub use module_steps::ModuleError;
 pub use module_types::InvalidType;
+pub use steps::{check_handles, expression_types, lay_out, type_infos};
 pub use validator::ModuleValidator;
+pub use values::check_values;

@@ -2,20 +2,20 @@
 
 ghost use Rattle.std.specs.Prelude.{◌≡◌, [], MatchResult, IfOk, IfErr, OnOk, false, true};
 ghost use Rattle.ir_items.specs.View.{module_view};
-ghost use Rattle.module_steps.specs.Faults.{IsRefusal};
+ghost use Rattle.module_validator.specs.Faults.{IsRefusal};
 ghost use Rattle.module_validator.specs.Told.{IsInfoOf, settings_of};
-ghost use Rattle.spec_flags.specs.Widths.{ScalarOK};
-ghost use Rattle.spec_constants.specs.Literals.{LiteralOK};
+ghost use Rattle.spec_types.specs.Widths.{ScalarOK};
+ghost use Rattle.spec_expressions.specs.ConstantLiterals.{LiteralOK};
 ghost use Rattle.spec_modules.specs.Steps.{ModuleOK};
 ghost use Rattle.type_infos.specs.Faults.{IsWidthFault};
-ghost use Rattle.scalar_checks.specs.Widths.{IsLiteralFault};
+ghost use Rattle.type_checks.specs.Widths.{IsLiteralFault};
 
 use ir_faults::refusal::Refusal;
 use ir_flags::{Capabilities, ValidationFlags};
 use ir_items::Module;
 use ir_kinds::{Literal, Scalar};
 use module_info::ModuleInfo;
-use module_steps::{
+use crate::{
     ModuleError, check_handles, check_values, expression_types, lay_out, type_infos,
 };
 use module_types::{LiteralError, WidthError, check_width, validate_literal};

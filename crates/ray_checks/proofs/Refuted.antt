@@ -13,7 +13,7 @@ use Rattle.ray_checks.specs.Payloads.{IsPayloadsFault}
 use Rattle.spec_statements.specs.Payloads.{HasPayload, PayloadsOK}
 use Rattle.ray_checks.specs.RayPipelines.{IsPayloadFault, IsRayFault, IsTraceFault, IsRayPipelineFault}
 use Rattle.ray_checks.specs.RayQueries.{IsStartFault, IsDistanceFault, IsStepFault, IsVariableFault, IsRayQueryFault}
-use Rattle.spec_checks.specs.RayQueries.{query_of}
+use Rattle.spec_statements.specs.ExpressionRayQueries.{query_of}
 use Rattle.spec_statements.specs.BlockContext.{BlockContext, form_at}
 use Rattle.spec_statements.specs.RayPipelines.{TraceOK, RayPipelineOK}
 use Rattle.spec_statements.specs.RayQueries.{structure_of, local_type_at, StepOK, RayQueryOK}

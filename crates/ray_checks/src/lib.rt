@@ -1,5 +1,5 @@
 //! Whether statements meet the rules of their kinds that follow rays: ray queries, and rays that a pipeline traces, with the types
-//! of their payloads. The others stand in `statement_checks`, `switch_checks`, `atomic_checks` and `subgroup_checks`.
+//! of their payloads. The others stand in `statement_checks`, `statement_validator`, `atomic_checks` and `subgroup_checks`.
 #![tactic(auto)]
 
 pub mod laws;

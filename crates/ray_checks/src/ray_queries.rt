@@ -4,8 +4,8 @@ ghost use Rattle.std.specs.Prelude.{◌≡◌, ◌↔◌, IsTrue, MatchResult, o
 ghost use Rattle.ir_blocks.specs.declared.operations.RayQueryFunction.TheVariants.{Initialize};
 ghost use Rattle.ir_expressions.specs.Plain.{expression_view};
 ghost use Rattle.ray_checks.specs.RayQueries.{IsStartFault, IsStepFault, IsRayQueryFault};
-ghost use Rattle.spec_checks.specs.RayQueries.{query_of};
-ghost use Rattle.spec_checks.specs.Shapes.{IsMadeOf, IsAlone, IsFloating};
+ghost use Rattle.spec_statements.specs.ExpressionRayQueries.{query_of};
+ghost use Rattle.spec_statements.specs.Shapes.{IsMadeOf, IsAlone, IsFloating};
 ghost use Rattle.spec_statements.specs.RayQueries.{local_of, local_type_at, GivesVertices, StepOK, RayQueryOK};
 ghost use Rattle.statement_checks.specs.View.{context_view};
 ghost use Rattle.typing_forms.specs.Resolutions.{inner_at};

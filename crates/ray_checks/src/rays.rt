@@ -36,7 +36,7 @@ pub(crate) const fn structure_of(of: Form) -> Option<bool>
 }
 
 // Whether two types are made of the same.
-#[tactic(auto, using(type_rules::proofs::SameInner::inner_equality))]
+#[tactic(auto, using(type_checks::proofs::SameInner::inner_equality))]
 fn are_made_same(left: &TypeInner, right: &TypeInner) -> bool
     ensures { IsTrue result ↔ (inner_view left.now ≡ inner_view right.now) }
 {

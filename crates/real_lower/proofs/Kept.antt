@@ -18,11 +18,11 @@ use Rattle.module_conditions.proofs.Types.{order_gives_types}
 use Rattle.real_lower.specs.Made.{types_of}
 use Rattle.real_lower.specs.Readings.{reading_of, faults_of}
 use Rattle.spec_analysis.specs.Summaries.{Summary}
-use Rattle.spec_checks.specs.Stages.{all_stages}
+use Rattle.spec_statements.specs.ExpressionStages.{all_stages}
 use Rattle.spec_expressions.specs.Typing.{HasType}
 use Rattle.spec_handles.specs.Conditions.{HandlesInRange}
 use Rattle.spec_handles.specs.InOrder.{HandlesOK}
-use Rattle.typing_analysis.specs.Infos.{AreExpressionInfos}
+use Rattle.typing_functions.specs.Infos.{AreExpressionInfos}
 use Rattle.typing_forms.specs.Forms.{NoStructValue, form_of}
 use Rattle.typing_forms.specs.Resolutions.{PlainResolution, by_handle, by_value, resolution_view}
 use Rattle.typing_forms.specs.declared.resolution.TypeResolution.{TypeResolution}

@@ -1,15 +1,15 @@
 -- The laws of a lower layer, of the typing and the checks of this repository.
 use Rattle.std.proofs.Common.{◌≡◌, ℕ, List, Some, sym, ap, ◌∙◌}
-use Rattle.error_expressions.specs.declared.expressions.ExpressionError.{ExpressionError}
+use Rattle.error_functions.specs.declared.expressions.ExpressionError.{ExpressionError}
 use Rattle.expression_validator.proofs.Refuted.{expression_refuted}
 use Rattle.expression_validator.specs.Faults.{IsExpressionFault}
 use Rattle.function_lower.specs.Question.{Question}
 use Rattle.ir_expressions.specs.Plain.{PlainExpression}
 use Rattle.ir_flags.specs.declared.settings.Capabilities.{Capabilities}
 use Rattle.ir_flags.specs.declared.stages.ShaderStages.{ShaderStages}
-use Rattle.spec_checks.specs.Expressions.{ExpressionOK}
-use Rattle.spec_checks.specs.Scene.{scene_of}
-use Rattle.spec_checks.specs.Stages.{IsRunBy, stages_of}
+use Rattle.spec_statements.specs.Expressions.{ExpressionOK}
+use Rattle.spec_statements.specs.Scene.{scene_of}
+use Rattle.spec_statements.specs.ExpressionStages.{IsRunBy, stages_of}
 use Rattle.spec_expressions.proofs.TypingLaws.{one_type}
 use Rattle.spec_expressions.specs.Context.{inside}
 use Rattle.spec_expressions.specs.Typing.{HasType}

@@ -1,3 +1,5 @@
 pub mod Readings
 pub mod Made
 pub mod Laws
+pub mod Settings
+pub mod Refusals

@@ -4,9 +4,9 @@ use Rattle.error_functions.specs.declared.error.FunctionError.{FunctionError}
 use Rattle.expression_validator.specs.Faults.{IsExpressionFault}
 use Rattle.function_lower.specs.Analysis.{Faults}
 use Rattle.function_lower.specs.Question.{Question}
-use Rattle.spec_checks.specs.Expressions.{ExpressionOK}
-use Rattle.spec_checks.specs.Scene.{scene_of}
-use Rattle.spec_checks.specs.Stages.{IsRunBy}
+use Rattle.spec_statements.specs.Expressions.{ExpressionOK}
+use Rattle.spec_statements.specs.Scene.{scene_of}
+use Rattle.spec_statements.specs.ExpressionStages.{IsRunBy}
 use Rattle.spec_expressions.specs.Typing.{HasType}
 use Rattle.spec_statements.specs.Functions.{Reading}
 use Rattle.typing_functions.specs.Processed.{IsAnalysisFault}

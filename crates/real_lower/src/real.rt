@@ -6,7 +6,7 @@ use crate::stages::stages_by;
 use analysis_forms::{GlobalUse, SamplingPair};
 use analysis_info::FunctionInfo;
 use check_operands::CheckContext;
-use error_expressions::ExpressionError;
+use error_functions::ExpressionError;
 use error_functions::FunctionError;
 use expression_validator::validate_expression;
 use function_lower::Lower;

@@ -1,12 +1,12 @@
 //! The stages that may run an expression, where those of functions are noted.
 
 ghost use Rattle.std.specs.Prelude.{◌≡◌, [], map};
-ghost use Rattle.function_stages.specs.Callees.{noted};
+ghost use Rattle.interface_checks.specs.Callees.{noted};
 ghost use Rattle.ir_expressions.specs.Plain.{expression_view};
-ghost use Rattle.spec_checks.specs.Stages.{stages_of};
+ghost use Rattle.spec_statements.specs.ExpressionStages.{stages_of};
 
 use analysis_info::FunctionInfo;
-use function_stages::{CalleeStages, NotedStages};
+use interface_checks::{CalleeStages, NotedStages};
 use ir_expressions::Expression;
 use ir_flags::ShaderStages;
 

@@ -3,10 +3,10 @@ use Rattle.std.proofs.Common.{◌≡◌, ℕ, inl, inr, Bool, true, false, List,
 use Rattle.std.proofs.lemmas.List.Elements.{All-nil, All-contains, All-cons}
 use Rattle.error_functions.specs.declared.error.FunctionError.{FunctionError}
 use Rattle.error_functions.specs.declared.error.FunctionError.TheVariants as error
-use Rattle.error_statements.specs.declared.atomics.AtomicError.{AtomicError}
-use Rattle.error_statements.specs.declared.atomics.AtomicError.TheVariants as atomic_error
-use Rattle.error_statements.specs.declared.calls.CallError.{CallError}
-use Rattle.error_statements.specs.declared.calls.CallError.TheVariants as call_error
+use Rattle.error_functions.specs.declared.atomics.AtomicError.{AtomicError}
+use Rattle.error_functions.specs.declared.atomics.AtomicError.TheVariants as atomic_error
+use Rattle.error_functions.specs.declared.calls.CallError.{CallError}
+use Rattle.error_functions.specs.declared.calls.CallError.TheVariants as call_error
 use Rattle.ir_blocks.specs.Places.{Place, Spot, nothing, statement, loop_condition, spot_at}
 use Rattle.ir_blocks.specs.Plain.{PlainStatement, emit, block, if_, switch, loop, break, continue, return, kill, operation, call}
 use Rattle.ir_flags.specs.Sets.{Has}

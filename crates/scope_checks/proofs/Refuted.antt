@@ -2,10 +2,10 @@
 use Rattle.std.proofs.Common.{◌≡◌, ℕ, List, ◌⊎◌, inl, inr, Option, Some, None, Contains, slice_get, option_to_list, refl, sym, ap, ◌∙◌, subst}
 use Rattle.error_functions.specs.declared.error.FunctionError.{FunctionError}
 use Rattle.error_functions.specs.declared.error.FunctionError.TheVariants as error
-use Rattle.error_statements.specs.declared.atomics.AtomicError.{AtomicError}
-use Rattle.error_statements.specs.declared.atomics.AtomicError.TheVariants as atomic_error
-use Rattle.error_statements.specs.declared.calls.CallError.{CallError}
-use Rattle.error_statements.specs.declared.calls.CallError.TheVariants as call_error
+use Rattle.error_functions.specs.declared.atomics.AtomicError.{AtomicError}
+use Rattle.error_functions.specs.declared.atomics.AtomicError.TheVariants as atomic_error
+use Rattle.error_functions.specs.declared.calls.CallError.{CallError}
+use Rattle.error_functions.specs.declared.calls.CallError.TheVariants as call_error
 use Rattle.ir_blocks.specs.Places.{Place, StandsAt, spot_at}
 use Rattle.ir_blocks.specs.Plain.{call}
 use Rattle.ir_flags.specs.Sets.{Has}

@@ -4,7 +4,7 @@ use Rattle.std.proofs.lemmas.Bool.{or_right}
 use Rattle.std.proofs.lemmas.List.{append-nil, append_assoc}
 use Rattle.std.proofs.lemmas.List.Elements.{All-nil, All-cons, All-contains, Contains-append_left, Contains-append_right, Contains-append_cases}
 use Rattle.std.specs.List.{range_with_len}
-use Rattle.error_expressions.specs.declared.expressions.ExpressionError.TheVariants.{NotInScope}
+use Rattle.error_functions.specs.declared.expressions.ExpressionError.TheVariants.{NotInScope}
 use Rattle.error_functions.specs.declared.error.FunctionError.{FunctionError}
 use Rattle.error_functions.specs.declared.error.FunctionError.TheVariants.{Expression}
 use Rattle.ir_arena.specs.Handles.{handles_between}

@@ -3,13 +3,13 @@
 use Rattle.std.specs.Prelude.{◌≡◌, ◌⊎◌, ℕ, ◌+◌, Bool, true, false, ◌||◌, if◌then◌else◌, nat_eq, List, [], ◌∷◌, ◌++◌, All, Option, Some, None, Contains, slice_get}
 use Rattle.scope_checks.specs.declared.error.ScopeError.{ScopeError}
 use Rattle.scope_checks.specs.declared.error.ScopeError.TheVariants as scope_error
-use Rattle.error_expressions.specs.declared.expressions.ExpressionError.TheVariants.{NotInScope}
+use Rattle.error_functions.specs.declared.expressions.ExpressionError.TheVariants.{NotInScope}
 use Rattle.error_functions.specs.declared.error.FunctionError.{FunctionError}
 use Rattle.error_functions.specs.declared.error.FunctionError.TheVariants as error
-use Rattle.error_statements.specs.declared.atomics.AtomicError.{AtomicError}
-use Rattle.error_statements.specs.declared.atomics.AtomicError.TheVariants as atomic_error
-use Rattle.error_statements.specs.declared.calls.CallError.{CallError}
-use Rattle.error_statements.specs.declared.calls.CallError.TheVariants as call_error
+use Rattle.error_functions.specs.declared.atomics.AtomicError.{AtomicError}
+use Rattle.error_functions.specs.declared.atomics.AtomicError.TheVariants as atomic_error
+use Rattle.error_functions.specs.declared.calls.CallError.{CallError}
+use Rattle.error_functions.specs.declared.calls.CallError.TheVariants as call_error
 use Rattle.ir_blocks.specs.Places.{Spot, nothing, statement, loop_condition}
 use Rattle.ir_blocks.specs.Plain.{PlainStatement, emit, block, if_, switch, loop, break, continue, return, kill, operation, call, PlainBlock, stop, next, PlainCases, no_case, case}
 use Rattle.ir_expressions.specs.Plain.{PlainExpression}

@@ -1,12 +1,12 @@
 -- What is wrong with the scope of a function's body, by places.
 use Rattle.std.specs.Prelude.{◌≡◌, ◌⊎◌, ℕ, List, Option, Some, None, slice_get}
-use Rattle.error_expressions.specs.declared.expressions.ExpressionError.TheVariants.{NotInScope}
+use Rattle.error_functions.specs.declared.expressions.ExpressionError.TheVariants.{NotInScope}
 use Rattle.error_functions.specs.declared.error.FunctionError.{FunctionError}
 use Rattle.error_functions.specs.declared.error.FunctionError.TheVariants as error
-use Rattle.error_statements.specs.declared.atomics.AtomicError.{AtomicError}
-use Rattle.error_statements.specs.declared.atomics.AtomicError.TheVariants as atomic_error
-use Rattle.error_statements.specs.declared.calls.CallError.{CallError}
-use Rattle.error_statements.specs.declared.calls.CallError.TheVariants as call_error
+use Rattle.error_functions.specs.declared.atomics.AtomicError.{AtomicError}
+use Rattle.error_functions.specs.declared.atomics.AtomicError.TheVariants as atomic_error
+use Rattle.error_functions.specs.declared.calls.CallError.{CallError}
+use Rattle.error_functions.specs.declared.calls.CallError.TheVariants as call_error
 use Rattle.ir_blocks.specs.Places.{Place, StandsAt, spot_at}
 use Rattle.ir_blocks.specs.Plain.{call}
 use Rattle.ir_faults.specs.Faults.{error_of}

@@ -13,7 +13,7 @@ use crate::error::ScopeError;
 use crate::list::ExpressionList;
 use crate::operands::is_known;
 use error_functions::FunctionError;
-use error_statements::CallError;
+use error_functions::CallError;
 use ir_arena::handle::Handle;
 use ir_arena::range::Range;
 use ir_items::{Function, Statement, key};

@@ -1,13 +1,13 @@
 //! Why a walk over a body stops, and the errors of operands.
 
 ghost use Rattle.std.specs.Prelude.{◌≡◌};
-ghost use Rattle.error_expressions.specs.declared.expressions.ExpressionError.TheVariants.{NotInScope};
+ghost use Rattle.error_functions.specs.declared.expressions.ExpressionError.TheVariants.{NotInScope};
 ghost use Rattle.error_functions.specs.declared.error.FunctionError.TheVariants as error;
-ghost use Rattle.error_statements.specs.declared.calls.CallError.TheVariants as call_error;
+ghost use Rattle.error_functions.specs.declared.calls.CallError.TheVariants as call_error;
 
-use error_expressions::ExpressionError;
+use error_functions::ExpressionError;
 use error_functions::FunctionError;
-use error_statements::CallError;
+use error_functions::CallError;
 use ir_arena::handle::Handle;
 use ir_types::key;
 use std::alloc::AllocError;

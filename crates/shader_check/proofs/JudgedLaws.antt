@@ -8,8 +8,8 @@ use Rattle.ir_items.specs.Plain.{PlainModule}
 use Rattle.judgement.specs.Steps.{IsFinding, IsPrepared}
 use Rattle.judgement.specs.declared.finding.Finding.{Finding}
 use Rattle.judgement.specs.declared.finding.Finding.TheVariants.{Accepted, RefusedDocument, RefusedHandles, Refused}
-use Rattle.module_steps.specs.declared.error.ModuleError.{ModuleError}
-use Rattle.module_steps.specs.declared.error.ModuleError.TheVariants as error
+use Rattle.module_validator.specs.declared.error.ModuleError.{ModuleError}
+use Rattle.module_validator.specs.declared.error.ModuleError.TheVariants as error
 use Rattle.shader_check.proofs.ModuleLaws.{found_of}
 use Rattle.shader_check.specs.Examined.{finding_in, refused_by, IsExamined, IsExaminedDocument, IsKeptIn, IsToldIn}
 use Rattle.shader_check.specs.Judgements.{IsJudgementOf, IsJudgementOn}

@@ -3,7 +3,7 @@ use Rattle.std.proofs.Common.{◌≡◌, ◌∙◌, ℕ, [], Some, length, slice
 use Rattle.ir_flags.specs.Settings.{PlainSettings}
 use Rattle.ir_items.specs.Plain.{PlainEntry, PlainModule}
 use Rattle.judgement.specs.Steps.{module_settings, function_settings}
-use Rattle.module_functions.specs.Refusals.{IsKeptWith}
+use Rattle.real_lower.specs.Refusals.{IsKeptWith}
 use Rattle.module_handles.proofs.Whole.{conditions}
 use Rattle.module_info.specs.declared.info.ModuleInfo.{ModuleInfo}
 use Rattle.module_report.specs.Told.{IsReported}

@@ -1,14 +1,14 @@
 -- What a module is refused for is what the judgement finds of it.
 use Rattle.std.proofs.Common.{inl, inr, ℕ}
-use Rattle.error_expressions.specs.declared.const_expressions.ConstExpressionError.{ConstExpressionError}
-use Rattle.error_expressions.specs.declared.const_expressions.ConstExpressionError.TheVariants as constant
+use Rattle.error_functions.specs.declared.const_expressions.ConstExpressionError.{ConstExpressionError}
+use Rattle.error_functions.specs.declared.const_expressions.ConstExpressionError.TheVariants as constant
 use Rattle.ir_flags.specs.Settings.{PlainSettings}
 use Rattle.ir_items.specs.Plain.{PlainModule}
 use Rattle.judgement.specs.Steps.{module_settings, IsFinding}
 use Rattle.judgement.specs.declared.finding.Finding.TheVariants.{Refused}
-use Rattle.module_steps.specs.Faults.{IsExpressionRefused, IsModuleFault}
-use Rattle.module_steps.specs.declared.error.ModuleError.{ModuleError}
-use Rattle.module_steps.specs.declared.error.ModuleError.TheVariants as error
+use Rattle.module_validator.specs.Faults.{IsExpressionRefused, IsModuleFault}
+use Rattle.module_validator.specs.declared.error.ModuleError.{ModuleError}
+use Rattle.module_validator.specs.declared.error.ModuleError.TheVariants as error
 use Rattle.shader_check.specs.Examined.{step_of, refused_by, finding_in, IsExamined}
 use Rattle.shader_check.specs.declared.examined.Examined.{Examined}
 use Rattle.shader_check.specs.declared.examined.Examined.TheVariants as examined

@@ -1,7 +1,7 @@
 -- What is found of a document, with the error where its module is refused.
 use Rattle.std.specs.Prelude.{◌≡◌, ℕ, List, []}
-use Rattle.error_expressions.specs.declared.const_expressions.ConstExpressionError.{ConstExpressionError}
-use Rattle.error_expressions.specs.declared.const_expressions.ConstExpressionError.TheVariants as constant
+use Rattle.error_functions.specs.declared.const_expressions.ConstExpressionError.{ConstExpressionError}
+use Rattle.error_functions.specs.declared.const_expressions.ConstExpressionError.TheVariants as constant
 use Rattle.document_reader.specs.Plain.{PlainDocument}
 use Rattle.ir_flags.specs.Settings.{PlainSettings}
 use Rattle.ir_items.specs.Plain.{PlainModule}
@@ -10,13 +10,13 @@ use Rattle.judgement.specs.declared.finding.Step.{Step}
 use Rattle.judgement.specs.declared.finding.Step.TheVariants.{Layout, «Type», Typing, Expression, Constant, Override, Global, Function}
 use Rattle.judgement.specs.declared.finding.Finding.{Finding}
 use Rattle.judgement.specs.declared.finding.Finding.TheVariants.{Accepted, RefusedDocument, RefusedHandles, Refused}
-use Rattle.module_functions.specs.Refusals.{IsFunctionFault}
-use Rattle.module_globals.specs.Refusals.{IsVariableFault}
+use Rattle.real_lower.specs.Refusals.{IsFunctionFault}
+use Rattle.module_validator.specs.Refusals.{IsVariableFault}
 use Rattle.module_info.specs.declared.info.ModuleInfo.{ModuleInfo}
 use Rattle.module_report.specs.Told.{IsReported}
-use Rattle.module_steps.specs.Faults.{IsModuleFault}
-use Rattle.module_steps.specs.declared.error.ModuleError.{ModuleError}
-use Rattle.module_steps.specs.declared.error.ModuleError.TheVariants as error
+use Rattle.module_validator.specs.Faults.{IsModuleFault}
+use Rattle.module_validator.specs.declared.error.ModuleError.{ModuleError}
+use Rattle.module_validator.specs.declared.error.ModuleError.TheVariants as error
 use Rattle.shader_check.specs.Scope.{IsWithin}
 use Rattle.shader_check.specs.declared.examined.Examined.{Examined}
 use Rattle.shader_check.specs.declared.examined.Examined.TheVariants as examined

@@ -2,10 +2,10 @@
 ghost use Rattle.std.specs.Prelude.{◌≡◌};
 ghost use Rattle.shader_check.specs.Examined.{step_of, refused_by, finding_in};
 
-use error_expressions::ConstExpressionError;
+use error_functions::ConstExpressionError;
 use judgement::{Finding, Step};
-use module_functions::InvalidFunction;
-use module_globals::InvalidGlobalVariable;
+use real_lower::InvalidFunction;
+use module_validator::InvalidGlobalVariable;
 use module_info::ModuleInfo;
 use module_validator::ModuleError;
 

@@ -1,5 +1,5 @@
 //! The typing of a shader's expressions from one place: the types that expressions are given as and their canonical
-//! forms of `typing_forms`, what types are built of and which of them are equivalent of `typing_rules` and
+//! forms of `typing_forms`, which says too what types are built of and which of them are equivalent, with
 //! `typing_compare`, layouts of types and kinds of expressions of `typing_layout`, the rules of math functions of
 //! `overload_tables`, sets of scalars and of shapes of `constructor_sets`, overload sets of `typing_overloads`, what rules
 //! give in a module of `typing_conclusions`, the types of expressions of `typing_resolve`, which are those that
@@ -17,9 +17,9 @@ pub use analysis_forms::{
 };
 pub use analysis_info::FunctionInfo;
 pub use constructor_sets::{ConstructorSet, Members, OneBitsIter, ScalarSet};
-pub use error_expressions::{ComposeError, ExpressionError};
+pub use error_functions::{ComposeError, ExpressionError};
 pub use error_functions::FunctionError;
-pub use error_statements::{
+pub use error_functions::{
     AtomicError, CallError, LocalVariableError, SubgroupError, UniformityDisruptor,
 };
 pub use overload_tables::{Arguments, Conclusion, ConstructorSize, Pattern, Rule, ValueType};
@@ -44,7 +44,7 @@ pub use typing_layout::{
 pub use typing_operands::{ResolveError, ResolveRefusal};
 pub use typing_overloads::{AnyOverloadSet, List, MathFunctionExt, OverloadSet, Regular};
 pub use typing_resolve::ResolveContext;
-pub use typing_rules::{
+pub use typing_forms::{
     IndexableLength, IndexableLengthError, MAX_TYPE_SIZE, ResolveArraySizeError, TypeInnerExt,
     compare_types, types_go_back,
 };

@@ -1,7 +1,7 @@
 -- How severe it is where a rule of diagnostic filters counts in a function.
 use Rattle.std.specs.Prelude.{◌≡◌, ◌⊎◌, ℕ, List, [], ◌∷◌, Option, Some, None, slice_get}
 use Rattle.std.specs.Option.{option_and_then}
-use Rattle.ir_globals.specs.Plain.{PlainNode, standard}
+use Rattle.ir_items.specs.GlobalPlain.{PlainNode, standard}
 use Rattle.ir_items.specs.Plain.{PlainFunction, PlainModule}
 use Rattle.ir_kinds.specs.declared.diagnostics.Severity.{Severity}
 use Rattle.ir_kinds.specs.declared.diagnostics.Severity.TheVariants.{Error}

@@ -1,1 +1,3 @@
 pub mod TypingLaws
+pub mod Capable
+pub mod Resolved

@@ -4,7 +4,7 @@ use Rattle.ir_expressions.specs.Plain.{PlainExpression}
 use Rattle.typing_forms.specs.declared.form.Form.{Form}
 use Rattle.typing_forms.specs.Forms.{form_of}
 use Rattle.typing_forms.specs.Resolutions.{PlainResolution}
-use Rattle.typing_rules.specs.Equivalence.{AreEquivalent}
+use Rattle.typing_forms.specs.Equivalence.{AreEquivalent}
 use Rattle.overload_tables.specs.Laws.{IsAmong}
 use Rattle.spec_expressions.specs.Context.{Context}
 use Rattle.spec_expressions.specs.Laws.{IsFaulty}

@@ -4,7 +4,7 @@ use Rattle.ir_types.specs.Plain.{PlainType}
 use Rattle.ir_expressions.specs.Plain.{PlainExpression, compose, plain}
 use Rattle.ir_expressions.specs.declared.expressions.Expression.{Expression}
 use Rattle.ir_expressions.specs.declared.expressions.Expression.TheVariants as x
-use Rattle.ir_globals.specs.Plain.{PlainConstant, PlainOverride, PlainGlobal, PlainSpecial}
+use Rattle.ir_items.specs.GlobalPlain.{PlainConstant, PlainOverride, PlainGlobal, PlainSpecial}
 use Rattle.ir_items.specs.Plain.{PlainArgument, PlainLocal, PlainFunction, PlainModule}
 use Rattle.typing_forms.specs.declared.form.Form.{Form}
 use Rattle.typing_forms.specs.declared.form.Form.TheVariants as form

@@ -7,7 +7,7 @@ use Rattle.ir_types.specs.Plain.{PlainType}
 use Rattle.typing_forms.specs.declared.form.Form.{Form}
 use Rattle.typing_forms.specs.declared.form.Form.TheVariants as form
 use Rattle.typing_forms.specs.Resolutions.{inner_at}
-use Rattle.typing_rules.specs.Parts.{scalar_of}
+use Rattle.typing_forms.specs.Parts.{scalar_of}
 use Rattle.spec_expressions.specs.declared.faults.TypingFault.{TypingFault}
 use Rattle.spec_expressions.specs.declared.faults.TypingFault.TheVariants.{InvalidPointer}
 

@@ -16,3 +16,9 @@ pub mod Results
 pub mod Selections
 pub mod Subgroups
 pub mod Typing
+pub mod ConstantCompositions
+pub mod Constants
+pub mod GlobalExpressions
+pub mod ConstantLaws
+pub mod ConstantLiterals
+pub mod Overrides

@@ -7,7 +7,7 @@ use Rattle.ir_kinds.specs.declared.scalars.VectorSize.{VectorSize}
 use Rattle.ir_kinds.specs.Scalars.{unsigned}
 use Rattle.ir_types.specs.Plain.{PlainInner, plain, PlainType}
 use Rattle.ir_types.specs.declared.types.TypeInner.TheVariants as inner
-use Rattle.ir_globals.specs.Plain.{PlainGlobal}
+use Rattle.ir_items.specs.GlobalPlain.{PlainGlobal}
 use Rattle.typing_forms.specs.declared.form.Form.{Form}
 use Rattle.typing_forms.specs.declared.form.Form.TheVariants as form
 use Rattle.typing_forms.specs.Forms.{form_of_type}

@@ -1,6 +1,9 @@
-//! What the expressions of a shader are: the definitions of their types, a file a family, and the laws of typing.
+//! What the expressions of a shader are: the definitions of their types, a file a family, and the laws of typing ([`laws`]);
+//! which global expressions, constants and overrides a module may have, and which values make a composed one
+//! ([`constant_laws`]).
 #![tactic(auto)]
 
+pub mod constant_laws;
 mod faults;
 pub mod laws;
 

@@ -1,9 +1,9 @@
 -- When the functions of a module are accepted.
 use Rattle.std.specs.Prelude.{◌≡◌, ◌<◌, ℕ, [], Option, Some, length, slice_get}
 use Rattle.ir_items.specs.Plain.{PlainFunction, PlainModule}
-use Rattle.spec_checks.specs.Expressions.{ExpressionOK}
-use Rattle.spec_checks.specs.Scene.{scene_of}
-use Rattle.spec_checks.specs.Stages.{IsRunBy}
+use Rattle.spec_statements.specs.Expressions.{ExpressionOK}
+use Rattle.spec_statements.specs.Scene.{scene_of}
+use Rattle.spec_statements.specs.ExpressionStages.{IsRunBy}
 use Rattle.spec_expressions.specs.Typing.{HasType}
 use Rattle.spec_functions.specs.Analysis.{IsAnalysed}
 use Rattle.spec_functions.specs.Held.{IsHeldBefore}

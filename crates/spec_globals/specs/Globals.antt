@@ -7,11 +7,11 @@ use Rattle.ir_flags.specs.declared.settings.Capabilities.{Capabilities}
 use Rattle.ir_flags.specs.declared.settings.TheConstants.Capabilities.{MEMORY_DECORATION_COHERENT, MEMORY_DECORATION_VOLATILE}
 use Rattle.ir_flags.specs.declared.settings.ValidationFlags.{ValidationFlags}
 use Rattle.ir_flags.specs.declared.settings.TheConstants.ValidationFlags.{BINDINGS}
-use Rattle.ir_globals.specs.Plain.{PlainGlobal}
+use Rattle.ir_items.specs.GlobalPlain.{PlainGlobal}
 use Rattle.ir_items.specs.Plain.{PlainModule}
 use Rattle.ir_kinds.specs.declared.spaces.AddressSpace.{AddressSpace}
 use Rattle.ir_kinds.specs.declared.spaces.AddressSpace.TheVariants.{Private}
-use Rattle.spec_constants.specs.Overrides.{IsKnownByOverrides}
+use Rattle.spec_expressions.specs.Overrides.{IsKnownByOverrides}
 use Rattle.spec_expressions.specs.Typing.{HasGlobalType}
 use Rattle.spec_globals.specs.Spaces.{counted, ArraysOK, required, HasAll, space_capability, LiesIn, is_resource, is_storage}
 use Rattle.spec_types.specs.View.{type_tree}

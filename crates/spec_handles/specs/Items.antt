@@ -1,7 +1,7 @@
 -- What the items of a module name beside expressions and the parts of functions, a row a kind.
 use Rattle.std.specs.Prelude.{ℕ, List, [], ◌∷◌, ◌++◌, map, Option, Some, None}
 use Rattle.std.specs.Option.{option_to_list}
-use Rattle.ir_globals.specs.Plain.{PlainSpecial}
+use Rattle.ir_items.specs.GlobalPlain.{PlainSpecial}
 use Rattle.ir_items.specs.Plain.{PlainEntry}
 use Rattle.ir_items.specs.declared.entries.MeshStageInfo.{MeshStageInfo}
 use Rattle.ir_kinds.specs.declared.predeclared.PredeclaredType.{PredeclaredType}

@@ -4,11 +4,11 @@ use Rattle.ir_flags.specs.Sets.{Has}
 use Rattle.ir_flags.specs.declared.settings.TheConstants.ValidationFlags.{CONSTANTS}
 use Rattle.ir_flags.specs.declared.settings.ValidationFlags.{ValidationFlags}
 use Rattle.ir_items.specs.Plain.{PlainModule}
-use Rattle.spec_constants.proofs.Capable.{more_capabilities as expressions_more}
-use Rattle.spec_constants.specs.GlobalExpressions.{GlobalExpressionOK}
-use Rattle.spec_constants.specs.Overrides.{OverrideOK}
-use Rattle.spec_flags.proofs.Capable.{more_capabilities as types_more}
-use Rattle.spec_flags.specs.Rules.{TypeOK}
+use Rattle.spec_expressions.proofs.Capable.{more_capabilities as expressions_more}
+use Rattle.spec_expressions.specs.GlobalExpressions.{GlobalExpressionOK}
+use Rattle.spec_expressions.specs.Overrides.{OverrideOK}
+use Rattle.spec_types.proofs.Capable.{more_capabilities as types_more}
+use Rattle.spec_types.specs.Rules.{TypeOK}
 use Rattle.spec_modules.specs.Laws.{MayUseMore, MoreCapabilities}
 use Rattle.spec_modules.specs.declared.settings.ModuleSettings.{ModuleSettings}
 use Rattle.spec_modules.specs.Steps.{ModuleStep, layout, type, typing, expression, constant, override, StepOK}

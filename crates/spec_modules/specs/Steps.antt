@@ -3,11 +3,11 @@ use Rattle.std.specs.Prelude.{ℕ, ◌<◌, length}
 use Rattle.ir_flags.specs.Sets.{Has}
 use Rattle.ir_flags.specs.declared.settings.TheConstants.ValidationFlags.{CONSTANTS}
 use Rattle.ir_items.specs.Plain.{PlainModule}
-use Rattle.spec_constants.specs.Constants.{ConstantOK}
-use Rattle.spec_constants.specs.GlobalExpressions.{GlobalExpressionOK}
-use Rattle.spec_constants.specs.Overrides.{OverrideOK}
+use Rattle.spec_expressions.specs.Constants.{ConstantOK}
+use Rattle.spec_expressions.specs.GlobalExpressions.{GlobalExpressionOK}
+use Rattle.spec_expressions.specs.Overrides.{OverrideOK}
 use Rattle.spec_expressions.specs.Typing.{HasGlobalType}
-use Rattle.spec_flags.specs.Rules.{TypeOK}
+use Rattle.spec_types.specs.Rules.{TypeOK}
 use Rattle.spec_handles.specs.InOrder.{HandlesOK}
 use Rattle.spec_modules.specs.declared.settings.ModuleSettings.{ModuleSettings}
 use Rattle.spec_types.specs.Layout.{LayoutOK}

@@ -1,2 +1,4 @@
 pub mod ScopeLaws
 pub mod AnswerLaws
+pub mod Capable
+pub mod Forms

@@ -17,8 +17,8 @@ use Rattle.typing_forms.specs.Forms.{form_of_type}
 use Rattle.typing_forms.specs.Resolutions.{inner_at}
 use Rattle.typing_forms.specs.declared.form.Form.{Form}
 use Rattle.typing_forms.specs.declared.form.Form.TheVariants as form
-use Rattle.spec_checks.specs.Results.{IsExchangeOf}
-use Rattle.spec_checks.specs.Shapes.{pointed_in}
+use Rattle.spec_statements.specs.ExpressionResults.{IsExchangeOf}
+use Rattle.spec_statements.specs.Shapes.{pointed_in}
 use Rattle.spec_handles.specs.Statements.{compared}
 use Rattle.spec_statements.specs.BlockContext.{BlockContext, form_at}
 use Rattle.spec_statements.specs.StorageImages.{IsExtremum}

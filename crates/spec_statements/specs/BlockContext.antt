@@ -4,7 +4,7 @@ use Rattle.ir_flags.specs.declared.settings.Capabilities.{Capabilities}
 use Rattle.ir_flags.specs.declared.stages.SubgroupOperationSet.{SubgroupOperationSet}
 use Rattle.ir_items.specs.Plain.{PlainFunction, PlainModule}
 use Rattle.typing_forms.specs.declared.form.Form.{Form}
-use Rattle.spec_checks.specs.Scene as scene
+use Rattle.spec_statements.specs.Scene as scene
 
 -- The capabilities and the operations of subgroups that may be used, the module, the function whose body it is, and the forms
 -- of the types of all its expressions.

@@ -1,6 +1,6 @@
 -- Conditions.
 use Rattle.typing_forms.specs.declared.form.Form.{Form}
-use Rattle.spec_checks.specs.Shapes.{IsMadeOf, IsAlone, IsTruth}
+use Rattle.spec_statements.specs.Shapes.{IsMadeOf, IsAlone, IsTruth}
 
 -- a truth value alone
 abbrev pub ConditionOK : (condition : Form) → Type 0

@@ -10,8 +10,8 @@ use Rattle.typing_forms.specs.Forms.{form_of_type}
 use Rattle.typing_forms.specs.Resolutions.{inner_at}
 use Rattle.typing_forms.specs.declared.form.Form.{Form}
 use Rattle.typing_forms.specs.declared.form.Form.TheVariants as form
-use Rattle.spec_checks.specs.RayQueries.{query_of}
-use Rattle.spec_checks.specs.Shapes.{IsMadeOf, IsAlone, IsFloating}
+use Rattle.spec_statements.specs.ExpressionRayQueries.{query_of}
+use Rattle.spec_statements.specs.Shapes.{IsMadeOf, IsAlone, IsFloating}
 use Rattle.spec_statements.specs.BlockContext.{BlockContext, form_at}
 
 -- ---- what rays are traced in

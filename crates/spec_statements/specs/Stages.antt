@@ -3,7 +3,7 @@ use Rattle.std.specs.Prelude.{List}
 use Rattle.ir_blocks.specs.Plain.{PlainOperation, control_barrier, memory_barrier, store, image_store, atomic, image_atomic, uniform_load, ray_query, ballot, collective, gather, cooperative_store, ray_pipeline, PlainStatement, emit, block, if_, switch, loop, break, continue, return, kill, operation, call}
 use Rattle.ir_flags.specs.declared.stages.ShaderStages.{ShaderStages}
 use Rattle.ir_flags.specs.declared.stages.TheConstants.ShaderStages.{FRAGMENT, COMPUTE, COMPUTE_LIKE}
-use Rattle.spec_checks.specs.Stages.{all_stages, callee_stages}
+use Rattle.spec_statements.specs.ExpressionStages.{all_stages, callee_stages}
 
 -- `subgroups` are the stages that have operations of subgroups
 abbrev pub operation_stages : (subgroups : ShaderStages) → PlainOperation → ShaderStages

@@ -19,9 +19,9 @@ use Rattle.ir_items.specs.Plain.{PlainFunction, PlainModule}
 use Rattle.typing_forms.specs.Forms.{form_of_type}
 use Rattle.typing_forms.specs.declared.form.Form.{Form}
 use Rattle.typing_forms.specs.declared.form.Form.TheVariants as form
-use Rattle.spec_checks.specs.ImageLoads.{IsTexel}
-use Rattle.spec_checks.specs.Shapes.{ExactlyIf, IsIntegerScalar, picture_of}
-use Rattle.spec_checks.specs.declared.shapes.Picture.{Picture}
+use Rattle.spec_statements.specs.ImageLoads.{IsTexel}
+use Rattle.spec_statements.specs.Shapes.{ExactlyIf, IsIntegerScalar, picture_of}
+use Rattle.spec_statements.specs.declared.shapes.Picture.{Picture}
 use Rattle.spec_statements.specs.BlockContext.{BlockContext, form_at}
 use Rattle.spec_statements.specs.Variables.{variable_at, accessed_at}
 

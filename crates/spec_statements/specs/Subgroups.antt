@@ -20,8 +20,8 @@ use Rattle.typing_forms.specs.Forms.{form_of_type}
 use Rattle.typing_forms.specs.declared.form.Form.TheVariants as form
 use Rattle.typing_layout.specs.Constness.{IsOfKind}
 use Rattle.typing_layout.specs.declared.constness.ExpressionKind.TheVariants.{Const}
-use Rattle.spec_checks.specs.Shapes.{IsAlone, IsInteger, IsOfValue, IsTruth, IsMadeOf, shaped_of}
-use Rattle.spec_checks.specs.declared.shapes.Shape.{Shape}
+use Rattle.spec_statements.specs.Shapes.{IsAlone, IsInteger, IsOfValue, IsTruth, IsMadeOf, shaped_of}
+use Rattle.spec_statements.specs.declared.shapes.Shape.{Shape}
 use Rattle.spec_handles.specs.Statements.{gather_index}
 use Rattle.spec_statements.specs.BlockContext.{BlockContext, form_at}
 

@@ -7,7 +7,7 @@ use Rattle.ir_kinds.specs.declared.scalars.ScalarKind.TheVariants.{Sint, Uint}
 use Rattle.ir_kinds.specs.declared.values.SwitchValue.{SwitchValue}
 use Rattle.ir_kinds.specs.declared.values.SwitchValue.TheVariants.{I32, U32, Default}
 use Rattle.typing_forms.specs.declared.form.Form.{Form}
-use Rattle.spec_checks.specs.Shapes.{IsInteger, shaped_of}
+use Rattle.spec_statements.specs.Shapes.{IsInteger, shaped_of}
 
 abbrev pub case_values : PlainCases → List SwitchValue
 case_values no_case = []

@@ -1,6 +1,6 @@
 -- The global variables that expressions are.
 use Rattle.std.specs.Prelude.{ℕ, Option, option_and_then, slice_get}
-use Rattle.ir_globals.specs.Plain.{PlainGlobal}
+use Rattle.ir_items.specs.GlobalPlain.{PlainGlobal}
 use Rattle.ir_items.specs.Plain.{PlainFunction, PlainModule}
 use Rattle.ir_walks.specs.Bases.{base_of, global_of}
 

@@ -1,8 +1,16 @@
-//! What is asked of the statements of a function whose expressions have types: a rule for each kind, what is in scope where,
-//! and which stages may run it; and what is asked of a function as a whole, over any lower layer that types its expressions.
+//! What is asked of the expressions of a function whose types are known, and which stages may run them; what is asked of its
+//! statements: a rule for each kind, what is in scope where, and which stages may run it; and what is asked of a function as a
+//! whole, over any lower layer that types its expressions.
 //!
-//! The definitions stand in `specs/`, a file for each rule; `specs/Statements.antt` has one row for each kind. The functions here
-//! do nothing: their contracts are what is known of the definitions.
+//! The definitions stand in `specs/`, a file for each rule and each family of expressions. `specs/Statements.antt` has one row
+//! for each kind of statement, `specs/Checks.antt` one for each kind of expression that is no composition, which
+//! `specs/Expressions.antt` joins. The functions here do nothing: their contracts are what is known of the definitions
+//! ([`laws`], [`expression_laws`]), and what they say of small expressions ([`worked`]).
 #![tactic(auto)]
 
+pub mod expression_laws;
 pub mod laws;
+mod shapes;
+pub mod worked;
+
+pub use shapes::{Picture, Sampling, Shape, Shaped};

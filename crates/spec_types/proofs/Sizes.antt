@@ -6,7 +6,7 @@ use Rattle.std.proofs.lemmas.Nat.Gcd.{mod-eq-zero_of_dvd}
 use Rattle.std.proofs.Math.Nat.{dvd-mul_left, mul-le-mul_left}
 use Rattle.ir_types.specs.Plain.{struct, plain}
 use Rattle.ir_types.specs.declared.types.TypeInner.TheVariants as inner
-use Rattle.typing_rules.specs.Sizes.{rounded_up}
+use Rattle.typing_forms.specs.Sizes.{rounded_up}
 use Rattle.spec_types.specs.Layout.{IsLeastMultiple, RoundedIsLeast, SizeOfTree}
 
 -- ---- rounding up

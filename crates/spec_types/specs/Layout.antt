@@ -3,8 +3,8 @@ use Rattle.std.specs.Prelude.{◌≡◌, ◌≤◌, ◌<◌, ◌*◌, ℕ, Optio
 use Rattle.std.specs.Int.{IsPowerOfTwo, ◌∣◌}
 use Rattle.ir_kinds.specs.Scalars.{component_count}
 use Rattle.ir_types.specs.Plain.{PlainInner}
-use Rattle.typing_rules.specs.Sizes.{rounded_up, vector_alignment, column_size, cooperative_count, counted, type_size}
-use Rattle.typing_rules.specs.declared.sizes.TheConstants.{MAX_TYPE_SIZE}
+use Rattle.typing_forms.specs.Sizes.{rounded_up, vector_alignment, column_size, cooperative_count, counted, type_size}
+use Rattle.typing_forms.specs.declared.sizes.TheConstants.{MAX_TYPE_SIZE}
 use Rattle.spec_types.specs.Tree.{Tree, scalar, vector, matrix, cooperative_matrix, atomic, pointer, value_pointer, array, struct, image, sampler, acceleration_structure, ray_query, binding_array, Members, no_members, member}
 use Rattle.spec_types.specs.View.{tree_by}
 

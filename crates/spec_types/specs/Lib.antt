@@ -1,3 +1,13 @@
 pub mod Layout
 pub mod Tree
 pub mod View
+pub mod Blends
+pub mod Buffers
+pub mod Flags
+pub mod Images
+pub mod Immediates
+pub mod Laws
+pub mod Parts
+pub mod Rules
+pub mod Structs
+pub mod Widths

@@ -3,9 +3,9 @@ use Rattle.std.proofs.Common.{◌≡◌, ℕ, List, [], ◌∷◌, Option, Some,
 use Rattle.std.proofs.lemmas.List.Elements.{All-head, All-tail}
 use Rattle.error_functions.specs.declared.error.FunctionError.{FunctionError}
 use Rattle.error_functions.specs.declared.error.FunctionError.TheVariants as error
-use Rattle.error_statements.specs.declared.calls.CallError.{CallError}
-use Rattle.error_statements.specs.declared.calls.CallError.TheVariants.{ArgumentType, ExpressionMismatch}
-use Rattle.error_statements.specs.declared.subgroups.SubgroupError.TheVariants.{UnsupportedOperation}
+use Rattle.error_functions.specs.declared.calls.CallError.{CallError}
+use Rattle.error_functions.specs.declared.calls.CallError.TheVariants.{ArgumentType, ExpressionMismatch}
+use Rattle.error_functions.specs.declared.subgroups.SubgroupError.TheVariants.{UnsupportedOperation}
 use Rattle.ir_expressions.specs.Plain.{PlainExpression}
 use Rattle.ir_expressions.specs.declared.expressions.CooperativeData.{CooperativeData}
 use Rattle.ir_arena.specs.Handles.{handles_between}

@@ -2,8 +2,8 @@
 use Rattle.std.specs.Prelude.{◌≡◌, bit_or}
 use Rattle.error_functions.specs.declared.error.FunctionError.{FunctionError}
 use Rattle.error_functions.specs.declared.error.FunctionError.TheVariants as error
-use Rattle.error_statements.specs.declared.subgroups.SubgroupError.{SubgroupError}
-use Rattle.error_statements.specs.declared.subgroups.SubgroupError.TheVariants.{UnsupportedOperation}
+use Rattle.error_functions.specs.declared.subgroups.SubgroupError.{SubgroupError}
+use Rattle.error_functions.specs.declared.subgroups.SubgroupError.TheVariants.{UnsupportedOperation}
 use Rattle.ir_flags.specs.Sets.{Has}
 use Rattle.ir_flags.specs.declared.memory.Barrier.{Barrier}
 use Rattle.ir_flags.specs.declared.memory.TheConstants.Barrier.{SUB_GROUP}

@@ -2,8 +2,8 @@
 use Rattle.std.specs.Prelude.{◌≡◌, ℕ, ◌<◌, List, Option, Some, slice_get}
 use Rattle.error_functions.specs.declared.error.FunctionError.{FunctionError}
 use Rattle.error_functions.specs.declared.error.FunctionError.TheVariants as error
-use Rattle.error_statements.specs.declared.calls.CallError.{CallError}
-use Rattle.error_statements.specs.declared.calls.CallError.TheVariants.{ArgumentType, ExpressionMismatch}
+use Rattle.error_functions.specs.declared.calls.CallError.{CallError}
+use Rattle.error_functions.specs.declared.calls.CallError.TheVariants.{ArgumentType, ExpressionMismatch}
 use Rattle.ir_items.specs.Plain.{PlainArgument, PlainFunction}
 use Rattle.spec_statements.specs.BlockContext.{BlockContext, form_at}
 use Rattle.spec_statements.specs.Calls.{CallResultOK}

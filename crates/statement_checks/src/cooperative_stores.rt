@@ -7,7 +7,7 @@ ghost use Rattle.spec_statements.specs.CooperativeStores.{CooperativeStoreOK, ma
 ghost use Rattle.statement_checks.specs.CooperativeStores.{IsCooperativeFault};
 ghost use Rattle.statement_checks.specs.View.{context_view};
 ghost use Rattle.typing_forms.specs.Resolutions.{inner_at};
-ghost use Rattle.typing_rules.specs.Parts.{scalar_of};
+ghost use Rattle.typing_forms.specs.Parts.{scalar_of};
 
 use crate::context::BlockContext;
 use crate::pointers::is_writable;

@@ -3,7 +3,7 @@
 ghost use Rattle.std.specs.Prelude.{◌≡◌, option_map, slice_get};
 ghost use Rattle.std.specs.Option.{option_or};
 ghost use Rattle.ir_expressions.specs.Plain.{expression_view};
-ghost use Rattle.ir_globals.specs.View.{global_view};
+ghost use Rattle.ir_items.specs.GlobalView.{global_view};
 ghost use Rattle.ir_walks.specs.Bases.{global_of};
 ghost use Rattle.spec_statements.specs.Variables.{variable_at, accessed_at};
 ghost use Rattle.statement_checks.specs.View.{context_view};
@@ -12,7 +12,7 @@ use crate::context::BlockContext;
 use crate::pointers::base_at;
 use ir_arena::handle::Handle;
 use ir_expressions::Expression;
-use ir_globals::GlobalVariable;
+use ir_items::GlobalVariable;
 use ir_types::key;
 
 // The global variable that an expression is.

@@ -1,2 +1,5 @@
 mod Places
 pub mod Refuted
+pub mod Lists
+pub mod CaseLemmas
+pub mod SwitchRefuted

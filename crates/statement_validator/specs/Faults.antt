@@ -22,7 +22,7 @@ use Rattle.statement_checks.specs.Stores.{IsStoreFault}
 use Rattle.statement_validator.specs.declared.error.StatementError.{StatementError}
 use Rattle.statement_validator.specs.declared.error.StatementError.TheVariants.{Memory, Fault}
 use Rattle.subgroup_checks.specs.Subgroups.{IsBallotFault, IsCollectiveFault, IsGatherFault}
-use Rattle.switch_checks.specs.Switches.{IsSwitchFault}
+use Rattle.statement_validator.specs.Switches.{IsSwitchFault}
 
 abbrev pub IsOperationFault : BlockContext → PlainOperation → FunctionError → Type 0
 IsOperationFault c (control_barrier barrier) e = IsBarrierFault c barrier e

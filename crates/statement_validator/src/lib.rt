@@ -1,10 +1,16 @@
-//! Whether each statement of a body, at any depth, meets its rule.
+//! Whether each statement of a body, at any depth, meets its rule, and switches among them. The rules of other kinds stand in
+//! `statement_checks`, `subgroup_checks`, `ray_checks` and `atomic_checks`.
 #![tactic(auto)]
 
 mod body;
+mod cases;
 mod error;
 pub mod laws;
 mod statement;
+pub mod switch_laws;
+mod switches;
 mod walk;
 
 pub use body::validate_statements;
+pub use cases::cases_fault;
+pub use switches::check_switch;

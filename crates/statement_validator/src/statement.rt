@@ -14,7 +14,7 @@ ghost use Rattle.statement_checks.specs.Conditions.{IsConditionFault};
 ghost use Rattle.statement_checks.specs.View.{context_view, IsKnown};
 ghost use Rattle.statement_validator.specs.Bodies.{Meets};
 ghost use Rattle.statement_validator.specs.Faults.{IfFault, IsStatementFault};
-ghost use Rattle.switch_checks.specs.Switches.{IsSwitchFault};
+ghost use Rattle.statement_validator.specs.Switches.{IsSwitchFault};
 
 use crate::error::StatementError;
 use atomic_checks::{check_atomic, check_image_atomic, check_image_store, check_uniform_load};
@@ -30,7 +30,7 @@ use statement_checks::{
 };
 use std::alloc::Global;
 use subgroup_checks::{check_ballot, check_collective, check_gather};
-use switch_checks::check_switch;
+use crate::check_switch;
 
 // A switch.
 fn check_cases(

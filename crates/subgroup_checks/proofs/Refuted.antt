@@ -2,8 +2,8 @@
 use Rattle.std.proofs.Common.{◌≡◌, ℕ, Option, Some, None, IfSome, inl, inr, subst}
 use Rattle.error_functions.specs.declared.error.FunctionError.{FunctionError}
 use Rattle.error_functions.specs.declared.error.FunctionError.TheVariants as error
-use Rattle.error_statements.specs.declared.subgroups.SubgroupError.{SubgroupError}
-use Rattle.error_statements.specs.declared.subgroups.SubgroupError.TheVariants as fault
+use Rattle.error_functions.specs.declared.subgroups.SubgroupError.{SubgroupError}
+use Rattle.error_functions.specs.declared.subgroups.SubgroupError.TheVariants as fault
 use Rattle.ir_blocks.specs.declared.operations.GatherMode.{GatherMode}
 use Rattle.ir_flags.specs.declared.stages.SubgroupOperationSet.{SubgroupOperationSet}
 use Rattle.ir_flags.specs.declared.stages.TheConstants.SubgroupOperationSet.{BALLOT}

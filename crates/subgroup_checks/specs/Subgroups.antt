@@ -2,8 +2,8 @@
 use Rattle.std.specs.Prelude.{◌≡◌, ◌⊎◌, ℕ, Option, Some, IsSomeAnd}
 use Rattle.error_functions.specs.declared.error.FunctionError.{FunctionError}
 use Rattle.error_functions.specs.declared.error.FunctionError.TheVariants as error
-use Rattle.error_statements.specs.declared.subgroups.SubgroupError.{SubgroupError}
-use Rattle.error_statements.specs.declared.subgroups.SubgroupError.TheVariants as fault
+use Rattle.error_functions.specs.declared.subgroups.SubgroupError.{SubgroupError}
+use Rattle.error_functions.specs.declared.subgroups.SubgroupError.TheVariants as fault
 use Rattle.ir_blocks.specs.declared.operations.GatherMode.{GatherMode}
 use Rattle.ir_flags.specs.Sets.{Has}
 use Rattle.ir_flags.specs.declared.settings.TheConstants.Capabilities.{SUBGROUP}
@@ -12,7 +12,7 @@ use Rattle.ir_flags.specs.declared.stages.TheConstants.SubgroupOperationSet.{BAL
 use Rattle.ir_kinds.specs.Scalars.{boolean, unsigned}
 use Rattle.ir_kinds.specs.declared.subgroups.CollectiveOperation.{CollectiveOperation}
 use Rattle.ir_kinds.specs.declared.subgroups.SubgroupOperation.{SubgroupOperation}
-use Rattle.spec_checks.specs.Shapes.{IsOfValue, IsMadeOf, shaped_of}
+use Rattle.spec_statements.specs.Shapes.{IsOfValue, IsMadeOf, shaped_of}
 use Rattle.spec_handles.specs.Statements.{gather_index}
 use Rattle.spec_statements.specs.BlockContext.{BlockContext, form_at}
 use Rattle.spec_statements.specs.Subgroups.{collective_needs, gather_needs, AnswersAs, IsNumber, TakesShape, GoesOver, IndexIsKnown}

@@ -1,5 +1,5 @@
 //! Whether statements meet the rules of their kinds that operate on subgroups: ballots, collective operations and gathers. The
-//! others stand in `statement_checks`, `switch_checks`, `atomic_checks` and `ray_checks`.
+//! others stand in `statement_checks`, `statement_validator`, `atomic_checks` and `ray_checks`.
 #![tactic(auto)]
 
 pub mod laws;

@@ -3,7 +3,7 @@ ghost use Rattle.std.specs.Prelude.{IsTrue};
 ghost use Rattle.ir_types.specs.Plain.{inner_view};
 ghost use Rattle.typing_forms.specs.Forms.{NoStructValue};
 ghost use Rattle.typing_forms.specs.Resolutions.{resolution_view};
-ghost use Rattle.typing_rules.specs.Canonical.{NotBothStructs};
+ghost use Rattle.typing_forms.specs.Canonical.{NotBothStructs};
 
 use ir_kinds::Scalar;
 use ir_types::{IrType, TypeInner, key};

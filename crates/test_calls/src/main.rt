@@ -29,7 +29,7 @@ use subject::Subject;
 use test_support::call::text;
 use test_support::lines::{Answers, answer_lines};
 use type_calls::TypeCalls;
-use typing_rules::laws::{
+use typing_forms::rule_laws::{
     canonical_once, compare_reflexive, compare_symmetric, compare_transitive,
 };
 

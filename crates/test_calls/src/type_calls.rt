@@ -8,7 +8,7 @@ use serde_json::Value;
 use std::alloc::{AllocError, Global};
 use test_support::call::{handle, list, text, told};
 use test_support::forms::found;
-use typing_rules::types_go_back;
+use typing_forms::types_go_back;
 
 /// The module of whose types is asked.
 #[derive(Drop)]

@@ -15,7 +15,7 @@ use module_types::{TypeInfo, TypeSettings, validate_types};
 use std::alloc::{AllocError, Global};
 use tiny_lower::TinyLower;
 use typing_layout::Layouter;
-use typing_rules::types_go_back;
+use typing_forms::types_go_back;
 
 // What is told of these types, where a module may have them. The error is out of memory.
 fn infos_of(

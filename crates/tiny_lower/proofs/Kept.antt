@@ -10,7 +10,7 @@ use Rattle.ir_items.specs.Plain.{PlainFunction, PlainModule}
 use Rattle.ir_references.specs.First.{first_in}
 use Rattle.spec_analysis.proofs.SummaryLaws.{joined_by_callees}
 use Rattle.spec_analysis.specs.Summaries.{Summary, AgreeOnCallees}
-use Rattle.spec_checks.specs.Stages.{all_stages}
+use Rattle.spec_statements.specs.ExpressionStages.{all_stages}
 use Rattle.tiny_lower.proofs.Joined.{joined_of}
 use Rattle.tiny_lower.proofs.Typed.{none_untyped, many_told, has_form}
 use Rattle.tiny_lower.specs.Ends.{summary_of, ends_in}

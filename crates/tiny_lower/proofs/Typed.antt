@@ -5,7 +5,7 @@ use Rattle.ir_arena.specs.Arenas.{value_at}
 use Rattle.ir_arena.specs.declared.span.Span.{Span}
 use Rattle.ir_expressions.specs.Plain.{PlainExpression, expression_view}
 use Rattle.ir_expressions.specs.declared.expressions.Expression.{Expression}
-use Rattle.ir_globals.specs.View.{values_of}
+use Rattle.ir_items.specs.GlobalView.{values_of}
 use Rattle.ir_items.specs.Plain.{PlainFunction, PlainModule}
 use Rattle.ir_references.proofs.Entries.{slice_get-entries}
 use Rattle.ir_types.specs.Plain.{PlainType}

@@ -1,6 +1,6 @@
 -- The laws of a lower layer, of this one.
 use Rattle.std.specs.Prelude.{◌≡◌, ℕ, IsTrue, List, Some}
-use Rattle.error_expressions.specs.declared.expressions.ExpressionError.{ExpressionError}
+use Rattle.error_functions.specs.declared.expressions.ExpressionError.{ExpressionError}
 use Rattle.error_functions.specs.declared.error.FunctionError.{FunctionError}
 use Rattle.function_lower.specs.Question.{Question}
 use Rattle.ir_flags.specs.declared.stages.ShaderStages.{ShaderStages}

@@ -1,7 +1,7 @@
 -- What the layer says of a function.
 use Rattle.std.specs.Prelude.{◌≡◌, ℕ, Bool, false, IsTrue, List, [], Option, Some, None, option_map, slice_get}
-use Rattle.error_expressions.specs.declared.expressions.ExpressionError.{ExpressionError}
-use Rattle.error_expressions.specs.declared.expressions.ExpressionError.TheVariants.{Other}
+use Rattle.error_functions.specs.declared.expressions.ExpressionError.{ExpressionError}
+use Rattle.error_functions.specs.declared.expressions.ExpressionError.TheVariants.{Other}
 use Rattle.error_functions.specs.declared.error.FunctionError.{FunctionError}
 use Rattle.error_functions.specs.declared.error.FunctionError.TheVariants.{Expression}
 use Rattle.function_lower.specs.Analysis.{Faults}
@@ -10,7 +10,7 @@ use Rattle.interface_checks.specs.Told.{AreTold}
 use Rattle.ir_expressions.specs.Plain.{PlainExpression}
 use Rattle.ir_flags.specs.declared.stages.ShaderStages.{ShaderStages}
 use Rattle.ir_items.specs.Plain.{PlainFunction, PlainModule}
-use Rattle.spec_checks.specs.Stages.{all_stages, callee_stages}
+use Rattle.spec_statements.specs.ExpressionStages.{all_stages, callee_stages}
 use Rattle.spec_statements.specs.Functions.{Reading}
 use Rattle.tiny_lower.specs.Known.{known_of}
 use Rattle.tiny_lower.specs.Operations.{fits}

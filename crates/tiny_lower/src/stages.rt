@@ -2,7 +2,7 @@
 
 ghost use Rattle.std.specs.Prelude.{◌≡◌, Some, map};
 ghost use Rattle.ir_expressions.specs.Plain.{expression_view};
-ghost use Rattle.spec_checks.specs.Stages.{callee_stages};
+ghost use Rattle.spec_statements.specs.ExpressionStages.{callee_stages};
 ghost use Rattle.tiny_lower.specs.Ends.{noted_of};
 ghost use Rattle.tiny_lower.specs.Readings.{stages_by, stages_in};
 

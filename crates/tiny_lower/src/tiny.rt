@@ -9,7 +9,7 @@ use crate::types::{resolutions_of, types_of};
 use crate::uses::mark_all;
 use analysis_forms::{GlobalUse, SamplingPair};
 use bitflags::Flags;
-use error_expressions::ExpressionError;
+use error_functions::ExpressionError;
 use error_functions::FunctionError;
 use function_lower::Lower;
 use ir_arena::handle::Handle;

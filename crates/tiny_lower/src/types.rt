@@ -9,7 +9,7 @@ ghost use Rattle.tiny_lower.specs.Values.{resolution_of};
 
 use crate::expressions::expression_type;
 use crate::value_type::{ValueType, resolution_of};
-use error_expressions::ExpressionError;
+use error_functions::ExpressionError;
 use error_functions::FunctionError;
 use ir_arena::handle::Handle;
 use ir_faults::refusal::Refusal;

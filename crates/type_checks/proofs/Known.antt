@@ -2,9 +2,9 @@
 use Rattle.std.proofs.Common.{◌≡◌, ◌<◌, ◌↔◌, ℕ, Some, Bool, IsTrue, length, slice_get, get_or, sym, ap, subst, ◌∙◌, if◌then◌else◌}
 use Rattle.std.proofs.lemmas.Option.{slice_get-get_or}
 use Rattle.ir_types.specs.Plain.{PlainInner}
-use Rattle.spec_flags.specs.Buffers.{uniform_alignment, free_behind}
-use Rattle.spec_flags.specs.Parts.{Part, end_of}
-use Rattle.spec_flags.specs.Rules.{IsBound}
+use Rattle.spec_types.specs.Buffers.{uniform_alignment, free_behind}
+use Rattle.spec_types.specs.Parts.{Part, end_of}
+use Rattle.spec_types.specs.Rules.{IsBound}
 use Rattle.spec_types.proofs.Trees.{tree_by_trees}
 use Rattle.spec_types.specs.Layout.{alignment}
 use Rattle.spec_types.specs.Tree.{Tree}
@@ -16,7 +16,7 @@ use Rattle.type_infos.specs.declared.info.TypeInfo.{TypeInfo}
 use Rattle.typing_forms.specs.Resolutions.{inner_at}
 use Rattle.typing_layout.specs.Held.{IsLayoutOf}
 use Rattle.typing_layout.specs.declared.layout.TypeLayout.{TypeLayout}
-use Rattle.typing_rules.specs.Sizes.{rounded_up}
+use Rattle.typing_forms.specs.Sizes.{rounded_up}
 
 pub tree_of : (c : TypeContext) (handle : ℕ) (i : PlainInner) → IsKnown c → Some i ≡ inner_at (types_in c) handle → tree_in c handle ≡ tree_by (tree_in c) i
 tree_of c handle i known at = tree_by_trees (types_in c) known.back handle i (sym at)

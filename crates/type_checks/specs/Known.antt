@@ -1,8 +1,8 @@
 -- What is known of the types before one.
 use Rattle.std.specs.Prelude.{◌≡◌, ◌≤◌, ℕ, List, Some, length, slice_get, if◌then◌else◌}
 use Rattle.ir_types.specs.Plain.{PlainType}
-use Rattle.spec_flags.specs.Buffers.{uniform_alignment, free_behind}
-use Rattle.spec_flags.specs.Parts.{Part, end_of}
+use Rattle.spec_types.specs.Buffers.{uniform_alignment, free_behind}
+use Rattle.spec_types.specs.Parts.{Part, end_of}
 use Rattle.spec_types.specs.Layout.{size, alignment}
 use Rattle.spec_types.specs.Tree.{Tree}
 use Rattle.spec_types.specs.View.{type_tree}
@@ -13,7 +13,7 @@ use Rattle.type_infos.specs.declared.info.TypeInfo.{TypeInfo}
 use Rattle.typing_forms.specs.Order.{TypesGoBack}
 use Rattle.typing_forms.specs.Resolutions.{types_view}
 use Rattle.typing_layout.specs.Held.{AreLayouts}
-use Rattle.typing_rules.specs.Sizes.{rounded_up}
+use Rattle.typing_forms.specs.Sizes.{rounded_up}
 
 abbrev pub types_in : TypeContext → List PlainType
 types_in c = types_view c.types.now

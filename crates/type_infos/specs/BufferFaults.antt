@@ -3,10 +3,10 @@ use Rattle.std.specs.Prelude.{◌≡◌, ◌<◌, ◌⊎◌, ℕ, List, Some, sl
 use Rattle.std.specs.Int.{◌∣◌}
 use Rattle.ir_types.specs.Plain.{PlainType}
 use Rattle.ir_types.specs.declared.types.ArraySize.{ArraySize}
-use Rattle.spec_flags.specs.Buffers.{uniform_alignment, free_behind}
-use Rattle.spec_flags.specs.Flags.{HasFlag, HostShareable}
-use Rattle.spec_flags.specs.Immediates.{scalar_of}
-use Rattle.spec_flags.specs.Parts.{Part, listed, before, Somewhere}
+use Rattle.spec_types.specs.Buffers.{uniform_alignment, free_behind}
+use Rattle.spec_types.specs.Flags.{HasFlag, HostShareable}
+use Rattle.spec_types.specs.Immediates.{scalar_of}
+use Rattle.spec_types.specs.Parts.{Part, listed, before, Somewhere}
 use Rattle.spec_types.specs.Layout.{alignment}
 use Rattle.spec_types.specs.Tree.{Tree, Members, array, struct}
 use Rattle.spec_types.specs.View.{type_tree}

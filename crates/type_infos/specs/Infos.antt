@@ -2,9 +2,9 @@
 use Rattle.std.specs.Prelude.{◌≡◌, ◌↔◌, List, MatchResult}
 use Rattle.ir_flags.specs.Sets.{Has}
 use Rattle.ir_types.specs.Plain.{PlainType}
-use Rattle.spec_flags.specs.Buffers.{IsStorage, IsUniform, uniform_alignment}
-use Rattle.spec_flags.specs.Flags.{TypeFlag, bit, HasFlag}
-use Rattle.spec_flags.specs.Immediates.{FitsImmediates}
+use Rattle.spec_types.specs.Buffers.{IsStorage, IsUniform, uniform_alignment}
+use Rattle.spec_types.specs.Flags.{TypeFlag, bit, HasFlag}
+use Rattle.spec_types.specs.Immediates.{FitsImmediates}
 use Rattle.spec_types.specs.Layout.{alignment}
 use Rattle.spec_types.specs.Tree.{Tree}
 use Rattle.type_infos.specs.BufferFaults.{BreaksStorage, BreaksUniform, IsBroken, IsUnfit}

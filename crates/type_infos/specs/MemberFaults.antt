@@ -1,8 +1,8 @@
 -- Why a member is refused at its place.
 use Rattle.std.specs.Prelude.{◌≡◌, ◌≢◌, ◌<◌, ◌+◌, ℕ, suc, List, [], Some, length, slice_get}
 use Rattle.ir_types.specs.Plain.{PlainMember, PlainType}
-use Rattle.spec_flags.specs.Flags.{HasFlag, Data, Sized}
-use Rattle.spec_flags.specs.Parts.{before}
+use Rattle.spec_types.specs.Flags.{HasFlag, Data, Sized}
+use Rattle.spec_types.specs.Parts.{before}
 use Rattle.spec_types.specs.Layout.{size}
 use Rattle.spec_types.specs.View.{type_tree}
 use Rattle.type_infos.specs.declared.error.TypeError.{TypeError}

@@ -5,18 +5,18 @@ ghost use Rattle.std.specs.Prelude.{◌↔◌, IsTrue, List};
 ghost use Rattle.ir_types.specs.Plain.{PlainType};
 ghost use Rattle.typing_forms.specs.Resolutions.{types_view, resolution_view};
 ghost use Rattle.typing_forms.specs.Forms.{NoStructValue};
-ghost use Rattle.typing_rules.specs.Equivalence.{AreEquivalent};
+ghost use Rattle.typing_forms.specs.Equivalence.{AreEquivalent};
 
 use ir_items::{GlobalCtx, Module};
 use typing_forms::TypeResolution;
-use typing_rules::compare_types;
+use typing_forms::compare_types;
 
 /// What has types to compare by (`compare_types` of naga's `Module` and `GlobalCtx`).
 pub trait CompareTypes {
     /// The types.
     ghost types_of: { Self → List PlainType };
 
-    /// Whether two types are equivalent, as `typing_rules::compare_types` says.
+    /// Whether two types are equivalent, as `typing_forms::compare_types` says.
     fn compare_types(&self, lhs: &TypeResolution, rhs: &TypeResolution) -> bool
         requires left { NoStructValue (resolution_view lhs.now) }
         requires right { NoStructValue (resolution_view rhs.now) }

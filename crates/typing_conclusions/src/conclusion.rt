@@ -2,10 +2,10 @@
 
 ghost use Rattle.std.specs.Prelude.{◌≡◌, ℕ, List, Option, None, Some, IfOk, IfErr};
 ghost use Rattle.ir_kinds.specs.declared.predeclared.PredeclaredType.{PredeclaredType};
-ghost use Rattle.ir_globals.specs.View.{special_view};
+ghost use Rattle.ir_items.specs.GlobalView.{special_view};
 ghost use Rattle.typing_forms.specs.Resolutions.{PlainResolution, resolution_view};
 
-use ir_globals::SpecialTypes;
+use ir_items::SpecialTypes;
 use overload_tables::Conclusion;
 use thiserror::Error;
 use typing_forms::TypeResolution;

@@ -8,7 +8,7 @@ use Rattle.ir_arena.specs.declared.span.Span.{Span}
 use Rattle.ir_expressions.specs.Plain.{PlainExpression, compose, plain, expression_view}
 use Rattle.ir_expressions.specs.declared.expressions.Expression.{Expression}
 use Rattle.ir_expressions.specs.declared.expressions.Expression.TheVariants as x
-use Rattle.ir_globals.specs.View.{values_of}
+use Rattle.ir_items.specs.GlobalView.{values_of}
 use Rattle.spec_analysis.specs.Operands.{Operand, reads, carries, queries, expression_operands}
 use Rattle.spec_analysis.specs.Values.{OperandsPrecede}
 use Rattle.spec_analysis.proofs.Members.{get-within}

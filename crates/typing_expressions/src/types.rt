@@ -2,7 +2,7 @@
 
 ghost use Rattle.std.specs.Prelude.{◌≡◌, ◌++◌, ◌∷◌, [], List, Err, IfOk, IfErr, OnOk, length, map, slice_index_or};
 ghost use Rattle.ir_expressions.specs.Plain.{PlainExpression, expression_view};
-ghost use Rattle.ir_globals.specs.View.{values_of};
+ghost use Rattle.ir_items.specs.GlobalView.{values_of};
 ghost use Rattle.spec_analysis.specs.Values.{OperandsPrecede};
 ghost use Rattle.spec_expressions.specs.Context.{Context, NamesItem};
 ghost use Rattle.typing_expressions.specs.Types.{ItemsNamed, AreTypes, IsFirstUntyped, OperandsBelow, Decided, DecidedAt, IsTypedBy};

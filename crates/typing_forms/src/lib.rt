@@ -1,13 +1,28 @@
-//! What the type of an expression is given as, and the canonical form by which types are compared.
+//! What the type of an expression is given as, the canonical form by which types are compared, what types are built of, how
+//! large they are, and which of them are equivalent.
 #![tactic(auto)]
 
+mod compare;
+mod constructible;
+mod conversions;
+mod elements;
 mod form;
+mod index;
 pub mod laws;
+mod order;
 mod ranks;
 mod resolution;
+pub mod rule_laws;
 mod scalars;
+mod sizes;
+mod type_methods;
 
+pub use compare::compare_types;
 pub use form::{Form, form_in, form_of, form_of_type, inner_of};
+pub use index::{IndexableLength, IndexableLengthError, ResolveArraySizeError};
+pub use order::types_go_back;
 pub use ranks::{conversion_rank, converted_rank};
 pub use resolution::TypeResolution;
 pub use scalars::{ScalarExt, ScalarKindExt};
+pub use sizes::MAX_TYPE_SIZE;
+pub use type_methods::TypeInnerExt;

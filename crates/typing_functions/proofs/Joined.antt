@@ -2,7 +2,7 @@
 use Rattle.std.proofs.Common.{ℕ, List, Option, Some, None, sym, ◌∙◌, subst, inl, inr, length, ◌<◌}
 use Rattle.analysis_info.specs.Infos.{summary_of}
 use Rattle.analysis_info.specs.declared.function_info.FunctionInfo.{FunctionInfo}
-use Rattle.analysis_uniformity.specs.Faults.{FunctionFault}
+use Rattle.typing_uniformity.specs.Faults.{FunctionFault}
 use Rattle.error_functions.specs.declared.error.FunctionError.{FunctionError}
 use Rattle.ir_faults.specs.Faults.{error_of}
 use Rattle.ir_faults.specs.declared.refusal.Refusal.{Refusal}
@@ -16,7 +16,7 @@ use Rattle.spec_bodies.specs.Uniformity.{Asked}
 use Rattle.spec_expressions.specs.Context.{inside}
 use Rattle.spec_expressions.specs.declared.faults.TypingFault.{TypingFault}
 use Rattle.std.proofs.lemmas.Option.{slice_get_within}
-use Rattle.typing_analysis.specs.Infos.{IsFunctionInfo, AreExpressionInfos}
+use Rattle.typing_functions.specs.Infos.{IsFunctionInfo, AreExpressionInfos}
 use Rattle.typing_functions.specs.Processed.{IsAnalysisFault, untyped, wrong_form, non_uniform, IsAnalysisRefusal, IsAnalysed}
 use Rattle.typing_operands.specs.Answers.{fault_of, TellsFault}
 

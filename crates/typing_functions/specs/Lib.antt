@@ -1,1 +1,5 @@
 pub mod Processed
+pub mod Faults
+pub mod Infos
+pub mod Kept
+pub mod Summarized

@@ -2,11 +2,11 @@
 use Rattle.std.specs.Prelude.{◌≡◌, ℕ, List, [], Result, Ok, Err}
 use Rattle.analysis_forms.specs.declared.uniformity.UniformityRequirements.{UniformityRequirements}
 use Rattle.analysis_info.specs.declared.function_info.FunctionInfo.{FunctionInfo}
-use Rattle.analysis_uniformity.specs.Faults.{FunctionFault}
-use Rattle.error_expressions.specs.declared.expressions.ExpressionError.TheVariants.{Typing, ExpectedGlobalOrArgument}
+use Rattle.typing_uniformity.specs.Faults.{FunctionFault}
+use Rattle.error_functions.specs.declared.expressions.ExpressionError.TheVariants.{Typing, ExpectedGlobalOrArgument}
 use Rattle.error_functions.specs.declared.error.FunctionError.{FunctionError}
 use Rattle.error_functions.specs.declared.error.FunctionError.TheVariants.{Expression, NonUniformControlFlow}
-use Rattle.error_statements.specs.declared.disruptor.UniformityDisruptor.{UniformityDisruptor}
+use Rattle.error_functions.specs.declared.disruptor.UniformityDisruptor.{UniformityDisruptor}
 use Rattle.ir_faults.specs.Faults.{error_of, spans_of}
 use Rattle.ir_faults.specs.declared.refusal.Refusal.{Refusal}
 use Rattle.ir_faults.specs.declared.refusal.Refusal.TheVariants as refusal
@@ -14,7 +14,7 @@ use Rattle.ir_flags.specs.declared.settings.ValidationFlags.{ValidationFlags}
 use Rattle.ir_items.specs.Plain.{PlainFunction, PlainModule}
 use Rattle.spec_analysis.specs.Summaries.{Summary, IsFormFault}
 use Rattle.spec_expressions.specs.Context.{inside}
-use Rattle.typing_analysis.specs.Infos.{IsFunctionInfo}
+use Rattle.typing_functions.specs.Infos.{IsFunctionInfo}
 use Rattle.typing_operands.specs.Answers.{fault_of, TellsFault}
 use Rattle.typing_operands.specs.declared.error.ResolveError.{ResolveError}
 

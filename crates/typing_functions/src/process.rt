@@ -8,17 +8,17 @@ ghost use Rattle.ir_flags.specs.declared.settings.ValidationFlags.{ValidationFla
 ghost use Rattle.ir_walks.specs.Filters.{ParentsPrecede};
 ghost use Rattle.analysis_facts.specs.Facts.{AreUniformities};
 ghost use Rattle.analysis_info.specs.Infos.{summary_of};
-ghost use Rattle.analysis_uniformity.specs.Faults.{FunctionFault};
+ghost use Rattle.typing_uniformity.specs.Faults.{FunctionFault};
 ghost use Rattle.spec_analysis.specs.Summaries.{Summary, IsSummary, CalleesKnown, AgreeOnCallees};
 ghost use Rattle.spec_bodies.specs.Uniformity.{Asked};
 ghost use Rattle.spec_handles.specs.Conditions.{HandlesInRange, OperandsPrecede};
-ghost use Rattle.typing_analysis.specs.Faults.{IsSummaryFault};
+ghost use Rattle.typing_functions.specs.Faults.{IsSummaryFault};
 ghost use Rattle.typing_functions.specs.Processed.{IsAnalysisFault, IsAnalysisRefusal, IsProcessed};
 
 use analysis_forms::Uniformity;
 use analysis_info::FunctionInfo;
-use analysis_uniformity::uniformity_fault;
-use error_expressions::ExpressionError;
+use typing_uniformity::uniformity_fault;
+use error_functions::ExpressionError;
 use error_functions::FunctionError;
 use ir_arena::handle::Handle;
 use ir_faults::refusal::Refusal;
@@ -27,7 +27,7 @@ use ir_flags::ValidationFlags;
 use ir_items::{Function, Module};
 use ir_types::key;
 use std::alloc::Global;
-use typing_analysis::{SummaryError, summarize};
+use crate::{SummaryError, summarize};
 
 // The refusal of an expression.
 fn refused_at(

@@ -2,7 +2,7 @@
 use Rattle.std.proofs.Common.{◌≡◌, ◌≢◌, ◌<◌, ◌≤◌, ◌+◌, ◌-◌, ◌*◌, ◌/◌, ◌%◌, ◌^◌, ℕ, subst, arith, rules, Fits, w32, IsTrue, ◌==◌}
 use Rattle.std.specs.Int.{◌∣◌}
 use Rattle.std.proofs.Math.Nat.{dvd-mul_right}
-use Rattle.typing_rules.specs.Sizes.{rounded_up}
+use Rattle.typing_forms.specs.Sizes.{rounded_up}
 use Rattle.spec_types.specs.Layout.{IsLeastMultiple}
 use Rattle.spec_types.proofs.Sizes.{least_near, rounded_is_least}
 

@@ -5,7 +5,7 @@ use Rattle.ir_faults.specs.declared.refusal.Refusal.TheVariants as refusal
 use Rattle.ir_faults.specs.Faults.{error_of, spans_of}
 use Rattle.ir_types.specs.Plain.{PlainType}
 use Rattle.typing_forms.specs.Order.{TypesGoBack}
-use Rattle.typing_rules.specs.declared.sizes.TheConstants.{MAX_TYPE_SIZE}
+use Rattle.typing_forms.specs.declared.sizes.TheConstants.{MAX_TYPE_SIZE}
 use Rattle.spec_types.specs.Layout.{size, alignment, IsWidthOK, LayoutOK}
 use Rattle.spec_types.specs.Tree.{Tree}
 use Rattle.spec_types.specs.View.{type_tree}

@@ -3,7 +3,7 @@
 use ir_arena::handle::Handle;
 use ir_types::key;
 use thiserror::Error;
-use typing_rules::MAX_TYPE_SIZE;
+use typing_forms::MAX_TYPE_SIZE;
 
 /// What is wrong with a type that has no layout (naga's `LayoutErrorInner`, without the errors of types that name later ones:
 /// a layouter asks that there are none).

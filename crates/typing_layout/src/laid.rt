@@ -7,7 +7,7 @@ ghost use Rattle.std.specs.Prelude.{◌≡◌, ◌<◌, ◌≤◌, ◌*◌, ℕ,
 ghost use Rattle.std.specs.Int.{IsPowerOfTwo};
 ghost use Rattle.ir_types.specs.Plain.{inner_view, member_view};
 ghost use Rattle.typing_forms.specs.Order.{named_types};
-ghost use Rattle.typing_rules.specs.Sizes.{vector_alignment};
+ghost use Rattle.typing_forms.specs.Sizes.{vector_alignment};
 ghost use Rattle.spec_types.specs.Layout.{alignment, greatest_alignment, IsWidthOK};
 ghost use Rattle.spec_types.specs.Tree.{Tree};
 ghost use Rattle.spec_types.specs.View.{members_by, tree_by};
@@ -19,7 +19,7 @@ use crate::error::LayoutErrorInner;
 use crate::layout::TypeLayout;
 use ir_kinds::{Scalar, VectorSize};
 use ir_types::{StructMember, TypeInner};
-use typing_rules::TypeInnerExt;
+use typing_forms::TypeInnerExt;
 
 // The alignment of a scalar, if its width is one.
 fn scalar_alignment(scalar: Scalar) -> Option<Alignment>

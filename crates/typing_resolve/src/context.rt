@@ -4,7 +4,7 @@ ghost use Rattle.std.specs.Prelude.{◌≡◌, ◌↔◌, IsTrue, ℕ, List, map
 ghost use Rattle.ir_types.specs.Plain.{PlainType};
 ghost use Rattle.std.specs.Borrow.{Bor};
 ghost use Rattle.ir_expressions.specs.Plain.{PlainExpression, expression_view};
-ghost use Rattle.ir_globals.specs.View.{values_of};
+ghost use Rattle.ir_items.specs.GlobalView.{values_of};
 ghost use Rattle.ir_items.specs.View.{argument_view, local_view, module_view};
 ghost use Rattle.overload_tables.specs.Laws.{IsAmong};
 ghost use Rattle.spec_expressions.specs.Context.{NamesItem, context_with};
@@ -19,7 +19,7 @@ use crate::typing::answered;
 use ir_arena::arena::Arena;
 use ir_arena::handle::Handle;
 use ir_expressions::Expression;
-use ir_globals::{Constant, GlobalVariable, Override, SpecialTypes};
+use ir_items::{Constant, GlobalVariable, Override, SpecialTypes};
 use ir_items::{Function, FunctionArgument, LocalVariable, Module};
 use ir_types::{IrType, key};
 use ir_unique_arena::unique_arena::UniqueArena;

@@ -11,7 +11,7 @@ use ir_types::{IrType, TypeInner, key};
 use ir_unique_arena::unique_arena::UniqueArena;
 use spec_expressions::TypingFault;
 use typing_forms::{Form, TypeResolution, inner_of};
-use typing_rules::TypeInnerExt;
+use typing_forms::TypeInnerExt;
 
 // The scalar of what a pointer leads to.
 fn pointed_scalar(types: &UniqueArena<IrType, key::IrType>, of: Form) -> Option<Scalar>

@@ -1,7 +1,7 @@
 //! Values that are written or declared: literals, constants, overrides, zeros.
 
 ghost use Rattle.std.specs.Prelude.{◌≡◌, ◌<◌, List, length, map, option_map, slice_get};
-ghost use Rattle.ir_globals.specs.View.{values_of, constant_view, override_view};
+ghost use Rattle.ir_items.specs.GlobalView.{values_of, constant_view, override_view};
 ghost use Rattle.ir_types.specs.Plain.{PlainType};
 ghost use Rattle.spec_expressions.specs.Context.{form_if};
 ghost use Rattle.spec_expressions.specs.Literals.{literal_type};
@@ -9,7 +9,7 @@ ghost use Rattle.typing_operands.specs.Answers.{form_given};
 
 use ir_arena::arena::Arena;
 use ir_arena::handle::Handle;
-use ir_globals::{Constant, Override};
+use ir_items::{Constant, Override};
 use ir_kinds::Literal;
 use ir_types::{LiteralExt, key};
 use typing_forms::TypeResolution;

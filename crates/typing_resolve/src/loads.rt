@@ -1,7 +1,7 @@
 //! What a function is given, variables, and what lies where a pointer leads.
 
 ghost use Rattle.std.specs.Prelude.{◌≡◌, ◌<◌, List, Some, length, map, ok_or, option_map, slice_get};
-ghost use Rattle.ir_globals.specs.View.{values_of, global_view};
+ghost use Rattle.ir_items.specs.GlobalView.{values_of, global_view};
 ghost use Rattle.ir_items.specs.View.{argument_view, local_view};
 ghost use Rattle.ir_types.specs.Plain.{PlainType};
 ghost use Rattle.spec_expressions.specs.Loads.{variable_type, global_if, local_if, loaded, loaded_value, load_type, array_length_type};
@@ -13,7 +13,7 @@ ghost use Rattle.typing_operands.specs.Answers.{form_given, form_answer};
 use crate::access::pointer_to;
 use ir_arena::arena::Arena;
 use ir_arena::handle::Handle;
-use ir_globals::GlobalVariable;
+use ir_items::GlobalVariable;
 use ir_items::{FunctionArgument, LocalVariable};
 use ir_kinds::{AddressSpace, Scalar, VectorSize};
 use ir_types::{IrType, TypeInner, key};

@@ -1,7 +1,7 @@
 //! What calls answered.
 
 ghost use Rattle.std.specs.Prelude.{◌≡◌, ◌<◌, List, length, map, ok_or, option_and_then, option_map, slice_get};
-ghost use Rattle.ir_globals.specs.View.{values_of};
+ghost use Rattle.ir_items.specs.GlobalView.{values_of};
 ghost use Rattle.ir_items.specs.View.{function_view};
 ghost use Rattle.ir_items.specs.declared.functions.FunctionResult.{FunctionResult};
 ghost use Rattle.ir_types.specs.Plain.{PlainType};

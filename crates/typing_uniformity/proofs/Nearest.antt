@@ -4,10 +4,10 @@ use Rattle.std.specs.Option.{option_and_then}
 use Rattle.std.proofs.lemmas.Option.{slice_get-map}
 use Rattle.ir_arena.specs.Arenas.{value_at}
 use Rattle.ir_arena.specs.declared.span.Span.{Span}
-use Rattle.ir_globals.specs.View.{values_of}
+use Rattle.ir_items.specs.GlobalView.{values_of}
 use Rattle.ir_kinds.specs.declared.diagnostics.Severity.{Severity}
 use Rattle.ir_kinds.specs.declared.diagnostics.StandardFilterableTriggeringRule.{StandardFilterableTriggeringRule}
-use Rattle.ir_globals.specs.Plain.{PlainNode, standard}
+use Rattle.ir_items.specs.GlobalPlain.{PlainNode, standard}
 use Rattle.ir_walks.specs.Filters.{ParentsPrecede}
 use Rattle.spec_bodies.specs.Severity.{IsTrail, IsFirst, IsNearest}
 

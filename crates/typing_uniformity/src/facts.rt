@@ -6,7 +6,7 @@ ghost use Rattle.typing_uniformity.specs.Facts.{varies_of, look_of, asked_with, 
 
 use crate::fault::NonUniform;
 use analysis_forms::Uniformity;
-use error_statements::UniformityDisruptor;
+use error_functions::UniformityDisruptor;
 use ir_arena::handle::Handle;
 use ir_items::key;
 

@@ -15,7 +15,7 @@ use crate::walk::seen_in;
 use analysis_forms::{Uniformity, UniformityRequirements};
 use bitflags::Flags;
 use error_functions::FunctionError;
-use error_statements::UniformityDisruptor;
+use error_functions::UniformityDisruptor;
 use ir_arena::handle::Handle;
 use ir_flags::ValidationFlags;
 use ir_items::{Block, key};

@@ -1,8 +1,8 @@
 //! How severe faults of derivatives are in a function.
 
 ghost use Rattle.std.specs.Prelude.{◌≡◌, ◌↔◌, IsTrue, map};
-ghost use Rattle.ir_globals.specs.Plain.{standard};
-ghost use Rattle.ir_globals.specs.View.{node_view};
+ghost use Rattle.ir_items.specs.GlobalPlain.{standard};
+ghost use Rattle.ir_items.specs.GlobalView.{node_view};
 ghost use Rattle.ir_items.specs.View.{function_view, module_view};
 ghost use Rattle.ir_kinds.specs.declared.diagnostics.StandardFilterableTriggeringRule.TheVariants.{DerivativeUniformity};
 ghost use Rattle.ir_walks.specs.Filters.{nodes_of, ParentsPrecede};

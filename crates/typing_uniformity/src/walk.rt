@@ -11,7 +11,7 @@ ghost use Rattle.typing_uniformity.specs.Facts.{varies_of, look_of, asked_view};
 use crate::facts::Facts;
 use crate::fault::NonUniform;
 use analysis_forms::UniformityRequirements;
-use error_statements::UniformityDisruptor;
+use error_functions::UniformityDisruptor;
 use ir_arena::handle::Handle;
 use ir_items::{Block, Statement, SwitchCase, key};
 

@@ -1,6 +1,6 @@
 use Rattle.check_operands.specs.View.{types_in}
 use Rattle.expression_checks.proofs.OldValues.{by_test}
-use Rattle.spec_checks.specs.Results.{IsAtomicValue}
+use Rattle.spec_statements.specs.ExpressionResults.{IsAtomicValue}
 use Rattle.typing_forms.specs.Resolutions.{inner_at}
 use Rattle.expression_checks.proofs.results.is_atomic_exchange.Goals as goal
 

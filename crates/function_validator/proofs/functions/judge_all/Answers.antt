@@ -3,7 +3,7 @@ use Rattle.std.proofs.lemmas.List.{length-map}
 use Rattle.function_validator.specs.Judged.{AreJudged}
 use Rattle.function_validator.specs.Settings.{settings_for}
 use Rattle.ir_arena.specs.Arenas.{value_of_entry}
-use Rattle.ir_globals.specs.View.{values_of}
+use Rattle.ir_items.specs.GlobalView.{values_of}
 use Rattle.ir_items.specs.View.{function_view, module_view}
 use Rattle.function_validator.proofs.functions.judge_all.Goals as goal
 

@@ -3,7 +3,7 @@ use Rattle.global_checks.proofs.Lies.{storage_told, uniform_told, immediate_ok, 
 use Rattle.global_checks.specs.Faults.{IsLayoutFault}
 use Rattle.ir_flags.specs.Sets.{Has}
 use Rattle.ir_flags.specs.declared.settings.TheConstants.ValidationFlags.{STRUCT_LAYOUTS}
-use Rattle.ir_globals.specs.View.{global_view}
+use Rattle.ir_items.specs.GlobalView.{global_view}
 use Rattle.ir_types.specs.Plain.{inner_view}
 use Rattle.module_constants.proofs.FlagLemmas.{info_at}
 use Rattle.module_constants.specs.Known.{module_in}

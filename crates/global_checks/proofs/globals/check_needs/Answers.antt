@@ -3,7 +3,7 @@ use borrow.Author.Tests.{eqb-true, eq-eqb}
 use Rattle.global_checks.proofs.Needs.{all_asked, none_missing, capability_met, none_needed}
 use Rattle.global_checks.specs.Faults.{counted_tree}
 use Rattle.ir_flags.specs.Sets.{Has}
-use Rattle.ir_globals.specs.View.{global_view}
+use Rattle.ir_items.specs.GlobalView.{global_view}
 use Rattle.module_constants.proofs.FlagLemmas.{info_at}
 use Rattle.module_constants.specs.Known.{module_in}
 use Rattle.spec_globals.specs.Spaces.{space_capability, required, HasAll}

@@ -1,6 +1,6 @@
 use Rattle.std.proofs.Common.{◌≡◌, ◌<◌, length, IfSome, sym, subst}
 use Rattle.global_checks.proofs.Whole.{counted_there, begun}
-use Rattle.ir_globals.specs.View.{global_view}
+use Rattle.ir_items.specs.GlobalView.{global_view}
 use Rattle.module_constants.specs.Known.{module_in}
 use Rattle.spec_globals.specs.Globals.{BeginsOK}
 use Rattle.global_checks.proofs.globals.check_variable.Goals as goal

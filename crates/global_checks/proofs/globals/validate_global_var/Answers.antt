@@ -1,8 +1,8 @@
 use Rattle.std.proofs.Common.{◌≡◌, Some, sym, subst, ◌∙◌}
 use Rattle.global_checks.proofs.Whole.{global_found, at_handle}
 use Rattle.global_checks.specs.There.{IsPlaced}
-use Rattle.ir_globals.specs.Plain.{PlainGlobal}
-use Rattle.ir_globals.specs.View.{global_view}
+use Rattle.ir_items.specs.GlobalPlain.{PlainGlobal}
+use Rattle.ir_items.specs.GlobalView.{global_view}
 use Rattle.module_constants.specs.Known.{module_in}
 use Rattle.global_checks.proofs.globals.validate_global_var.Goals as goal
 

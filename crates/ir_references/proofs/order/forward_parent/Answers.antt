@@ -1,6 +1,6 @@
 use Rattle.std.proofs.Common.{sym, subst, map}
 use Rattle.std.specs.Option.{MatchOption}
-use Rattle.ir_globals.specs.View.{values_of, node_view}
+use Rattle.ir_items.specs.GlobalView.{values_of, node_view}
 use Rattle.ir_references.specs.Faults.{IsForwardParent}
 use Rattle.ir_references.proofs.FaultLaws.{parents_told}
 use Rattle.ir_walks.specs.Filters.{ParentsPrecede}

@@ -1,5 +1,5 @@
 use Rattle.std.proofs.Common.{◌≡◌, ◌<◌, length, Some, sym, ap, subst, arith}
-use Rattle.ir_globals.specs.View.{node_view}
+use Rattle.ir_items.specs.GlobalView.{node_view}
 use Rattle.ir_walks.specs.Filters.{nodes_of, HasSeverity}
 use Rattle.ir_walks.proofs.Paths.{ahead, ahead_before, found, passed}
 use Rattle.ir_walks.proofs.Places.{plain_at}

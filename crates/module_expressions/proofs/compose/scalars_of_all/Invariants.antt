@@ -1,8 +1,8 @@
 -- The components that were passed may be some of it, and their scalars are counted.
 use Rattle.std.proofs.Common.{◌≡◌, map, take, sum}
-use Rattle.error_constants.specs.Compositions.{in_32_bits}
+use Rattle.module_expressions.specs.Compositions.{in_32_bits}
 use Rattle.module_expressions.specs.Composed.{FitBelow, IsScalars, forms_of}
-use Rattle.spec_constants.specs.Compositions.{scalars_in}
+use Rattle.spec_expressions.specs.ConstantCompositions.{scalars_in}
 use Rattle.module_expressions.proofs.compose.scalars_of_all.Given as goal
 
 abbrev pub invariant-loop-place : goal.invariant-loop-place

@@ -1,5 +1,5 @@
 use Rattle.ir_expressions.specs.Plain.{expression_view}
-use Rattle.ir_globals.specs.View.{values_of}
+use Rattle.ir_items.specs.GlobalView.{values_of}
 use Rattle.ir_items.specs.View.{module_view}
 use Rattle.module_handles.proofs.OutsideFaults.{global_fault}
 use Rattle.module_handles.proofs.Viewed.{told_viewed}

@@ -1,4 +1,4 @@
-use Rattle.ir_globals.specs.View.{values_of}
+use Rattle.ir_items.specs.GlobalView.{values_of}
 use Rattle.ir_items.specs.View.{function_view, module_view}
 use Rattle.module_handles.proofs.FunctionFaults.{function_fault}
 use Rattle.module_handles.proofs.Viewed.{told_viewed}

@@ -1,6 +1,6 @@
 use Rattle.std.proofs.Common.{◌++◌, string_bytes, ap, ◌∙◌}
 use Rattle.ir_arena.specs.Arenas.{value_at}
-use Rattle.ir_globals.specs.View.{global_view}
+use Rattle.ir_items.specs.GlobalView.{global_view}
 use Rattle.ir_items.specs.View.{module_view}
 use Rattle.module_report.proofs.Counted.{global_found}
 use Rattle.module_report.proofs.Written.{each_more}

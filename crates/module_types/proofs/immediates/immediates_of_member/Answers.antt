@@ -1,6 +1,6 @@
 use Rattle.std.proofs.Common.{map}
 use Rattle.ir_types.specs.Plain.{member_view}
-use Rattle.storage_layouts.proofs.LayoutLaws.{member_fits}
+use Rattle.module_types.proofs.LayoutLaws.{member_fits}
 use Rattle.module_types.proofs.immediates.immediates_of_member.Goals as goal
 
 pub returns : goal.returns

@@ -1,7 +1,7 @@
 use Rattle.std.proofs.Common.{map, arith}
 use Rattle.ir_types.specs.Plain.{member_view}
-use Rattle.storage_layouts.proofs.LayoutLaws.{fit_struct}
-use Rattle.storage_layouts.specs.Layouts.{FitsAt}
+use Rattle.module_types.proofs.LayoutLaws.{fit_struct}
+use Rattle.module_types.specs.Layouts.{FitsAt}
 use Rattle.type_checks.proofs.Places.{below_more, below_all}
 use Rattle.type_checks.specs.Known.{tree_in}
 use Rattle.type_checks.specs.Placed.{parts_in}

@@ -1,6 +1,6 @@
 use Rattle.std.proofs.Common.{sym, subst, map}
 use Rattle.ir_types.specs.Plain.{member_view}
-use Rattle.storage_layouts.proofs.LayoutLaws.{struct_at}
+use Rattle.module_types.proofs.LayoutLaws.{struct_at}
 use Rattle.type_infos.specs.Infos.{AreFlags}
 use Rattle.module_types.proofs.info.info_of_struct.Goals as goal
 

@@ -1,6 +1,6 @@
 use Rattle.std.proofs.Common.{map, rules}
 use Rattle.ir_types.specs.Plain.{member_view}
-use Rattle.storage_layouts.proofs.LayoutLaws.{broken_part}
+use Rattle.module_types.proofs.LayoutLaws.{broken_part}
 use Rattle.type_checks.specs.Known.{types_in, tree_in}
 use Rattle.type_infos.specs.BufferFaults.{BreaksUniform, IsBroken}
 use Rattle.module_types.proofs.uniform.check_uniform_member.Goals as goal

@@ -1,6 +1,6 @@
 use Rattle.std.proofs.Common.{map, arith}
 use Rattle.ir_types.specs.Plain.{member_view}
-use Rattle.storage_layouts.proofs.LayoutLaws.{uniform_part}
+use Rattle.module_types.proofs.LayoutLaws.{uniform_part}
 use Rattle.module_types.proofs.uniform.check_uniform_offset.Goals as goal
 
 pub returns : goal.returns

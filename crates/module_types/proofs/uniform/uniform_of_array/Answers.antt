@@ -1,5 +1,5 @@
 use Rattle.typing_layout.proofs.Powers.{sixteen}
-use Rattle.storage_layouts.proofs.LayoutLaws.{uniform_array}
+use Rattle.module_types.proofs.LayoutLaws.{uniform_array}
 use Rattle.module_types.proofs.uniform.uniform_of_array.Goals as goal
 
 pub invariant_of-is_aligned : goal.invariant_of-is_aligned

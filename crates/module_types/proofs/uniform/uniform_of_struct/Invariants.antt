@@ -1,7 +1,7 @@
 -- The members that were passed lie as their types ask.
 use Rattle.std.proofs.Common.{map}
 use Rattle.ir_types.specs.Plain.{member_view}
-use Rattle.storage_layouts.specs.Layouts.{UniformPart}
+use Rattle.module_types.specs.Layouts.{UniformPart}
 use Rattle.type_checks.specs.Placed.{parts_in, Below}
 use Rattle.module_types.proofs.uniform.uniform_of_struct.Given as goal
 

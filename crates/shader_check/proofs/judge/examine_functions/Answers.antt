@@ -1,7 +1,7 @@
 use Rattle.std.proofs.Common.{subst}
 use Rattle.document_reader.specs.View.{settings_view as document_settings}
 use Rattle.ir_items.specs.View.{module_view}
-use Rattle.module_functions.specs.Refusals.{IsKeptWith}
+use Rattle.real_lower.specs.Refusals.{IsKeptWith}
 use Rattle.shader_check.proofs.Kept.{accepted_with}
 use Rattle.shader_check.proofs.judge.examine_functions.Goals as goal
 

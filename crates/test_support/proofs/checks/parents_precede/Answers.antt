@@ -1,7 +1,7 @@
 use Rattle.std.proofs.Common.{◌≡◌, ◌<◌, ℕ, Some, length, slice_get, subst, arith}
 use Rattle.std.specs.Option.{ForSome}
-use Rattle.ir_globals.specs.Plain.{PlainNode}
-use Rattle.ir_globals.specs.View.{node_view}
+use Rattle.ir_items.specs.GlobalPlain.{PlainNode}
+use Rattle.ir_items.specs.GlobalView.{node_view}
 use Rattle.ir_walks.specs.Filters.{nodes_of}
 use Rattle.ir_walks.proofs.Places.{plain_at}
 use Rattle.test_support.proofs.CheckLemmas.{UpTo, further, everywhere}

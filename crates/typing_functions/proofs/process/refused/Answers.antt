@@ -1,5 +1,5 @@
 use Rattle.std.proofs.Common.{subst}
-use Rattle.typing_analysis.specs.Faults.{IsSummaryFault}
+use Rattle.typing_functions.specs.Faults.{IsSummaryFault}
 use Rattle.typing_functions.specs.Processed.{untyped, wrong_form}
 use Rattle.typing_functions.proofs.process.refused.Goals as goal
 

@@ -1,5 +1,5 @@
 use Rattle.std.proofs.Common.{◌≡◌, ◌≤◌, Some, sym, ap, subst, arith}
-use Rattle.ir_globals.specs.View.{node_view}
+use Rattle.ir_items.specs.GlobalView.{node_view}
 use Rattle.ir_walks.specs.Filters.{nodes_of}
 use Rattle.spec_bodies.specs.Severity.{IsNearest}
 use Rattle.typing_uniformity.proofs.Nearest.{plain_at, ahead, ahead_before, found, passed}

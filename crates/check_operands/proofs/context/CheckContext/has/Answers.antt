@@ -1,7 +1,7 @@
 use Rattle.std.proofs.Common.{arith}
 use Rattle.check_operands.proofs.Absent.{known_flag, absent_flag, none_stored, none_sized, none_composed}
 use Rattle.check_operands.specs.View.{types_in}
-use Rattle.spec_flags.specs.Flags.{Data, Sized, Constructible}
+use Rattle.spec_types.specs.Flags.{Data, Sized, Constructible}
 use Rattle.check_operands.proofs.context.CheckContext.has.Goals as goal
 
 pub returns-in-Some-clause-data : goal.returns-in-Some-clause-data

@@ -1,5 +1,5 @@
 use Rattle.std.proofs.Common.{◌≡◌, sym, ◌∙◌, subst, arith}
-use Rattle.ir_globals.specs.View.{global_view}
+use Rattle.ir_items.specs.GlobalView.{global_view}
 use Rattle.ir_items.specs.View.{module_view}
 use Rattle.immediate_slots.specs.Sizes.{AreGreatest}
 use Rattle.immediate_slots.proofs.SizeLemmas.{variable_at, many_variables, greatest_more, greatest_none}

@@ -1,7 +1,7 @@
 use Rattle.std.proofs.Common.{◌≡◌, [], sym, ap, ◌∙◌}
 use Rattle.check_operands.proofs.Lookups.{found}
 use Rattle.ir_expressions.specs.Plain.{PlainExpression, expression_view}
-use Rattle.spec_checks.specs.Stages.{stages_of}
+use Rattle.spec_statements.specs.ExpressionStages.{stages_of}
 use Rattle.real_lower.proofs.real.RealLowerLower.check_expression.Goals as goal
 
 pub stages_by-requires : goal.stages_by-requires

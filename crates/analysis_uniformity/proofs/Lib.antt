@@ -1,2 +1,0 @@
-pub mod Severities
-pub mod Known

@@ -1,4 +1,0 @@
-pub mod Compositions
-pub mod Expressions
-pub mod Items
-pub mod Literals

@@ -1,5 +1,0 @@
-use Rattle.error_constants.proofs.Compositions.{components_refuted as refuted}
-use Rattle.error_constants.proofs.laws.components_refuted.Goals as goal
-
-pub returns : goal.returns
-returns c = refuted

@@ -1,5 +1,0 @@
-pub mod Compositions
-pub mod Constants
-pub mod Expressions
-pub mod Laws
-pub mod Overrides

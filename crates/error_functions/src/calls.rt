@@ -1,0 +1,46 @@
+//! Why a call is refused.
+
+use crate::ExpressionError;
+use ir_arena::handle::Handle;
+use ir_types::key;
+use thiserror::Error;
+
+/// Why a call is refused (naga's `CallError`).
+#[derive(PartialEq, Debug, Drop, Error)]
+pub enum CallError {
+    /// What is passed is refused.
+    #[error("argument {index} is refused: {source}")]
+    Argument {
+        /// The argument, counted from 0.
+        index: usize,
+        /// Why.
+        source: ExpressionError,
+    },
+    /// The answer stands for something already.
+    #[error("the answer {0:?} is in scope already")]
+    ResultAlreadyInScope(Handle<key::Expression>),
+    /// Another call answers by the same expression.
+    #[error("the answer {0:?} is that of another call")]
+    ResultAlreadyPopulated(Handle<key::Expression>),
+    /// Too few or too many arguments are passed.
+    #[error("{seen} arguments are passed where there are {required}")]
+    ArgumentCount {
+        /// How many the function has.
+        required: usize,
+        /// How many are passed.
+        seen: usize,
+    },
+    /// What is passed is of another type.
+    #[error("argument {index} is {seen_expression:?}, which is not of type {required:?}")]
+    ArgumentType {
+        /// The argument, counted from 0.
+        index: usize,
+        /// Its type.
+        required: Handle<key::IrType>,
+        /// What is passed.
+        seen_expression: Handle<key::Expression>,
+    },
+    /// The answer is no `CallResult` of the function, or is there exactly where there should be none.
+    #[error("the function doesn't answer by {0:?}")]
+    ExpressionMismatch(Option<Handle<key::Expression>>),
+}

@@ -1,3 +1,0 @@
-pub mod Callees
-pub mod Bodies
-pub mod Left

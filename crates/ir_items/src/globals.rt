@@ -1,0 +1,133 @@
+// Constants, overrides and global variables.
+ghost use Rattle.std.specs.Prelude.{◌≡◌, IfOk};
+ghost use Rattle.ir_items.specs.GlobalView.{constant_view, override_view, global_view};
+
+use ir_arena::copied::Copied;
+use ir_arena::handle::Handle;
+use ir_flags::MemoryDecorations;
+use ir_kinds::{AddressSpace, ResourceBinding};
+use ir_types::{clone_name, key};
+use std::alloc::{AllocError, Global};
+
+/// A value that is known when the module is made (naga's `Constant`).
+#[derive(PartialEq, Debug, Drop)]
+pub struct Constant {
+    /// The name in the source, if any.
+    pub name: Option<String>,
+    /// Its type.
+    pub ty: Handle<key::IrType>,
+    /// What it is, among the module's global expressions.
+    pub init: Handle<key::Expression>,
+}
+
+/// A value that is known when a pipeline is made (naga's `Override`).
+#[derive(PartialEq, Debug, Drop)]
+pub struct Override {
+    /// The name in the source, if any.
+    pub name: Option<String>,
+    /// The number that a pipeline calls it by, if any.
+    pub id: Option<u16>,
+    /// Its type.
+    pub ty: Handle<key::IrType>,
+    /// What it is where the pipeline doesn't say, among the module's global expressions.
+    pub init: Option<Handle<key::Expression>>,
+}
+
+/// A variable of the module (naga's `GlobalVariable`).
+#[derive(PartialEq, Eq, Debug, Drop)]
+pub struct GlobalVariable {
+    /// The name in the source, if any.
+    pub name: Option<String>,
+    /// Where it lies.
+    pub space: AddressSpace,
+    /// Where a pipeline binds it, if it does.
+    pub binding: Option<ResourceBinding>,
+    /// Its type.
+    pub ty: Handle<key::IrType>,
+    /// What it begins as, among the module's global expressions.
+    pub init: Option<Handle<key::Expression>>,
+    /// How its memory is seen by others.
+    pub memory_decorations: MemoryDecorations,
+}
+
+impl Constant {
+    /// An equal constant in memory of its own. The error is out of memory.
+    pub fn clone(&self, alloc: Global) -> Result<Constant, AllocError>
+        ensures { IfOk result (λ copy. constant_view copy ≡ constant_view self.now) }
+    {
+        Ok(Constant {
+            name: clone_name(alloc, &self.name)?,
+            ty: self.ty,
+            init: self.init,
+        })
+    }
+}
+
+impl Override {
+    /// An equal override in memory of its own. The error is out of memory.
+    pub fn clone(&self, alloc: Global) -> Result<Override, AllocError>
+        ensures { IfOk result (λ copy. override_view copy ≡ override_view self.now) }
+    {
+        Ok(Override {
+            name: clone_name(alloc, &self.name)?,
+            id: self.id,
+            ty: self.ty,
+            init: self.init,
+        })
+    }
+}
+
+impl GlobalVariable {
+    /// An equal variable in memory of its own. The error is out of memory.
+    pub fn clone(&self, alloc: Global) -> Result<GlobalVariable, AllocError>
+        ensures { IfOk result (λ copy. global_view copy ≡ global_view self.now) }
+    {
+        Ok(GlobalVariable {
+            name: clone_name(alloc, &self.name)?,
+            space: self.space,
+            binding: self.binding,
+            ty: self.ty,
+            init: self.init,
+            memory_decorations: self.memory_decorations,
+        })
+    }
+}
+
+impl Copied for Constant {
+    ghost use Rattle.ir_items.specs.GlobalPlain.{PlainConstant};
+    ghost use Rattle.ir_items.specs.GlobalView.{constant_view};
+
+    ghost View = { PlainConstant };
+
+    ghost view = { constant_view };
+
+    fn copied(&self, alloc: Global) -> Result<Constant, AllocError> {
+        self.clone(alloc)
+    }
+}
+
+impl Copied for Override {
+    ghost use Rattle.ir_items.specs.GlobalPlain.{PlainOverride};
+    ghost use Rattle.ir_items.specs.GlobalView.{override_view};
+
+    ghost View = { PlainOverride };
+
+    ghost view = { override_view };
+
+    fn copied(&self, alloc: Global) -> Result<Override, AllocError> {
+        self.clone(alloc)
+    }
+}
+
+impl Copied for GlobalVariable {
+    ghost use Rattle.ir_items.specs.GlobalPlain.{PlainGlobal};
+    ghost use Rattle.ir_items.specs.GlobalView.{global_view};
+
+    ghost View = { PlainGlobal };
+
+    ghost view = { global_view };
+
+    fn copied(&self, alloc: Global) -> Result<GlobalVariable, AllocError> {
+        self.clone(alloc)
+    }
+}

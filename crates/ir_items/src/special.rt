@@ -1,0 +1,48 @@
+// The types that some expressions ask for.
+ghost use Rattle.std.specs.Prelude.{◌≡◌, IfOk};
+ghost use Rattle.ir_items.specs.GlobalView.{special_view, no_special};
+
+use indexmap::IndexMap;
+use ir_arena::handle::Handle;
+use ir_kinds::PredeclaredType;
+use ir_types::key;
+use std::alloc::{AllocError, Global};
+
+/// Types that some expressions ask for by what they are (naga's `SpecialTypes`).
+#[derive(PartialEq, Debug, Drop)]
+pub struct SpecialTypes {
+    /// The type of a ray.
+    pub ray_desc: Option<Handle<key::IrType>>,
+    /// The type of what a ray hits.
+    pub ray_intersection: Option<Handle<key::IrType>>,
+    /// The type of the vertices that a ray hits.
+    pub ray_vertex_return: Option<Handle<key::IrType>>,
+    /// The types of what some functions answer.
+    pub predeclared_types: IndexMap<PredeclaredType, Handle<key::IrType>>,
+}
+
+impl SpecialTypes {
+    /// None of them (naga's `SpecialTypes::default`).
+    pub fn new(alloc: Global) -> SpecialTypes
+        ensures { special_view result ≡ no_special }
+    {
+        SpecialTypes {
+            ray_desc: None,
+            ray_intersection: None,
+            ray_vertex_return: None,
+            predeclared_types: IndexMap::new(alloc),
+        }
+    }
+
+    /// The same in memory of its own. The error is out of memory.
+    pub fn clone(&self, _alloc: Global) -> Result<SpecialTypes, AllocError>
+        ensures { IfOk result (λ copy. special_view copy ≡ special_view self.now) }
+    {
+        Ok(SpecialTypes {
+            ray_desc: self.ray_desc,
+            ray_intersection: self.ray_intersection,
+            ray_vertex_return: self.ray_vertex_return,
+            predeclared_types: self.predeclared_types.clone()?,
+        })
+    }
+}

@@ -1,2 +1,0 @@
-mod ByChains
-mod Kept

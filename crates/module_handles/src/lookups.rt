@@ -1,0 +1,125 @@
+//! Types and values of what is named, and what does not come before.
+
+ghost use Rattle.std.specs.Prelude.{◌≡◌, option_map, option_and_then, slice_get};
+ghost use Rattle.ir_expressions.specs.Plain.{expression_view};
+ghost use Rattle.ir_items.specs.GlobalView.{constant_view, override_view};
+ghost use Rattle.ir_items.specs.View.{module_view};
+ghost use Rattle.module_handles.specs.LookupFound.{type_of, init_of, forward};
+ghost use Rattle.spec_handles.specs.Expressions.{expression_item};
+
+use ir_arena::handle::Handle;
+use ir_items::{Constant, Expression, Module, Override, key};
+use ir_references::{HandleFault, item_of};
+use spec_handles::{ItemKind, Target};
+
+// The constant at a handle, if it is there.
+#[tactic(auto, using(ir_references::proofs::Entries::entries))]
+fn constant_at(module: &Module, handle: Handle<key::Constant>) -> Option<&Constant>
+    ensures { option_map (λ x. constant_view x.now) result ≡ slice_get (module_view «module».now).constants handle }
+{
+    match module.constants.try_get(handle) {
+        Ok(constant) => Some(constant),
+        Err(_) => None,
+    }
+}
+
+// The override at a handle, if it is there.
+#[tactic(auto, using(ir_references::proofs::Entries::entries))]
+fn override_at(module: &Module, handle: Handle<key::Override>) -> Option<&Override>
+    ensures { option_map (λ x. override_view x.now) result ≡ slice_get (module_view «module».now).overrides handle }
+{
+    match module.overrides.try_get(handle) {
+        Ok(found) => Some(found),
+        Err(_) => None,
+    }
+}
+
+/// The place of what is named.
+pub fn place_of<K>(handle: Option<Handle<K>>) -> Option<usize>
+    ensures { result ≡ handle }
+{
+    match handle {
+        Some(handle) => Some(handle.index()),
+        None => None,
+    }
+}
+
+/// The type that an item is, or has.
+pub fn type_of(module: &Module, item: Target) -> Option<Handle<key::IrType>>
+    ensures { result ≡ type_of (module_view «module».now) item }
+{
+    match item {
+        Target::Type(handle) => Some(handle),
+        Target::Constant(handle) => match constant_at(module, handle) {
+            Some(constant) => Some(constant.ty),
+            None => None,
+        },
+        Target::Override(handle) => match override_at(module, handle) {
+            Some(found) => Some(found.ty),
+            None => None,
+        },
+        Target::GlobalVariable(_)
+        | Target::LocalVariable(_)
+        | Target::Function(_)
+        | Target::DiagnosticFilter(_) => None,
+    }
+}
+
+/// The global expression that a constant or an override begins as.
+pub fn init_of(module: &Module, item: Target) -> Option<Handle<key::Expression>>
+    ensures { result ≡ init_of (module_view «module».now) item }
+{
+    match item {
+        Target::Constant(handle) => match constant_at(module, handle) {
+            Some(constant) => Some(constant.init),
+            None => None,
+        },
+        Target::Override(handle) => match override_at(module, handle) {
+            Some(found) => found.init,
+            None => None,
+        },
+        Target::Type(_)
+        | Target::GlobalVariable(_)
+        | Target::LocalVariable(_)
+        | Target::Function(_)
+        | Target::DiagnosticFilter(_) => None,
+    }
+}
+
+/// The type that a global expression names, or that of the constant or the override which it names.
+pub fn type_named(module: &Module, expression: &Expression) -> Option<usize>
+    ensures { result ≡ option_and_then (type_of (module_view «module».now)) (expression_item (expression_view expression.now)) }
+{
+    match item_of(expression) {
+        Some(item) => place_of(type_of(module, item)),
+        None => None,
+    }
+}
+
+/// What the constant or the override that a global expression names begins as.
+pub fn init_named(module: &Module, expression: &Expression) -> Option<usize>
+    ensures { result ≡ option_and_then (init_of (module_view «module».now)) (expression_item (expression_view expression.now)) }
+{
+    match item_of(expression) {
+        Some(item) => place_of(init_of(module, item)),
+        None => None,
+    }
+}
+
+/// The fault of an item that depends on one, if that does not come before it.
+pub fn forward(kind: ItemKind, index: usize, depends_on: Option<usize>) -> Option<HandleFault>
+    ensures { result ≡ option_and_then (forward kind index) depends_on }
+{
+    match depends_on {
+        Some(depends_on) => if depends_on < index {
+            None
+        } else {
+            Some(HandleFault::Forward {
+                kind,
+                index,
+                depends_on,
+            })
+        },
+        None => None,
+    }
+}

@@ -1,0 +1,64 @@
+//! What says how many elements a type has.
+
+ghost use Rattle.std.specs.Prelude.{◌≡◌};
+ghost use Rattle.ir_items.specs.View.{module_view};
+ghost use Rattle.ir_types.specs.Plain.{inner_view};
+ghost use Rattle.module_handles.specs.LookupFound.{counted_by, counted_forward};
+ghost use Rattle.spec_handles.specs.Items.{pending_in, pending_of};
+
+use crate::lookups::{forward, place_of, type_of};
+use ir_arena::handle::Handle;
+use ir_items::{ArraySize, Module, TypeInner, key};
+use ir_references::HandleFault;
+use spec_handles::{ItemKind, Target};
+
+// The override that says how many there are.
+fn pending_in(size: ArraySize) -> Option<Handle<key::Override>>
+    ensures { result ≡ pending_in size }
+{
+    match size {
+        ArraySize::Pending(handle) => Some(handle),
+        ArraySize::Constant(_) | ArraySize::Dynamic => None,
+    }
+}
+
+/// The override that says how many elements a type has.
+pub fn pending_of(inner: &TypeInner) -> Option<Handle<key::Override>>
+    ensures { result ≡ pending_of (inner_view inner.now) }
+{
+    match *inner {
+        TypeInner::Array { size, .. } | TypeInner::BindingArray { size, .. } => pending_in(size),
+        TypeInner::Scalar(_)
+        | TypeInner::Vector { .. }
+        | TypeInner::Matrix { .. }
+        | TypeInner::CooperativeMatrix { .. }
+        | TypeInner::Atomic(_)
+        | TypeInner::Pointer { .. }
+        | TypeInner::ValuePointer { .. }
+        | TypeInner::Struct { .. }
+        | TypeInner::Image { .. }
+        | TypeInner::Sampler { .. }
+        | TypeInner::AccelerationStructure { .. }
+        | TypeInner::RayQuery { .. } => None,
+    }
+}
+
+/// The same as an item.
+pub fn counted_by(inner: &TypeInner) -> Option<Target>
+    ensures { result ≡ counted_by (inner_view inner.now) }
+{
+    match pending_of(inner) {
+        Some(handle) => Some(Target::Override(handle)),
+        None => None,
+    }
+}
+
+/// The fault of the type of the override that says how many elements there are, if the type does not come after it.
+pub fn counted_forward(module: &Module, inner: &TypeInner, index: usize) -> Option<HandleFault>
+    ensures { result ≡ counted_forward (module_view «module».now) index (inner_view inner.now) }
+{
+    match counted_by(inner) {
+        Some(item) => forward(ItemKind::Type, index, place_of(type_of(module, item))),
+        None => None,
+    }
+}

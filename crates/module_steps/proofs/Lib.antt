@@ -1,4 +1,0 @@
-pub mod Handles
-pub mod Refusals
-pub mod StepLemmas
-pub mod ValueLemmas

@@ -1,0 +1,5 @@
+pub mod Handles
+pub mod Refusals
+pub mod StepLemmas
+pub mod ValueLemmas
+mod Known

@@ -1,0 +1,66 @@
+-- Each refusal is of the step that is reached.
+use Rattle.std.proofs.Common.{◌≡◌, inl, inr, List, sym, subst}
+use Rattle.module_expressions.specs.Constants.{IsConstantFault}
+use Rattle.module_expressions.specs.Expressions.{IsConstExpressionFault, IsUntyped}
+use Rattle.module_expressions.specs.Overrides.{IsOverrideFault}
+use Rattle.error_functions.specs.declared.const_expressions.ConstExpressionError.TheVariants as expression_error
+use Rattle.module_handles.specs.declared.error.InvalidHandleError.{InvalidHandleError}
+use Rattle.ir_faults.specs.Faults.{error_of}
+use Rattle.ir_faults.specs.declared.refusal.Refusal.{Refusal}
+use Rattle.ir_faults.specs.declared.refusal.Refusal.TheVariants as refusal
+use Rattle.ir_faults.specs.declared.with_span.WithSpan.{WithSpan}
+use Rattle.ir_items.specs.Plain.{PlainModule}
+use Rattle.module_constants.specs.declared.constants.InvalidConstant.{InvalidConstant}
+use Rattle.module_constants.specs.declared.expressions.InvalidGlobalExpression.{InvalidGlobalExpression}
+use Rattle.module_handles.specs.Errors.{IsHandleError}
+use Rattle.module_constants.specs.declared.listed_overrides.InvalidOverride.{InvalidOverride}
+use Rattle.module_types.specs.Validated.{IsFirstRefused as IsTypeRefused}
+use Rattle.module_types.specs.declared.validate.InvalidType.{InvalidType}
+use Rattle.module_validator.proofs.Handles.{handle_refuted}
+use Rattle.module_validator.proofs.StepLemmas.{not_laid, not_told, not_typed}
+use Rattle.module_validator.specs.Faults.{IsModuleFault, IsToldAs}
+use Rattle.module_validator.specs.declared.error.ModuleError.TheVariants as error
+use Rattle.spec_expressions.specs.Context.{outside}
+use Rattle.spec_modules.specs.Steps as step
+use Rattle.spec_modules.specs.Steps.{IsReached, FailsFirst}
+use Rattle.spec_modules.specs.declared.settings.ModuleSettings.{ModuleSettings}
+use Rattle.typing_expressions.specs.Types.{IsFirstUntyped}
+use Rattle.typing_expressions.specs.declared.refusal.TypingRefusal.{TypingRefusal}
+use Rattle.typing_expressions.specs.declared.refusal.TypingRefusal.TheVariants as typing
+use Rattle.typing_layout.specs.Held.{AreLayouts, IsRefused, IsRefusal}
+use Rattle.typing_layout.specs.declared.error.LayoutError.{LayoutError}
+use Rattle.typing_layout.specs.declared.layout.TypeLayout.{TypeLayout}
+
+pub by_handles : (s : ModuleSettings) (m : PlainModule) (e : InvalidHandleError) → IsHandleError m e → IsModuleFault s m (error.InvalidHandle e)
+by_handles s m e wrong = (wrong, handle_refuted m e wrong)
+
+pub by_layout : (s : ModuleSettings) (m : PlainModule) (layouts : List TypeLayout) (e : LayoutError) → IsReached s m step.layout → AreLayouts m.types layouts → IsRefused m.types layouts e → IsModuleFault s m (error.Layouter e)
+by_layout s m layouts e reached held refused = (record { reached = reached; item = not_laid s m layouts e held refused }, refused.fault)
+
+pub by_type : (s : ModuleSettings) (m : PlainModule) (e : InvalidType) → IsReached s m step.type → IsTypeRefused s.capabilities s.overrides_resolved m.types e → IsModuleFault s m (error.Type e)
+by_type s m e reached refused = (record { reached = reached; item = not_told s m e refused }, refused.fault)
+
+pub by_expression : (s : ModuleSettings) (m : PlainModule) (e : InvalidGlobalExpression) → IsReached s m step.expression → FailsFirst s m step.expression e.expression
+    → IsConstExpressionFault s.capabilities s.overrides_resolved m e.expression e.error → IsModuleFault s m (error.ConstExpression e)
+by_expression s m e reached item fault = inr (record { reached = reached; item = item }, fault)
+
+pub by_constant : (s : ModuleSettings) (m : PlainModule) (e : InvalidConstant) → IsReached s m step.constant → FailsFirst s m step.constant e.constant → IsConstantFault m e.constant e.error → IsModuleFault s m (error.Constant e)
+by_constant s m e reached item fault = (record { reached = reached; item = item }, fault)
+
+pub by_override : (s : ModuleSettings) (m : PlainModule) (e : InvalidOverride) → IsReached s m step.override → FailsFirst s m step.override e.id → IsOverrideFault s.overrides_resolved m e.id e.error → IsModuleFault s m (error.Override e)
+by_override s m e reached item fault = (record { reached = reached; item = item }, fault)
+
+pub by_told : (s : ModuleSettings) (m : PlainModule) (layouts : List TypeLayout) (r : Refusal LayoutError) (f : WithSpan LayoutError) (e : LayoutError) → r ≡ refusal.Fault f → e ≡ error_of f → IsReached s m step.layout
+    → AreLayouts m.types layouts → IsRefusal m.types layouts r → IsModuleFault s m (error.Layouter e)
+by_told s m layouts r f e is same reached held told =
+    let refused = subst (IsRefusal m.types layouts) is told in
+    subst (λ d. IsModuleFault s m (error.Layouter d)) (sym same) (by_layout s m layouts (error_of f) reached held refused.0)
+
+pub by_refusal : (s : ModuleSettings) (m : PlainModule) (r : TypingRefusal) (x : InvalidGlobalExpression) → IsReached s m step.typing → IsFirstUntyped (outside m) m.global_expressions r → IsToldAs r x
+    → IsModuleFault s m (error.ConstExpression x)
+by_refusal s m (typing.Memory e) x reached first told = absurd told
+by_refusal s m (typing.Fault expression e) x reached first told =
+    inl (
+      record { reached = reached; item = subst (FailsFirst s m step.typing) (sym told.0) (not_typed s m expression e first) },
+      subst (λ d. IsUntyped m x.expression d) (sym told.1) (subst (λ h. IsUntyped m h (expression_error.Typing e)) (sym told.0) first.tells),
+    )

@@ -1,0 +1,134 @@
+-- What the answers about values say of the steps.
+use Rattle.std.proofs.Common.{◌≡◌, ◌↔◌, ◌∙◌, ℕ, zero, suc, List, [], ◌∷◌, Some, Bool, false, IsTrue, length, map, slice_get, refl, sym, subst, true≢false, arith}
+use Rattle.module_expressions.specs.Constants.{IsConstantFault}
+use Rattle.module_expressions.specs.Expressions.{IsConstExpressionFault}
+use Rattle.module_expressions.specs.Overrides.{IsOverrideFault}
+use Rattle.ir_flags.specs.Sets.{Has}
+use Rattle.ir_flags.specs.declared.settings.TheConstants.ValidationFlags.{CONSTANTS}
+use Rattle.ir_flags.specs.declared.settings.Capabilities.{Capabilities}
+use Rattle.ir_items.specs.Plain.{PlainModule}
+use Rattle.module_constants.specs.Firsts.{AreAccepted, IsFirstRefused}
+use Rattle.module_constants.specs.Known.{AreTyped, IsKnown, module_in}
+use Rattle.module_constants.specs.declared.constants.InvalidConstant.{InvalidConstant}
+use Rattle.module_constants.specs.declared.context.GlobalContext.{GlobalContext}
+use Rattle.module_constants.specs.declared.expressions.InvalidGlobalExpression.{InvalidGlobalExpression}
+use Rattle.module_constants.specs.declared.listed_overrides.InvalidOverride.{InvalidOverride}
+use Rattle.module_types.specs.Validated.{AreAccepted as AreTold}
+use Rattle.module_validator.proofs.Handles.{named_are_there}
+use Rattle.module_validator.proofs.Refusals.{by_expression, by_constant, by_override}
+use Rattle.module_validator.specs.Faults.{IsModuleFault}
+use Rattle.module_validator.specs.Settings.{AreSettingsOf}
+use Rattle.module_validator.specs.declared.error.ModuleError.TheVariants as error
+use Rattle.spec_expressions.specs.Constants.{ConstantOK}
+use Rattle.spec_expressions.specs.GlobalExpressions.{GlobalExpressionOK}
+use Rattle.spec_expressions.specs.Overrides.{OverrideOK}
+use Rattle.spec_expressions.specs.Context.{outside}
+use Rattle.spec_handles.specs.InOrder.{HandlesOK}
+use Rattle.spec_modules.specs.Steps.{expression, constant, override, item_count, StepPasses, IsReached, FailsFirst}
+use Rattle.spec_modules.specs.declared.settings.ModuleSettings.{ModuleSettings}
+use Rattle.spec_expressions.specs.Typing.{HasGlobalType}
+use Rattle.typing_expressions.specs.Types.{AreTypes}
+use Rattle.typing_forms.specs.declared.resolution.TypeResolution.{TypeResolution}
+use Rattle.typing_layout.specs.Constness.{AreKinds}
+use Rattle.typing_operands.specs.Answers.{form_given}
+
+pub expressions_pass : (s : ModuleSettings) (m : PlainModule) → AreAccepted (GlobalExpressionOK s.capabilities s.overrides_resolved m) (item_count m expression) → StepPasses s m expression
+expressions_pass s m all = record { each = λ index lt has. all.each index lt }
+
+pub constants_pass : (s : ModuleSettings) (m : PlainModule) → AreAccepted (ConstantOK m) (item_count m constant) → StepPasses s m constant
+constants_pass s m all = record { each = λ index lt has. all.each index lt }
+
+pub overrides_pass : (s : ModuleSettings) (m : PlainModule) → AreAccepted (OverrideOK s.overrides_resolved m) (item_count m override) → StepPasses s m override
+overrides_pass s m all = record { each = λ index lt has. all.each index lt }
+
+pub expression_fails : (s : ModuleSettings) (m : PlainModule) (Fault : ℕ → Type 0) (index : ℕ) → Has s.flags.0 CONSTANTS.0 → IsFirstRefused (GlobalExpressionOK s.capabilities s.overrides_resolved m) Fault (item_count m expression) index
+    → FailsFirst s m expression index
+expression_fails s m Fault index asked first = record {
+  within = first.within;
+  before = λ other lt has. first.before other lt;
+  fails = λ ok. first.not (ok asked);
+}
+
+pub constant_fails : (s : ModuleSettings) (m : PlainModule) (Fault : ℕ → Type 0) (index : ℕ) → Has s.flags.0 CONSTANTS.0 → IsFirstRefused (ConstantOK m) Fault (item_count m constant) index → FailsFirst s m constant index
+constant_fails s m Fault index asked first = record {
+  within = first.within;
+  before = λ other lt has. first.before other lt;
+  fails = λ ok. first.not (ok asked);
+}
+
+pub override_fails : (s : ModuleSettings) (m : PlainModule) (Fault : ℕ → Type 0) (index : ℕ) → Has s.flags.0 CONSTANTS.0 → IsFirstRefused (OverrideOK s.overrides_resolved m) Fault (item_count m override) index → FailsFirst s m override index
+override_fails s m Fault index asked first = record {
+  within = first.within;
+  before = λ other lt has. first.before other lt;
+  fails = λ ok. first.not (ok asked);
+}
+
+-- ---- where the settings are those of what is asked
+
+pub expressions_accepted : (s : ModuleSettings) (c : GlobalContext) (m : PlainModule) → AreSettingsOf s c → AreAccepted (GlobalExpressionOK c.capabilities c.overrides_resolved m) (length m.global_expressions) → StepPasses s m expression
+expressions_accepted s c m same all =
+    expressions_pass s m
+    (subst (λ (r : Bool). AreAccepted (GlobalExpressionOK s.capabilities r m) (length m.global_expressions)) same.resolved
+    (subst (λ (p : Capabilities). AreAccepted (GlobalExpressionOK p c.overrides_resolved m) (length m.global_expressions)) same.capabilities all))
+
+pub overrides_accepted : (s : ModuleSettings) (c : GlobalContext) (m : PlainModule) → AreSettingsOf s c → AreAccepted (OverrideOK c.overrides_resolved m) (length m.overrides) → StepPasses s m override
+overrides_accepted s c m same all = overrides_pass s m (subst (λ (r : Bool). AreAccepted (OverrideOK r m) (length m.overrides)) same.resolved all)
+
+abbrev ExpressionFirst : Capabilities → Bool → PlainModule → InvalidGlobalExpression → Type 0
+ExpressionFirst capabilities resolved m e =
+    IsFirstRefused (GlobalExpressionOK capabilities resolved m) (λ handle. IsConstExpressionFault capabilities resolved m handle e.error) (length m.global_expressions) e.expression
+
+abbrev OverrideFirst : Bool → PlainModule → InvalidOverride → Type 0
+OverrideFirst resolved m e = IsFirstRefused (OverrideOK resolved m) (λ handle. IsOverrideFault resolved m handle e.error) (length m.overrides) e.id
+
+pub expression_refused : (s : ModuleSettings) (c : GlobalContext) (m : PlainModule) (e : InvalidGlobalExpression) → AreSettingsOf s c → IsReached s m expression → Has s.flags.0 CONSTANTS.0
+    → IsFirstRefused (GlobalExpressionOK c.capabilities c.overrides_resolved m) (λ handle. IsConstExpressionFault c.capabilities c.overrides_resolved m handle e.error) (length m.global_expressions) e.expression
+    → IsModuleFault s m (error.ConstExpression e)
+expression_refused s c m e same reached asked first =
+    let own : ExpressionFirst s.capabilities s.overrides_resolved m e =
+    subst (λ (r : Bool). ExpressionFirst s.capabilities r m e) same.resolved (subst (λ (p : Capabilities). ExpressionFirst p c.overrides_resolved m e) same.capabilities first)
+    in
+    by_expression s m e reached (expression_fails s m (λ handle. IsConstExpressionFault s.capabilities s.overrides_resolved m handle e.error) e.expression asked own) own.fault
+
+pub constant_refused : (s : ModuleSettings) (m : PlainModule) (e : InvalidConstant) → IsReached s m constant → Has s.flags.0 CONSTANTS.0
+    → IsFirstRefused (ConstantOK m) (λ handle. IsConstantFault m handle e.error) (length m.constants) e.constant → IsModuleFault s m (error.Constant e)
+constant_refused s m e reached asked first = by_constant s m e reached (constant_fails s m (λ handle. IsConstantFault m handle e.error) e.constant asked first) first.fault
+
+pub override_refused : (s : ModuleSettings) (c : GlobalContext) (m : PlainModule) (e : InvalidOverride) → AreSettingsOf s c → IsReached s m override → Has s.flags.0 CONSTANTS.0
+    → IsFirstRefused (OverrideOK c.overrides_resolved m) (λ handle. IsOverrideFault c.overrides_resolved m handle e.error) (length m.overrides) e.id → IsModuleFault s m (error.Override e)
+override_refused s c m e same reached asked first =
+    let own : OverrideFirst s.overrides_resolved m e = subst (λ (r : Bool). OverrideFirst r m e) same.resolved first in
+    by_override s m e reached (override_fails s m (λ handle. IsOverrideFault s.overrides_resolved m handle e.error) e.id asked own) own.fault
+
+-- ---- what is known where values are judged
+
+many_forms : {A B : Type 0} (f : A → B) (xs : List A) → length (map f xs) ≡ length xs
+many_forms f [] = refl
+many_forms f (x ∷ xs) = let rest = many_forms f xs in omega (arith, rest)
+
+form_there : {A B : Type 0} (f : A → B) (xs : List A) (k : ℕ) (y : B) → slice_get (map f xs) k ≡ Some y → (x : A) × (slice_get xs k ≡ Some x) × (f x ≡ y)
+form_there f [] k y e = cc (e)
+form_there f (x ∷ xs) zero y e = (x, refl, cc (e))
+form_there f (x ∷ xs) (suc k) y e = form_there f xs k y e
+
+forms_typed : (m : PlainModule) (resolutions : List TypeResolution) → AreTypes (outside m) m.global_expressions resolutions → AreTyped m (map (form_given m.types) resolutions)
+forms_typed m resolutions typed = record {
+  many = let h = many_forms (form_given m.types) resolutions in h ∙ typed.len;
+  each = λ handle t at.
+      let here = form_there (form_given m.types) resolutions handle t at in
+      subst (HasGlobalType m handle) here.2 (typed.each handle here.0 here.1);
+}
+
+pub known_in : (c : GlobalContext) (capabilities : Capabilities) (resolved : Bool) → HandlesOK (module_in c) → AreKinds (module_in c).global_expressions c.kinds.now
+    → (resolutions : List TypeResolution) → AreTypes (outside (module_in c)) (module_in c).global_expressions resolutions → c.forms.now ≡ map (form_given (module_in c).types) resolutions
+    → AreTold capabilities resolved (module_in c).types c.infos.now → IsKnown c
+known_in c capabilities resolved handles kinds resolutions typed forms told = record {
+  there = named_are_there (module_in c) handles;
+  kinds = kinds;
+  typed = subst (AreTyped (module_in c)) (sym forms) (forms_typed (module_in c) resolutions typed);
+  many = told.many;
+  told = record { each = λ handle i at. (told.each handle i at).info };
+}
+
+pub unasked : (T : Type 0) (asked : Bool) → IsTrue asked ↔ T → asked ≡ false → T → ⊥
+unasked T asked is not_asked t = true≢false (sym (is.1 t) ∙ not_asked)

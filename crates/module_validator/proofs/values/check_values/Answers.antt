@@ -1,0 +1,19 @@
+use Rattle.std.proofs.Common.{◌≡◌, map, rules}
+use Rattle.ir_items.specs.View.{module_view}
+use Rattle.module_conditions.proofs.Origins.{order_gives_origins}
+use Rattle.module_validator.proofs.ValueLemmas.{known_in, unasked}
+use Rattle.typing_operands.specs.Answers.{form_given}
+use Rattle.spec_modules.proofs.Reached.{nothing_asked}
+use Rattle.module_validator.proofs.values.check_values.Goals as goal
+
+pub returns-then-not-asks_values-clause-accepted : goal.returns-then-not-asks_values-clause-accepted
+returns-then-not-asks_values-clause-accepted c =
+    nothing_asked c.args.settings (module_view c.args.module.now) c.requires.reached (unasked _ c.asks_values.result c.asks_values.ensures c.if-not-asks_values.true)
+
+pub from_arena-requires : goal.from_arena-requires
+from_arena-requires c = (order_gives_origins c.args.module.now c.requires.reached.handles).globals
+
+pub check_each-requires-clause-known : goal.check_each-requires-clause-known
+check_each-requires-clause-known c =
+    let forms : c.deref.result.now ≡ map (form_given (module_view c.args.module.now).types) c.args.resolutions.now = search rules in
+    known_in _ c.args.settings.capabilities c.args.settings.overrides_resolved c.requires.reached.handles c.in_ok-kinds.ensures c.args.resolutions.now c.requires.typed forms c.requires.told

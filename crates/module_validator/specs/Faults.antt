@@ -1,0 +1,55 @@
+-- Why a module is refused.
+use Rattle.std.specs.Prelude.{◌≡◌, ◌⊎◌, ℕ, []}
+use Rattle.module_expressions.specs.Constants.{IsConstantFault}
+use Rattle.module_expressions.specs.Expressions.{IsUntyped, IsConstExpressionFault}
+use Rattle.module_expressions.specs.Overrides.{IsOverrideFault}
+use Rattle.error_functions.specs.declared.const_expressions.ConstExpressionError.{ConstExpressionError}
+use Rattle.error_functions.specs.declared.const_expressions.ConstExpressionError.TheVariants as constant
+use Rattle.ir_faults.specs.Faults.{error_of, spans_of}
+use Rattle.ir_faults.specs.declared.refusal.Refusal.{Refusal}
+use Rattle.ir_faults.specs.declared.refusal.Refusal.TheVariants as refusal
+use Rattle.ir_items.specs.Plain.{PlainModule}
+use Rattle.module_constants.specs.declared.expressions.InvalidGlobalExpression.{InvalidGlobalExpression}
+use Rattle.module_handles.specs.Errors.{IsHandleError}
+use Rattle.module_types.specs.Validated.{IsRefusedFor}
+use Rattle.module_validator.specs.declared.error.ModuleError.{ModuleError}
+use Rattle.module_validator.specs.declared.error.ModuleError.TheVariants as error
+use Rattle.spec_handles.specs.InOrder.{HandlesOK}
+use Rattle.spec_modules.specs.Steps as step
+use Rattle.spec_modules.specs.Steps.{IsFirstFailing}
+use Rattle.spec_modules.specs.declared.settings.ModuleSettings.{ModuleSettings}
+use Rattle.spec_types.specs.View.{type_tree}
+use Rattle.typing_expressions.specs.declared.refusal.TypingRefusal.{TypingRefusal}
+use Rattle.typing_expressions.specs.declared.refusal.TypingRefusal.TheVariants as typing
+use Rattle.typing_layout.specs.Held.{IsFaultOf}
+
+-- a global expression has no type, or all have and it may not stand
+abbrev pub IsExpressionRefused : ModuleSettings → PlainModule → (handle : ℕ) → ConstExpressionError → Type 0
+IsExpressionRefused s m handle e =
+    (IsFirstFailing s m step.typing handle × IsUntyped m handle e)
+    ⊎ (IsFirstFailing s m step.expression handle × IsConstExpressionFault s.capabilities s.overrides_resolved m handle e)
+
+-- Each error stands where its step is the first that fails, at the first item that fails it, which has the fault that the
+-- error tells.
+abbrev pub IsModuleFault : ModuleSettings → PlainModule → ModuleError → Type 0
+IsModuleFault s m (error.InvalidHandle e) = IsHandleError m e × ¬ HandlesOK m
+IsModuleFault s m (error.Layouter e) = IsFirstFailing s m step.layout e.ty × IsFaultOf (type_tree m.types e.ty) e.inner
+IsModuleFault s m (error.Type e) = IsFirstFailing s m step.type e.ty × IsRefusedFor s.capabilities s.overrides_resolved m.types e.ty e.error
+IsModuleFault s m (error.ConstExpression e) = IsExpressionRefused s m e.expression e.error
+IsModuleFault s m (error.Constant e) = IsFirstFailing s m step.constant e.constant × IsConstantFault m e.constant e.error
+IsModuleFault s m (error.Override e) = IsFirstFailing s m step.override e.id × IsOverrideFault s.overrides_resolved m e.id e.error
+
+-- a module is refused for a fault, with no span, or memory ran out
+abbrev pub IsRefusal : ModuleSettings → PlainModule → Refusal ModuleError → Type 0
+IsRefusal s m (refusal.Memory e) = Unit {0}
+IsRefusal s m (refusal.Fault f) = IsModuleFault s m (error_of f) × (spans_of f ≡ [])
+
+-- what the typing refuses, as the error of the global expression
+abbrev pub IsToldAs : TypingRefusal → InvalidGlobalExpression → Type 0
+IsToldAs (typing.Memory e) x = ⊥
+IsToldAs (typing.Fault expression e) x = (x.expression ≡ expression) × (x.error ≡ constant.Typing e)
+
+-- it ran out of memory
+abbrev pub IsOutOfMemory : TypingRefusal → Type 0
+IsOutOfMemory (typing.Memory e) = Unit {0}
+IsOutOfMemory (typing.Fault expression e) = ⊥

@@ -1,0 +1,21 @@
+-- Why not all global variables of a module are accepted.
+use Rattle.std.specs.Prelude.{◌≡◌, []}
+use Rattle.global_checks.specs.Faults.{IsGlobalFault}
+use Rattle.ir_faults.specs.Faults.{error_of, spans_of}
+use Rattle.ir_faults.specs.declared.refusal.Refusal.{Refusal}
+use Rattle.ir_faults.specs.declared.refusal.Refusal.TheVariants as refusal
+use Rattle.ir_flags.specs.declared.settings.Capabilities.{Capabilities}
+use Rattle.ir_flags.specs.declared.settings.ValidationFlags.{ValidationFlags}
+use Rattle.ir_items.specs.Plain.{PlainModule}
+use Rattle.module_validator.specs.declared.globals.InvalidGlobalVariable.{InvalidGlobalVariable}
+use Rattle.spec_globals.specs.Globals.{IsFirstFailing}
+
+-- It is the first variable that is not accepted, and this is wrong with it.
+pub record IsVariableFault (flags : ValidationFlags) (capabilities : Capabilities) (m : PlainModule) (e : InvalidGlobalVariable) : Type 0 where
+  pub first : IsFirstFailing flags capabilities m e.global
+  pub fault : IsGlobalFault flags capabilities m e.global e.error
+
+-- memory ran out, or the first variable that is refused is told
+abbrev pub IsRefusal : ValidationFlags → Capabilities → PlainModule → Refusal InvalidGlobalVariable → Type 0
+IsRefusal flags capabilities m (refusal.Memory e) = Unit {0}
+IsRefusal flags capabilities m (refusal.Fault e) = IsVariableFault flags capabilities m (error_of e) × (spans_of e ≡ [])

@@ -1,0 +1,96 @@
+//! All global variables of a module.
+
+ghost use Rattle.std.specs.Prelude.{IfErr, MatchResult, OnOk};
+ghost use Rattle.ir_items.specs.View.{module_view};
+ghost use Rattle.module_constants.specs.Known.{IsKnown, module_in};
+ghost use Rattle.module_validator.specs.Refusals.{IsVariableFault, IsRefusal};
+ghost use Rattle.module_types.specs.Validated.{AreAccepted};
+ghost use Rattle.spec_expressions.specs.Context.{outside};
+ghost use Rattle.spec_globals.specs.Globals.{GlobalsOK};
+ghost use Rattle.spec_handles.specs.InOrder.{HandlesOK};
+ghost use Rattle.typing_expressions.specs.Types.{AreTypes};
+
+use global_checks::{GlobalVariableError, validate_global_var};
+use ir_arena::handle::Handle;
+use ir_faults::refusal::Refusal;
+use ir_faults::with_span::WithSpan;
+use ir_flags::ValidationFlags;
+use ir_items::Module;
+use ir_types::key;
+use module_constants::GlobalContext;
+use module_expressions::forms_given;
+use spec_modules::ModuleSettings;
+use std::alloc::Global;
+use thiserror::Error;
+use type_infos::TypeInfo;
+use typing_forms::TypeResolution;
+use typing_layout::ExpressionKindTracker;
+
+/// A global variable that is refused (naga's `ValidationError::GlobalVariable`).
+#[derive(Clone, Copy, PartialEq, Debug, Error)]
+#[error("global variable {global:?} is refused: {error}")]
+pub struct InvalidGlobalVariable {
+    /// The variable.
+    pub global: Handle<key::GlobalVariable>,
+    /// What is wrong with it.
+    pub error: GlobalVariableError,
+}
+
+// Whether a module may have its global variables. Each is looked at once.
+fn check_all(
+    flags: ValidationFlags,
+    context: &GlobalContext<'_>,
+) -> Result<(), InvalidGlobalVariable>
+    requires known { IsKnown context.now }
+    requires handles { HandlesOK (module_in context.now) }
+    ensures { MatchResult result
+        (λ _. GlobalsOK flags context.now.capabilities (module_in context.now))
+        (IsVariableFault flags context.now.capabilities (module_in context.now)) }
+{
+    for place in 0..context.module.global_variables.len() {
+        let global = Handle::at(place);
+        match validate_global_var(flags, context, global) {
+            Ok(()) => {}
+            Err(error) => return Err(InvalidGlobalVariable { global, error }),
+        }
+    }
+    Ok(())
+}
+
+/// Whether a module may have its global variables (the part of naga's `Validator::validate` that speaks of them). Each is
+/// looked at once, and so is each global expression.
+///
+/// Asks that the handles of the module are in order, and that this is told of its types and of its global expressions, as
+/// `ModuleValidator::validate` answers.
+///
+/// # Errors
+///
+/// The first variable that is refused, with a fault of its own and no span; or out of memory.
+pub fn validate_globals(
+    alloc: Global,
+    settings: ModuleSettings,
+    module: &Module,
+    infos: &[TypeInfo],
+    resolutions: &[TypeResolution],
+) -> Result<(), Refusal<InvalidGlobalVariable>>
+    requires handles { HandlesOK (module_view «module».now) }
+    requires told { AreAccepted settings.capabilities settings.overrides_resolved (module_view «module».now).types infos.now }
+    requires typed { AreTypes (outside (module_view «module».now)) (module_view «module».now).global_expressions resolutions.now }
+    ensures accepted { OnOk result (GlobalsOK settings.flags settings.capabilities (module_view «module».now)) }
+    ensures refused { IfErr result (IsRefusal settings.flags settings.capabilities (module_view «module».now)) }
+{
+    let kinds = ExpressionKindTracker::from_arena(alloc, &module.global_expressions)?;
+    let forms = forms_given(alloc, &module.types, resolutions)?;
+    let context = GlobalContext {
+        capabilities: settings.capabilities,
+        overrides_resolved: settings.overrides_resolved,
+        module,
+        kinds: &kinds,
+        forms: &forms,
+        infos,
+    };
+    match check_all(settings.flags, &context) {
+        Ok(()) => Ok(()),
+        Err(error) => Err(Refusal::Fault(WithSpan::new(alloc, error))),
+    }
+}

@@ -1,0 +1,156 @@
+//! The steps of the check of a module that ask of its values: global expressions, constants and overrides.
+
+ghost use Rattle.std.specs.Prelude.{◌↔◌, IsTrue, IfErr, OnOk};
+ghost use Rattle.ir_flags.specs.Sets.{Has};
+ghost use Rattle.ir_flags.specs.declared.settings.TheConstants.ValidationFlags.{CONSTANTS};
+ghost use Rattle.ir_items.specs.View.{module_view};
+ghost use Rattle.module_constants.specs.Known.{IsKnown, module_in};
+ghost use Rattle.module_types.specs.Validated.{AreAccepted};
+ghost use Rattle.module_validator.specs.Faults.{IsRefusal};
+ghost use Rattle.module_validator.specs.Settings.{AreSettingsOf};
+ghost use Rattle.spec_expressions.specs.Context.{outside};
+ghost use Rattle.spec_modules.specs.Steps.{IsReached, ModuleOK, expression, constant, override};
+ghost use Rattle.typing_expressions.specs.Types.{AreTypes};
+
+use crate::error::ModuleError;
+use crate::steps::refused;
+use bitflags::Flags;
+use ir_faults::refusal::Refusal;
+use ir_flags::ValidationFlags;
+use ir_items::Module;
+use module_constants::{GlobalContext, validate_const_expressions, validate_constants};
+use module_expressions::forms_given;
+use module_constants::validate_overrides;
+use spec_modules::ModuleSettings;
+use std::alloc::Global;
+use type_infos::TypeInfo;
+use typing_forms::TypeResolution;
+use typing_layout::ExpressionKindTracker;
+
+// Whether values are asked of.
+fn asks_values(flags: ValidationFlags) -> bool
+    ensures { IsTrue result ↔ Has flags.0 CONSTANTS.0 }
+{
+    flags.contains(ValidationFlags::CONSTANTS)
+}
+
+// Asks that the module may have its global expressions.
+fn check_expressions(
+    alloc: Global,
+    settings: ModuleSettings,
+    context: &GlobalContext<'_>,
+) -> Result<(), Refusal<ModuleError>>
+    requires same { AreSettingsOf settings context.now }
+    requires asked { Has settings.flags.0 CONSTANTS.0 }
+    requires reached { IsReached settings (module_in context.now) expression }
+    requires known { IsKnown context.now }
+    ensures reached { OnOk result (IsReached settings (module_in context.now) constant) }
+    ensures refused { IfErr result (IsRefusal settings (module_in context.now)) }
+{
+    match validate_const_expressions(context) {
+        Ok(()) => Ok(()),
+        Err(error) => Err(refused(
+            alloc,
+            settings,
+            context.module,
+            ModuleError::ConstExpression(error),
+        )),
+    }
+}
+
+// Asks that the module may have its constants.
+fn check_constants(
+    alloc: Global,
+    settings: ModuleSettings,
+    context: &GlobalContext<'_>,
+) -> Result<(), Refusal<ModuleError>>
+    requires same { AreSettingsOf settings context.now }
+    requires asked { Has settings.flags.0 CONSTANTS.0 }
+    requires reached { IsReached settings (module_in context.now) constant }
+    requires known { IsKnown context.now }
+    ensures reached { OnOk result (IsReached settings (module_in context.now) override) }
+    ensures refused { IfErr result (IsRefusal settings (module_in context.now)) }
+{
+    match validate_constants(context) {
+        Ok(()) => Ok(()),
+        Err(error) => Err(refused(
+            alloc,
+            settings,
+            context.module,
+            ModuleError::Constant(error),
+        )),
+    }
+}
+
+// Asks that the module may have its overrides.
+fn check_overrides(
+    alloc: Global,
+    settings: ModuleSettings,
+    context: &GlobalContext<'_>,
+) -> Result<(), Refusal<ModuleError>>
+    requires same { AreSettingsOf settings context.now }
+    requires asked { Has settings.flags.0 CONSTANTS.0 }
+    requires reached { IsReached settings (module_in context.now) override }
+    requires known { IsKnown context.now }
+    ensures accepted { OnOk result (ModuleOK settings (module_in context.now)) }
+    ensures refused { IfErr result (IsRefusal settings (module_in context.now)) }
+{
+    match validate_overrides(alloc, context) {
+        Ok(()) => Ok(()),
+        Err(Refusal::Memory(error)) => Err(Refusal::Memory(error)),
+        Err(Refusal::Fault(fault)) => Err(refused(
+            alloc,
+            settings,
+            context.module,
+            ModuleError::Override(fault.into_inner()),
+        )),
+    }
+}
+
+// Asks of the values of a module, where that is wanted.
+fn check_each(
+    alloc: Global,
+    settings: ModuleSettings,
+    context: &GlobalContext<'_>,
+) -> Result<(), Refusal<ModuleError>>
+    requires same { AreSettingsOf settings context.now }
+    requires asked { Has settings.flags.0 CONSTANTS.0 }
+    requires reached { IsReached settings (module_in context.now) expression }
+    requires known { IsKnown context.now }
+    ensures accepted { OnOk result (ModuleOK settings (module_in context.now)) }
+    ensures refused { IfErr result (IsRefusal settings (module_in context.now)) }
+{
+    check_expressions(alloc, settings, context)?;
+    check_constants(alloc, settings, context)?;
+    check_overrides(alloc, settings, context)
+}
+
+/// Asks of the values of a module, where that is wanted.
+pub fn check_values(
+    alloc: Global,
+    settings: ModuleSettings,
+    module: &Module,
+    infos: &[TypeInfo],
+    resolutions: &[TypeResolution],
+) -> Result<(), Refusal<ModuleError>>
+    requires reached { IsReached settings (module_view «module».now) expression }
+    requires told { AreAccepted settings.capabilities settings.overrides_resolved (module_view «module».now).types infos.now }
+    requires typed { AreTypes (outside (module_view «module».now)) (module_view «module».now).global_expressions resolutions.now }
+    ensures accepted { OnOk result (ModuleOK settings (module_view «module».now)) }
+    ensures refused { IfErr result (IsRefusal settings (module_view «module».now)) }
+{
+    if !asks_values(settings.flags) {
+        return Ok(());
+    }
+    let kinds = ExpressionKindTracker::from_arena(alloc, &module.global_expressions)?;
+    let forms = forms_given(alloc, &module.types, resolutions)?;
+    let context = GlobalContext {
+        capabilities: settings.capabilities,
+        overrides_resolved: settings.overrides_resolved,
+        module,
+        kinds: &kinds,
+        forms: &forms,
+        infos,
+    };
+    check_each(alloc, settings, &context)
+}

@@ -1,2 +1,0 @@
-pub mod Capable
-pub mod Resolved

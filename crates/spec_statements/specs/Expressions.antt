@@ -1,0 +1,17 @@
+-- What is asked of an expression of any kind, beside its type.
+use Rattle.std.specs.Prelude.{◌≡◌, ℕ, Some, map, slice_get}
+use Rattle.ir_expressions.specs.Plain.{PlainExpression, compose, plain}
+use Rattle.spec_expressions.specs.ConstantCompositions.{ComposeOK}
+use Rattle.spec_statements.specs.Checks.{CheckOf}
+use Rattle.spec_statements.specs.Scene.{Scene, form_at}
+
+-- the components of a composition make a value of its type; any other expression has its row
+abbrev pub AskedOf : Scene → PlainExpression → Type 0
+AskedOf s (compose type components) = ComposeOK s.types type (map (form_at s.forms) components)
+AskedOf s (plain expression) = CheckOf s expression
+
+-- what is asked of the expression at a handle is met
+pub record ExpressionOK (s : Scene) (handle : ℕ) : Type 0 where
+  pub expression : PlainExpression
+  pub at : slice_get s.expressions handle ≡ Some expression
+  pub met : AskedOf s expression

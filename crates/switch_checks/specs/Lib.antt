@@ -1,3 +1,0 @@
-pub mod Values
-pub mod Switches
-pub mod Laws

@@ -1,2 +1,0 @@
-mod FlagLaws
-mod Sets

@@ -1,3 +1,0 @@
-pub mod Blends
-pub mod Checked
-pub mod Images

@@ -1,3 +1,0 @@
-pub mod InfoLemmas
-pub mod KeptLemmas
-pub mod SummaryLemmas

@@ -1,4 +1,0 @@
-pub mod Faults
-pub mod Infos
-pub mod Kept
-pub mod Summarized

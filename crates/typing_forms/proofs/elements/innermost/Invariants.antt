@@ -1,0 +1,12 @@
+-- What is left of the chain leads to where the whole chain leads to.
+use Rattle.ir_types.specs.Plain.{inner_view}
+use Rattle.typing_forms.specs.Resolutions.{types_view}
+use Rattle.typing_forms.specs.Elements.{base_of}
+use Rattle.typing_forms.proofs.Walks.{SameEnds, steps}
+use Rattle.typing_forms.proofs.elements.innermost.Given as goal
+
+abbrev pub invariant-loop-base : goal.invariant-loop-base
+invariant-loop-base l = SameEnds base_of (types_view l.fn.types) (inner_view l.current) (inner_view l.fn.inner)
+
+abbrev pub decreases-loop-base : goal.decreases-loop-base
+decreases-loop-base l = steps (base_of (inner_view l.current))

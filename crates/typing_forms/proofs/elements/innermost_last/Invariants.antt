@@ -1,0 +1,12 @@
+-- What is left of the chain leads to where the whole chain leads to.
+use Rattle.ir_types.specs.Plain.{inner_view}
+use Rattle.typing_forms.specs.Resolutions.{types_view}
+use Rattle.typing_forms.specs.Elements.{last_of}
+use Rattle.typing_forms.proofs.Walks.{SameEnds, steps}
+use Rattle.typing_forms.proofs.elements.innermost_last.Given as goal
+
+abbrev pub invariant-loop-last : goal.invariant-loop-last
+invariant-loop-last l = SameEnds last_of (types_view l.fn.types) (inner_view l.current) (inner_view l.fn.inner)
+
+abbrev pub decreases-loop-last : goal.decreases-loop-last
+decreases-loop-last l = steps (last_of (inner_view l.current))

@@ -1,0 +1,26 @@
+//! Which types are equivalent.
+
+ghost use Rattle.std.specs.Prelude.{◌↔◌, IsTrue};
+ghost use Rattle.typing_forms.specs.Resolutions.{types_view, resolution_view};
+ghost use Rattle.typing_forms.specs.Forms.{NoStructValue};
+ghost use Rattle.typing_forms.specs.Equivalence.{AreEquivalent};
+
+use ir_types::{IrType, key};
+use ir_unique_arena::unique_arena::UniqueArena;
+use crate::laws::form_equality;
+use crate::{TypeResolution, form_of};
+
+/// Whether two types are equivalent: both are there, and their canonical forms are equal (naga's `compare_types`). Names
+/// don't count, nor whether a type is given by its handle, but for structs: a struct is its handle, and none may be given
+/// as a value. A handle that is none of a type is equivalent to nothing.
+pub fn compare_types(
+    lhs: &TypeResolution,
+    rhs: &TypeResolution,
+    types: &UniqueArena<IrType, key::IrType>,
+) -> bool
+    requires left { NoStructValue (resolution_view lhs.now) }
+    requires right { NoStructValue (resolution_view rhs.now) }
+    ensures { IsTrue result ↔ AreEquivalent (types_view types.now) (resolution_view lhs.now) (resolution_view rhs.now) }
+{
+    lhs.is_among(types) && form_equality(form_of(types, lhs), form_of(types, rhs))
+}

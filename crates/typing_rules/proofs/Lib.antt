@@ -1,5 +1,0 @@
-mod CanonicalForms
-mod Constructed
-mod Orders
-mod Shapes
-mod Walks

@@ -1,7 +1,0 @@
--- It is known of the types that were passed.
-use Rattle.typing_forms.specs.Resolutions.{types_view}
-use Rattle.typing_rules.specs.Constructible.{AreFoundBelow}
-use Rattle.typing_rules.proofs.constructible.constructible_types.Given as goal
-
-abbrev pub invariant-loop-place : goal.invariant-loop-place
-invariant-loop-place l = AreFoundBelow (types_view l.types) l.known.items l.place

@@ -1,7 +1,0 @@
--- The types that were passed go back.
-use Rattle.typing_rules.proofs.Orders.{GoBackBelow}
-use Rattle.typing_forms.specs.Resolutions.{types_view}
-use Rattle.typing_rules.proofs.order.types_go_back.Given as goal
-
-abbrev pub invariant-loop-place : goal.invariant-loop-place
-invariant-loop-place l = GoBackBelow (types_view l.types) l.place

@@ -1,8 +1,0 @@
-pub mod Canonical
-pub mod Constructible
-pub mod Conversions
-pub mod Elements
-pub mod Equivalence
-pub mod Lengths
-pub mod Parts
-pub mod Sizes
