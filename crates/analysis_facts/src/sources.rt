@@ -12,8 +12,7 @@ use bitflags::Flags;
 use ir_arena::handle::Handle;
 use ir_expressions::Expression;
 use ir_flags::StorageAccess;
-use ir_items::GlobalVariable;
-use ir_items::{Function, FunctionArgument, Module};
+use ir_items::{Function, FunctionArgument, GlobalVariable, Module};
 use ir_kinds::{AddressSpace, Binding, BuiltIn, ImageClass};
 use ir_types::{IrType, TypeInner, key};
 

@@ -16,8 +16,7 @@ ghost use Rattle.typing_forms.specs.Resolutions.{inner_at};
 
 use bitflags::Flags;
 use check_operands::are_same;
-use error_functions::FunctionError;
-use error_functions::AtomicError;
+use error_functions::{AtomicError, FunctionError};
 use expression_checks::exchanged_value;
 use ir_arena::handle::Handle;
 use ir_blocks::AtomicFunction;

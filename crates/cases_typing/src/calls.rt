@@ -5,8 +5,8 @@ use ir_kinds::{CooperativeSize, Scalar, VectorSize};
 use ir_types::{IrType, TypeInner, key};
 use ir_unique_arena::unique_arena::UniqueArena;
 use std::io;
-use typing_layout::{Alignment, LayoutErrorInner, Layouter};
 use typing_forms::types_go_back;
+use typing_layout::{Alignment, LayoutErrorInner, Layouter};
 
 // Prints the answer of a call.
 fn say(rt: &HostRuntime, call: &str, answer: u32) -> io::Result<()> {

@@ -1,7 +1,6 @@
 // Whether the handles of a module are in order.
-use module_handles::InvalidHandleError;
 use ir_items::Module;
-use module_handles::validate_module_handles;
+use module_handles::{InvalidHandleError, validate_module_handles};
 use std::alloc::{AllocError, Global};
 
 /// The name of what is wrong with a handle.

@@ -11,8 +11,8 @@ use ir_unique_arena::unique_arena::UniqueArena;
 use module_types::{InvalidType, TypeSettings, validate_types};
 use std::alloc::{AllocError, Global};
 use type_infos::{TypeError, TypeInfo};
-use typing_layout::Layouter;
 use typing_forms::types_go_back;
+use typing_layout::Layouter;
 
 /// What is asked of the types of a module.
 #[derive(Clone, Copy)]

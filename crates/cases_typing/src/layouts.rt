@@ -6,8 +6,8 @@ use ir_faults::refusal::Refusal;
 use ir_types::{IrType, key};
 use ir_unique_arena::unique_arena::UniqueArena;
 use std::alloc::{AllocError, Global};
-use typing_layout::{LayoutError, Layouter, TypeLayout};
 use typing_forms::types_go_back;
+use typing_layout::{LayoutError, Layouter, TypeLayout};
 
 // The size, the alignment and the stride of a layout.
 fn layout_told(alloc: Global, layout: TypeLayout) -> Result<String, AllocError> {

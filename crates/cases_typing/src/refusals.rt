@@ -1,9 +1,9 @@
 // Why a function is refused, in words: the name of the fault and then what it holds, in order. Handles and places are told as
 // numbers, what is not there as `-`, sets as the number of their bits, and a fault inside another in the same way. Types that
 // are told whole, names of items, and what makes control flow differ are left out.
-use error_functions::ExpressionError;
-use error_functions::FunctionError;
-use error_functions::{AtomicError, CallError, LocalVariableError, SubgroupError};
+use error_functions::{
+    AtomicError, CallError, ExpressionError, FunctionError, LocalVariableError, SubgroupError,
+};
 use ir_arena::handle::Handle;
 use ir_blocks::AtomicFunction;
 use ir_kinds::SwitchValue;

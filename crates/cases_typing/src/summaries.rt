@@ -6,8 +6,7 @@ ghost use Rattle.spec_handles.specs.Conditions.{HandlesInRange, OperandsPrecede}
 
 use analysis_forms::{ExpressionInfo, GlobalOrArgument, GlobalUse, SamplingPair};
 use analysis_info::FunctionInfo;
-use error_functions::ExpressionError;
-use error_functions::FunctionError;
+use error_functions::{ExpressionError, FunctionError};
 use ir_faults::refusal::Refusal;
 use ir_flags::ValidationFlags;
 use ir_items::{Function, Module};

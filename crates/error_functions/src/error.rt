@@ -1,10 +1,9 @@
 //! Why a function is refused.
 
-use analysis_forms::UniformityRequirements;
-use crate::ExpressionError;
 use crate::{
-    AtomicError, CallError, LocalVariableError, SubgroupError, UniformityDisruptor,
+    AtomicError, CallError, ExpressionError, LocalVariableError, SubgroupError, UniformityDisruptor,
 };
+use analysis_forms::UniformityRequirements;
 use ir_arena::handle::Handle;
 use ir_blocks::AtomicFunction;
 use ir_flags::Capabilities;

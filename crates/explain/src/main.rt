@@ -23,6 +23,7 @@ fn status(explanation: &Explanation) -> u8 {
         Explanation::NoDocument(_)
         | Explanation::NotChecked(_)
         | Explanation::RefusedModule(..)
+        | Explanation::RefusedGlobal(..)
         | Explanation::RefusedFunction(..) => 1,
     }
 }

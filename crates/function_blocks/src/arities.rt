@@ -6,8 +6,7 @@ ghost use Rattle.ir_items.specs.View.{function_view, module_view};
 ghost use Rattle.ir_references.specs.First.{first_in};
 ghost use Rattle.spec_handles.specs.Conditions.{AritiesMatch, HandlesInRange};
 
-use error_functions::FunctionError;
-use error_functions::CallError;
+use error_functions::{CallError, FunctionError};
 use ir_arena::handle::Handle;
 use ir_items::{Function, Module, Statement, key};
 use ir_references::{StatementLook, first_in};

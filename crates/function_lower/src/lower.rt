@@ -23,8 +23,7 @@ ghost use Rattle.typing_forms.specs.declared.resolution.TypeResolution.{TypeReso
 ghost use Rattle.typing_operands.specs.Answers.{form_given};
 
 use analysis_forms::{GlobalUse, SamplingPair};
-use error_functions::ExpressionError;
-use error_functions::FunctionError;
+use error_functions::{ExpressionError, FunctionError};
 use ir_arena::handle::Handle;
 use ir_faults::refusal::Refusal;
 use ir_flags::{ShaderStages, ValidationFlags};

@@ -26,9 +26,8 @@ use ir_kinds::AddressSpace;
 use ir_types::{TypeInner, key};
 use module_constants::GlobalContext;
 use type_infos::LayoutCompatibility;
-use typing_forms::form_of_type;
 use typing_forms::laws::form_equality;
-use typing_forms::TypeInnerExt;
+use typing_forms::{TypeInnerExt, form_of_type};
 
 // What a type is made of.
 fn inner_of<'a>(context: &GlobalContext<'a>, ty: Handle<key::IrType>) -> &'a TypeInner

@@ -14,8 +14,7 @@ use crate::slots::ImmediateSlots;
 use ir_arena::handle::Handle;
 use ir_types::{ArraySize, IrType, StructMember, TypeInner, key};
 use ir_unique_arena::unique_arena::UniqueArena;
-use typing_forms::inner_of;
-use typing_forms::TypeInnerExt;
+use typing_forms::{TypeInnerExt, inner_of};
 
 // A number of bytes, as far as it counts for slots.
 fn capped(size: u64) -> u32

@@ -13,8 +13,7 @@ use ir_arena::handle::Handle;
 use ir_items::{GlobalVariable, IrType, Module, key};
 use ir_kinds::AddressSpace;
 use ir_unique_arena::unique_arena::UniqueArena;
-use typing_forms::inner_of;
-use typing_forms::TypeInnerExt;
+use typing_forms::{TypeInnerExt, inner_of};
 
 // Whether variables are immediate data.
 fn is_immediate(space: AddressSpace) -> bool

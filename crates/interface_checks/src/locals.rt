@@ -15,8 +15,7 @@ ghost use Rattle.typing_layout.specs.declared.constness.ExpressionKind.TheVarian
 use crate::flags::is_constructible;
 use crate::names::name_of;
 use check_operands::are_same;
-use error_functions::FunctionError;
-use error_functions::LocalVariableError;
+use error_functions::{FunctionError, LocalVariableError};
 use ir_arena::handle::Handle;
 use ir_faults::refusal::Refusal;
 use ir_faults::with_span::WithSpan;

@@ -9,10 +9,10 @@ ghost use Rattle.module_constants.specs.Refusals.{IsFineConstant, IsConstantRefu
 ghost use Rattle.spec_expressions.specs.Constants.{ConstantOK};
 
 use crate::context::{GlobalContext, has_type, is_composed, known_kind};
-use module_expressions::ConstantError;
 use ir_arena::handle::Handle;
 use ir_items::Constant;
 use ir_types::key;
+use module_expressions::ConstantError;
 use thiserror::Error;
 use typing_layout::ExpressionKind;
 

@@ -19,8 +19,8 @@ use ir_arena::handle::Handle;
 use ir_expressions::Expression;
 use ir_types::key;
 use module_expressions::{Components, check_composition};
-use type_checks::validate_literal;
 use thiserror::Error;
+use type_checks::validate_literal;
 use typing_layout::ExpressionKind;
 
 /// A global expression that is refused (naga's `ValidationError::ConstExpression`).

@@ -6,12 +6,12 @@ ghost use Rattle.module_constants.specs.Known.{IsKnown, module_in};
 ghost use Rattle.module_constants.specs.OverrideRefusals.{IsToldAt, IsRefusal};
 ghost use Rattle.spec_expressions.specs.Overrides.{OverrideOK};
 
-use module_expressions::OverrideError;
+use crate::{GlobalContext, OverrideIds, validate_override};
 use ir_arena::handle::Handle;
 use ir_faults::refusal::Refusal;
 use ir_faults::with_span::WithSpan;
 use ir_types::key;
-use crate::{GlobalContext, OverrideIds, validate_override};
+use module_expressions::OverrideError;
 use std::alloc::Global;
 use thiserror::Error;
 

@@ -12,7 +12,6 @@ ghost use Rattle.typing_forms.specs.Resolutions.{types_view};
 
 use crate::context::{GlobalContext, has_type, is_composed, known_kind};
 use crate::ids::OverrideIds;
-use module_expressions::OverrideError;
 use ir_arena::handle::Handle;
 use ir_faults::refusal::Refusal;
 use ir_faults::with_span::WithSpan;
@@ -20,6 +19,7 @@ use ir_items::Override;
 use ir_kinds::Scalar;
 use ir_types::{IrType, TypeInner, key};
 use ir_unique_arena::unique_arena::UniqueArena;
+use module_expressions::OverrideError;
 use std::alloc::{AllocError, Global};
 use typing_forms::inner_of;
 use typing_layout::ExpressionKind;

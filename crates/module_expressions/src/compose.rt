@@ -18,8 +18,7 @@ use ir_kinds::Scalar;
 use ir_types::{IrType, StructMember, TypeInner, key};
 use ir_unique_arena::unique_arena::UniqueArena;
 use typing_forms::laws::form_equality;
-use typing_forms::{Form, TypeResolution, form_of_type, inner_of};
-use typing_forms::TypeInnerExt;
+use typing_forms::{Form, TypeInnerExt, TypeResolution, form_of_type, inner_of};
 
 // Whether a value of this form may be the member at a place.
 fn fits_member_at(

@@ -10,9 +10,9 @@ ghost use Rattle.spec_handles.specs.Items.{mesh_types, mesh_expressions, mesh_va
 ghost use Rattle.spec_handles.specs.declared.item.ItemKind.TheVariants as kind;
 
 use crate::lists::{ItemCheck, fault_of_items, first_missing};
+use crate::place_of;
 use ir_items::{EntryPoint, MeshStageInfo, Module};
 use ir_references::{Bounds, HandleFault, forward_operand, missing_in_function};
-use crate::place_of;
 use spec_handles::ItemKind;
 
 fn mesh_types_missing(mesh: &Option<MeshStageInfo>, there: usize) -> Option<HandleFault>

@@ -8,9 +8,9 @@ ghost use Rattle.module_handles.specs.Found.{named_missing, init_forward};
 ghost use Rattle.module_handles.specs.InOrder.{IsFaultIn, GlobalExpressionsOK};
 
 use crate::lists::{ItemCheck, fault_of_values};
+use crate::{forward, init_named};
 use ir_items::{Expression, Module};
 use ir_references::{Bounds, HandleFault, item_of};
-use crate::{forward, init_named};
 use spec_handles::ItemKind;
 
 fn named_missing(expression: &Expression, bounds: &Bounds) -> Option<HandleFault>

@@ -10,6 +10,7 @@ ghost use Rattle.module_handles.specs.InOrder.{IsFaultIn, ItemsOK};
 ghost use Rattle.spec_handles.specs.declared.item.ItemKind.TheVariants as kind;
 
 use crate::lists::{ItemCheck, fault_of_values, first_missing};
+use crate::place_of;
 use indexmap::IndexMap;
 use ir_arena::handle::Handle;
 use ir_items::{
@@ -17,7 +18,6 @@ use ir_items::{
 };
 use ir_kinds::PredeclaredType;
 use ir_references::{Bounds, HandleFault};
-use crate::place_of;
 use spec_handles::{ItemKind, Target};
 
 // The first of the types of what built-in functions answer that is not there.

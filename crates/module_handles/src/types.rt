@@ -13,10 +13,10 @@ ghost use Rattle.module_handles.specs.InOrder.{IsFaultIn, NamesBefore, NamesForw
 ghost use Rattle.typing_forms.specs.Order.{named_types};
 ghost use Rattle.typing_forms.specs.Resolutions.{inner_at};
 
+use crate::{counted_by, counted_forward, forward, init_of, pending_of, type_named};
 use ir_arena::handle::Handle;
 use ir_items::{Expression, Module, StructMember, TypeInner, key};
 use ir_references::{Bounds, HandleFault};
-use crate::{counted_by, counted_forward, forward, init_of, pending_of, type_named};
 use spec_handles::{ItemKind, Target};
 
 // The first of the types of members that does not come before the end.

@@ -10,8 +10,7 @@ ghost use Rattle.spec_report.specs.Lines.{is_buffer, buffer_of, buffers};
 
 use crate::lines::write_buffer;
 use ir_arena::handle::Handle;
-use ir_items::GlobalVariable;
-use ir_items::Module;
+use ir_items::{GlobalVariable, Module};
 use ir_kinds::AddressSpace;
 use ir_types::{TypeInner, key};
 use module_info::ModuleInfo;

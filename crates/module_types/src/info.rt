@@ -16,12 +16,11 @@ ghost use Rattle.typing_forms.specs.Resolutions.{inner_at};
 
 use crate::immediates::{immediates_of_struct, immediates_of_whole};
 use crate::uniform::{uniform_of_array, uniform_of_struct};
+use crate::{storage_of_array, storage_of_struct};
 use bitflags::Flags;
 use ir_arena::handle::Handle;
 use ir_types::{ArraySize, StructMember, TypeInner, key};
-use crate::{storage_of_array, storage_of_struct};
-use type_checks::{TypeContext, facts_of, type_at};
-use type_checks::{flags_of_array, flags_of_struct, whole_flags};
+use type_checks::{TypeContext, facts_of, flags_of_array, flags_of_struct, type_at, whole_flags};
 use type_infos::{Disalignment, LayoutCompatibility, TypeFlags, TypeInfo};
 use typing_layout::Alignment;
 

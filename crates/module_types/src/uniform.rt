@@ -11,10 +11,10 @@ ghost use Rattle.type_checks.specs.Placed.{parts_in, AtPlace, IsPlaced};
 ghost use Rattle.type_infos.specs.BufferFaults.{BreaksUniform, IsBroken};
 ghost use Rattle.type_infos.specs.Infos.{AreFlags};
 
+use crate::Broken;
 use bitflags::Flags;
 use ir_arena::handle::Handle;
 use ir_types::{StructMember, key};
-use crate::Broken;
 use type_checks::{Facts, Placed, TypeContext, at_least_sixteen, member_at, member_before};
 use type_infos::{Disalignment, LayoutCompatibility, TypeFlags};
 use typing_layout::Alignment;

@@ -16,9 +16,8 @@ use ir_types::{IrType, key};
 use ir_unique_arena::unique_arena::UniqueArena;
 use std::alloc::Global;
 use thiserror::Error;
-use type_checks::TypeContext;
+use type_checks::{TypeContext, check_type};
 use type_infos::{TypeError, TypeInfo};
-use type_checks::check_type;
 use typing_layout::Layouter;
 
 /// A type that is refused (naga's `ValidationError::Type`).

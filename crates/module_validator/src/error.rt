@@ -1,8 +1,7 @@
 //! Why a module is refused.
 
+use module_constants::{InvalidConstant, InvalidGlobalExpression, InvalidOverride};
 use module_handles::InvalidHandleError;
-use module_constants::{InvalidConstant, InvalidGlobalExpression};
-use module_constants::InvalidOverride;
 use module_types::InvalidType;
 use thiserror::Error;
 use typing_layout::LayoutError;

@@ -18,9 +18,10 @@ use bitflags::Flags;
 use ir_faults::refusal::Refusal;
 use ir_flags::ValidationFlags;
 use ir_items::Module;
-use module_constants::{GlobalContext, validate_const_expressions, validate_constants};
+use module_constants::{
+    GlobalContext, validate_const_expressions, validate_constants, validate_overrides,
+};
 use module_expressions::forms_given;
-use module_constants::validate_overrides;
 use spec_modules::ModuleSettings;
 use std::alloc::Global;
 use type_infos::TypeInfo;

@@ -7,12 +7,12 @@ ghost use Rattle.real_lower.specs.Settings.{settings_view, IsValidatorFor};
 ghost use Rattle.real_lower.specs.Made.{IsMadeOf};
 ghost use Rattle.spec_handles.specs.InOrder.{HandlesOK};
 
+use crate::RealLower;
 use crate::settings::ModuleFunctionSettings;
 use function_validator::{InvalidFunction, Validator};
 use ir_faults::refusal::Refusal;
 use ir_items::Module;
 use module_info::ModuleInfo;
-use crate::RealLower;
 use std::alloc::Global;
 
 // What judges the functions of a module of which this is kept.

@@ -9,8 +9,7 @@ ghost use Rattle.spec_statements.specs.Results.{answer_of};
 
 use crate::error::ScopeError;
 use crate::list::ExpressionList;
-use error_functions::FunctionError;
-use error_functions::{AtomicError, CallError};
+use error_functions::{AtomicError, CallError, FunctionError};
 use ir_arena::handle::Handle;
 use ir_items::{Statement, key};
 use ir_references::callee_of;

@@ -5,9 +5,7 @@ ghost use Rattle.error_functions.specs.declared.expressions.ExpressionError.TheV
 ghost use Rattle.error_functions.specs.declared.error.FunctionError.TheVariants as error;
 ghost use Rattle.error_functions.specs.declared.calls.CallError.TheVariants as call_error;
 
-use error_functions::ExpressionError;
-use error_functions::FunctionError;
-use error_functions::CallError;
+use error_functions::{CallError, ExpressionError, FunctionError};
 use ir_arena::handle::Handle;
 use ir_types::key;
 use std::alloc::AllocError;

@@ -4,10 +4,9 @@ ghost use Rattle.shader_check.specs.Examined.{step_of, refused_by, finding_in};
 
 use error_functions::ConstExpressionError;
 use judgement::{Finding, Step};
-use real_lower::InvalidFunction;
-use module_validator::InvalidGlobalVariable;
 use module_info::ModuleInfo;
-use module_validator::ModuleError;
+use module_validator::{InvalidGlobalVariable, ModuleError};
+use real_lower::InvalidFunction;
 
 /// What is found of a document, with the error where its module is refused.
 #[derive(Drop)]

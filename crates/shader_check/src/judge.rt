@@ -18,11 +18,10 @@ use document_reader::{Document, DocumentError, Settings, read_document};
 use ir_faults::refusal::Refusal;
 use ir_items::Module;
 use judgement::Finding;
-use real_lower::{ModuleFunctionSettings, validate_functions};
-use module_validator::validate_globals;
 use module_info::ModuleInfo;
 use module_report::report;
-use module_validator::ModuleValidator;
+use module_validator::{ModuleValidator, validate_globals};
+use real_lower::{ModuleFunctionSettings, validate_functions};
 use spec_modules::ModuleSettings;
 use std::alloc::{AllocError, Global};
 

@@ -13,9 +13,8 @@ pub use document_reader::{Document, DocumentError, Settings, build_module, read_
 pub use examined::{Examined, refused_by};
 pub use judge::{examine_document, judge_document};
 pub use judgement::{Finding, Step};
-pub use real_lower::InvalidFunction;
-pub use module_validator::InvalidGlobalVariable;
-pub use module_validator::ModuleError;
+pub use module_validator::{InvalidGlobalVariable, ModuleError};
 pub use ports::{ReadCall, Sink, Source, WriteCall};
+pub use real_lower::InvalidFunction;
 pub use scope::within;
 pub use told::Judgement;

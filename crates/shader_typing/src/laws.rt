@@ -8,7 +8,7 @@ pub use spec_expressions::laws::{
 };
 pub use spec_types::laws::{rounded_is_least, size_of_tree, tree_by_trees, trees_stay};
 pub use typing_forms::laws::form_equality;
-pub use typing_layout::laws::{layouts_stay, one_kind, one_layout};
 pub use typing_forms::rule_laws::{
     canonical_once, compare_reflexive, compare_symmetric, compare_transitive,
 };
+pub use typing_layout::laws::{layouts_stay, one_kind, one_layout};

@@ -17,10 +17,9 @@ pub use analysis_forms::{
 };
 pub use analysis_info::FunctionInfo;
 pub use constructor_sets::{ConstructorSet, Members, OneBitsIter, ScalarSet};
-pub use error_functions::{ComposeError, ExpressionError};
-pub use error_functions::FunctionError;
 pub use error_functions::{
-    AtomicError, CallError, LocalVariableError, SubgroupError, UniformityDisruptor,
+    AtomicError, CallError, ComposeError, ExpressionError, FunctionError, LocalVariableError,
+    SubgroupError, UniformityDisruptor,
 };
 pub use overload_tables::{Arguments, Conclusion, ConstructorSize, Pattern, Rule, ValueType};
 pub use spec_expressions::TypingFault;
@@ -33,8 +32,9 @@ pub use typing_expressions::{
     TypingRefusal, const_expression_types, process_const_expression, types_of,
 };
 pub use typing_forms::{
-    Form, ScalarExt, ScalarKindExt, TypeResolution, conversion_rank, converted_rank, form_in,
-    form_of, form_of_type, inner_of,
+    Form, IndexableLength, IndexableLengthError, MAX_TYPE_SIZE, ResolveArraySizeError, ScalarExt,
+    ScalarKindExt, TypeInnerExt, TypeResolution, compare_types, conversion_rank, converted_rank,
+    form_in, form_of, form_of_type, inner_of, types_go_back,
 };
 pub use typing_functions::process_function;
 pub use typing_layout::{
@@ -44,7 +44,3 @@ pub use typing_layout::{
 pub use typing_operands::{ResolveError, ResolveRefusal};
 pub use typing_overloads::{AnyOverloadSet, List, MathFunctionExt, OverloadSet, Regular};
 pub use typing_resolve::ResolveContext;
-pub use typing_forms::{
-    IndexableLength, IndexableLengthError, MAX_TYPE_SIZE, ResolveArraySizeError, TypeInnerExt,
-    compare_types, types_go_back,
-};

@@ -8,8 +8,7 @@ ghost use Rattle.statement_checks.specs.View.{context_view};
 
 use crate::context::BlockContext;
 use bitflags::Flags;
-use error_functions::FunctionError;
-use error_functions::SubgroupError;
+use error_functions::{FunctionError, SubgroupError};
 use ir_flags::{Barrier, Capabilities, SubgroupOperationSet};
 
 // Whether subgroups may wait at barriers, as far as capabilities say.

@@ -10,8 +10,7 @@ ghost use Rattle.statement_checks.specs.View.{context_view};
 
 use crate::context::BlockContext;
 use check_operands::are_same;
-use error_functions::FunctionError;
-use error_functions::CallError;
+use error_functions::{CallError, FunctionError};
 use ir_arena::handle::Handle;
 use ir_expressions::Expression;
 use ir_items::{Function, FunctionArgument};

@@ -16,6 +16,7 @@ ghost use Rattle.statement_validator.specs.Bodies.{Meets};
 ghost use Rattle.statement_validator.specs.Faults.{IfFault, IsStatementFault};
 ghost use Rattle.statement_validator.specs.Switches.{IsSwitchFault};
 
+use crate::check_switch;
 use crate::error::StatementError;
 use atomic_checks::{check_atomic, check_image_atomic, check_image_store, check_uniform_load};
 use error_functions::FunctionError;
@@ -30,7 +31,6 @@ use statement_checks::{
 };
 use std::alloc::Global;
 use subgroup_checks::{check_ballot, check_collective, check_gather};
-use crate::check_switch;
 
 // A switch.
 fn check_cases(

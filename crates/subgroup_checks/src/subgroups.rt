@@ -13,8 +13,7 @@ ghost use Rattle.statement_checks.specs.View.{context_view, IsKnown};
 
 use bitflags::Flags;
 use check_operands::{are_same, is_integer, is_truth, shaped_of};
-use error_functions::FunctionError;
-use error_functions::SubgroupError;
+use error_functions::{FunctionError, SubgroupError};
 use expression_checks::{is_alone, is_of_value};
 use ir_arena::handle::Handle;
 use ir_blocks::GatherMode;

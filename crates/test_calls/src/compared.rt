@@ -7,8 +7,7 @@ use std::alloc::{AllocError, Global};
 use test_support::call::{handle, no_call, text, told};
 use typing_compare::CompareTypes;
 use typing_forms::laws::form_equality;
-use typing_forms::{TypeResolution, form_in, form_of, form_of_type, inner_of};
-use typing_forms::compare_types;
+use typing_forms::{TypeResolution, compare_types, form_in, form_of, form_of_type, inner_of};
 
 // What a resolution leads to, where it is among the types.
 fn see_inner(

@@ -4,8 +4,7 @@ use ir_types::TypeInner;
 use serde_json::Value;
 use std::alloc::{AllocError, Global};
 use test_support::call::{no_call, number, text, told};
-use typing_forms::form_in;
-use typing_forms::{TypeInnerExt, types_go_back};
+use typing_forms::{TypeInnerExt, form_in, types_go_back};
 
 // The size where it is at most the greatest, and the size however large.
 fn sizes(inner: &TypeInner) -> (Option<u64>, u64) {

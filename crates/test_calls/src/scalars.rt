@@ -4,8 +4,10 @@ use ir_kinds::{Scalar, ScalarKind, VectorSize};
 use serde_json::Value;
 use std::alloc::{AllocError, Global};
 use test_support::call::{no_call, number, text, told};
-use typing_forms::{ScalarExt, ScalarKindExt, conversion_rank, converted_rank};
-use typing_forms::{IndexableLengthError, MAX_TYPE_SIZE, ResolveArraySizeError};
+use typing_forms::{
+    IndexableLengthError, MAX_TYPE_SIZE, ResolveArraySizeError, ScalarExt, ScalarKindExt,
+    conversion_rank, converted_rank,
+};
 
 const fn vector_size(count: u32) -> VectorSize {
     match count {

@@ -14,8 +14,8 @@ use ir_unique_arena::unique_arena::UniqueArena;
 use module_types::{TypeInfo, TypeSettings, validate_types};
 use std::alloc::{AllocError, Global};
 use tiny_lower::TinyLower;
-use typing_layout::Layouter;
 use typing_forms::types_go_back;
+use typing_layout::Layouter;
 
 // What is told of these types, where a module may have them. The error is out of memory.
 fn infos_of(

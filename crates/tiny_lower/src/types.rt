@@ -9,8 +9,7 @@ ghost use Rattle.tiny_lower.specs.Values.{resolution_of};
 
 use crate::expressions::expression_type;
 use crate::value_type::{ValueType, resolution_of};
-use error_functions::ExpressionError;
-use error_functions::FunctionError;
+use error_functions::{ExpressionError, FunctionError};
 use ir_arena::handle::Handle;
 use ir_faults::refusal::Refusal;
 use ir_faults::with_span::WithSpan;

@@ -8,12 +8,12 @@ ghost use Rattle.type_checks.specs.Blends.{AreLocated, IsLocationFault, IsLocati
 ghost use Rattle.type_checks.specs.Known.{IsKnown, types_in, tree_in};
 ghost use Rattle.type_infos.specs.BlendFaults.{IsAbsent, IsVaryingFault, IsBlendFault};
 
+use crate::{TypeContext, facts_of, type_at};
 use bitflags::Flags;
 use ir_arena::handle::Handle;
 use ir_flags::Capabilities;
 use ir_kinds::Binding;
 use ir_types::{StructMember, TypeInner, key};
-use crate::{TypeContext, facts_of, type_at};
 use type_infos::{TypeError, TypeFlags, VaryingError};
 
 // The location of a member, if it has one.

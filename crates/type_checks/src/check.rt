@@ -11,10 +11,12 @@ ghost use Rattle.typing_forms.specs.Order.{named_types};
 use crate::blends::check_blend;
 use crate::images::{check_image, check_query, check_structure};
 use crate::references::{check_array, check_binding_array, check_pointer};
+use crate::{
+    TypeContext, check_atomic, check_cooperative, check_matrix, check_members, check_scalar,
+    type_at,
+};
 use ir_arena::handle::Handle;
 use ir_types::{StructMember, TypeInner, key};
-use crate::{check_atomic, check_cooperative, check_matrix, check_scalar};
-use crate::{TypeContext, check_members, type_at};
 use type_infos::TypeError;
 
 // Whether there is a struct of these members and this span.

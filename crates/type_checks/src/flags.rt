@@ -11,11 +11,10 @@ ghost use Rattle.type_checks.specs.Known.{IsKnown, tree_in};
 ghost use Rattle.type_checks.specs.Placed.{parts_in, AtPlace};
 ghost use Rattle.type_infos.specs.Infos.{AreFlags};
 
+use crate::{TypeContext, has_source, member_at, member_before};
 use ir_kinds::{AddressSpace, ScalarKind};
 use ir_types::{ArraySize, StructMember, TypeInner};
-use crate::{TypeContext, member_at, member_before};
 use type_infos::TypeFlags;
-use crate::has_source;
 
 // Values that can be composed.
 const VALUE: TypeFlags = TypeFlags(

@@ -10,11 +10,11 @@ ghost use Rattle.spec_types.specs.View.{tree_by};
 ghost use Rattle.type_checks.specs.Known.{IsKnown, tree_in, types_in};
 ghost use Rattle.type_infos.specs.Faults.{IsPointerFault, IsArrayFault, IsBindingArrayFault};
 
+use crate::{TypeContext, facts_of, type_at};
 use bitflags::Flags;
 use ir_arena::handle::Handle;
 use ir_kinds::{AddressSpace, ImageClass};
 use ir_types::{ArraySize, TypeInner, key};
-use crate::{TypeContext, facts_of, type_at};
 use type_infos::{TypeError, TypeFlags};
 
 // Whether values of an earlier type can be stored.

@@ -8,8 +8,7 @@ ghost use Rattle.typing_forms.specs.Forms.{NoStructValue};
 ghost use Rattle.typing_forms.specs.Equivalence.{AreEquivalent};
 
 use ir_items::{GlobalCtx, Module};
-use typing_forms::TypeResolution;
-use typing_forms::compare_types;
+use typing_forms::{TypeResolution, compare_types};
 
 /// What has types to compare by (`compare_types` of naga's `Module` and `GlobalCtx`).
 pub trait CompareTypes {

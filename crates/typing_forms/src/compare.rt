@@ -5,10 +5,10 @@ ghost use Rattle.typing_forms.specs.Resolutions.{types_view, resolution_view};
 ghost use Rattle.typing_forms.specs.Forms.{NoStructValue};
 ghost use Rattle.typing_forms.specs.Equivalence.{AreEquivalent};
 
-use ir_types::{IrType, key};
-use ir_unique_arena::unique_arena::UniqueArena;
 use crate::laws::form_equality;
 use crate::{TypeResolution, form_of};
+use ir_types::{IrType, key};
+use ir_unique_arena::unique_arena::UniqueArena;
 
 /// Whether two types are equivalent: both are there, and their canonical forms are equal (naga's `compare_types`). Names
 /// don't count, nor whether a type is given by its handle, but for structs: a struct is its handle, and none may be given

@@ -8,11 +8,11 @@ ghost use Rattle.typing_forms.specs.Ranks.{conversion};
 ghost use Rattle.typing_forms.specs.Resolutions.{types_view};
 ghost use Rattle.typing_forms.specs.Conversions.{same_size, same_count, scalars_of, bases_of, both_at, SameShape, SameShapeAt, Converts};
 
+use crate::{converted_rank, inner_of};
 use ir_arena::handle::Handle;
 use ir_kinds::{Scalar, VectorSize};
 use ir_types::{ArraySize, IrType, TypeInner, key};
 use ir_unique_arena::unique_arena::UniqueArena;
-use crate::{converted_rank, inner_of};
 
 fn same_size(left: VectorSize, right: VectorSize) -> bool
     ensures { result ≡ same_size left right }

@@ -7,11 +7,11 @@ ghost use Rattle.typing_forms.specs.Order.{TypesGoBack};
 ghost use Rattle.typing_forms.specs.Resolutions.{types_view};
 ghost use Rattle.typing_forms.specs.Elements.{LeadsTo, base_of, last_of, converted_scalar, HasAbstractScalar, is_runtime_array, ConvertsBy, IsAbstract, IsDynamicallySized};
 
+use crate::inner_of;
 use ir_arena::handle::Handle;
 use ir_kinds::Scalar;
 use ir_types::{ArraySize, IrType, TypeInner, key};
 use ir_unique_arena::unique_arena::UniqueArena;
-use crate::inner_of;
 
 // The type of an array's elements.
 fn base_of(inner: &TypeInner) -> Option<Handle<key::IrType>>

@@ -5,10 +5,10 @@ ghost use Rattle.ir_types.specs.Plain.{inner_view};
 ghost use Rattle.typing_forms.specs.Resolutions.{types_view};
 ghost use Rattle.typing_forms.specs.Lengths.{array_length, elements_of, length_of};
 
+use crate::inner_of;
 use ir_types::{ArraySize, IrType, TypeInner, key};
 use ir_unique_arena::unique_arena::UniqueArena;
 use thiserror::Error;
-use crate::inner_of;
 
 /// How many elements what is indexed has (naga's `IndexableLength`).
 #[derive(Clone, Copy, PartialEq, Eq, Debug)]

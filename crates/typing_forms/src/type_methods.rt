@@ -19,13 +19,13 @@ use crate::constructible::is_constructible;
 use crate::conversions::automatically_converts_to;
 use crate::elements::{is_abstract, is_dynamically_sized, scalar_for_conversions};
 use crate::index::{IndexableLength, IndexableLengthError, length_of};
+use crate::laws::form_equality;
 use crate::sizes::{MAX_TYPE_SIZE, type_size};
+use crate::{TypeResolution, form_in, inner_of};
 use ir_kinds::{AddressSpace, Bytes, ImageDimension, Scalar, ScalarKind, VectorSize};
 use ir_types::{ArraySize, IrType, TypeInner, key};
 use ir_unique_arena::unique_arena::UniqueArena;
 use std::alloc::{AllocError, Global};
-use crate::laws::form_equality;
-use crate::{TypeResolution, form_in, inner_of};
 
 /// What can be asked of a type (calls of naga's `TypeInner`). Where a call takes `types`, these are the module's.
 pub trait TypeInnerExt: Sized {

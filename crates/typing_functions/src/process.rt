@@ -15,11 +15,10 @@ ghost use Rattle.spec_handles.specs.Conditions.{HandlesInRange, OperandsPrecede}
 ghost use Rattle.typing_functions.specs.Faults.{IsSummaryFault};
 ghost use Rattle.typing_functions.specs.Processed.{IsAnalysisFault, IsAnalysisRefusal, IsProcessed};
 
+use crate::{SummaryError, summarize};
 use analysis_forms::Uniformity;
 use analysis_info::FunctionInfo;
-use typing_uniformity::uniformity_fault;
-use error_functions::ExpressionError;
-use error_functions::FunctionError;
+use error_functions::{ExpressionError, FunctionError};
 use ir_arena::handle::Handle;
 use ir_faults::refusal::Refusal;
 use ir_faults::with_span::WithSpan;
@@ -27,7 +26,7 @@ use ir_flags::ValidationFlags;
 use ir_items::{Function, Module};
 use ir_types::key;
 use std::alloc::Global;
-use crate::{SummaryError, summarize};
+use typing_uniformity::uniformity_fault;
 
 // The refusal of an expression.
 fn refused_at(

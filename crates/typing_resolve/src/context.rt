@@ -19,8 +19,10 @@ use crate::typing::answered;
 use ir_arena::arena::Arena;
 use ir_arena::handle::Handle;
 use ir_expressions::Expression;
-use ir_items::{Constant, GlobalVariable, Override, SpecialTypes};
-use ir_items::{Function, FunctionArgument, LocalVariable, Module};
+use ir_items::{
+    Constant, Function, FunctionArgument, GlobalVariable, LocalVariable, Module, Override,
+    SpecialTypes,
+};
 use ir_types::{IrType, key};
 use ir_unique_arena::unique_arena::UniqueArena;
 use std::alloc::Global;

@@ -10,8 +10,7 @@ use ir_kinds::{CooperativeRole, CooperativeSize, Scalar};
 use ir_types::{IrType, TypeInner, key};
 use ir_unique_arena::unique_arena::UniqueArena;
 use spec_expressions::TypingFault;
-use typing_forms::{Form, TypeResolution, inner_of};
-use typing_forms::TypeInnerExt;
+use typing_forms::{Form, TypeInnerExt, TypeResolution, inner_of};
 
 // The scalar of what a pointer leads to.
 fn pointed_scalar(types: &UniqueArena<IrType, key::IrType>, of: Form) -> Option<Scalar>

@@ -6,11 +6,11 @@ ghost use Rattle.ir_walks.specs.Filters.{ParentsPrecede};
 ghost use Rattle.analysis_facts.specs.Facts.{AreUniformities};
 ghost use Rattle.typing_uniformity.specs.Faults.{IsAnswer};
 
+use crate::{NonUniform, derivative_severity, find_fault};
 use analysis_forms::Uniformity;
 use ir_flags::ValidationFlags;
 use ir_items::{Function, Module};
 use std::alloc::{AllocError, Global};
-use crate::{NonUniform, derivative_severity, find_fault};
 
 /// A fault of uniformity of a function of the module, or `None` where it has none (see [`find_fault`]). `uniformities` says of
 /// each of its expressions where its value comes from and what it asks for, and the parent of each diagnostic filter comes
