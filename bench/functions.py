@@ -89,7 +89,7 @@ def counted(room, path):
     """The instructions of the step over functions and of the JSON reader."""
     said = modules.called(room, path)
     reader = modules.of_call(said, "serde_json::de::read_items") + modules.of_call(said, "document_reader::serde_json++value++Value+Destruct::drop")
-    return modules.of_call(said, "module_functions::functions::validate_functions"), reader
+    return modules.of_call(said, "real_lower::functions::validate_functions"), reader
 
 
 def main():
