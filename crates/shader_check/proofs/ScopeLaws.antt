@@ -1,13 +1,16 @@
 -- The test of a document says whether it is checked so far.
-use Rattle.std.proofs.Common.{◌≡◌, List, [], ◌∷◌, map, refl, ap, ◌∙◌, true, false, Bool}
+use Rattle.std.proofs.Common.{◌≡◌, ◌==◌, List, [], ◌∷◌, length, map, refl, sym, ap, ◌∙◌, true, false, Bool, arith}
+use Rattle.std.proofs.lemmas.Bool.{eqb-true}
+use Rattle.std.specs.Prelude.{◌↔◌}
 use Rattle.std.specs.List.{AllZip}
 use Rattle.ir_items.specs.Plain.{PlainModule}
 use Rattle.ir_items.specs.Returned.{IsReturnedEntry}
 use Rattle.judgement.specs.Steps.{IsPrepared}
 
-pub no_items : {T A : Type 0} (view : T → A) (xs : List T) → map view xs ≡ [] → xs ≡ []
-no_items view [] e = refl
-no_items view (x ∷ xs) e = cc
+-- what has no items shows none
+pub none_if : {T A : Type 0} (view : T → A) (xs : List T) (b : Bool) → b ≡ (length xs == 0) → (b ≡ true) ↔ (map view xs ≡ [])
+none_if view [] b e = (λ t. refl, λ w. e)
+none_if view (x ∷ xs) b e = (λ t. absurd (let z : length (x ∷ xs) ≡ 0 = eqb-true (length (x ∷ xs)) 0 (sym e ∙ t) in omega (arith, z)), λ w. absurd (let y = w in cc))
 
 zipped_none : {A B : Type 0} (R : A → B → Type 0) (xs : List A) (ys : List B) → AllZip R xs ys → xs ≡ [] → ys ≡ []
 zipped_none R [] [] h e = refl

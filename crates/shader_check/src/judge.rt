@@ -173,8 +173,8 @@ pub fn judge(alloc: Global, bytes: &[u8]) -> Result<Judgement, AllocError>
     match read_document(alloc, bytes) {
         Ok(mut document) => judge_document(alloc, &mut document),
         Err(DocumentError::Memory) => Err(AllocError),
-        Err(DocumentError::TooLong)
-        | Err(DocumentError::NotJson { .. })
-        | Err(DocumentError::Malformed { .. }) => Ok(no_document(alloc)),
+        Err(DocumentError::TooLong) => Ok(no_document(alloc)),
+        Err(DocumentError::NotJson { .. }) => Ok(no_document(alloc)),
+        Err(DocumentError::Malformed { .. }) => Ok(no_document(alloc)),
     }
 }

@@ -9,5 +9,5 @@ use document_reader::Document;
 pub fn within(document: &Document) -> bool
     ensures { IsTrue result ↔ IsWithin (document_view document.now) }
 {
-    document.module.entry_points.is_empty()
+    document.module.entry_points.as_slice().is_empty()
 }

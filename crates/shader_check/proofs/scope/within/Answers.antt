@@ -1,9 +1,7 @@
+use Rattle.std.proofs.Common.{◌≡◌, ◌↔◌, [], map, true, subst}
 use Rattle.ir_items.specs.View.{entry_view}
-use Rattle.shader_check.proofs.ScopeLaws.{no_items}
+use Rattle.shader_check.proofs.ScopeLaws.{none_if}
 use Rattle.shader_check.proofs.scope.within.Goals as goal
 
 pub returns : goal.returns
-returns c = (
-  λ t. let f = c.is_empty.ensures.0 t in cc,
-  λ w. c.is_empty.ensures.1 (no_items entry_view _ w),
-)
+returns c = subst (λ xs. (c.is_empty.result ≡ true) ↔ (map entry_view xs ≡ [])) c.as_slice.ensures.value (none_if entry_view c.as_slice.result.now c.is_empty.result c.is_empty.ensures)
