@@ -1,0 +1,5 @@
+pub mod Contexts
+pub mod Rows
+pub mod BuiltIns
+pub mod Locations
+pub mod Varyings
