@@ -46,10 +46,9 @@ counted types (Some Linear) type = Some type
 counted types (Some Flat) type = Some type
 counted types (Some PerVertex) type = of_three (form_of_type types type)
 
-pub record VerticesOK (c : VaryingContext) (sampling : Option Sampling) : Type 0 where
+pub record VerticesOK (c : VaryingContext) : Type 0 where
   pub fragment : c.stage ≡ Fragment
   pub capable : Has c.capabilities.0 PER_VERTEX.0
-  pub alone : sampling ≡ None
 
 -- ---- how a value between vertices is found
 
@@ -60,7 +59,7 @@ is_of_vertex Sample = false
 is_of_vertex First = true
 is_of_vertex Either = true
 
--- which places go with which way of finding a value
+-- which places go with which way of finding a value; the values of each vertex are taken at none
 abbrev pub goes_with : Interpolation → Sampling → Bool
 goes_with Perspective s = not (is_of_vertex s)
 goes_with Linear s = not (is_of_vertex s)
@@ -95,7 +94,7 @@ IsValue between i _ = ⊥
 pub record LocationOK (c : VaryingContext) (type : ℕ) (l : Location) : Type 0 where
   pub capable : IsTrue l.per_primitive → Has c.capabilities.0 MESH_SHADER.0
   pub primitive : PrimitiveOK c.direction c.stage l.per_primitive
-  pub vertices : l.interpolation ≡ Some PerVertex → VerticesOK c l.sampling
+  pub vertices : l.interpolation ≡ Some PerVertex → VerticesOK c
   pub element : ℕ
   pub counts : counted c.types l.interpolation type ≡ Some element
   pub shared : HasFlag IoShareable (type_tree c.types element)

@@ -1,6 +1,5 @@
 -- The varyings of an entry point, and what is asked of all that go one way.
-use Rattle.std.specs.Prelude.{◌≡◌, ◌≢◌, ◌||◌, ◌++◌, ℕ, zero, suc, Bool, false, List, [], ◌∷◌, map, Option, Some, None, All, Contains, is_some, if◌then◌else◌}
-use Rattle.std.specs.List.{AllPairs}
+use Rattle.std.specs.Prelude.{◌≡◌, ◌<◌, ◌||◌, ◌++◌, ℕ, zero, suc, Bool, false, List, [], ◌∷◌, map, Option, Some, None, is_some, slice_get, if◌then◌else◌}
 use Rattle.ir_flags.specs.Sets.{Has}
 use Rattle.ir_flags.specs.declared.settings.Capabilities.{Capabilities}
 use Rattle.ir_flags.specs.declared.settings.ValidationFlags.{ValidationFlags}
@@ -104,27 +103,21 @@ location_of BlendSources = Some 0
 location_of Nothing = None
 location_of (NoMember place) = None
 
-abbrev put : {A : Type 0} → Option A → List A → List A
-put (Some x) xs = x ∷ xs
-put None xs = xs
+-- the varying at a place shows this
+abbrev pub ShowsAt : {A : Type 0} → (Bound → Option A) → List Varying → (place : ℕ) → A → Type 0
+ShowsAt shown vs place x = (v : Varying) × (slice_get vs place ≡ Some v) × (shown v.bound ≡ Some x)
 
--- the built-in values among varyings
-abbrev pub built_ins : List Varying → List BuiltIn
-built_ins [] = []
-built_ins (v ∷ vs) = put (built_in_of v.bound) (built_ins vs)
-
--- the locations that varyings take
-abbrev pub locations : List Varying → List ℕ
-locations [] = []
-locations (v ∷ vs) = put (location_of v.bound) (locations vs)
+-- no two show the same
+abbrev pub AreApart : {A : Type 0} → (Bound → Option A) → List Varying → Type 0
+AreApart {A} shown vs = (first second : ℕ) (x : A) → first < second → ShowsAt shown vs first x → ¬ ShowsAt shown vs second x
 
 -- the built-in value is among them
 abbrev pub HasBuiltIn : List Varying → BuiltIn → Type 0
-HasBuiltIn vs b = Contains (built_ins vs) (canonical b)
+HasBuiltIn vs b = (place : ℕ) × ShowsAt built_in_of vs place (canonical b)
 
 -- two sources are blended
 abbrev pub HasBlendSources : List Varying → Type 0
-HasBlendSources vs = (v : Varying) × Contains vs v × (v.bound ≡ BlendSources)
+HasBlendSources vs = (place : ℕ) × (v : Varying) × (slice_get vs place ≡ Some v) × (v.bound ≡ BlendSources)
 
 -- ---- what is asked of them
 
@@ -138,9 +131,9 @@ BoundOK c (NoMember place) = ¬ Has c.flags.0 BINDINGS.0
 
 -- Each is as it should be, no built-in value stands twice, and no location is taken twice where that is asked.
 pub record VaryingsOK (c : VaryingContext) (vs : List Varying) : Type 0 where
-  pub each : All (λ v. BoundOK c v.bound) vs
-  pub once : AllPairs (λ b d. b ≢ d) (built_ins vs)
-  pub apart : Has c.flags.0 BINDINGS.0 → AllPairs (λ n m. n ≢ m) (locations vs)
+  pub each : (place : ℕ) (v : Varying) → slice_get vs place ≡ Some v → BoundOK c v.bound
+  pub once : AreApart built_in_of vs
+  pub apart : Has c.flags.0 BINDINGS.0 → AreApart location_of vs
 
 -- ---- of an entry point
 
