@@ -1,5 +1,5 @@
 -- What is asked of one value at a location.
-use Rattle.std.specs.Prelude.{◌≡◌, ◌≢◌, ◌⊎◌, ℕ, Bool, true, false, not, List, Option, Some, None, IsSome, IsTrue}
+use Rattle.std.specs.Prelude.{◌≡◌, ◌≢◌, ◌⊎◌, ◌==◌, ℕ, Bool, true, false, not, List, Option, Some, None, IsSome, IsSomeAnd, IsTrue, if◌then◌else◌, option_and_then}
 use Rattle.ir_flags.specs.Sets.{Has}
 use Rattle.ir_flags.specs.declared.settings.TheConstants.Capabilities.{MESH_SHADER, MULTISAMPLED_SHADING, PER_VERTEX}
 use Rattle.ir_kinds.specs.declared.bindings.Interpolation.{Interpolation}
@@ -11,9 +11,11 @@ use Rattle.ir_kinds.specs.declared.scalars.ScalarKind.TheVariants as kind
 use Rattle.ir_kinds.specs.declared.stages.ShaderStage.{ShaderStage}
 use Rattle.ir_kinds.specs.declared.stages.ShaderStage.TheVariants.{Vertex, Fragment, Mesh}
 use Rattle.ir_types.specs.Plain.{PlainType}
-use Rattle.ir_types.specs.declared.types.ArraySize.TheVariants.{Constant}
+use Rattle.ir_types.specs.declared.types.ArraySize.{ArraySize}
+use Rattle.ir_types.specs.declared.types.ArraySize.TheVariants as size
 use Rattle.spec_types.specs.Flags.{HasFlag, IoShareable}
 use Rattle.spec_types.specs.View.{type_tree}
+use Rattle.spec_varyings.specs.BuiltIns.{array_of}
 use Rattle.spec_varyings.specs.Contexts.{VaryingContext}
 use Rattle.spec_varyings.specs.declared.varyings.Direction.{Direction}
 use Rattle.spec_varyings.specs.declared.varyings.Direction.TheVariants.{Input, Output, VertexOutput, PrimitiveOutput}
@@ -34,9 +36,13 @@ PrimitiveOK PrimitiveOutput stage per_primitive = per_primitive ≡ true
 -- ---- values of each vertex
 
 -- the elements of an array of three
+abbrev pub three : (base : ℕ) → ArraySize → Option ℕ
+three base (size.Constant count) = if count == 3 then Some base else None
+three base (size.Pending override) = None
+three base size.Dynamic = None
+
 abbrev pub of_three : Form → Option ℕ
-of_three (form.Array base (Constant 3) stride) = Some base
-of_three _ = None
+of_three t = option_and_then (λ a. three a.0 a.1) (array_of t)
 
 -- the type that counts: where every vertex gives its own value, that of the elements
 abbrev pub counted : List PlainType → Option Interpolation → (type : ℕ) → Option ℕ
@@ -52,7 +58,7 @@ pub record VerticesOK (c : VaryingContext) : Type 0 where
 
 -- ---- how a value between vertices is found
 
-abbrev is_of_vertex : Sampling → Bool
+abbrev pub is_of_vertex : Sampling → Bool
 is_of_vertex Center = false
 is_of_vertex Centroid = false
 is_of_vertex Sample = false
@@ -82,11 +88,15 @@ IsFound kind.Bool i = Unit {0}
 IsFound kind.AbstractInt i = Unit {0}
 IsFound kind.AbstractFloat i = Unit {0}
 
+-- what the scalars of a scalar or of a vector are
+abbrev pub kind_of : Form → Option ScalarKind
+kind_of (form.Scalar s) = Some s.kind
+kind_of (form.Vector n s) = Some s.kind
+kind_of _ = None
+
 -- a scalar or a vector, which is found between vertices where that is asked
 abbrev pub IsValue : (between : Type 0) → Option Interpolation → Form → Type 0
-IsValue between i (form.Scalar s) = between → IsFound s.kind i
-IsValue between i (form.Vector n s) = between → IsFound s.kind i
-IsValue between i _ = ⊥
+IsValue between i t = IsSomeAnd (kind_of t) (λ kind. between → IsFound kind i)
 
 -- ---- the whole
 

@@ -56,50 +56,58 @@ four_by_three = Value (matrix Quad Tri (floating 4))
 
 -- ---- rows
 
-abbrev row : (inputs outputs : ShaderStages) → (primitive : Bool) → BuiltInType → Option Capabilities → BuiltInRow
+abbrev pub row : (inputs outputs : ShaderStages) → (primitive : Bool) → BuiltInType → Option Capabilities → BuiltInRow
 row inputs outputs primitive type needed =
     record { inputs = inputs; outputs = outputs; primitive = primitive; ty = type; capability = needed; exception = exception.None }
 
-abbrev but : Exception → BuiltInRow → BuiltInRow
+abbrev pub but : Exception → BuiltInRow → BuiltInRow
 but e r = record { inputs = r.inputs; outputs = r.outputs; primitive = r.primitive; ty = r.ty; capability = r.capability; exception = e }
 
 -- what is given by the stages before
-abbrev given : ShaderStages → BuiltInType → BuiltInRow
+abbrev pub given : ShaderStages → BuiltInType → BuiltInRow
 given inputs type = row inputs NOWHERE false type None
 
 -- what is given to the stages behind
-abbrev gives : ShaderStages → BuiltInType → BuiltInRow
+abbrev pub gives : ShaderStages → BuiltInType → BuiltInRow
 gives outputs type = row NOWHERE outputs false type None
 
+-- what is given to the stages behind, where a capability is there
+abbrev pub gives_by : Capabilities → ShaderStages → BuiltInType → BuiltInRow
+gives_by needed outputs type = row NOWHERE outputs false type (Some needed)
+
+-- what is given by the stages before, where a capability is there
+abbrev pub given_by : Capabilities → ShaderStages → BuiltInType → BuiltInRow
+given_by needed inputs type = row inputs NOWHERE false type (Some needed)
+
 -- what is both, as all that rays know
-abbrev both : ShaderStages → BuiltInType → BuiltInRow
+abbrev pub both : ShaderStages → BuiltInType → BuiltInRow
 both stages type = row stages stages false type None
 
 -- what a mesh shader gives with a primitive alone
-abbrev with_primitive : BuiltInType → BuiltInRow
+abbrev pub with_primitive : BuiltInType → BuiltInRow
 with_primitive type = row NOWHERE NOWHERE true type (Some MESH_SHADER)
 
 -- what stands nowhere: a mesh shader has it in a variable
-abbrev never : BuiltInRow
+abbrev pub never : BuiltInRow
 never = row NOWHERE NOWHERE false uint None
 
 abbrev pub built_in_row : BuiltIn → BuiltInRow
 built_in_row PrimitiveIndex = but exception.FreeAtHits (row PRIMITIVES NOWHERE true uint (Some PRIMITIVE_INDEX))
 built_in_row (Position invariant) = row FRAGMENT RASTER false four_floats None
-built_in_row ViewIndex = row VIEWS NOWHERE false uint (Some MULTIVIEW)
+built_in_row ViewIndex = given_by MULTIVIEW VIEWS uint
 built_in_row BaseInstance = given VERTEX uint
 built_in_row BaseVertex = given VERTEX uint
-built_in_row ClipDistances = row NOWHERE RASTER false Distances (Some CLIP_DISTANCES)
-built_in_row CullDistance = row NOWHERE RASTER false Distances (Some CULL_DISTANCE)
+built_in_row ClipDistances = gives_by CLIP_DISTANCES RASTER Distances
+built_in_row CullDistance = gives_by CULL_DISTANCE RASTER Distances
 built_in_row InstanceIndex = given INSTANCES uint
 built_in_row PointSize = gives RASTER float
 built_in_row VertexIndex = given VERTEX uint
-built_in_row DrawIndex = but exception.NotBehindTasks (row DRAWS NOWHERE false uint (Some DRAW_INDEX))
+built_in_row DrawIndex = but exception.NotBehindTasks (given_by DRAW_INDEX DRAWS uint)
 built_in_row FragDepth = gives FRAGMENT float
 built_in_row PointCoord = given FRAGMENT two_floats
 built_in_row FrontFacing = given FRAGMENT truth
-built_in_row (Barycentric perspective) = row FRAGMENT NOWHERE false three_floats (Some SHADER_BARYCENTRICS)
-built_in_row SampleIndex = row FRAGMENT NOWHERE false uint (Some MULTISAMPLED_SHADING)
+built_in_row (Barycentric perspective) = given_by SHADER_BARYCENTRICS FRAGMENT three_floats
+built_in_row SampleIndex = given_by MULTISAMPLED_SHADING FRAGMENT uint
 built_in_row SampleMask = both FRAGMENT uint
 built_in_row GlobalInvocationId = given COMPUTE_LIKE three_uints
 built_in_row LocalInvocationId = given COMPUTE_LIKE three_uints
@@ -107,11 +115,11 @@ built_in_row LocalInvocationIndex = given COMPUTE_LIKE uint
 built_in_row WorkGroupId = given COMPUTE_LIKE three_uints
 built_in_row WorkGroupSize = given COMPUTE_LIKE three_uints
 built_in_row NumWorkGroups = given COMPUTE_LIKE three_uints
-built_in_row NumSubgroups = row COMPUTE_LIKE NOWHERE false uint (Some SUBGROUP)
-built_in_row SubgroupId = but exception.RowsOnly (row COMPUTE_LIKE NOWHERE false uint (Some SUBGROUP))
-built_in_row SubgroupSize = row SUBGROUPS NOWHERE false uint (Some SUBGROUP)
-built_in_row SubgroupInvocationId = but exception.RowsOnly (row SUBGROUPS NOWHERE false uint (Some SUBGROUP))
-built_in_row MeshTaskSize = row NOWHERE TASK false three_uints (Some MESH_SHADER)
+built_in_row NumSubgroups = given_by SUBGROUP COMPUTE_LIKE uint
+built_in_row SubgroupId = but exception.RowsOnly (given_by SUBGROUP COMPUTE_LIKE uint)
+built_in_row SubgroupSize = given_by SUBGROUP SUBGROUPS uint
+built_in_row SubgroupInvocationId = but exception.RowsOnly (given_by SUBGROUP SUBGROUPS uint)
+built_in_row MeshTaskSize = gives_by MESH_SHADER TASK three_uints
 built_in_row CullPrimitive = with_primitive truth
 built_in_row PointIndex = with_primitive uint
 built_in_row LineIndices = with_primitive two_uints

@@ -1,5 +1,7 @@
 -- What the rules look at, as plain data.
+use Rattle.std.specs.Prelude.{◌≡◌, length}
 use Rattle.spec_varyings.specs.Contexts.{VaryingContext as PlainContext}
+use Rattle.type_checks.specs.Known.{AreInfos}
 use Rattle.typing_forms.specs.Resolutions.{types_view}
 use Rattle.varying_checks.specs.declared.context.VaryingContext.{VaryingContext}
 
@@ -13,3 +15,8 @@ context_view c = record {
   payload = c.task_payload;
   direction = c.direction;
 }
+
+-- what is told of the module's types is so, and told of all
+pub record IsTold (c : VaryingContext) : Type 0 where
+  pub told : AreInfos (types_view c.types.now) c.infos.now
+  pub many : length c.infos.now ≡ length (types_view c.types.now)
