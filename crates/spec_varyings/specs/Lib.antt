@@ -3,3 +3,4 @@ pub mod Rows
 pub mod BuiltIns
 pub mod Locations
 pub mod Varyings
+pub mod Worked

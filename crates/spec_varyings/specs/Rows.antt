@@ -1,6 +1,6 @@
 -- The built-in values as a table: which stages are given each, which give it, whether it belongs to a primitive of a mesh
 -- alone, of which type it is, and which capability it needs.
-use Rattle.std.specs.Prelude.{ℕ, Bool, true, false, Option, Some, None}
+use Rattle.std.specs.Prelude.{Bool, true, false, Option, Some, None}
 use Rattle.ir_flags.specs.declared.settings.Capabilities.{Capabilities}
 use Rattle.ir_flags.specs.declared.settings.TheConstants.Capabilities.{PRIMITIVE_INDEX, CLIP_DISTANCES, CULL_DISTANCE, MULTIVIEW, MULTISAMPLED_SHADING, SUBGROUP, SHADER_BARYCENTRICS, MESH_SHADER, DRAW_INDEX}
 use Rattle.ir_flags.specs.declared.stages.ShaderStages.{ShaderStages}

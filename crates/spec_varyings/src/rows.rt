@@ -4,7 +4,7 @@ use ir_flags::{Capabilities, ShaderStages};
 use typing_forms::Form;
 
 /// Of which type a built-in value is.
-#[derive(Clone, Copy, PartialEq, Eq, Debug)]
+#[derive(Clone, Copy)]
 pub enum BuiltInType {
     /// Of the type with this form.
     Value(Form),
@@ -13,7 +13,7 @@ pub enum BuiltInType {
 }
 
 /// What a row says besides.
-#[derive(Clone, Copy, PartialEq, Eq, Debug)]
+#[derive(Clone, Copy)]
 pub enum Exception {
     /// Nothing.
     None,
@@ -26,7 +26,7 @@ pub enum Exception {
 }
 
 /// Where a built-in value stands, of which type it is, and what it needs.
-#[derive(Clone, Copy, PartialEq, Eq, Debug)]
+#[derive(Clone, Copy)]
 pub struct BuiltInRow {
     /// The stages that are given it.
     pub inputs: ShaderStages,
@@ -50,15 +50,17 @@ impl BuiltInRow {
     pub const RASTER: ShaderStages = ShaderStages(ShaderStages::VERTEX.0 | ShaderStages::MESH.0);
 
     /// Where a ray hits.
-    pub const HITS: ShaderStages =
-        ShaderStages(ShaderStages::ANY_HIT.0 | ShaderStages::CLOSEST_HIT.0);
+    pub const HITS: ShaderStages = ShaderStages(
+        ShaderStages::ANY_HIT.0 | ShaderStages::CLOSEST_HIT.0,
+    );
 
     /// Where a ray ends.
     pub const ENDS: ShaderStages = ShaderStages(BuiltInRow::HITS.0 | ShaderStages::MISS.0);
 
     /// The stages of rays.
-    pub const RAYS: ShaderStages =
-        ShaderStages(BuiltInRow::ENDS.0 | ShaderStages::RAY_GENERATION.0);
+    pub const RAYS: ShaderStages = ShaderStages(
+        BuiltInRow::ENDS.0 | ShaderStages::RAY_GENERATION.0,
+    );
 
     /// The stages of instances.
     pub const INSTANCES: ShaderStages = ShaderStages(ShaderStages::VERTEX.0 | BuiltInRow::HITS.0);
@@ -70,8 +72,9 @@ impl BuiltInRow {
     pub const VIEWS: ShaderStages = ShaderStages(BuiltInRow::DRAWS.0 | ShaderStages::FRAGMENT.0);
 
     /// The stages at which primitives are told apart.
-    pub const PRIMITIVES: ShaderStages =
-        ShaderStages(ShaderStages::FRAGMENT.0 | BuiltInRow::HITS.0);
+    pub const PRIMITIVES: ShaderStages = ShaderStages(
+        ShaderStages::FRAGMENT.0 | BuiltInRow::HITS.0,
+    );
 
     /// The stages that run in subgroups.
     pub const SUBGROUPS: ShaderStages = ShaderStages(

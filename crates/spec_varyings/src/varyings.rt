@@ -5,7 +5,7 @@ use ir_kinds::{BuiltIn, Interpolation, Sampling};
 use ir_types::key;
 
 /// Which way varyings go (naga's `VaryingContext::output`, with its `MeshOutputType`).
-#[derive(Clone, Copy, PartialEq, Eq, Debug)]
+#[derive(Clone, Copy)]
 pub enum Direction {
     /// The entry point is given them.
     Input,
@@ -18,7 +18,7 @@ pub enum Direction {
 }
 
 /// Where a value goes, and how a value between vertices is found (naga's `Binding::Location`).
-#[derive(Clone, Copy, PartialEq, Eq, Debug)]
+#[derive(Clone, Copy)]
 pub struct Location {
     /// The location.
     pub location: u32,
@@ -33,7 +33,7 @@ pub struct Location {
 }
 
 /// What is bound, and to what.
-#[derive(Clone, Copy, PartialEq, Eq, Debug)]
+#[derive(Clone, Copy)]
 pub enum Bound {
     /// A value of this type is a built-in one.
     BuiltIn {
@@ -61,7 +61,7 @@ pub enum Bound {
 }
 
 /// What goes between stages by itself: an argument, a result, or a member of one that is not bound.
-#[derive(Clone, Copy, PartialEq, Eq, Debug)]
+#[derive(Clone, Copy)]
 pub struct Varying {
     /// The argument that it is or belongs to, counted from 0; of a result it is 0.
     pub index: usize,

@@ -48,7 +48,7 @@ IsBuiltInFault c type b (error.UnsupportedCapability x) = Misses c (built_in_row
 IsBuiltInFault c type b error.InvalidMultiDimensionalSubgroupBuiltIn = ((built_in_row b).exception ≡ RowsOnly) × ¬ AreRows c.sizes
 IsBuiltInFault c type b (error.InvalidBuiltInStage d) = (d ≡ b) × IsAstray c (built_in_row b)
 IsBuiltInFault c type b (error.InvalidBuiltInType d i) = (d ≡ b) × (inner_at c.types type ≡ Some (inner_view i)) × ¬ IsOfType c.types (built_in_row b).ty type
-IsBuiltInFault c type b (error.InvalidType t) = (t ≡ type) × (inner_at c.types type ≡ None)
+IsBuiltInFault c type b (error.InvalidType t) = (t ≡ type) × (inner_at c.types type ≡ None) × ¬ IsOfType c.types (built_in_row b).ty type
 IsBuiltInFault c type b _ = ⊥
 
 -- ---- a value at a location

@@ -43,13 +43,7 @@ fn three(base: Handle<key::IrType>, size: ArraySize) -> Option<Handle<key::IrTyp
     ensures { result ≡ three base size }
 {
     match size {
-        ArraySize::Constant(count) => {
-            if count == 3 {
-                Some(base)
-            } else {
-                None
-            }
-        }
+        ArraySize::Constant(count) => { if count == 3 { Some(base) } else { None } }
         ArraySize::Pending(_) | ArraySize::Dynamic => None,
     }
 }

@@ -259,11 +259,12 @@ fn check_samples(context: &VaryingContext<'_>, at: &Location) -> Result<(), Vary
         (λ _. at.now.sampling ≡ Some Sample → Has context.now.capabilities.0 MULTISAMPLED_SHADING.0)
         (IsLocationFault (context_view context.now) ty at.now) }
 {
-    if is_sample(at.sampling) && !context.capabilities.contains(Capabilities::MULTISAMPLED_SHADING)
+    if is_sample(at.sampling)
+        && !context
+            .capabilities
+            .contains(Capabilities::MULTISAMPLED_SHADING)
     {
-        return Err(VaryingError::UnsupportedCapability(
-            Capabilities::MULTISAMPLED_SHADING,
-        ));
+        return Err(VaryingError::UnsupportedCapability(Capabilities::MULTISAMPLED_SHADING));
     }
     Ok(())
 }

@@ -112,11 +112,7 @@ const fn gives(outputs: ShaderStages, ty: BuiltInType) -> BuiltInRow
 }
 
 // What is given to the stages behind, where a capability is there.
-const fn gives_by(
-    capability: C,
-    outputs: ShaderStages,
-    ty: BuiltInType,
-) -> BuiltInRow
+const fn gives_by(capability: C, outputs: ShaderStages, ty: BuiltInType) -> BuiltInRow
     ensures { result ≡ gives_by capability outputs ty }
 {
     BuiltInRow {
@@ -185,13 +181,23 @@ pub(crate) const fn built_in_row(built_in: BuiltIn) -> BuiltInRow
         BuiltIn::InstanceIndex => given(BuiltInRow::INSTANCES, UINT),
         BuiltIn::PointSize => gives(BuiltInRow::RASTER, FLOAT),
         BuiltIn::DrawIndex => {
-            given_by(C::DRAW_INDEX, BuiltInRow::DRAWS, UINT, Exception::NotBehindTasks)
+            given_by(
+                C::DRAW_INDEX,
+                BuiltInRow::DRAWS,
+                UINT,
+                Exception::NotBehindTasks,
+            )
         }
         BuiltIn::FragDepth => gives(FRAGMENT, FLOAT),
         BuiltIn::PointCoord => given(FRAGMENT, TWO_FLOATS),
         BuiltIn::FrontFacing => given(FRAGMENT, TRUTH),
         BuiltIn::Barycentric { .. } => {
-            given_by(C::SHADER_BARYCENTRICS, FRAGMENT, THREE_FLOATS, Exception::None)
+            given_by(
+                C::SHADER_BARYCENTRICS,
+                FRAGMENT,
+                THREE_FLOATS,
+                Exception::None,
+            )
         }
         BuiltIn::SampleIndex => given_by(C::MULTISAMPLED_SHADING, FRAGMENT, UINT, Exception::None),
         BuiltIn::SampleMask => both(FRAGMENT, FRAGMENT, UINT),
@@ -204,16 +210,19 @@ pub(crate) const fn built_in_row(built_in: BuiltIn) -> BuiltInRow
         BuiltIn::NumSubgroups => given_by(C::SUBGROUP, WORKGROUPS, UINT, Exception::None),
         BuiltIn::SubgroupId => given_by(C::SUBGROUP, WORKGROUPS, UINT, Exception::RowsOnly),
         BuiltIn::SubgroupSize => given_by(C::SUBGROUP, SUBGROUPS, UINT, Exception::None),
-        BuiltIn::SubgroupInvocationId => given_by(C::SUBGROUP, SUBGROUPS, UINT, Exception::RowsOnly),
+        BuiltIn::SubgroupInvocationId => given_by(
+            C::SUBGROUP,
+            SUBGROUPS,
+            UINT,
+            Exception::RowsOnly,
+        ),
         BuiltIn::MeshTaskSize => gives_by(C::MESH_SHADER, ShaderStages::TASK, THREE_UINTS),
         BuiltIn::CullPrimitive => with_primitive(TRUTH),
         BuiltIn::PointIndex => with_primitive(UINT),
         BuiltIn::LineIndices => with_primitive(TWO_UINTS),
         BuiltIn::TriangleIndices => with_primitive(THREE_UINTS),
-        BuiltIn::VertexCount
-        | BuiltIn::Vertices
-        | BuiltIn::PrimitiveCount
-        | BuiltIn::Primitives => given(NOWHERE, UINT),
+        BuiltIn::VertexCount | BuiltIn::Vertices | BuiltIn::PrimitiveCount | BuiltIn::Primitives =>
+            given(NOWHERE, UINT),
         BuiltIn::RayInvocationId | BuiltIn::NumRayInvocations => both(RAYS, RAYS, THREE_UINTS),
         BuiltIn::InstanceCustomData | BuiltIn::GeometryIndex | BuiltIn::HitKind => {
             both(HITS, HITS, UINT)

@@ -61,10 +61,8 @@ const fn are_sources(bound: &Bound) -> bool
 {
     match *bound {
         Bound::BlendSources => true,
-        Bound::BuiltIn { .. }
-        | Bound::Location { .. }
-        | Bound::Nothing
-        | Bound::NoMember { .. } => false,
+        Bound::BuiltIn { .. } | Bound::Location { .. } | Bound::Nothing | Bound::NoMember { .. } =>
+            false,
     }
 }
 

@@ -51,16 +51,10 @@ fn blend_fault(context: &VaryingContext<'_>) -> Option<VaryingError>
         (IsBlendFault (context_view context.now)) }
 {
     if context.stage != ShaderStage::Fragment {
-        return Some(VaryingError::InvalidAttributeInStage(
-            "blend_src",
-            context.stage,
-        ));
+        return Some(VaryingError::InvalidAttributeInStage("blend_src", context.stage));
     }
     if context.direction != Direction::Output {
-        return Some(VaryingError::InvalidInputAttributeInStage(
-            "blend_src",
-            context.stage,
-        ));
+        return Some(VaryingError::InvalidInputAttributeInStage("blend_src", context.stage));
     }
     None
 }
