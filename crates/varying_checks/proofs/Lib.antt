@@ -1,1 +1,3 @@
+mod Equal
+mod Places
 pub mod Refuted

@@ -1,5 +1,5 @@
 -- What is wrong with varyings.
-use Rattle.std.specs.Prelude.{◌≡◌, ◌≢◌, ◌⊎◌, ◌<◌, ℕ, List, IsTrue, IsSome, Option, Some, None, min, slice_get, false, true}
+use Rattle.std.specs.Prelude.{◌≡◌, ◌≢◌, ◌⊎◌, ◌<◌, ℕ, List, [], ◌∷◌, IsTrue, IsSome, Option, Some, None, min, slice_get, false, true}
 use Rattle.ir_flags.specs.Sets.{Has}
 use Rattle.ir_flags.specs.declared.settings.Capabilities.{Capabilities}
 use Rattle.ir_flags.specs.declared.settings.TheConstants.Capabilities.{MESH_SHADER, MULTISAMPLED_SHADING, PER_VERTEX}

@@ -1,8 +1,7 @@
 -- What is asked of the varying at a place, where those before it are known.
 use Rattle.std.specs.Prelude.{◌≡◌, ◌<◌, ◌⊎◌, ◌↔◌, ℕ, List, Bool, IsTrue, Option, Some, slice_get}
-use Rattle.std.specs.BTreeSet.{contains}
 use Rattle.std.specs.Ordering.{nat_cmp}
-use Rattle.std.specs.declared.collections.btree.set.BTreeSet.{BTreeSet}
+use Rattle.std.specs.BTreeSet.{BTreeSet, contains}
 use Rattle.ir_flags.specs.Sets.{Has}
 use Rattle.ir_flags.specs.declared.settings.TheConstants.ValidationFlags.{BINDINGS}
 use Rattle.ir_kinds.specs.declared.bindings.BuiltIn.{BuiltIn}

@@ -134,7 +134,7 @@ fn check_counted(
 }
 
 // Whether what goes this way belongs to a primitive or not, as it says.
-const fn check_primitive(
+fn check_primitive(
     direction: Direction,
     stage: ShaderStage,
     per_primitive: bool,
@@ -216,7 +216,7 @@ const fn goes_with(interpolation: Interpolation, sampling: Sampling) -> bool
 }
 
 // Whether the place goes with the way in which the value is found.
-const fn check_combination(at: &Location) -> Result<(), VaryingError>
+fn check_combination(at: &Location) -> Result<(), VaryingError>
     ensures { (c : PlainContext) (ty : ℕ) → MatchResult result
         (λ _. AreCombined at.now)
         (IsLocationFault c ty at.now) }
@@ -302,7 +302,7 @@ const fn is_flat(interpolation: Option<Interpolation>) -> bool
 }
 
 // Whether a value between vertices is found as those of its kind are.
-const fn check_found(
+fn check_found(
     kind: ScalarKind,
     interpolation: Option<Interpolation>,
 ) -> Result<(), VaryingError>

@@ -52,7 +52,7 @@ const fn bound_member(place: usize, ty: Handle<key::IrType>, binding: Option<Bin
 }
 
 // Whether what is bound so is a source of a blend.
-const fn is_source(binding: Option<Binding>) -> bool
+fn is_source(binding: Option<Binding>) -> bool
     ensures { result ≡ is_some (blend_source binding) }
 {
     match binding {

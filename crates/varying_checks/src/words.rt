@@ -62,9 +62,17 @@ pub(crate) const fn canonical(built_in: BuiltIn) -> BuiltIn
     }
 }
 
+// Whether two built-in values are one, with what they say besides.
+#[tactic(auto, using(crate::proofs::Equal::one_built_in))]
+fn is_one(left: BuiltIn, right: BuiltIn) -> bool
+    ensures { IsTrue result ↔ (left ≡ right) }
+{
+    left == right
+}
+
 /// Whether two built-in values are one, whatever they say besides.
 pub(crate) fn are_same(left: BuiltIn, right: BuiltIn) -> bool
     ensures { IsTrue result ↔ (canonical left ≡ canonical right) }
 {
-    canonical(left) == canonical(right)
+    is_one(canonical(left), canonical(right))
 }
