@@ -62,9 +62,13 @@ built_in_refuted c type b _ w ok = w
 none_some : {A : Type 0} (x : A) → None ≡ Some x → ⊥
 none_some x e = cc
 
+none_there : {A : Type 0} (o : Option A) → o ≡ None → IsSome o → ⊥
+none_there None is there = true≢false (sym there)
+none_there (Some x) is there = none_some x (sym is)
+
 unprimitive : (d : Direction) (s : ShaderStage) → PrimitiveOK d s true → d ≢ PrimitiveOutput → (d ≢ Input) ⊎ (s ≢ Fragment) → ⊥
-unprimitive Input s ok other (inl no) = no refl
-unprimitive Input s ok other (inr no) = no (ok refl)
+unprimitive Input s ok other (inl differs) = differs refl
+unprimitive Input s ok other (inr differs) = differs (ok refl)
 unprimitive Output s ok other w = true≢false ok
 unprimitive VertexOutput s ok other w = true≢false ok
 unprimitive PrimitiveOutput s ok other w = other refl
@@ -96,9 +100,9 @@ module _ (c : VaryingContext) (type : ℕ) (l : Location) (ok : LocationOK c typ
     | inl signed ↦ w.2 (found Sint w.1 signed)
     | inr unsigned ↦ w.2 (found Uint w.1 unsigned)
   ]
-  location_refuted error.MissingInterpolation w = subst IsSome w.1 (found Float (none_is_one w.1) w.0)
+  location_refuted error.MissingInterpolation w = none_there l.interpolation w.1 (found Float (none_is_one w.1) w.0)
   location_refuted (error.UnsupportedCapability x) w = w.1 (met x w.0)
-  location_refuted error.BlendSrcNotOnStructMember w = subst IsSome ok.alone w
+  location_refuted error.BlendSrcNotOnStructMember w = none_there l.blend_src ok.alone w
   location_refuted error.InvalidPerPrimitive w = unprimitive c.direction c.stage (subst (PrimitiveOK c.direction c.stage) w.0 ok.primitive) w.1 w.2
   location_refuted error.MissingPerPrimitive w = true≢false (sym (subst (λ d. PrimitiveOK d c.stage l.per_primitive) w.1 ok.primitive) ∙ w.0)
   location_refuted error.PerVertexNotArrayOfThree w =
@@ -106,7 +110,7 @@ module _ (c : VaryingContext) (type : ℕ) (l : Location) (ok : LocationOK c typ
   location_refuted error.InvalidPerVertexSampling w = placed l.sampling refl w.1
     where
       placed : (s : Option Sampling) → l.sampling ≡ s → IsSome s → ⊥
-      placed None is there = there
+      placed None is there = none_there None refl there
       placed (Some s) is there = true≢false (sym (ok.sampled PerVertex s w.0 is))
   location_refuted _ w = w
 

@@ -11,16 +11,16 @@ use thiserror::Error;
 #[derive(PartialEq, Debug, Drop, Error)]
 pub enum VaryingError {
     /// No varying is of the type.
-    #[error("no varying is of type {0:?}")]
+    #[error("no varying is of the type")]
     InvalidType(Handle<key::IrType>),
     /// Values of the type don't go from one stage to the next.
-    #[error("values of type {0:?} don't go between stages")]
+    #[error("values of the type don't go between stages")]
     NotIOShareableType(Handle<key::IrType>),
     /// A value is found so at the stage that is named alone.
-    #[error("a value is found by {0:?} at {1:?} alone")]
+    #[error("a value is found so at another stage alone")]
     InvalidInterpolationInStage(Interpolation, ShaderStage),
     /// A value that is found so has no such place in a fragment.
-    #[error("a value that is found by {interpolation:?} is not taken at {sampling:?}")]
+    #[error("a value that is found so is not taken there")]
     InvalidInterpolationSamplingCombination {
         /// How it is found.
         interpolation: Interpolation,
@@ -37,7 +37,7 @@ pub enum VaryingError {
     #[error("the stage has no {0:?} that goes this way")]
     InvalidBuiltInStage(BuiltIn),
     /// The built-in value is of another type.
-    #[error("{0:?} is not of type {1:?}")]
+    #[error("the built-in value {0:?} is of another type")]
     InvalidBuiltInType(BuiltIn, TypeInner),
     /// An argument or a result is not bound.
     #[error("an argument or a result is not bound")]
@@ -52,7 +52,7 @@ pub enum VaryingError {
         location: u32,
     },
     /// Several members are the same source of a blend.
-    #[error("several members are source {blend_src}")]
+    #[error("several members are the same source")]
     BindingCollisionBlendSrc {
         /// The source.
         blend_src: u32,
@@ -64,13 +64,13 @@ pub enum VaryingError {
     #[error("{0:?} is not there")]
     UnsupportedCapability(Capabilities),
     /// What is named goes behind the stage alone.
-    #[error("{0:?} goes behind {1:?} alone")]
+    #[error("{0} goes behind the stage alone")]
     InvalidInputAttributeInStage(&'static str, ShaderStage),
     /// What is named does not go with the stage.
-    #[error("{0:?} does not go with {1:?}")]
+    #[error("{0} does not go with the stage")]
     InvalidAttributeInStage(&'static str, ShaderStage),
     /// There are the sources 0 and 1 alone, at location 0.
-    #[error("there is no source {blend_src} at location {location}")]
+    #[error("there is no such source at this location")]
     InvalidBlendSrcIndex {
         /// The member's location.
         location: u32,
@@ -78,19 +78,19 @@ pub enum VaryingError {
         blend_src: u32,
     },
     /// One of the two sources is missing.
-    #[error("source {present_blend_src} stands without the other")]
+    #[error("one source stands without the other")]
     IncompleteBlendSrcUsage {
         /// The source that is there.
         present_blend_src: u32,
     },
     /// A member beside the sources has a location.
-    #[error("a member beside the sources has location {location}")]
+    #[error("a member beside the sources has a location")]
     InvalidBlendSrcWithOtherBindings {
         /// Its location.
         location: u32,
     },
     /// The types of the two sources are made of different things.
-    #[error("the sources are of types {blend_src_0_type:?} and {blend_src_1_type:?}")]
+    #[error("the types of the sources are made of different things")]
     BlendSrcOutputTypeMismatch {
         /// The type of source 0.
         blend_src_0_type: Handle<key::IrType>,
@@ -118,7 +118,7 @@ pub enum VaryingError {
 }
 
 /// Why the varyings of an entry point are refused.
-#[derive(PartialEq, Debug, Drop)]
+#[derive(Drop)]
 pub enum VaryingRefusal {
     /// A growth was refused.
     Memory(AllocError),
