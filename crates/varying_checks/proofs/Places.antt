@@ -1,6 +1,6 @@
 -- The varying at a place, and those before it.
-use Rattle.std.proofs.Common.{◌≡◌, ◌⊎◌, inl, inr, ℕ, ◌+◌, ◌<◌, ◌≤◌, List, Option, Some, length, get_or, refl, sym, ap, subst, ◌∙◌, slice_get, arith, rules}
-use Rattle.std.proofs.lemmas.Option.{slice_get_within, slice_get_read}
+use Rattle.std.proofs.Common.{◌≡◌, ◌⊎◌, inl, inr, ℕ, ◌+◌, ◌<◌, ◌≤◌, List, Option, Some, None, MatchOption, length, sym, ap, subst, ◌∙◌, slice_get, arith, rules}
+use Rattle.std.proofs.lemmas.Option.{slice_get_within}
 use Rattle.spec_varyings.specs.Contexts.{VaryingContext}
 use Rattle.spec_varyings.specs.Varyings.{AreApart, ShowsAt, VaryingsOK, built_in_of, location_of}
 use Rattle.spec_varyings.specs.declared.varyings.Bound.{Bound}
@@ -10,11 +10,16 @@ use Rattle.varying_checks.specs.Places.{IsFine, IsNew}
 pub below_or_same : (i end : ℕ) → i < end + 1 → (i < end) ⊎ (i ≡ end)
 below_or_same i end lt = search rules
 
+some_none : {A : Type 0} (x : A) → Some x ≡ None → ⊥
+some_none x e = cc
+
 pub some_is : {A : Type 0} (x y : A) → Some x ≡ Some y → x ≡ y
 some_is x y e = cc
 
-pub read : {A : Type 0} (xs : List A) (i : ℕ) (x : A) → i < length xs → x ≡ get_or xs i x → slice_get xs i ≡ Some x
-read xs i x lt here = slice_get_read xs (length xs) i x refl lt here
+-- what is said where nothing is found
+pub of_none : {A : Type 0} (o : Option A) (P : Type 0) (Q : A → Type 0) → o ≡ None → MatchOption o P Q → P
+of_none None P Q is h = h
+of_none (Some x) P Q is h = absurd (some_none x is)
 
 -- ---- what is shown
 

@@ -110,7 +110,7 @@ module _ (c : VaryingContext) (type : ℕ) (l : Location) (ok : LocationOK c typ
   location_refuted error.InvalidPerVertexSampling w = placed l.sampling refl w.1
     where
       placed : (s : Option Sampling) → l.sampling ≡ s → IsSome s → ⊥
-      placed None is there = none_there None refl there
+      placed None is there = true≢false (sym there)
       placed (Some s) is there = true≢false (sym (ok.sampled PerVertex s w.0 is))
   location_refuted _ w = w
 
