@@ -1,10 +1,9 @@
 -- Varyings with a fault are not as they should be.
-use Rattle.std.proofs.Common.{◌≡◌, ◌≢◌, ◌⊎◌, inl, inr, ℕ, List, Bool, true, false, true≢false, Option, Some, None, IsSome, IsSomeAnd, IfSome, IsTrue, refl, sym, ap, subst, ◌∙◌, slice_get}
+use Rattle.std.proofs.Common.{◌≡◌, ◌≢◌, ◌⊎◌, inl, inr, ℕ, List, true, true≢false, Option, Some, None, IsSome, IsSomeAnd, IfSome, refl, sym, ap, subst, ◌∙◌, slice_get}
 use Rattle.ir_flags.specs.Sets.{Has}
 use Rattle.ir_flags.specs.declared.settings.Capabilities.{Capabilities}
 use Rattle.ir_kinds.specs.declared.bindings.BuiltIn.{BuiltIn}
-use Rattle.ir_kinds.specs.declared.bindings.Interpolation.{Interpolation}
-use Rattle.ir_kinds.specs.declared.bindings.Interpolation.TheVariants.{Flat, PerVertex}
+use Rattle.ir_kinds.specs.declared.bindings.Interpolation.TheVariants.{PerVertex}
 use Rattle.ir_kinds.specs.declared.bindings.Sampling.{Sampling}
 use Rattle.ir_kinds.specs.declared.scalars.ScalarKind.{ScalarKind}
 use Rattle.ir_kinds.specs.declared.scalars.ScalarKind.TheVariants.{Sint, Uint, Float}
@@ -12,11 +11,11 @@ use Rattle.ir_kinds.specs.declared.stages.ShaderStage.{ShaderStage}
 use Rattle.ir_kinds.specs.declared.stages.ShaderStage.TheVariants.{Fragment}
 use Rattle.spec_types.specs.Flags.{HasFlag, IoShareable}
 use Rattle.spec_types.specs.View.{type_tree}
-use Rattle.spec_varyings.specs.BuiltIns.{AreRows, BuiltInOK, ExceptionOK, IsAhead, IsFree, IsOfType, RowOK}
+use Rattle.spec_varyings.specs.BuiltIns.{BuiltInOK, ExceptionOK, IsFree, RowOK}
 use Rattle.spec_varyings.specs.Contexts.{VaryingContext}
-use Rattle.spec_varyings.specs.Locations.{IsBetween, IsFound, IsValue, LocationOK, PrimitiveOK, counted, goes_with, kind_of}
+use Rattle.spec_varyings.specs.Locations.{IsBetween, IsFound, LocationOK, PrimitiveOK, counted, kind_of}
 use Rattle.spec_varyings.specs.Rows.{built_in_row}
-use Rattle.spec_varyings.specs.Varyings.{AreApart, BoundOK, ShowsAt, VaryingsOK, built_in_of, canonical, location_of}
+use Rattle.spec_varyings.specs.Varyings.{AreApart, BoundOK, VaryingsOK, built_in_of, canonical, location_of}
 use Rattle.spec_varyings.specs.declared.rows.BuiltInRow.{BuiltInRow}
 use Rattle.spec_varyings.specs.declared.rows.Exception.{Exception}
 use Rattle.spec_varyings.specs.declared.rows.Exception.TheVariants.{NotBehindTasks, RowsOnly}
@@ -27,8 +26,7 @@ use Rattle.spec_varyings.specs.declared.varyings.Direction.TheVariants.{Input, O
 use Rattle.spec_varyings.specs.declared.varyings.Location.{Location}
 use Rattle.spec_varyings.specs.declared.varyings.Varying.{Varying}
 use Rattle.typing_forms.specs.Forms.{form_of_type}
-use Rattle.typing_forms.specs.Resolutions.{inner_at}
-use Rattle.varying_checks.specs.Faults.{IsAstray, IsBlendFault, IsBuiltIn, IsBuiltInFault, IsLocationFault, IsMemberFault, IsUnboundFault, IsOwnFault, IsRepeated, IsVaryingFault, Lies, Needs, ShowsBefore}
+use Rattle.varying_checks.specs.Faults.{IsAstray, IsBlendFault, IsBuiltIn, IsBuiltInFault, IsLocationFault, IsMemberFault, IsUnboundFault, IsOwnFault, IsRepeated, Lies, Needs, ShowsBefore}
 use Rattle.varying_checks.specs.Laws.{FaultRefutes}
 use Rattle.varying_checks.specs.declared.error.VaryingError.{VaryingError}
 use Rattle.varying_checks.specs.declared.error.VaryingError.TheVariants as error

@@ -23,7 +23,7 @@ use Rattle.spec_varyings.specs.declared.rows.BuiltInRow.{BuiltInRow}
 use Rattle.spec_varyings.specs.declared.rows.Exception.TheVariants.{NotBehindTasks, RowsOnly}
 use Rattle.spec_varyings.specs.declared.varyings.Bound.{Bound}
 use Rattle.spec_varyings.specs.declared.varyings.Bound.TheVariants.{BuiltIn as built_in, Location as at_location, BlendSources, Nothing, NoMember}
-use Rattle.spec_varyings.specs.declared.varyings.Direction.TheVariants.{Input, Output, VertexOutput, PrimitiveOutput}
+use Rattle.spec_varyings.specs.declared.varyings.Direction.TheVariants.{Input, Output, PrimitiveOutput}
 use Rattle.spec_varyings.specs.declared.varyings.Location.{Location}
 use Rattle.spec_varyings.specs.declared.varyings.Varying.{Varying}
 use Rattle.typing_forms.specs.Forms.{form_of_type}

@@ -302,10 +302,7 @@ const fn is_flat(interpolation: Option<Interpolation>) -> bool
 }
 
 // Whether a value between vertices is found as those of its kind are.
-fn check_found(
-    kind: ScalarKind,
-    interpolation: Option<Interpolation>,
-) -> Result<(), VaryingError>
+fn check_found(kind: ScalarKind, interpolation: Option<Interpolation>) -> Result<(), VaryingError>
     ensures { MatchResult result (λ _. IsFound kind interpolation) (IsUnfound kind interpolation) }
 {
     match kind {

@@ -1,4 +1,4 @@
-use Rattle.std.proofs.Common.{◌≡◌, ◌<◌, inl, inr, length, get_or, true≢false, sym, subst, arith}
+use Rattle.std.proofs.Common.{◌<◌, inl, inr, length, get_or, true≢false, sym, subst, arith}
 use Rattle.std.proofs.lemmas.Option.{slice_get-get_or}
 use Rattle.spec_varyings.specs.Varyings.{ShowsAt, built_in_of, canonical}
 use Rattle.varying_checks.proofs.Places.{below_or_same, shows_here}
@@ -13,7 +13,7 @@ loop-earlier-preserved c = λ k lt shows.
       | inl less ↦ c.loop-earlier.invariant k less shows
       | inr same ↦ true≢false (sym (c.if-shows.ensures.1
           (shows_here built_in_of vs c.loop-earlier.earlier (get_or vs c.loop-earlier.earlier v) (canonical c.args.built_in) (slice_get-get_or vs c.loop-earlier.earlier v within)
-              (subst (λ n. ShowsAt built_in_of vs n (canonical c.args.built_in)) same shows))))
+          (subst (λ n. ShowsAt built_in_of vs n (canonical c.args.built_in)) same shows))))
     ]
 
 pub returns : goal.returns

@@ -1,4 +1,4 @@
-use Rattle.std.proofs.Common.{◌+◌, MatchOption, arith}
+use Rattle.std.proofs.Common.{◌+◌, arith}
 use Rattle.ir_flags.specs.Sets.{Has}
 use Rattle.ir_flags.specs.declared.settings.TheConstants.ValidationFlags.{BINDINGS}
 use Rattle.varying_checks.proofs.Places.{all_fine, of_none, one_more}
