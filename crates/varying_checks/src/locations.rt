@@ -36,8 +36,8 @@ const fn is_per_vertex(interpolation: Option<Interpolation>) -> bool
     }
 }
 
-// Whether a stage is that of fragments.
-const fn is_fragment(stage: ShaderStage) -> bool
+/// Whether a stage is that of fragments.
+pub(crate) const fn is_fragment(stage: ShaderStage) -> bool
     ensures { IsTrue result ↔ (stage ≡ Fragment) }
 {
     matches!(stage, ShaderStage::Fragment)

@@ -105,7 +105,20 @@ fn add_unbound(
             }
             Bound::BlendSources
         }
-        _ => Bound::Nothing,
+        Some(TypeInner::Scalar(_))
+        | Some(TypeInner::Vector { .. })
+        | Some(TypeInner::Matrix { .. })
+        | Some(TypeInner::CooperativeMatrix { .. })
+        | Some(TypeInner::Atomic(_))
+        | Some(TypeInner::Pointer { .. })
+        | Some(TypeInner::ValuePointer { .. })
+        | Some(TypeInner::Array { .. })
+        | Some(TypeInner::Image { .. })
+        | Some(TypeInner::Sampler { .. })
+        | Some(TypeInner::AccelerationStructure { .. })
+        | Some(TypeInner::RayQuery { .. })
+        | Some(TypeInner::BindingArray { .. })
+        | None => Bound::Nothing,
     };
     varyings.push(Varying { index, bound })?;
     Ok(())

@@ -1,12 +1,13 @@
 //! The varyings of an entry point.
 
-ghost use Rattle.std.specs.Prelude.{◌≡◌, ◌<◌, ◌+◌, IfOk, MatchOption, MatchResult, length, map, min};
+ghost use Rattle.std.specs.Prelude.{◌≡◌, ◌<◌, ◌+◌, ◌↔◌, IfOk, IsTrue, MatchOption, MatchResult, length, map, min};
 ghost use Rattle.ir_flags.specs.Sets.{Has};
 ghost use Rattle.ir_flags.specs.declared.settings.TheConstants.ValidationFlags.{BINDINGS};
 ghost use Rattle.ir_items.specs.View.{argument_view};
 ghost use Rattle.spec_varyings.specs.Locations.{LocationOK};
 ghost use Rattle.spec_varyings.specs.Varyings.{BoundOK, VaryingsOK, argument_varyings, built_in_of, location_of, varyings_of};
 ghost use Rattle.spec_varyings.specs.declared.varyings.Bound.TheVariants.{BlendSources};
+ghost use Rattle.spec_varyings.specs.declared.varyings.Direction.TheVariants.{Output};
 ghost use Rattle.varying_checks.specs.Faults.{IsBlendFault, IsLocationFault, IsMemberFault, IsOwnFault, IsRefusal, IsUnboundFault};
 ghost use Rattle.varying_checks.specs.Places.{AreNoted, IsBuiltInAgain, IsFaultAt, IsFine, IsNew, IsTakenAgain};
 ghost use Rattle.varying_checks.specs.View.{IsTold, context_view};
@@ -14,14 +15,14 @@ ghost use Rattle.varying_checks.specs.View.{IsTold, context_view};
 use crate::built_ins::built_in_fault;
 use crate::context::VaryingContext;
 use crate::error::{VaryingError, VaryingRefusal};
-use crate::locations::check_location;
+use crate::locations::{check_location, is_fragment};
 use crate::shown::{location_of, shows_before};
 use crate::spread::{add_value, argument_varyings};
 use bitflags::Flags;
 use ir_arena::handle::Handle;
 use ir_flags::ValidationFlags;
 use ir_items::FunctionArgument;
-use ir_kinds::{Binding, BuiltIn, ShaderStage};
+use ir_kinds::{Binding, BuiltIn};
 use ir_types::key;
 use spec_varyings::{Bound, Direction, Location, Varying};
 use std::alloc::{AllocError, Global};
@@ -44,16 +45,26 @@ fn location_fault(
     }
 }
 
+// Whether an entry point answers what goes this way.
+const fn is_output(direction: Direction) -> bool
+    ensures { IsTrue result ↔ (direction ≡ Output) }
+{
+    match direction {
+        Direction::Output => true,
+        Direction::Input | Direction::VertexOutput | Direction::PrimitiveOutput => false,
+    }
+}
+
 // What is wrong with sources of a blend: fragments alone give them.
 fn blend_fault(context: &VaryingContext<'_>) -> Option<VaryingError>
     ensures { MatchOption result
         (BoundOK (context_view context.now) BlendSources)
         (IsBlendFault (context_view context.now)) }
 {
-    if context.stage != ShaderStage::Fragment {
+    if !is_fragment(context.stage) {
         return Some(VaryingError::InvalidAttributeInStage("blend_src", context.stage));
     }
-    if context.direction != Direction::Output {
+    if !is_output(context.direction) {
         return Some(VaryingError::InvalidInputAttributeInStage("blend_src", context.stage));
     }
     None
