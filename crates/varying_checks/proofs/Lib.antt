@@ -1,0 +1,5 @@
+mod Equal
+mod Told
+mod Places
+mod Located
+pub mod Refuted

@@ -1,0 +1,6 @@
+pub mod View
+pub mod Faults
+pub mod Rows
+pub mod Steps
+pub mod Places
+pub mod Laws
