@@ -1,6 +1,6 @@
 //! Whether a function is accepted.
 
-ghost use Rattle.std.specs.Prelude.{◌≡◌, ◌↔◌, ℕ, IfErr, IfOk, MatchResult, OnOk, bit_and, length, map};
+ghost use Rattle.std.specs.Prelude.{◌≡◌, ◌↔◌, ◌||◌, ℕ, IfErr, IfOk, MatchResult, OnOk, bit_and, false, length, map};
 ghost use Rattle.function_blocks.specs.Faults.{IsFaultBehind, IsFunctionFault};
 ghost use Rattle.function_blocks.specs.Judged.{ArePartsMet};
 ghost use Rattle.function_blocks.specs.Settings.{settings_view};
@@ -90,6 +90,8 @@ fn noted<L: Lower>(lower: &L, info: L::Info, met: Met) -> Validated<L::Info>
     ensures pairs { (L.summary lower.now result.info).pairs ≡ (L.summary lower.now info).pairs }
     ensures may_kill { (L.summary lower.now result.info).may_kill ≡ (L.summary lower.now info).may_kill }
     ensures types { L.types lower.now result.info ≡ L.types lower.now info }
+    ensures globals { length (L.summary lower.now result.info).uses ≡ length (L.summary lower.now info).uses }
+    ensures blending { L.blending lower.now result.info ≡ (L.blending lower.now info || false) }
     ensures held { result.held ≡ met.held }
 {
     let mut info = info;
@@ -136,6 +138,8 @@ pub fn validate_function<L: Lower>(
     ensures joined { IfOk result (λ v. IsJoined (length (module_view «module».now).globals) (function_view function.now) (map (L.summary lower.now) callees.now) (L.summary lower.now v.info)) }
     ensures chains { CalleesKnown (module_view «module».now) (function_view function.now) (map (L.summary lower.now) callees.now)
         → IfOk result (λ v. IsSummary (module_view «module».now) (function_view function.now) (L.summary lower.now v.info)) }
+    ensures globals { IfOk result (λ v. length (L.summary lower.now v.info).uses ≡ length (module_view «module».now).globals) }
+    ensures unblended { IfOk result (λ v. L.blending lower.now v.info ≡ false) }
     ensures held { IfOk result (λ v. IsHeldAfter settings.now.flags (module_view «module».now) (function_view function.now) settings.now.held v.held) }
 {
     match check_arities(module, function) {

@@ -2,3 +2,8 @@ pub mod Pairs
 pub mod Uses
 pub mod OneReport
 pub mod Named
+pub mod Classical
+pub mod FourKinds
+pub mod Numbers
+pub mod Ordered
+pub mod SomeReport

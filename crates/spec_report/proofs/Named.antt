@@ -80,6 +80,10 @@ zero_is n e = eqb-true n 0 (turned (n == 0) e) where
   turned true x = refl
   turned false x = absurd (true≢false x)
 
+-- what is used has a use of some kind
+pub used_bit : (uses : List GlobalUse) (g : ℕ) → is_used (slice_index_or uses g no_use) ≡ true → (k : ℕ) × (bit_at (slice_index_or uses g no_use).0 k ≡ 1)
+used_bit uses g used = let u = slice_index_or uses g no_use in bit_within u.0 u.0 (omega arith) (not_zero u.0 used)
+
 by_cases : (b : Bool) → (b ≡ false → ⊥) → b ≡ true
 by_cases true h = refl
 by_cases false h = absurd (h refl)

@@ -3,6 +3,7 @@ use Rattle.std.specs.Prelude.{◌≡◌, ◌↔◌, ◌<◌, ℕ, List, false, I
 use Rattle.ir_items.specs.Plain.{PlainEntry, PlainModule}
 use Rattle.spec_analysis.specs.Chains.{Names, Reaches}
 use Rattle.spec_analysis.specs.Summaries.{no_use}
+use Rattle.spec_handles.specs.InOrder.{HandlesOK}
 use Rattle.spec_report.specs.Lines.{is_own, is_used}
 use Rattle.spec_report.specs.Reports.{IsEntryReport, IsReport}
 
@@ -20,3 +21,7 @@ abbrev pub NamedAreTold : Type 0
 NamedAreTold =
     (m : PlainModule) (number : ℕ) (e : PlainEntry) (lines : List ℕ) (r : IsEntryReport m number e lines) (g : ℕ) → g < length m.globals → is_own e g ≡ false
     → IsTrue (is_used (slice_index_or r.uses g no_use)) ↔ Reaches m e.function (Names g)
+
+-- there is no module whose handles are in order and that has no report
+abbrev pub SomeReport : Type 0
+SomeReport = (m : PlainModule) → HandlesOK m → ¬ ((text : List ℕ) → ¬ IsReport m text)

@@ -1,11 +1,16 @@
 //! Laws of reports.
 
-ghost use Rattle.spec_report.specs.Laws.{OneEntryReport, OneReport, NamedAreTold};
+ghost use Rattle.spec_report.specs.Laws.{OneEntryReport, OneReport, SomeReport, NamedAreTold};
 
 /// A module has one report at most, and so has each of its entry points.
 pub fn one_report()
     ensures entry { OneEntryReport }
     ensures whole { OneReport }
+{}
+
+/// A module whose handles are in order has some report.
+pub fn some_report()
+    ensures { SomeReport }
 {}
 
 /// Beside its payload and its mesh output, the lines of an entry point tell exactly the global variables that a function

@@ -1,4 +1,4 @@
-use Rattle.std.proofs.Common.{◌≡◌, ◌∙◌, map, length, refl, sym}
+use Rattle.std.proofs.Common.{◌≡◌, ◌∙◌, ◌||◌, false, map, length, refl, sym, ap}
 use Rattle.std.proofs.lemmas.List.{length-map}
 use Rattle.function_blocks.proofs.PartLaws.{refused_as}
 use Rattle.function_blocks.proofs.Refuted.{function_refuted}
@@ -145,3 +145,15 @@ returns-in-Err-judge-clause-fault g c =
     let forms = map (form_given m.types) (g.L.Lower.types c.args.lower.now c.in-Ok-analyse.info) in
     refused_as (IsFaultBehind reading faults s (block_context s m f forms)) (IsFunctionFault reading faults s m f)
     (λ e w. behind c.in-Ok.ensures kept.analysed forms kept.typed w) c.in-Err-judge.refusal c.in-Err-judge.ensures
+
+pub returns-in-Ok-judge-clause-globals : goal.returns-in-Ok-judge-clause-globals
+returns-in-Ok-judge-clause-globals g c =
+    let summaries = map (g.L.Lower.summary c.args.lower.now) c.args.callees.now in
+    let kept = c.in-Ok-analyse.ensures.kept summaries (λ callee arguments call. refl) in
+    c.noted.ensures.globals ∙ kept.globals
+
+pub returns-in-Ok-judge-clause-unblended : goal.returns-in-Ok-judge-clause-unblended
+returns-in-Ok-judge-clause-unblended g c =
+    let summaries = map (g.L.Lower.summary c.args.lower.now) c.args.callees.now in
+    let kept = c.in-Ok-analyse.ensures.kept summaries (λ callee arguments call. refl) in
+    c.noted.ensures.blending ∙ ap (λ b. b || false) kept.unblended

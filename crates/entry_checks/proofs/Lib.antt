@@ -1,0 +1,9 @@
+mod Bits
+mod Finds
+pub mod Places
+mod UsedLaws
+mod SeenLaws
+mod Told
+pub mod MeshLaws
+pub mod Refuted
+pub mod Transport

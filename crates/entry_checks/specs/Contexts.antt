@@ -1,0 +1,23 @@
+-- What the rules of entry points look at, as plain data.
+use Rattle.std.specs.Prelude.{◌≡◌, length}
+use Rattle.entry_checks.specs.declared.context.EntryContext.{EntryContext}
+use Rattle.ir_items.specs.Plain.{PlainEntry, PlainModule}
+use Rattle.ir_items.specs.View.{entry_view, module_view}
+use Rattle.spec_varyings.specs.Contexts.{VaryingContext, context_of}
+use Rattle.spec_varyings.specs.declared.varyings.Direction.{Direction}
+use Rattle.type_checks.specs.Known.{AreInfos}
+
+abbrev pub module_in : EntryContext → PlainModule
+module_in c = module_view c.«module».now
+
+abbrev pub entry_in : EntryContext → PlainEntry
+entry_in c = entry_view c.entry.now
+
+-- what the rules of varyings look at that go this way
+abbrev pub varying_context : EntryContext → Direction → VaryingContext
+varying_context c direction = context_of c.flags c.capabilities (module_in c) (entry_in c) direction
+
+-- what is told of the module's types is so, and told of all
+pub record IsKnown (c : EntryContext) : Type 0 where
+  pub told : AreInfos (module_in c).types c.infos.now
+  pub many : length c.infos.now ≡ length (module_in c).types

@@ -1,0 +1,106 @@
+//! Whether a mesh shader gives what it may.
+
+ghost use Rattle.std.specs.Prelude.{◌≡◌, ◌<◌, MatchResult, false, length};
+ghost use Rattle.entry_checks.specs.Contexts.{IsKnown, entry_in, module_in};
+ghost use Rattle.entry_checks.specs.Faults.{IsRefusedFor};
+ghost use Rattle.entry_checks.specs.OutputFaults.{IsMeshFault, IsOwnMeshFault, IsVertexFault};
+ghost use Rattle.ir_flags.specs.Sets.{Has};
+ghost use Rattle.ir_flags.specs.declared.settings.TheConstants.Capabilities.{MESH_SHADER_POINT_TOPOLOGY};
+ghost use Rattle.ir_items.specs.View.{module_view};
+ghost use Rattle.ir_kinds.specs.declared.stages.MeshOutputTopology.TheVariants.{Points};
+ghost use Rattle.spec_entries.specs.Meshes.{IsSaid, MeshOK, VertexOK};
+ghost use Rattle.ir_kinds.specs.declared.spaces.AddressSpace.TheVariants.{WorkGroup};
+ghost use Rattle.spec_entries.specs.Payloads.{space_at};
+
+use crate::context::EntryContext;
+use crate::error::EntryPointError;
+use crate::lookups::{is_workgroup, space_at};
+use crate::meshes::check_said;
+use crate::varyings::check_output;
+use bitflags::Flags;
+use ir_arena::handle::Handle;
+use ir_faults::refusal::Refusal;
+use ir_faults::with_span::WithSpan;
+use ir_flags::Capabilities;
+use ir_items::{MeshStageInfo, Module};
+use ir_kinds::{BuiltIn, MeshOutputTopology};
+use ir_types::key;
+use spec_varyings::Direction;
+use std::alloc::Global;
+use varying_checks::has_built_in;
+
+// Whether the output of a mesh shader is memory of its workgroup, and what is said is what it implies.
+fn check_own(
+    capabilities: Capabilities,
+    module: &Module,
+    mesh: &MeshStageInfo,
+) -> Result<(), EntryPointError>
+    requires { mesh.now.output_variable < length (module_view «module».now).globals }
+    ensures { let m = module_view «module».now in
+        MatchResult result
+        (λ _. (space_at m mesh.now.output_variable ≡ Some WorkGroup) × IsSaid m mesh.now × (mesh.now.topology ≡ Points → Has capabilities.0 MESH_SHADER_POINT_TOPOLOGY.0))
+        (IsOwnMeshFault capabilities m mesh.now) }
+{
+    if !is_workgroup(space_at(module, mesh.output_variable)) {
+        return Err(EntryPointError::WrongMeshOutputAddressSpace);
+    }
+    match check_said(module, mesh) {
+        Ok(()) => {}
+        Err(error) => return Err(error),
+    }
+    let required = Capabilities::MESH_SHADER_POINT_TOPOLOGY;
+    if mesh.topology == MeshOutputTopology::Points && !capabilities.contains(required) {
+        return Err(EntryPointError::UnsupportedCapability(required));
+    }
+    Ok(())
+}
+
+// Whether a mesh shader may give vertices of a type, which have a position.
+fn check_vertices(
+    alloc: Global,
+    context: &EntryContext<'_>,
+    ty: Handle<key::IrType>,
+) -> Result<(), Refusal<EntryPointError>>
+    requires { IsKnown context.now }
+    ensures { MatchResult result
+        (λ _. VertexOK context.now.flags context.now.capabilities (module_in context.now) (entry_in context.now) ty)
+        (IsRefusedFor (IsVertexFault context.now.flags context.now.capabilities (module_in context.now) (entry_in context.now) ty)) }
+{
+    match check_output(alloc, context, ty, Direction::VertexOutput) {
+        Ok(varyings) => {
+            if has_built_in(&varyings, BuiltIn::Position { invariant: false }) {
+                return Ok(());
+            }
+            let error = EntryPointError::MissingVertexOutputPosition;
+            Err(Refusal::Fault(WithSpan::new(alloc, error)))
+        }
+        Err(refusal) => Err(refusal),
+    }
+}
+
+/// Whether a mesh shader gives what it may, and what is said of it is so.
+pub(crate) fn check_mesh(
+    alloc: Global,
+    context: &EntryContext<'_>,
+    mesh: &MeshStageInfo,
+) -> Result<(), Refusal<EntryPointError>>
+    requires known { IsKnown context.now }
+    requires within { mesh.now.output_variable < length (module_in context.now).globals }
+    ensures { MatchResult result
+        (λ _. MeshOK context.now.flags context.now.capabilities (module_in context.now) (entry_in context.now) mesh.now)
+        (IsRefusedFor (IsMeshFault context.now.flags context.now.capabilities (module_in context.now) (entry_in context.now) mesh.now)) }
+{
+    match check_own(context.capabilities, context.module, mesh) {
+        Ok(()) => {}
+        Err(error) => return Err(Refusal::Fault(WithSpan::new(alloc, error))),
+    }
+    match check_vertices(alloc, context, mesh.vertex_output_type) {
+        Ok(()) => {}
+        Err(refusal) => return Err(refusal),
+    }
+    let ty = mesh.primitive_output_type;
+    match check_output(alloc, context, ty, Direction::PrimitiveOutput) {
+        Ok(_) => Ok(()),
+        Err(refusal) => Err(refusal),
+    }
+}

@@ -1,0 +1,3 @@
+mod Noted
+mod NameLaws
+pub mod Whole

@@ -1,0 +1,58 @@
+-- What is kept of an entry point that is accepted, over what a lower layer says.
+use Rattle.std.specs.Prelude.{◌≡◌, ◌<◌, ◌↔◌, ℕ, Bool, IsTrue, List, Option, length}
+use Rattle.analysis_forms.specs.Pairs.{SamplingPair}
+use Rattle.function_blocks.specs.Settings.{settings_view}
+use Rattle.function_blocks.specs.declared.settings.FunctionSettings.{FunctionSettings as OwnSettings}
+use Rattle.ir_flags.specs.Sets.{Has}
+use Rattle.ir_flags.specs.declared.stages.ShaderStages.{ShaderStages}
+use Rattle.ir_items.specs.Plain.{PlainEntry, PlainModule}
+use Rattle.overload_tables.specs.Laws.{IsAmong}
+use Rattle.spec_analysis.specs.Chains.{HasUse, HasPair, MayKill}
+use Rattle.spec_analysis.specs.Summaries.{Summary, HasUseBit}
+use Rattle.spec_entries.specs.Entries.{EntryOK}
+use Rattle.spec_entries.specs.Modules.{entry_settings}
+use Rattle.spec_entries.specs.Uses.{EntryUses}
+use Rattle.spec_statements.specs.ExpressionStages.{all_stages}
+use Rattle.spec_statements.specs.Functions.{Reading, FunctionSettings, AllowsStage}
+use Rattle.spec_statements.specs.Payloads.{IsHeldAfter}
+use Rattle.spec_varyings.specs.Varyings.{HasBlendSources, result_varyings}
+
+-- The summary has the uses of global variables that the entry point makes, over all chains of calls of its function and by its
+-- payload and its mesh output, the pairs of its function, and whether that may end the fragment.
+pub record IsEntrySummary (m : PlainModule) (e : PlainEntry) (t : Summary) : Type 0 where
+  pub many : length t.uses ≡ length m.globals
+  pub uses : (g k : ℕ) → g < length m.globals → HasUseBit t.uses g k ↔ EntryUses e (HasUse m e.function) g k
+  pub pairs : (p : SamplingPair) → IsAmong p t.pairs ↔ HasPair m e.function p
+  pub may_kill : IsTrue t.may_kill ↔ MayKill m e.function
+
+-- What is noted of its function: which stages may run it, and whether two sources of a blend are among what it answers.
+pub record IsEntryNoted (reading : Reading) (callees : List ShaderStages) (s : FunctionSettings) (m : PlainModule) (e : PlainEntry) (stages : ShaderStages) (blending : Bool) : Type 0 where
+  pub run : (stage : ℕ) → Has stages.0 stage ↔ (Has all_stages.0 stage × AllowsStage reading s callees e.function stage)
+  pub blended : IsTrue blending ↔ HasBlendSources (result_varyings m.types e.function.result)
+
+-- The entry point is accepted, this is its summary and this is noted, and payloads of this type are held after it.
+pub record IsEntryValidated (reading : Reading) (callees : List ShaderStages) (s : FunctionSettings) (m : PlainModule) (e : PlainEntry) (t : Summary) (stages : ShaderStages) (blending : Bool) (held : Option ℕ) : Type 0 where
+  pub ok : EntryOK reading callees (HasUse m e.function) s m e
+  pub summary : IsEntrySummary m e t
+  pub noted : IsEntryNoted reading callees s m e stages blending
+  pub after : IsHeldAfter s.flags m e.function s.held held
+
+-- with what the function of an entry point is judged
+abbrev pub own_settings : OwnSettings → FunctionSettings
+own_settings s = entry_settings (settings_view s) s.held
+
+-- ---- on the way
+
+-- the summary t has what s has, and the uses of the entry point's payload and its mesh output
+pub record AddsOwnUses (e : PlainEntry) (s t : Summary) : Type 0 where
+  pub many : length t.uses ≡ length s.uses
+  pub uses : (g k : ℕ) → HasUseBit t.uses g k ↔ EntryUses e (HasUseBit s.uses) g k
+  pub pairs : t.pairs ≡ s.pairs
+  pub may_kill : t.may_kill ≡ s.may_kill
+
+-- both tell the same
+pub record TellsSame (s t : Summary) : Type 0 where
+  pub many : length t.uses ≡ length s.uses
+  pub uses : (g k : ℕ) → HasUseBit t.uses g k ↔ HasUseBit s.uses g k
+  pub pairs : t.pairs ≡ s.pairs
+  pub may_kill : t.may_kill ≡ s.may_kill

@@ -1,0 +1,89 @@
+-- What is known of every module that is accepted.
+use Rattle.std.specs.Prelude.{◌≡◌, ◌<◌, ◌++◌, ℕ, [], ◌∷◌, false, IsTrue, List, Option, Some, length, slice_get, slice_index_or}
+use Rattle.ir_blocks.specs.Places.{Place, StandsAt}
+use Rattle.ir_blocks.specs.Plain.{PlainBlock, PlainStatement, call, operation}
+use Rattle.ir_expressions.specs.Plain.{PlainExpression, plain}
+use Rattle.ir_expressions.specs.declared.expressions.Expression.TheVariants as x
+use Rattle.ir_flags.specs.Sets.{Has}
+use Rattle.ir_flags.specs.declared.settings.TheConstants.ValidationFlags.{BINDINGS, BLOCKS, EXPRESSIONS}
+use Rattle.ir_items.specs.Plain.{PlainEntry, PlainFunction, PlainModule}
+use Rattle.ir_kinds.specs.declared.bindings.ResourceBinding.{ResourceBinding}
+use Rattle.spec_analysis.specs.Chains.{Step, IsChain, end_of}
+use Rattle.spec_analysis.specs.Effects.{runs, effects_of}
+use Rattle.spec_analysis.specs.Summaries.{no_use}
+use Rattle.spec_entries.specs.Modules.{EntriesOK}
+use Rattle.spec_entries.specs.Payloads.{binding_at}
+use Rattle.spec_functions.specs.Functions.{FunctionsOK}
+use Rattle.spec_handles.specs.InOrder.{HandlesOK}
+use Rattle.spec_report.specs.Lines.{is_own, is_used}
+use Rattle.spec_report.specs.Reports.{IsEntryReport}
+use Rattle.spec_statements.specs.Functions.{FunctionSettings}
+use Rattle.spec_statements.specs.Results.{answer_of}
+
+-- ---- chains of calls
+
+-- a chain may begin at this function, which is at this index, or is an entry point's and comes behind all functions
+pub data BeginsAt (m : PlainModule) : PlainFunction → ℕ → Type 0 where
+  at_function : {f : PlainFunction} {index : ℕ} → slice_get m.functions index ≡ Some f → BeginsAt m f index
+  at_entry : (k : ℕ) {e : PlainEntry} → slice_get m.entries k ≡ Some e → BeginsAt m e.function (length m.functions)
+
+-- these are the indexes of the functions that a chain from f runs, of the last one first
+abbrev pub AreRun : PlainModule → PlainFunction → List Step → List ℕ → Type 0
+AreRun m f [] [] = Unit {0}
+AreRun m f [] (i ∷ earlier) = ⊥
+AreRun m f (s ∷ before) [] = ⊥
+AreRun m f (s ∷ before) (i ∷ earlier) = (slice_get (effects_of (end_of f before)) s.at ≡ Some (runs i s.arguments)) × (slice_get m.functions i ≡ Some s.function) × AreRun m f before earlier
+
+-- each is below the one that stands next
+abbrev pub Rise : List ℕ → Type 0
+Rise [] = Unit {0}
+Rise (i ∷ []) = Unit {0}
+Rise (i ∷ j ∷ rest) = (i < j) × Rise (j ∷ rest)
+
+-- the functions that a chain runs, and behind them the one where it begins: from the last one back their indexes rise
+pub record Falls (m : PlainModule) (f : PlainFunction) (index : ℕ) (chain : List Step) : Type 0 where
+  pub indexes : List ℕ
+  pub are : AreRun m f chain indexes
+  pub rise : Rise (indexes ++ index ∷ [])
+
+abbrev pub CallsFall : Type 0
+CallsFall = (m : PlainModule) → HandlesOK m → (f : PlainFunction) (index : ℕ) → BeginsAt m f index → (chain : List Step) → IsChain m f chain → Falls m f index chain
+
+-- ---- bindings
+
+-- the report of the entry point has a line of the variable, which is neither its payload nor its mesh output
+pub record IsTold (m : PlainModule) (number : ℕ) (e : PlainEntry) (lines : List ℕ) (r : IsEntryReport m number e lines) (g : ℕ) : Type 0 where
+  pub other : is_own e g ≡ false
+  pub used : IsTrue (is_used (slice_index_or r.uses g no_use))
+
+abbrev pub BindingsDiffer : Type 0
+BindingsDiffer =
+    (s : FunctionSettings) (m : PlainModule) → EntriesOK s m → Has s.flags.0 BINDINGS.0 → (number : ℕ) (e : PlainEntry) → slice_get m.entries number ≡ Some e → (lines : List ℕ) (r : IsEntryReport m number e lines)
+    → (g h : ℕ) (b : ResourceBinding) → IsTold m number e lines r g → IsTold m number e lines r h → binding_at m g ≡ Some b → binding_at m h ≡ Some b → g ≡ h
+
+-- ---- answers
+
+-- the statement is a call of this function that answers by the expression
+abbrev pub IsCallOf : (function : ℕ) → (e : ℕ) → PlainStatement → Type 0
+IsCallOf function e s = (arguments : List ℕ) × (s ≡ call function arguments (Some e))
+
+-- it is an operation that does
+abbrev pub IsOperationOf : (e : ℕ) → PlainStatement → Type 0
+IsOperationOf e (operation a) = answer_of (operation a) ≡ Some e
+IsOperationOf e _ = ⊥
+
+-- such a statement stands at one place of the body
+pub record StandsOnce (body : PlainBlock) (IsOne : PlainStatement → Type 0) : Type 0 where
+  pub place : Place
+  pub statement : PlainStatement
+  pub stands : StandsAt body place statement
+  pub is : IsOne statement
+  pub alone : (other : Place) (s : PlainStatement) → StandsAt body other s → IsOne s → other ≡ place
+
+pub record EachAnswered (f : PlainFunction) : Type 0 where
+  pub calls : (e function : ℕ) → slice_get f.expressions e ≡ Some (plain (x.CallResult function)) → StandsOnce f.body (IsCallOf function e)
+  pub atomics : (e type : ℕ) (comparison : _) → slice_get f.expressions e ≡ Some (plain (x.AtomicResult type comparison)) → StandsOnce f.body (IsOperationOf e)
+
+abbrev pub AnsweredByOne : Type 0
+AnsweredByOne =
+    (s : FunctionSettings) (m : PlainModule) → FunctionsOK s m → Has s.flags.0 BLOCKS.0 → Has s.flags.0 EXPRESSIONS.0 → (index : ℕ) (f : PlainFunction) → slice_get m.functions index ≡ Some f → EachAnswered f

@@ -1,0 +1,10 @@
+pub mod Stages
+pub mod Payloads
+pub mod Uses
+pub mod Variables
+pub mod Members
+pub mod Meshes
+pub mod Results
+pub mod Entries
+pub mod Held
+pub mod Modules
