@@ -1,5 +1,5 @@
 -- The functions of a module, one more of them judged.
-use Rattle.std.proofs.Common.{◌≡◌, ◌↔◌, ◌⊎◌, inl, inr, ℕ, zero, suc, ◌+◌, ◌<◌, List, [], ◌∷◌, ◌++◌, map, length, Option, Some, None, refl, sym, ap, subst, ◌∙◌, arith, slice_get}
+use Rattle.std.proofs.Common.{◌≡◌, ◌↔◌, ◌⊎◌, inl, inr, ℕ, zero, suc, ◌+◌, ◌<◌, List, [], ◌∷◌, ◌++◌, length, Option, Some, refl, sym, ap, subst, ◌∙◌, arith, slice_get}
 use Rattle.std.proofs.lemmas.Bool.{cases_eq}
 use Rattle.std.proofs.lemmas.Option.{slice_get_within}
 use Rattle.error_functions.specs.declared.error.FunctionError.{FunctionError}
@@ -30,13 +30,13 @@ use Rattle.spec_statements.specs.Payloads.{IsHeldAfter}
 -- ---- summaries
 
 -- an item of a list with one more is that one or one from before
-one_more_at : {A : Type 0} (xs : List A) (y : A) (i : ℕ) (x : A) → slice_get (xs ++ y ∷ []) i ≡ Some x → (slice_get xs i ≡ Some x) ⊎ ((i ≡ length xs) × (y ≡ x))
+pub one_more_at : {A : Type 0} (xs : List A) (y : A) (i : ℕ) (x : A) → slice_get (xs ++ y ∷ []) i ≡ Some x → (slice_get xs i ≡ Some x) ⊎ ((i ≡ length xs) × (y ≡ x))
 one_more_at [] y zero x e = inr (refl, cc)
 one_more_at [] y (suc i) x e = cc
 one_more_at (z ∷ xs) y zero x e = inl e
 one_more_at (z ∷ xs) y (suc i) x e = elim (one_more_at xs y i x e) [ inl a ↦ inl a | inr b ↦ inr (ap suc b.0, b.1) ]
 
-some_is : {A : Type 0} {x y : A} → Some x ≡ Some y → x ≡ y
+pub some_is : {A : Type 0} {x y : A} → Some x ≡ Some y → x ≡ y
 some_is e = cc (e)
 
 more_summaries : (m : PlainModule) (n : ℕ) (f : PlainFunction) (summaries : List Summary) (t : Summary) → length summaries ≡ n → slice_get m.functions n ≡ Some f → AreSummaries m summaries → IsSummary m f t
@@ -48,7 +48,7 @@ more_summaries m n f summaries t many at known is i g s found summary = elim (on
       subst (λ u. IsSummary m g u) last.1 (subst (λ h. IsSummary m h t) same is))
 ]
 
-one_longer : {A : Type 0} (xs : List A) (t : A) (n : ℕ) → length xs ≡ n → length (xs ++ t ∷ []) ≡ n + 1
+pub one_longer : {A : Type 0} (xs : List A) (t : A) (n : ℕ) → length xs ≡ n → length (xs ++ t ∷ []) ≡ n + 1
 one_longer [] t n e = omega (arith, e)
 one_longer (x ∷ xs) t zero e = absurd (omega (arith, e))
 one_longer (x ∷ xs) t (suc n) e = let r = one_longer xs t n (omega (arith, e)) in omega (arith, r)
@@ -61,7 +61,7 @@ still_there (x ∷ xs) t (suc i) lt = still_there xs t i (omega (arith, lt))
 
 -- ---- one more function
 
-below_or_here : (j n : ℕ) → j < n + 1 → (j < n) ⊎ (j ≡ n)
+pub below_or_here : (j n : ℕ) → j < n + 1 → (j < n) ⊎ (j ≡ n)
 below_or_here j n lt = elim (cases_eq j n) [ inl same ↦ inr same | inr differ ↦ inl (omega (arith, lt, differ)) ]
 
 module _ (m : PlainModule) (handles : HandlesOK m) where

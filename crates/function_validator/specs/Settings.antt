@@ -1,5 +1,6 @@
 -- With what a validator judges a function.
-use Rattle.std.specs.Prelude.{Bool, ℕ, Option}
+use Rattle.std.specs.Prelude.{Bool, ℕ, None, Option, false}
+use Rattle.function_validator.specs.declared.validator.Validator.{Validator}
 use Rattle.ir_flags.specs.declared.settings.Capabilities.{Capabilities}
 use Rattle.ir_flags.specs.declared.settings.ValidationFlags.{ValidationFlags}
 use Rattle.ir_flags.specs.declared.stages.ShaderStages.{ShaderStages}
@@ -16,3 +17,7 @@ settings_for flags capabilities operations stages entry held = record {
   entry = entry;
   held = held;
 }
+
+-- by what a validator judges the functions of a module; entry points are judged by the same
+abbrev pub settings_in : {L : Type 0} → Validator L → FunctionSettings
+settings_in v = settings_for v.flags v.capabilities v.operations v.stages false None

@@ -1,15 +1,21 @@
 //! A validator of functions, over any layer beneath them.
 
-ghost use Rattle.std.specs.Prelude.{◌≡◌, ◌↔◌, ℕ, IfErr, IfOk, MatchResult, None, OnErr, OnOk, false, length, map};
+ghost use Rattle.std.specs.Prelude.{◌≡◌, ◌<◌, ◌↔◌, ℕ, IfErr, IfOk, IfSome, MatchResult, None, OnErr, OnOk, false, length, map};
+ghost use Rattle.entry_checks.specs.Faults.{IsRefusedFor as IsRefusalFor};
+ghost use Rattle.entry_validator.specs.Faults.{IsRefusedAs};
+ghost use Rattle.entry_validator.specs.Validated.{IsEntryValidated};
 ghost use Rattle.function_blocks.specs.Faults.{IsFunctionFault};
 ghost use Rattle.function_lower.specs.Analysis.{IsRefusedFor};
 ghost use Rattle.function_lower.specs.Question.{question};
 ghost use Rattle.function_validator.specs.Judged.{AreJudged, IsRefusal};
-ghost use Rattle.function_validator.specs.Settings.{settings_for};
+ghost use Rattle.function_validator.specs.Settings.{settings_for, settings_in};
 ghost use Rattle.ir_flags.specs.Sets.{Has};
-ghost use Rattle.ir_items.specs.View.{function_view, module_view};
+ghost use Rattle.ir_items.specs.View.{entry_view, function_view, module_view};
+ghost use Rattle.ir_items.specs.declared.entries.MeshStageInfo.{MeshStageInfo};
 ghost use Rattle.ir_walks.specs.Filters.{ParentsPrecede};
+ghost use Rattle.spec_analysis.specs.Chains.{HasUse};
 ghost use Rattle.spec_analysis.specs.Summaries.{CalleesKnown, IsJoined, IsSummary};
+ghost use Rattle.spec_entries.specs.Modules.{entry_settings};
 ghost use Rattle.spec_statements.specs.ExpressionStages.{all_stages};
 ghost use Rattle.spec_handles.specs.Conditions.{HandlesInRange, OperandsPrecede};
 ghost use Rattle.spec_handles.specs.InOrder.{HandlesOK};
@@ -18,13 +24,15 @@ ghost use Rattle.spec_statements.specs.Payloads.{IsHeldAfter};
 
 use crate::functions::{InvalidFunction, judge_all};
 use bitflags::Flags;
+use entry_checks::EntryPointError;
+use entry_validator::validate_entry_point;
 use error_functions::FunctionError;
 use function_blocks::{FunctionSettings, validate_function};
 use function_lower::Lower;
 use ir_arena::handle::Handle;
 use ir_faults::refusal::Refusal;
 use ir_flags::{Capabilities, ShaderStages, SubgroupOperationSet, ValidationFlags};
-use ir_items::{Function, Module};
+use ir_items::{EntryPoint, Function, Module};
 use ir_types::key;
 use std::alloc::Global;
 
@@ -156,6 +164,60 @@ impl<L: Lower> Validator<L> {
             Ok(validated) => {
                 self.held = validated.held;
                 Ok(validated.info)
+            }
+            Err(refusal) => Err(refusal),
+        }
+    }
+
+    /// Whether an entry point of the module is accepted, and what is kept of it (naga's `Validator::validate_entry_point`), all but
+    /// that none before it has its stage and its name. `mod_info` has what [`Validator::validate_function`] answered for the
+    /// functions of the module, in order, where stages and uses may have been noted since. The payload type is kept where the entry
+    /// point is accepted; a refusal leaves the validator as it was.
+    ///
+    /// Asks that the layer was made for the module, and that its handles are in order.
+    ///
+    /// # Errors
+    ///
+    /// What [`validate_entry_point`] answers.
+    pub fn validate_entry_point(
+        &mut self,
+        ep: &EntryPoint,
+        module: &Module,
+        mod_info: &[L::Info],
+    ) -> Result<L::Info, Refusal<EntryPointError>>
+        requires made { L.is_for self.old.lower (module_view «module».now) }
+        requires handles { HandlesInRange (module_view «module».now) (entry_view ep.now).function }
+        requires precede { OperandsPrecede (entry_view ep.now).function.expressions }
+        requires parents { ParentsPrecede (module_view «module».now).filters }
+        requires payload { IfSome ep.now.task_payload (λ g. g < length (module_view «module».now).globals) }
+        requires output { IfSome ep.now.mesh_info (λ (i : MeshStageInfo). i.output_variable < length (module_view «module».now).globals) }
+        requires known { CalleesKnown (module_view «module».now) (entry_view ep.now).function (map (L.summary self.old.lower) mod_info.now) }
+        ensures judged { let m = module_view «module».now in
+            let e = entry_view ep.now in
+            let q = question m e.function (map (L.summary self.old.lower) mod_info.now) (map (L.noted self.old.lower) mod_info.now) in
+            let s = entry_settings (settings_in self.old) self.old.held in
+            MatchResult result
+            (λ info. IsEntryValidated (L.reading self.old.lower q) q.stages s m e (L.summary self.old.lower info) (L.noted self.old.lower info) (L.blending self.old.lower info) self.new.held)
+            (IsRefusalFor (IsRefusedAs (L.reading self.old.lower q) (L.faults self.old.lower q) q.stages (HasUse m e.function) s m e)) }
+        ensures kept { OnErr result (self.new.held ≡ self.old.held) }
+        ensures lower { self.new.lower ≡ self.old.lower }
+        ensures flags { self.new.flags ≡ self.old.flags }
+        ensures capabilities { self.new.capabilities ≡ self.old.capabilities }
+        ensures stages { self.new.stages ≡ self.old.stages }
+        ensures operations { self.new.operations ≡ self.old.operations }
+    {
+        let settings = FunctionSettings {
+            flags: self.flags,
+            capabilities: self.capabilities,
+            operations: self.operations,
+            subgroup_stages: self.stages,
+            entry: true,
+            held: self.held,
+        };
+        match validate_entry_point(&self.lower, self.alloc, &settings, module, ep, mod_info) {
+            Ok(kept) => {
+                self.held = kept.held;
+                Ok(kept.info)
             }
             Err(refusal) => Err(refusal),
         }

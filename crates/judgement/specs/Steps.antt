@@ -3,6 +3,8 @@ use Rattle.std.specs.Prelude.{◌≡◌, Bool, true, false, None}
 use Rattle.ir_flags.specs.Settings.{PlainSettings}
 use Rattle.ir_items.specs.Plain.{PlainModule}
 use Rattle.ir_items.specs.Returned.{IsReturned}
+use Rattle.spec_entries.specs.Modules as entries
+use Rattle.spec_entries.specs.Modules.{EntriesOK}
 use Rattle.spec_functions.specs.Functions as functions
 use Rattle.spec_functions.specs.Functions.{FunctionsOK}
 use Rattle.spec_globals.specs.Globals as globals
@@ -12,7 +14,7 @@ use Rattle.spec_modules.specs.Steps as step
 use Rattle.spec_modules.specs.Steps.{ModuleOK, IsFirstFailing}
 use Rattle.spec_modules.specs.declared.settings.ModuleSettings.{ModuleSettings}
 use Rattle.spec_statements.specs.Functions.{FunctionSettings}
-use Rattle.judgement.specs.declared.finding.Step.TheVariants.{Layout, «Type», Typing, Expression, Constant, Override, Global, Function}
+use Rattle.judgement.specs.declared.finding.Step.TheVariants.{Layout, «Type», Typing, Expression, Constant, Override, Global, Function, Entry}
 use Rattle.judgement.specs.declared.finding.Finding.{Finding}
 use Rattle.judgement.specs.declared.finding.Finding.TheVariants.{Accepted, RefusedDocument, RefusedHandles, Refused}
 
@@ -20,7 +22,8 @@ use Rattle.judgement.specs.declared.finding.Finding.TheVariants.{Accepted, Refus
 abbrev pub module_settings : PlainSettings → ModuleSettings
 module_settings s = record { flags = s.flags; capabilities = s.capabilities; overrides_resolved = false }
 
--- by what its functions are, before which no payloads of rays come, and of which none is an entry point's
+-- by what its functions are, before which no payloads of rays come, and of which none is an entry point's; entry points are
+-- judged by the same
 abbrev pub function_settings : PlainSettings → FunctionSettings
 function_settings s = record {
   flags = s.flags;
@@ -37,9 +40,10 @@ IsPrepared true m n = IsReturned m n
 IsPrepared false m n = n ≡ m
 
 -- What is found of the module that is judged, under the settings: the first step that fails, and the least index that
--- fails it. Global variables come after all steps up to overrides, and then functions.
+-- fails it. Global variables come after all steps up to overrides, then functions, and then
+-- entry points.
 abbrev pub IsFinding : PlainSettings → PlainModule → Finding → Type 0
-IsFinding s m Accepted = ModuleOK (module_settings s) m × GlobalsOK s.flags s.capabilities m × FunctionsOK (function_settings s) m
+IsFinding s m Accepted = ModuleOK (module_settings s) m × GlobalsOK s.flags s.capabilities m × FunctionsOK (function_settings s) m × EntriesOK (function_settings s) m
 IsFinding s m RefusedDocument = ⊥
 IsFinding s m RefusedHandles = ¬ HandlesOK m
 IsFinding s m (Refused Layout i) = IsFirstFailing (module_settings s) m step.layout i
@@ -50,3 +54,5 @@ IsFinding s m (Refused Constant i) = IsFirstFailing (module_settings s) m step.c
 IsFinding s m (Refused Override i) = IsFirstFailing (module_settings s) m step.override i
 IsFinding s m (Refused Global i) = ModuleOK (module_settings s) m × globals.IsFirstFailing s.flags s.capabilities m i
 IsFinding s m (Refused Function i) = ModuleOK (module_settings s) m × GlobalsOK s.flags s.capabilities m × functions.IsFirstFailing (function_settings s) m i
+IsFinding s m (Refused Entry i) =
+    ModuleOK (module_settings s) m × GlobalsOK s.flags s.capabilities m × FunctionsOK (function_settings s) m × entries.IsFirstFailing (function_settings s) m i

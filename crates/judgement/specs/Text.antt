@@ -1,7 +1,7 @@
 -- The text of a verdict.
 use Rattle.std.specs.Prelude.{ℕ, List, ◌++◌, codes, decimal}
 use Rattle.judgement.specs.declared.finding.Step.{Step}
-use Rattle.judgement.specs.declared.finding.Step.TheVariants.{Layout, «Type», Typing, Expression, Constant, Override, Global, Function}
+use Rattle.judgement.specs.declared.finding.Step.TheVariants.{Layout, «Type», Typing, Expression, Constant, Override, Global, Function, Entry}
 use Rattle.judgement.specs.declared.finding.Finding.{Finding}
 use Rattle.judgement.specs.declared.finding.Finding.TheVariants.{Accepted, RefusedDocument, RefusedHandles, Refused}
 
@@ -14,6 +14,7 @@ step_word Constant = codes "constant"
 step_word Override = codes "override"
 step_word Global = codes "global"
 step_word Function = codes "function"
+step_word Entry = codes "entry"
 
 abbrev pub text_of : Finding → List ℕ
 text_of Accepted = codes "accepted\n"

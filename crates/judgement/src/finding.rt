@@ -23,6 +23,8 @@ pub enum Step {
     Global,
     /// The rules of functions.
     Function,
+    /// The rules of entry points.
+    Entry,
 }
 
 impl Display for Step {
@@ -42,6 +44,7 @@ impl Display for Step {
             Step::Override => write!(f, "override"),
             Step::Global => write!(f, "global"),
             Step::Function => write!(f, "function"),
+            Step::Entry => write!(f, "entry"),
         }
     }
 }

@@ -1,11 +1,14 @@
 -- Texts that are written piece by piece.
-use Rattle.std.proofs.Common.{◌≡◌, ◌≤◌, ◌+◌, ◌⊎◌, inl, inr, ℕ, zero, suc, List, [], ◌∷◌, ◌++◌, length, drop, map, slice_get, Some, refl, sym, ap, subst, ◌∙◌, arith}
+use Rattle.std.proofs.Common.{◌≡◌, ◌≤◌, ◌+◌, ◌⊎◌, inl, inr, ℕ, zero, suc, List, [], ◌∷◌, ◌++◌, length, drop, filter_map, slice_get, Some, refl, sym, ap, subst, ◌∙◌, arith}
+use Rattle.std.specs.List.{cons_option}
 use Rattle.std.specs.Prelude.{◌↔◌}
 use Rattle.std.proofs.lemmas.List.{append_assoc, append-nil, drop_all, flat_map_more}
-use Rattle.analysis_forms.specs.declared.sampling.SamplingKey.{SamplingKey}
+use Rattle.analysis_forms.specs.Pairs.{SamplingPair}
+use Rattle.analysis_forms.specs.declared.sampling.GlobalOrArgument.{GlobalOrArgument}
+use Rattle.analysis_forms.specs.declared.sampling.GlobalOrArgument.TheVariants.{Argument, Global}
 use Rattle.analysis_info.specs.declared.function_info.FunctionInfo.{FunctionInfo}
 use Rattle.ir_items.specs.Plain.{PlainEntry, PlainModule}
-use Rattle.module_report.specs.Told.{numbers_of, IsEntryInfo, Tells, AreLinesOf, AreEntryLines}
+use Rattle.module_report.specs.Told.{numbers_in, numbers_of, IsEntryInfo, Tells, AreLinesOf, AreEntryLines}
 use Rattle.overload_tables.specs.Laws.{IsAmong}
 use Rattle.spec_report.specs.Lines.{each_from}
 use Rattle.spec_report.specs.Reports.{IsEntryReport}
@@ -37,16 +40,32 @@ each_done told xs number text whole past is = sym (append-nil text) ∙ (sym (ap
 
 -- ---- pairs
 
-key_numbers : (image sampler : ℕ) (key : SamplingKey) → numbers_of key ≡ (image, sampler) → key ≡ record { image = image; sampler = sampler }
-key_numbers image sampler key is = λ i. record { image = (is i).0; sampler = (is i).1 }
+some_is : {A : Type 0} {x y : A} → Some x ≡ Some y → x ≡ y
+some_is e = cc (e)
 
--- the numbers are among those of some keys, so the key is among the keys
-keyed : (keys : List SamplingKey) (image sampler : ℕ) → IsAmong (image, sampler) (map numbers_of keys) ↔ IsAmong (record { image = image; sampler = sampler }) keys
-keyed [] image sampler = (λ none. none, λ none. none)
-keyed (key ∷ keys) image sampler = let rest = keyed keys image sampler in (
-  λ h. elim h [ inl is ↦ inl (key_numbers image sampler key is) | inr later ↦ inr (rest.0 later) ],
-  λ h. elim h [ inl is ↦ inl (ap numbers_of is) | inr later ↦ inr (rest.1 later) ],
-)
+global_is : {x y : ℕ} → Global x ≡ Global y → x ≡ y
+global_is e = cc (e)
+
+module _ (image sampler : ℕ) where
+  -- the two numbers are told exactly of the two global variables
+  next_numbered : (a b : GlobalOrArgument) (rest : List (ℕ × ℕ)) (pairs : List SamplingPair) → IsAmong (image, sampler) rest ↔ IsAmong (Global image, Global sampler) pairs
+      → IsAmong (image, sampler) (cons_option (numbers_in a b) rest) ↔ IsAmong (Global image, Global sampler) ((a, b) ∷ pairs)
+  next_numbered (Global x) (Global y) rest pairs r = (
+    λ h. elim h [ inl is ↦ inl (λ i. (Global (is i).0, Global (is i).1)) | inr later ↦ inr (r.0 later) ],
+    λ h. elim h [
+      | inl is ↦
+          (let first : x ≡ image = global_is (ap (λ (p : SamplingPair). p.0) is) in
+          let second : y ≡ sampler = global_is (ap (λ (p : SamplingPair). p.1) is) in
+          inl (λ i. (first i, second i)))
+      | inr later ↦ inr (r.1 later)
+    ],
+  )
+  next_numbered (Global x) (Argument y) rest pairs r = (λ h. inr (r.0 h), λ h. elim h [ inl is ↦ cc (ap (λ (p : SamplingPair). p.1) is) | inr later ↦ r.1 later ])
+  next_numbered (Argument x) b rest pairs r = (λ h. inr (r.0 h), λ h. elim h [ inl is ↦ cc (ap (λ (p : SamplingPair). p.0) is) | inr later ↦ r.1 later ])
+
+  numbered : (pairs : List SamplingPair) → IsAmong (image, sampler) (filter_map numbers_of pairs) ↔ IsAmong (Global image, Global sampler) pairs
+  numbered [] = (λ none. none, λ none. none)
+  numbered (p ∷ pairs) = next_numbered p.0 p.1 (filter_map numbers_of pairs) pairs (numbered pairs)
 
 -- what is written of an entry point is its report
 pub reported : (m : PlainModule) (number : ℕ) (e : PlainEntry) (info : FunctionInfo) (lines : List ℕ) → IsEntryInfo m e info → AreLinesOf number e info lines → IsEntryReport m number e lines
@@ -56,9 +75,9 @@ reported m number e info lines is written = record {
   are_uses = is.uses;
   are_pairs = record {
     ordered = written.ordered;
-    exact = λ image sampler. let keys = keyed info.sampling_set.items image sampler in (
-      λ h. (is.pairs image sampler).0 (keys.0 ((written.same (image, sampler)).0 h)),
-      λ h. (written.same (image, sampler)).1 (keys.1 ((is.pairs image sampler).1 h)),
+    exact = λ image sampler. let both = numbered image sampler info.sampling.items in (
+      λ h. (is.pairs image sampler).0 (both.0 ((written.same (image, sampler)).0 h)),
+      λ h. (written.same (image, sampler)).1 (both.1 ((is.pairs image sampler).1 h)),
     );
   };
   told = written.told;

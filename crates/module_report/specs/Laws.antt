@@ -1,24 +1,21 @@
 -- When what is kept of an entry point is what the report reads.
-use Rattle.std.specs.Prelude.{◌≡◌, ◌↔◌, ◌⊎◌, ℕ, List, true, length, flat_map}
-use Rattle.analysis_forms.specs.declared.global_use.GlobalUse.{GlobalUse}
-use Rattle.analysis_info.specs.Infos.{key_of, NotesUse}
+use Rattle.std.specs.Prelude.{◌≡◌, ◌<◌, ◌↔◌, ℕ, length}
+use Rattle.analysis_forms.specs.Pairs.{SamplingPair}
 use Rattle.analysis_info.specs.declared.function_info.FunctionInfo.{FunctionInfo}
 use Rattle.ir_items.specs.Plain.{PlainEntry, PlainModule}
-use Rattle.overload_tables.specs.Laws.{IsAmong}
-use Rattle.spec_analysis.specs.Summaries.{Summary, HasUseBit, IsSummary}
 use Rattle.module_report.specs.Told.{IsEntryInfo}
-use Rattle.spec_report.specs.Lines.{is_own}
+use Rattle.overload_tables.specs.Laws.{IsAmong}
+use Rattle.spec_analysis.specs.Chains.{HasUse, HasPair}
+use Rattle.spec_analysis.specs.Summaries.{HasUseBit}
+use Rattle.spec_entries.specs.Uses.{EntryUses}
 
--- It has a summary of the entry point's function, and further uses, which are noted of the entry point's payload and mesh output
--- alone.
-pub record IsNotedOf (m : PlainModule) (e : PlainEntry) (s : Summary) (noted : List (ℕ × GlobalUse)) (info : FunctionInfo) : Type 0 where
-  pub summary : IsSummary m e.function s
-  pub own : (u : ℕ × GlobalUse) → IsAmong u noted → is_own e u.0 ≡ true
+-- It has the uses of global variables that the entry point makes, over all chains of calls of its function and by its payload and
+-- its mesh output, and the pairs of its function.
+pub record IsNotedOf (m : PlainModule) (e : PlainEntry) (info : FunctionInfo) : Type 0 where
   pub many : length info.uses.items ≡ length m.globals
-  pub uses : (g k : ℕ) → HasUseBit info.uses.items g k ↔ (HasUseBit s.uses g k ⊎ NotesUse noted g k)
-  pub pairs : info.sampling.items ≡ s.pairs
-  pub keys : info.sampling_set.items ≡ flat_map key_of info.sampling.items
+  pub uses : (g k : ℕ) → g < length m.globals → HasUseBit info.uses.items g k ↔ EntryUses e (HasUse m e.function) g k
+  pub pairs : (p : SamplingPair) → IsAmong p info.sampling.items ↔ HasPair m e.function p
 
 -- such an info is what the report reads
 abbrev pub NotedIsTold : Type 0
-NotedIsTold = (m : PlainModule) (e : PlainEntry) (s : Summary) (noted : List (ℕ × GlobalUse)) (info : FunctionInfo) → IsNotedOf m e s noted info → IsEntryInfo m e info
+NotedIsTold = (m : PlainModule) (e : PlainEntry) (info : FunctionInfo) → IsNotedOf m e info → IsEntryInfo m e info

@@ -94,7 +94,7 @@ fn write_entry(
     ensures { OnOk result (Tells (AreLinesOf number (entry_view entry.now) info.now) (string_bytes text.old) (string_bytes text.new)) }
 {
     write_variables(text, number, entry, info.uses())?;
-    write_samples(alloc, text, &info.sampling_set)
+    write_samples(alloc, text, info.pairs())
 }
 
 /// The lines of all entry points, in order.

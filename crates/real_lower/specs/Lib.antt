@@ -1,5 +1,3 @@
 pub mod Readings
 pub mod Made
 pub mod Laws
-pub mod Settings
-pub mod Refusals

@@ -1,4 +1,4 @@
-use Rattle.std.proofs.Common.{◌≡◌, Some, None, false, map, slice_get}
+use Rattle.std.proofs.Common.{None, false, map}
 use Rattle.function_validator.proofs.Chained.{conditions_at, judged_more, told_refusal}
 use Rattle.function_validator.proofs.Placed.{view_there}
 use Rattle.function_validator.specs.Settings.{settings_for}
