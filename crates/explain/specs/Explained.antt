@@ -1,16 +1,12 @@
 -- What is told of a document goes with what is found of it.
 use Rattle.judgement.specs.declared.finding.Finding.{Finding}
 use Rattle.judgement.specs.declared.finding.Finding.TheVariants as findings
-use Rattle.judgement.specs.declared.finding.Step.TheVariants.{Global, Function}
 use Rattle.shader_check.specs.Examined.{refused_by}
 use Rattle.explain.specs.declared.explanation.Explanation.{Explanation}
-use Rattle.explain.specs.declared.explanation.Explanation.TheVariants.{NoDocument, NotChecked, Accepted, RefusedModule, RefusedGlobal, RefusedFunction}
+use Rattle.explain.specs.declared.explanation.Explanation.TheVariants.{NoDocument, Accepted, Refused}
 
 -- the finding that is explained
 abbrev pub finding_of : Explanation → Finding
 finding_of (NoDocument error) = findings.RefusedDocument
-finding_of (NotChecked place) = findings.RefusedDocument
 finding_of Accepted = findings.Accepted
-finding_of (RefusedModule name error) = refused_by error
-finding_of (RefusedGlobal name error) = findings.Refused Global error.global
-finding_of (RefusedFunction name error) = findings.Refused Function error.function
+finding_of (Refused name error) = refused_by error

@@ -4,16 +4,12 @@ ghost use Rattle.shader_check.specs.Examined.{finding_in};
 ghost use Rattle.shader_check.specs.Theorem.{Judged};
 ghost use Rattle.explain.specs.Explained.{finding_of};
 
-use crate::names::{function_name, global_name, refused_name};
+use crate::names::refused_name;
 use crate::place::Told;
-use crate::unchecked::{Steps, first_unchecked};
 use document_forms::Place;
 use document_reader::{DocumentError, MAX_LEN, read_document};
 use ir_items::Module;
-use shader_check::{
-    Examined, Finding, InvalidFunction, InvalidGlobalVariable, ModuleError, Step, examine_document,
-    refused_by,
-};
+use shader_check::{Examined, Finding, ModuleError, ValidationError, examine_document, refused_by};
 use std::alloc::{AllocError, Global};
 use std::fmt::{self, Display};
 
@@ -22,16 +18,10 @@ use std::fmt::{self, Display};
 pub enum Explanation {
     /// The bytes spell no document. The error is not of memory.
     NoDocument(DocumentError),
-    /// What stands there is not checked so far.
-    NotChecked(Steps),
     /// No step fails.
     Accepted,
-    /// Handles are out of order, or a step up to overrides fails: the name of the first item that fails it, and why it does.
-    RefusedModule(Option<String>, ModuleError),
-    /// The first global variable that is refused: its name, and why it is.
-    RefusedGlobal(Option<String>, InvalidGlobalVariable),
-    /// The first function that fails its rules: its name, and why it does.
-    RefusedFunction(Option<String>, InvalidFunction),
+    /// A step fails: the name of the first item that fails it, and why it does.
+    Refused(Option<String>, ValidationError),
 }
 
 // What is told of what is found.
@@ -39,19 +29,10 @@ fn told(alloc: Global, examined: Examined, module: &Module) -> Result<Explanatio
     ensures { IfOk result (λ e. finding_of e ≡ finding_in examined) }
 {
     match examined {
-        Examined::NotChecked => Ok(Explanation::NotChecked(first_unchecked())),
         Examined::Accepted(_) => Ok(Explanation::Accepted),
-        Examined::RefusedModule(error) => {
+        Examined::Refused(error) => {
             let name = refused_name(alloc, module, &error)?;
-            Ok(Explanation::RefusedModule(name, error))
-        }
-        Examined::RefusedGlobal(error) => {
-            let name = global_name(alloc, module, error.global.index())?;
-            Ok(Explanation::RefusedGlobal(name, error))
-        }
-        Examined::RefusedFunction(error) => {
-            let name = function_name(alloc, module, error.function.index())?;
-            Ok(Explanation::RefusedFunction(name, error))
+            Ok(Explanation::Refused(name, error))
         }
     }
 }
@@ -99,36 +80,42 @@ fn write_error<W: fmt::Write>(f: &mut fmt::Formatter<W>, error: &DocumentError) 
     }
 }
 
-// The step that fails by an item, and the item.
-fn refused_item(error: &ModuleError) -> Option<(Step, usize)> {
-    match refused_by(error) {
-        Finding::Refused(step, index) => Some((step, index)),
-        Finding::Accepted | Finding::RefusedDocument | Finding::RefusedHandles => None,
+// The step that fails and the item that fails it, with its name.
+fn write_item<W: fmt::Write>(
+    f: &mut fmt::Formatter<W>,
+    name: &Option<String>,
+    error: &ValidationError,
+) -> fmt::Result {
+    match (refused_by(error), name) {
+        (Finding::Refused(step, index), Some(name)) => write!(
+            f,
+            "refused {step} {index} {name:?}: "
+        ),
+        (Finding::Refused(step, index), None) => write!(f, "refused {step} {index}: "),
+        (Finding::RefusedHandles, _) => write!(f, "refused handles: "),
+        (Finding::Accepted | Finding::RefusedDocument, _) => Ok(()),
     }
 }
 
-// The step that fails, the item that fails it, and its name.
-fn write_item<W: fmt::Write>(
-    f: &mut fmt::Formatter<W>,
-    step: Step,
-    index: usize,
-    name: &Option<String>,
-) -> fmt::Result {
-    match name {
-        Some(name) => write!(f, "refused {step} {index} {name:?}"),
-        None => write!(f, "refused {step} {index}"),
+// Why an item is refused in a step up to overrides.
+fn write_early<W: fmt::Write>(f: &mut fmt::Formatter<W>, error: &ModuleError) -> fmt::Result {
+    match error {
+        ModuleError::InvalidHandle(error) => write!(f, "{error}"),
+        ModuleError::Layouter(error) => write!(f, "{}", error.inner),
+        ModuleError::Type(error) => write!(f, "{}", error.error),
+        ModuleError::ConstExpression(error) => write!(f, "{}", error.error),
+        ModuleError::Constant(error) => write!(f, "{}", error.error),
+        ModuleError::Override(error) => write!(f, "{}", error.error),
     }
 }
 
 // Why an item is refused.
-fn write_reason<W: fmt::Write>(f: &mut fmt::Formatter<W>, error: &ModuleError) -> fmt::Result {
+fn write_reason<W: fmt::Write>(f: &mut fmt::Formatter<W>, error: &ValidationError) -> fmt::Result {
     match error {
-        ModuleError::InvalidHandle(error) => write!(f, "refused handles: {error}"),
-        ModuleError::Layouter(error) => write!(f, ": {}", error.inner),
-        ModuleError::Type(error) => write!(f, ": {}", error.error),
-        ModuleError::ConstExpression(error) => write!(f, ": {}", error.error),
-        ModuleError::Constant(error) => write!(f, ": {}", error.error),
-        ModuleError::Override(error) => write!(f, ": {}", error.error),
+        ValidationError::Module(error) => write_early(f, error),
+        ValidationError::GlobalVariable(error) => write!(f, "{}", error.error),
+        ValidationError::Function(error) => write!(f, "{}", error.error),
+        ValidationError::EntryPoint(error) => write!(f, "{}", error.error),
     }
 }
 
@@ -139,21 +126,10 @@ impl Display for Explanation {
                 write!(f, "no document: ")?;
                 write_error(f, error)
             }
-            Explanation::NotChecked(steps) => write!(f, "not checked so far: {}", Told(steps)),
             Explanation::Accepted => write!(f, "accepted"),
-            Explanation::RefusedModule(name, error) => {
-                if let Some((step, index)) = refused_item(error) {
-                    write_item(f, step, index, name)?;
-                }
+            Explanation::Refused(name, error) => {
+                write_item(f, name, error)?;
                 write_reason(f, error)
-            }
-            Explanation::RefusedGlobal(name, error) => {
-                write_item(f, Step::Global, error.global.index(), name)?;
-                write!(f, ": {}", error.error)
-            }
-            Explanation::RefusedFunction(name, error) => {
-                write_item(f, Step::Function, error.function.index(), name)?;
-                write!(f, ": {}", error.error)
             }
         }
     }

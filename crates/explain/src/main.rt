@@ -5,7 +5,6 @@ mod explanation;
 mod names;
 mod parts;
 mod place;
-mod unchecked;
 
 use explanation::{Explanation, explain};
 use ports::{Source, TakeError};
@@ -20,11 +19,7 @@ fn fault(rt: &HostRuntime, message: &str) -> ExitCode {
 fn status(explanation: &Explanation) -> u8 {
     match explanation {
         Explanation::Accepted => 0,
-        Explanation::NoDocument(_)
-        | Explanation::NotChecked(_)
-        | Explanation::RefusedModule(..)
-        | Explanation::RefusedGlobal(..)
-        | Explanation::RefusedFunction(..) => 1,
+        Explanation::NoDocument(_) | Explanation::Refused(..) => 1,
     }
 }
 

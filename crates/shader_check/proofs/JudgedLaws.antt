@@ -3,73 +3,62 @@ use Rattle.std.proofs.Common.{◌≡◌, ℕ, List, [], Result, Ok, Err, IfOk, s
 use Rattle.std.specs.declared.alloc.AllocError.{AllocError}
 use Rattle.document_reader.specs.Plain.{PlainDocument}
 use Rattle.document_reader.specs.Form.{Reads}
-use Rattle.document_reader.proofs.Seam.{one_document_lem}
 use Rattle.ir_items.specs.Plain.{PlainModule}
-use Rattle.judgement.specs.Steps.{IsFinding, IsPrepared}
+use Rattle.judgement.specs.Steps.{IsFinding, IsPrepared, function_settings}
 use Rattle.judgement.specs.declared.finding.Finding.{Finding}
 use Rattle.judgement.specs.declared.finding.Finding.TheVariants.{Accepted, RefusedDocument, RefusedHandles, Refused}
 use Rattle.module_validator.specs.declared.error.ModuleError.{ModuleError}
-use Rattle.module_validator.specs.declared.error.ModuleError.TheVariants as error
+use Rattle.module_validator.specs.declared.error.ModuleError.TheVariants as module_error
+use Rattle.function_validator.specs.declared.error.ValidationError.{ValidationError}
+use Rattle.function_validator.specs.declared.error.ValidationError.TheVariants as error
+use Rattle.shader_check.proofs.Kept.{reported}
 use Rattle.shader_check.proofs.ModuleLaws.{found_of}
-use Rattle.shader_check.specs.Examined.{finding_in, refused_by, IsExamined, IsExaminedDocument, IsKeptIn, IsToldIn}
+use Rattle.shader_check.specs.Examined.{finding_in, refused_early, refused_by, IsExamined, IsExaminedDocument, IsKeptIn, IsToldIn}
 use Rattle.shader_check.specs.Judgements.{IsJudgementOf, IsJudgementOn}
-use Rattle.shader_check.specs.Scope.{IsWithin}
 use Rattle.shader_check.specs.Theorem.{Judged, JudgedDocument, IsTold, IsToldOf}
 use Rattle.shader_check.specs.declared.examined.Examined.{Examined}
 use Rattle.shader_check.specs.declared.examined.Examined.TheVariants as examined
 use Rattle.shader_check.specs.declared.told.Judgement.{Judgement}
 
-pub found_in : (d : PlainDocument) (m : PlainModule) (f : Finding) → IsWithin d → IsPrepared d.settings.returns d.content m → IsFinding d.settings m f → JudgedDocument d f
-found_in d m RefusedDocument w p h = absurd h
-found_in d m Accepted w p h = record { within = w; judged = m; prepared = p; finding = h }
-found_in d m RefusedHandles w p h = record { within = w; judged = m; prepared = p; finding = h }
-found_in d m (Refused step index) w p h = record { within = w; judged = m; prepared = p; finding = h }
+pub found_in : (d : PlainDocument) (m : PlainModule) (f : Finding) → IsPrepared d.settings.returns d.content m → IsFinding d.settings m f → JudgedDocument d f
+found_in d m RefusedDocument p h = h
+found_in d m Accepted p h = record { judged = m; prepared = p; finding = h }
+found_in d m RefusedHandles p h = record { judged = m; prepared = p; finding = h }
+found_in d m (Refused step index) p h = record { judged = m; prepared = p; finding = h }
 
 -- what is found of its module with the error is found of the document
-examined_in : (d : PlainDocument) (m : PlainModule) (x : Examined) → IsWithin d → IsPrepared d.settings.returns d.content m → IsExamined d.settings m x → IsExaminedDocument d m x
-examined_in d m examined.NotChecked w p h = absurd h
-examined_in d m (examined.Accepted info) w p h = record { within = w; prepared = p; examined = h }
-examined_in d m (examined.RefusedModule e) w p h = record { within = w; prepared = p; examined = h }
-examined_in d m (examined.RefusedGlobal e) w p h = record { within = w; prepared = p; examined = h }
-examined_in d m (examined.RefusedFunction e) w p h = record { within = w; prepared = p; examined = h }
-
-pub examined_if : (d : PlainDocument) (m : PlainModule) (r : Result Examined AllocError) → IsWithin d → IsPrepared d.settings.returns d.content m → IfOk r (IsExamined d.settings m)
-    → IfOk r (IsExaminedDocument d m)
-examined_if d m (Ok x) w p h = examined_in d m x w p h
-examined_if d m (Err a) w p h = tt
+pub examined_if : (d : PlainDocument) (m : PlainModule) (r : Result Examined AllocError) → IsPrepared d.settings.returns d.content m → IfOk r (IsExamined d.settings m) → IfOk r (IsExaminedDocument d m)
+examined_if d m (Ok x) p h = record { prepared = p; examined = h }
+examined_if d m (Err a) p h = tt
 
 -- and without the error
 pub judged_document : (d : PlainDocument) (m : PlainModule) (x : Examined) → IsExaminedDocument d m x → JudgedDocument d (finding_in x)
-judged_document d m examined.NotChecked h = h
-judged_document d m (examined.Accepted info) h = found_in d m Accepted h.within h.prepared (found_of d.settings m (examined.Accepted info) h.examined)
-judged_document d m (examined.RefusedModule e) h = found_in d m (refused_by e) h.within h.prepared (found_of d.settings m (examined.RefusedModule e) h.examined)
-judged_document d m (examined.RefusedGlobal e) h = found_in d m (finding_in (examined.RefusedGlobal e)) h.within h.prepared (found_of d.settings m (examined.RefusedGlobal e) h.examined)
-judged_document d m (examined.RefusedFunction e) h = found_in d m (finding_in (examined.RefusedFunction e)) h.within h.prepared (found_of d.settings m (examined.RefusedFunction e) h.examined)
+judged_document d m x h = found_in d m (finding_in x) h.prepared (found_of d.settings m x h.examined)
 
 -- ---- what is told
 
 pub kept_in : (d : PlainDocument) (m : PlainModule) (x : Examined) → IsExaminedDocument d m x → IsKeptIn m x
-kept_in d m examined.NotChecked h = tt
-kept_in d m (examined.Accepted info) h = h.examined.kept
-kept_in d m (examined.RefusedModule e) h = tt
-kept_in d m (examined.RefusedGlobal e) h = tt
-kept_in d m (examined.RefusedFunction e) h = tt
+kept_in d m (examined.Accepted info) h = reported (function_settings d.settings) m info h.examined
+kept_in d m (examined.Refused e) h = tt
 
-refused_told : (d : PlainDocument) (m : PlainModule) (e : ModuleError) (behind : List ℕ) → IsToldIn m (refused_by e) behind → IsToldOf d (refused_by e) behind
-refused_told d m (error.InvalidHandle e) behind t = t
-refused_told d m (error.Layouter e) behind t = t
-refused_told d m (error.Type e) behind t = t
-refused_told d m (error.ConstExpression e) behind t = t
-refused_told d m (error.Constant e) behind t = t
-refused_told d m (error.Override e) behind t = t
+early_told : (d : PlainDocument) (m : PlainModule) (e : ModuleError) (behind : List ℕ) → IsToldIn m (refused_early e) behind → IsToldOf d (refused_early e) behind
+early_told d m (module_error.InvalidHandle e) behind t = t
+early_told d m (module_error.Layouter e) behind t = t
+early_told d m (module_error.Type e) behind t = t
+early_told d m (module_error.ConstExpression e) behind t = t
+early_told d m (module_error.Constant e) behind t = t
+early_told d m (module_error.Override e) behind t = t
+
+refused_told : (d : PlainDocument) (m : PlainModule) (e : ValidationError) (behind : List ℕ) → IsToldIn m (refused_by e) behind → IsToldOf d (refused_by e) behind
+refused_told d m (error.Module e) behind t = early_told d m e behind t
+refused_told d m (error.GlobalVariable e) behind t = t
+refused_told d m (error.Function e) behind t = t
+refused_told d m (error.EntryPoint e) behind t = t
 
 -- what is told of its module is told of the document
 told_of : (d : PlainDocument) (m : PlainModule) (x : Examined) (behind : List ℕ) → IsExaminedDocument d m x → IsToldIn m (finding_in x) behind → IsToldOf d (finding_in x) behind
-told_of d m examined.NotChecked behind h t = t
 told_of d m (examined.Accepted info) behind h t = record { judged = m; prepared = h.prepared; is = t }
-told_of d m (examined.RefusedModule e) behind h t = refused_told d m e behind t
-told_of d m (examined.RefusedGlobal e) behind h t = t
-told_of d m (examined.RefusedFunction e) behind h t = t
+told_of d m (examined.Refused e) behind h t = refused_told d m e behind t
 
 pub judgement_of : (d : PlainDocument) (m : PlainModule) (x : Examined) (j : Judgement) → IsExaminedDocument d m x → j.finding ≡ finding_in x → IsToldIn m (finding_in x) (string_bytes j.report) → IsJudgementOf d j
 judgement_of d m x j h is t = record {
@@ -77,12 +66,8 @@ judgement_of d m x j h is t = record {
   told = subst (λ f. IsToldOf d f (string_bytes j.report)) (sym is) (told_of d m x (string_bytes j.report) h t);
 }
 
--- where the one document that is spelled is not checked so far, none is
-none_within : (bytes : List ℕ) (d : PlainDocument) → Reads bytes d → ¬ IsWithin d → (e : PlainDocument) → Reads bytes e → ¬ IsWithin e
-none_within bytes d r not_within e s w = not_within (subst IsWithin (one_document_lem bytes e d s r) w)
-
 pub judged : (bytes : List ℕ) (d : PlainDocument) (f : Finding) → Reads bytes d → JudgedDocument d f → Judged bytes f
-judged bytes d RefusedDocument r h = none_within bytes d r h
+judged bytes d RefusedDocument r h = absurd h
 judged bytes d Accepted r h = record { document = d; reads = r; found = h }
 judged bytes d RefusedHandles r h = record { document = d; reads = r; found = h }
 judged bytes d (Refused step index) r h = record { document = d; reads = r; found = h }
@@ -102,7 +87,7 @@ judgement_if bytes d (Ok j) reads h = record { finding = judged bytes d j.findin
 judgement_if bytes d (Err a) reads h = tt
 
 -- what is told where no document is spelled
-pub nothing_on : (bytes : List ℕ) (j : Judgement) → j.finding ≡ RefusedDocument → string_bytes j.report ≡ [] → ((d : PlainDocument) → Reads bytes d → ¬ IsWithin d) → IsJudgementOn bytes j
+pub nothing_on : (bytes : List ℕ) (j : Judgement) → j.finding ≡ RefusedDocument → string_bytes j.report ≡ [] → ((d : PlainDocument) → ¬ Reads bytes d) → IsJudgementOn bytes j
 nothing_on bytes j is empty none = record {
   finding = subst (Judged bytes) (sym is) none;
   told = subst (λ f. IsTold bytes f (string_bytes j.report)) (sym is) empty;

@@ -1,37 +1,30 @@
 -- What is kept of a module that is accepted is enough for the report on it.
-use Rattle.std.proofs.Common.{◌≡◌, ◌∙◌, ℕ, [], Some, length, slice_get, sym, ap, subst}
-use Rattle.ir_flags.specs.Settings.{PlainSettings}
+use Rattle.std.proofs.Common.{◌≡◌, ◌∙◌, ℕ, false, Some, option_map, slice_get, sym, ap}
+use Rattle.std.proofs.lemmas.List.{length-map}
+use Rattle.std.proofs.lemmas.Option.{slice_get-map}
+use Rattle.analysis_info.specs.Infos.{summary_of}
+use Rattle.analysis_info.specs.declared.function_info.FunctionInfo.{FunctionInfo}
+use Rattle.function_validator.specs.Validated.{IsValidated}
 use Rattle.ir_items.specs.Plain.{PlainEntry, PlainModule}
-use Rattle.judgement.specs.Steps.{module_settings, function_settings}
-use Rattle.real_lower.specs.Refusals.{IsKeptWith}
-use Rattle.module_handles.proofs.Whole.{conditions}
+use Rattle.module_handles.proofs.Whole.{order_gives_conditions}
 use Rattle.module_info.specs.declared.info.ModuleInfo.{ModuleInfo}
-use Rattle.module_report.specs.Told.{IsReported}
-use Rattle.module_validator.specs.Told.{IsInfoOf}
-use Rattle.shader_check.specs.Examined.{IsAcceptedWith}
-use Rattle.spec_globals.specs.Globals.{GlobalsOK}
+use Rattle.module_report.proofs.Noted.{noted_is_told}
+use Rattle.module_report.specs.Told.{IsEntryInfo, IsReported}
 use Rattle.spec_handles.specs.Modules as part
 use Rattle.spec_handles.specs.References.{item}
 use Rattle.spec_handles.specs.declared.target.Target.TheVariants as target
-use Rattle.spec_modules.specs.Steps.{ModuleOK}
-use Rattle.typing_layout.specs.Held.{AreLayouts}
+use Rattle.spec_statements.specs.Functions.{FunctionSettings}
 
-module _ (s : PlainSettings) (m : PlainModule) (before info : ModuleInfo) where
-  pub reported : ModuleOK (module_settings s) m → IsInfoOf (module_settings s) m before → IsKeptWith (function_settings s) m before info → m.entries ≡ [] → IsReported m info
-  reported ok told kept none = record {
-    typed = λ number v at. ok.handles.there (part.variable number) (item (target.Type v.ty)) (part.variable_type at);
-    laid = record {
-      back = (conditions m ok.handles).types;
-      layouts = subst (AreLayouts m.types) (sym kept.layouts) told.layouts;
-      all = ap length kept.layouts ∙ told.laid;
-    };
-    many = ap (λ v. length v.items) kept.entry_points ∙ (ap length told.entry_points ∙ sym (ap length none));
-    each = λ number e i at. absurd (no_entry number e at);
+module _ (s : FunctionSettings) (m : PlainModule) (info : ModuleInfo) (h : IsValidated s false m info) where
+  entry_info : (number : ℕ) (e : PlainEntry) (i : FunctionInfo) → slice_get m.entries number ≡ Some e → slice_get info.entry_points.items number ≡ Some i → IsEntryInfo m e i
+  entry_info number e i at there =
+      let is = h.entries.known number e (summary_of i) at (slice_get-map summary_of info.entry_points.items number ∙ ap (option_map summary_of) there) in
+      noted_is_told m e i (record { many = is.many; uses = is.uses; pairs = is.pairs })
+
+  pub reported : IsReported m info
+  reported = record {
+    typed = λ number v at. h.ok.handles.there (part.variable number) (item (target.Type v.ty)) (part.variable_type at);
+    laid = record { back = (order_gives_conditions m h.ok.handles).types; layouts = h.layouts; all = h.laid };
+    many = sym (length-map info.entry_points.items summary_of) ∙ h.entries.many;
+    each = entry_info;
   }
-    where
-      no_entry : (number : ℕ) (e : PlainEntry) → slice_get m.entries number ≡ Some e → ⊥
-      no_entry number e at = let x = subst (λ es. slice_get es number ≡ Some e) none at in cc (x)
-
-  pub accepted_with : ModuleOK (module_settings s) m → GlobalsOK s.flags s.capabilities m → IsInfoOf (module_settings s) m before → m.entries ≡ [] → IsKeptWith (function_settings s) m before info
-      → IsAcceptedWith s m info
-  accepted_with ok globals told none kept = record { ok = ok; globals = globals; functions = kept.functions.accepted; kept = reported ok told kept none }

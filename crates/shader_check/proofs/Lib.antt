@@ -1,8 +1,6 @@
-pub mod ScopeLaws
+pub mod Kept
 pub mod ModuleLaws
 pub mod JudgedLaws
 pub mod Expected
 pub mod Once
-pub mod Classical
 pub mod SomeText
-pub mod Kept

@@ -1,15 +1,18 @@
 -- What a module is refused for is what the judgement finds of it.
-use Rattle.std.proofs.Common.{inl, inr, ℕ}
+use Rattle.std.proofs.Common.{inl, inr, ℕ, false}
 use Rattle.error_functions.specs.declared.const_expressions.ConstExpressionError.{ConstExpressionError}
 use Rattle.error_functions.specs.declared.const_expressions.ConstExpressionError.TheVariants as constant
 use Rattle.ir_flags.specs.Settings.{PlainSettings}
 use Rattle.ir_items.specs.Plain.{PlainModule}
-use Rattle.judgement.specs.Steps.{module_settings, IsFinding}
+use Rattle.judgement.specs.Steps.{module_settings, function_settings, IsFinding}
 use Rattle.judgement.specs.declared.finding.Finding.TheVariants.{Refused}
 use Rattle.module_validator.specs.Faults.{IsExpressionRefused, IsModuleFault}
 use Rattle.module_validator.specs.declared.error.ModuleError.{ModuleError}
 use Rattle.module_validator.specs.declared.error.ModuleError.TheVariants as error
-use Rattle.shader_check.specs.Examined.{step_of, refused_by, finding_in, IsExamined}
+use Rattle.function_validator.specs.Validated.{IsValidationFault}
+use Rattle.function_validator.specs.declared.error.ValidationError.{ValidationError}
+use Rattle.function_validator.specs.declared.error.ValidationError.TheVariants as validation
+use Rattle.shader_check.specs.Examined.{step_of, refused_early, refused_by, finding_in, IsExamined}
 use Rattle.shader_check.specs.declared.examined.Examined.{Examined}
 use Rattle.shader_check.specs.declared.examined.Examined.TheVariants as examined
 
@@ -27,7 +30,7 @@ expression_is s m h (constant.Typing e) (inr x) = absurd x.1
 expression_is s m h constant.Other (inl x) = absurd x.1
 expression_is s m h constant.Other (inr x) = absurd x.1
 
-pub found_is : (s : PlainSettings) (m : PlainModule) (e : ModuleError) → IsModuleFault (module_settings s) m e → IsFinding s m (refused_by e)
+pub found_is : (s : PlainSettings) (m : PlainModule) (e : ModuleError) → IsModuleFault (module_settings s) m e → IsFinding s m (refused_early e)
 found_is s m (error.InvalidHandle e) x = x.1
 found_is s m (error.Layouter e) x = x.0
 found_is s m (error.Type e) x = x.0
@@ -35,10 +38,13 @@ found_is s m (error.ConstExpression e) x = expression_is s m e.expression e.erro
 found_is s m (error.Constant e) x = x.0
 found_is s m (error.Override e) x = x.0
 
+refused_is : (s : PlainSettings) (m : PlainModule) (e : ValidationError) → IsValidationFault (function_settings s) false m e → IsFinding s m (refused_by e)
+refused_is s m (validation.Module e) x = found_is s m e x
+refused_is s m (validation.GlobalVariable e) x = (x.0, x.1.first)
+refused_is s m (validation.Function e) x = (x.0, x.1, x.2.first)
+refused_is s m (validation.EntryPoint e) x = (x.0, x.1, x.2, x.3.first)
+
 -- what is found of a module with its error is found without it
 pub found_of : (s : PlainSettings) (m : PlainModule) (x : Examined) → IsExamined s m x → IsFinding s m (finding_in x)
-found_of s m examined.NotChecked h = absurd h
-found_of s m (examined.Accepted info) h = (h.ok, h.globals, h.functions)
-found_of s m (examined.RefusedModule e) h = found_is s m e h
-found_of s m (examined.RefusedGlobal e) h = (h.0, h.1.first)
-found_of s m (examined.RefusedFunction e) h = (h.0, h.1, h.2.first)
+found_of s m (examined.Accepted info) h = (h.ok, h.globals, h.functions.accepted, h.entries.accepted)
+found_of s m (examined.Refused e) h = refused_is s m e h

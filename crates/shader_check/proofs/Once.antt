@@ -9,9 +9,11 @@ use Rattle.document_reader.proofs.Seam.{one_document_lem}
 use Rattle.judgement.specs.Steps.{IsFinding, IsPrepared, module_settings, function_settings}
 use Rattle.judgement.specs.Text.{text_of}
 use Rattle.judgement.specs.declared.finding.Step.{Step}
-use Rattle.judgement.specs.declared.finding.Step.TheVariants.{Layout, «Type», Typing, Expression, Constant, Override, Global, Function}
+use Rattle.judgement.specs.declared.finding.Step.TheVariants.{Layout, «Type», Typing, Expression, Constant, Override, Global, Function, Entry}
 use Rattle.judgement.specs.declared.finding.Finding.{Finding}
 use Rattle.judgement.specs.declared.finding.Finding.TheVariants.{Accepted, RefusedDocument, RefusedHandles, Refused}
+use Rattle.spec_entries.specs.Modules as entries
+use Rattle.spec_entries.specs.Modules.{EntryAtOK, EntriesOK}
 use Rattle.spec_functions.specs.Functions as functions
 use Rattle.spec_functions.specs.Functions.{FunctionAtOK, FunctionsOK}
 use Rattle.spec_globals.specs.Globals as globals
@@ -41,6 +43,7 @@ data Family : Type 0 where
   up_to_overrides : ModuleStep → Family
   at_variables : Family
   at_functions : Family
+  at_entries : Family
 
 abbrev step_in : Step → Family
 step_in Layout = up_to_overrides step.layout
@@ -51,6 +54,7 @@ step_in Constant = up_to_overrides step.constant
 step_in Override = up_to_overrides step.override
 step_in Global = at_variables
 step_in Function = at_functions
+step_in Entry = at_entries
 
 abbrev step_back : Family → Step
 step_back (up_to_overrides step.layout) = Layout
@@ -61,6 +65,7 @@ step_back (up_to_overrides step.constant) = Constant
 step_back (up_to_overrides step.override) = Override
 step_back at_variables = Global
 step_back at_functions = Function
+step_back at_entries = Entry
 
 back : (t : Step) → step_back (step_in t) ≡ t
 back Layout = refl
@@ -71,12 +76,14 @@ back Constant = refl
 back Override = refl
 back Global = refl
 back Function = refl
+back Entry = refl
 
 module _ (s : PlainSettings) (m : PlainModule) where
   abbrev IsFailing : Family → ℕ → Type 0
   IsFailing (up_to_overrides k) i = IsFirstFailing (module_settings s) m k i
   IsFailing at_variables i = ModuleOK (module_settings s) m × globals.IsFirstFailing s.flags s.capabilities m i
   IsFailing at_functions i = ModuleOK (module_settings s) m × GlobalsOK s.flags s.capabilities m × functions.IsFirstFailing (function_settings s) m i
+  IsFailing at_entries i = ModuleOK (module_settings s) m × GlobalsOK s.flags s.capabilities m × FunctionsOK (function_settings s) m × entries.IsFirstFailing (function_settings s) m i
 
   as_failing : (t : Step) (i : ℕ) → IsFinding s m (Refused t i) → IsFailing (step_in t) i
   as_failing Layout i x = x
@@ -87,11 +94,13 @@ module _ (s : PlainSettings) (m : PlainModule) where
   as_failing Override i x = x
   as_failing Global i x = x
   as_failing Function i x = x
+  as_failing Entry i x = x
 
   in_order : (o : Family) (i : ℕ) → IsFailing o i → HandlesOK m
   in_order (up_to_overrides k) i x = x.reached.handles
   in_order at_variables i x = x.0.handles
   in_order at_functions i x = x.0.handles
+  in_order at_entries i x = x.0.handles
 
   -- no global variable fails where all are accepted
   no_variable : (i : ℕ) → GlobalsOK s.flags s.capabilities m → globals.IsFirstFailing s.flags s.capabilities m i → ⊥
@@ -100,10 +109,14 @@ module _ (s : PlainSettings) (m : PlainModule) where
   no_function : (i : ℕ) → FunctionsOK (function_settings s) m → functions.IsFirstFailing (function_settings s) m i → ⊥
   no_function i all first = first.fails (all i first.within)
 
+  no_entry : (i : ℕ) → EntriesOK (function_settings s) m → entries.IsFirstFailing (function_settings s) m i → ⊥
+  no_entry i all first = first.fails (all i first.within)
+
   not_accepted : (o : Family) (i : ℕ) → IsFinding s m Accepted → IsFailing o i → ⊥
   not_accepted (up_to_overrides k) i x y = none_fails (module_settings s) m k i y x.0
   not_accepted at_variables i x y = no_variable i x.1 y.1
   not_accepted at_functions i x y = no_function i x.2 y.2
+  not_accepted at_entries i x y = no_entry i x.3 y.3
 
   variable_once : (i j : ℕ) → globals.IsFirstFailing s.flags s.capabilities m i → globals.IsFirstFailing s.flags s.capabilities m j → i ≡ j
   variable_once i j f g = first_once (GlobalOK s.flags s.capabilities m) i j f.before f.fails g.before g.fails
@@ -111,18 +124,28 @@ module _ (s : PlainSettings) (m : PlainModule) where
   function_once : (i j : ℕ) → functions.IsFirstFailing (function_settings s) m i → functions.IsFirstFailing (function_settings s) m j → i ≡ j
   function_once i j f g = first_once (FunctionAtOK (function_settings s) m) i j f.before f.fails g.before g.fails
 
+  entry_once : (i j : ℕ) → entries.IsFirstFailing (function_settings s) m i → entries.IsFirstFailing (function_settings s) m j → i ≡ j
+  entry_once i j f g = first_once (EntryAtOK (function_settings s) m) i j f.before f.fails g.before g.fails
+
   failing_once : (o p : Family) (i j : ℕ) → IsFailing o i → IsFailing p j → (o ≡ p) × (i ≡ j)
   failing_once (up_to_overrides k) (up_to_overrides l) i j x y =
       let e = one_failure (module_settings s) m k l i j x y in
       (ap up_to_overrides e.0, e.1)
   failing_once (up_to_overrides k) at_variables i j x y = absurd (none_fails (module_settings s) m k i x y.0)
   failing_once (up_to_overrides k) at_functions i j x y = absurd (none_fails (module_settings s) m k i x y.0)
+  failing_once (up_to_overrides k) at_entries i j x y = absurd (none_fails (module_settings s) m k i x y.0)
   failing_once at_variables (up_to_overrides l) i j x y = absurd (none_fails (module_settings s) m l j y x.0)
   failing_once at_variables at_variables i j x y = (refl, variable_once i j x.1 y.1)
   failing_once at_variables at_functions i j x y = absurd (no_variable i y.1 x.1)
+  failing_once at_variables at_entries i j x y = absurd (no_variable i y.1 x.1)
   failing_once at_functions (up_to_overrides l) i j x y = absurd (none_fails (module_settings s) m l j y x.0)
   failing_once at_functions at_variables i j x y = absurd (no_variable j x.1 y.1)
   failing_once at_functions at_functions i j x y = (refl, function_once i j x.2 y.2)
+  failing_once at_functions at_entries i j x y = absurd (no_function i y.2 x.2)
+  failing_once at_entries (up_to_overrides l) i j x y = absurd (none_fails (module_settings s) m l j y x.0)
+  failing_once at_entries at_variables i j x y = absurd (no_variable j x.1 y.1)
+  failing_once at_entries at_functions i j x y = absurd (no_function j x.2 y.2)
+  failing_once at_entries at_entries i j x y = (refl, entry_once i j x.3 y.3)
 
   refused_once : (t u : Step) (i j : ℕ) → IsFinding s m (Refused t i) → IsFinding s m (Refused u j) → Refused t i ≡ Refused u j
   refused_once t u i j x y =
@@ -160,18 +183,18 @@ finds_once bytes f g x y =
 
 judged_once : (bytes : List ℕ) (f g : Finding) → Judged bytes f → Judged bytes g → f ≡ g
 judged_once bytes RefusedDocument RefusedDocument x y = refl
-judged_once bytes RefusedDocument Accepted x y = absurd (x y.document y.reads y.found.within)
-judged_once bytes RefusedDocument RefusedHandles x y = absurd (x y.document y.reads y.found.within)
-judged_once bytes RefusedDocument (Refused t j) x y = absurd (x y.document y.reads y.found.within)
-judged_once bytes Accepted RefusedDocument x y = absurd (y x.document x.reads x.found.within)
+judged_once bytes RefusedDocument Accepted x y = absurd (x y.document y.reads)
+judged_once bytes RefusedDocument RefusedHandles x y = absurd (x y.document y.reads)
+judged_once bytes RefusedDocument (Refused t j) x y = absurd (x y.document y.reads)
+judged_once bytes Accepted RefusedDocument x y = absurd (y x.document x.reads)
 judged_once bytes Accepted Accepted x y = refl
 judged_once bytes Accepted RefusedHandles x y = finds_once bytes Accepted RefusedHandles x y
 judged_once bytes Accepted (Refused t j) x y = finds_once bytes Accepted (Refused t j) x y
-judged_once bytes RefusedHandles RefusedDocument x y = absurd (y x.document x.reads x.found.within)
+judged_once bytes RefusedHandles RefusedDocument x y = absurd (y x.document x.reads)
 judged_once bytes RefusedHandles Accepted x y = finds_once bytes RefusedHandles Accepted x y
 judged_once bytes RefusedHandles RefusedHandles x y = refl
 judged_once bytes RefusedHandles (Refused t j) x y = finds_once bytes RefusedHandles (Refused t j) x y
-judged_once bytes (Refused s i) RefusedDocument x y = absurd (y x.document x.reads x.found.within)
+judged_once bytes (Refused s i) RefusedDocument x y = absurd (y x.document x.reads)
 judged_once bytes (Refused s i) Accepted x y = finds_once bytes (Refused s i) Accepted x y
 judged_once bytes (Refused s i) RefusedHandles x y = finds_once bytes (Refused s i) RefusedHandles x y
 judged_once bytes (Refused s i) (Refused t j) x y = finds_once bytes (Refused s i) (Refused t j) x y

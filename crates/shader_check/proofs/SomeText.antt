@@ -1,5 +1,5 @@
 -- There are no bytes for which no text is expected.
-use Rattle.std.proofs.Common.{◌≡◌, ◌⊎◌, ◌∙◌, inl, inr, ℕ, List, [], ◌∷◌, ◌++◌, Bool, true, false, length, refl, sym, ap, subst}
+use Rattle.std.proofs.Common.{◌⊎◌, inl, inr, ℕ, List, [], ◌++◌, Bool, true, false, length, refl, subst}
 use Rattle.ir_flags.specs.Settings.{PlainSettings}
 use Rattle.ir_items.specs.Plain.{PlainModule}
 use Rattle.ir_items.specs.Returned.{returned_module}
@@ -10,21 +10,20 @@ use Rattle.document_reader.specs.Form.{Reads}
 use Rattle.document_reader.proofs.Candidates.{IsCandidate, candidate}
 use Rattle.spec_handles.specs.InOrder.{HandlesOK}
 use Rattle.spec_modules.proofs.Reached.{reach_first, reach, all_passed}
-use Rattle.spec_modules.specs.Steps.{ModuleStep, layout, type, typing, expression, constant, override, rank, item_count, StepOK, StepPasses, IsReached, IsFirstFailing, ModuleOK}
+use Rattle.spec_modules.specs.Steps.{ModuleStep, layout, type, typing, expression, constant, override, item_count, StepOK, StepPasses, IsReached, IsFirstFailing, ModuleOK}
 use Rattle.judgement.specs.Steps.{IsFinding, IsPrepared, module_settings, function_settings}
 use Rattle.judgement.specs.Text.{text_of}
-use Rattle.judgement.specs.declared.finding.Step.TheVariants.{Layout, «Type», Typing, Expression, Constant, Override, Global, Function}
+use Rattle.judgement.specs.declared.finding.Step.TheVariants.{Layout, «Type», Typing, Expression, Constant, Override, Global, Function, Entry}
 use Rattle.judgement.specs.declared.finding.Finding.{Finding}
 use Rattle.judgement.specs.declared.finding.Finding.TheVariants.{Accepted, RefusedDocument, RefusedHandles, Refused}
-use Rattle.shader_check.specs.Scope.{IsWithin}
 use Rattle.shader_check.specs.Theorem.{Judged, IsTold, SomeText}
-use Rattle.spec_functions.specs.Functions.{FunctionAtOK}
+use Rattle.spec_entries.specs.Modules.{EntryAtOK}
+use Rattle.spec_functions.specs.Functions.{FunctionAtOK, FunctionsOK}
 use Rattle.spec_globals.specs.Globals.{GlobalOK, GlobalsOK}
-use Rattle.spec_report.specs.Lines.{buffers}
+use Rattle.spec_report.proofs.SomeReport.{some_report_for}
 use Rattle.spec_report.specs.Reports.{IsReport}
-use Rattle.shader_check.proofs.Classical.{Holds, surely, then, either, Sought, IsFirstWithout, all_or_first}
+use Rattle.spec_report.proofs.Classical.{Holds, surely, then, either, Sought, all_or_first}
 use Rattle.shader_check.proofs.JudgedLaws.{found_in, judged}
-use Rattle.shader_check.proofs.ScopeLaws.{none_put_in}
 
 -- ---- of a module
 
@@ -32,15 +31,22 @@ abbrev SomeFinding : PlainSettings → PlainModule → Type 0
 SomeFinding s m = (f : Finding) × IsFinding s m f
 
 module _ (s : PlainSettings) (m : PlainModule) where
-  functions_told : ModuleOK (module_settings s) m → GlobalsOK s.flags s.capabilities m → Sought (FunctionAtOK (function_settings s) m) (length m.functions) → SomeFinding s m
-  functions_told ok variables (inl all) = (Accepted, (ok, variables, all))
+  entries_told : ModuleOK (module_settings s) m → GlobalsOK s.flags s.capabilities m → FunctionsOK (function_settings s) m → Sought (EntryAtOK (function_settings s) m) (length m.entries) → SomeFinding s m
+  entries_told ok variables functions (inl all) = (Accepted, (ok, variables, functions, all))
+  entries_told ok variables functions (inr found) =
+      let f = found.1 in
+      (Refused Entry found.0, (ok, variables, functions, record { within = f.within; before = f.before; fails = f.fails }))
+
+  functions_told : ModuleOK (module_settings s) m → GlobalsOK s.flags s.capabilities m → Sought (FunctionAtOK (function_settings s) m) (length m.functions) → Holds (SomeFinding s m)
+  functions_told ok variables (inl all) =
+      then (all_or_first (EntryAtOK (function_settings s) m) (length m.entries)) (λ o. surely (entries_told ok variables all o))
   functions_told ok variables (inr found) =
       let f = found.1 in
-      (Refused Function found.0, (ok, variables, record { within = f.within; before = f.before; fails = f.fails }))
+      surely (Refused Function found.0, (ok, variables, record { within = f.within; before = f.before; fails = f.fails }))
 
   by_functions : ModuleOK (module_settings s) m → GlobalsOK s.flags s.capabilities m → Holds (SomeFinding s m)
   by_functions ok variables =
-      then (all_or_first (FunctionAtOK (function_settings s) m) (length m.functions)) (λ o. surely (functions_told ok variables o))
+      then (all_or_first (FunctionAtOK (function_settings s) m) (length m.functions)) (λ o. functions_told ok variables o)
 
   variables_told : ModuleOK (module_settings s) m → Sought (GlobalOK s.flags s.capabilities m) (length m.globals) → Holds (SomeFinding s m)
   variables_told ok (inl all) = by_functions ok all
@@ -117,22 +123,21 @@ some_prepared false m = (m, refl)
 abbrev SomeJudged : List ℕ → Type 0
 SomeJudged bytes = (f : Finding) × Judged bytes f
 
--- no document that they spell is checked so far, where they spell none
+-- where they spell no document
 spell_none : (bytes : List ℕ) → ((d : PlainDocument) → ¬ Reads bytes d) → SomeJudged bytes
-spell_none bytes none = (RefusedDocument, λ d r. absurd (none d r))
+spell_none bytes none = (RefusedDocument, none)
 
-by_document : (bytes : List ℕ) (d : PlainDocument) → Reads bytes d → IsWithin d → Holds (SomeJudged bytes)
-by_document bytes d r within =
+by_document : (bytes : List ℕ) (d : PlainDocument) → Reads bytes d → Holds (SomeJudged bytes)
+by_document bytes d r =
     let prepared = some_prepared d.settings.returns d.content in
-    then (some_finding d.settings prepared.0) (λ found. surely (found.0, judged bytes d found.0 r (found_in d prepared.0 found.0 within prepared.1 found.1)))
+    then (some_finding d.settings prepared.0) (λ found. surely (found.0, judged bytes d found.0 r (found_in d prepared.0 found.0 prepared.1 found.1)))
 
 -- where there is one document that they may spell
-by_candidate : (bytes : List ℕ) (d : PlainDocument) → IsCandidate bytes d → IsWithin d ⊎ (¬ IsWithin d) → Holds (SomeJudged bytes)
-by_candidate bytes d c (inr not_within) = surely (RefusedDocument, λ other r. λ within. not_within (subst IsWithin (c.alone other r) within))
-by_candidate bytes d c (inl within) =
+by_candidate : (bytes : List ℕ) (d : PlainDocument) → IsCandidate bytes d → Holds (SomeJudged bytes)
+by_candidate bytes d c =
     then (either (AreDistinct d.content.types)) (λ o.
     elim o [
-      | inl distinct ↦ by_document bytes d (c.spelled distinct) within
+      | inl distinct ↦ by_document bytes d (c.spelled distinct)
       | inr repeated ↦ surely (spell_none bytes (λ other r. repeated (subst (λ (x : PlainDocument). AreDistinct x.content.types) (c.alone other r) r.distinct)))
     ])
 
@@ -140,30 +145,25 @@ some_judged : (bytes : List ℕ) → Holds (SomeJudged bytes)
 some_judged bytes =
     elim (candidate bytes) [
       | inl none ↦ surely (spell_none bytes none)
-      | inr found ↦ then (either (IsWithin found.0)) (λ w. by_candidate bytes found.0 found.1 w)
+      | inr found ↦ by_candidate bytes found.0 found.1
     ]
 
 -- ---- what is told
 
--- the report on a module without entry points tells of its buffers alone
-buffers_told : (m : PlainModule) → m.entries ≡ [] → IsReport m (buffers m ++ [])
-buffers_told m none = record {
-  entries = [];
-  are_entries = record { many = sym (ap length none); each = λ number e lines at there. cc (there) };
-  told = refl;
-}
+abbrev SomeTold : List ℕ → Finding → Type 0
+SomeTold bytes f = (behind : List ℕ) × IsTold bytes f behind
 
-some_told : (bytes : List ℕ) (f : Finding) → Judged bytes f → (behind : List ℕ) × IsTold bytes f behind
-some_told bytes Accepted h =
-    let found = h.found in
-    let none = none_put_in h.document.settings.returns h.document.content found.judged found.prepared found.within in
-    (buffers found.judged ++ [], record { document = h.document; reads = h.reads; reports = record { judged = found.judged; prepared = found.prepared; is = buffers_told found.judged none } })
-some_told bytes RefusedDocument h = ([], refl)
-some_told bytes RefusedHandles h = ([], refl)
-some_told bytes (Refused step index) h = ([], refl)
+report_told : (bytes : List ℕ) (h : Judged bytes Accepted) → (text : List ℕ) × IsReport h.found.judged text → SomeTold bytes Accepted
+report_told bytes h text = (text.0, record { document = h.document; reads = h.reads; reports = record { judged = h.found.judged; prepared = h.found.prepared; is = text.1 } })
+
+some_told : (bytes : List ℕ) (f : Finding) → Judged bytes f → Holds (SomeTold bytes f)
+some_told bytes Accepted h = then (some_report_for h.found.judged h.found.finding.0.handles) (λ text. surely (report_told bytes h text))
+some_told bytes RefusedDocument h = surely ([], refl)
+some_told bytes RefusedHandles h = surely ([], refl)
+some_told bytes (Refused step index) h = surely ([], refl)
 
 pub some_text_lem : SomeText
 some_text_lem bytes =
     λ none. some_judged bytes (λ found.
-    let told = some_told bytes found.0 found.1 in
-    none (text_of found.0 ++ told.0) (record { finding = found.0; judged = found.1; behind = told.0; told = told.1; text_is = refl }))
+    some_told bytes found.0 found.1 (λ told.
+    none (text_of found.0 ++ told.0) (record { finding = found.0; judged = found.1; behind = told.0; told = told.1; text_is = refl })))

@@ -1,4 +1,3 @@
-pub mod Scope
 pub mod Examined
 pub mod Theorem
 pub mod Judgements

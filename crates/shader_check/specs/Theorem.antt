@@ -16,7 +16,6 @@ use Rattle.judgement.specs.Steps.{IsFinding, IsPrepared}
 use Rattle.judgement.specs.Text.{text_of}
 use Rattle.judgement.specs.declared.finding.Finding.{Finding}
 use Rattle.judgement.specs.declared.finding.Finding.TheVariants as finding
-use Rattle.shader_check.specs.Scope.{IsWithin}
 use Rattle.spec_report.specs.Reports.{IsReport}
 use Rattle.shader_check.specs.declared.check.TheConstants.{MAX_TAKEN}
 use Rattle.shader_check.specs.declared.check.Verdict.{Verdict}
@@ -26,9 +25,8 @@ use Rattle.shader_check.specs.declared.check.Fault.TheVariants.{Memory, Read, Wr
 
 -- ---- what is found
 
--- The document is checked so far, and this is found of its module, with returns put in where its settings ask for them.
+-- This is found of the document's module, with returns put in where its settings ask for them.
 pub record FindsIn (d : PlainDocument) (f : Finding) : Type 0 where
-  pub within : IsWithin d
   pub judged : PlainModule
   pub prepared : IsPrepared d.settings.returns d.content judged
   pub finding : IsFinding d.settings judged f
@@ -41,14 +39,14 @@ pub record Finds (bytes : List ℕ) (f : Finding) : Type 0 where
 
 -- what the judgement is over a document
 abbrev pub JudgedDocument : PlainDocument → Finding → Type 0
-JudgedDocument d finding.RefusedDocument = ¬ IsWithin d
+JudgedDocument d finding.RefusedDocument = ⊥
 JudgedDocument d finding.Accepted = FindsIn d finding.Accepted
 JudgedDocument d finding.RefusedHandles = FindsIn d finding.RefusedHandles
 JudgedDocument d (finding.Refused step index) = FindsIn d (finding.Refused step index)
 
 -- what the judgement is over these bytes
 abbrev pub Judged : List ℕ → Finding → Type 0
-Judged bytes finding.RefusedDocument = (d : PlainDocument) → Reads bytes d → ¬ IsWithin d
+Judged bytes finding.RefusedDocument = (d : PlainDocument) → ¬ Reads bytes d
 Judged bytes finding.Accepted = Finds bytes finding.Accepted
 Judged bytes finding.RefusedHandles = Finds bytes finding.RefusedHandles
 Judged bytes (finding.Refused step index) = Finds bytes (finding.Refused step index)

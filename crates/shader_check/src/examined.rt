@@ -1,26 +1,20 @@
-// What is found of a document, with the errors.
+// What is found of a document, with the error where its module is refused.
 ghost use Rattle.std.specs.Prelude.{◌≡◌};
-ghost use Rattle.shader_check.specs.Examined.{step_of, refused_by, finding_in};
+ghost use Rattle.shader_check.specs.Examined.{step_of, refused_early, refused_by, finding_in};
 
 use error_functions::ConstExpressionError;
+use function_validator::ValidationError;
 use judgement::{Finding, Step};
 use module_info::ModuleInfo;
-use module_validator::{InvalidGlobalVariable, ModuleError};
-use real_lower::InvalidFunction;
+use module_validator::ModuleError;
 
 /// What is found of a document, with the error where its module is refused.
 #[derive(Drop)]
 pub enum Examined {
-    /// It is not checked so far.
-    NotChecked,
     /// No step fails; this is kept of its module.
     Accepted(ModuleInfo),
-    /// Its handles are out of order, or a step up to overrides fails.
-    RefusedModule(ModuleError),
-    /// A global variable is refused: the first, and why it is.
-    RefusedGlobal(InvalidGlobalVariable),
-    /// A function fails its rules: the first, and why it does.
-    RefusedFunction(InvalidFunction),
+    /// A step fails: this is wrong with its module.
+    Refused(ValidationError),
 }
 
 // The step that refuses a global expression so.
@@ -37,9 +31,9 @@ fn step_of(error: &ConstExpressionError) -> Step
     }
 }
 
-/// What is found where a module is refused so: its step, and the item.
-pub fn refused_by(error: &ModuleError) -> Finding
-    ensures { result ≡ refused_by error.now }
+// What is found where a step up to overrides refuses a module so.
+fn refused_early(error: &ModuleError) -> Finding
+    ensures { result ≡ refused_early error.now }
 {
     match error {
         ModuleError::InvalidHandle(_) => Finding::RefusedHandles,
@@ -53,21 +47,30 @@ pub fn refused_by(error: &ModuleError) -> Finding
     }
 }
 
+/// What is found where a module is refused so: its step, and the item.
+pub fn refused_by(error: &ValidationError) -> Finding
+    ensures { result ≡ refused_by error.now }
+{
+    match error {
+        ValidationError::Module(error) => refused_early(error),
+        ValidationError::GlobalVariable(error) => {
+            Finding::Refused(Step::Global, error.global.index())
+        }
+        ValidationError::Function(error) => {
+            Finding::Refused(Step::Function, error.function.index())
+        }
+        ValidationError::EntryPoint(error) => Finding::Refused(Step::Entry, error.index),
+    }
+}
+
 impl Examined {
     /// What is found, without the error: the step that fails, and the least index of an item that fails it.
     pub fn finding(&self) -> Finding
         ensures { result ≡ finding_in self.now }
     {
         match self {
-            Examined::NotChecked => Finding::RefusedDocument,
             Examined::Accepted(_) => Finding::Accepted,
-            Examined::RefusedModule(error) => refused_by(error),
-            Examined::RefusedGlobal(error) => {
-                Finding::Refused(Step::Global, error.global.index())
-            }
-            Examined::RefusedFunction(error) => {
-                Finding::Refused(Step::Function, error.function.index())
-            }
+            Examined::Refused(error) => refused_by(error),
         }
     }
 }

@@ -2,105 +2,48 @@
 ghost use Rattle.std.specs.Prelude.{◌≡◌, [], IfOk, OnOk, string_bytes};
 ghost use Rattle.ir_items.specs.View.{module_view};
 ghost use Rattle.document_reader.specs.View.{document_view, settings_view as document_settings};
-ghost use Rattle.judgement.specs.Steps.{IsPrepared, module_settings, function_settings};
+ghost use Rattle.function_validator.specs.Settings.{settings_in};
+ghost use Rattle.judgement.specs.Steps.{IsPrepared, function_settings};
 ghost use Rattle.judgement.specs.declared.finding.Finding.TheVariants.{RefusedDocument};
-ghost use Rattle.real_lower.specs.Settings.{settings_view};
-ghost use Rattle.module_validator.specs.Told.{IsInfoOf};
 ghost use Rattle.shader_check.specs.Examined.{finding_in, IsExamined, IsExaminedDocument, IsKeptIn, IsToldIn};
 ghost use Rattle.shader_check.specs.Judgements.{IsJudgementOf, IsJudgementOn};
-ghost use Rattle.spec_globals.specs.Globals.{GlobalsOK};
-ghost use Rattle.spec_modules.specs.Steps.{ModuleOK};
 
 use crate::examined::Examined;
-use crate::scope::within;
 use crate::told::Judgement;
 use document_reader::{Document, DocumentError, Settings, read_document};
+use function_validator::Validator;
 use ir_faults::refusal::Refusal;
 use ir_items::Module;
 use judgement::Finding;
 use module_info::ModuleInfo;
 use module_report::report;
-use module_validator::{ModuleValidator, validate_globals};
-use real_lower::{ModuleFunctionSettings, validate_functions};
-use spec_modules::ModuleSettings;
+use real_lower::RealLower;
 use std::alloc::{AllocError, Global};
 
-// What the functions of a module are judged by.
-const fn function_settings(settings: &Settings) -> ModuleFunctionSettings
-    ensures { settings_view result ≡ function_settings (document_settings settings.now) }
+// What judges modules by the settings of a document.
+fn validator_for(alloc: Global, settings: &Settings) -> Validator<RealLower>
+    ensures { settings_in result ≡ function_settings (document_settings settings.now) }
 {
-    ModuleFunctionSettings {
-        flags: settings.flags,
-        capabilities: settings.capabilities,
-        subgroup_stages: settings.subgroup_stages,
-        subgroup_operations: settings.subgroup_operations,
-    }
+    let lower = RealLower::new(ModuleInfo::new(alloc));
+    let mut validator = Validator::new(alloc, lower, settings.flags, settings.capabilities);
+    validator.subgroup_stages(settings.subgroup_stages);
+    validator.subgroup_operations(settings.subgroup_operations);
+    validator
 }
 
-// The functions of a module whose global variables are accepted, of which this is told.
-fn examine_functions(
-    alloc: Global,
-    settings: &Settings,
-    module: &Module,
-    info: ModuleInfo,
-) -> Result<Examined, AllocError>
-    requires accepted { ModuleOK (module_settings (document_settings settings.now)) (module_view «module».now) }
-    requires globals { GlobalsOK settings.now.flags settings.now.capabilities (module_view «module».now) }
-    requires told { IsInfoOf (module_settings (document_settings settings.now)) (module_view «module».now) info }
-    requires entries { (module_view «module».now).entries ≡ [] }
-    ensures { IfOk result (IsExamined (document_settings settings.now) (module_view «module».now)) }
-{
-    match validate_functions(alloc, &function_settings(settings), module, info) {
-        Ok(info) => Ok(Examined::Accepted(info)),
-        Err(Refusal::Memory(error)) => Err(error),
-        Err(Refusal::Fault(fault)) => Ok(Examined::RefusedFunction(fault.into_inner())),
-    }
-}
-
-// The global variables and the functions of a module that is accepted up to its overrides, of which this is told.
-fn examine_globals(
-    alloc: Global,
-    settings: &Settings,
-    module: &Module,
-    info: ModuleInfo,
-) -> Result<Examined, AllocError>
-    requires accepted { ModuleOK (module_settings (document_settings settings.now)) (module_view «module».now) }
-    requires told { IsInfoOf (module_settings (document_settings settings.now)) (module_view «module».now) info }
-    requires entries { (module_view «module».now).entries ≡ [] }
-    ensures { IfOk result (IsExamined (document_settings settings.now) (module_view «module».now)) }
-{
-    let by = ModuleSettings {
-        flags: settings.flags,
-        capabilities: settings.capabilities,
-        overrides_resolved: false,
-    };
-    match validate_globals(
-        alloc,
-        by,
-        module,
-        info.types(),
-        info.const_expression_types(),
-    ) {
-        Ok(()) => examine_functions(alloc, settings, module, info),
-        Err(Refusal::Memory(error)) => Err(error),
-        Err(Refusal::Fault(fault)) => Ok(Examined::RefusedGlobal(fault.into_inner())),
-    }
-}
-
-// The steps over a module. A step looks only at what those before it have passed.
+// What is found of a module.
 fn examine_module(
     alloc: Global,
     settings: &Settings,
     module: &Module,
 ) -> Result<Examined, AllocError>
-    requires entries { (module_view «module».now).entries ≡ [] }
     ensures { IfOk result (IsExamined (document_settings settings.now) (module_view «module».now)) }
 {
-    let mut validator = ModuleValidator::new(alloc, settings.flags, settings.capabilities);
+    let mut validator = validator_for(alloc, settings);
     match validator.validate(module) {
-        Ok(info) => examine_globals(alloc, settings, module, info),
+        Ok(info) => Ok(Examined::Accepted(info)),
         Err(Refusal::Memory(error)) => Err(error),
-        Err(Refusal::Fault(fault)) => Ok(Examined::RefusedModule(fault.into_inner())),
+        Err(Refusal::Fault(fault)) => Ok(Examined::Refused(fault.into_inner())),
     }
 }
 
@@ -120,9 +63,6 @@ fn prepare(alloc: Global, returns: bool, module: &mut Module) -> Result<(), Allo
 pub fn examine_document(alloc: Global, document: &mut Document) -> Result<Examined, AllocError>
     ensures { IfOk result (IsExaminedDocument (document_view document.old) (module_view document.new.«module»)) }
 {
-    if !within(document) {
-        return Ok(Examined::NotChecked);
-    }
     prepare(alloc, document.settings.returns, &mut document.module)?;
     examine_module(alloc, &document.settings, &document.module)
 }
@@ -134,10 +74,7 @@ fn report_on(alloc: Global, module: &Module, examined: &Examined) -> Result<Stri
 {
     match examined {
         Examined::Accepted(info) => report(alloc, module, info),
-        Examined::NotChecked
-        | Examined::RefusedModule(_)
-        | Examined::RefusedGlobal(_)
-        | Examined::RefusedFunction(_) => Ok(String::new(alloc)),
+        Examined::Refused(_) => Ok(String::new(alloc)),
     }
 }
 
@@ -165,8 +102,7 @@ fn no_document(alloc: Global) -> Judgement
 }
 
 /// What is found of the document that the bytes spell, the first step that fails and in it the least index, and the report on
-/// it. Where they spell none, or one that is not checked so far, the document is refused. The error says that there is no
-/// memory.
+/// it. Where they spell none, the document is refused. The error says that there is no memory.
 pub fn judge(alloc: Global, bytes: &[u8]) -> Result<Judgement, AllocError>
     ensures { IfOk result (IsJudgementOn bytes.now) }
 {

@@ -1,0 +1,19 @@
+use Rattle.std.proofs.Common.{subst, sym, false}
+use Rattle.function_validator.specs.Validated.{IsRefusedWith, IsValidated, IsValidationFault}
+use Rattle.function_validator.specs.Settings.{settings_in}
+use Rattle.function_validator.specs.declared.error.ValidationError.{ValidationError}
+use Rattle.ir_faults.specs.declared.refusal.Refusal.{Refusal}
+use Rattle.ir_items.specs.View.{module_view}
+use Rattle.spec_statements.specs.Functions.{FunctionSettings}
+use Rattle.shader_check.proofs.judge.examine_module.Goals as goal
+
+pub returns-in-Ok : goal.returns-in-Ok
+returns-in-Ok c = subst (λ (z : FunctionSettings). IsValidated z false (module_view c.args.«module».now) c.in-Ok.info) c.validator_for-validator.ensures c.in-Ok.ensures.judged
+
+pub returns : goal.returns
+returns c =
+    let m = module_view c.args.«module».now in
+    let own = settings_in c.validator_for-validator.result in
+    let refused = subst (λ (r : Refusal ValidationError). IsRefusedWith (IsValidationFault own false m) r) c.in-Err-Fault.field-0-is c.in-Err-Fault.ensures.judged in
+    subst (λ (z : FunctionSettings). IsValidationFault z false m c.into_inner.result) c.validator_for-validator.ensures
+    (subst (λ (x : ValidationError). IsValidationFault own false m x) (sym c.into_inner.ensures) refused.0)
