@@ -2,7 +2,7 @@
 """Counts what the step over functions takes of a run of the program, beside reading the document as JSON: functions.py
 
 The program is run once on each document under valgrind's callgrind. Of that run the instructions are told of the step over
-functions (`validate_functions`), and of the JSON reader with letting its value go; both hold all that they call. Prints a table
+functions (`judge_all`), and of the JSON reader with letting its value go; both hold all that they call. Prints a table
 in Markdown. The program has to be built: `rt ci` leaves it, and so does `rt run` in crates/checker. The status is 1 where a
 target is missed.
 """
@@ -16,6 +16,7 @@ import modules
 import run
 
 MOST_SHARE = 0.5
+STEP = "function_validator::functions::judge_all"
 
 
 def of_run(kind):
@@ -89,7 +90,10 @@ def counted(room, path):
     """The instructions of the step over functions and of the JSON reader."""
     said = modules.called(room, path)
     reader = modules.of_call(said, "serde_json::de::read_items") + modules.of_call(said, "document_reader::serde_json++value++Value+Destruct::drop")
-    return modules.of_call(said, "real_lower::functions::validate_functions"), reader
+    step = modules.of_call(said, STEP)
+    if not step:
+        sys.exit(f"functions: no call of {STEP} was counted")
+    return step, reader
 
 
 def main():

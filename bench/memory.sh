@@ -43,7 +43,7 @@ try() {
     *) [ "$status" = 1 ] || fail "$2: status $status" ;;
     esac
     [ ! -s "$room/err" ] || fail "$2: it said $(cat "$room/err")"
-    echo "$2: each of $((at - 1)) allocations refused in turn, then $(cat "$3")"
+    echo "$2: each of $((at - 1)) allocations refused in turn, then $(head -n 1 "$3")"
 }
 
 for file in examples/*.json; do

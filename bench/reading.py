@@ -1,5 +1,5 @@
 #!/usr/bin/env python3
-"""Measures how long whole documents take, most of which are read and then refused, since they are not checked so far.
+"""Measures how long whole documents take: entry points with their reports, and small things that are read and little more.
 
 Prints a table in Markdown: for each document the median of five runs of the checker and of a program that reads the same
 bytes as JSON and no more; they take turns. Both have to be built, as for run.py. The status is 1 where a target is
@@ -23,6 +23,21 @@ def written(value):
     return json.dumps(value, separators=(",", ":"))
 
 
+# what the checker writes of a document with so many items, and its status
+def accepted(_items):
+    return b"accepted\n", 0
+
+
+def refused(_items):
+    return b"refused handles\n", 1
+
+
+def reported(items):
+    """The shader's own answer, with what is told of its entry point for each of these."""
+    head, told = SHADER.with_suffix(".txt").read_text().split("entry 0\n")
+    return (head + "".join(f"entry {it}\n{told}" for it in range(items))).encode(), 0
+
+
 def shaders():
     """The entry point of a compute shader, again and again, beside its types, variables and functions."""
     document = json.loads(SHADER.read_text())
@@ -43,7 +58,7 @@ def framed(expressions, body):
 
 
 def small_lists():
-    """Compositions of nothing."""
+    """Compositions of nothing, of a type that is not there."""
     front, back = framed("@", "")
     return front, back, lambda _: '["Compose",0,[]]'
 
@@ -54,12 +69,10 @@ def small_blocks():
     return front, back, lambda _: '["Block",[]]'
 
 
-# each kind with what the checker writes, and its status: a document of blocks alone is checked so far, and accepted
-REFUSED, ACCEPTED = (b"refused document\n", 1), (b"accepted\n", 0)
 KINDS = {
-    "a compute shader's entry point": (shaders, REFUSED),
-    "many small lists of handles": (small_lists, REFUSED),
-    "many small blocks": (small_blocks, ACCEPTED),
+    "a compute shader's entry point": (shaders, reported),
+    "many small lists of handles": (small_lists, refused),
+    "many small blocks": (small_blocks, accepted),
 }
 
 
@@ -77,7 +90,7 @@ def main():
                 file = f"{room}/document.json"
                 with open(file, "w") as it:
                     items = fill(it, front, item, back, size)
-                runs = [(run(CHECK, file, *due), run(ALONE, file, b"read\n", 0)) for _ in range(RUNS)]
+                runs = [(run(CHECK, file, *due(items)), run(ALONE, file, b"read\n", 0)) for _ in range(RUNS)]
             check, memory, alone = (statistics.median(it[who][of] for it in runs) for who, of in ((0, 0), (0, 1), (1, 0)))
             ratio, name = check / alone, f"{size >> 20} MiB, {what}"
             times.append(check)

@@ -147,12 +147,12 @@ def run(program, file, due, wanted=0):
     with open(file, "rb") as given:
         child = os.posix_spawn(program, [str(program), *words], {}, file_actions=[
             (os.POSIX_SPAWN_DUP2, given.fileno(), 0), (os.POSIX_SPAWN_DUP2, write, 1)])
-        _, status, used = os.wait4(child, 0)
     os.close(write)
     with os.fdopen(read, "rb") as it:
         wrote = it.read()
+    _, status, used = os.wait4(child, 0)
     if os.waitstatus_to_exitcode(status) != wanted or wrote != due:
-        sys.exit(f"{program.name} ended with status {os.waitstatus_to_exitcode(status)} and wrote {wrote!r}")
+        sys.exit(f"{program.name} ended with status {os.waitstatus_to_exitcode(status)} and wrote {wrote[:200]!r}")
     return used.ru_utime + used.ru_stime, used.ru_maxrss * 1024
 
 

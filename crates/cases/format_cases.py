@@ -1,8 +1,9 @@
 """The examples, the words and the limits of docs/FORMAT.md, each at its place in a whole document, as cases.
 
 A table of that page with a column `example` is known by the head of its first column, a row of words by its first cell.
-What is checked so far has the answer of the program as its output; of every other document the case tells whether it is
-read. Beside each example stands one that has a part too many, and beside each set of words one in another spelling.
+A document of plain parts, or one of ANSWERS, has the answer of the program as its output; of every other the case tells
+whether it is one. Beside each example stands one that has a part too many, and beside each set of words one in another
+spelling.
 """
 import json
 import re
@@ -13,15 +14,16 @@ PAGE = Path(__file__).resolve().parent.parent.parent / "docs" / "FORMAT.md"
 
 FLAGS = ["EXPRESSIONS", "BLOCKS", "CONTROL_FLOW_UNIFORMITY", "STRUCT_LAYOUTS", "CONSTANTS", "BINDINGS"]
 WIDE = ["SHADER_INT16", "SHADER_INT64", "SHADER_FLOAT16", "FLOAT64"]
+STAGED = ["EARLY_DEPTH_TEST", "RAY_TRACING_PIPELINE"]
 NO_SPECIAL, NO_FILTERS = [None, None, None, []], [[], None]
 SIMPLE = [["Literal", "bool", True], ["Literal", "u32", 0], ["Literal", "i32", 0]]
 
 # the places of a document
-TYPES, SPECIAL, FILTERS, CONSTANTS, OVERRIDES, GLOBALS, FUNCTIONS, ENTRIES = 5, 6, 7, 8, 9, 11, 12, 13
+CAPABILITIES, TYPES, SPECIAL, FILTERS, CONSTANTS, OVERRIDES, GLOBALS, FUNCTIONS, ENTRIES = 2, 5, 6, 7, 8, 9, 11, 12, 13
 # the places whose arrays take any number of parts
 OPEN = {1, 2, 5, 8, 9, 10, 11, 12, 13}
 
-# what is due where a document is checked and not accepted
+# what is due where a document is of plain parts and not accepted, or of others
 ANSWERS = {
     "statement: leave the nearest loop or switch": "refused function 1",
     "statement: go on with the nearest loop's continuing part": "refused function 1",
@@ -30,6 +32,22 @@ ANSWERS = {
     "value: what no other case names": "refused function 1",
     "scalar S: aint": "refused type 0",
     "scalar S: afloat": "refused type 0",
+    # it asks for an early depth test, and the document does not have the capability
+    "entry: an entry point; its name is a text and never null": "refused entry 0",
+    # there is no position, no mesh and no payload
+    "stage of an entry point: Vertex": "refused entry 0",
+    "stage of an entry point: Mesh": "refused entry 0",
+    "stage of an entry point: Task": "refused entry 0",
+    # there are no such types, and no such variable
+    "mesh: what a mesh shader gives; where a most is an override's, the expression that names it": "refused handles",
+    "topology: Points": "refused handles",
+    "topology: Lines": "refused handles",
+    "topology: Triangles": "refused handles",
+    # what is stored to is no pointer
+    "limit: a store in 61 blocks in a body of a function": "refused function 1",
+    "limit: a store in 60 blocks in a body of an entry point": "refused entry 0",
+    "limit: a barrier in 60 blocks in a body of a function": "accepted",
+    "limit: a barrier in 60 blocks in a body of an entry point": "accepted\nentry 0",
 }
 
 
@@ -92,7 +110,10 @@ def of_sample(gather, level):
 
 
 def of_entry(stage="Compute", early=None, mesh=None):
-    return whole(ENTRIES, [[stage, "main", early, [1, 1, 1], mesh, None, function()]])
+    size = 1 if stage in ["Compute", "Mesh", "Task"] else 0
+    document = whole(ENTRIES, [[stage, "main", early, [size] * 3, mesh, None, function()]])
+    document[CAPABILITIES] = WIDE + STAGED
+    return document
 
 
 # where the examples of a table belong
@@ -166,7 +187,7 @@ WORDS = {
 
 
 def steers(statement):
-    """Whether a statement is checked so far."""
+    """Whether a statement steers and does no more."""
     word, *rest = statement
     inside = {"Block": rest[:1], "If": rest[1:3], "Loop": rest[:2]}.get(word, [])
     if word == "Switch":
@@ -175,16 +196,16 @@ def steers(statement):
     return word in known and all(steers(it) for body in inside for it in body)
 
 
-def is_checked(document):
-    """Whether a document is checked so far."""
-    if document[6:8] != [NO_SPECIAL, NO_FILTERS] or any(document[8:12]) or document[13]:
+def is_plain(document):
+    """Whether a document has nothing but scalar types, and functions and entry points of literals and of what steers."""
+    if document[6:8] != [NO_SPECIAL, NO_FILTERS] or any(document[8:12]):
         return False
-    if any(inner[0] != "Scalar" for _, inner in document[TYPES]):
+    if any(inner[0] != "Scalar" for _, inner in document[TYPES]) or any(it[4:6] != [None, None] for it in document[ENTRIES]):
         return False
     return all(
         name is None and not arguments and (result is None or result[1] is None) and not locals_ and leaf is None
         and all(it[0] == "Literal" and it[1] in ["bool", "i32", "u32"] for it in expressions) and all(map(steers, body))
-        for name, arguments, result, locals_, expressions, body, leaf in document[FUNCTIONS])
+        for name, arguments, result, locals_, expressions, body, leaf in document[FUNCTIONS] + [it[6] for it in document[ENTRIES]])
 
 
 def written(value):
@@ -193,10 +214,13 @@ def written(value):
 
 def case(name, document, form):
     made = {"name": name, "input": written(document)}
-    if form and is_checked(document):
-        made["output"] = ANSWERS.get(name, "accepted") + "\n"
+    if not form:
+        made |= {"form": False, "output": "refused document\n"}
+    elif name in ANSWERS or is_plain(document):
+        entries = [f"entry {it}" for it in range(len(document[ENTRIES]))]
+        made["output"] = ANSWERS.get(name, "\n".join(["accepted", *entries])) + "\n"
     else:
-        made |= {"form": form, "output": "refused document\n"}
+        made["form"] = True
     return json.dumps(made, ensure_ascii=False)
 
 
@@ -260,19 +284,19 @@ def limit_cases():
     barrier = ["MemoryBarrier", []]
     store = ["Store", 0, 1]
     bodies = {
-        "function": lambda body: in_function(5, body),
-        "entry point": lambda body: whole(ENTRIES, [["Compute", "main", None, [1, 1, 1], None, None, function(5, body)]]),
+        "a function": lambda body: in_function(5, body),
+        "an entry point": lambda body: whole(ENTRIES, [["Compute", "main", None, [1, 1, 1], None, None, function(5, body)]]),
     }
     for name, put in bodies.items():
-        most = 61 if name == "function" else 60
+        most = 61 if name == "a function" else 60
         for count in [most, most + 1]:
-            yield case(f"limit: a store in {count} blocks in a body of a {name}", put([in_blocks(store, count)]), count == most)
+            yield case(f"limit: a store in {count} blocks in a body of {name}", put([in_blocks(store, count)]), count == most)
         for count in [60, 61]:
-            yield case(f"limit: a barrier in {count} blocks in a body of a {name}", put([in_blocks(barrier, count)]), count == 60)
+            yield case(f"limit: a barrier in {count} blocks in a body of {name}", put([in_blocks(barrier, count)]), count == 60)
             empty = in_blocks(["Block", []], count)
-            yield case(f"limit: an empty block in {count} blocks in a body of a {name}", put([empty]), count == 60)
+            yield case(f"limit: an empty block in {count} blocks in a body of {name}", put([empty]), count == 60)
         for count in [30, 31]:
-            yield case(f"limit: {count} switches in a body of a {name}", put(in_switches(count)), count == 30)
+            yield case(f"limit: {count} switches in a body of {name}", put(in_switches(count)), count == 30)
 
 
 def cases():

@@ -4,17 +4,17 @@
     make_data.py                            examples.json, from the folder examples at the top, the files of rows, and
                                             format.json, from the examples and the words of docs/FORMAT.md
     make_data.py --check                    says which of these would change, and writes nothing
-    make_data.py --corpus NAME CASES.jsonl [OUT]
-                                            NAME.json, from a file that has one case a line, in the folder OUT, or else data
-    make_data.py --some NAME CASES.jsonl    the same, of the shortest inputs alone: EACH for each verdict, for each number of
-                                            lines of a report, and for each word in which names end
+    make_data.py --corpus NAME CASES [OUT]  NAME.json, from a file that has one case a line, or from a folder that has each
+                                            as a .json and a .txt, in the folder OUT, or else data
+    make_data.py --some NAME CASES [OUT]    the same, of the shortest inputs alone: EACH for each verdict, for each number of
+                                            lines of a report, for each kind of line, and for each word in which names end
 
 A case is an object: its name, its input (or input_b64, in Base64, where that is no UTF-8), spaces, a number of blanks
 that are to follow the input (none where it is left out), and the output that is due; or, where it has a form, whether
-its input is a document. In CASES.jsonl a case may have a document in the place of the input, and whole, the output that is
-due where the whole form is judged: it is taken where there is one. A document with entry points, which are not judged yet,
-is left out. Further fields are left out. The answers of the rows below were worked out by hand. A new data file also needs
-its name in data/files.json and its line in stdout.
+its input is a document. In the file CASES a case may have a document in the place of the input, and whole, the output that
+is due where the whole form is judged: it is taken where there is one. A case whose input is a document is known by its
+output alone. The answers of the rows below were worked out by hand. A new data file also needs its name in data/files.json
+and its line in stdout.
 """
 import base64
 import json
@@ -697,8 +697,9 @@ def case(row):
     return json.dumps(made, ensure_ascii=False)
 
 
-def examples():
-    for file in sorted(EXAMPLES.glob("*.json")):
+def documents_of(folder):
+    """The documents of a folder, each with the answer beside it."""
+    for file in sorted(folder.glob("*.json")):
         due = file.with_suffix(".txt").read_text()
         yield json.dumps({"name": file.stem, "input": file.read_text(), "output": due}, ensure_ascii=False)
 
@@ -712,39 +713,35 @@ def listed(lines):
     return "[\n" + ",\n".join(lines) + "\n]\n"
 
 
-def is_judged(read):
-    """Whether the program judges a document: whether it has no entry points."""
-    try:
-        given = json.loads(read["document"])
-    except ValueError:
-        return True
-    return not isinstance(given, list) or len(given) != 14 or not given[13]
-
-
 def corpus(file):
     """The cases of a file, each as it stands, or with its document as the input; a name that comes again gets its line."""
     seen = set()
     for number, line in enumerate(file.read_text().rstrip("\n").split("\n")):
         read = json.loads(line)
-        if "document" in read:
-            if not is_judged(read):
-                continue
+        if "document" in read or read.get("form"):
             output = read.get("whole", read["output"])
             name = f"{read['name']}/{number}" if read["name"] in seen else read["name"]
             seen.add(name)
-            line = json.dumps({"name": name, "input": read["document"], "output": output})
+            line = json.dumps({"name": name, "input": read.get("document", read.get("input")), "output": output})
         yield line
 
 
+def marks_of(read):
+    """What a case shows that another may not."""
+    verdict, *told = read["output"].rstrip("\n").split("\n")
+    yield "verdict", verdict
+    yield "lines", len(told)
+    yield "word", [it for it in read["name"].split("/") if not it.isdigit()][-1]
+    for line in told:
+        yield "line", *(it for it in line.split() if not it.isdigit())
+
+
 def some(lines):
-    """The shortest of these cases, EACH for each verdict, for each number of lines of a report, and for each word in which
-    names end, in the same order."""
+    """The shortest of these cases, EACH for each thing that they show, in the same order."""
     lines = list(lines)
     count, taken = {}, set()
     for place in sorted(range(len(lines)), key=lambda it: len(lines[it])):
-        read = json.loads(lines[place])
-        told = read["output"].split("\n")
-        marks = ("verdict", told[0]), ("lines", len(told)), ("word", [it for it in read["name"].split("/") if not it.isdigit()][-1])
+        marks = set(marks_of(json.loads(lines[place])))
         if any(count.get(mark, 0) < EACH for mark in marks):
             taken.add(place)
             for mark in marks:
@@ -754,14 +751,15 @@ def some(lines):
 
 def main(words):
     if words[:1] in (["--corpus"], ["--some"]) and len(words) in (3, 4):
-        lines = corpus(Path(words[2]))
+        cases = Path(words[2])
+        lines = documents_of(cases) if cases.is_dir() else corpus(cases)
         file = Path(*words[3:] or [DATA]) / f"{words[1]}.json"
         file.write_text(listed(some(lines) if words[0] == "--some" else lines))
         return 0
     if words not in ([], ["--check"]):
         sys.exit(__doc__)
     status = 0
-    for name, lines in [("examples.json", examples()), ("rows-first.json", map(case, rows())),
+    for name, lines in [("examples.json", documents_of(EXAMPLES)), ("rows-first.json", map(case, rows())),
                         ("rows-control.json", map(case, control_rows())), ("format.json", format_cases.cases())]:
         text, file = listed(lines), DATA / name
         if not words:

@@ -1,5 +1,5 @@
 #!/bin/sh
-# Runs the program over all documents of functions.jsonl and whole.jsonl in a folder that it judges, of which data/ has some:
+# Runs the program over all documents of functions.jsonl and whole.jsonl in a folder, of which data/ has some:
 # ./whole.sh FOLDER
 #
 # The program has to be built (`rt run`, once); its last lines count the documents, and the status is 0 where none differs.

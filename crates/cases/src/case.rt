@@ -7,7 +7,7 @@ use shader_check::{DocumentError, Sink, Source, check_document, read_document};
 use std::alloc::{AllocError, Global};
 use test_support::fakes::Padded;
 
-/// A document, and the text that it is known to come to.
+/// A document, and the text that it is known to come to, or whether it is known to be one.
 #[derive(Drop)]
 pub struct Case<'a> {
     pub name: &'a str,
@@ -21,9 +21,12 @@ impl Case<'_> {
     /// A case as a data file has it.
     pub fn read(alloc: Global, item: &Value) -> Result<Case<'_>> {
         let name = text_of(item, "name")?;
-        let output = text_of(item, "output")?;
         let spaces = spaces_of(item)?;
         let form = item.get("form").and_then(Value::as_bool);
+        let output = match form {
+            Some(_) => "",
+            None => text_of(item, "output")?,
+        };
         Ok(Case {
             name,
             input: input_of(alloc, item)?,

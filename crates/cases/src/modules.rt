@@ -3,7 +3,6 @@ use crate::item::read_at;
 use document_reader::{Document, DocumentError, read_document};
 use ir_items::Module;
 use serde_json::Value;
-use shader_check::within;
 use std::alloc::{AllocError, Global};
 use test_support::call::{no_call, text, told};
 
@@ -53,14 +52,14 @@ pub fn of_module(alloc: Global, call: &Value) -> Result<String, AllocError> {
     }
 }
 
-fn seen(alloc: Global, document: &Document, copy: &Document) -> Result<String, AllocError> {
-    told(alloc, (counts(&copy.module), within(document)))
+fn seen(alloc: Global, copy: &Document) -> Result<String, AllocError> {
+    told(alloc, counts(&copy.module))
 }
 
-/// How much of each list the copy of a document has, and whether it is checked so far.
+/// How much of each list the copy of a document has.
 pub fn of_document(alloc: Global, call: &Value) -> Result<String, AllocError> {
     match document_of(alloc, text(call, 1).as_bytes())? {
-        Some(document) => seen(alloc, &document, &document.clone(alloc)?),
+        Some(document) => seen(alloc, &document.clone(alloc)?),
         None => no_call(alloc),
     }
 }
