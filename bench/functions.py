@@ -16,7 +16,7 @@ import modules
 import run
 
 MOST_SHARE = 0.5
-STEP = "function_validator::functions::judge_all"
+STEP = "shader_check::functions::judge_all"
 
 
 def of_run(kind):

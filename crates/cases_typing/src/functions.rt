@@ -10,7 +10,7 @@ use crate::checks::error_told;
 use crate::refusals::refusal_told;
 use analysis_info::FunctionInfo;
 use document_reader::{Document, Settings};
-use function_validator::Validator;
+use shader_check::Validator;
 use ir_faults::refusal::Refusal;
 use ir_items::{Function, Module};
 use module_info::ModuleInfo;

@@ -1,10 +1,11 @@
-mod Placed
-mod Chained
-mod EntryHeld
-mod EntrySteps
-mod NameSteps
-mod ByChains
-mod FunctionKept
-mod Staged
-mod EntryByChains
-mod Assembled
+mod ArityLaws
+mod Below
+mod Bases
+mod Marks
+mod TakeLaws
+mod PartLaws
+mod Whole
+mod Refuted
+mod Noted
+mod NameLaws
+pub mod EntryWhole

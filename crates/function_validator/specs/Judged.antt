@@ -1,85 +1,71 @@
--- What is said of the functions of a module that are judged one after the other.
-use Rattle.std.specs.Prelude.{◌≡◌, ◌<◌, ◌↔◌, ℕ, [], List, length, Option, Some, slice_get}
+-- What the parts of a check of a function find.
+use Rattle.std.specs.Prelude.{◌≡◌, ◌↔◌, ◌⊎◌, ◌<◌, ℕ, Contains, List, Option, length}
+use Rattle.function_validator.specs.Faults.{AllAccepted, IsFaultOfBody, IsUnanswered}
 use Rattle.error_functions.specs.declared.error.FunctionError.{FunctionError}
-use Rattle.function_blocks.specs.Faults.{IsFunctionFault}
-use Rattle.function_lower.specs.Analysis.{Faults}
-use Rattle.function_lower.specs.Question.{Question, question}
-use Rattle.function_validator.specs.declared.functions.InvalidFunction.{InvalidFunction}
-use Rattle.ir_faults.specs.Faults.{error_of, spans_of}
-use Rattle.ir_faults.specs.declared.refusal.Refusal.{Refusal}
-use Rattle.ir_faults.specs.declared.refusal.Refusal.TheVariants as refusal
+use Rattle.ir_blocks.specs.Control.{ControlOK}
+use Rattle.ir_blocks.specs.Places.{Place, StandsAt}
+use Rattle.ir_blocks.specs.Plain.{PlainStatement}
 use Rattle.ir_flags.specs.Sets.{Has}
-use Rattle.ir_flags.specs.declared.settings.ValidationFlags.{ValidationFlags}
+use Rattle.ir_flags.specs.declared.settings.TheConstants.ValidationFlags.{EXPRESSIONS, BLOCKS}
 use Rattle.ir_flags.specs.declared.stages.ShaderStages.{ShaderStages}
-use Rattle.ir_items.specs.Plain.{PlainFunction, PlainModule}
-use Rattle.spec_analysis.specs.Summaries.{Summary, CalleesKnown, AreSummaries}
+use Rattle.ray_checks.specs.Payloads.{AreOfOneType}
 use Rattle.spec_statements.specs.ExpressionStages.{all_stages}
-use Rattle.spec_functions.specs.Functions.{settings_with}
-use Rattle.spec_functions.specs.Held.{IsHeldBefore}
-use Rattle.spec_statements.specs.Functions.{Reading, FunctionSettings, FunctionOK, AllowsStage}
+use Rattle.spec_statements.specs.Answered.{EachOnce}
+use Rattle.spec_statements.specs.BlockContext.{BlockContext}
+use Rattle.spec_statements.specs.Functions.{FunctionSettings, Reading, BodyOK, AllowsStage}
+use Rattle.spec_statements.specs.Interfaces.{InterfaceOK}
+use Rattle.spec_statements.specs.Payloads.{IsHeldAfter}
+use Rattle.spec_statements.specs.Results.{AnswersBy, StandsForAnswer}
+use Rattle.spec_statements.specs.Scope.{ScopeOK}
+use Rattle.spec_statements.specs.Stages.{statement_stages}
+use Rattle.spec_statements.specs.Statements.{StatementOK}
 
--- What is known where the function at an index is judged: what its callees have over their chains, the stages of the functions
--- before it, and the type of the payloads before it.
-pub record Preceding (flags : ValidationFlags) (m : PlainModule) (index : ℕ) (f : PlainFunction) : Type 0 where
-  pub summaries : List Summary
-  pub known : CalleesKnown m f summaries
-  pub stages : List ShaderStages
-  pub held : Option ℕ
-  pub before : IsHeldBefore flags m index held
+-- ---- expressions
 
--- The function at an index meets the rules of functions, read with what is known there.
-pub record IsAcceptedAt (reading : Question → Reading) (s : FunctionSettings) (m : PlainModule) (index : ℕ) : Type 0 where
-  pub function : PlainFunction
-  pub at : slice_get m.functions index ≡ Some function
-  pub given : Preceding s.flags m index function
-  pub ok : FunctionOK (reading (question m function given.summaries given.stages)) (settings_with s given.held) m function
+-- The expressions before a place are accepted, and these stages are those that may run them all.
+pub record AcceptedBelow (reading : Reading) (c : BlockContext) (end : ℕ) (stages : ShaderStages) : Type 0 where
+  pub each : (e : ℕ) → e < end → reading.IsAccepted c.capabilities c.forms e
+  pub run : (stage : ℕ) → Has stages.0 stage ↔ (Has all_stages.0 stage × ((e : ℕ) (own : ShaderStages) → e < end → reading.IsRunBy e own → Has own.0 stage))
 
--- It does not, and this is wrong with it.
-pub record IsRefusedAt (reading : Question → Reading) (faults : Question → Faults) (s : FunctionSettings) (m : PlainModule) (index : ℕ) (e : FunctionError) : Type 0 where
-  pub function : PlainFunction
-  pub at : slice_get m.functions index ≡ Some function
-  pub given : Preceding s.flags m index function
-  pub refused : FunctionOK (reading (question m function given.summaries given.stages)) (settings_with s given.held) m function → ⊥
-  pub fault : IsFunctionFault (reading (question m function given.summaries given.stages)) (faults (question m function given.summaries given.stages)) (settings_with s given.held) m function e
+-- Where expressions are checked, all are accepted, and these stages are those that may run them all; else any.
+pub record AreExpressionsMet (reading : Reading) (s : FunctionSettings) (c : BlockContext) (stages : ShaderStages) : Type 0 where
+  pub accepted : AllAccepted reading s c
+  pub run : (stage : ℕ) → Has stages.0 stage ↔ (Has all_stages.0 stage × (Has s.flags.0 EXPRESSIONS.0 → (e : ℕ) (own : ShaderStages) → e < length c.f.expressions → reading.IsRunBy e own → Has own.0 stage))
 
--- These stages may run the function at an index, with what is known there; those of the functions before it are the first of
--- a list.
-pub record IsNotedAt (reading : Question → Reading) (s : FunctionSettings) (m : PlainModule) (noted : List ShaderStages) (index : ℕ) (own : ShaderStages) : Type 0 where
-  pub function : PlainFunction
-  pub at : slice_get m.functions index ≡ Some function
-  pub given : Preceding s.flags m index function
-  pub many : length given.stages ≡ index
-  pub same : (earlier : ℕ) → earlier < index → slice_get given.stages earlier ≡ slice_get noted earlier
-  pub exact : (stage : ℕ) → Has own.0 stage
-      ↔ (Has all_stages.0 stage × AllowsStage (reading (question m function given.summaries given.stages)) (settings_with s given.held) given.stages function stage)
+-- ---- the body
 
--- each of the list is noted so of the function at its place
-abbrev pub AreNoted : (Question → Reading) → FunctionSettings → PlainModule → List ShaderStages → Type 0
-AreNoted reading s m noted = (index : ℕ) (own : ShaderStages) → slice_get noted index ≡ Some own → IsNotedAt reading s m noted index own
+-- All that is asked of a body is met, but that each that stands for an answer is answered; these are answered by, and this type
+-- of payloads is held after it.
+pub record IsBodyMet (s : FunctionSettings) (c : BlockContext) (answered : List ℕ) (held : Option ℕ) : Type 0 where
+  pub control : ControlOK c.f.body
+  pub scope : ScopeOK c.f
+  pub once : EachOnce c.f.body
+  pub asked : (p : Place) (e : ℕ) → AnswersBy c.f.body p e → Has s.flags.0 EXPRESSIONS.0
+  pub by : (e : ℕ) → Contains answered e ↔ ((p : Place) × AnswersBy c.f.body p e)
+  pub statements : (p : Place) (u : PlainStatement) → StandsAt c.f.body p u → StatementOK c u
+  pub payloads : AreOfOneType c.m c.f s.held held
 
--- The first so many functions are accepted; these summaries are theirs, these stages may run them, and this type of payloads is
--- held after them.
-pub record AreJudged (reading : Question → Reading) (s : FunctionSettings) (m : PlainModule) (count : ℕ) (summaries : List Summary) (noted : List ShaderStages) (held : Option ℕ) : Type 0 where
-  pub accepted : (index : ℕ) → index < count → IsAcceptedAt reading s m index
-  pub many : length summaries ≡ count
-  pub stages : AreNoted reading s m noted
-  pub counted : length noted ≡ count
-  pub known : AreSummaries m summaries
-  pub payloads : IsHeldBefore s.flags m count held
+-- each that stands for an answer is answered by a statement
+abbrev pub AllAnswer : BlockContext → Type 0
+AllAnswer c = (e : ℕ) → StandsForAnswer c.f.expressions e → (p : Place) × AnswersBy c.f.body p e
 
--- The function is refused for this, and each before it is accepted.
-pub record IsFirstRefused (reading : Question → Reading) (faults : Question → Faults) (s : FunctionSettings) (m : PlainModule) (e : InvalidFunction) : Type 0 where
-  pub before : (index : ℕ) → index < e.function → IsAcceptedAt reading s m index
-  pub here : IsRefusedAt reading faults s m e.function e.error
+-- Where bodies are checked, all that is asked of this one is met, and these stages are those that may run all its statements;
+-- else any. This type of payloads is held after it.
+pub record AreBlocksMet (s : FunctionSettings) (c : BlockContext) (callees : List ShaderStages) (stages : ShaderStages) (held : Option ℕ) : Type 0 where
+  pub body : Has s.flags.0 BLOCKS.0 → BodyOK s c
+  pub run : (stage : ℕ) → Has stages.0 stage ↔ (Has all_stages.0 stage × (Has s.flags.0 BLOCKS.0 → (p : Place) (u : PlainStatement) → StandsAt c.f.body p u → Has (statement_stages s.subgroup_stages callees u).0 stage))
+  pub held_after : IsHeldAfter s.flags c.m c.f s.held held
 
--- a refusal tells the same as that of the function at a handle
-abbrev pub IsToldAt : (handle : ℕ) → Refusal FunctionError → Refusal InvalidFunction → Type 0
-IsToldAt handle (refusal.Memory e) (refusal.Memory d) = Unit {0}
-IsToldAt handle (refusal.Memory e) (refusal.Fault g) = ⊥
-IsToldAt handle (refusal.Fault f) (refusal.Memory d) = ⊥
-IsToldAt handle (refusal.Fault f) (refusal.Fault g) = ((error_of g).function ≡ handle) × ((error_of g).error ≡ error_of f) × (spans_of g ≡ [])
+-- something is wrong with the body, or what stands for an answer is not answered
+abbrev pub IsBlocksFault : FunctionSettings → BlockContext → FunctionError → Type 0
+IsBlocksFault s c e = Has s.flags.0 BLOCKS.0 × (IsFaultOfBody s c e ⊎ (Has s.flags.0 EXPRESSIONS.0 × IsUnanswered c.f e))
 
--- memory ran out, or the first function that is refused is told
-abbrev pub IsRefusal : (Question → Reading) → (Question → Faults) → FunctionSettings → PlainModule → Refusal InvalidFunction → Type 0
-IsRefusal reading faults s m (refusal.Memory e) = Unit {0}
-IsRefusal reading faults s m (refusal.Fault e) = IsFirstRefused reading faults s m (error_of e) × (spans_of e ≡ [])
+-- ---- all parts behind the analysis
+
+-- They are in order; these stages are those that may run the function, and this type of payloads is held after it.
+pub record ArePartsMet (reading : Reading) (s : FunctionSettings) (c : BlockContext) (callees : List ShaderStages) (stages : ShaderStages) (held : Option ℕ) : Type 0 where
+  pub interface : InterfaceOK c s.entry
+  pub expressions : AllAccepted reading s c
+  pub body : Has s.flags.0 BLOCKS.0 → BodyOK s c
+  pub run : (stage : ℕ) → Has stages.0 stage ↔ (Has all_stages.0 stage × AllowsStage reading s callees c.f stage)
+  pub held_after : IsHeldAfter s.flags c.m c.f s.held held

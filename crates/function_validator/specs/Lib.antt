@@ -1,5 +1,7 @@
+pub mod Arities
 pub mod Settings
+pub mod Faults
 pub mod Judged
-pub mod JudgedEntries
-pub mod Chains
+pub mod EntryFaults
 pub mod Validated
+pub mod Names

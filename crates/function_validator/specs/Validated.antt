@@ -1,95 +1,58 @@
--- What is answered of a whole module.
-use Rattle.std.specs.Prelude.{◌≡◌, [], Bool, List, length, map}
-use Rattle.analysis_info.specs.Infos.{summary_of}
-use Rattle.function_validator.specs.Chains.{AreKept, IsFunctionFault}
-use Rattle.function_validator.specs.JudgedEntries.{AreEntrySummaries, IsEntryRefusedAt}
-use Rattle.function_validator.specs.declared.entries.InvalidEntryPoint.{InvalidEntryPoint}
-use Rattle.function_validator.specs.declared.error.ValidationError.{ValidationError}
-use Rattle.function_validator.specs.declared.error.ValidationError.TheVariants as error
-use Rattle.ir_faults.specs.Faults.{error_of, spans_of}
-use Rattle.ir_faults.specs.declared.refusal.Refusal.{Refusal}
-use Rattle.ir_faults.specs.declared.refusal.Refusal.TheVariants as refusal
+-- What is kept of an entry point that is accepted, over what a lower layer says.
+use Rattle.std.specs.Prelude.{◌≡◌, ◌<◌, ◌↔◌, ℕ, Bool, IsTrue, List, Option, length}
+use Rattle.analysis_forms.specs.Pairs.{SamplingPair}
+use Rattle.function_validator.specs.Settings.{settings_view}
+use Rattle.function_validator.specs.declared.settings.FunctionSettings.{FunctionSettings as OwnSettings}
+use Rattle.ir_flags.specs.Sets.{Has}
 use Rattle.ir_flags.specs.declared.stages.ShaderStages.{ShaderStages}
-use Rattle.ir_items.specs.Plain.{PlainModule}
-use Rattle.module_info.specs.declared.info.ModuleInfo.{ModuleInfo}
-use Rattle.module_types.specs.Validated.{AreAccepted}
-use Rattle.module_validator.specs.Faults.{IsModuleFault}
-use Rattle.module_validator.specs.Refusals.{IsVariableFault}
-use Rattle.real_lower.specs.Readings.{reading_of, faults_of}
-use Rattle.spec_analysis.specs.Summaries.{Summary, AreSummaries}
-use Rattle.spec_entries.specs.Modules as entries
-use Rattle.spec_entries.specs.Modules.{EntriesOK, AreStages}
-use Rattle.spec_expressions.specs.Context.{outside}
-use Rattle.spec_functions.specs.Functions.{FunctionsOK}
-use Rattle.spec_globals.specs.Globals.{GlobalsOK}
-use Rattle.spec_modules.specs.Steps.{ModuleOK}
-use Rattle.spec_modules.specs.declared.settings.ModuleSettings.{ModuleSettings}
-use Rattle.spec_statements.specs.Functions.{FunctionSettings}
-use Rattle.typing_expressions.specs.Types.{AreTypes}
-use Rattle.typing_layout.specs.Held.{AreLayouts}
+use Rattle.ir_items.specs.Plain.{PlainEntry, PlainModule}
+use Rattle.overload_tables.specs.Laws.{IsAmong}
+use Rattle.spec_analysis.specs.Chains.{HasUse, HasPair, MayKill}
+use Rattle.spec_analysis.specs.Summaries.{Summary, HasUseBit}
+use Rattle.spec_entries.specs.Entries.{EntryOK}
+use Rattle.spec_entries.specs.Modules.{entry_settings}
+use Rattle.spec_entries.specs.Uses.{EntryUses}
+use Rattle.spec_statements.specs.ExpressionStages.{all_stages}
+use Rattle.spec_statements.specs.Functions.{Reading, FunctionSettings, AllowsStage}
+use Rattle.spec_statements.specs.Payloads.{IsHeldAfter}
+use Rattle.spec_varyings.specs.Varyings.{HasBlendSources, result_varyings}
 
--- by what the steps up to overrides are judged
-abbrev pub module_settings : FunctionSettings → (resolved : Bool) → ModuleSettings
-module_settings s resolved = record { flags = s.flags; capabilities = s.capabilities; overrides_resolved = resolved }
+-- The summary has the uses of global variables that the entry point makes, over all chains of calls of its function and by its
+-- payload and its mesh output, the pairs of its function, and whether that may end the fragment.
+pub record IsEntrySummary (m : PlainModule) (e : PlainEntry) (t : Summary) : Type 0 where
+  pub many : length t.uses ≡ length m.globals
+  pub uses : (g k : ℕ) → g < length m.globals → HasUseBit t.uses g k ↔ EntryUses e (HasUse m e.function) g k
+  pub pairs : (p : SamplingPair) → IsAmong p t.pairs ↔ HasPair m e.function p
+  pub may_kill : IsTrue t.may_kill ↔ MayKill m e.function
 
--- All entry points are accepted, and these are their summaries.
-pub record AreEntriesKept (s : FunctionSettings) (m : PlainModule) (kept : List Summary) : Type 0 where
-  pub accepted : EntriesOK s m
-  pub many : length kept ≡ length m.entries
-  pub known : AreEntrySummaries m kept
+-- What is noted of its function: which stages may run it, and whether two sources of a blend are among what it answers.
+pub record IsEntryNoted (reading : Reading) (callees : List ShaderStages) (s : FunctionSettings) (m : PlainModule) (e : PlainEntry) (stages : ShaderStages) (blending : Bool) : Type 0 where
+  pub run : (stage : ℕ) → Has stages.0 stage ↔ (Has all_stages.0 stage × AllowsStage reading s callees e.function stage)
+  pub blended : IsTrue blending ↔ HasBlendSources (result_varyings m.types e.function.result)
 
--- All steps accept the module, and this is kept of it.
-pub record IsValidated (s : FunctionSettings) (resolved : Bool) (m : PlainModule) (info : ModuleInfo) : Type 0 where
-  pub ok : ModuleOK (module_settings s resolved) m
-  pub globals : GlobalsOK s.flags s.capabilities m
-  pub functions : AreKept s m (map summary_of info.functions.items)
-  pub entries : AreEntriesKept s m (map summary_of info.entry_points.items)
-  pub types : AreAccepted s.capabilities resolved m.types info.types.items
-  pub layouts : AreLayouts m.types info.layouter
-  pub laid : length info.layouter ≡ length m.types
-  pub expressions : AreTypes (outside m) m.global_expressions info.const_expression_types.items
+-- The entry point is accepted, this is its summary and this is noted, and payloads of this type are held after it.
+pub record IsEntryValidated (reading : Reading) (callees : List ShaderStages) (s : FunctionSettings) (m : PlainModule) (e : PlainEntry) (t : Summary) (stages : ShaderStages) (blending : Bool) (held : Option ℕ) : Type 0 where
+  pub ok : EntryOK reading callees (HasUse m e.function) s m e
+  pub summary : IsEntrySummary m e t
+  pub noted : IsEntryNoted reading callees s m e stages blending
+  pub after : IsHeldAfter s.flags m e.function s.held held
 
--- It is the first entry point that is not accepted, and this is wrong with it.
-pub record IsEntryFault (s : FunctionSettings) (m : PlainModule) (e : InvalidEntryPoint) : Type 0 where
-  pub first : entries.IsFirstFailing s m e.index
-  pub summaries : List Summary
-  pub known : AreSummaries m summaries
-  pub stages : List ShaderStages
-  pub run : AreStages s m stages
-  pub fault : IsEntryRefusedAt reading_of faults_of s m summaries stages e.index e.error
+-- with what the function of an entry point is judged
+abbrev pub own_settings : OwnSettings → FunctionSettings
+own_settings s = entry_settings (settings_view s) s.held
 
--- Each error stands where its step is the first that fails, at the first item that fails it, which has the fault that the
--- error tells.
-abbrev pub IsValidationFault : FunctionSettings → (resolved : Bool) → PlainModule → ValidationError → Type 0
-IsValidationFault s resolved m (error.Module e) = IsModuleFault (module_settings s resolved) m e
-IsValidationFault s resolved m (error.GlobalVariable e) = ModuleOK (module_settings s resolved) m × IsVariableFault s.flags s.capabilities m e
-IsValidationFault s resolved m (error.Function e) = ModuleOK (module_settings s resolved) m × GlobalsOK s.flags s.capabilities m × IsFunctionFault s m e
-IsValidationFault s resolved m (error.EntryPoint e) = ModuleOK (module_settings s resolved) m × GlobalsOK s.flags s.capabilities m × FunctionsOK s m × IsEntryFault s m e
+-- ---- on the way
 
--- memory ran out, or this is told, with no span
-abbrev pub IsRefusedWith : {E : Type 0} → (E → Type 0) → Refusal E → Type 0
-IsRefusedWith IsFault (refusal.Memory e) = Unit {0}
-IsRefusedWith IsFault (refusal.Fault e) = IsFault (error_of e) × (spans_of e ≡ [])
+-- the summary t has what s has, and the uses of the entry point's payload and its mesh output
+pub record AddsOwnUses (e : PlainEntry) (s t : Summary) : Type 0 where
+  pub many : length t.uses ≡ length s.uses
+  pub uses : (g k : ℕ) → HasUseBit t.uses g k ↔ EntryUses e (HasUseBit s.uses) g k
+  pub pairs : t.pairs ≡ s.pairs
+  pub may_kill : t.may_kill ≡ s.may_kill
 
--- ---- behind the global variables
-
--- The functions and the entry points are accepted; this is kept of them, and else what was kept before.
-pub record IsKeptWith (s : FunctionSettings) (m : PlainModule) (before info : ModuleInfo) : Type 0 where
-  pub functions : AreKept s m (map summary_of info.functions.items)
-  pub entries : AreEntriesKept s m (map summary_of info.entry_points.items)
-  pub types : info.types ≡ before.types
-  pub layouts : info.layouter ≡ before.layouter
-  pub expressions : info.const_expression_types ≡ before.const_expression_types
-
-abbrev pub IsFaultBehind : FunctionSettings → PlainModule → ValidationError → Type 0
-IsFaultBehind s m (error.Module e) = ⊥
-IsFaultBehind s m (error.GlobalVariable e) = ⊥
-IsFaultBehind s m (error.Function e) = IsFunctionFault s m e
-IsFaultBehind s m (error.EntryPoint e) = FunctionsOK s m × IsEntryFault s m e
-
--- a refusal of a step, as one of the module
-abbrev pub IsToldBy : {E : Type 0} → (E → ValidationError) → Refusal E → Refusal ValidationError → Type 0
-IsToldBy of (refusal.Memory e) (refusal.Memory d) = Unit {0}
-IsToldBy of (refusal.Memory e) (refusal.Fault g) = ⊥
-IsToldBy of (refusal.Fault f) (refusal.Memory d) = ⊥
-IsToldBy of (refusal.Fault f) (refusal.Fault g) = (error_of g ≡ of (error_of f)) × (spans_of g ≡ [])
+-- both tell the same
+pub record TellsSame (s t : Summary) : Type 0 where
+  pub many : length t.uses ≡ length s.uses
+  pub uses : (g k : ℕ) → HasUseBit t.uses g k ↔ HasUseBit s.uses g k
+  pub pairs : t.pairs ≡ s.pairs
+  pub may_kill : t.may_kill ≡ s.may_kill

@@ -1,13 +1,24 @@
-//! What judges a module: `Validator`, over any layer for functions and entry points, and over that of the module for all steps.
+//! Whether a function is accepted, and whether a module may have an entry point, over any layer that types expressions, analyses
+//! functions and tells of types. Of an entry point that is its stage (`entry_checks`), its function, its payload, and what
+//! connects it with other stages and with hosts; and the names of those before it.
 #![tactic(auto)]
 
-mod entries;
-mod error;
-mod functions;
-mod validator;
-mod whole;
+mod answers;
+mod arities;
+mod body;
+mod callees;
+mod connect;
+mod entry;
+mod expressions;
+mod forms;
+mod names;
+mod parts;
+mod settings;
+mod uses;
+mod validate;
 
-pub use entries::InvalidEntryPoint;
-pub use error::ValidationError;
-pub use functions::InvalidFunction;
-pub use validator::Validator;
+pub use arities::check_arities;
+pub use entry::validate_entry_point;
+pub use names::SeenNames;
+pub use settings::FunctionSettings;
+pub use validate::{Validated, validate_function};

@@ -4,7 +4,7 @@ use Rattle.std.proofs.lemmas.List.{length-map}
 use Rattle.std.proofs.lemmas.Option.{slice_get-map}
 use Rattle.analysis_info.specs.Infos.{summary_of}
 use Rattle.analysis_info.specs.declared.function_info.FunctionInfo.{FunctionInfo}
-use Rattle.function_validator.specs.Validated.{IsValidated}
+use Rattle.shader_check.specs.Validated.{IsValidated}
 use Rattle.ir_items.specs.Plain.{PlainEntry, PlainModule}
 use Rattle.module_handles.proofs.Whole.{order_gives_conditions}
 use Rattle.module_info.specs.declared.info.ModuleInfo.{ModuleInfo}

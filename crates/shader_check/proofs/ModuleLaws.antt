@@ -9,9 +9,9 @@ use Rattle.judgement.specs.declared.finding.Finding.TheVariants.{Refused}
 use Rattle.module_validator.specs.Faults.{IsExpressionRefused, IsModuleFault}
 use Rattle.module_validator.specs.declared.error.ModuleError.{ModuleError}
 use Rattle.module_validator.specs.declared.error.ModuleError.TheVariants as error
-use Rattle.function_validator.specs.Validated.{IsValidationFault}
-use Rattle.function_validator.specs.declared.error.ValidationError.{ValidationError}
-use Rattle.function_validator.specs.declared.error.ValidationError.TheVariants as validation
+use Rattle.shader_check.specs.Validated.{IsValidationFault}
+use Rattle.shader_check.specs.declared.error.ValidationError.{ValidationError}
+use Rattle.shader_check.specs.declared.error.ValidationError.TheVariants as validation
 use Rattle.shader_check.specs.Examined.{step_of, refused_early, refused_by, finding_in, IsExamined}
 use Rattle.shader_check.specs.declared.examined.Examined.{Examined}
 use Rattle.shader_check.specs.declared.examined.Examined.TheVariants as examined

@@ -3,9 +3,9 @@ use Rattle.std.specs.Prelude.{◌≡◌, ℕ, List, [], false}
 use Rattle.document_reader.specs.Plain.{PlainDocument}
 use Rattle.error_functions.specs.declared.const_expressions.ConstExpressionError.{ConstExpressionError}
 use Rattle.error_functions.specs.declared.const_expressions.ConstExpressionError.TheVariants as constant
-use Rattle.function_validator.specs.Validated.{IsValidated, IsValidationFault}
-use Rattle.function_validator.specs.declared.error.ValidationError.{ValidationError}
-use Rattle.function_validator.specs.declared.error.ValidationError.TheVariants as error
+use Rattle.shader_check.specs.Validated.{IsValidated, IsValidationFault}
+use Rattle.shader_check.specs.declared.error.ValidationError.{ValidationError}
+use Rattle.shader_check.specs.declared.error.ValidationError.TheVariants as error
 use Rattle.ir_flags.specs.Settings.{PlainSettings}
 use Rattle.ir_items.specs.Plain.{PlainModule}
 use Rattle.judgement.specs.Steps.{IsPrepared, function_settings}

@@ -2,8 +2,8 @@
 ghost use Rattle.std.specs.Prelude.{◌≡◌};
 ghost use Rattle.shader_check.specs.Examined.{step_of, refused_early, refused_by, finding_in};
 
+use crate::error::ValidationError;
 use error_functions::ConstExpressionError;
-use function_validator::ValidationError;
 use judgement::{Finding, Step};
 use module_info::ModuleInfo;
 use module_validator::ModuleError;

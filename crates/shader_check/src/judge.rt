@@ -2,7 +2,7 @@
 ghost use Rattle.std.specs.Prelude.{◌≡◌, [], IfOk, OnOk, string_bytes};
 ghost use Rattle.ir_items.specs.View.{module_view};
 ghost use Rattle.document_reader.specs.View.{document_view, settings_view as document_settings};
-ghost use Rattle.function_validator.specs.Settings.{settings_in};
+ghost use Rattle.shader_check.specs.Settings.{settings_in};
 ghost use Rattle.judgement.specs.Steps.{IsPrepared, function_settings};
 ghost use Rattle.judgement.specs.declared.finding.Finding.TheVariants.{RefusedDocument};
 ghost use Rattle.shader_check.specs.Examined.{finding_in, IsExamined, IsExaminedDocument, IsKeptIn, IsToldIn};
@@ -10,8 +10,8 @@ ghost use Rattle.shader_check.specs.Judgements.{IsJudgementOf, IsJudgementOn};
 
 use crate::examined::Examined;
 use crate::told::Judgement;
+use crate::validator::Validator;
 use document_reader::{Document, DocumentError, Settings, read_document};
-use function_validator::Validator;
 use ir_faults::refusal::Refusal;
 use ir_items::Module;
 use judgement::Finding;

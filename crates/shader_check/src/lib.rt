@@ -1,18 +1,27 @@
-// From bytes to a verdict.
+//! From bytes to a verdict: `check_document`; and what judges a module: `Validator`, over any layer for functions and entry
+//! points, and over that of the module for all steps.
 #![tactic(auto)]
 
 mod check;
+mod entries;
+mod error;
 mod examined;
+mod functions;
 mod judge;
 pub mod laws;
 mod told;
+mod validator;
+mod whole;
 
 pub use check::{Fault, MAX_TAKEN, Verdict, check_document, outcome};
 pub use document_reader::{Document, DocumentError, Settings, build_module, read_document};
+pub use entries::InvalidEntryPoint;
+pub use error::ValidationError;
 pub use examined::{Examined, refused_by};
-pub use function_validator::{InvalidEntryPoint, InvalidFunction, ValidationError};
+pub use functions::InvalidFunction;
 pub use judge::{examine_document, judge_document};
 pub use judgement::{Finding, Step};
 pub use module_validator::{InvalidGlobalVariable, ModuleError};
 pub use ports::{ReadCall, Sink, Source, WriteCall};
 pub use told::Judgement;
+pub use validator::Validator;

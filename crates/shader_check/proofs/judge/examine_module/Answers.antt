@@ -1,7 +1,7 @@
 use Rattle.std.proofs.Common.{subst, sym, false}
-use Rattle.function_validator.specs.Validated.{IsRefusedWith, IsValidated, IsValidationFault}
-use Rattle.function_validator.specs.Settings.{settings_in}
-use Rattle.function_validator.specs.declared.error.ValidationError.{ValidationError}
+use Rattle.shader_check.specs.Validated.{IsRefusedWith, IsValidated, IsValidationFault}
+use Rattle.shader_check.specs.Settings.{settings_in}
+use Rattle.shader_check.specs.declared.error.ValidationError.{ValidationError}
 use Rattle.ir_faults.specs.declared.refusal.Refusal.{Refusal}
 use Rattle.ir_items.specs.View.{module_view}
 use Rattle.spec_statements.specs.Functions.{FunctionSettings}

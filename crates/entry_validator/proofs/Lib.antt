@@ -1,3 +1,0 @@
-mod Noted
-mod NameLaws
-pub mod Whole

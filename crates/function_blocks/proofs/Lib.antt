@@ -1,8 +1,0 @@
-mod ArityLaws
-mod Below
-mod Bases
-mod Marks
-mod TakeLaws
-mod PartLaws
-mod Whole
-mod Refuted

@@ -1,4 +1,0 @@
-pub mod Arities
-pub mod Settings
-pub mod Faults
-pub mod Judged

@@ -1,0 +1,118 @@
+-- What the parts of a check find, put together.
+use Rattle.std.proofs.Common.{◌≡◌, ◌↔◌, ◌⊎◌, inl, inr, ◌<◌, ℕ, List, Option, Some, None, length, refl, sym, subst}
+use Rattle.std.specs.Int.RustNames.{bit_and}
+use Rattle.control_checks.specs.Faults.{IsControlFault}
+use Rattle.error_functions.specs.declared.error.FunctionError.{FunctionError}
+use Rattle.function_lower.specs.Analysis.{Faults, IsRefusedFor}
+use Rattle.interface_checks.specs.Interfaces.{IsInterfaceFault}
+use Rattle.interface_checks.specs.Refusals.{IsRefusal}
+use Rattle.ir_blocks.specs.Places.{Place, StandsAt}
+use Rattle.ir_blocks.specs.Plain.{PlainStatement}
+use Rattle.ir_faults.specs.Faults.{error_of}
+use Rattle.ir_faults.specs.declared.refusal.Refusal.{Refusal}
+use Rattle.ir_faults.specs.declared.refusal.Refusal.TheVariants as refusal
+use Rattle.ir_flags.specs.Sets.{Has}
+use Rattle.ir_flags.specs.declared.settings.TheConstants.ValidationFlags.{EXPRESSIONS, BLOCKS}
+use Rattle.ir_flags.specs.declared.stages.ShaderStages.{ShaderStages}
+use Rattle.interface_checks.specs.Bodies.{MayRun}
+use Rattle.scope_checks.specs.Faults.{IsScopeFault, IsScopeRefusal}
+use Rattle.spec_statements.specs.ExpressionStages.{all_stages}
+use Rattle.spec_statements.specs.BlockContext.{BlockContext}
+use Rattle.spec_statements.specs.Functions.{Reading, FunctionSettings, BodyOK, AllowsStage}
+use Rattle.spec_statements.specs.Interfaces.{InterfaceOK}
+use Rattle.spec_statements.specs.Payloads.{IsHeldAfter}
+use Rattle.spec_statements.specs.Results.{AnsweredOnce}
+use Rattle.spec_statements.specs.Stages.{statement_stages}
+use Rattle.statement_validator.specs.Faults.{IsBodyFault, IsBodyRefusal}
+use Rattle.function_validator.proofs.Below.{left_has, right_has, both_have}
+use Rattle.function_validator.specs.Faults.{AllAccepted, IsExpressionFault, IsFaultOfBody, IsUnanswered, IsFaultBehind, in_interface, in_expressions, in_body, unanswered}
+use Rattle.function_validator.specs.Judged.{AcceptedBelow, AreExpressionsMet, IsBodyMet, AllAnswer, AreBlocksMet, IsBlocksFault, ArePartsMet}
+
+-- ---- refusals
+
+pub refused_as : (P Q : FunctionError → Type 0) → ((e : FunctionError) → P e → Q e) → (r : Refusal FunctionError) → IsRefusedFor P r → IsRefusedFor Q r
+refused_as P Q widen (refusal.Memory e) h = tt
+refused_as P Q widen (refusal.Fault e) h = widen (error_of e) h
+
+pub interface_refused : (Rule : Type 0) (P Q : FunctionError → Type 0) → ((e : FunctionError) → P e → Q e) → (r : Refusal FunctionError) → IsRefusal Rule P r → IsRefusedFor Q r
+interface_refused Rule P Q widen (refusal.Memory e) h = tt
+interface_refused Rule P Q widen (refusal.Fault e) h = widen (error_of e) h.0
+
+pub scope_refused : (s : FunctionSettings) (c : BlockContext) (r : Refusal FunctionError) → IsScopeRefusal s.flags c.f r → IsRefusedFor (IsFaultOfBody s c) r
+scope_refused s c (refusal.Memory e) h = tt
+scope_refused s c (refusal.Fault e) h = inr (inl h)
+
+pub statements_refused : (s : FunctionSettings) (c : BlockContext) (r : Refusal FunctionError) → IsBodyRefusal c r → IsRefusedFor (IsFaultOfBody s c) r
+statements_refused s c (refusal.Memory e) h = tt
+statements_refused s c (refusal.Fault e) h = inr (inr (inl h))
+
+-- ---- expressions
+
+pub unasked_expressions : (R : Reading) (s : FunctionSettings) (c : BlockContext) (stages : ShaderStages) → stages.0 ≡ all_stages.0 → (Has s.flags.0 EXPRESSIONS.0 → ⊥) → AreExpressionsMet R s c stages
+unasked_expressions R s c stages all none = record {
+  accepted = λ asked. absurd (none asked);
+  run = λ stage. ((λ h. (subst (λ x. Has x stage) all h, λ asked. absurd (none asked))), (λ h. subst (λ x. Has x stage) (sym all) h.0));
+}
+
+pub asked_expressions : (R : Reading) (s : FunctionSettings) (c : BlockContext) (stages : ShaderStages) → Has s.flags.0 EXPRESSIONS.0 → AcceptedBelow R c (length c.f.expressions) stages → AreExpressionsMet R s c stages
+asked_expressions R s c stages asked met = record {
+  accepted = λ h. met.each;
+  run = λ stage. (
+    (λ h. (((met.run stage).0 h).0, λ a. ((met.run stage).0 h).1)),
+    (λ h. (met.run stage).1 (h.0, h.1 asked)),
+  );
+}
+
+-- ---- the body
+
+pub unasked_blocks : (s : FunctionSettings) (c : BlockContext) (callees : List ShaderStages) (stages : ShaderStages) → stages.0 ≡ all_stages.0 → (Has s.flags.0 BLOCKS.0 → ⊥) → AreBlocksMet s c callees stages s.held
+unasked_blocks s c callees stages all none = record {
+  body = λ asked. absurd (none asked);
+  run = λ stage. ((λ h. (subst (λ x. Has x stage) all h, λ asked. absurd (none asked))), (λ h. subst (λ x. Has x stage) (sym all) h.0));
+  held_after = record { kept = λ before is. is; found = λ asked. absurd (none asked); none = λ is without. is; unasked = λ h. refl };
+}
+
+pub asked_blocks : (s : FunctionSettings) (c : BlockContext) (callees : List ShaderStages) (stages : ShaderStages) (answered : List ℕ) (held : Option ℕ)
+    → Has s.flags.0 BLOCKS.0 → IsBodyMet s c answered held → (Has s.flags.0 EXPRESSIONS.0 → AllAnswer c) → ((stage : ℕ) → Has stages.0 stage ↔ MayRun s.subgroup_stages callees c.f.body stage)
+    → AreBlocksMet s c callees stages held
+asked_blocks s c callees stages answered held asked met all run = record {
+  body = λ h. record {
+    statements = met.statements;
+    scope = met.scope;
+    control = met.control;
+    answered = record { once = met.once; asked = met.asked; each = all };
+    payloads = met.payloads.payloads;
+  };
+  run = λ stage. (
+    (λ h. (((run stage).0 h).known, λ a. ((run stage).0 h).each)),
+    (λ h. (run stage).1 (record { known = h.0; each = h.1 asked })),
+  );
+  held_after = met.payloads.held_after s.flags asked;
+}
+
+pub asked_answers : (s : FunctionSettings) (c : BlockContext) → Has s.flags.0 EXPRESSIONS.0 → (r : Refusal FunctionError) → IsRefusedFor (IsUnanswered c.f) r → IsRefusedFor (λ e. Has s.flags.0 EXPRESSIONS.0 × IsUnanswered c.f e) r
+asked_answers s c asked r h = refused_as (IsUnanswered c.f) (λ e. Has s.flags.0 EXPRESSIONS.0 × IsUnanswered c.f e) (λ e w. (asked, w)) r h
+
+-- ---- all parts
+
+pub parts_met : (R : Reading) (s : FunctionSettings) (c : BlockContext) (callees : List ShaderStages) (body own : ShaderStages) (held : Option ℕ) (stages : ShaderStages)
+    → stages.0 ≡ bit_and body.0 own.0 → InterfaceOK c s.entry → AreExpressionsMet R s c own → AreBlocksMet s c callees body held → ArePartsMet R s c callees stages held
+parts_met R s c callees body own held stages is interface expressions blocks = record {
+  interface = interface;
+  expressions = expressions.accepted;
+  body = blocks.body;
+  run = λ stage. (
+    (λ h. let both = subst (λ x. Has x stage) is h in
+        let mine = (blocks.run stage).0 (left_has body.0 own.0 stage both) in
+        let theirs = (expressions.run stage).0 (right_has body.0 own.0 stage both) in
+        (mine.0, record { statements = mine.1; expressions = λ asked e st lt by. theirs.1 asked e st lt by })),
+    (λ h. subst (λ x. Has x stage) (sym is) (both_have body.0 own.0 stage
+        ((blocks.run stage).1 (h.0, h.1.statements))
+        ((expressions.run stage).1 (h.0, λ asked e st lt by. h.1.expressions asked e st lt by)))),
+  );
+  held_after = blocks.held_after;
+}
+
+pub behind_blocks : (R : Reading) (F : Faults) (s : FunctionSettings) (c : BlockContext) → InterfaceOK c s.entry → AllAccepted R s c → (e : FunctionError) → IsBlocksFault s c e → IsFaultBehind R F s c e
+behind_blocks R F s c interface accepted e (asked, inl wrong) = in_body interface accepted asked wrong
+behind_blocks R F s c interface accepted e (asked, inr (expressions, wrong)) = unanswered interface accepted asked expressions wrong

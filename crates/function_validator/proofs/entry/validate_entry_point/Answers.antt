@@ -1,0 +1,112 @@
+use Rattle.std.proofs.Common.{◌≡◌, ◌∙◌, ℕ, map, length, sym, ap, subst, true≢false}
+use Rattle.std.specs.Prelude.{◌↔◌}
+use Rattle.entry_checks.specs.Faults.{IsRefusedFor}
+use Rattle.function_validator.proofs.EntryWhole.{by_stage, by_function, by_payload, by_runs, by_connections, connected, entry_summary, noted_still, refused_as, runs}
+use Rattle.function_validator.specs.EntryFaults.{IsRefusedAs, IsUnconnected}
+use Rattle.function_validator.specs.Validated.{own_settings}
+use Rattle.function_validator.specs.Faults.{IsFunctionFault}
+use Rattle.function_lower.specs.Analysis.{IsRefusedFor as IsFunctionRefusedFor}
+use Rattle.function_lower.specs.Question.{question}
+use Rattle.ir_flags.specs.Sets.{Has}
+use Rattle.ir_items.specs.View.{entry_view, module_view}
+use Rattle.spec_analysis.specs.Chains.{HasUse}
+use Rattle.spec_analysis.specs.Summaries.{HasUseBit}
+use Rattle.spec_entries.specs.Uses.{EntryUses}
+use Rattle.spec_statements.specs.ExpressionStages.{all_stages}
+use Rattle.spec_statements.specs.Functions.{AllowsStage, FunctionOK, FunctionSettings}
+use Rattle.spec_statements.specs.Payloads.{IsHeldAfter}
+use Rattle.function_validator.proofs.entry.validate_entry_point.Goals as goal
+
+pub returns-in-Err : goal.returns-in-Err
+returns-in-Err g c =
+    let l = c.args.lower.now in
+    let m = module_view c.args.«module».now in
+    let e = entry_view c.args.entry.now in
+    let stages = map (g.L.Lower.noted l) c.args.callees.now in
+    let q = question m e.function (map (g.L.Lower.summary l) c.args.callees.now) stages in
+    let s = own_settings c.args.settings.now in
+    subst (IsRefusedAs (g.L.Lower.reading l q) (g.L.Lower.faults l q) stages (HasUse m e.function) s m e) (sym c.new.ensures.error) (by_stage (g.L.Lower.reading l q) (g.L.Lower.faults l q) stages s m e c.in-Err.error c.in-Err.ensures)
+
+pub returns-in-Err-validate_function : goal.returns-in-Err-validate_function
+returns-in-Err-validate_function g c =
+    let l = c.args.lower.now in
+    let m = module_view c.args.«module».now in
+    let e = entry_view c.args.entry.now in
+    let stages = map (g.L.Lower.noted l) c.args.callees.now in
+    let q = question m e.function (map (g.L.Lower.summary l) c.args.callees.now) stages in
+    let s = own_settings c.args.settings.now in
+    let R = g.L.Lower.reading l q in
+    let F = g.L.Lower.faults l q in
+    let r = c.in-Err-validate_function.refusal in
+    by_function R F stages s m e r c.told_of_function.result c.told_of_function.ensures
+    (subst (λ (z : FunctionSettings). IsFunctionRefusedFor (λ y. FunctionOK R z m e.function → ⊥) r) c.own_settings-own.ensures c.in-Err-validate_function.ensures.refused)
+    (subst (λ (z : FunctionSettings). IsFunctionRefusedFor (IsFunctionFault R F z m e.function) r) c.own_settings-own.ensures c.in-Err-validate_function.ensures.fault)
+
+pub returns-in-Err-check_payload : goal.returns-in-Err-check_payload
+returns-in-Err-check_payload g c =
+    let l = c.args.lower.now in
+    let m = module_view c.args.«module».now in
+    let e = entry_view c.args.entry.now in
+    let stages = map (g.L.Lower.noted l) c.args.callees.now in
+    let q = question m e.function (map (g.L.Lower.summary l) c.args.callees.now) stages in
+    let s = own_settings c.args.settings.now in
+    subst (IsRefusedAs (g.L.Lower.reading l q) (g.L.Lower.faults l q) stages (HasUse m e.function) s m e) (sym c.new-in-Err-check_payload.ensures.error)
+    (by_payload (g.L.Lower.reading l q) (g.L.Lower.faults l q) stages s m e c.in-Err-check_payload.error c.in-Err-check_payload.ensures)
+
+pub returns-then-not-allows_stage : goal.returns-then-not-allows_stage
+returns-then-not-allows_stage g c =
+    let l = c.args.lower.now in
+    let m = module_view c.args.«module».now in
+    let e = entry_view c.args.entry.now in
+    let stages = map (g.L.Lower.noted l) c.args.callees.now in
+    let q = question m e.function (map (g.L.Lower.summary l) c.args.callees.now) stages in
+    let s = own_settings c.args.settings.now in
+    let R = g.L.Lower.reading l q in
+    let v = c.in-Ok-validate_function.validated in
+    let exact = λ (stage : ℕ). subst (λ (z : FunctionSettings). Has (g.L.Lower.noted l v.info).0 stage ↔ (Has all_stages.0 stage × AllowsStage R z stages e.function stage)) c.own_settings-own.ensures (c.in-Ok-validate_function.ensures.stages stage) in
+    subst (IsRefusedAs R (g.L.Lower.faults l q) stages (HasUse m e.function) s m e) (sym c.new-then-not-allows_stage.ensures.error)
+    (by_runs R (g.L.Lower.faults l q) stages s m e (g.L.Lower.noted l v.info) exact (λ has. true≢false (sym (c.allows_stage.ensures.1 has) ∙ c.if-not-allows_stage.true)))
+
+pub returns-in-Ok-connect : goal.returns-in-Ok-connect
+returns-in-Ok-connect g c =
+    let l = c.args.lower.now in
+    let m = module_view c.args.«module».now in
+    let e = entry_view c.args.entry.now in
+    let stages = map (g.L.Lower.noted l) c.args.callees.now in
+    let q = question m e.function (map (g.L.Lower.summary l) c.args.callees.now) stages in
+    let s = own_settings c.args.settings.now in
+    let R = g.L.Lower.reading l q in
+    let F = g.L.Lower.faults l q in
+    let v = c.in-Ok-validate_function.validated in
+    let same = c.own_settings-own.ensures in
+    let known = c.in-Ok-validate_function.ensures in
+    let before = g.L.Lower.summary l v.info in
+    let is = known.chains c.requires.known in
+    let exact = λ (stage : ℕ). subst (λ (z : FunctionSettings). Has (g.L.Lower.noted l v.info).0 stage ↔ (Has all_stages.0 stage × AllowsStage R z stages e.function stage)) same (known.stages stage) in
+    record {
+      ok = record {
+        stage = c.in-Ok.ensures;
+        function = subst (λ (z : FunctionSettings). FunctionOK R z m e.function) same known.accepted;
+        payload = c.in-Ok-check_payload.ensures;
+        runs = runs R F stages s m e (g.L.Lower.noted l v.info) exact (c.allows_stage.ensures.0 c.if-not-allows_stage.false);
+        connections = connected R F stages s m e before is c.in-Ok-connect.ensures.judged.0;
+      };
+      summary = entry_summary m e before (g.L.Lower.summary l c.in-Ok-connect.info) known.globals is c.in-Ok-connect.ensures.judged.1;
+      noted = record { run = noted_still R stages s e (g.L.Lower.noted l v.info) (g.L.Lower.noted l c.in-Ok-connect.info) c.in-Ok-connect.ensures.stages exact; blended = c.in-Ok-connect.ensures.blended };
+      after = subst (λ (z : FunctionSettings). IsHeldAfter z.flags m e.function z.held v.held) same known.held;
+    }
+
+pub returns-in-Err-connect : goal.returns-in-Err-connect
+returns-in-Err-connect g c =
+    let l = c.args.lower.now in
+    let m = module_view c.args.«module».now in
+    let e = entry_view c.args.entry.now in
+    let stages = map (g.L.Lower.noted l) c.args.callees.now in
+    let q = question m e.function (map (g.L.Lower.summary l) c.args.callees.now) stages in
+    let s = own_settings c.args.settings.now in
+    let R = g.L.Lower.reading l q in
+    let F = g.L.Lower.faults l q in
+    let v = c.in-Ok-validate_function.validated in
+    let before = g.L.Lower.summary l v.info in
+    refused_as (IsUnconnected s.flags s.capabilities m e (EntryUses e (HasUseBit before.uses))) (IsRefusedAs R F stages (HasUse m e.function) s m e)
+    (λ x u. by_connections R F stages s m e before (c.in-Ok-validate_function.ensures.chains c.requires.known) x u) c.in-Err-connect.refusal c.in-Err-connect.ensures.judged

@@ -1,0 +1,26 @@
+use Rattle.std.proofs.Common.{map, refl}
+use Rattle.function_validator.proofs.PartLaws.{refused_as, parts_met, behind_blocks}
+use Rattle.function_validator.specs.Faults.{IsFaultBehind}
+use Rattle.function_validator.specs.Judged.{IsBlocksFault}
+use Rattle.function_validator.specs.Settings.{settings_view}
+use Rattle.function_lower.specs.Question.{question}
+use Rattle.statement_checks.specs.View.{context_view}
+use Rattle.function_validator.proofs.parts.check_parts.Goals as goal
+
+pub returns-in-Ok-blocks_met : goal.returns-in-Ok-blocks_met
+returns-in-Ok-blocks_met g c =
+    let q = question (context_view c.args.context.now).m (context_view c.args.context.now).f (map (g.L.Lower.summary c.args.lower.now) c.args.callees.now) (map (g.L.Lower.noted c.args.lower.now) c.args.callees.now) in
+    let x = context_view c.args.context.now in
+    let s = settings_view c.args.settings.now in
+    parts_met (g.L.Lower.reading c.args.lower.now q) s x q.stages c.in-Ok-blocks_met.met.stages c.in-Ok-expressions_met.stages c.in-Ok-blocks_met.met.held _ refl
+    c.in-Ok.ensures c.in-Ok-expressions_met.ensures c.in-Ok-blocks_met.ensures
+
+pub returns-in-Err-blocks_met : goal.returns-in-Err-blocks_met
+returns-in-Err-blocks_met g c =
+    let q = question (context_view c.args.context.now).m (context_view c.args.context.now).f (map (g.L.Lower.summary c.args.lower.now) c.args.callees.now) (map (g.L.Lower.noted c.args.lower.now) c.args.callees.now) in
+    let x = context_view c.args.context.now in
+    let s = settings_view c.args.settings.now in
+    let reading = g.L.Lower.reading c.args.lower.now q in
+    let faults = g.L.Lower.faults c.args.lower.now q in
+    refused_as (IsBlocksFault s x) (IsFaultBehind reading faults s x) (behind_blocks reading faults s x c.in-Ok.ensures c.in-Ok-expressions_met.ensures.accepted)
+    c.in-Err-blocks_met.refusal c.in-Err-blocks_met.ensures

@@ -1,0 +1,69 @@
+-- What is wrong with a function: of its parts in their order the first with which something is wrong.
+use Rattle.std.specs.Prelude.{◌≡◌, ◌⊎◌, ◌<◌, ℕ, List, length}
+use Rattle.control_checks.specs.Faults.{IsControlFault}
+use Rattle.error_functions.specs.declared.expressions.ExpressionError.{ExpressionError}
+use Rattle.error_functions.specs.declared.error.FunctionError.{FunctionError}
+use Rattle.error_functions.specs.declared.error.FunctionError.TheVariants as error
+use Rattle.function_lower.specs.Analysis.{Faults}
+use Rattle.function_validator.specs.Arities.{IsArityFault}
+use Rattle.interface_checks.specs.Interfaces.{IsInterfaceFault}
+use Rattle.ir_blocks.specs.Places.{Place}
+use Rattle.ir_flags.specs.Sets.{Has}
+use Rattle.ir_flags.specs.declared.settings.TheConstants.ValidationFlags.{EXPRESSIONS, BLOCKS}
+use Rattle.ir_items.specs.Plain.{PlainFunction, PlainModule}
+use Rattle.ray_checks.specs.Payloads.{IsPayloadsFault}
+use Rattle.scope_checks.specs.Faults.{IsScopeFault}
+use Rattle.spec_handles.specs.Conditions.{AritiesMatch}
+use Rattle.spec_statements.specs.BlockContext.{BlockContext}
+use Rattle.spec_statements.specs.Functions.{Reading, FunctionSettings, AreFormsBy, block_context}
+use Rattle.spec_statements.specs.Interfaces.{InterfaceOK}
+use Rattle.spec_statements.specs.Results.{AnswersBy, StandsForAnswer}
+use Rattle.statement_validator.specs.Faults.{IsBodyFault}
+use Rattle.typing_forms.specs.declared.form.Form.{Form}
+
+-- ---- expressions
+
+-- it is the first that is refused
+pub record IsRefusedAt (reading : Reading) (faults : Faults) (c : BlockContext) (e : ℕ) (x : ExpressionError) : Type 0 where
+  pub within : e < length c.f.expressions
+  pub wrong : faults.IsFaultAt c.capabilities c.forms e x
+  pub before : (k : ℕ) → k < e → reading.IsAccepted c.capabilities c.forms k
+
+abbrev pub IsExpressionFault : Reading → Faults → BlockContext → FunctionError → Type 0
+IsExpressionFault reading faults c (error.Expression e x) = IsRefusedAt reading faults c e x
+IsExpressionFault reading faults c _ = ⊥
+
+-- where expressions are checked, all are accepted
+abbrev pub AllAccepted : Reading → FunctionSettings → BlockContext → Type 0
+AllAccepted reading s c = Has s.flags.0 EXPRESSIONS.0 → (e : ℕ) → e < length c.f.expressions → reading.IsAccepted c.capabilities c.forms e
+
+-- ---- the body
+
+-- how statements leave their blocks, what is in scope, what they answer by, their rules, or the payloads of rays
+abbrev pub IsFaultOfBody : FunctionSettings → BlockContext → FunctionError → Type 0
+IsFaultOfBody s c e = IsControlFault c.f.body e ⊎ (IsScopeFault s.flags c.f e ⊎ (IsBodyFault c e ⊎ IsPayloadsFault c.m c.f s.held e))
+
+-- what stands for an answer is answered by no statement
+pub record IsNotAnswered (f : PlainFunction) (e : ℕ) : Type 0 where
+  pub stands : StandsForAnswer f.expressions e
+  pub none : (p : Place) → AnswersBy f.body p e → ⊥
+
+abbrev pub IsUnanswered : PlainFunction → FunctionError → Type 0
+IsUnanswered f (error.UnvisitedExpression e) = IsNotAnswered f e
+IsUnanswered f _ = ⊥
+
+-- ---- all parts
+
+-- behind the arity of calls and the analysis
+pub data IsFaultBehind (reading : Reading) (faults : Faults) (s : FunctionSettings) (c : BlockContext) (e : FunctionError) : Type 0 where
+  in_interface : IsInterfaceFault c s.entry e → IsFaultBehind reading faults s c e
+  in_expressions : InterfaceOK c s.entry → Has s.flags.0 EXPRESSIONS.0 → IsExpressionFault reading faults c e → IsFaultBehind reading faults s c e
+  in_body : InterfaceOK c s.entry → AllAccepted reading s c → Has s.flags.0 BLOCKS.0 → IsFaultOfBody s c e → IsFaultBehind reading faults s c e
+  unanswered : InterfaceOK c s.entry → AllAccepted reading s c → Has s.flags.0 BLOCKS.0 → Has s.flags.0 EXPRESSIONS.0 → IsUnanswered c.f e → IsFaultBehind reading faults s c e
+
+-- The arity of calls, the analysis, the variables with the arguments and the result, the expressions, the body, and what stands
+-- for answers: the fault is one of the first of these with which something is wrong.
+pub data IsFunctionFault (reading : Reading) (faults : Faults) (s : FunctionSettings) (m : PlainModule) (f : PlainFunction) (e : FunctionError) : Type 0 where
+  in_arity : IsArityFault m f e → IsFunctionFault reading faults s m f e
+  in_analysis : AritiesMatch m f → faults.IsAnalysisFault s.flags e → IsFunctionFault reading faults s m f e
+  behind : AritiesMatch m f → reading.IsAnalysed s.flags → (forms : List Form) → AreFormsBy reading f forms → IsFaultBehind reading faults s (block_context s m f forms) e → IsFunctionFault reading faults s m f e

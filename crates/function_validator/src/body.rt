@@ -1,0 +1,64 @@
+//! The checks of a function's body.
+
+ghost use Rattle.std.specs.Prelude.{MatchResult};
+ghost use Rattle.function_validator.specs.Faults.{IsFaultOfBody};
+ghost use Rattle.function_validator.specs.Judged.{IsBodyMet};
+ghost use Rattle.function_validator.specs.Settings.{settings_view};
+ghost use Rattle.function_lower.specs.Analysis.{IsRefusedFor};
+ghost use Rattle.ir_walks.specs.Bases.{BasesPrecede};
+ghost use Rattle.spec_handles.specs.Conditions.{AritiesMatch};
+ghost use Rattle.statement_checks.specs.View.{context_view, IsKnown};
+
+use crate::settings::FunctionSettings;
+use control_checks::check_control;
+use error_functions::FunctionError;
+use ir_arena::handle::Handle;
+use ir_faults::refusal::Refusal;
+use ir_faults::with_span::WithSpan;
+use ir_types::key;
+use ray_checks::payload_of;
+use scope_checks::{ExpressionList, check_scope};
+use statement_checks::BlockContext;
+use statement_validator::validate_statements;
+use std::alloc::Global;
+
+/// What is found of a body.
+#[derive(Drop)]
+pub(crate) struct BodyFound {
+    /// By what its calls and its atomic operations answer.
+    pub answered: ExpressionList,
+    /// The type of the payloads of all functions so far, if one has any.
+    pub held: Option<Handle<key::IrType>>,
+}
+
+/// Whether all that is asked of the body of the context's function is met, but that each expression that stands for an answer is
+/// answered.
+pub(crate) fn check_body(
+    alloc: Global,
+    settings: &FunctionSettings,
+    context: &BlockContext<'_>,
+) -> Result<BodyFound, Refusal<FunctionError>>
+    requires known { IsKnown context.now }
+    requires precede { BasesPrecede (context_view context.now).f.expressions }
+    requires arities { AritiesMatch (context_view context.now).m (context_view context.now).f }
+    ensures { MatchResult result
+        (λ found. IsBodyMet (settings_view settings.now) (context_view context.now) found.answered found.held)
+        (IsRefusedFor (IsFaultOfBody (settings_view settings.now) (context_view context.now))) }
+{
+    match check_control(&context.function.body) {
+        Ok(()) => {}
+        Err(error) => return Err(Refusal::Fault(WithSpan::new(alloc, error))),
+    }
+    let answered = match check_scope(alloc, settings.flags, context.function) {
+        Ok(answered) => answered,
+        Err(refusal) => return Err(refusal),
+    };
+    match validate_statements(alloc, context) {
+        Ok(()) => {}
+        Err(refusal) => return Err(refusal),
+    }
+    match payload_of(context, settings.held) {
+        Ok(held) => Ok(BodyFound { answered, held }),
+        Err(error) => Err(Refusal::Fault(WithSpan::new(alloc, error))),
+    }
+}

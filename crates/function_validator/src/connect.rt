@@ -1,0 +1,120 @@
+//! What connects an entry point with other stages and with hosts, where this is kept of its function.
+
+ghost use Rattle.std.specs.Prelude.{◌≡◌, ◌<◌, ◌↔◌, ◌||◌, IfOk, IfSome, IsTrue, MatchResult, false, length};
+ghost use Rattle.entry_checks.specs.Faults.{IsRefusedFor};
+ghost use Rattle.function_validator.specs.EntryFaults.{IsUnconnected};
+ghost use Rattle.function_validator.specs.Validated.{AddsOwnUses, TellsSame};
+ghost use Rattle.ir_items.specs.View.{entry_view, module_view};
+ghost use Rattle.ir_items.specs.declared.entries.MeshStageInfo.{MeshStageInfo};
+ghost use Rattle.spec_analysis.specs.Summaries.{HasUseBit};
+ghost use Rattle.spec_entries.specs.Entries.{ConnectionsOK};
+ghost use Rattle.spec_entries.specs.Uses.{EntryUses, mesh_output};
+ghost use Rattle.spec_varyings.specs.Varyings.{HasBlendSources, result_varyings};
+
+use crate::settings::FunctionSettings;
+use crate::uses::{note_own, uses_of};
+use entry_checks::{EntryContext, EntryPointError, check_connections};
+use function_lower::Lower;
+use ir_faults::refusal::Refusal;
+use ir_items::{EntryPoint, Module};
+use std::alloc::Global;
+
+// Whether it is as it may be, where these are the uses of an entry point with its own; then whether two sources of a blend are
+// among what it answers.
+fn judge<L: Lower>(
+    lower: &L,
+    alloc: Global,
+    settings: &FunctionSettings,
+    module: &Module,
+    entry: &EntryPoint,
+    info: &L::Info,
+) -> Result<bool, Refusal<EntryPointError>>
+    requires made { L.is_for lower.now (module_view «module».now) }
+    requires many { length (L.summary lower.now info.now).uses ≡ length (module_view «module».now).globals }
+    requires output { IfSome entry.now.mesh_info (λ (i : MeshStageInfo). i.output_variable < length (module_view «module».now).globals) }
+    ensures { let m = module_view «module».now in
+        let e = entry_view entry.now in
+        let Uses = HasUseBit (L.summary lower.now info.now).uses in
+        MatchResult result
+        (λ blended. ConnectionsOK settings.now.flags settings.now.capabilities m e Uses × (IsTrue blended ↔ HasBlendSources (result_varyings m.types e.function.result)))
+        (IsRefusedFor (IsUnconnected settings.now.flags settings.now.capabilities m e Uses)) }
+{
+    let uses = match uses_of(lower, alloc, info, module.global_variables.len()) {
+        Ok(uses) => uses,
+        Err(error) => return Err(Refusal::Memory(error)),
+    };
+    let context = EntryContext {
+        flags: settings.flags,
+        capabilities: settings.capabilities,
+        module,
+        infos: lower.type_infos(),
+        entry,
+    };
+    match check_connections(alloc, &context, &uses) {
+        Ok(blended) => Ok(blended),
+        Err(refusal) => Err(refusal),
+    }
+}
+
+// What is kept, with the uses that an entry point makes beside its function noted.
+fn with_own<L: Lower>(lower: &L, info: L::Info, entry: &EntryPoint) -> L::Info
+    requires payload { IfSome entry.now.task_payload (λ g. g < length (L.summary lower.now info).uses) }
+    requires output { IfSome (mesh_output (entry_view entry.now)) (λ g. g < length (L.summary lower.now info).uses) }
+    ensures added { AddsOwnUses (entry_view entry.now) (L.summary lower.now info) (L.summary lower.now result) }
+    ensures stages { (L.noted lower.now result).0 ≡ (L.noted lower.now info).0 }
+    ensures blending { L.blending lower.now result ≡ L.blending lower.now info }
+{
+    let mut info = info;
+    note_own(lower, &mut info, entry);
+    info
+}
+
+// What is kept, with whether sources are blended noted.
+fn with_blending<L: Lower>(lower: &L, info: L::Info, blended: bool) -> L::Info
+    ensures same { TellsSame (L.summary lower.now info) (L.summary lower.now result) }
+    ensures stages { (L.noted lower.now result).0 ≡ (L.noted lower.now info).0 }
+    ensures blending { L.blending lower.now result ≡ (L.blending lower.now info || blended) }
+{
+    let mut info = info;
+    let stages = lower.stages(&info);
+    lower.note(&mut info, stages, &[], blended);
+    info
+}
+
+/// Whether what connects an entry point with other stages and with hosts is as it may be, where this is kept of its function; what
+/// is kept of it then, its own uses and whether sources are blended noted.
+///
+/// Asks that the layer was made for the module, that the payload and the output of a mesh shader are there, that uses are told of
+/// all global variables, and that no blending is noted before.
+///
+/// # Errors
+///
+/// What is wrong with it, only where it stands; or out of memory.
+pub(crate) fn connect<L: Lower>(
+    lower: &L,
+    alloc: Global,
+    settings: &FunctionSettings,
+    module: &Module,
+    entry: &EntryPoint,
+    info: L::Info,
+) -> Result<L::Info, Refusal<EntryPointError>>
+    requires made { L.is_for lower.now (module_view «module».now) }
+    requires payload { IfSome entry.now.task_payload (λ g. g < length (module_view «module».now).globals) }
+    requires output { IfSome entry.now.mesh_info (λ (i : MeshStageInfo). i.output_variable < length (module_view «module».now).globals) }
+    requires many { length (L.summary lower.now info).uses ≡ length (module_view «module».now).globals }
+    requires unblended { L.blending lower.now info ≡ false }
+    ensures judged { let m = module_view «module».now in
+        let e = entry_view entry.now in
+        let Uses = EntryUses e (HasUseBit (L.summary lower.now info).uses) in
+        MatchResult result
+        (λ kept. ConnectionsOK settings.now.flags settings.now.capabilities m e Uses × AddsOwnUses e (L.summary lower.now info) (L.summary lower.now kept))
+        (IsRefusedFor (IsUnconnected settings.now.flags settings.now.capabilities m e Uses)) }
+    ensures stages { IfOk result (λ kept. (L.noted lower.now kept).0 ≡ (L.noted lower.now info).0) }
+    ensures blended { IfOk result (λ kept. IsTrue (L.blending lower.now kept) ↔ HasBlendSources (result_varyings (module_view «module».now).types (entry_view entry.now).function.result)) }
+{
+    let info = with_own(lower, info, entry);
+    match judge(lower, alloc, settings, module, entry, &info) {
+        Ok(blended) => Ok(with_blending(lower, info, blended)),
+        Err(refusal) => Err(refusal),
+    }
+}

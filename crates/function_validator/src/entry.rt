@@ -1,0 +1,126 @@
+//! Whether a module may have an entry point.
+
+ghost use Rattle.std.specs.Prelude.{◌≡◌, ◌<◌, ◌↔◌, IfSome, IsTrue, MatchResult, length, map};
+ghost use Rattle.entry_checks.specs.Faults.{IsRefusedFor};
+ghost use Rattle.function_validator.specs.EntryFaults.{IsRefusedAs, IsToldAs};
+ghost use Rattle.function_validator.specs.Validated.{IsEntryValidated, own_settings};
+ghost use Rattle.function_validator.specs.Settings.{settings_view};
+ghost use Rattle.function_lower.specs.Question.{question};
+ghost use Rattle.ir_faults.specs.Faults.{error_of};
+ghost use Rattle.ir_flags.specs.Sets.{Has};
+ghost use Rattle.ir_items.specs.View.{entry_view, module_view};
+ghost use Rattle.ir_items.specs.declared.entries.MeshStageInfo.{MeshStageInfo};
+ghost use Rattle.ir_walks.specs.Filters.{ParentsPrecede};
+ghost use Rattle.spec_analysis.specs.Chains.{HasUse};
+ghost use Rattle.spec_analysis.specs.Summaries.{CalleesKnown};
+ghost use Rattle.spec_handles.specs.Conditions.{HandlesInRange, OperandsPrecede};
+ghost use Rattle.spec_varyings.specs.Contexts.{stage_set};
+
+use crate::connect::connect;
+use crate::settings::FunctionSettings;
+use crate::validate::{Validated, validate_function};
+use bitflags::Flags;
+use entry_checks::{EntryPointError, check_payload, check_stage, stage_set};
+use error_functions::FunctionError;
+use function_lower::Lower;
+use ir_faults::refusal::Refusal;
+use ir_faults::with_span::WithSpan;
+use ir_items::{EntryPoint, Module};
+use ir_kinds::ShaderStage;
+use std::alloc::Global;
+
+// What a function is refused for, as the error of its entry point.
+fn told_of_function(alloc: Global, refusal: Refusal<FunctionError>) -> Refusal<EntryPointError>
+    ensures { IsToldAs refusal result }
+{
+    match refusal {
+        Refusal::Memory(error) => Refusal::Memory(error),
+        Refusal::Fault(fault) => Refusal::Fault(WithSpan::new(
+            alloc,
+            EntryPointError::Function(fault.into_inner()),
+        )),
+    }
+}
+
+// With what the function of an entry point is judged.
+fn own_settings(settings: &FunctionSettings) -> FunctionSettings
+    ensures { settings_view result ≡ own_settings settings.now }
+{
+    FunctionSettings {
+        flags: settings.flags,
+        capabilities: settings.capabilities,
+        operations: settings.operations,
+        subgroup_stages: settings.subgroup_stages,
+        entry: true,
+        held: settings.held,
+    }
+}
+
+// Whether what is kept of a function says that a stage may run it.
+fn allows_stage<L: Lower>(lower: &L, info: &L::Info, stage: ShaderStage) -> bool
+    ensures { IsTrue result ↔ Has (L.noted lower.now info.now).0 (stage_set stage).0 }
+{
+    lower.stages(info).contains(stage_set(stage))
+}
+
+/// Whether a module may have an entry point, and what is kept of it (naga's `validate_entry_point`); that an earlier one of the
+/// stage has its name is asked elsewhere. `callees` has what [`validate_function`] answered for the functions of the module, in
+/// order, where stages and uses may have been noted since. Its function is judged as an entry point's, whatever the settings say.
+///
+/// Asks that the layer was made for the module, and that its handles are in order, as in a module that `validate_module_handles`
+/// accepts.
+///
+/// # Errors
+///
+/// [`Refusal::Fault`] exactly where the entry point is not accepted, with no span, and with a fault of the first of these with
+/// which something is wrong: its stage, its function ([`EntryPointError::Function`]), its payload, what its function does at its
+/// stage ([`EntryPointError::ForbiddenStageOperations`]), its arguments, its result, the global variables that it uses, and what a
+/// mesh shader gives. [`Refusal::Memory`] where memory ran out.
+pub fn validate_entry_point<L: Lower>(
+    lower: &L,
+    alloc: Global,
+    settings: &FunctionSettings,
+    module: &Module,
+    entry: &EntryPoint,
+    callees: &[L::Info],
+) -> Result<Validated<L::Info>, Refusal<EntryPointError>>
+    requires made { L.is_for lower.now (module_view «module».now) }
+    requires handles { HandlesInRange (module_view «module».now) (entry_view entry.now).function }
+    requires precede { OperandsPrecede (entry_view entry.now).function.expressions }
+    requires parents { ParentsPrecede (module_view «module».now).filters }
+    requires payload { IfSome entry.now.task_payload (λ g. g < length (module_view «module».now).globals) }
+    requires output { IfSome entry.now.mesh_info (λ (i : MeshStageInfo). i.output_variable < length (module_view «module».now).globals) }
+    requires known { CalleesKnown (module_view «module».now) (entry_view entry.now).function (map (L.summary lower.now) callees.now) }
+    ensures { let m = module_view «module».now in
+        let e = entry_view entry.now in
+        let q = question m e.function (map (L.summary lower.now) callees.now) (map (L.noted lower.now) callees.now) in
+        let s = own_settings settings.now in
+        MatchResult result
+        (λ v. IsEntryValidated (L.reading lower.now q) q.stages s m e (L.summary lower.now v.info) (L.noted lower.now v.info) (L.blending lower.now v.info) v.held)
+        (IsRefusedFor (IsRefusedAs (L.reading lower.now q) (L.faults lower.now q) q.stages (HasUse m e.function) s m e)) }
+{
+    match check_stage(settings.capabilities, entry) {
+        Ok(()) => {}
+        Err(error) => return Err(Refusal::Fault(WithSpan::new(alloc, error))),
+    }
+    let own = own_settings(settings);
+    let validated = match validate_function(lower, alloc, &own, module, &entry.function, callees) {
+        Ok(validated) => validated,
+        Err(refusal) => return Err(told_of_function(alloc, refusal)),
+    };
+    match check_payload(module, entry) {
+        Ok(()) => {}
+        Err(error) => return Err(Refusal::Fault(WithSpan::new(alloc, error))),
+    }
+    if !allows_stage(lower, &validated.info, entry.stage) {
+        let error = EntryPointError::ForbiddenStageOperations;
+        return Err(Refusal::Fault(WithSpan::new(alloc, error)));
+    }
+    match connect(lower, alloc, settings, module, entry, validated.info) {
+        Ok(info) => Ok(Validated {
+            info,
+            held: validated.held,
+        }),
+        Err(refusal) => Err(refusal),
+    }
+}

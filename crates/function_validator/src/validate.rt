@@ -1,0 +1,157 @@
+//! Whether a function is accepted.
+
+ghost use Rattle.std.specs.Prelude.{◌≡◌, ◌↔◌, ◌||◌, ℕ, IfErr, IfOk, MatchResult, OnOk, bit_and, false, length, map};
+ghost use Rattle.function_validator.specs.Faults.{IsFaultBehind, IsFunctionFault};
+ghost use Rattle.function_validator.specs.Judged.{ArePartsMet};
+ghost use Rattle.function_validator.specs.Settings.{settings_view};
+ghost use Rattle.function_lower.specs.Analysis.{IsRefusedFor};
+ghost use Rattle.function_lower.specs.Question.{question};
+ghost use Rattle.ir_flags.specs.Sets.{Has};
+ghost use Rattle.ir_items.specs.View.{function_view, module_view};
+ghost use Rattle.ir_walks.specs.Filters.{ParentsPrecede};
+ghost use Rattle.spec_analysis.specs.Summaries.{CalleesKnown, HasUseBit, IsJoined, IsSummary};
+ghost use Rattle.spec_statements.specs.ExpressionStages.{all_stages};
+ghost use Rattle.spec_handles.specs.Conditions.{AritiesMatch, HandlesInRange, OperandsPrecede};
+ghost use Rattle.spec_statements.specs.Functions.{FunctionOK, AllowsStage, block_context};
+ghost use Rattle.spec_statements.specs.Payloads.{IsHeldAfter};
+ghost use Rattle.typing_operands.specs.Answers.{form_given};
+
+use crate::arities::check_arities;
+use crate::forms::forms_of;
+use crate::parts::{Met, check_parts};
+use crate::settings::FunctionSettings;
+use error_functions::FunctionError;
+use function_lower::Lower;
+use ir_arena::handle::Handle;
+use ir_faults::refusal::Refusal;
+use ir_faults::with_span::WithSpan;
+use ir_items::{Function, Module};
+use ir_types::key;
+use statement_checks::BlockContext;
+use std::alloc::Global;
+use typing_layout::ExpressionKindTracker;
+
+/// What is kept of a function that is accepted.
+#[derive(Drop)]
+pub struct Validated<I> {
+    /// What the layer keeps of it, with the stages that may run it noted.
+    pub info: I,
+    /// The type of the payloads of all functions so far, if one has any.
+    pub held: Option<Handle<key::IrType>>,
+}
+
+// The parts behind the analysis, of a function of which this is kept.
+fn judge<L: Lower>(
+    lower: &L,
+    alloc: Global,
+    settings: &FunctionSettings,
+    module: &Module,
+    function: &Function,
+    callees: &[L::Info],
+    info: &L::Info,
+) -> Result<Met, Refusal<FunctionError>>
+    requires made { L.is_for lower.now (module_view «module».now) }
+    requires precede { OperandsPrecede (function_view function.now).expressions }
+    requires arities { AritiesMatch (module_view «module».now) (function_view function.now) }
+    requires many { length (function_view function.now).expressions ≡ length (L.types lower.now info.now) }
+    ensures { let q = question (module_view «module».now) (function_view function.now) (map (L.summary lower.now) callees.now) (map (L.noted lower.now) callees.now) in
+        let c = block_context (settings_view settings.now) q.m q.f (map (form_given q.m.types) (L.types lower.now info.now)) in
+        MatchResult result
+        (λ met. ArePartsMet (L.reading lower.now q) (settings_view settings.now) c q.stages met.stages met.held)
+        (IsRefusedFor (IsFaultBehind (L.reading lower.now q) (L.faults lower.now q) (settings_view settings.now) c)) }
+{
+    let count = function.expressions.len();
+    let forms = match forms_of(lower, alloc, &module.types, info, count) {
+        Ok(forms) => forms,
+        Err(error) => return Err(Refusal::Memory(error)),
+    };
+    let kinds = match ExpressionKindTracker::from_arena(alloc, &function.expressions) {
+        Ok(kinds) => kinds,
+        Err(error) => return Err(Refusal::Memory(error)),
+    };
+    let context = BlockContext {
+        capabilities: settings.capabilities,
+        operations: settings.operations,
+        module,
+        function,
+        forms: &forms,
+        kinds: &kinds,
+    };
+    match check_parts(lower, alloc, settings, &context, callees) {
+        Ok(met) => Ok(met),
+        Err(refusal) => Err(refusal),
+    }
+}
+
+// What is kept, with the stages noted.
+fn noted<L: Lower>(lower: &L, info: L::Info, met: Met) -> Validated<L::Info>
+    ensures stages { (L.noted lower.now result.info).0 ≡ bit_and (L.noted lower.now info).0 met.stages.0 }
+    ensures uses { (g k : ℕ) → HasUseBit (L.summary lower.now result.info).uses g k ↔ HasUseBit (L.summary lower.now info).uses g k }
+    ensures pairs { (L.summary lower.now result.info).pairs ≡ (L.summary lower.now info).pairs }
+    ensures may_kill { (L.summary lower.now result.info).may_kill ≡ (L.summary lower.now info).may_kill }
+    ensures types { L.types lower.now result.info ≡ L.types lower.now info }
+    ensures globals { length (L.summary lower.now result.info).uses ≡ length (L.summary lower.now info).uses }
+    ensures blending { L.blending lower.now result.info ≡ (L.blending lower.now info || false) }
+    ensures held { result.held ≡ met.held }
+{
+    let mut info = info;
+    lower.note(&mut info, met.stages, &[], false);
+    Validated {
+        info,
+        held: met.held,
+    }
+}
+
+/// Whether a function is accepted, and what is kept of it (naga's `validate_function`). `callees` has what this call answered
+/// for the functions before it, in order, where stages and uses may have been noted since.
+///
+/// Asks that the layer was made for the module, and that the handles of the function are in order, as those of a module are
+/// that `validate_module_handles` accepts.
+///
+/// # Errors
+///
+/// [`Refusal::Fault`] exactly where the function is not accepted: with a fault of the first of these with which something is
+/// wrong: the arity of calls ([`FunctionError::InvalidCall`] with `ArgumentCount`), the analysis, the variables, the arguments
+/// and the result, then under [`ValidationFlags::EXPRESSIONS`] the expressions, of which it is the first that is refused, under
+/// [`ValidationFlags::BLOCKS`] the body, and under both whether each that stands for an answer is answered.
+/// [`Refusal::Memory`] where memory ran out.
+pub fn validate_function<L: Lower>(
+    lower: &L,
+    alloc: Global,
+    settings: &FunctionSettings,
+    module: &Module,
+    function: &Function,
+    callees: &[L::Info],
+) -> Result<Validated<L::Info>, Refusal<FunctionError>>
+    requires made { L.is_for lower.now (module_view «module».now) }
+    requires handles { HandlesInRange (module_view «module».now) (function_view function.now) }
+    requires precede { OperandsPrecede (function_view function.now).expressions }
+    requires parents { ParentsPrecede (module_view «module».now).filters }
+    ensures accepted { let q = question (module_view «module».now) (function_view function.now) (map (L.summary lower.now) callees.now) (map (L.noted lower.now) callees.now) in
+        OnOk result (FunctionOK (L.reading lower.now q) (settings_view settings.now) q.m q.f) }
+    ensures refused { let q = question (module_view «module».now) (function_view function.now) (map (L.summary lower.now) callees.now) (map (L.noted lower.now) callees.now) in
+        IfErr result (IsRefusedFor (λ _. FunctionOK (L.reading lower.now q) (settings_view settings.now) q.m q.f → ⊥)) }
+    ensures fault { let q = question (module_view «module».now) (function_view function.now) (map (L.summary lower.now) callees.now) (map (L.noted lower.now) callees.now) in
+        IfErr result (IsRefusedFor (IsFunctionFault (L.reading lower.now q) (L.faults lower.now q) (settings_view settings.now) q.m q.f)) }
+    ensures stages { let q = question (module_view «module».now) (function_view function.now) (map (L.summary lower.now) callees.now) (map (L.noted lower.now) callees.now) in
+        IfOk result (λ v. (stage : ℕ) → Has (L.noted lower.now v.info).0 stage ↔ (Has all_stages.0 stage × AllowsStage (L.reading lower.now q) (settings_view settings.now) q.stages q.f stage)) }
+    ensures joined { IfOk result (λ v. IsJoined (length (module_view «module».now).globals) (function_view function.now) (map (L.summary lower.now) callees.now) (L.summary lower.now v.info)) }
+    ensures chains { CalleesKnown (module_view «module».now) (function_view function.now) (map (L.summary lower.now) callees.now)
+        → IfOk result (λ v. IsSummary (module_view «module».now) (function_view function.now) (L.summary lower.now v.info)) }
+    ensures globals { IfOk result (λ v. length (L.summary lower.now v.info).uses ≡ length (module_view «module».now).globals) }
+    ensures unblended { IfOk result (λ v. L.blending lower.now v.info ≡ false) }
+    ensures held { IfOk result (λ v. IsHeldAfter settings.now.flags (module_view «module».now) (function_view function.now) settings.now.held v.held) }
+{
+    match check_arities(module, function) {
+        Ok(()) => {}
+        Err(error) => return Err(Refusal::Fault(WithSpan::new(alloc, error))),
+    }
+    let info = match lower.analyse(alloc, module, function, callees, settings.flags) {
+        Ok(info) => info,
+        Err(refusal) => return Err(refusal),
+    };
+    match judge(lower, alloc, settings, module, function, callees, &info) {
+        Ok(met) => Ok(noted(lower, info, met)),
+        Err(refusal) => Err(refusal),
+    }
+}

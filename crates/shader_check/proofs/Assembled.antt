@@ -1,0 +1,118 @@
+-- What is answered of a whole module, put together of its steps.
+use Rattle.std.proofs.Common.{◌≡◌, ◌∙◌, ℕ, Bool, List, length, Option, Result, Ok, Err, IfErr, sym, ap, subst}
+use Rattle.shader_check.proofs.EntryByChains.{accepted_at, entry_fault}
+use Rattle.shader_check.proofs.Staged.{are_stages}
+use Rattle.shader_check.specs.Judged.{AreJudged}
+use Rattle.shader_check.specs.JudgedEntries.{AreEntriesJudged, IsEntryRefusal}
+use Rattle.shader_check.specs.Validated.{AreEntriesKept, IsEntryFault, IsFaultBehind, IsKeptWith, IsRefusedWith, IsToldBy, IsValidated, IsValidationFault, module_settings}
+use Rattle.shader_check.specs.declared.entries.InvalidEntryPoint.{InvalidEntryPoint}
+use Rattle.shader_check.specs.declared.error.ValidationError.{ValidationError}
+use Rattle.shader_check.specs.declared.error.ValidationError.TheVariants as error
+use Rattle.ir_faults.specs.Faults.{error_of}
+use Rattle.ir_faults.specs.declared.refusal.Refusal.{Refusal}
+use Rattle.ir_faults.specs.declared.refusal.Refusal.TheVariants as refusal
+use Rattle.ir_flags.specs.declared.settings.Capabilities.{Capabilities}
+use Rattle.ir_flags.specs.declared.settings.ValidationFlags.{ValidationFlags}
+use Rattle.ir_flags.specs.declared.stages.ShaderStages.{ShaderStages}
+use Rattle.ir_items.specs.Plain.{PlainModule}
+use Rattle.module_handles.proofs.Whole.{order_gives_conditions}
+use Rattle.module_info.specs.declared.info.ModuleInfo.{ModuleInfo}
+use Rattle.module_types.specs.Validated.{AreAccepted}
+use Rattle.module_validator.specs.Faults as items
+use Rattle.module_validator.specs.Faults.{IsModuleFault}
+use Rattle.module_validator.specs.Refusals as variables
+use Rattle.module_validator.specs.Refusals.{IsVariableFault}
+use Rattle.module_validator.specs.Told.{IsInfoOf, settings_of}
+use Rattle.module_validator.specs.declared.error.ModuleError.{ModuleError}
+use Rattle.module_validator.specs.declared.globals.InvalidGlobalVariable.{InvalidGlobalVariable}
+use Rattle.module_validator.specs.declared.validator.ModuleValidator.{ModuleValidator}
+use Rattle.real_lower.specs.Made.{IsMadeOf}
+use Rattle.real_lower.specs.Readings.{reading_of, faults_of}
+use Rattle.spec_analysis.specs.Summaries.{Summary}
+use Rattle.spec_entries.specs.Modules.{AreStages}
+use Rattle.spec_expressions.specs.Context.{outside}
+use Rattle.spec_globals.specs.Globals.{GlobalsOK}
+use Rattle.spec_handles.specs.InOrder.{HandlesOK}
+use Rattle.spec_modules.specs.Steps.{ModuleOK}
+use Rattle.spec_modules.specs.declared.settings.ModuleSettings.{ModuleSettings}
+use Rattle.spec_statements.specs.Functions.{FunctionSettings}
+use Rattle.typing_expressions.specs.Types.{AreTypes}
+use Rattle.typing_layout.specs.Held.{AreLayouts}
+
+-- ---- refusals
+
+pub told_by : {E : Type 0} (of : E → ValidationError) (P : E → Type 0) (Q : ValidationError → Type 0) → ((x : E) → P x → Q (of x)) → (r : Refusal E) (t : Refusal ValidationError) → IsToldBy of r t → IsRefusedWith P r
+    → IsRefusedWith Q t
+told_by of P Q widen (refusal.Memory a) (refusal.Memory b) told h = tt
+told_by of P Q widen (refusal.Memory a) (refusal.Fault g) told h = absurd told
+told_by of P Q widen (refusal.Fault f) (refusal.Memory b) told h = absurd told
+told_by of P Q widen (refusal.Fault f) (refusal.Fault g) told h = (subst Q (sym told.0) (widen (error_of f) h.0), told.1)
+
+pub widened : (P Q : ValidationError → Type 0) → ((x : ValidationError) → P x → Q x) → (r : Refusal ValidationError) → IsRefusedWith P r → IsRefusedWith Q r
+widened P Q widen (refusal.Memory a) h = tt
+widened P Q widen (refusal.Fault f) h = (widen (error_of f) h.0, h.1)
+
+-- ---- functions and entry points
+
+module _ (s : FunctionSettings) (m : PlainModule) (handles : HandlesOK m) (summaries : List Summary) (stages : List ShaderStages) (held : Option ℕ) (judged : AreJudged reading_of s m (length m.functions) summaries stages held) where
+  run_so : AreStages s m stages
+  run_so = are_stages s m stages (λ i f there. ((order_gives_conditions m handles).functions i f there).callees) judged.counted judged.stages
+
+  pub entries_kept : (kept : List Summary) (after : Option ℕ) → AreEntriesJudged reading_of s m summaries stages (length m.entries) kept after → AreEntriesKept s m kept
+  entries_kept kept after e = record {
+    accepted = λ i lt. accepted_at s m handles summaries judged.many judged.known stages run_so i (e.accepted i lt);
+    many = e.many;
+    known = e.known;
+  }
+
+  pub entry_refused : (r : Refusal InvalidEntryPoint) → IsEntryRefusal reading_of faults_of s m summaries stages r → IsRefusedWith (IsEntryFault s m) r
+  entry_refused (refusal.Memory a) h = tt
+  entry_refused (refusal.Fault f) h = (entry_fault s m handles summaries judged.many judged.known stages run_so (error_of f) h.0, h.1)
+
+-- ---- all steps
+
+module _ (s : FunctionSettings) (resolved : Bool) (m : PlainModule) where
+  pub made_of : (info : ModuleInfo) → ModuleOK (module_settings s resolved) m → IsInfoOf (module_settings s resolved) m info → IsMadeOf m info
+  made_of info ok told = record {
+    handles = ok.handles;
+    told = record { told = record { each = λ handle i at. (told.types.each handle i at).info }; many = told.types.many };
+    typed = told.expressions;
+  }
+
+  module _ (ok : ModuleOK (module_settings s resolved) m) (globals : GlobalsOK s.flags s.capabilities m) where
+    pub fault_behind : (x : ValidationError) → IsFaultBehind s m x → IsValidationFault s resolved m x
+    fault_behind (error.Module e) h = absurd h
+    fault_behind (error.GlobalVariable e) h = absurd h
+    fault_behind (error.Function e) h = (ok, globals, h)
+    fault_behind (error.EntryPoint e) h = (ok, globals, h.0, h.1)
+
+    pub validated : (before info : ModuleInfo) → IsInfoOf (module_settings s resolved) m before → IsKeptWith s m before info → IsValidated s resolved m info
+    validated before info told kept = record {
+      ok = ok;
+      globals = globals;
+      functions = kept.functions;
+      entries = kept.entries;
+      types = subst (λ v. AreAccepted s.capabilities resolved m.types v.items) (sym kept.types) told.types;
+      layouts = subst (AreLayouts m.types) (sym kept.layouts) told.layouts;
+      laid = ap length kept.layouts ∙ told.laid;
+      expressions = subst (λ v. AreTypes (outside m) m.global_expressions v.items) (sym kept.expressions) told.expressions;
+    }
+
+-- ---- the steps up to overrides
+
+pub if_err_as : {A E : Type 0} (P Q : E → Type 0) → ((e : E) → P e → Q e) → (r : Result A E) → IfErr r P → IfErr r Q
+if_err_as P Q widen (Ok a) h = tt
+if_err_as P Q widen (Err e) h = widen e h
+
+pub settings_are : (v : ModuleValidator) (flags : ValidationFlags) (capabilities : Capabilities) (resolved asked : Bool) → v.flags ≡ flags → v.capabilities ≡ capabilities → resolved ≡ asked
+    → settings_of v asked ≡ record { flags = flags; capabilities = capabilities; overrides_resolved = resolved }
+settings_are v flags capabilities resolved asked f c r = λ i. record { flags = f i; capabilities = c i; overrides_resolved = (sym r) i }
+
+pub items_refused : (s : ModuleSettings) (m : PlainModule) (r : Refusal ModuleError) → items.IsRefusal s m r → IsRefusedWith (IsModuleFault s m) r
+items_refused s m (refusal.Memory a) h = tt
+items_refused s m (refusal.Fault f) h = h
+
+pub variables_refused : (flags : ValidationFlags) (capabilities : Capabilities) (m : PlainModule) (r : Refusal InvalidGlobalVariable) → variables.IsRefusal flags capabilities m r
+    → IsRefusedWith (IsVariableFault flags capabilities m) r
+variables_refused flags capabilities m (refusal.Memory a) h = tt
+variables_refused flags capabilities m (refusal.Fault f) h = h

@@ -1,0 +1,138 @@
+-- The functions of a module, one more of them judged.
+use Rattle.std.proofs.Common.{◌≡◌, ◌↔◌, ◌⊎◌, inl, inr, ℕ, zero, suc, ◌+◌, ◌<◌, List, [], ◌∷◌, ◌++◌, length, Option, Some, refl, sym, ap, subst, ◌∙◌, arith, slice_get}
+use Rattle.std.proofs.lemmas.Bool.{cases_eq}
+use Rattle.std.proofs.lemmas.Option.{slice_get_within}
+use Rattle.error_functions.specs.declared.error.FunctionError.{FunctionError}
+use Rattle.function_validator.specs.Faults.{IsFunctionFault}
+use Rattle.function_lower.specs.Analysis.{Faults, IsRefusedFor}
+use Rattle.function_lower.specs.Question.{Question, question}
+use Rattle.shader_check.specs.Judged.{Preceding, IsAcceptedAt, IsRefusedAt, IsNotedAt, AreNoted, AreJudged, IsFirstRefused, IsToldAt, IsRefusal}
+use Rattle.shader_check.specs.declared.functions.InvalidFunction.{InvalidFunction}
+use Rattle.ir_faults.specs.Faults.{error_of}
+use Rattle.ir_faults.specs.declared.refusal.Refusal.{Refusal}
+use Rattle.ir_faults.specs.declared.refusal.Refusal.TheVariants as refusal
+use Rattle.ir_flags.specs.Sets.{Has}
+use Rattle.ir_flags.specs.declared.stages.ShaderStages.{ShaderStages}
+use Rattle.ir_items.specs.Plain.{PlainFunction, PlainModule}
+use Rattle.module_handles.proofs.Whole.{order_gives_conditions}
+use Rattle.module_handles.specs.Conditions.{FunctionConditions}
+use Rattle.spec_analysis.proofs.SummaryLaws.{callees_known}
+use Rattle.spec_analysis.specs.Summaries.{Summary, IsSummary, CalleesKnown, AreSummaries, CallsBelow}
+use Rattle.spec_statements.specs.ExpressionStages.{all_stages}
+use Rattle.spec_functions.proofs.CallLaws.{calls_precede}
+use Rattle.spec_functions.proofs.HeldLaws.{held_next}
+use Rattle.spec_functions.specs.Functions.{settings_with}
+use Rattle.spec_functions.specs.Held.{IsHeldBefore}
+use Rattle.spec_handles.specs.InOrder.{HandlesOK}
+use Rattle.spec_statements.specs.Functions.{Reading, FunctionSettings, FunctionOK, AllowsStage}
+use Rattle.spec_statements.specs.Payloads.{IsHeldAfter}
+
+-- ---- summaries
+
+-- an item of a list with one more is that one or one from before
+pub one_more_at : {A : Type 0} (xs : List A) (y : A) (i : ℕ) (x : A) → slice_get (xs ++ y ∷ []) i ≡ Some x → (slice_get xs i ≡ Some x) ⊎ ((i ≡ length xs) × (y ≡ x))
+one_more_at [] y zero x e = inr (refl, cc)
+one_more_at [] y (suc i) x e = cc
+one_more_at (z ∷ xs) y zero x e = inl e
+one_more_at (z ∷ xs) y (suc i) x e = elim (one_more_at xs y i x e) [ inl a ↦ inl a | inr b ↦ inr (ap suc b.0, b.1) ]
+
+pub some_is : {A : Type 0} {x y : A} → Some x ≡ Some y → x ≡ y
+some_is e = cc (e)
+
+more_summaries : (m : PlainModule) (n : ℕ) (f : PlainFunction) (summaries : List Summary) (t : Summary) → length summaries ≡ n → slice_get m.functions n ≡ Some f → AreSummaries m summaries → IsSummary m f t
+    → AreSummaries m (summaries ++ t ∷ [])
+more_summaries m n f summaries t many at known is i g s found summary = elim (one_more_at summaries t i s summary) [
+  | inl before ↦ known i g s found before
+  | inr last ↦
+      (let same : f ≡ g = some_is (sym at ∙ (ap (slice_get m.functions) (sym many ∙ sym last.0) ∙ found)) in
+      subst (λ u. IsSummary m g u) last.1 (subst (λ h. IsSummary m h t) same is))
+]
+
+pub one_longer : {A : Type 0} (xs : List A) (t : A) (n : ℕ) → length xs ≡ n → length (xs ++ t ∷ []) ≡ n + 1
+one_longer [] t n e = omega (arith, e)
+one_longer (x ∷ xs) t zero e = absurd (omega (arith, e))
+one_longer (x ∷ xs) t (suc n) e = let r = one_longer xs t n (omega (arith, e)) in omega (arith, r)
+
+-- what stands in a list stands there still with one more behind it
+still_there : {A : Type 0} (xs : List A) (t : A) (i : ℕ) → i < length xs → slice_get xs i ≡ slice_get (xs ++ t ∷ []) i
+still_there [] t i lt = absurd (omega (arith, lt))
+still_there (x ∷ xs) t zero lt = refl
+still_there (x ∷ xs) t (suc i) lt = still_there xs t i (omega (arith, lt))
+
+-- ---- one more function
+
+pub below_or_here : (j n : ℕ) → j < n + 1 → (j < n) ⊎ (j ≡ n)
+below_or_here j n lt = elim (cases_eq j n) [ inl same ↦ inr same | inr differ ↦ inl (omega (arith, lt, differ)) ]
+
+module _ (m : PlainModule) (handles : HandlesOK m) where
+  pub conditions_at : (n : ℕ) (f : PlainFunction) → slice_get m.functions n ≡ Some f → FunctionConditions m n f
+  conditions_at n f at = (order_gives_conditions m handles).functions n f at
+
+  -- the summaries of those before serve for the callees
+  pub known_at : (n : ℕ) (f : PlainFunction) (summaries : List Summary) → slice_get m.functions n ≡ Some f → length summaries ≡ n → AreSummaries m summaries → CalleesKnown m f summaries
+  known_at n f summaries at many known =
+      let below : CallsBelow f n = calls_precede f n (conditions_at n f at).callees in
+      let within : n < length m.functions = slice_get_within m.functions n f at in
+      callees_known m f summaries known (λ callee arguments run. (let lt = below callee arguments run in omega (arith, lt, many))) (λ callee arguments run. (let lt = below callee arguments run in omega (arith, lt, within)))
+
+  module _ (reading : Question → Reading) (s : FunctionSettings) (n : ℕ) (summaries : List Summary) (stages : List ShaderStages) (held : Option ℕ) (judged : AreJudged reading s m n summaries stages held) (f : PlainFunction) (at : slice_get m.functions n ≡ Some f) where
+    abbrev given_here : Preceding s.flags m n f
+    given_here = record { summaries = summaries; known = known_at n f summaries at judged.many judged.known; stages = stages; held = held; before = judged.payloads }
+
+    pub accepted_here : FunctionOK (reading (question m f summaries stages)) (settings_with s held) m f → IsAcceptedAt reading s m n
+    accepted_here ok = record { function = f; at = at; given = given_here; ok = ok }
+
+    abbrev Exact : ShaderStages → Type 0
+    Exact own = (stage : ℕ) → Has own.0 stage ↔ (Has all_stages.0 stage × AllowsStage (reading (question m f summaries stages)) (settings_with s held) stages f stage)
+
+    noted_before : (own : ShaderStages) (i : ℕ) (x : ShaderStages) → slice_get stages i ≡ Some x → IsNotedAt reading s m (stages ++ own ∷ []) i x
+    noted_before own i x there =
+        let e = judged.stages i x there in
+        let lt = slice_get_within stages i x there in
+        record { function = e.function; at = e.at; given = e.given; many = e.many; same = λ j less. e.same j less ∙ still_there stages own j (omega (arith, less, lt)); exact = e.exact }
+
+    noted_here : (own : ShaderStages) → Exact own → (i : ℕ) → i ≡ n → IsNotedAt reading s m (stages ++ own ∷ []) i own
+    noted_here own exact i here =
+        let counted = judged.counted in
+        subst (λ k. IsNotedAt reading s m (stages ++ own ∷ []) k own) (sym here)
+        (record { function = f; at = at; given = given_here; many = counted; same = λ j less. still_there stages own j (omega (arith, less, counted)); exact = exact })
+
+    noted_more : (own : ShaderStages) → Exact own → AreNoted reading s m (stages ++ own ∷ [])
+    noted_more own exact i x there = elim (one_more_at stages own i x there) [
+      | inl before ↦ noted_before own i x before
+      | inr last ↦ subst (IsNotedAt reading s m (stages ++ own ∷ []) i) last.1 (noted_here own exact i (last.0 ∙ judged.counted))
+    ]
+
+    pub judged_more : (t : Summary) (own : ShaderStages) (after : Option ℕ) → FunctionOK (reading (question m f summaries stages)) (settings_with s held) m f → (CalleesKnown m f summaries → IsSummary m f t) → Exact own
+        → IsHeldAfter s.flags m f held after → AreJudged reading s m (n + 1) (summaries ++ t ∷ []) (stages ++ own ∷ []) after
+    judged_more t own after ok is exact h = record {
+      accepted = λ i lt. elim (below_or_here i n lt) [
+        | inl before ↦ judged.accepted i before
+        | inr same ↦ subst (IsAcceptedAt reading s m) (sym same) (accepted_here ok)
+      ];
+      many = one_longer summaries t n judged.many;
+      stages = noted_more own exact;
+      counted = one_longer stages own n judged.counted;
+      known = more_summaries m n f summaries t judged.many at judged.known (is given_here.known);
+      payloads = subst (λ k. IsHeldBefore s.flags m k after) (omega arith) (held_next s.flags m n f at held after judged.payloads (λ asked. (ok.body asked).payloads) h);
+    }
+
+    pub refused_here : (faults : Question → Faults) (e : InvalidFunction) → e.function ≡ n → (FunctionOK (reading (question m f summaries stages)) (settings_with s held) m f → ⊥)
+        → IsFunctionFault (reading (question m f summaries stages)) (faults (question m f summaries stages)) (settings_with s held) m f e.error → IsFirstRefused reading faults s m e
+    refused_here faults e same refused fault = record {
+      before = λ i lt. judged.accepted i (omega (arith, lt, same));
+      here = subst (λ k. IsRefusedAt reading faults s m k e.error) (sym same) (record { function = f; at = at; given = given_here; refused = refused; fault = fault });
+    }
+
+    pub told_refusal : (faults : Question → Faults) (o : Refusal FunctionError) (r : Refusal InvalidFunction) → IsToldAt n o r
+        → IsRefusedFor (λ _. FunctionOK (reading (question m f summaries stages)) (settings_with s held) m f → ⊥) o
+        → IsRefusedFor (IsFunctionFault (reading (question m f summaries stages)) (faults (question m f summaries stages)) (settings_with s held) m f) o
+        → IsRefusal reading faults s m r
+    told_refusal faults (refusal.Memory d) (refusal.Memory e) told refused fault = tt
+    told_refusal faults (refusal.Memory d) (refusal.Fault e) told refused fault = absurd told
+    told_refusal faults (refusal.Fault d) (refusal.Memory e) told refused fault = absurd told
+    told_refusal faults (refusal.Fault d) (refusal.Fault e) told refused fault = (
+      refused_here faults (error_of e) told.0 refused
+          (subst (IsFunctionFault (reading (question m f summaries stages)) (faults (question m f summaries stages)) (settings_with s held) m f) (sym told.1) fault),
+      told.2,
+    )

@@ -1,0 +1,137 @@
+-- What is read of entry points with summaries of the functions is read by chains of calls.
+use Rattle.std.proofs.Common.{◌≡◌, ℕ, List, length, Option, Some, sym, subst, ◌∙◌, slice_get}
+use Rattle.std.proofs.lemmas.Option.{slice_get_within}
+use Rattle.entry_checks.specs.declared.error.EntryPointError.{EntryPointError}
+use Rattle.function_lower.specs.Question.{question}
+use Rattle.shader_check.proofs.ByChains.{ok_by_chains, ok_by_summaries}
+use Rattle.shader_check.proofs.Chained.{some_is}
+use Rattle.shader_check.proofs.EntryHeld.{one_entry_held}
+use Rattle.shader_check.proofs.EntrySteps.{entry_conditions, entry_known}
+use Rattle.shader_check.specs.JudgedEntries.{IsEntryAcceptedAt, IsEntryRefusedAt, IsWrong, conflicting, unaccepted, IsFirstEntryRefused}
+use Rattle.shader_check.specs.Validated.{IsEntryFault}
+use Rattle.shader_check.specs.declared.entries.InvalidEntryPoint.{InvalidEntryPoint}
+use Rattle.ir_flags.specs.declared.stages.ShaderStages.{ShaderStages}
+use Rattle.ir_items.specs.Plain.{PlainEntry, PlainFunction, PlainModule}
+use Rattle.module_handles.proofs.Whole.{order_gives_conditions}
+use Rattle.real_lower.specs.Readings.{reading_of, faults_of}
+use Rattle.spec_analysis.specs.Chains.{HasUse}
+use Rattle.spec_analysis.specs.Summaries.{Summary, AreSummaries, CalleesKnown}
+use Rattle.spec_entries.proofs.OneStages.{all_agree, allows_other}
+use Rattle.spec_entries.specs.Entries.{EntryOK}
+use Rattle.spec_entries.specs.Modules.{reading_with, AreStages, entry_settings, EntryAtOK, IsConflict}
+use Rattle.spec_functions.specs.Functions.{reading_over}
+use Rattle.spec_handles.specs.InOrder.{HandlesOK}
+use Rattle.spec_statements.specs.Functions.{FunctionSettings, FunctionOK, AllowsStage}
+use Rattle.spec_varyings.specs.Contexts.{stage_set}
+
+-- ---- functions
+
+module _ (stages : List ShaderStages) (s : FunctionSettings) (m : PlainModule) (f : PlainFunction) where
+  with_stages : FunctionOK (reading_over m f) s m f → FunctionOK (reading_with stages m f) s m f
+  with_stages ok = record {
+    arity = ok.arity;
+    analysed = ok.analysed;
+    forms = ok.forms;
+    typed = record { many = ok.typed.many; each = ok.typed.each };
+    interface = ok.interface;
+    expressions = ok.expressions;
+    body = ok.body;
+  }
+
+  without_stages : FunctionOK (reading_with stages m f) s m f → FunctionOK (reading_over m f) s m f
+  without_stages ok = record {
+    arity = ok.arity;
+    analysed = ok.analysed;
+    forms = ok.forms;
+    typed = record { many = ok.typed.many; each = ok.typed.each };
+    interface = ok.interface;
+    expressions = ok.expressions;
+    body = ok.body;
+  }
+
+-- ---- one entry point
+
+module _ (m : PlainModule) (e : PlainEntry) (summaries : List Summary) (stages : List ShaderStages) (known : CalleesKnown m e.function summaries) (s : FunctionSettings) (Uses : ℕ → ℕ → Type 0) where
+  runs_by_chains : (stage : ℕ) → AllowsStage (reading_of (question m e.function summaries stages)) s stages e.function stage → AllowsStage (reading_with stages m e.function) s stages e.function stage
+  runs_by_chains stage a = record { statements = a.statements; expressions = a.expressions }
+
+  runs_by_summaries : (stage : ℕ) → AllowsStage (reading_with stages m e.function) s stages e.function stage → AllowsStage (reading_of (question m e.function summaries stages)) s stages e.function stage
+  runs_by_summaries stage a = record { statements = a.statements; expressions = a.expressions }
+
+  pub entry_by_chains : EntryOK (reading_of (question m e.function summaries stages)) stages Uses s m e → EntryOK (reading_with stages m e.function) stages Uses s m e
+  entry_by_chains ok = record {
+    stage = ok.stage;
+    function = with_stages stages s m e.function (ok_by_chains m e.function summaries stages known s ok.function);
+    payload = ok.payload;
+    runs = runs_by_chains (stage_set e.stage).0 ok.runs;
+    connections = ok.connections;
+  }
+
+  pub entry_by_summaries : EntryOK (reading_with stages m e.function) stages Uses s m e → EntryOK (reading_of (question m e.function summaries stages)) stages Uses s m e
+  entry_by_summaries ok = record {
+    stage = ok.stage;
+    function = ok_by_summaries m e.function summaries stages known s (without_stages stages s m e.function ok.function);
+    payload = ok.payload;
+    runs = runs_by_summaries (stage_set e.stage).0 ok.runs;
+    connections = ok.connections;
+  }
+
+-- ---- all of them
+
+module _ (s : FunctionSettings) (m : PlainModule) (handles : HandlesOK m) (summaries : List Summary) (many : length summaries ≡ length m.functions) (known : AreSummaries m summaries)
+    (stages : List ShaderStages) (run : AreStages s m stages) where
+  pub accepted_at : (index : ℕ) → IsEntryAcceptedAt reading_of s m summaries stages index → EntryAtOK s m index
+  accepted_at index a = record {
+    entry = a.entry;
+    at = a.at;
+    held = a.held;
+    before = a.before;
+    stages = stages;
+    run = run;
+    apart = a.apart;
+    ok = entry_by_chains m a.entry summaries stages (entry_known m handles index a.entry a.at summaries many known) (entry_settings s a.held) (HasUse m a.entry.function) a.ok;
+  }
+
+  -- whichever stages are told of the functions
+  other_stages : (index : ℕ) (e : PlainEntry) → slice_get m.entries index ≡ Some e → (others : List ShaderStages) → AreStages s m others → (held : Option ℕ)
+      → EntryOK (reading_with others m e.function) others (HasUse m e.function) (entry_settings s held) m e → EntryOK (reading_with stages m e.function) stages (HasUse m e.function) (entry_settings s held) m e
+  other_stages index e at others these held ok = record {
+    stage = ok.stage;
+    function = with_stages stages (entry_settings s held) m e.function (without_stages others (entry_settings s held) m e.function ok.function);
+    payload = ok.payload;
+    runs = allows_other (length m.functions) e.function others stages (entry_conditions m handles index e at).callees
+        (all_agree s m (λ i f there. ((order_gives_conditions m handles).functions i f there).callees) others stages these run (length m.functions)) (entry_settings s held) m (stage_set e.stage).0 ok.runs;
+    connections = ok.connections;
+  }
+
+  -- what is judged to be accepted, with what is known of another
+  same_ok : (index : ℕ) (ok : EntryAtOK s m index) (e : PlainEntry) → slice_get m.entries index ≡ Some e → (held : Option ℕ) → ok.held ≡ held
+      → EntryOK (reading_of (question m e.function summaries stages)) stages (HasUse m e.function) (entry_settings s held) m e
+  same_ok index ok e at held same_held =
+      let same : ok.entry ≡ e = some_is (sym ok.at ∙ at) in
+      let moved = other_stages index ok.entry ok.at ok.stages ok.run ok.held ok.ok in
+      subst (λ h. EntryOK (reading_of (question m e.function summaries stages)) stages (HasUse m e.function) (entry_settings s h) m e) same_held
+      (subst (λ (g : PlainEntry). EntryOK (reading_of (question m g.function summaries stages)) stages (HasUse m g.function) (entry_settings s ok.held) m g) same
+      (entry_by_summaries m ok.entry summaries stages (entry_known m handles index ok.entry ok.at summaries many known) (entry_settings s ok.held) (HasUse m ok.entry.function) moved))
+
+  wrong_refutes : (index : ℕ) (ok : EntryAtOK s m index) (e : PlainEntry) → slice_get m.entries index ≡ Some e → (held : Option ℕ) → ok.held ≡ held → (x : EntryPointError)
+      → IsWrong reading_of faults_of s m summaries stages index e held x → ⊥
+  wrong_refutes index ok e at held same_held _ (conflicting c) = ok.apart (subst (λ (g : PlainEntry). IsConflict m index g) (some_is (sym at ∙ ok.at)) c)
+  wrong_refutes index ok e at held same_held _ (unaccepted refused) = refused.refused (same_ok index ok e at held same_held)
+
+  pub refused_at : (index : ℕ) (x : EntryPointError) → IsEntryRefusedAt reading_of faults_of s m summaries stages index x → ¬ EntryAtOK s m index
+  refused_at index x r ok = wrong_refutes index ok r.entry r.at r.held (one_entry_held s.flags m index ok.held r.held ok.before r.before) x r.wrong
+
+  pub entry_fault : (x : InvalidEntryPoint) → IsFirstEntryRefused reading_of faults_of s m summaries stages x → IsEntryFault s m x
+  entry_fault x r = record {
+    first = record {
+      within = slice_get_within m.entries x.index r.here.entry r.here.at;
+      before = λ i lt. accepted_at i (r.before i lt);
+      fails = refused_at x.index x.error r.here;
+    };
+    summaries = summaries;
+    known = known;
+    stages = stages;
+    run = run;
+    fault = r.here;
+  }

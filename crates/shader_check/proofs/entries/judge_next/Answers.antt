@@ -1,0 +1,57 @@
+use Rattle.std.proofs.Common.{◌∙◌, map}
+use Rattle.std.proofs.lemmas.List.{length-map}
+use Rattle.shader_check.proofs.EntrySteps.{entry_conditions, entry_known, judged_more, payload_there, output_there, told_entry}
+use Rattle.shader_check.proofs.Placed.{item_there}
+use Rattle.shader_check.specs.Settings.{settings_in}
+use Rattle.ir_items.specs.View.{entry_view, module_view}
+use Rattle.module_handles.proofs.Whole.{order_gives_conditions}
+use Rattle.shader_check.proofs.entries.judge_next.Goals as goal
+
+pub validate_entry_point-requires-clause-handles : goal.validate_entry_point-requires-clause-handles
+validate_entry_point-requires-clause-handles g c =
+    let m = c.args.«module».now in
+    (entry_conditions (module_view m) c.requires.handles c.args.index (entry_view c.index.result.now) (item_there entry_view m.entry_points.items c.args.index c.requires.within c.index.result.now c.index.ensures)).in_range
+
+pub validate_entry_point-requires-clause-precede : goal.validate_entry_point-requires-clause-precede
+validate_entry_point-requires-clause-precede g c =
+    let m = c.args.«module».now in
+    (entry_conditions (module_view m) c.requires.handles c.args.index (entry_view c.index.result.now) (item_there entry_view m.entry_points.items c.args.index c.requires.within c.index.result.now c.index.ensures)).operands
+
+pub validate_entry_point-requires-clause-parents : goal.validate_entry_point-requires-clause-parents
+validate_entry_point-requires-clause-parents g c = (order_gives_conditions (module_view c.args.«module».now) c.requires.handles).filters
+
+pub validate_entry_point-requires-clause-payload : goal.validate_entry_point-requires-clause-payload
+validate_entry_point-requires-clause-payload g c =
+    let m = c.args.«module».now in
+    payload_there (module_view m) c.requires.handles c.args.index (entry_view c.index.result.now) (item_there entry_view m.entry_points.items c.args.index c.requires.within c.index.result.now c.index.ensures)
+
+pub validate_entry_point-requires-clause-output : goal.validate_entry_point-requires-clause-output
+validate_entry_point-requires-clause-output g c =
+    let m = c.args.«module».now in
+    output_there (module_view m) c.requires.handles c.args.index (entry_view c.index.result.now) (item_there entry_view m.entry_points.items c.args.index c.requires.within c.index.result.now c.index.ensures)
+
+pub validate_entry_point-requires-clause-known : goal.validate_entry_point-requires-clause-known
+validate_entry_point-requires-clause-known g c =
+    let m = c.args.«module».now in
+    let summary = g.L.Lower.summary c.args.validator.now.lower in
+    entry_known (module_view m) c.requires.handles c.args.index (entry_view c.index.result.now) (item_there entry_view m.entry_points.items c.args.index c.requires.within c.index.result.now c.index.ensures)
+    (map summary c.args.callees.now) (length-map c.args.callees.now summary ∙ c.requires.many) c.requires.known
+
+pub returns-in-Ok : goal.returns-in-Ok
+returns-in-Ok g c =
+    let v = c.args.validator.now in
+    let m = c.args.«module».now in
+    let summary = g.L.Lower.summary v.lower in
+    let at = item_there entry_view m.entry_points.items c.args.index c.requires.within c.index.result.now c.index.ensures in
+    judged_more (module_view m) c.requires.handles c.args.index (entry_view c.index.result.now) at (g.L.Lower.reading v.lower) (g.L.Lower.faults v.lower) (settings_in v) (map summary c.args.callees.now)
+    (map (g.L.Lower.noted v.lower) c.args.callees.now) (map summary c.args.kept.now) c.args.held c.requires.before (c.requires.apart (entry_view c.index.result.now) at) (summary c.in-Ok.validated.info)
+    (g.L.Lower.noted v.lower c.in-Ok.validated.info) (g.L.Lower.blending v.lower c.in-Ok.validated.info) c.in-Ok.validated.held c.in-Ok.ensures
+
+pub returns-in-Err : goal.returns-in-Err
+returns-in-Err g c =
+    let v = c.args.validator.now in
+    let m = c.args.«module».now in
+    let summary = g.L.Lower.summary v.lower in
+    let at = item_there entry_view m.entry_points.items c.args.index c.requires.within c.index.result.now c.index.ensures in
+    told_entry (module_view m) c.requires.handles c.args.index (entry_view c.index.result.now) at (g.L.Lower.reading v.lower) (g.L.Lower.faults v.lower) (settings_in v) (map summary c.args.callees.now)
+    (map (g.L.Lower.noted v.lower) c.args.callees.now) (map summary c.args.kept.now) c.args.held c.requires.before c.in-Err.refusal c.refusal_at.result c.refusal_at.ensures c.in-Err.ensures

@@ -1,0 +1,38 @@
+use Rattle.std.proofs.Common.{None, false, map}
+use Rattle.shader_check.proofs.Chained.{conditions_at, judged_more, told_refusal}
+use Rattle.shader_check.proofs.Placed.{view_there}
+use Rattle.shader_check.specs.Settings.{settings_for}
+use Rattle.ir_items.specs.View.{function_view, module_view}
+use Rattle.module_handles.proofs.Whole.{order_gives_conditions}
+use Rattle.shader_check.proofs.functions.judge_next.Goals as goal
+
+pub validate_function-requires-clause-handles : goal.validate_function-requires-clause-handles
+validate_function-requires-clause-handles g c =
+    let m = c.args.«module».now in
+    (conditions_at (module_view m) c.requires.handles c.args.handle (function_view c.index.result.now) (view_there m.functions c.args.handle c.index.result.now c.index.ensures function_view)).in_range
+
+pub validate_function-requires-clause-precede : goal.validate_function-requires-clause-precede
+validate_function-requires-clause-precede g c =
+    let m = c.args.«module».now in
+    (conditions_at (module_view m) c.requires.handles c.args.handle (function_view c.index.result.now) (view_there m.functions c.args.handle c.index.result.now c.index.ensures function_view)).operands
+
+pub validate_function-requires-clause-parents : goal.validate_function-requires-clause-parents
+validate_function-requires-clause-parents g c = (order_gives_conditions (module_view c.args.«module».now) c.requires.handles).filters
+
+pub returns-in-Ok : goal.returns-in-Ok
+returns-in-Ok g c =
+    let v = c.args.validator.now in
+    let m = c.args.«module».now in
+    let s = settings_for v.flags v.capabilities v.operations v.stages false None in
+    let at = view_there m.functions c.args.handle c.index.result.now c.index.ensures function_view in
+    judged_more (module_view m) c.requires.handles (g.L.Lower.reading v.lower) s c.args.handle (map (g.L.Lower.summary v.lower) c.args.infos.now) (map (g.L.Lower.noted v.lower) c.args.infos.now) c.args.held c.requires.before (function_view c.index.result.now) at
+    (g.L.Lower.summary v.lower c.in-Ok.validated.info) (g.L.Lower.noted v.lower c.in-Ok.validated.info) c.in-Ok.validated.held c.in-Ok.ensures.accepted c.in-Ok.ensures.chains c.in-Ok.ensures.stages c.in-Ok.ensures.held
+
+pub returns-in-Err : goal.returns-in-Err
+returns-in-Err g c =
+    let v = c.args.validator.now in
+    let m = c.args.«module».now in
+    let s = settings_for v.flags v.capabilities v.operations v.stages false None in
+    let at = view_there m.functions c.args.handle c.index.result.now c.index.ensures function_view in
+    told_refusal (module_view m) c.requires.handles (g.L.Lower.reading v.lower) s c.args.handle (map (g.L.Lower.summary v.lower) c.args.infos.now) (map (g.L.Lower.noted v.lower) c.args.infos.now) c.args.held c.requires.before (function_view c.index.result.now) at
+    (g.L.Lower.faults v.lower) c.in-Err.refusal c.refusal_at.result c.refusal_at.ensures c.in-Err.ensures.refused c.in-Err.ensures.fault

@@ -1,0 +1,46 @@
+use Rattle.std.proofs.Common.{sym, subst}
+use Rattle.shader_check.proofs.Assembled.{fault_behind, made_of, told_by, validated, widened}
+use Rattle.shader_check.specs.Settings.{settings_in}
+use Rattle.shader_check.specs.Validated.{IsFaultBehind, IsKeptWith, IsRefusedWith, IsValidationFault, module_settings}
+use Rattle.shader_check.specs.declared.error.ValidationError.TheVariants as error
+use Rattle.ir_items.specs.View.{module_view}
+use Rattle.module_info.specs.declared.info.ModuleInfo.{ModuleInfo}
+use Rattle.module_validator.specs.Faults.{IsModuleFault}
+use Rattle.module_validator.specs.Refusals.{IsVariableFault}
+use Rattle.real_lower.specs.Made.{IsMadeOf}
+use Rattle.spec_statements.specs.Functions.{FunctionSettings}
+use Rattle.shader_check.proofs.whole.judge.Goals as goal
+
+pub judge_behind-requires : goal.judge_behind-requires
+judge_behind-requires c =
+    let m = module_view c.args.«module».now in
+    record { made = subst (IsMadeOf m) (sym c.over.ensures.info) (made_of (settings_in c.args.validator.now) c.args.resolved m c.in-Ok.info c.in-Ok.ensures.accepted c.in-Ok.ensures.told) }
+
+pub returns-in-Err : goal.returns-in-Err
+returns-in-Err c =
+    let s = settings_in c.args.validator.now in
+    let m = module_view c.args.«module».now in
+    told_by error.Module (IsModuleFault (module_settings s c.args.resolved) m) (IsValidationFault s c.args.resolved m) (λ x h. h) c.in-Err.refusal c.module_refusal.result c.module_refusal.ensures c.in-Err.ensures.refused
+
+pub returns-in-Err-judge_variables : goal.returns-in-Err-judge_variables
+returns-in-Err-judge_variables c =
+    let s = settings_in c.args.validator.now in
+    let m = module_view c.args.«module».now in
+    told_by error.GlobalVariable (IsVariableFault s.flags s.capabilities m) (IsValidationFault s c.args.resolved m) (λ x h. (c.in-Ok.ensures.accepted, h)) c.in-Err-judge_variables.refusal c.global_refusal.result
+    c.global_refusal.ensures c.in-Err-judge_variables.ensures.refused
+
+pub returns-in-Ok-judge_behind : goal.returns-in-Ok-judge_behind
+returns-in-Ok-judge_behind c =
+    let s = settings_in c.args.validator.now in
+    let m = module_view c.args.«module».now in
+    let info = c.in-Ok-judge_behind.info in
+    let over = subst (λ (z : FunctionSettings). IsKeptWith z m c.over.result.lower.info info) c.over.ensures.settings c.in-Ok-judge_behind.ensures in
+    validated s c.args.resolved m c.in-Ok.ensures.accepted c.in-Ok-judge_variables.ensures.accepted c.in-Ok.info info c.in-Ok.ensures.told (subst (λ (i : ModuleInfo). IsKeptWith s m i info) c.over.ensures.info over)
+
+pub returns-in-Err-judge_behind : goal.returns-in-Err-judge_behind
+returns-in-Err-judge_behind c =
+    let s = settings_in c.args.validator.now in
+    let m = module_view c.args.«module».now in
+    let refusal = c.in-Err-judge_behind.refusal in
+    widened (IsFaultBehind s m) (IsValidationFault s c.args.resolved m) (fault_behind s c.args.resolved m c.in-Ok.ensures.accepted c.in-Ok-judge_variables.ensures.accepted) refusal
+    (subst (λ (z : FunctionSettings). IsRefusedWith (IsFaultBehind z m) refusal) c.over.ensures.settings c.in-Err-judge_behind.ensures)

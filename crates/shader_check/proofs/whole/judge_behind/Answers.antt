@@ -1,0 +1,68 @@
+use Rattle.std.proofs.Common.{◌∙◌, List, length, map, sym, ap, subst}
+use Rattle.std.proofs.lemmas.List.{length-map}
+use Rattle.analysis_info.specs.Infos.{summary_of}
+use Rattle.analysis_info.specs.declared.function_info.FunctionInfo.{FunctionInfo}
+use Rattle.shader_check.proofs.Assembled.{entries_kept, entry_refused, told_by}
+use Rattle.shader_check.proofs.EntryHeld.{held_behind_functions}
+use Rattle.shader_check.proofs.FunctionKept.{kept, refused_by}
+use Rattle.shader_check.specs.Chains.{AreKept, IsFunctionFault}
+use Rattle.shader_check.specs.JudgedEntries.{AreEntriesJudged, IsEntryRefusal}
+use Rattle.shader_check.specs.Settings.{settings_in}
+use Rattle.shader_check.specs.Validated.{AreEntriesKept, IsEntryFault, IsFaultBehind}
+use Rattle.shader_check.specs.declared.error.ValidationError.TheVariants as error
+use Rattle.ir_items.specs.View.{module_view}
+use Rattle.module_info.specs.declared.info.ModuleInfo.{ModuleInfo}
+use Rattle.real_lower.specs.Readings.{reading_of, faults_of}
+use Rattle.spec_analysis.specs.Summaries.{AreSummaries}
+use Rattle.shader_check.proofs.whole.judge_behind.Goals as goal
+
+pub judge_all-requires-clause-handles : goal.judge_all-requires-clause-handles
+judge_all-requires-clause-handles c = c.requires.made.handles
+
+pub judge_entries-requires-clause-handles : goal.judge_entries-requires-clause-handles
+judge_entries-requires-clause-handles c = c.requires.made.handles
+
+pub judge_entries-requires-clause-many : goal.judge_entries-requires-clause-many
+judge_entries-requires-clause-many c = ap length c.deref.ensures.value ∙ (sym (length-map c.in-Ok.functions.infos.items summary_of) ∙ c.in-Ok.ensures.many)
+
+pub judge_entries-requires-clause-known : goal.judge_entries-requires-clause-known
+judge_entries-requires-clause-known c = subst (λ (xs : List FunctionInfo). AreSummaries (module_view c.args.«module».now) (map summary_of xs)) (sym c.deref.ensures.value) c.in-Ok.ensures.known
+
+pub judge_entries-requires-clause-before : goal.judge_entries-requires-clause-before
+judge_entries-requires-clause-before c = held_behind_functions c.args.own.flags (module_view c.args.«module».now) c.in-Ok.functions.held c.in-Ok.ensures.payloads
+
+pub returns-in-Err : goal.returns-in-Err
+returns-in-Err c =
+    let s = settings_in c.args.own in
+    let m = module_view c.args.«module».now in
+    told_by error.Function (IsFunctionFault s m) (IsFaultBehind s m) (λ x h. h) c.in-Err.refusal c.function_refusal.result c.function_refusal.ensures (refused_by s m c.in-Err.refusal c.in-Err.ensures)
+
+pub returns-in-Ok-judge_entries : goal.returns-in-Ok-judge_entries
+returns-in-Ok-judge_entries c =
+    let s = settings_in c.args.own in
+    let m = module_view c.args.«module».now in
+    let stages = λ (i : FunctionInfo). i.available_stages in
+    let functions = c.in-Ok.functions.infos.items in
+    let entries = c.in-Ok-judge_entries.entries in
+    let judged = subst (λ (xs : List FunctionInfo). AreEntriesJudged reading_of s m (map summary_of xs) (map stages xs) (length m.entries) (map summary_of entries.infos.items) entries.held) c.deref.ensures.value c.in-Ok-judge_entries.ensures in
+    let with = c.with_entry_points.ensures in
+    let own = c.with_functions-info.ensures in
+    let given = c.into_info.ensures in
+    record {
+      functions = subst (λ v. AreKept s m (map summary_of v.items)) (sym (with.functions ∙ own.functions)) (kept s m (map summary_of functions) (map stages functions) c.in-Ok.functions.held c.in-Ok.ensures);
+      entries = subst (λ v. AreEntriesKept s m (map summary_of v.items)) (sym with.entry_points)
+          (entries_kept s m c.requires.made.handles (map summary_of functions) (map stages functions) c.in-Ok.functions.held c.in-Ok.ensures (map summary_of entries.infos.items) entries.held judged);
+      types = with.types ∙ (own.types ∙ ap (λ (i : ModuleInfo). i.types) given);
+      layouts = with.layouts ∙ (own.layouts ∙ ap (λ (i : ModuleInfo). i.layouter) given);
+      expressions = with.expressions ∙ (own.expressions ∙ ap (λ (i : ModuleInfo). i.const_expression_types) given);
+    }
+
+pub returns-in-Err-judge_entries : goal.returns-in-Err-judge_entries
+returns-in-Err-judge_entries c =
+    let s = settings_in c.args.own in
+    let m = module_view c.args.«module».now in
+    let stages = λ (i : FunctionInfo). i.available_stages in
+    let functions = c.in-Ok.functions.infos.items in
+    let refused = subst (λ (xs : List FunctionInfo). IsEntryRefusal reading_of faults_of s m (map summary_of xs) (map stages xs) c.in-Err-judge_entries.refusal) c.deref.ensures.value c.in-Err-judge_entries.ensures in
+    told_by error.EntryPoint (IsEntryFault s m) (IsFaultBehind s m) (λ x h. ((kept s m (map summary_of functions) (map stages functions) c.in-Ok.functions.held c.in-Ok.ensures).accepted, h)) c.in-Err-judge_entries.refusal c.entry_refusal.result c.entry_refusal.ensures
+    (entry_refused s m c.requires.made.handles (map summary_of functions) (map stages functions) c.in-Ok.functions.held c.in-Ok.ensures c.in-Err-judge_entries.refusal refused)

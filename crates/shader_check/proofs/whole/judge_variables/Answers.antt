@@ -1,0 +1,12 @@
+use Rattle.shader_check.proofs.Assembled.{if_err_as, variables_refused}
+use Rattle.shader_check.specs.Validated.{IsRefusedWith}
+use Rattle.ir_items.specs.View.{module_view}
+use Rattle.module_validator.specs.Refusals as variables
+use Rattle.module_validator.specs.Refusals.{IsVariableFault}
+use Rattle.shader_check.proofs.whole.judge_variables.Goals as goal
+
+pub returns-clause-refused : goal.returns-clause-refused
+returns-clause-refused c =
+    let v = c.args.validator.now in
+    let m = module_view c.args.«module».now in
+    if_err_as (variables.IsRefusal v.flags v.capabilities m) (IsRefusedWith (IsVariableFault v.flags v.capabilities m)) (variables_refused v.flags v.capabilities m) c.validate_globals.result c.validate_globals.ensures.refused

@@ -1,0 +1,79 @@
+-- What is said of the entry points of a module that are judged one after the other.
+use Rattle.std.specs.Prelude.{◌≡◌, ◌<◌, ℕ, [], List, length, Option, Some, slice_get}
+use Rattle.entry_checks.specs.declared.error.EntryPointError.{EntryPointError}
+use Rattle.entry_checks.specs.declared.error.EntryPointError.TheVariants.{Conflict}
+use Rattle.function_lower.specs.Analysis.{Faults}
+use Rattle.function_lower.specs.Question.{Question, question}
+use Rattle.function_validator.specs.EntryFaults.{IsRefusedAs}
+use Rattle.function_validator.specs.Validated.{IsEntrySummary}
+use Rattle.shader_check.specs.declared.entries.InvalidEntryPoint.{InvalidEntryPoint}
+use Rattle.ir_faults.specs.Faults.{error_of, spans_of}
+use Rattle.ir_faults.specs.declared.refusal.Refusal.{Refusal}
+use Rattle.ir_faults.specs.declared.refusal.Refusal.TheVariants as refusal
+use Rattle.ir_flags.specs.declared.stages.ShaderStages.{ShaderStages}
+use Rattle.ir_items.specs.Plain.{PlainEntry, PlainModule}
+use Rattle.spec_analysis.specs.Chains.{HasUse}
+use Rattle.spec_analysis.specs.Summaries.{Summary}
+use Rattle.spec_entries.specs.Entries.{EntryOK}
+use Rattle.spec_entries.specs.Held.{IsHeldBeforeEntry}
+use Rattle.spec_entries.specs.Modules.{IsConflict, entry_settings}
+use Rattle.spec_statements.specs.Functions.{Reading, FunctionSettings}
+
+-- what is read of an entry point's function, where these are the summaries of the module's functions and these stages may run them
+abbrev pub reading_at : (Question → Reading) → PlainModule → List Summary → List ShaderStages → PlainEntry → Reading
+reading_at reading m summaries stages e = reading (question m e.function summaries stages)
+
+-- The entry point at an index meets the rules of entry points, read so, and none before it has its stage and its name.
+pub record IsEntryAcceptedAt (reading : Question → Reading) (s : FunctionSettings) (m : PlainModule) (summaries : List Summary) (stages : List ShaderStages) (index : ℕ) : Type 0 where
+  pub entry : PlainEntry
+  pub at : slice_get m.entries index ≡ Some entry
+  pub held : Option ℕ
+  pub before : IsHeldBeforeEntry s.flags m index held
+  pub apart : ¬ IsConflict m index entry
+  pub ok : EntryOK (reading_at reading m summaries stages entry) stages (HasUse m entry.function) (entry_settings s held) m entry
+
+-- An earlier one has its stage and its name, or it does not meet the rules: this is wrong with it.
+pub data IsWrong (reading : Question → Reading) (faults : Question → Faults) (s : FunctionSettings) (m : PlainModule) (summaries : List Summary) (stages : List ShaderStages) (index : ℕ) (e : PlainEntry) (held : Option ℕ) : EntryPointError → Type 0 where
+  conflicting : IsConflict m index e → IsWrong reading faults s m summaries stages index e held Conflict
+  unaccepted : {x : EntryPointError} → IsRefusedAs (reading_at reading m summaries stages e) (faults (question m e.function summaries stages)) stages (HasUse m e.function) (entry_settings s held) m e x
+      → IsWrong reading faults s m summaries stages index e held x
+
+pub record IsEntryRefusedAt (reading : Question → Reading) (faults : Question → Faults) (s : FunctionSettings) (m : PlainModule) (summaries : List Summary) (stages : List ShaderStages) (index : ℕ) (x : EntryPointError) : Type 0 where
+  pub entry : PlainEntry
+  pub at : slice_get m.entries index ≡ Some entry
+  pub held : Option ℕ
+  pub before : IsHeldBeforeEntry s.flags m index held
+  pub wrong : IsWrong reading faults s m summaries stages index entry held x
+
+-- these are the summaries of the first entry points
+abbrev pub AreEntrySummaries : PlainModule → List Summary → Type 0
+AreEntrySummaries m kept = (index : ℕ) (e : PlainEntry) (t : Summary) → slice_get m.entries index ≡ Some e → slice_get kept index ≡ Some t → IsEntrySummary m e t
+
+-- The first so many entry points are accepted; these summaries are theirs, and this type of payloads is held after them.
+pub record AreEntriesJudged (reading : Question → Reading) (s : FunctionSettings) (m : PlainModule) (summaries : List Summary) (stages : List ShaderStages) (count : ℕ) (kept : List Summary) (held : Option ℕ) : Type 0 where
+  pub accepted : (index : ℕ) → index < count → IsEntryAcceptedAt reading s m summaries stages index
+  pub many : length kept ≡ count
+  pub known : AreEntrySummaries m kept
+  pub payloads : IsHeldBeforeEntry s.flags m count held
+
+-- The entry point is refused for this, and each before it is accepted.
+pub record IsFirstEntryRefused (reading : Question → Reading) (faults : Question → Faults) (s : FunctionSettings) (m : PlainModule) (summaries : List Summary) (stages : List ShaderStages) (e : InvalidEntryPoint) : Type 0 where
+  pub before : (index : ℕ) → index < e.index → IsEntryAcceptedAt reading s m summaries stages index
+  pub here : IsEntryRefusedAt reading faults s m summaries stages e.index e.error
+
+-- a refusal tells the same as that of the entry point at an index
+abbrev pub IsEntryToldAt : (index : ℕ) → Refusal EntryPointError → Refusal InvalidEntryPoint → Type 0
+IsEntryToldAt index (refusal.Memory e) (refusal.Memory d) = Unit {0}
+IsEntryToldAt index (refusal.Memory e) (refusal.Fault g) = ⊥
+IsEntryToldAt index (refusal.Fault f) (refusal.Memory d) = ⊥
+IsEntryToldAt index (refusal.Fault f) (refusal.Fault g) = ((error_of g).index ≡ index) × ((error_of g).error ≡ error_of f) × (spans_of g ≡ [])
+
+-- memory ran out, or it tells that the entry point at an index has the name of an earlier one
+abbrev pub IsConflictTold : (index : ℕ) → (conflict : Type 0) → Refusal InvalidEntryPoint → Type 0
+IsConflictTold index conflict (refusal.Memory e) = Unit {0}
+IsConflictTold index conflict (refusal.Fault g) = conflict × ((error_of g).index ≡ index) × ((error_of g).error ≡ Conflict) × (spans_of g ≡ [])
+
+-- memory ran out, or the first entry point that is refused is told
+abbrev pub IsEntryRefusal : (Question → Reading) → (Question → Faults) → FunctionSettings → PlainModule → List Summary → List ShaderStages → Refusal InvalidEntryPoint → Type 0
+IsEntryRefusal reading faults s m summaries stages (refusal.Memory e) = Unit {0}
+IsEntryRefusal reading faults s m summaries stages (refusal.Fault e) = IsFirstEntryRefused reading faults s m summaries stages (error_of e) × (spans_of e ≡ [])

@@ -1,0 +1,165 @@
+//! All entry points of a module, one after the other.
+
+ghost use Rattle.std.specs.Prelude.{◌≡◌, ◌<◌, ◌+◌, ◌++◌, ◌∷◌, [], MatchResult, OnOk, Some, length, map, slice_get};
+ghost use Rattle.function_validator.specs.Names.{AreNamesBelow};
+ghost use Rattle.shader_check.specs.JudgedEntries.{AreEntriesJudged, IsConflictTold, IsEntryRefusal, IsEntryToldAt};
+ghost use Rattle.shader_check.specs.Settings.{settings_in};
+ghost use Rattle.ir_items.specs.Plain.{PlainEntry};
+ghost use Rattle.ir_items.specs.View.{module_view};
+ghost use Rattle.spec_analysis.specs.Summaries.{AreSummaries};
+ghost use Rattle.spec_entries.specs.Held.{IsHeldBeforeEntry};
+ghost use Rattle.spec_entries.specs.Modules.{IsConflict};
+ghost use Rattle.spec_handles.specs.InOrder.{HandlesOK};
+
+use crate::functions::Judged;
+use crate::validator::Validator;
+use entry_checks::EntryPointError;
+use function_lower::Lower;
+use function_validator::{FunctionSettings, SeenNames, Validated, validate_entry_point};
+use ir_arena::handle::Handle;
+use ir_faults::refusal::Refusal;
+use ir_faults::with_span::WithSpan;
+use ir_items::{EntryPoint, Module};
+use ir_types::key;
+use std::alloc::Global;
+use thiserror::Error;
+
+/// An entry point that is refused (naga's `ValidationError::EntryPoint`).
+#[derive(PartialEq, Debug, Drop, Error)]
+#[error("entry point {index} is refused: {error}")]
+pub struct InvalidEntryPoint {
+    /// Its index among the module's entry points.
+    pub index: usize,
+    /// What is wrong with it.
+    pub error: EntryPointError,
+}
+
+// The refusal of the entry point at an index, as one of all entry points.
+fn refusal_at(
+    alloc: Global,
+    index: usize,
+    refusal: Refusal<EntryPointError>,
+) -> Refusal<InvalidEntryPoint>
+    ensures { IsEntryToldAt index refusal result }
+{
+    match refusal {
+        Refusal::Memory(error) => Refusal::Memory(error),
+        Refusal::Fault(fault) => Refusal::Fault(WithSpan::new(
+            alloc,
+            InvalidEntryPoint {
+                index,
+                error: fault.into_inner(),
+            },
+        )),
+    }
+}
+
+// Whether no earlier entry point has the stage and the name of the one at an index, which are noted.
+fn check_name(
+    alloc: Global,
+    module: &Module,
+    names: &mut SeenNames,
+    index: usize,
+) -> Result<(), Refusal<InvalidEntryPoint>>
+    requires within { index < length (module_view «module».now).entries }
+    requires before { AreNamesBelow (module_view «module».now) index names.old }
+    ensures apart { MatchResult result
+        (λ _. (e : PlainEntry) → slice_get (module_view «module».now).entries index ≡ Some e → ¬ IsConflict (module_view «module».now) index e)
+        (IsConflictTold index ((e : PlainEntry) → slice_get (module_view «module».now).entries index ≡ Some e → IsConflict (module_view «module».now) index e)) }
+    ensures noted { OnOk result (AreNamesBelow (module_view «module».now) (index + 1) names.new) }
+{
+    match names.note(alloc, &module.entry_points[index]) {
+        Ok(true) => Ok(()),
+        Ok(false) => Err(Refusal::Fault(WithSpan::new(
+            alloc,
+            InvalidEntryPoint {
+                index,
+                error: EntryPointError::Conflict,
+            },
+        ))),
+        Err(error) => Err(Refusal::Memory(error)),
+    }
+}
+
+// What is kept of the entry point at an index, where this is kept of the functions and this type of payloads is held.
+fn judge_next<L: Lower>(
+    validator: &Validator<L>,
+    module: &Module,
+    index: usize,
+    callees: &[L::Info],
+    kept: &[L::Info],
+    held: Option<Handle<key::IrType>>,
+) -> Result<Validated<L::Info>, Refusal<InvalidEntryPoint>>
+    requires made { L.is_for validator.now.lower (module_view «module».now) }
+    requires handles { HandlesOK (module_view «module».now) }
+    requires within { index < length (module_view «module».now).entries }
+    requires many { length callees.now ≡ length (module_view «module».now).functions }
+    requires known { AreSummaries (module_view «module».now) (map (L.summary validator.now.lower) callees.now) }
+    requires apart { (e : PlainEntry) → slice_get (module_view «module».now).entries index ≡ Some e → ¬ IsConflict (module_view «module».now) index e }
+    requires before { AreEntriesJudged (L.reading validator.now.lower) (settings_in validator.now) (module_view «module».now) (map (L.summary validator.now.lower) callees.now) (map (L.noted validator.now.lower) callees.now) index (map (L.summary validator.now.lower) kept.now) held }
+    ensures { let summaries = map (L.summary validator.now.lower) callees.now in
+        let stages = map (L.noted validator.now.lower) callees.now in
+        MatchResult result
+        (λ v. AreEntriesJudged (L.reading validator.now.lower) (settings_in validator.now) (module_view «module».now) summaries stages (index + 1) (map (L.summary validator.now.lower) kept.now ++ L.summary validator.now.lower v.info ∷ []) v.held)
+        (IsEntryRefusal (L.reading validator.now.lower) (L.faults validator.now.lower) (settings_in validator.now) (module_view «module».now) summaries stages) }
+{
+    let settings = FunctionSettings {
+        flags: validator.flags,
+        capabilities: validator.capabilities,
+        operations: validator.operations,
+        subgroup_stages: validator.stages,
+        entry: true,
+        held,
+    };
+    let alloc = validator.alloc;
+    match validate_entry_point(
+        &validator.lower,
+        alloc,
+        &settings,
+        module,
+        &module.entry_points[index],
+        callees,
+    ) {
+        Ok(validated) => Ok(validated),
+        Err(refusal) => Err(refusal_at(alloc, index, refusal)),
+    }
+}
+
+// What is kept of all entry points of a module, where this is kept of its functions and this type of payloads is held after them.
+pub(crate) fn judge_entries<L: Lower>(
+    validator: &Validator<L>,
+    module: &Module,
+    callees: &[L::Info],
+    held: Option<Handle<key::IrType>>,
+) -> Result<Judged<L::Info>, Refusal<InvalidEntryPoint>>
+    requires made { L.is_for validator.now.lower (module_view «module».now) }
+    requires handles { HandlesOK (module_view «module».now) }
+    requires many { length callees.now ≡ length (module_view «module».now).functions }
+    requires known { AreSummaries (module_view «module».now) (map (L.summary validator.now.lower) callees.now) }
+    requires before { IsHeldBeforeEntry validator.now.flags (module_view «module».now) 0 held }
+    ensures { let summaries = map (L.summary validator.now.lower) callees.now in
+        let stages = map (L.noted validator.now.lower) callees.now in
+        MatchResult result
+        (λ j. AreEntriesJudged (L.reading validator.now.lower) (settings_in validator.now) (module_view «module».now) summaries stages (length (module_view «module».now).entries) (map (L.summary validator.now.lower) j.infos.items) j.held)
+        (IsEntryRefusal (L.reading validator.now.lower) (L.faults validator.now.lower) (settings_in validator.now) (module_view «module».now) summaries stages) }
+{
+    let alloc = validator.alloc;
+    let count = module.entry_points.len();
+    let mut infos = Vec::with_capacity(alloc, count)?;
+    let mut held = held;
+    let mut names = SeenNames::new(alloc);
+    for index in 0..count {
+        match check_name(alloc, module, &mut names, index) {
+            Ok(()) => {}
+            Err(refusal) => return Err(refusal),
+        }
+        match judge_next(validator, module, index, callees, &infos, held) {
+            Ok(validated) => {
+                infos.push(validated.info)?;
+                held = validated.held;
+            }
+            Err(refusal) => return Err(refusal),
+        }
+    }
+    Ok(Judged { infos, held })
+}

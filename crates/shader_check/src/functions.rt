@@ -1,0 +1,123 @@
+//! All functions of a module, one after the other.
+
+ghost use Rattle.std.specs.Prelude.{◌≡◌, ◌<◌, ◌+◌, ◌++◌, ◌∷◌, [], MatchResult, false, length, map};
+ghost use Rattle.shader_check.specs.Judged.{AreJudged, IsToldAt, IsRefusal};
+ghost use Rattle.shader_check.specs.Settings.{settings_for};
+ghost use Rattle.ir_items.specs.View.{module_view};
+ghost use Rattle.spec_handles.specs.InOrder.{HandlesOK};
+
+use crate::validator::Validator;
+use error_functions::FunctionError;
+use function_lower::Lower;
+use function_validator::{FunctionSettings, Validated, validate_function};
+use ir_arena::handle::Handle;
+use ir_faults::refusal::Refusal;
+use ir_faults::with_span::WithSpan;
+use ir_items::Module;
+use ir_types::key;
+use std::alloc::Global;
+use thiserror::Error;
+
+/// A function that is refused (naga's `ValidationError::Function`).
+#[derive(PartialEq, Debug, Drop, Error)]
+#[error("function {function:?} is refused: {error}")]
+pub struct InvalidFunction {
+    /// The function.
+    pub function: Handle<key::Function>,
+    /// What is wrong with it.
+    pub error: FunctionError,
+}
+
+// What is kept of all functions, and the type of their payloads, if one has any.
+#[derive(Drop)]
+pub(crate) struct Judged<I> {
+    pub(crate) infos: Vec<I>,
+    pub(crate) held: Option<Handle<key::IrType>>,
+}
+
+// The refusal of the function at a handle, as one of all functions.
+fn refusal_at(
+    alloc: Global,
+    handle: Handle<key::Function>,
+    refusal: Refusal<FunctionError>,
+) -> Refusal<InvalidFunction>
+    ensures { IsToldAt handle refusal result }
+{
+    match refusal {
+        Refusal::Memory(error) => Refusal::Memory(error),
+        Refusal::Fault(fault) => Refusal::Fault(WithSpan::new(
+            alloc,
+            InvalidFunction {
+                function: handle,
+                error: fault.into_inner(),
+            },
+        )),
+    }
+}
+
+// The answer on the function at a handle, where this is kept of those before it and this type of payloads is held.
+fn judge_next<L: Lower>(
+    validator: &Validator<L>,
+    module: &Module,
+    handle: Handle<key::Function>,
+    infos: &[L::Info],
+    held: Option<Handle<key::IrType>>,
+) -> Result<Validated<L::Info>, Refusal<InvalidFunction>>
+    requires made { L.is_for validator.now.lower (module_view «module».now) }
+    requires handles { HandlesOK (module_view «module».now) }
+    requires within { handle < length (module_view «module».now).functions }
+    requires before { AreJudged (L.reading validator.now.lower) (settings_for validator.now.flags validator.now.capabilities validator.now.operations validator.now.stages false None) (module_view «module».now) handle (map (L.summary validator.now.lower) infos.now) (map (L.noted validator.now.lower) infos.now) held }
+    ensures { let s = settings_for validator.now.flags validator.now.capabilities validator.now.operations validator.now.stages false None in
+        MatchResult result
+        (λ v. AreJudged (L.reading validator.now.lower) s (module_view «module».now) (handle + 1) (map (L.summary validator.now.lower) infos.now ++ L.summary validator.now.lower v.info ∷ [])
+        (map (L.noted validator.now.lower) infos.now ++ L.noted validator.now.lower v.info ∷ []) v.held)
+        (IsRefusal (L.reading validator.now.lower) (L.faults validator.now.lower) s (module_view «module».now)) }
+{
+    let settings = FunctionSettings {
+        flags: validator.flags,
+        capabilities: validator.capabilities,
+        operations: validator.operations,
+        subgroup_stages: validator.stages,
+        entry: false,
+        held,
+    };
+    let alloc = validator.alloc;
+    match validate_function(
+        &validator.lower,
+        alloc,
+        &settings,
+        module,
+        &module.functions[handle],
+        infos,
+    ) {
+        Ok(validated) => Ok(validated),
+        Err(refusal) => Err(refusal_at(alloc, handle, refusal)),
+    }
+}
+
+// What is kept of all functions of a module, where no payloads are held before them.
+pub(crate) fn judge_all<L: Lower>(
+    validator: &Validator<L>,
+    module: &Module,
+) -> Result<Judged<L::Info>, Refusal<InvalidFunction>>
+    requires made { L.is_for validator.now.lower (module_view «module».now) }
+    requires handles { HandlesOK (module_view «module».now) }
+    ensures { let s = settings_for validator.now.flags validator.now.capabilities validator.now.operations validator.now.stages false None in
+        MatchResult result
+        (λ j. AreJudged (L.reading validator.now.lower) s (module_view «module».now) (length (module_view «module».now).functions) (map (L.summary validator.now.lower) j.infos.items) (map (L.noted validator.now.lower) j.infos.items) j.held)
+        (IsRefusal (L.reading validator.now.lower) (L.faults validator.now.lower) s (module_view «module».now)) }
+{
+    let count = module.functions.len();
+    let mut infos = Vec::with_capacity(validator.alloc, count)?;
+    let mut held = None;
+    for index in 0..count {
+        match judge_next(validator, module, Handle::at(index), &infos, held) {
+            Ok(validated) => {
+                infos.push(validated.info)?;
+                held = validated.held;
+            }
+            Err(refusal) => return Err(refusal),
+        }
+    }
+    Ok(Judged { infos, held })
+}

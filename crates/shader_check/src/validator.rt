@@ -1,0 +1,261 @@
+//! A validator of functions, over any layer beneath them.
+
+ghost use Rattle.std.specs.Prelude.{◌≡◌, ◌<◌, ◌↔◌, ℕ, IfErr, IfOk, IfSome, MatchResult, None, OnErr, OnOk, false, length, map};
+ghost use Rattle.entry_checks.specs.Faults.{IsRefusedFor as IsRefusalFor};
+ghost use Rattle.function_validator.specs.EntryFaults.{IsRefusedAs};
+ghost use Rattle.function_validator.specs.Validated.{IsEntryValidated};
+ghost use Rattle.function_validator.specs.Faults.{IsFunctionFault};
+ghost use Rattle.function_lower.specs.Analysis.{IsRefusedFor};
+ghost use Rattle.function_lower.specs.Question.{question};
+ghost use Rattle.shader_check.specs.Judged.{AreJudged, IsRefusal};
+ghost use Rattle.shader_check.specs.Settings.{settings_for, settings_in};
+ghost use Rattle.ir_flags.specs.Sets.{Has};
+ghost use Rattle.ir_items.specs.View.{entry_view, function_view, module_view};
+ghost use Rattle.ir_items.specs.declared.entries.MeshStageInfo.{MeshStageInfo};
+ghost use Rattle.ir_walks.specs.Filters.{ParentsPrecede};
+ghost use Rattle.spec_analysis.specs.Chains.{HasUse};
+ghost use Rattle.spec_analysis.specs.Summaries.{CalleesKnown, IsJoined, IsSummary};
+ghost use Rattle.spec_entries.specs.Modules.{entry_settings};
+ghost use Rattle.spec_statements.specs.ExpressionStages.{all_stages};
+ghost use Rattle.spec_handles.specs.Conditions.{HandlesInRange, OperandsPrecede};
+ghost use Rattle.spec_handles.specs.InOrder.{HandlesOK};
+ghost use Rattle.spec_statements.specs.Functions.{FunctionOK, AllowsStage};
+ghost use Rattle.spec_statements.specs.Payloads.{IsHeldAfter};
+
+use crate::functions::{InvalidFunction, judge_all};
+use bitflags::Flags;
+use entry_checks::EntryPointError;
+use error_functions::FunctionError;
+use function_lower::Lower;
+use function_validator::{FunctionSettings, validate_entry_point, validate_function};
+use ir_arena::handle::Handle;
+use ir_faults::refusal::Refusal;
+use ir_flags::{Capabilities, ShaderStages, SubgroupOperationSet, ValidationFlags};
+use ir_items::{EntryPoint, Function, Module};
+use ir_types::key;
+use std::alloc::Global;
+
+/// What judges the functions of a module, one after the other (naga's `Validator`, as far as it speaks of functions). It keeps
+/// the type of the payloads of the rays so far, and nothing else.
+#[derive(Drop)]
+pub struct Validator<L> {
+    pub(crate) alloc: Global,
+    /// The layer beneath.
+    pub lower: L,
+    /// The checks that are made.
+    pub flags: ValidationFlags,
+    /// What shaders may use beyond the common part.
+    pub capabilities: Capabilities,
+    /// The stages that have operations of subgroups.
+    pub stages: ShaderStages,
+    /// The operations of subgroups that may be used.
+    pub operations: SubgroupOperationSet,
+    /// The type of the payloads of the functions so far, if one has any.
+    pub held: Option<Handle<key::IrType>>,
+}
+
+impl<L: Lower> Validator<L> {
+    /// A validator that makes these checks, of shaders that may use this, without operations of subgroups. It takes no memory.
+    pub fn new(alloc: Global, lower: L, flags: ValidationFlags, capabilities: Capabilities) -> Self
+        ensures lower { result.lower ≡ lower }
+        ensures flags { result.flags ≡ flags }
+        ensures capabilities { result.capabilities ≡ capabilities }
+        ensures stages { result.stages.0 ≡ 0 }
+        ensures operations { result.operations.0 ≡ 0 }
+        ensures held { result.held ≡ None }
+    {
+        Validator {
+            alloc,
+            lower,
+            flags,
+            capabilities,
+            stages: ShaderStages(0),
+            operations: SubgroupOperationSet(0),
+            held: None,
+        }
+    }
+
+    /// Says which stages have operations of subgroups.
+    pub fn subgroup_stages(&mut self, stages: ShaderStages)
+        ensures stages { self.new.stages ≡ stages }
+        ensures lower { self.new.lower ≡ self.old.lower }
+        ensures flags { self.new.flags ≡ self.old.flags }
+        ensures capabilities { self.new.capabilities ≡ self.old.capabilities }
+        ensures operations { self.new.operations ≡ self.old.operations }
+        ensures held { self.new.held ≡ self.old.held }
+    {
+        self.stages = stages;
+    }
+
+    /// Says which operations of subgroups may be used.
+    pub fn subgroup_operations(&mut self, operations: SubgroupOperationSet)
+        ensures operations { self.new.operations ≡ operations }
+        ensures lower { self.new.lower ≡ self.old.lower }
+        ensures flags { self.new.flags ≡ self.old.flags }
+        ensures capabilities { self.new.capabilities ≡ self.old.capabilities }
+        ensures stages { self.new.stages ≡ self.old.stages }
+        ensures held { self.new.held ≡ self.old.held }
+    {
+        self.operations = operations;
+    }
+
+    /// Forgets the payloads of the functions that were judged.
+    pub fn reset(&mut self)
+        ensures held { self.new.held ≡ None }
+        ensures lower { self.new.lower ≡ self.old.lower }
+        ensures flags { self.new.flags ≡ self.old.flags }
+        ensures capabilities { self.new.capabilities ≡ self.old.capabilities }
+        ensures stages { self.new.stages ≡ self.old.stages }
+        ensures operations { self.new.operations ≡ self.old.operations }
+    {
+        self.held = None;
+    }
+
+    /// Whether a function of the module is accepted, and what is kept of it (naga's `Validator::validate_function`). `mod_info`
+    /// has what this call answered for the functions before it, in order, where stages and uses may have been noted since;
+    /// `entry_point` says that the function is an entry point's. The payload type is kept where the function is accepted; a
+    /// refusal leaves the validator as it was.
+    ///
+    /// Asks that the layer was made for the module, and that the handles of the function are in order.
+    ///
+    /// # Errors
+    ///
+    /// What [`validate_function`] answers.
+    pub fn validate_function(
+        &mut self,
+        fun: &Function,
+        module: &Module,
+        mod_info: &[L::Info],
+        entry_point: bool,
+    ) -> Result<L::Info, Refusal<FunctionError>>
+        requires made { L.is_for self.old.lower (module_view «module».now) }
+        requires handles { HandlesInRange (module_view «module».now) (function_view fun.now) }
+        requires precede { OperandsPrecede (function_view fun.now).expressions }
+        requires parents { ParentsPrecede (module_view «module».now).filters }
+        ensures accepted { let q = question (module_view «module».now) (function_view fun.now) (map (L.summary self.old.lower) mod_info.now) (map (L.noted self.old.lower) mod_info.now) in
+            OnOk result (FunctionOK (L.reading self.old.lower q) (settings_for self.old.flags self.old.capabilities self.old.operations self.old.stages entry_point self.old.held) q.m q.f) }
+        ensures refused { let q = question (module_view «module».now) (function_view fun.now) (map (L.summary self.old.lower) mod_info.now) (map (L.noted self.old.lower) mod_info.now) in
+            IfErr result (IsRefusedFor (λ _. FunctionOK (L.reading self.old.lower q) (settings_for self.old.flags self.old.capabilities self.old.operations self.old.stages entry_point self.old.held) q.m q.f → ⊥)) }
+        ensures fault { let q = question (module_view «module».now) (function_view fun.now) (map (L.summary self.old.lower) mod_info.now) (map (L.noted self.old.lower) mod_info.now) in
+            IfErr result (IsRefusedFor (IsFunctionFault (L.reading self.old.lower q) (L.faults self.old.lower q) (settings_for self.old.flags self.old.capabilities self.old.operations self.old.stages entry_point self.old.held) q.m q.f)) }
+        ensures noted { let q = question (module_view «module».now) (function_view fun.now) (map (L.summary self.old.lower) mod_info.now) (map (L.noted self.old.lower) mod_info.now) in
+            IfOk result (λ info. (stage : ℕ) → Has (L.noted self.old.lower info).0 stage ↔ (Has all_stages.0 stage × AllowsStage (L.reading self.old.lower q) (settings_for self.old.flags self.old.capabilities self.old.operations self.old.stages entry_point self.old.held) q.stages q.f stage)) }
+        ensures joined { IfOk result (λ info. IsJoined (length (module_view «module».now).globals) (function_view fun.now) (map (L.summary self.old.lower) mod_info.now) (L.summary self.old.lower info)) }
+        ensures chains { CalleesKnown (module_view «module».now) (function_view fun.now) (map (L.summary self.old.lower) mod_info.now)
+            → IfOk result (λ info. IsSummary (module_view «module».now) (function_view fun.now) (L.summary self.old.lower info)) }
+        ensures held { OnOk result (IsHeldAfter self.old.flags (module_view «module».now) (function_view fun.now) self.old.held self.new.held) }
+        ensures kept { OnErr result (self.new.held ≡ self.old.held) }
+        ensures lower { self.new.lower ≡ self.old.lower }
+        ensures flags { self.new.flags ≡ self.old.flags }
+        ensures capabilities { self.new.capabilities ≡ self.old.capabilities }
+        ensures stages { self.new.stages ≡ self.old.stages }
+        ensures operations { self.new.operations ≡ self.old.operations }
+    {
+        let settings = FunctionSettings {
+            flags: self.flags,
+            capabilities: self.capabilities,
+            operations: self.operations,
+            subgroup_stages: self.stages,
+            entry: entry_point,
+            held: self.held,
+        };
+        match validate_function(&self.lower, self.alloc, &settings, module, fun, mod_info) {
+            Ok(validated) => {
+                self.held = validated.held;
+                Ok(validated.info)
+            }
+            Err(refusal) => Err(refusal),
+        }
+    }
+
+    /// Whether an entry point of the module is accepted, and what is kept of it (naga's `Validator::validate_entry_point`), all but
+    /// that none before it has its stage and its name. `mod_info` has what [`Validator::validate_function`] answered for the
+    /// functions of the module, in order, where stages and uses may have been noted since. The payload type is kept where the entry
+    /// point is accepted; a refusal leaves the validator as it was.
+    ///
+    /// Asks that the layer was made for the module, and that its handles are in order.
+    ///
+    /// # Errors
+    ///
+    /// What [`validate_entry_point`] answers.
+    pub fn validate_entry_point(
+        &mut self,
+        ep: &EntryPoint,
+        module: &Module,
+        mod_info: &[L::Info],
+    ) -> Result<L::Info, Refusal<EntryPointError>>
+        requires made { L.is_for self.old.lower (module_view «module».now) }
+        requires handles { HandlesInRange (module_view «module».now) (entry_view ep.now).function }
+        requires precede { OperandsPrecede (entry_view ep.now).function.expressions }
+        requires parents { ParentsPrecede (module_view «module».now).filters }
+        requires payload { IfSome ep.now.task_payload (λ g. g < length (module_view «module».now).globals) }
+        requires output { IfSome ep.now.mesh_info (λ (i : MeshStageInfo). i.output_variable < length (module_view «module».now).globals) }
+        requires known { CalleesKnown (module_view «module».now) (entry_view ep.now).function (map (L.summary self.old.lower) mod_info.now) }
+        ensures judged { let m = module_view «module».now in
+            let e = entry_view ep.now in
+            let q = question m e.function (map (L.summary self.old.lower) mod_info.now) (map (L.noted self.old.lower) mod_info.now) in
+            let s = entry_settings (settings_in self.old) self.old.held in
+            MatchResult result
+            (λ info. IsEntryValidated (L.reading self.old.lower q) q.stages s m e (L.summary self.old.lower info) (L.noted self.old.lower info) (L.blending self.old.lower info) self.new.held)
+            (IsRefusalFor (IsRefusedAs (L.reading self.old.lower q) (L.faults self.old.lower q) q.stages (HasUse m e.function) s m e)) }
+        ensures kept { OnErr result (self.new.held ≡ self.old.held) }
+        ensures lower { self.new.lower ≡ self.old.lower }
+        ensures flags { self.new.flags ≡ self.old.flags }
+        ensures capabilities { self.new.capabilities ≡ self.old.capabilities }
+        ensures stages { self.new.stages ≡ self.old.stages }
+        ensures operations { self.new.operations ≡ self.old.operations }
+    {
+        let settings = FunctionSettings {
+            flags: self.flags,
+            capabilities: self.capabilities,
+            operations: self.operations,
+            subgroup_stages: self.stages,
+            entry: true,
+            held: self.held,
+        };
+        match validate_entry_point(&self.lower, self.alloc, &settings, module, ep, mod_info) {
+            Ok(kept) => {
+                self.held = kept.held;
+                Ok(kept.info)
+            }
+            Err(refusal) => Err(refusal),
+        }
+    }
+
+    /// Judges all functions of a module in order, and tells what is kept of each (the part of naga's `Validator::validate` that
+    /// speaks of functions). What was judged before is forgotten first, so that the answer is that of a fresh validator; after
+    /// it the type of the payloads of these functions is held, and after a refusal none.
+    ///
+    /// Asks that the layer was made for the module, and that its handles are in order.
+    ///
+    /// # Errors
+    ///
+    /// The first function that is refused, with a fault of its own and no span, as [`validate_function`] answers it; or out of
+    /// memory.
+    pub fn validate_functions(
+        &mut self,
+        module: &Module,
+    ) -> Result<Vec<L::Info>, Refusal<InvalidFunction>>
+        requires made { L.is_for self.old.lower (module_view «module».now) }
+        requires handles { HandlesOK (module_view «module».now) }
+        ensures judged { let s = settings_for self.old.flags self.old.capabilities self.old.operations self.old.stages false None in
+            MatchResult result
+            (λ infos. AreJudged (L.reading self.old.lower) s (module_view «module».now) (length (module_view «module».now).functions) (map (L.summary self.old.lower) infos.items) (map (L.noted self.old.lower) infos.items) self.new.held)
+            (IsRefusal (L.reading self.old.lower) (L.faults self.old.lower) s (module_view «module».now)) }
+        ensures none_held { OnErr result (self.new.held ≡ None) }
+        ensures lower { self.new.lower ≡ self.old.lower }
+        ensures flags { self.new.flags ≡ self.old.flags }
+        ensures capabilities { self.new.capabilities ≡ self.old.capabilities }
+        ensures stages { self.new.stages ≡ self.old.stages }
+        ensures operations { self.new.operations ≡ self.old.operations }
+    {
+        self.reset();
+        match judge_all(self, module) {
+            Ok(judged) => {
+                self.held = judged.held;
+                Ok(judged.infos)
+            }
+            Err(refusal) => Err(refusal),
+        }
+    }
+}

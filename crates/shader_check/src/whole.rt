@@ -1,0 +1,249 @@
+//! A whole module.
+
+ghost use Rattle.std.specs.Prelude.{◌≡◌, IfErr, IfOk, MatchResult, None, OnOk, false, true};
+ghost use Rattle.shader_check.specs.Settings.{settings_in};
+ghost use Rattle.shader_check.specs.Validated.{IsFaultBehind, IsKeptWith, IsRefusedWith, IsToldBy, IsValidated, IsValidationFault, module_settings};
+ghost use Rattle.shader_check.specs.declared.error.ValidationError.TheVariants as error;
+ghost use Rattle.ir_items.specs.View.{module_view};
+ghost use Rattle.module_types.specs.Validated.{AreAccepted};
+ghost use Rattle.module_validator.specs.Faults.{IsModuleFault};
+ghost use Rattle.module_validator.specs.Refusals.{IsVariableFault};
+ghost use Rattle.module_validator.specs.Told.{IsInfoOf};
+ghost use Rattle.real_lower.specs.Made.{IsMadeOf};
+ghost use Rattle.spec_expressions.specs.Context.{outside};
+ghost use Rattle.spec_globals.specs.Globals.{GlobalsOK};
+ghost use Rattle.spec_handles.specs.InOrder.{HandlesOK};
+ghost use Rattle.spec_modules.specs.Steps.{ModuleOK};
+ghost use Rattle.typing_expressions.specs.Types.{AreTypes};
+
+use crate::entries::{InvalidEntryPoint, judge_entries};
+use crate::error::ValidationError;
+use crate::functions::{InvalidFunction, judge_all};
+use crate::validator::Validator;
+use ir_faults::refusal::Refusal;
+use ir_faults::with_span::WithSpan;
+use ir_items::Module;
+use module_info::ModuleInfo;
+use module_validator::{InvalidGlobalVariable, ModuleError, ModuleValidator, validate_globals};
+use real_lower::RealLower;
+use spec_modules::ModuleSettings;
+use std::alloc::Global;
+
+// ---- refusals of steps
+
+fn module_refusal(alloc: Global, refusal: Refusal<ModuleError>) -> Refusal<ValidationError>
+    ensures { IsToldBy error.Module refusal result }
+{
+    match refusal {
+        Refusal::Memory(error) => Refusal::Memory(error),
+        Refusal::Fault(fault) => {
+            let error = ValidationError::Module(fault.into_inner());
+            Refusal::Fault(WithSpan::new(alloc, error))
+        }
+    }
+}
+
+fn global_refusal(
+    alloc: Global,
+    refusal: Refusal<InvalidGlobalVariable>,
+) -> Refusal<ValidationError>
+    ensures { IsToldBy error.GlobalVariable refusal result }
+{
+    match refusal {
+        Refusal::Memory(error) => Refusal::Memory(error),
+        Refusal::Fault(fault) => {
+            let error = ValidationError::GlobalVariable(fault.into_inner());
+            Refusal::Fault(WithSpan::new(alloc, error))
+        }
+    }
+}
+
+fn function_refusal(alloc: Global, refusal: Refusal<InvalidFunction>) -> Refusal<ValidationError>
+    ensures { IsToldBy error.Function refusal result }
+{
+    match refusal {
+        Refusal::Memory(error) => Refusal::Memory(error),
+        Refusal::Fault(fault) => {
+            let error = ValidationError::Function(fault.into_inner());
+            Refusal::Fault(WithSpan::new(alloc, error))
+        }
+    }
+}
+
+fn entry_refusal(alloc: Global, refusal: Refusal<InvalidEntryPoint>) -> Refusal<ValidationError>
+    ensures { IsToldBy error.EntryPoint refusal result }
+{
+    match refusal {
+        Refusal::Memory(error) => Refusal::Memory(error),
+        Refusal::Fault(fault) => {
+            let error = ValidationError::EntryPoint(fault.into_inner());
+            Refusal::Fault(WithSpan::new(alloc, error))
+        }
+    }
+}
+
+// ---- steps
+
+// The steps up to overrides, which have values given to them where they are resolved.
+fn judge_items(
+    validator: &Validator<RealLower>,
+    module: &Module,
+    resolved: bool,
+) -> Result<ModuleInfo, Refusal<ModuleError>>
+    ensures accepted { OnOk result (ModuleOK (module_settings (settings_in validator.now) resolved) (module_view «module».now)) }
+    ensures told { IfOk result (IsInfoOf (module_settings (settings_in validator.now) resolved) (module_view «module».now)) }
+    ensures refused { IfErr result (IsRefusedWith (IsModuleFault (module_settings (settings_in validator.now) resolved) (module_view «module».now))) }
+{
+    let mut items = ModuleValidator::new(validator.alloc, validator.flags, validator.capabilities);
+    if resolved {
+        items.validate_resolved_overrides(module)
+    } else {
+        items.validate(module)
+    }
+}
+
+// The step of global variables, where this is kept of the module.
+fn judge_variables(
+    validator: &Validator<RealLower>,
+    module: &Module,
+    resolved: bool,
+    info: &ModuleInfo,
+) -> Result<(), Refusal<InvalidGlobalVariable>>
+    requires handles { HandlesOK (module_view «module».now) }
+    requires told { AreAccepted validator.now.capabilities resolved (module_view «module».now).types info.now.types.items }
+    requires typed { AreTypes (outside (module_view «module».now)) (module_view «module».now).global_expressions info.now.const_expression_types.items }
+    ensures accepted { OnOk result (GlobalsOK validator.now.flags validator.now.capabilities (module_view «module».now)) }
+    ensures refused { IfErr result (IsRefusedWith (IsVariableFault validator.now.flags validator.now.capabilities (module_view «module».now))) }
+{
+    let settings = ModuleSettings {
+        flags: validator.flags,
+        capabilities: validator.capabilities,
+        overrides_resolved: resolved,
+    };
+    validate_globals(
+        validator.alloc,
+        settings,
+        module,
+        info.types(),
+        info.const_expression_types(),
+    )
+}
+
+// One that judges as another does, over what is kept of a module.
+fn over(validator: &Validator<RealLower>, info: ModuleInfo) -> Validator<RealLower>
+    ensures settings { settings_in result ≡ settings_in validator.now }
+    ensures info { result.lower.info ≡ info }
+{
+    let lower = RealLower::new(info);
+    let mut own = Validator::new(
+        validator.alloc,
+        lower,
+        validator.flags,
+        validator.capabilities,
+    );
+    own.subgroup_stages(validator.stages);
+    own.subgroup_operations(validator.operations);
+    own
+}
+
+// The steps of functions and of entry points, over what is kept of their module.
+fn judge_behind(
+    own: Validator<RealLower>,
+    module: &Module,
+) -> Result<ModuleInfo, Refusal<ValidationError>>
+    requires made { IsMadeOf (module_view «module».now) own.lower.info }
+    ensures { MatchResult result
+        (IsKeptWith (settings_in own) (module_view «module».now) own.lower.info)
+        (IsRefusedWith (IsFaultBehind (settings_in own) (module_view «module».now))) }
+{
+    let alloc = own.alloc;
+    let functions = match judge_all(&own, module) {
+        Ok(functions) => functions,
+        Err(refusal) => return Err(function_refusal(alloc, refusal)),
+    };
+    match judge_entries(&own, module, &functions.infos, functions.held) {
+        Ok(entries) => {
+            let info = own.lower.into_info().with_functions(functions.infos);
+            Ok(info.with_entry_points(entries.infos))
+        }
+        Err(refusal) => Err(entry_refusal(alloc, refusal)),
+    }
+}
+
+// All steps.
+fn judge(
+    validator: &Validator<RealLower>,
+    module: &Module,
+    resolved: bool,
+) -> Result<ModuleInfo, Refusal<ValidationError>>
+    ensures { MatchResult result
+        (IsValidated (settings_in validator.now) resolved (module_view «module».now))
+        (IsRefusedWith (IsValidationFault (settings_in validator.now) resolved (module_view «module».now))) }
+{
+    let alloc = validator.alloc;
+    let info = match judge_items(validator, module, resolved) {
+        Ok(info) => info,
+        Err(refusal) => return Err(module_refusal(alloc, refusal)),
+    };
+    match judge_variables(validator, module, resolved, &info) {
+        Ok(()) => {}
+        Err(refusal) => return Err(global_refusal(alloc, refusal)),
+    }
+    match judge_behind(over(validator, info), module) {
+        Ok(info) => Ok(info),
+        Err(refusal) => Err(refusal),
+    }
+}
+
+impl Validator<RealLower> {
+    /// Whether a module is accepted, and what is kept of it (naga's `Validator::validate`): what is told of its types and their
+    /// layouts, the types of its global expressions, and of each function and of the function of each entry point what it uses
+    /// and samples over all chains of calls that begin at it.
+    ///
+    /// The answer depends on the module, the flags, the capabilities and the operations of subgroups with their stages alone:
+    /// what was judged before is forgotten first, after a refusal and without memory as well, and the validator's own layer is
+    /// not asked.
+    ///
+    /// # Errors
+    ///
+    /// [`Refusal::Fault`], with no span, exactly where some step fails: the first that does, at the first item that fails it, with
+    /// a fault of its own. [`Refusal::Memory`] where memory ran out.
+    pub fn validate(&mut self, module: &Module) -> Result<ModuleInfo, Refusal<ValidationError>>
+        ensures judged { MatchResult result
+            (IsValidated (settings_in self.old) false (module_view «module».now))
+            (IsRefusedWith (IsValidationFault (settings_in self.old) false (module_view «module».now))) }
+        ensures forgotten { self.new.held ≡ None }
+        ensures lower { self.new.lower ≡ self.old.lower }
+        ensures flags { self.new.flags ≡ self.old.flags }
+        ensures capabilities { self.new.capabilities ≡ self.old.capabilities }
+        ensures stages { self.new.stages ≡ self.old.stages }
+        ensures operations { self.new.operations ≡ self.old.operations }
+    {
+        self.reset();
+        judge(self, module, false)
+    }
+
+    /// The same of a module whose overrides all have values given to them (naga's `Validator::validate_resolved_overrides`): an
+    /// override without one is refused, and so is a size of an array that an override says.
+    ///
+    /// # Errors
+    ///
+    /// As those of [`Validator::validate`].
+    pub fn validate_resolved_overrides(
+        &mut self,
+        module: &Module,
+    ) -> Result<ModuleInfo, Refusal<ValidationError>>
+        ensures judged { MatchResult result
+            (IsValidated (settings_in self.old) true (module_view «module».now))
+            (IsRefusedWith (IsValidationFault (settings_in self.old) true (module_view «module».now))) }
+        ensures forgotten { self.new.held ≡ None }
+        ensures lower { self.new.lower ≡ self.old.lower }
+        ensures flags { self.new.flags ≡ self.old.flags }
+        ensures capabilities { self.new.capabilities ≡ self.old.capabilities }
+        ensures stages { self.new.stages ≡ self.old.stages }
+        ensures operations { self.new.operations ≡ self.old.operations }
+    {
+        self.reset();
+        judge(self, module, true)
+    }
+}
