@@ -13,7 +13,7 @@ from pathlib import Path
 
 from run import ALONE, CHECK, MEASURES, RUNS, SIZES, TOP, fill, run
 
-MOST_RATIO = 2.5
+MOST_RATIO = 2.2
 MOST_GROWTH = 24
 SHADER = TOP / "examples/shader-compute-weighted-sum.json"
 FUNCTIONS, ENTRIES = 12, 13

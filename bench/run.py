@@ -18,7 +18,7 @@ MEASURES = TOP / "crates/test_kinds/out/test_kinds"
 ALONE = (MEASURES, "json")
 SIZES = [1 << 20, 1 << 24]
 RUNS = 5
-MOST_RATIO = 1.4
+MOST_RATIO = 2.2
 MOST_MEMORY = 32
 
 FRONT = ('[1,["EXPRESSIONS","BLOCKS","CONTROL_FLOW_UNIFORMITY","STRUCT_LAYOUTS","CONSTANTS","BINDINGS"],[],[[],[]],false,'

@@ -1,5 +1,5 @@
 -- What a variable implies is one thing.
-use Rattle.std.proofs.Common.{◌≡◌, ℕ, List, [], ◌∷◌, Option, Some, None, refl, sym, ap, subst, ◌∙◌}
+use Rattle.std.proofs.Common.{◌≡◌, inl, inr, ℕ, List, [], ◌∷◌, Option, Some, None, refl, sym, ap, subst, ◌∙◌}
 use Rattle.entry_checks.specs.MeshFaults.{AreSame, HasBadField, HasBadPrimitives, IsImpliedFault, IsSaidFault}
 use Rattle.entry_checks.specs.declared.error.EntryPointError.{EntryPointError}
 use Rattle.entry_checks.specs.declared.error.EntryPointError.TheVariants as error
@@ -140,6 +140,10 @@ module _ (m : PlainModule) (i said : MeshStageInfo) (vb pb : Option ℕ) (a : Im
   pub primitives_unlike : (SaidBy m said.max_primitives_override pb → ⊥) → IsSaid m said → ⊥
   primitives_unlike differ s = differ (subst (SaidBy m said.max_primitives_override) (sym (as_said s).primitives_by) s.primitives)
 
+  -- something else is implied
+  pub otherwise : (IsSaid m said → ⊥) → IsSaidFault m said error.BadMeshOutputVariableType
+  otherwise differs = inr (record { info = i; vertices_by = vb; primitives_by = pb; implied = a; differs = differs })
+
 -- ---- faults
 
 pub bad_primitives_of : (m : PlainModule) (variable : ℕ) (members : List PlainMember) (t : MeshParts) (vertex vertices primitive primitives : ℕ) (vb pb : Option ℕ)
@@ -180,13 +184,14 @@ module _ (m : PlainModule) (said : MeshStageInfo) where
 
   -- what is wrong with the variable is wrong with what is said
   pub said_fault : (x : EntryPointError) → IsImpliedFault m said.output_variable x → IsSaidFault m said x
-  said_fault error.BadMeshOutputVariableType none = λ s. none s.implied.types s.implied.parts
+  said_fault error.BadMeshOutputVariableType none = inl none
   said_fault error.BadMeshOutputVariableField b = b
   said_fault error.InvalidMeshPrimitiveOutputType b = b
   said_fault _ b = absurd b
 
   pub said_refuted : (x : EntryPointError) → IsSaidFault m said x → IsSaid m said → ⊥
-  said_refuted error.BadMeshOutputVariableType fault s = fault s
+  said_refuted error.BadMeshOutputVariableType (inl none) s = none s.implied.types s.implied.parts
+  said_refuted error.BadMeshOutputVariableType (inr other) s = other.differs s
   said_refuted error.BadMeshOutputVariableField fault s = bad_field fault s
   said_refuted error.InvalidMeshPrimitiveOutputType fault s = bad_primitives fault s
   said_refuted _ fault s = absurd fault

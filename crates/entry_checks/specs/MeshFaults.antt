@@ -1,12 +1,12 @@
 -- What is wrong with what a mesh shader gives.
-use Rattle.std.specs.Prelude.{◌≡◌, ◌∷◌, [], ℕ, Option}
+use Rattle.std.specs.Prelude.{◌≡◌, ◌⊎◌, ◌∷◌, [], ℕ, Option}
 use Rattle.entry_checks.specs.declared.error.EntryPointError.{EntryPointError}
 use Rattle.entry_checks.specs.declared.error.EntryPointError.TheVariants as error
 use Rattle.ir_items.specs.Plain.{PlainModule}
 use Rattle.ir_items.specs.declared.entries.MeshStageInfo.{MeshStageInfo}
 use Rattle.ir_kinds.specs.declared.stages.MeshOutputTopology.{MeshOutputTopology}
 use Rattle.spec_entries.specs.Members.{topologies_at}
-use Rattle.spec_entries.specs.Meshes.{FieldsOK, HasParts, IsSaid}
+use Rattle.spec_entries.specs.Meshes.{FieldsOK, HasParts, Implies, IsSaid}
 use Rattle.spec_entries.specs.declared.parts.MeshParts.{MeshParts}
 
 -- both say the same, overrides and the variable aside
@@ -40,9 +40,17 @@ IsImpliedFault m variable error.BadMeshOutputVariableField = HasBadField m varia
 IsImpliedFault m variable error.InvalidMeshPrimitiveOutputType = HasBadPrimitives m variable
 IsImpliedFault m variable _ = ⊥
 
+-- the output implies something else than what is said
+pub record IsSaidOtherwise (m : PlainModule) (i : MeshStageInfo) : Type 0 where
+  pub info : MeshStageInfo
+  pub vertices_by : Option ℕ
+  pub primitives_by : Option ℕ
+  pub implied : Implies m i.output_variable info vertices_by primitives_by
+  pub differs : ¬ IsSaid m i
+
 -- this is wrong with what is said
 abbrev pub IsSaidFault : PlainModule → MeshStageInfo → EntryPointError → Type 0
-IsSaidFault m i error.BadMeshOutputVariableType = ¬ IsSaid m i
+IsSaidFault m i error.BadMeshOutputVariableType = ((t : MeshParts) → HasParts m i.output_variable t → ⊥) ⊎ IsSaidOtherwise m i
 IsSaidFault m i error.BadMeshOutputVariableField = HasBadField m i.output_variable
 IsSaidFault m i error.InvalidMeshPrimitiveOutputType = HasBadPrimitives m i.output_variable
 IsSaidFault m i _ = ⊥

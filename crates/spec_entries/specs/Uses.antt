@@ -5,7 +5,7 @@ use Rattle.analysis_forms.specs.declared.global_use.GlobalUse.{GlobalUse}
 use Rattle.analysis_forms.specs.declared.global_use.TheConstants.GlobalUse as use_
 use Rattle.ir_flags.specs.declared.memory.StorageAccess.{StorageAccess}
 use Rattle.ir_flags.specs.declared.memory.TheConstants.StorageAccess as access
-use Rattle.ir_items.specs.Plain.{PlainEntry, PlainFunction}
+use Rattle.ir_items.specs.Plain.{PlainEntry}
 use Rattle.ir_items.specs.declared.entries.MeshStageInfo.{MeshStageInfo}
 use Rattle.ir_kinds.specs.declared.images.ImageClass.{ImageClass}
 use Rattle.ir_kinds.specs.declared.images.ImageClass.TheVariants as class
@@ -15,8 +15,6 @@ use Rattle.ir_kinds.specs.declared.stages.ShaderStage.{ShaderStage}
 use Rattle.ir_kinds.specs.declared.stages.ShaderStage.TheVariants.{Vertex, Fragment, Compute, Mesh, Task, RayGeneration, AnyHit, ClosestHit, Miss}
 use Rattle.ir_types.specs.Plain.{PlainInner, plain}
 use Rattle.ir_types.specs.declared.types.TypeInner.TheVariants.{Image}
-use Rattle.spec_analysis.specs.Chains.{Names}
-use Rattle.spec_analysis.specs.Summaries.{JoinsUse, Summary}
 
 -- ---- kinds of use
 
@@ -140,8 +138,3 @@ OwnUse e g k = ((e.payload ≡ Some g) × (bit_at (own_payload_use e.stage).0 k 
 -- an entry point whose function uses global variables in this way does so
 abbrev pub EntryUses : PlainEntry → (ℕ → ℕ → Type 0) → (g k : ℕ) → Type 0
 EntryUses e Uses g k = Uses g k ⊎ OwnUse e g k
-
--- The function uses the variable itself, or one that it calls does by these summaries; or, for QUERY, it names the variable without
--- such a use.
-abbrev pub JoinedUse : PlainFunction → List Summary → (g k : ℕ) → Type 0
-JoinedUse f summaries g k = JoinsUse f summaries g k ⊎ ((bit_at use_.QUERY.0 k ≡ 1) × Names g f × ((j : ℕ) → JoinsUse f summaries g j → ⊥))
