@@ -2,7 +2,7 @@
 """Counts what the step over functions takes of a run of the program, beside reading the document as JSON: functions.py
 
 The program is run once on each document under valgrind's callgrind. Of that run the instructions are told of the step over
-functions (`judge_all`), and of the JSON reader with letting its value go; both hold all that they call. Prints a table
+functions (`validate_function`, of each), and of the JSON reader with letting its value go; both hold all that they call. Prints a table
 in Markdown. The program has to be built: `rt ci` leaves it, and so does `rt run` in crates/checker. The status is 1 where a
 target is missed.
 """
@@ -16,7 +16,7 @@ import modules
 import run
 
 MOST_SHARE = 0.5
-STEP = "shader_check::functions::judge_all"
+STEP = "function_validator::validate::validate_function"
 
 
 def of_run(kind):

@@ -88,7 +88,7 @@ KINDS = {"many types": many_types, "types of types": deep_types, "constants": ma
 
 def of_call(said, name):
     """The instructions of a function with all that it calls."""
-    found = re.search(rf"^ *([\d,]+) .*:{re.escape(name)} \[", said, re.M)
+    found = re.search(rf"^ *([\d,]+) .*:{re.escape(name)}(?:::<[^>]*>)? \[", said, re.M)
     return int(found.group(1).replace(",", "")) if found else 0
 
 
