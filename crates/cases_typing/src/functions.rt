@@ -10,12 +10,12 @@ use crate::checks::error_told;
 use crate::refusals::refusal_told;
 use analysis_info::FunctionInfo;
 use document_reader::{Document, Settings};
-use shader_check::Validator;
 use ir_faults::refusal::Refusal;
 use ir_items::{Function, Module};
 use module_info::ModuleInfo;
 use module_validator::ModuleValidator;
 use real_lower::RealLower;
+use shader_check::Validator;
 use std::alloc::{AllocError, Global};
 use typing_conditions::{filter_parents_precede, handles_in_range, operands_precede};
 
