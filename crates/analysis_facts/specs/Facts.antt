@@ -1,8 +1,8 @@
 -- What is known of expressions, from what is known of those before them.
 use Rattle.std.specs.Prelude.{◌≡◌, ℕ, ◌<◌, Bool, true, false, List, [], ◌∷◌, ◌++◌, length, Option, Some, None, slice_get}
-use Rattle.ir_expressions.specs.Plain.{PlainExpression, plain, expression_view}
-use Rattle.ir_expressions.specs.declared.expressions.Expression.{Expression}
-use Rattle.ir_expressions.specs.declared.expressions.Expression.TheVariants.{GlobalVariable, Access, AccessIndex}
+use Rattle.ir_types.specs.ExpressionPlain.{PlainExpression, plain, expression_view}
+use Rattle.ir_types.specs.declared.expressions.Expression.{Expression}
+use Rattle.ir_types.specs.declared.expressions.Expression.TheVariants.{GlobalVariable, Access, AccessIndex}
 use Rattle.ir_items.specs.Plain.{PlainFunction, PlainModule}
 use Rattle.analysis_forms.specs.declared.uniformity.Uniformity.{Uniformity}
 use Rattle.spec_analysis.specs.Operands.{Operand, expression_operands}

@@ -1,7 +1,7 @@
 -- What is put together of each expression while all are gone through.
 use Rattle.std.specs.Prelude.{ℕ, List, map, Option}
-use Rattle.ir_expressions.specs.Plain.{PlainExpression, expression_view}
-use Rattle.ir_expressions.specs.declared.expressions.Expression.{Expression}
+use Rattle.ir_types.specs.ExpressionPlain.{PlainExpression, expression_view}
+use Rattle.ir_types.specs.declared.expressions.Expression.{Expression}
 use Rattle.analysis_forms.specs.declared.uniformity.Uniformity.{Uniformity}
 use Rattle.spec_analysis.specs.Values.{known_at, requirements_of}
 

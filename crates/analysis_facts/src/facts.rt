@@ -2,7 +2,7 @@
 
 ghost use Rattle.std.specs.Prelude.{◌≡◌, ◌++◌, ◌∷◌, [], OnOk, IfOk};
 ghost use Rattle.ir_arena.specs.Handles.{handles_from};
-ghost use Rattle.ir_expressions.specs.Plain.{expression_view};
+ghost use Rattle.ir_types.specs.ExpressionPlain.{expression_view};
 ghost use Rattle.ir_items.specs.View.{function_view, module_view};
 ghost use Rattle.spec_analysis.specs.Values.{AreStarts, OperandsPrecede, known_at};
 ghost use Rattle.analysis_facts.specs.Facts.{source_if, source_of, start_of, sources_of, starts_of, AreUniformities};
@@ -12,9 +12,8 @@ use crate::sources::is_source;
 use crate::uniformities::uniformities_of;
 use analysis_forms::Uniformity;
 use ir_arena::handle::Handle;
-use ir_expressions::Expression;
 use ir_items::{Function, Module};
-use ir_types::key;
+use ir_types::{Expression, key};
 use std::alloc::{AllocError, Global};
 
 /// What is known of each expression of a function.

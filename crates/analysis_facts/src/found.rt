@@ -1,14 +1,13 @@
 //! The first source among operands.
 
 ghost use Rattle.std.specs.Prelude.{◌≡◌, ◌++◌, Option, map};
-ghost use Rattle.ir_expressions.specs.Plain.{expression_view};
+ghost use Rattle.ir_types.specs.ExpressionPlain.{expression_view};
 ghost use Rattle.spec_analysis.specs.Operands.{reads, reads_if, level_operands, query_operands, expression_operands};
 ghost use Rattle.spec_analysis.specs.Values.{known_at};
 ghost use Rattle.analysis_facts.specs.Facts.{or_known, find_all};
 
 use ir_arena::handle::Handle;
-use ir_expressions::{Expression, ImageQuery, SampleLevel};
-use ir_types::key;
+use ir_types::{Expression, ImageQuery, SampleLevel, key};
 
 type Operand = Handle<key::Expression>;
 

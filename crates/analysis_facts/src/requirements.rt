@@ -1,11 +1,11 @@
 //! What expressions ask of control flow.
 
 ghost use Rattle.std.specs.Prelude.{◌≡◌};
-ghost use Rattle.ir_expressions.specs.Plain.{expression_view};
+ghost use Rattle.ir_types.specs.ExpressionPlain.{expression_view};
 ghost use Rattle.spec_analysis.specs.Values.{requirements_of};
 
 use analysis_forms::UniformityRequirements;
-use ir_expressions::Expression;
+use ir_types::Expression;
 
 // What the expression itself asks of control flow, if anything.
 pub(crate) fn requirements_of(expression: &Expression) -> UniformityRequirements

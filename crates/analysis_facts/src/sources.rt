@@ -2,7 +2,7 @@
 
 ghost use Rattle.std.specs.Prelude.{◌≡◌, Some, Option, map, slice_get, option_map};
 ghost use Rattle.std.specs.Option.{option_copied};
-ghost use Rattle.ir_expressions.specs.Plain.{expression_view};
+ghost use Rattle.ir_types.specs.ExpressionPlain.{expression_view};
 ghost use Rattle.ir_items.specs.GlobalView.{values_of, global_view};
 ghost use Rattle.ir_items.specs.View.{argument_view, function_view, module_view};
 ghost use Rattle.ir_types.specs.Plain.{inner_view, type_view};
@@ -10,11 +10,10 @@ ghost use Rattle.spec_analysis.specs.Values.{may_store, space_varies, class_vari
 
 use bitflags::Flags;
 use ir_arena::handle::Handle;
-use ir_expressions::Expression;
 use ir_flags::StorageAccess;
 use ir_items::{Function, FunctionArgument, GlobalVariable, Module};
 use ir_kinds::{AddressSpace, Binding, BuiltIn, ImageClass};
-use ir_types::{IrType, TypeInner, key};
+use ir_types::{Expression, IrType, TypeInner, key};
 
 // Whether the memory may be written.
 fn may_store(access: StorageAccess) -> bool

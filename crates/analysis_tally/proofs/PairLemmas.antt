@@ -4,7 +4,7 @@ use Rattle.std.specs.Prelude.{◌↔◌, if◌then◌else◌, eqb}
 use Rattle.std.specs.List.{list_any}
 use Rattle.indexmap.specs.IndexSet.{insert_key}
 use Rattle.overload_tables.specs.Laws.{IsAmong}
-use Rattle.ir_expressions.specs.Plain.{PlainExpression}
+use Rattle.ir_types.specs.ExpressionPlain.{PlainExpression}
 use Rattle.analysis_forms.specs.declared.sampling.GlobalOrArgument.{GlobalOrArgument}
 use Rattle.analysis_forms.specs.declared.sampling.GlobalOrArgument.TheVariants.{Global, Argument}
 use Rattle.analysis_forms.specs.contracts.sampling.GlobalOrArgumentPartialEq as each

@@ -1,6 +1,6 @@
 -- What a tally of a function says.
 use Rattle.std.specs.Prelude.{◌≡◌, ◌↔◌, ℕ, ◌-◌, ◌^◌, ◌<◌, min, List, length, Option, Some, None, slice_index}
-use Rattle.ir_expressions.specs.Plain.{PlainExpression}
+use Rattle.ir_types.specs.ExpressionPlain.{PlainExpression}
 use Rattle.ir_items.specs.Plain.{PlainFunction}
 use Rattle.spec_analysis.specs.Effects.{effects_of, places_of}
 use Rattle.spec_analysis.specs.Summaries.{Summary, IsJoined, IsFormFault}

@@ -1,9 +1,9 @@
 -- What a tally says, and what each effect of a function does to it.
 use Rattle.std.specs.Prelude.{◌≡◌, ℕ, ◌+◌, ◌-◌, ◌^◌, min, Bool, true, false, ◌||◌, List, [], ◌∷◌, ◌++◌, map, replicate, Option, Some, None, slice_get, slice_set, slice_index, slice_index_or, ◌==◌}
 use Rattle.indexmap.specs.IndexSet.{insert_key}
-use Rattle.ir_expressions.specs.Plain.{PlainExpression, plain, expression_view}
-use Rattle.ir_expressions.specs.declared.expressions.Expression.{Expression}
-use Rattle.ir_expressions.specs.declared.expressions.Expression.TheVariants.{GlobalVariable, ImageSample}
+use Rattle.ir_types.specs.ExpressionPlain.{PlainExpression, plain, expression_view}
+use Rattle.ir_types.specs.declared.expressions.Expression.{Expression}
+use Rattle.ir_types.specs.declared.expressions.Expression.TheVariants.{GlobalVariable, ImageSample}
 use Rattle.ir_blocks.specs.Plain.{PlainStatement, emit, block, if_, switch, loop, break, continue, return, kill, operation, call, PlainBlock, stop, next, PlainCases, no_case, case}
 use Rattle.ir_items.specs.GlobalView.{values_of}
 use Rattle.analysis_forms.specs.declared.global_use.GlobalUse.{GlobalUse}

@@ -1,7 +1,7 @@
 //! The effects of expressions, and the global variables that they name.
 
 ghost use Rattle.std.specs.Prelude.{◌≡◌, Some, map, OnOk};
-ghost use Rattle.ir_expressions.specs.Plain.{expression_view};
+ghost use Rattle.ir_types.specs.ExpressionPlain.{expression_view};
 ghost use Rattle.ir_arena.specs.Handles.{handles_from};
 ghost use Rattle.ir_items.specs.GlobalView.{values_of};
 ghost use Rattle.spec_analysis.specs.Chains.{place};
@@ -12,8 +12,7 @@ use crate::pairs::{Part, Sampled};
 use crate::places::{Expressions, place};
 use crate::tally::{Context, Tally};
 use ir_arena::handle::Handle;
-use ir_expressions::Expression;
-use ir_types::key;
+use ir_types::{Expression, key};
 use std::alloc::AllocError;
 
 // What an operand of a sampling stands for; where it stands for nothing, the sampling is wrong.

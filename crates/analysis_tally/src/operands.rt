@@ -1,15 +1,14 @@
 //! The operands of expressions.
 
 ghost use Rattle.std.specs.Prelude.{◌≡◌, ◌++◌};
-ghost use Rattle.ir_expressions.specs.Plain.{expression_view};
+ghost use Rattle.ir_types.specs.ExpressionPlain.{expression_view};
 ghost use Rattle.spec_analysis.specs.Operands.{reads_if, level_operands, query_operands, expression_operands};
 ghost use Rattle.analysis_tally.specs.Tallies.{counted, take_all};
 
 use crate::counts::{Counts, Start};
 use analysis_forms::GlobalUse;
 use ir_arena::handle::Handle;
-use ir_expressions::{Expression, ImageQuery, SampleLevel};
-use ir_types::key;
+use ir_types::{Expression, ImageQuery, SampleLevel, key};
 
 type Operand = Handle<key::Expression>;
 

@@ -1,7 +1,7 @@
 //! Pairs of images and samplers.
 
 ghost use Rattle.std.specs.Prelude.{◌≡◌, Some, IfOk, OnOk, None, [], slice_get};
-ghost use Rattle.ir_expressions.specs.Plain.{expression_view};
+ghost use Rattle.ir_types.specs.ExpressionPlain.{expression_view};
 ghost use Rattle.ir_items.specs.GlobalView.{values_of};
 ghost use Rattle.spec_analysis.specs.Chains.{place, seen_through};
 ghost use Rattle.std.specs.Prelude.{map};

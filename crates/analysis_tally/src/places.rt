@@ -2,15 +2,14 @@
 
 ghost use Rattle.std.specs.Prelude.{◌≡◌, Some, map, slice_get, option_map};
 ghost use Rattle.std.specs.Option.{option_copied};
-ghost use Rattle.ir_expressions.specs.Plain.{expression_view};
+ghost use Rattle.ir_types.specs.ExpressionPlain.{expression_view};
 ghost use Rattle.ir_items.specs.GlobalView.{values_of};
 ghost use Rattle.spec_analysis.specs.Chains.{place, base_stands_for, stands_for};
 
 use analysis_forms::GlobalOrArgument;
 use ir_arena::arena::Arena;
 use ir_arena::handle::Handle;
-use ir_expressions::Expression;
-use ir_types::key;
+use ir_types::{Expression, key};
 
 pub(crate) type Expressions = Arena<Expression, key::Expression>;
 

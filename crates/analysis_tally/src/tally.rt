@@ -10,8 +10,7 @@ use analysis_info::FunctionInfo;
 use ir_arena::arena::Arena;
 use ir_arena::handle::Handle;
 use ir_blocks::Block;
-use ir_expressions::Expression;
-use ir_types::key;
+use ir_types::{Expression, key};
 use std::alloc::{AllocError, Global};
 
 /// What a tally is made from.

@@ -1,7 +1,7 @@
 //! Values in memory that are changed at once.
 
 ghost use Rattle.std.specs.Prelude.{◌≡◌, ◌↔◌, IsTrue, MatchResult, IfSome, Some, None, option_and_then, option_map, slice_get};
-ghost use Rattle.ir_expressions.specs.Plain.{expression_view};
+ghost use Rattle.ir_types.specs.ExpressionPlain.{expression_view};
 ghost use Rattle.ir_types.specs.Plain.{inner_view};
 ghost use Rattle.atomic_checks.specs.Atomics.{IsWide, IsWideFault, IsFloatFault, IsScalarFault, IsPlainFault, IsExchangeFault, IsAnswerFault, IsChangeFault, IsAtomicFault};
 ghost use Rattle.atomic_checks.specs.View.{answer_view};
@@ -15,16 +15,14 @@ ghost use Rattle.statement_checks.specs.View.{context_view};
 ghost use Rattle.typing_forms.specs.Resolutions.{inner_at};
 
 use bitflags::Flags;
-use check_operands::are_same;
 use error_functions::{AtomicError, FunctionError};
 use expression_checks::exchanged_value;
 use ir_arena::handle::Handle;
 use ir_blocks::AtomicFunction;
-use ir_expressions::Expression;
 use ir_flags::Capabilities;
 use ir_kinds::{AddressSpace, Scalar};
-use ir_types::{TypeInner, key};
-use statement_checks::{BlockContext, pointer_space};
+use ir_types::{Expression, TypeInner, key};
+use statement_checks::{BlockContext, are_same, pointer_space};
 use typing_forms::Form;
 
 // ---- what is changed

@@ -15,7 +15,6 @@ ghost use Rattle.typing_forms.specs.Resolutions.{inner_at};
 
 use crate::atomics::is_extremum;
 use bitflags::Flags;
-use check_operands::{are_same, is_integer_scalar, picture_of};
 use error_functions::{ExpressionError, FunctionError};
 use image_checks::is_texel;
 use ir_arena::handle::Handle;
@@ -26,7 +25,9 @@ use ir_flags::{Capabilities, StorageAccess};
 use ir_kinds::{AddressSpace, ImageClass, ImageDimension, Scalar, StorageFormat, VectorSize};
 use ir_types::{TypeInner, key};
 use spec_statements::Picture;
-use statement_checks::{BlockContext, accessed_at, named_at, variable_at};
+use statement_checks::{
+    BlockContext, accessed_at, are_same, is_integer_scalar, named_at, picture_of, variable_at,
+};
 use std::alloc::{AllocError, Global};
 use typing_forms::Form;
 

@@ -2,7 +2,7 @@
 
 ghost use Rattle.std.specs.Prelude.{◌≡◌, ◌↔◌, IsTrue, MatchResult, Some, IsSomeAnd};
 ghost use Rattle.atomic_checks.specs.UniformLoads.{loaded_at, IsUniformLoadFault};
-ghost use Rattle.ir_expressions.specs.Plain.{expression_view};
+ghost use Rattle.ir_types.specs.ExpressionPlain.{expression_view};
 ghost use Rattle.ir_kinds.specs.declared.spaces.AddressSpace.TheVariants.{WorkGroup};
 ghost use Rattle.spec_expressions.specs.Access.{pointer_to};
 ghost use Rattle.spec_statements.specs.Atomics.{changed_scalar};
@@ -12,13 +12,11 @@ ghost use Rattle.statement_checks.specs.View.{context_view};
 ghost use Rattle.typing_forms.specs.Forms.{form_of_type};
 
 use crate::atomics::changed_scalar;
-use check_operands::are_same;
 use error_functions::FunctionError;
 use ir_arena::handle::Handle;
-use ir_expressions::Expression;
 use ir_kinds::AddressSpace;
-use ir_types::{TypeInner, key};
-use statement_checks::{BlockContext, pointer_space};
+use ir_types::{Expression, TypeInner, key};
+use statement_checks::{BlockContext, are_same, pointer_space};
 use typing_forms::Form;
 
 // Whether a type is a pointer into workgroup memory.

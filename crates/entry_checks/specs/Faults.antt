@@ -23,8 +23,8 @@ use Rattle.spec_entries.specs.Payloads.{space_at, binding_at, has_payload}
 use Rattle.spec_entries.specs.Stages.{runs_in_workgroups, stage_capability, SizeOK}
 use Rattle.spec_entries.specs.Uses.{traces_rays, is_run_for_rays}
 use Rattle.spec_entries.specs.Variables.{AllowsUses, IsUsed, least_payload}
-use Rattle.spec_types.specs.Layout.{size}
-use Rattle.spec_types.specs.View.{type_tree}
+use Rattle.typing_layout.specs.Layout.{size}
+use Rattle.typing_layout.specs.View.{type_tree}
 use Rattle.varying_checks.specs.declared.error.VaryingError.{VaryingError}
 use Rattle.varying_checks.specs.declared.error.VaryingError.TheVariants as varying
 

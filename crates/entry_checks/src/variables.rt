@@ -10,8 +10,8 @@ ghost use Rattle.spec_analysis.specs.Summaries.{HasUseBit};
 ghost use Rattle.spec_entries.specs.Payloads.{space_at};
 ghost use Rattle.spec_entries.specs.Uses.{is_reached};
 ghost use Rattle.spec_entries.specs.Variables.{EachOK, IsUsed, OneImmediate, OwnPayloadOK, VariableOK};
-ghost use Rattle.spec_types.specs.Layout.{size};
-ghost use Rattle.spec_types.specs.View.{type_tree};
+ghost use Rattle.typing_layout.specs.Layout.{size};
+ghost use Rattle.typing_layout.specs.View.{type_tree};
 
 use crate::error::EntryPointError;
 use crate::lookups::{inner_at, is_immediate, is_task_payload, space_at, use_at};

@@ -1,21 +1,21 @@
 //! Values that are composed, and components of vectors in another order.
 
 ghost use Rattle.std.specs.Prelude.{◌↔◌, IsTrue, MatchResult, map};
-ghost use Rattle.check_operands.specs.Refused.{IsRefused};
-ghost use Rattle.check_operands.specs.View.{scene_in, types_in};
+ghost use Rattle.statement_checks.specs.Refused.{IsRefused};
+ghost use Rattle.statement_checks.specs.OperandView.{scene_in, types_in};
 ghost use Rattle.expression_checks.specs.Faults.{IsBadComposition};
 ghost use Rattle.expression_checks.specs.Letters.{MayStand};
 ghost use Rattle.spec_statements.specs.Compositions.{AreComponents, SwizzleOK};
 ghost use Rattle.spec_statements.specs.Scene.{form_at};
 ghost use Rattle.spec_expressions.specs.ConstantCompositions.{ComposeOK};
 
-use check_operands::{CheckContext, refused_unless, shaped_of};
 use error_functions::ExpressionError;
 use ir_arena::handle::Handle;
 use ir_kinds::{SwizzleComponent, VectorSize};
 use ir_types::key;
 use module_expressions::{Components, check_composition};
 use spec_statements::Shape;
+use statement_checks::{CheckContext, refused_unless, shaped_of};
 use typing_forms::Form;
 
 /// Whether components make a value of a type (naga's `validate_compose`).
@@ -81,7 +81,7 @@ fn is_swizzle(size: VectorSize, pattern: [SwizzleComponent; 4], of: Form) -> boo
 /// # Errors
 ///
 /// [`ExpressionError::Other`] where it does not: one of the letters that count is that of no component.
-#[tactic(auto, using(check_operands::proofs::Refusals::by_test))]
+#[tactic(auto, using(statement_checks::proofs::Refusals::by_test))]
 pub fn check_swizzle(
     context: &CheckContext<'_>,
     size: VectorSize,

@@ -1,18 +1,18 @@
 //! Which conversions there are.
 
 ghost use Rattle.std.specs.Prelude.{◌↔◌, IsTrue, MatchResult};
-ghost use Rattle.check_operands.specs.Refused.{IsRefused};
-ghost use Rattle.check_operands.specs.View.{scene_in};
+ghost use Rattle.statement_checks.specs.Refused.{IsRefused};
+ghost use Rattle.statement_checks.specs.OperandView.{scene_in};
 ghost use Rattle.spec_statements.specs.Conversions.{IsConverted, AsOK};
 ghost use Rattle.spec_statements.specs.Scene.{form_at};
-ghost use Rattle.spec_types.specs.Widths.{ScalarOK};
+ghost use Rattle.typing_layout.specs.Widths.{ScalarOK};
 
-use check_operands::{CheckContext, refused_unless, shaped_of};
 use error_functions::ExpressionError;
 use ir_arena::handle::Handle;
 use ir_flags::Capabilities;
 use ir_kinds::{Bytes, Scalar, ScalarKind};
 use ir_types::key;
+use statement_checks::{CheckContext, refused_unless, shaped_of};
 use type_checks::check_width;
 use typing_forms::Form;
 
@@ -54,7 +54,7 @@ fn converts(capabilities: Capabilities, kind: ScalarKind, convert: Option<Bytes>
 /// # Errors
 ///
 /// [`ExpressionError::Other`] where it is not.
-#[tactic(auto, using(check_operands::proofs::Refusals::by_test))]
+#[tactic(auto, using(statement_checks::proofs::Refusals::by_test))]
 pub fn check_as(
     context: &CheckContext<'_>,
     expr: Handle<key::Expression>,

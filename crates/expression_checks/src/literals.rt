@@ -1,18 +1,18 @@
 //! Which literals there are, and which types have a zero.
 
 ghost use Rattle.std.specs.Prelude.{MatchResult};
-ghost use Rattle.check_operands.specs.Refused.{IsRefused};
-ghost use Rattle.check_operands.specs.View.{types_in, IsKnown};
+ghost use Rattle.statement_checks.specs.Refused.{IsRefused};
+ghost use Rattle.statement_checks.specs.OperandView.{types_in, IsKnown};
 ghost use Rattle.expression_checks.specs.Faults.{IsBadLiteral};
 ghost use Rattle.spec_statements.specs.Literals.{ZeroOK};
 ghost use Rattle.spec_expressions.specs.ConstantLiterals.{LiteralOK};
 
-use check_operands::{CheckContext, refused_unless};
 use error_functions::ExpressionError;
 use ir_arena::handle::Handle;
 use ir_flags::Capabilities;
 use ir_kinds::Literal;
 use ir_types::key;
+use statement_checks::{CheckContext, refused_unless};
 use type_checks::validate_literal;
 
 /// Whether a literal may be used.
@@ -34,7 +34,7 @@ pub fn check_literal(capabilities: Capabilities, value: Literal) -> Result<(), E
 /// # Errors
 ///
 /// [`ExpressionError::Other`] where it has none.
-#[tactic(auto, using(check_operands::proofs::Refusals::by_test))]
+#[tactic(auto, using(statement_checks::proofs::Refusals::by_test))]
 pub fn check_zero(
     context: &CheckContext<'_>,
     ty: Handle<key::IrType>,

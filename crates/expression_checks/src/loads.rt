@@ -1,16 +1,16 @@
 //! What is loaded, and what has a length.
 
 ghost use Rattle.std.specs.Prelude.{◌↔◌, IsTrue, MatchResult, Some};
-ghost use Rattle.check_operands.specs.Refused.{IsRefused};
-ghost use Rattle.check_operands.specs.View.{scene_in, types_in, IsKnown};
+ghost use Rattle.statement_checks.specs.Refused.{IsRefused};
+ghost use Rattle.statement_checks.specs.OperandView.{scene_in, types_in, IsKnown};
 ghost use Rattle.ir_types.specs.Plain.{inner_view};
 ghost use Rattle.spec_statements.specs.Loads.{LoadOK, IsDynamic, IsRuntimeArray, ArrayLengthOK};
 ghost use Rattle.spec_statements.specs.Scene.{form_at};
 
-use check_operands::{CheckContext, refused_unless};
 use error_functions::ExpressionError;
 use ir_arena::handle::Handle;
 use ir_types::{ArraySize, TypeInner, key};
+use statement_checks::{CheckContext, refused_unless};
 use typing_forms::Form;
 
 // ---- loads
@@ -44,7 +44,7 @@ fn is_loaded(context: &CheckContext<'_>, pointer: Form) -> bool
 /// # Errors
 ///
 /// [`ExpressionError::Other`] where it is not.
-#[tactic(auto, using(check_operands::proofs::Refusals::by_test))]
+#[tactic(auto, using(statement_checks::proofs::Refusals::by_test))]
 pub fn check_load(
     context: &CheckContext<'_>,
     pointer: Handle<key::Expression>,
@@ -106,7 +106,7 @@ fn has_length(context: &CheckContext<'_>, array: Form) -> bool
 /// # Errors
 ///
 /// [`ExpressionError::Other`] where it has none.
-#[tactic(auto, using(check_operands::proofs::Refusals::by_test))]
+#[tactic(auto, using(statement_checks::proofs::Refusals::by_test))]
 pub fn check_array_length(
     context: &CheckContext<'_>,
     array: Handle<key::Expression>,

@@ -1,17 +1,17 @@
 //! Which ray queries are asked.
 
 ghost use Rattle.std.specs.Prelude.{◌≡◌, ◌↔◌, IsTrue, MatchResult, Some};
-ghost use Rattle.check_operands.specs.Refused.{IsRefused};
-ghost use Rattle.check_operands.specs.View.{scene_in, types_in};
+ghost use Rattle.statement_checks.specs.Refused.{IsRefused};
+ghost use Rattle.statement_checks.specs.OperandView.{scene_in, types_in};
 ghost use Rattle.ir_types.specs.Plain.{inner_view};
 ghost use Rattle.spec_statements.specs.ExpressionRayQueries.{query_of, VertexPositionsOK, IntersectionOK};
 ghost use Rattle.spec_statements.specs.Scene.{form_at};
 ghost use Rattle.spec_statements.specs.Shapes.{pointed_in};
 
-use check_operands::{CheckContext, refused_unless};
 use error_functions::ExpressionError;
 use ir_arena::handle::Handle;
 use ir_types::{TypeInner, key};
+use statement_checks::{CheckContext, refused_unless};
 use typing_forms::Form;
 
 /// Whether the ray query that a type is gives the vertices of a hit.
@@ -68,7 +68,7 @@ fn gives_intersection(context: &CheckContext<'_>, query: Form) -> bool
 /// # Errors
 ///
 /// [`ExpressionError::Other`] where it does not.
-#[tactic(auto, using(check_operands::proofs::Refusals::by_test))]
+#[tactic(auto, using(statement_checks::proofs::Refusals::by_test))]
 pub fn check_vertex_positions(
     context: &CheckContext<'_>,
     query: Handle<key::Expression>,
@@ -85,7 +85,7 @@ pub fn check_vertex_positions(
 /// # Errors
 ///
 /// [`ExpressionError::Other`] where it does not.
-#[tactic(auto, using(check_operands::proofs::Refusals::by_test))]
+#[tactic(auto, using(statement_checks::proofs::Refusals::by_test))]
 pub fn check_intersection(
     context: &CheckContext<'_>,
     query: Handle<key::Expression>,

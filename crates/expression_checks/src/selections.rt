@@ -1,19 +1,19 @@
 //! Which values are chosen from, by which condition; of which values something is asked.
 
 ghost use Rattle.std.specs.Prelude.{◌↔◌, IsTrue, MatchResult};
-ghost use Rattle.check_operands.specs.Refused.{IsRefused};
-ghost use Rattle.check_operands.specs.View.{scene_in};
+ghost use Rattle.statement_checks.specs.Refused.{IsRefused};
+ghost use Rattle.statement_checks.specs.OperandView.{scene_in};
 ghost use Rattle.spec_statements.specs.Scene.{form_at};
 ghost use Rattle.spec_statements.specs.Selections.{ChoosesFrom, IsCondition, SelectOK, RelationalOK};
 ghost use Rattle.spec_statements.specs.Shapes.{IsRow, IsOfValue, IsFloating, IsTruth, IsMadeOf};
 
 use crate::shapes::is_of_value;
-use check_operands::{CheckContext, are_same, is_floating, is_truth, refused_unless, shaped_of};
 use error_functions::ExpressionError;
 use ir_arena::handle::Handle;
 use ir_kinds::{RelationalFunction, VectorSize};
 use ir_types::key;
 use spec_statements::Shape;
+use statement_checks::{CheckContext, are_same, is_floating, is_truth, refused_unless, shaped_of};
 use typing_forms::Form;
 
 // ---- selections
@@ -67,7 +67,7 @@ fn is_selection(condition: &Form, accept: &Form, reject: &Form) -> bool
 /// # Errors
 ///
 /// [`ExpressionError::Other`] where it does not.
-#[tactic(auto, using(check_operands::proofs::Refusals::by_test))]
+#[tactic(auto, using(statement_checks::proofs::Refusals::by_test))]
 pub fn check_select(
     context: &CheckContext<'_>,
     condition: Handle<key::Expression>,
@@ -131,7 +131,7 @@ fn relates(fun: RelationalFunction, of: Form) -> bool
 /// # Errors
 ///
 /// [`ExpressionError::Other`] where it does not.
-#[tactic(auto, using(check_operands::proofs::Refusals::by_test))]
+#[tactic(auto, using(statement_checks::proofs::Refusals::by_test))]
 pub fn check_relational(
     context: &CheckContext<'_>,
     fun: RelationalFunction,

@@ -8,12 +8,12 @@ use Rattle.ir_kinds.specs.declared.values.Literal.{Literal}
 use Rattle.ir_kinds.specs.declared.values.Literal.TheVariants as literal
 use Rattle.ir_kinds.specs.declared.scalars.SwizzleComponent.{SwizzleComponent}
 use Rattle.ir_kinds.specs.declared.scalars.SwizzleComponent.TheVariants.{X, Y, Z, W}
-use Rattle.ir_expressions.specs.declared.expressions.SampleLevel.{SampleLevel}
-use Rattle.ir_expressions.specs.declared.expressions.SampleLevel.TheVariants as level
-use Rattle.ir_expressions.specs.declared.expressions.ImageQuery.{ImageQuery}
-use Rattle.ir_expressions.specs.declared.expressions.ImageQuery.TheVariants as query
-use Rattle.ir_expressions.specs.Plain.{PlainExpression, compose, plain as computes}
-use Rattle.ir_expressions.specs.declared.expressions.Expression.TheVariants as computed
+use Rattle.ir_types.specs.declared.expressions.SampleLevel.{SampleLevel}
+use Rattle.ir_types.specs.declared.expressions.SampleLevel.TheVariants as level
+use Rattle.ir_types.specs.declared.expressions.ImageQuery.{ImageQuery}
+use Rattle.ir_types.specs.declared.expressions.ImageQuery.TheVariants as query
+use Rattle.ir_types.specs.ExpressionPlain.{PlainExpression, compose, plain as computes}
+use Rattle.ir_types.specs.declared.expressions.Expression.TheVariants as computed
 use Rattle.document_words.specs.Tables.{letters, cooperative_roles, unary_operators, binary_operators, derivative_axes, derivative_controls, relational_functions, math_functions, scalar_kinds}
 use Rattle.document_forms.specs.Exact.{deepest, IsExact, FormOf, RowOf}
 use Rattle.document_forms.specs.Decide.{◌>>=◌, of_kind, tagged_of}

@@ -1,7 +1,7 @@
 // Expressions, each kind by a function of its own.
 ghost use Rattle.std.specs.Prelude.{◌≡◌, option_map};
 ghost use Rattle.serde_json.specs.View.{view as data_of, items_view};
-ghost use Rattle.ir_expressions.specs.Plain.{PlainExpression, expression_view};
+ghost use Rattle.ir_types.specs.ExpressionPlain.{PlainExpression, expression_view};
 ghost use Rattle.document_forms.specs.Answers.{Answers};
 ghost use Rattle.expression_forms.specs.Expressions.{expression_with, an_expression};
 
@@ -11,12 +11,11 @@ use crate::literals::LiteralRow;
 use document_forms::{
     At, Each, End, Form, Maybe, ReadError, Side, Size, Truth, U8, U32, WordOf, read_items, read_tag,
 };
-use ir_expressions::{CooperativeData, Expression};
 use ir_kinds::{
     BinaryOperator, CooperativeRole, DerivativeAxis, DerivativeControl, MathFunction,
     RelationalFunction, ScalarKind, SwizzleComponent, UnaryOperator,
 };
-use ir_types::key;
+use ir_types::{CooperativeData, Expression, key};
 use serde_json::Value;
 use std::alloc::Global;
 

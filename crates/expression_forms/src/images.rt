@@ -1,15 +1,14 @@
 // How images are read: levels of detail, queries, and the letters of a swizzle.
 ghost use Rattle.std.specs.Prelude.{◌≡◌, List, option_map};
 ghost use Rattle.ir_kinds.specs.declared.scalars.SwizzleComponent.{SwizzleComponent};
-ghost use Rattle.ir_expressions.specs.declared.expressions.SampleLevel.{SampleLevel};
-ghost use Rattle.ir_expressions.specs.declared.expressions.ImageQuery.{ImageQuery};
+ghost use Rattle.ir_types.specs.declared.expressions.SampleLevel.{SampleLevel};
+ghost use Rattle.ir_types.specs.declared.expressions.ImageQuery.{ImageQuery};
 ghost use Rattle.expression_forms.specs.Expressions.{letter_in, next_letter, last_letter, pattern_in, a_level, a_query, a_pattern};
 
 use crate::kinds::{LevelKind, QueryKind};
 use document_forms::{At, End, Form, Maybe, ReadError, Wanted, read_items, read_tag};
-use ir_expressions::{ImageQuery, SampleLevel};
 use ir_kinds::SwizzleComponent;
-use ir_types::key;
+use ir_types::{ImageQuery, SampleLevel, key};
 use serde_json::Value;
 use std::alloc::Global;
 

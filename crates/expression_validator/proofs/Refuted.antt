@@ -6,9 +6,9 @@ use Rattle.error_functions.specs.declared.expressions.ExpressionError.{Expressio
 use Rattle.error_functions.specs.declared.expressions.ExpressionError.TheVariants as error
 use Rattle.expression_validator.specs.Faults.{IsPlainFault, IsFaultOf}
 use Rattle.expression_validator.specs.Laws.{ExpressionRefuted}
-use Rattle.ir_expressions.specs.Plain.{PlainExpression, compose, plain}
-use Rattle.ir_expressions.specs.declared.expressions.Expression.{Expression}
-use Rattle.ir_expressions.specs.declared.expressions.Expression.TheVariants as x
+use Rattle.ir_types.specs.ExpressionPlain.{PlainExpression, compose, plain}
+use Rattle.ir_types.specs.declared.expressions.Expression.{Expression}
+use Rattle.ir_types.specs.declared.expressions.Expression.TheVariants as x
 use Rattle.ir_kinds.specs.declared.values.Literal.{Literal}
 use Rattle.spec_statements.specs.Access.{literal_in}
 use Rattle.spec_statements.specs.Checks.{CheckOf}

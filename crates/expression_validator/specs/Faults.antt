@@ -1,10 +1,10 @@
 -- Why an expression is refused.
 use Rattle.std.specs.Prelude.{◌≡◌, ℕ, Option, Some, None, map, slice_get}
-use Rattle.check_operands.specs.Refused.{IsRefused}
+use Rattle.statement_checks.specs.Refused.{IsRefused}
 use Rattle.error_functions.specs.declared.expressions.ExpressionError.{ExpressionError}
 use Rattle.expression_checks.specs.Faults.{IsBadLiteral, IsBadComposition}
-use Rattle.ir_expressions.specs.Plain.{PlainExpression, compose, plain}
-use Rattle.ir_expressions.specs.declared.expressions.Expression.{Expression}
+use Rattle.ir_types.specs.ExpressionPlain.{PlainExpression, compose, plain}
+use Rattle.ir_types.specs.declared.expressions.Expression.{Expression}
 use Rattle.ir_kinds.specs.declared.values.Literal.{Literal}
 use Rattle.spec_statements.specs.Access.{literal_in}
 use Rattle.spec_statements.specs.Checks.{CheckOf}

@@ -1,14 +1,13 @@
 //! The checks of all kinds of expressions: one arm for each kind.
 
 ghost use Rattle.std.specs.Prelude.{◌<◌, length, MatchResult};
-ghost use Rattle.check_operands.specs.View.{scene_in, IsKnown};
+ghost use Rattle.statement_checks.specs.OperandView.{scene_in, IsKnown};
 ghost use Rattle.expression_validator.specs.Faults.{IsFaultOf, IsExpressionFault};
-ghost use Rattle.ir_expressions.specs.Plain.{expression_view};
+ghost use Rattle.ir_types.specs.ExpressionPlain.{expression_view};
 ghost use Rattle.spec_statements.specs.Expressions.{AskedOf, ExpressionOK};
 ghost use Rattle.spec_statements.specs.ExpressionStages.{IsRunBy};
 
 use crate::stages::stages_of;
-use check_operands::CheckContext;
 use error_functions::ExpressionError;
 use expression_checks::{
     check_access, check_access_index, check_array_length, check_as, check_atomic_result,
@@ -18,10 +17,10 @@ use expression_checks::{
 };
 use image_checks::{check_image_load, check_image_query, check_image_sample};
 use ir_arena::handle::Handle;
-use ir_expressions::Expression;
 use ir_flags::ShaderStages;
-use ir_types::key;
+use ir_types::{Expression, key};
 use spec_statements::Sampling;
+use statement_checks::CheckContext;
 
 // Whether what is asked of an expression is met.
 fn check_expression(

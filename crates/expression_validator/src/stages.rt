@@ -1,14 +1,13 @@
 //! Which stages may run an expression.
 
 ghost use Rattle.std.specs.Prelude.{◌≡◌};
-ghost use Rattle.ir_expressions.specs.Plain.{expression_view};
+ghost use Rattle.ir_types.specs.ExpressionPlain.{expression_view};
 ghost use Rattle.spec_statements.specs.ExpressionStages.{all_stages, sample_stages, callee_stages, stages_of};
 
 use bitflags::Flags;
 use ir_arena::handle::Handle;
-use ir_expressions::{Expression, SampleLevel};
 use ir_flags::ShaderStages;
-use ir_types::key;
+use ir_types::{Expression, SampleLevel, key};
 
 // Those that may sample an image at a level.
 fn sample_stages(level: SampleLevel) -> ShaderStages

@@ -6,7 +6,7 @@ use Rattle.error_functions.specs.declared.error.FunctionError.{FunctionError}
 use Rattle.error_functions.specs.declared.error.FunctionError.TheVariants as error
 use Rattle.interface_checks.specs.Answered.{AllAnswered, IsUnansweredFault}
 use Rattle.ir_blocks.specs.Places.{Place}
-use Rattle.ir_expressions.specs.Plain.{PlainExpression}
+use Rattle.ir_types.specs.ExpressionPlain.{PlainExpression}
 use Rattle.spec_statements.specs.BlockContext.{BlockContext}
 use Rattle.spec_statements.specs.Results.{AnswersBy, StandsForAnswer, of_call, of_atomic}
 use Rattle.function_validator.specs.Faults.{IsUnanswered}

@@ -2,13 +2,13 @@
 use Rattle.std.proofs.Common.{◌≡◌, ◌∙◌, ◌≤◌, ◌⊎◌, ◌≢◌, inl, inr, ℕ, List, Some, IfSome, sym, ap, subst, arith}
 use Rattle.std.specs.Int.{◌∣◌}
 use Rattle.ir_types.specs.Plain.{PlainType}
-use Rattle.spec_types.specs.Buffers.{IsStorage, IsUniform, StorageAt, UniformAt, uniform_alignment, free_behind}
-use Rattle.spec_types.specs.Flags.{HasFlag, AllHave, HostShareable}
-use Rattle.spec_types.specs.Immediates.{FitsImmediates, ImmediateAt, scalar_of}
-use Rattle.spec_types.specs.Parts.{Part, before, listed, Everywhere, EverywhereIn, Somewhere, SomewhereIn}
-use Rattle.spec_types.specs.Layout.{alignment}
-use Rattle.spec_types.specs.Tree.{Tree, scalar, vector, matrix, cooperative_matrix, atomic, pointer, value_pointer, array, struct, image, sampler, acceleration_structure, ray_query, binding_array, Members, no_members, member}
-use Rattle.spec_types.specs.View.{type_tree}
+use Rattle.typing_layout.specs.Buffers.{IsStorage, IsUniform, StorageAt, UniformAt, uniform_alignment, free_behind}
+use Rattle.typing_layout.specs.Flags.{HasFlag, AllHave, HostShareable}
+use Rattle.typing_layout.specs.Immediates.{FitsImmediates, ImmediateAt, scalar_of}
+use Rattle.typing_layout.specs.Parts.{Part, before, listed, Everywhere, EverywhereIn, Somewhere, SomewhereIn}
+use Rattle.typing_layout.specs.Layout.{alignment}
+use Rattle.typing_layout.specs.Tree.{Tree, scalar, vector, matrix, cooperative_matrix, atomic, pointer, value_pointer, array, struct, image, sampler, acceleration_structure, ray_query, binding_array, Members, no_members, member}
+use Rattle.typing_layout.specs.View.{type_tree}
 use Rattle.type_infos.specs.BufferFaults.{BreaksStorage, BreaksUniform, IsBroken, IsUnfit, IsBadStride, IsBadSpan, IsBadOffset, IsNearBehind}
 use Rattle.type_infos.specs.declared.error.Disalignment.{Disalignment}
 use Rattle.type_infos.specs.declared.error.Disalignment.TheVariants as fault

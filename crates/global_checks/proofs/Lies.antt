@@ -15,11 +15,11 @@ use Rattle.ir_kinds.specs.declared.spaces.AddressSpace.{AddressSpace}
 use Rattle.ir_kinds.specs.declared.spaces.AddressSpace.TheVariants.{Uniform, Storage, Immediate, TaskPayload}
 use Rattle.ir_types.specs.Plain.{PlainInner, PlainType}
 use Rattle.immediate_slots.proofs.SizeLemmas.{size_found}
-use Rattle.spec_types.specs.Buffers.{IsStorage, IsUniform, uniform_alignment}
-use Rattle.spec_types.specs.Immediates.{FitsImmediates}
+use Rattle.typing_layout.specs.Buffers.{IsStorage, IsUniform, uniform_alignment}
+use Rattle.typing_layout.specs.Immediates.{FitsImmediates}
 use Rattle.spec_globals.specs.Spaces.{LiesIn, counted, is_storage}
-use Rattle.spec_types.specs.Layout.{alignment}
-use Rattle.spec_types.specs.Tree.{Tree}
+use Rattle.typing_layout.specs.Layout.{alignment}
+use Rattle.typing_layout.specs.Tree.{Tree}
 use Rattle.type_infos.specs.BufferFaults.{BreaksStorage, BreaksUniform, IsBroken, IsUnfit}
 use Rattle.type_infos.specs.Infos.{HasInfo}
 use Rattle.type_infos.specs.declared.error.Disalignment.{Disalignment}

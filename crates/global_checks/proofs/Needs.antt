@@ -8,9 +8,9 @@ use Rattle.ir_flags.specs.declared.settings.Capabilities.{Capabilities}
 use Rattle.ir_kinds.specs.declared.spaces.AddressSpace.{AddressSpace}
 use Rattle.ir_kinds.specs.declared.spaces.AddressSpace.TheVariants.{Function, Private, WorkGroup, Uniform, Storage, Handle, Immediate, TaskPayload, RayPayload, IncomingRayPayload}
 use Rattle.global_checks.specs.Faults.{required_bits}
-use Rattle.spec_types.specs.Flags.{TypeFlag, bit, among, HasFlag, Data, Sized, Copy, IoShareable, HostShareable, CreationResolved, Argument, Constructible}
+use Rattle.typing_layout.specs.Flags.{TypeFlag, bit, among, HasFlag, Data, Sized, Copy, IoShareable, HostShareable, CreationResolved, Argument, Constructible}
 use Rattle.spec_globals.specs.Spaces.{required, HasAll}
-use Rattle.spec_types.specs.Tree.{Tree}
+use Rattle.typing_layout.specs.Tree.{Tree}
 use Rattle.type_infos.specs.Infos.{AreFlags}
 use Rattle.type_infos.specs.declared.flags.TypeFlags.{TypeFlags}
 

@@ -14,10 +14,10 @@ use Rattle.ir_items.specs.Plain.{PlainModule}
 use Rattle.ir_kinds.specs.declared.spaces.AddressSpace.{AddressSpace}
 use Rattle.ir_kinds.specs.declared.spaces.AddressSpace.TheVariants.{Storage}
 use Rattle.ir_types.specs.Plain.{PlainInner}
-use Rattle.spec_types.specs.Buffers.{IsStorage}
+use Rattle.typing_layout.specs.Buffers.{IsStorage}
 use Rattle.spec_globals.specs.Globals.{BeginsOK, VariableOK, GlobalOK}
 use Rattle.spec_globals.specs.Spaces.{array_capability, space_capability, BindingArrayOK, LiesIn, is_storage}
-use Rattle.spec_types.specs.Tree.{Tree}
+use Rattle.typing_layout.specs.Tree.{Tree}
 use Rattle.typing_forms.specs.Resolutions.{inner_at}
 
 some_none : {A : Type 0} (o : Option A) (x : A) → o ≡ Some x → o ≡ None → ⊥

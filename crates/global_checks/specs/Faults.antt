@@ -19,9 +19,9 @@ use Rattle.spec_expressions.specs.Overrides.{IsKnownByOverrides}
 use Rattle.spec_expressions.specs.Typing.{HasGlobalType}
 use Rattle.spec_globals.specs.Handles.{is_handle}
 use Rattle.spec_globals.specs.Spaces.{array_base, counted, array_capability, space_capability, required, HasAll, is_resource, is_storage}
-use Rattle.spec_types.specs.Layout.{size}
-use Rattle.spec_types.specs.Tree.{Tree}
-use Rattle.spec_types.specs.View.{type_tree}
+use Rattle.typing_layout.specs.Layout.{size}
+use Rattle.typing_layout.specs.Tree.{Tree}
+use Rattle.typing_layout.specs.View.{type_tree}
 use Rattle.type_infos.specs.BufferFaults.{BreaksStorage, BreaksUniform, IsBroken, IsUnfit}
 use Rattle.type_infos.specs.Infos.{AreFlags}
 use Rattle.type_infos.specs.declared.error.Disalignment.{Disalignment}

@@ -5,9 +5,9 @@ use Rattle.ir_arena.specs.declared.span.Span.{Span}
 use Rattle.ir_types.specs.Plain.{PlainMember, PlainInner, struct, plain, PlainType}
 use Rattle.ir_types.specs.declared.types.IrType.{IrType}
 use Rattle.ir_types.specs.declared.types.TypeInner.TheVariants as inner
-use Rattle.spec_types.proofs.Trees.{tree_by_trees}
-use Rattle.spec_types.specs.Tree.{Tree, member, pointer, array, binding_array, struct as struct_tree, no_type}
-use Rattle.spec_types.specs.View.{members_by, tree_by, tree_found, tree_along, type_tree}
+use Rattle.typing_layout.proofs.Trees.{tree_by_trees}
+use Rattle.typing_layout.specs.Tree.{Tree, member, pointer, array, binding_array, struct as struct_tree, no_type}
+use Rattle.typing_layout.specs.View.{members_by, tree_by, tree_found, tree_along, type_tree}
 use Rattle.typing_forms.specs.Order.{named_types, TypesGoBack}
 use Rattle.typing_forms.specs.Resolutions.{inner_at, types_view}
 

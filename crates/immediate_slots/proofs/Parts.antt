@@ -9,8 +9,8 @@ use Rattle.immediate_slots.specs.Reached.{IsReached, IsReachedIn, IsReachedAmong
 use Rattle.immediate_slots.specs.Slots.{IsIn, Meets}
 use Rattle.ir_types.specs.Plain.{PlainMember, PlainInner, PlainType, member_view}
 use Rattle.ir_types.specs.declared.types.StructMember.{StructMember}
-use Rattle.spec_types.specs.Tree.{Tree, scalar, vector, matrix, cooperative_matrix, atomic, pointer, value_pointer, array, struct, image, sampler, acceleration_structure, ray_query, binding_array, Members, no_members, member}
-use Rattle.spec_types.specs.View.{members_by, tree_by, tree_found, tree_along}
+use Rattle.typing_layout.specs.Tree.{Tree, scalar, vector, matrix, cooperative_matrix, atomic, pointer, value_pointer, array, struct, image, sampler, acceleration_structure, ray_query, binding_array, Members, no_members, member}
+use Rattle.typing_layout.specs.View.{members_by, tree_by, tree_found, tree_along}
 use Rattle.typing_forms.specs.Resolutions.{inner_at}
 
 -- ---- numbers

@@ -10,9 +10,9 @@ use Rattle.ir_items.specs.declared.globals.GlobalVariable.{GlobalVariable}
 use Rattle.ir_items.specs.Plain.{PlainModule}
 use Rattle.ir_kinds.specs.declared.spaces.AddressSpace.TheVariants.{Immediate}
 use Rattle.ir_types.specs.Plain.{PlainInner, PlainType}
-use Rattle.spec_types.proofs.Sizes.{size_of_tree}
-use Rattle.spec_types.specs.Layout.{size}
-use Rattle.spec_types.specs.View.{tree_found, tree_along, type_tree}
+use Rattle.typing_layout.proofs.Sizes.{size_of_tree}
+use Rattle.typing_layout.specs.Layout.{size}
+use Rattle.typing_layout.specs.View.{tree_found, tree_along, type_tree}
 use Rattle.typing_forms.specs.Resolutions.{inner_at}
 use Rattle.typing_forms.specs.Sizes.{type_size}
 

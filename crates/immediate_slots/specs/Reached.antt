@@ -3,8 +3,8 @@ use Rattle.std.specs.Prelude.{◌<◌, ◌+◌, ◌*◌, ◌⊎◌, ℕ}
 use Rattle.std.specs.List.{Contains}
 use Rattle.immediate_slots.specs.Slots.{Meets}
 use Rattle.immediate_slots.specs.Leaves.{Leaf, leaves}
-use Rattle.spec_types.specs.Layout.{size}
-use Rattle.spec_types.specs.Tree.{Tree, scalar, vector, matrix, cooperative_matrix, atomic, pointer, value_pointer, array, struct, image, sampler, acceleration_structure, ray_query, binding_array, Members, no_members, member}
+use Rattle.typing_layout.specs.Layout.{size}
+use Rattle.typing_layout.specs.Tree.{Tree, scalar, vector, matrix, cooperative_matrix, atomic, pointer, value_pointer, array, struct, image, sampler, acceleration_structure, ray_query, binding_array, Members, no_members, member}
 use Rattle.typing_forms.specs.Sizes.{counted}
 
 -- a leaf of the value, which begins at an offset, meets the slot

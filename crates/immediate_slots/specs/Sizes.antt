@@ -3,8 +3,8 @@ use Rattle.std.specs.Prelude.{◌≡◌, ◌≤◌, ◌<◌, ◌⊎◌, ℕ, Som
 use Rattle.ir_items.specs.GlobalPlain.{PlainGlobal}
 use Rattle.ir_items.specs.Plain.{PlainModule}
 use Rattle.ir_kinds.specs.declared.spaces.AddressSpace.TheVariants.{Immediate}
-use Rattle.spec_types.specs.Layout.{size}
-use Rattle.spec_types.specs.View.{type_tree}
+use Rattle.typing_layout.specs.Layout.{size}
+use Rattle.typing_layout.specs.View.{type_tree}
 
 -- the global variable at a handle is immediate data of so many bytes
 pub record TakesBytes (m : PlainModule) (handle bytes : ℕ) : Type 0 where

@@ -4,8 +4,8 @@ ghost use Rattle.std.specs.Prelude.{◌≡◌, ◌↔◌, ◌<◌, ◌+◌, ◌*
 ghost use Rattle.immediate_slots.specs.Reached.{IsReached, IsReachedIn, IsReachedAmong, IsMet};
 ghost use Rattle.immediate_slots.specs.Slots.{IsIn, Meets};
 ghost use Rattle.ir_types.specs.Plain.{inner_view, member_view};
-ghost use Rattle.spec_types.specs.Tree.{Tree};
-ghost use Rattle.spec_types.specs.View.{members_by, tree_by, tree_along, type_tree};
+ghost use Rattle.typing_layout.specs.Tree.{Tree};
+ghost use Rattle.typing_layout.specs.View.{members_by, tree_by, tree_along, type_tree};
 ghost use Rattle.typing_forms.specs.Order.{TypesGoBack};
 ghost use Rattle.typing_forms.specs.Resolutions.{types_view};
 ghost use Rattle.typing_forms.specs.Sizes.{counted, type_size};

@@ -4,8 +4,8 @@ ghost use Rattle.std.specs.Prelude.{◌≡◌, ◌↔◌, ◌≤◌, ◌⊎◌, 
 ghost use Rattle.immediate_slots.specs.Sizes.{AreGreatest};
 ghost use Rattle.ir_items.specs.View.{module_view};
 ghost use Rattle.ir_kinds.specs.declared.spaces.AddressSpace.TheVariants.{Immediate};
-ghost use Rattle.spec_types.specs.Layout.{size};
-ghost use Rattle.spec_types.specs.View.{type_tree};
+ghost use Rattle.typing_layout.specs.Layout.{size};
+ghost use Rattle.typing_layout.specs.View.{type_tree};
 ghost use Rattle.typing_forms.specs.Resolutions.{types_view};
 
 use crate::slots::ImmediateSlots;

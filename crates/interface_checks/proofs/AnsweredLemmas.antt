@@ -3,8 +3,8 @@ use Rattle.std.proofs.Common.{◌≡◌, ◌↔◌, ◌⊎◌, inl, inr, ℕ, �
 use Rattle.std.proofs.lemmas.Option.{slice_get_within}
 use Rattle.interface_checks.proofs.Below.{below_or_same}
 use Rattle.interface_checks.specs.Answered.{Stands, IsAnswered, AllAnswered, AnsweredBelow, IsUnanswered}
-use Rattle.ir_expressions.specs.Plain.{PlainExpression, plain}
-use Rattle.ir_expressions.specs.declared.expressions.Expression.TheVariants as x
+use Rattle.ir_types.specs.ExpressionPlain.{PlainExpression, plain}
+use Rattle.ir_types.specs.declared.expressions.Expression.TheVariants as x
 use Rattle.spec_statements.specs.Results.{StandsForAnswer, of_call, of_atomic}
 
 some_is : {A : Type 0} (a b : A) → Some a ≡ Some b → a ≡ b

@@ -1,11 +1,11 @@
 -- Flags of types that may not be there, and when values are known.
 use Rattle.std.proofs.Common.{◌≡◌, ◌≤◌, ◌<◌, ◌↔◌, ◌⊎◌, inl, inr, ◌∙◌, ℕ, zero, suc, List, [], ◌∷◌, Some, IsTrue, true, length, slice_get, refl, sym, ap, subst, arith}
 use Rattle.std.proofs.lemmas.Option.{slice_get_within}
-use Rattle.check_operands.proofs.Absent.{none_there}
-use Rattle.ir_expressions.specs.Plain.{PlainExpression}
+use Rattle.statement_checks.proofs.Absent.{none_there}
+use Rattle.ir_types.specs.ExpressionPlain.{PlainExpression}
 use Rattle.ir_types.specs.Plain.{PlainType}
-use Rattle.spec_types.specs.Flags.{HasFlag, Argument}
-use Rattle.spec_types.specs.View.{type_tree}
+use Rattle.typing_layout.specs.Flags.{HasFlag, Argument}
+use Rattle.typing_layout.specs.View.{type_tree}
 use Rattle.typing_layout.proofs.Latest.{one_kind}
 use Rattle.typing_layout.specs.Constness.{AreKinds, IsOfKind, by_itself, by_operands}
 use Rattle.typing_layout.specs.declared.constness.ExpressionKind.{ExpressionKind}

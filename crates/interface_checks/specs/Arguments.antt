@@ -8,11 +8,11 @@ use Rattle.interface_checks.specs.declared.arguments.ArgumentFault.{ArgumentFaul
 use Rattle.interface_checks.specs.declared.arguments.ArgumentFault.TheVariants as fault
 use Rattle.ir_items.specs.Plain.{PlainArgument, PlainModule}
 use Rattle.ir_kinds.specs.declared.spaces.AddressSpace.{AddressSpace}
-use Rattle.spec_types.specs.Flags.{HasFlag, Argument}
+use Rattle.typing_layout.specs.Flags.{HasFlag, Argument}
 use Rattle.spec_statements.specs.BlockContext.{BlockContext}
 use Rattle.spec_statements.specs.Interfaces.{ArgumentOK, IsGiven}
 use Rattle.spec_statements.specs.Stores.{pointer_space}
-use Rattle.spec_types.specs.View.{type_tree}
+use Rattle.typing_layout.specs.View.{type_tree}
 use Rattle.typing_forms.specs.Forms.{form_of_type}
 
 -- it points into a space that functions are given no pointers into

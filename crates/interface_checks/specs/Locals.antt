@@ -7,10 +7,10 @@ use Rattle.error_functions.specs.declared.locals.LocalVariableError.TheVariants.
 use Rattle.interface_checks.specs.Items.{IsFirstAt}
 use Rattle.interface_checks.specs.Named.{name_of}
 use Rattle.ir_items.specs.Plain.{PlainLocal}
-use Rattle.spec_types.specs.Flags.{HasFlag, Constructible}
+use Rattle.typing_layout.specs.Flags.{HasFlag, Constructible}
 use Rattle.spec_statements.specs.BlockContext.{BlockContext, form_at}
 use Rattle.spec_statements.specs.Interfaces.{LocalOK}
-use Rattle.spec_types.specs.View.{type_tree}
+use Rattle.typing_layout.specs.View.{type_tree}
 use Rattle.typing_forms.specs.Forms.{form_of_type}
 use Rattle.typing_layout.specs.Constness.{IsOfKind}
 use Rattle.typing_layout.specs.declared.constness.ExpressionKind.TheVariants.{Const, Override}

@@ -2,9 +2,9 @@
 use Rattle.std.specs.Prelude.{◌≡◌, Bool, false, None, IsSomeAnd}
 use Rattle.error_functions.specs.declared.error.FunctionError.{FunctionError}
 use Rattle.error_functions.specs.declared.error.FunctionError.TheVariants as error
-use Rattle.spec_types.specs.Flags.{HasFlag, Constructible}
+use Rattle.typing_layout.specs.Flags.{HasFlag, Constructible}
 use Rattle.spec_statements.specs.BlockContext.{BlockContext}
-use Rattle.spec_types.specs.View.{type_tree}
+use Rattle.typing_layout.specs.View.{type_tree}
 
 -- values of its type can't be composed; or it is bound, and the function is no entry point's
 abbrev pub IsResultFault : BlockContext → (entry : Bool) → FunctionError → Type 0

@@ -2,13 +2,13 @@
 
 ghost use Rattle.std.specs.Prelude.{◌≡◌, ◌↔◌, IsTrue, MatchResult, Some, true, slice_get};
 ghost use Rattle.interface_checks.specs.Answered.{Stands, AllAnswered, IsUnansweredFault};
-ghost use Rattle.ir_expressions.specs.Plain.{expression_view};
+ghost use Rattle.ir_types.specs.ExpressionPlain.{expression_view};
 ghost use Rattle.ir_items.specs.View.{function_view};
 
 use error_functions::FunctionError;
 use ir_arena::handle::Handle;
-use ir_expressions::Expression;
 use ir_items::Function;
+use ir_types::Expression;
 
 // Whether an expression stands for the answer of a call or of an atomic operation.
 const fn stands_for_answer(expression: &Expression) -> bool

@@ -3,8 +3,8 @@
 ghost use Rattle.std.specs.Prelude.{◌↔◌, IsTrue, List};
 ghost use Rattle.interface_checks.specs.Told.{AreTold};
 ghost use Rattle.ir_types.specs.Plain.{PlainType};
-ghost use Rattle.spec_types.specs.Flags.{HasFlag, Argument, Constructible};
-ghost use Rattle.spec_types.specs.View.{type_tree};
+ghost use Rattle.typing_layout.specs.Flags.{HasFlag, Argument, Constructible};
+ghost use Rattle.typing_layout.specs.View.{type_tree};
 
 use bitflags::Flags;
 use ir_arena::handle::Handle;

@@ -14,14 +14,13 @@ ghost use Rattle.typing_layout.specs.declared.constness.ExpressionKind.TheVarian
 
 use crate::flags::is_constructible;
 use crate::names::name_of;
-use check_operands::are_same;
 use error_functions::{FunctionError, LocalVariableError};
 use ir_arena::handle::Handle;
 use ir_faults::refusal::Refusal;
 use ir_faults::with_span::WithSpan;
 use ir_items::LocalVariable;
 use ir_types::key;
-use statement_checks::BlockContext;
+use statement_checks::{BlockContext, are_same};
 use std::alloc::Global;
 use type_infos::TypeInfo;
 

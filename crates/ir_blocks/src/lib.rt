@@ -11,8 +11,10 @@ mod span_iter;
 mod statements;
 mod terminator;
 
-pub use ir_expressions::{CooperativeData, Expression, ImageQuery, SampleLevel};
-pub use ir_types::{ArraySize, IrType, StructMember, TypeInner, key};
+pub use ir_types::{
+    ArraySize, CooperativeData, Expression, ImageQuery, IrType, SampleLevel, StructMember,
+    TypeInner, key,
+};
 pub use operations::{AtomicFunction, GatherMode, RayPipelineFunction, RayQueryFunction};
 pub use returns::{ensure_block_returns, put_returns, reserve_returns};
 pub use span_iter::{SpanIntoIter, SpanIter, SpanIterMut};

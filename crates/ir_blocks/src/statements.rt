@@ -7,10 +7,9 @@ use crate::operations::{AtomicFunction, GatherMode, RayPipelineFunction, RayQuer
 use ir_arena::handle::Handle;
 use ir_arena::range::Range;
 use ir_arena::span::Span;
-use ir_expressions::CooperativeData;
 use ir_flags::Barrier;
 use ir_kinds::{CollectiveOperation, SubgroupOperation, SwitchValue};
-use ir_types::key;
+use ir_types::{CooperativeData, key};
 use std::alloc::{AllocError, Global};
 
 /// Statements in order, each with its span (naga's `Block`).

@@ -4,7 +4,7 @@ use Rattle.std.specs.List.{All, AllPairs, cons_option}
 use Rattle.ir_arena.specs.declared.span.Span.{Span}
 use Rattle.ir_arena.specs.Arenas.{span_of_entry}
 use Rattle.ir_arena.specs.Spans.{total_span}
-use Rattle.ir_expressions.specs.declared.expressions.Expression.{Expression}
+use Rattle.ir_types.specs.declared.expressions.Expression.{Expression}
 use Rattle.ir_blocks.specs.Plain.{PlainStatement, emit}
 
 -- the statement and the span of what was appended from a count on, if anything was

@@ -1,6 +1,6 @@
 -- Functions and modules are copied part by part.
 use Rattle.std.proofs.Common.{◌≡◌, List, [], ◌∷◌, map, option_map, string_bytes, refl, sym, ap, ◌∙◌}
-use Rattle.ir_expressions.specs.Plain.{expression_view}
+use Rattle.ir_types.specs.ExpressionPlain.{expression_view}
 use Rattle.ir_types.specs.Plain.{type_view}
 use Rattle.ir_blocks.specs.View.{block_view, block_spans}
 use Rattle.ir_items.specs.GlobalView.{values_of, special_view, constant_view, override_view, global_view, node_view}

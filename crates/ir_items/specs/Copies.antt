@@ -2,7 +2,7 @@
 use Rattle.std.specs.Prelude.{List, map}
 use Rattle.ir_arena.specs.declared.span.Span.{Span}
 use Rattle.ir_types.specs.Plain.{PlainType, type_view}
-use Rattle.ir_expressions.specs.Plain.{PlainExpression, expression_view}
+use Rattle.ir_types.specs.ExpressionPlain.{PlainExpression, expression_view}
 use Rattle.ir_items.specs.GlobalPlain.{PlainConstant, PlainOverride, PlainGlobal, PlainNode}
 use Rattle.ir_items.specs.Plain.{PlainLocal, PlainFunction, PlainEntry, PlainModule}
 use Rattle.ir_blocks.specs.Spans.{BlockSpans}

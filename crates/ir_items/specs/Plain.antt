@@ -4,7 +4,7 @@ use Rattle.ir_kinds.specs.declared.bindings.Binding.{Binding}
 use Rattle.ir_kinds.specs.declared.stages.ShaderStage.{ShaderStage}
 use Rattle.ir_kinds.specs.declared.stages.EarlyDepthTest.{EarlyDepthTest}
 use Rattle.ir_types.specs.Plain.{PlainType}
-use Rattle.ir_expressions.specs.Plain.{PlainExpression}
+use Rattle.ir_types.specs.ExpressionPlain.{PlainExpression}
 use Rattle.ir_items.specs.declared.entries.MeshStageInfo.{MeshStageInfo}
 use Rattle.ir_items.specs.declared.functions.FunctionResult.{FunctionResult}
 use Rattle.ir_blocks.specs.Plain.{PlainBlock}

@@ -1,7 +1,7 @@
 -- The plain data that functions, entry points and the module hold.
 use Rattle.std.specs.Prelude.{[], None, option_map, string_bytes, map}
 use Rattle.ir_types.specs.Plain.{type_view}
-use Rattle.ir_expressions.specs.Plain.{expression_view}
+use Rattle.ir_types.specs.ExpressionPlain.{expression_view}
 use Rattle.ir_blocks.specs.Plain.{stop}
 use Rattle.ir_items.specs.Plain.{PlainArgument, PlainLocal, PlainFunction, PlainEntry, PlainModule}
 use Rattle.ir_items.specs.declared.functions.LocalVariable.{LocalVariable}

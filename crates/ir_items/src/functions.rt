@@ -9,9 +9,8 @@ use ir_arena::arena::Arena;
 use ir_arena::copied::{Copied, copy_list};
 use ir_arena::handle::Handle;
 use ir_blocks::Block;
-use ir_expressions::Expression;
 use ir_kinds::Binding;
-use ir_types::{clone_name, key};
+use ir_types::{Expression, clone_name, key};
 use std::alloc::{AllocError, Global};
 
 /// A variable of a function (naga's `LocalVariable`).

@@ -20,7 +20,9 @@ pub use ir_blocks::{
     AtomicFunction, Block, GatherMode, RayPipelineFunction, RayQueryFunction, SpanIntoIter,
     SpanIter, SpanIterMut, Statement, SwitchCase, ensure_block_returns,
 };
-pub use ir_expressions::{CooperativeData, Expression, ImageQuery, SampleLevel};
-pub use ir_types::{ArraySize, IrType, StructMember, TypeInner, key};
+pub use ir_types::{
+    ArraySize, CooperativeData, Expression, ImageQuery, IrType, SampleLevel, StructMember,
+    TypeInner, key,
+};
 pub use module::{GlobalCtx, Module};
 pub use special::SpecialTypes;

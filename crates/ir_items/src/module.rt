@@ -10,8 +10,7 @@ use crate::module_lists::{CodeLists, GlobalLists, TypeLists};
 use crate::{Constant, DiagnosticFilterNode, GlobalVariable, Override, SpecialTypes};
 use ir_arena::arena::Arena;
 use ir_arena::handle::Handle;
-use ir_expressions::Expression;
-use ir_types::{IrType, key};
+use ir_types::{Expression, IrType, key};
 use ir_unique_arena::unique_arena::UniqueArena;
 use std::alloc::{AllocError, Global};
 

@@ -1,6 +1,6 @@
 // The lists of a module in three parts, each of which is copied by itself.
 ghost use Rattle.std.specs.Prelude.{◌≡◌, IfOk, map};
-ghost use Rattle.ir_expressions.specs.Plain.{expression_view};
+ghost use Rattle.ir_types.specs.ExpressionPlain.{expression_view};
 ghost use Rattle.ir_types.specs.Plain.{type_view};
 ghost use Rattle.ir_arena.specs.Copies.{entry_of};
 ghost use Rattle.ir_items.specs.GlobalView.{special_view, constant_view, override_view, global_view, node_view};
@@ -12,8 +12,7 @@ use crate::module::Module;
 use crate::{Constant, DiagnosticFilterNode, GlobalVariable, Override, SpecialTypes};
 use ir_arena::arena::Arena;
 use ir_arena::copied::copy_list;
-use ir_expressions::Expression;
-use ir_types::{IrType, key};
+use ir_types::{Expression, IrType, key};
 use ir_unique_arena::unique_arena::UniqueArena;
 use std::alloc::{AllocError, Global};
 

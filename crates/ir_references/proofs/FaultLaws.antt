@@ -6,8 +6,8 @@ use Rattle.ir_arena.specs.Handles.{handles_from}
 use Rattle.ir_arena.specs.declared.span.Span.{Span}
 use Rattle.ir_blocks.specs.Plain.{PlainStatement}
 use Rattle.ir_blocks.specs.Places.{Place, StandsAt}
-use Rattle.ir_expressions.specs.Plain.{expression_view}
-use Rattle.ir_expressions.specs.declared.expressions.Expression.{Expression}
+use Rattle.ir_types.specs.ExpressionPlain.{expression_view}
+use Rattle.ir_types.specs.declared.expressions.Expression.{Expression}
 use Rattle.ir_items.specs.GlobalView.{values_of, node_view}
 use Rattle.ir_items.specs.declared.filters.DiagnosticFilterNode.{DiagnosticFilterNode}
 use Rattle.ir_items.specs.Plain.{PlainFunction, PlainModule}

@@ -1,14 +1,13 @@
 //! What expressions name.
 
 ghost use Rattle.std.specs.Prelude.{◌≡◌};
-ghost use Rattle.ir_expressions.specs.Plain.{expression_view};
+ghost use Rattle.ir_types.specs.ExpressionPlain.{expression_view};
 ghost use Rattle.spec_handles.specs.Expressions.{expression_operands, expression_item, level_first, level_second, query_level};
 ghost use Rattle.ir_references.specs.First.{first_past};
 
 use crate::lists::{first_past, given_past};
 use ir_arena::handle::Handle;
-use ir_expressions::{Expression, ImageQuery, SampleLevel};
-use ir_types::key;
+use ir_types::{Expression, ImageQuery, SampleLevel, key};
 use spec_handles::Target;
 
 fn level_first(level: SampleLevel) -> Option<Handle<key::Expression>>

@@ -3,7 +3,7 @@
 ghost use Rattle.std.specs.Prelude.{◌≡◌, option_and_then, map};
 ghost use Rattle.std.specs.Option.{MatchOption};
 ghost use Rattle.ir_arena.specs.Handles.{handles_from};
-ghost use Rattle.ir_expressions.specs.Plain.{expression_view};
+ghost use Rattle.ir_types.specs.ExpressionPlain.{expression_view};
 ghost use Rattle.ir_items.specs.GlobalView.{values_of, node_view};
 ghost use Rattle.ir_items.specs.View.{function_view};
 ghost use Rattle.ir_references.specs.Faults.{operand_forward, callee_forward, function_of, expression_forward, callees_forward, parent_forward, IsForwardOperand, IsForwardCallee, IsForwardParent};

@@ -1,2 +1,4 @@
 pub mod Plain
 pub mod Views
+pub mod ExpressionPlain
+pub mod ExpressionViews

@@ -1,6 +1,6 @@
 -- What a chain of bases starts at is one; and what a step along a chain does.
 use Rattle.std.proofs.Common.{◌≡◌, ℕ, List, sym, ap, subst, ◌∙◌}
-use Rattle.ir_expressions.specs.Plain.{PlainExpression}
+use Rattle.ir_types.specs.ExpressionPlain.{PlainExpression}
 use Rattle.ir_walks.specs.Bases.{StartsAt, itself, through, global_of, OneOrigin}
 
 pub one_start : (expressions : List PlainExpression) (handle : ℕ) (s t : PlainExpression) → StartsAt expressions handle s → StartsAt expressions handle t → s ≡ t

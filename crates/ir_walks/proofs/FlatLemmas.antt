@@ -7,8 +7,8 @@ use Rattle.std.proofs.lemmas.Grind.{reverse_onto}
 use Rattle.std.proofs.lemmas.List.{reverse-append, reverse-reverse, length-append, length-map, append-nil, take-append-le, take_all}
 use Rattle.std.proofs.lemmas.List.Elements.{All-nil, All-head, All-tail, All-append, All-push, All-weaker}
 use Rattle.ir_arena.specs.declared.span.Span.{Span}
-use Rattle.ir_expressions.specs.declared.expressions.Expression.{Expression}
-use Rattle.ir_expressions.specs.Plain.{PlainExpression, expression_view}
+use Rattle.ir_types.specs.declared.expressions.Expression.{Expression}
+use Rattle.ir_types.specs.ExpressionPlain.{PlainExpression, expression_view}
 use Rattle.ir_items.specs.GlobalView.{values_of}
 use Rattle.ir_walks.specs.Bases.{expressions_of}
 use Rattle.ir_walks.specs.Flat.{parts_of, PartsPrecede, AreLeaves, none, leaf, taken_apart, OneFlattening}

@@ -1,9 +1,9 @@
 -- What an access of an access, and so on, starts at.
 use Rattle.std.specs.Prelude.{◌≡◌, ℕ, ◌<◌, List, map, Option, Some, None, slice_get}
 use Rattle.ir_arena.specs.declared.span.Span.{Span}
-use Rattle.ir_expressions.specs.declared.expressions.Expression.{Expression}
-use Rattle.ir_expressions.specs.declared.expressions.Expression.TheVariants.{Access, AccessIndex, GlobalVariable}
-use Rattle.ir_expressions.specs.Plain.{PlainExpression, plain, expression_view}
+use Rattle.ir_types.specs.declared.expressions.Expression.{Expression}
+use Rattle.ir_types.specs.declared.expressions.Expression.TheVariants.{Access, AccessIndex, GlobalVariable}
+use Rattle.ir_types.specs.ExpressionPlain.{PlainExpression, plain, expression_view}
 use Rattle.ir_items.specs.GlobalView.{values_of}
 
 -- the expressions of an arena

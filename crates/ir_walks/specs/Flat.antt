@@ -7,8 +7,8 @@ use Rattle.ir_kinds.specs.Scalars.{component_count}
 use Rattle.ir_types.specs.declared.types.IrType.{IrType}
 use Rattle.ir_types.specs.declared.types.TypeInner.TheVariants.{Vector}
 use Rattle.ir_types.specs.Plain.{PlainType, PlainInner, plain as other, type_view}
-use Rattle.ir_expressions.specs.declared.expressions.Expression.TheVariants.{Splat}
-use Rattle.ir_expressions.specs.Plain.{PlainExpression, compose, plain}
+use Rattle.ir_types.specs.declared.expressions.Expression.TheVariants.{Splat}
+use Rattle.ir_types.specs.ExpressionPlain.{PlainExpression, compose, plain}
 use Rattle.ir_items.specs.GlobalView.{values_of}
 
 -- the types of an arena

@@ -1,6 +1,6 @@
 //! What pointers lead to.
 ghost use Rattle.std.specs.Prelude.{◌≡◌, ◌<◌, List, length};
-ghost use Rattle.ir_expressions.specs.Plain.{PlainExpression, expression_view};
+ghost use Rattle.ir_types.specs.ExpressionPlain.{PlainExpression, expression_view};
 ghost use Rattle.ir_walks.specs.Bases.{expressions_of, base_of, global_of, BasesPrecede, HasOrigin};
 
 use ir_arena::handle::Handle;

@@ -2,7 +2,7 @@
 ghost use Rattle.std.specs.Prelude.{◌≡◌, ◌<◌, ◌∷◌, [], ℕ, List, ◌++◌, length, reverse, replicate, take, IfOk, OnOk, MatchOption};
 ghost use Rattle.std.specs.List.{All};
 ghost use Rattle.ir_types.specs.Plain.{inner_view};
-ghost use Rattle.ir_expressions.specs.Plain.{expression_view};
+ghost use Rattle.ir_types.specs.ExpressionPlain.{expression_view};
 ghost use Rattle.ir_walks.specs.Bases.{expressions_of};
 ghost use Rattle.ir_walks.specs.Flat.{types_of, size_at, vector_size, parts_of, PartsPrecede, AreLeaves, IsFlattened};
 

@@ -1,7 +1,7 @@
 -- Where handles are in order, expressions name items that are there, and operands precede.
 use Rattle.std.proofs.Common.{◌≡◌, ℕ, ◌<◌, Some, refl, length, slice_get}
-use Rattle.ir_expressions.specs.Plain.{PlainExpression, compose, plain}
-use Rattle.ir_expressions.specs.declared.expressions.Expression.TheVariants as x
+use Rattle.ir_types.specs.ExpressionPlain.{PlainExpression, compose, plain}
+use Rattle.ir_types.specs.declared.expressions.Expression.TheVariants as x
 use Rattle.ir_items.specs.Plain.{PlainFunction, PlainModule}
 use Rattle.module_conditions.specs.Steps.{ExpressionConditions, AllExpressions, OrderGivesExpressions}
 use Rattle.module_handles.proofs.Whole.{conditions}

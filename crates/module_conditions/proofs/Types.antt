@@ -1,8 +1,8 @@
 -- The types of expressions are types of the module, or made of such.
 use Rattle.std.proofs.Common.{◌≡◌, ◌<◌, inl, inr, ℕ, zero, suc, List, [], ◌∷◌, ◌++◌, Bool, true, false, Option, Some, None, Result, Ok, Err, Contains, map, option_map, option_and_then, length, slice_get, if◌then◌else◌, refl, sym, ap, subst, arith}
 use Rattle.std.specs.Prelude.{◌==◌, ok_or}
-use Rattle.ir_expressions.specs.Plain.{PlainExpression, compose, plain as simple}
-use Rattle.ir_expressions.specs.declared.expressions.Expression.TheVariants as x
+use Rattle.ir_types.specs.ExpressionPlain.{PlainExpression, compose, plain as simple}
+use Rattle.ir_types.specs.declared.expressions.Expression.TheVariants as x
 use Rattle.ir_items.specs.GlobalPlain.{PlainConstant, PlainOverride, PlainGlobal}
 use Rattle.ir_items.specs.Plain.{PlainArgument, PlainLocal, PlainFunction, PlainModule}
 use Rattle.ir_items.specs.declared.functions.FunctionResult.{FunctionResult}
@@ -38,7 +38,7 @@ use Rattle.spec_handles.specs.Modules as part
 use Rattle.spec_handles.specs.References.{ItemExists, item, argument, answer, local, computed, argument_type, answer_type, local_type, expression_names}
 use Rattle.spec_handles.specs.declared.target.Target.{Target}
 use Rattle.spec_handles.specs.declared.target.Target.TheVariants as target
-use Rattle.typing_conclusions.specs.Given.{is_key, handle_for, given_type}
+use Rattle.spec_expressions.specs.Given.{is_key, handle_for, given_type}
 use Rattle.typing_forms.specs.Forms.{form_of, form_of_type}
 use Rattle.typing_forms.specs.Order.{TypesGoBack}
 use Rattle.typing_forms.specs.Resolutions.{PlainResolution, by_handle, by_value}

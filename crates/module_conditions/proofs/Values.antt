@@ -1,7 +1,7 @@
 -- What an expression gives that reads nothing of the types of its operands but their form.
 use Rattle.std.proofs.Common.{◌≡◌, ℕ, List, Option, Some, None, option_map}
-use Rattle.ir_expressions.specs.declared.expressions.ImageQuery.{ImageQuery}
-use Rattle.ir_expressions.specs.declared.expressions.ImageQuery.TheVariants as query
+use Rattle.ir_types.specs.declared.expressions.ImageQuery.{ImageQuery}
+use Rattle.ir_types.specs.declared.expressions.ImageQuery.TheVariants as query
 use Rattle.ir_kinds.specs.Scalars.{boolean, floating, unsigned}
 use Rattle.ir_kinds.specs.declared.images.ImageClass.{ImageClass}
 use Rattle.ir_kinds.specs.declared.images.ImageClass.TheVariants as class

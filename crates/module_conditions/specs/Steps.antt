@@ -1,7 +1,7 @@
 -- What the steps behind ask of expressions, in their own words.
 use Rattle.std.specs.Prelude.{◌≡◌, ℕ, List, Some, map, slice_get}
 use Rattle.ir_arena.specs.Arenas.{value_of_entry}
-use Rattle.ir_expressions.specs.Plain.{PlainExpression, expression_view}
+use Rattle.ir_types.specs.ExpressionPlain.{PlainExpression, expression_view}
 use Rattle.ir_items.specs.GlobalView.{values_of}
 use Rattle.ir_items.specs.Plain.{PlainFunction, PlainEntry, PlainModule}
 use Rattle.ir_items.specs.View.{module_view}

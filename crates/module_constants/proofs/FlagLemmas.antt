@@ -2,7 +2,7 @@
 use Rattle.std.proofs.Common.{◌≡◌, ◌<◌, ℕ, List, length, get_or, sym, subst}
 use Rattle.std.proofs.lemmas.Option.{slice_get-get_or}
 use Rattle.ir_types.specs.Plain.{PlainType}
-use Rattle.spec_types.specs.View.{type_tree}
+use Rattle.typing_layout.specs.View.{type_tree}
 use Rattle.type_checks.specs.Known.{AreInfos}
 use Rattle.type_infos.specs.Infos.{HasInfo}
 use Rattle.type_infos.specs.declared.info.TypeInfo.{TypeInfo}

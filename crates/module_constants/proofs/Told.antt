@@ -10,7 +10,7 @@ use Rattle.module_expressions.specs.declared.overrides.OverrideError.{OverrideEr
 use Rattle.error_functions.specs.declared.const_expressions.ConstExpressionError.{ConstExpressionError}
 use Rattle.error_functions.specs.declared.const_expressions.ConstExpressionError.TheVariants as error
 use Rattle.ir_arena.specs.declared.span.Span.{Span}
-use Rattle.ir_expressions.specs.Plain.{PlainExpression}
+use Rattle.ir_types.specs.ExpressionPlain.{PlainExpression}
 use Rattle.ir_faults.specs.Faults.{error_of}
 use Rattle.ir_faults.specs.declared.refusal.Refusal.{Refusal}
 use Rattle.ir_faults.specs.declared.refusal.Refusal.TheVariants as refusal

@@ -1,6 +1,6 @@
 -- What is known where global expressions, constants and overrides are judged.
 use Rattle.std.specs.Prelude.{◌≡◌, ◌<◌, ◌↔◌, ℕ, List, Some, Bool, IsTrue, length, slice_get}
-use Rattle.ir_expressions.specs.Plain.{compose}
+use Rattle.ir_types.specs.ExpressionPlain.{compose}
 use Rattle.ir_items.specs.GlobalPlain.{PlainConstant, PlainOverride}
 use Rattle.ir_items.specs.Plain.{PlainModule}
 use Rattle.ir_items.specs.View.{module_view}

@@ -17,8 +17,8 @@ use Rattle.spec_expressions.specs.Constants.{ConstantOK}
 use Rattle.spec_expressions.specs.GlobalExpressions.{GlobalExpressionOK}
 use Rattle.spec_expressions.specs.Overrides.{IsOverrideType, DefaultOK, OverrideOK}
 use Rattle.spec_expressions.specs.Typing.{HasGlobalType}
-use Rattle.spec_types.specs.Flags.{HasFlag, Constructible}
-use Rattle.spec_types.specs.View.{type_tree}
+use Rattle.typing_layout.specs.Flags.{HasFlag, Constructible}
+use Rattle.typing_layout.specs.View.{type_tree}
 use Rattle.typing_forms.specs.Forms.{form_of_type}
 use Rattle.typing_forms.specs.declared.form.Form.{Form}
 use Rattle.typing_layout.specs.Constness.{IsOfKind}

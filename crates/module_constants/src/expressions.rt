@@ -2,7 +2,7 @@
 
 ghost use Rattle.std.specs.Prelude.{◌≡◌, ◌<◌, Some, length, slice_get, MatchResult};
 ghost use Rattle.module_expressions.specs.Expressions.{IsComponentsFault, IsConstExpressionFault};
-ghost use Rattle.ir_expressions.specs.Plain.{compose, expression_view};
+ghost use Rattle.ir_types.specs.ExpressionPlain.{compose, expression_view};
 ghost use Rattle.module_constants.specs.Asked.{IsLate, IsUnmet};
 ghost use Rattle.module_constants.specs.Firsts.{AreAccepted, IsFirstRefused};
 ghost use Rattle.module_constants.specs.Known.{IsKnown, module_in};
@@ -16,8 +16,7 @@ ghost use Rattle.type_checks.specs.Widths.{IsLiteralFault};
 use crate::context::{GlobalContext, known_kind};
 use error_functions::{ComposeError, ConstExpressionError};
 use ir_arena::handle::Handle;
-use ir_expressions::Expression;
-use ir_types::key;
+use ir_types::{Expression, key};
 use module_expressions::{Components, check_composition};
 use thiserror::Error;
 use type_checks::validate_literal;

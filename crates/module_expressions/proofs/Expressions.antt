@@ -4,7 +4,7 @@ use Rattle.module_expressions.proofs.Compositions.{components_refuted}
 use Rattle.module_expressions.proofs.Literals.{literal_refuted}
 use Rattle.module_expressions.specs.Laws.{ExpressionRefuted}
 use Rattle.error_functions.specs.declared.const_expressions.ConstExpressionError.TheVariants as error
-use Rattle.ir_expressions.specs.Plain.{PlainExpression}
+use Rattle.ir_types.specs.ExpressionPlain.{PlainExpression}
 use Rattle.ir_flags.specs.declared.settings.Capabilities.{Capabilities}
 use Rattle.ir_items.specs.Plain.{PlainModule}
 use Rattle.spec_expressions.specs.GlobalExpressions.{Asked, of_literal, of_composition, to_work_out, asked_of, IsMet, MayWait}

@@ -19,9 +19,9 @@ use Rattle.spec_expressions.specs.Overrides.{DefaultOK, IsOverrideType, IsTaken,
 use Rattle.spec_expressions.proofs.TypingLaws.{one_type}
 use Rattle.spec_expressions.specs.Context.{outside}
 use Rattle.spec_expressions.specs.Typing.{HasGlobalType}
-use Rattle.spec_types.specs.Flags.{HasFlag, Constructible, among, scalar_flags}
-use Rattle.spec_types.specs.Tree.{scalar}
-use Rattle.spec_types.specs.View.{type_tree, tree_along, tree_found}
+use Rattle.typing_layout.specs.Flags.{HasFlag, Constructible, among, scalar_flags}
+use Rattle.typing_layout.specs.Tree.{scalar}
+use Rattle.typing_layout.specs.View.{type_tree, tree_along, tree_found}
 use Rattle.typing_forms.specs.Forms.{form_of_type}
 use Rattle.typing_forms.specs.Resolutions.{inner_at}
 use Rattle.typing_layout.proofs.Latest.{one_kind}

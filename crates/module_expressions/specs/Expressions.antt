@@ -4,7 +4,7 @@ use Rattle.module_expressions.specs.Compositions.{IsComposeFault}
 use Rattle.error_functions.specs.declared.compose.ComposeError.{ComposeError}
 use Rattle.error_functions.specs.declared.const_expressions.ConstExpressionError.{ConstExpressionError}
 use Rattle.error_functions.specs.declared.const_expressions.ConstExpressionError.TheVariants as error
-use Rattle.ir_expressions.specs.Plain.{PlainExpression}
+use Rattle.ir_types.specs.ExpressionPlain.{PlainExpression}
 use Rattle.ir_flags.specs.declared.settings.Capabilities.{Capabilities}
 use Rattle.ir_items.specs.Plain.{PlainModule}
 use Rattle.ir_kinds.specs.declared.values.Literal.{Literal}

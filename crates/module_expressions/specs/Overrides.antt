@@ -6,8 +6,8 @@ use Rattle.ir_items.specs.GlobalPlain.{PlainOverride}
 use Rattle.ir_items.specs.Plain.{PlainModule}
 use Rattle.spec_expressions.specs.Overrides.{IsOverrideType, IsTaken}
 use Rattle.spec_expressions.specs.Typing.{HasGlobalType}
-use Rattle.spec_types.specs.Flags.{HasFlag, Constructible}
-use Rattle.spec_types.specs.View.{type_tree}
+use Rattle.typing_layout.specs.Flags.{HasFlag, Constructible}
+use Rattle.typing_layout.specs.View.{type_tree}
 use Rattle.typing_forms.specs.Forms.{form_of_type}
 use Rattle.typing_forms.specs.declared.form.Form.{Form}
 use Rattle.typing_layout.specs.Constness.{IsOfKind}

@@ -1,6 +1,6 @@
 -- The handles of a module in order, part by part, and a fault that stands in it.
 use Rattle.std.specs.Prelude.{◌≡◌, ◌⊎◌, ℕ, ◌<◌, ◌≤◌, Some, None, slice_get}
-use Rattle.ir_expressions.specs.Plain.{PlainExpression}
+use Rattle.ir_types.specs.ExpressionPlain.{PlainExpression}
 use Rattle.ir_items.specs.GlobalPlain.{PlainConstant, PlainOverride, PlainGlobal}
 use Rattle.ir_items.specs.Plain.{PlainFunction, PlainEntry, PlainModule}
 use Rattle.ir_references.specs.Faults.{outside_functions, IsMissingFault, IsForwardOperand, IsForwardCallee}

@@ -2,7 +2,7 @@
 
 ghost use Rattle.std.specs.Prelude.{◌≡◌, option_and_then};
 ghost use Rattle.std.specs.Option.{MatchOption};
-ghost use Rattle.ir_expressions.specs.Plain.{expression_view};
+ghost use Rattle.ir_types.specs.ExpressionPlain.{expression_view};
 ghost use Rattle.ir_items.specs.View.{module_view};
 ghost use Rattle.module_handles.specs.Found.{named_missing, init_forward};
 ghost use Rattle.module_handles.specs.InOrder.{IsFaultIn, GlobalExpressionsOK};
@@ -34,7 +34,7 @@ struct Globals<'a> {
 }
 
 impl ItemCheck<Expression> for Globals<'_> {
-    ghost use Rattle.ir_expressions.specs.Plain.{expression_view};
+    ghost use Rattle.ir_types.specs.ExpressionPlain.{expression_view};
     ghost use Rattle.ir_items.specs.View.{module_view};
     ghost use Rattle.module_handles.specs.InOrder.{GlobalExpressionOK, IsGlobalExpressionFault};
 

@@ -2,7 +2,7 @@
 
 ghost use Rattle.std.specs.Prelude.{◌≡◌, ◌<◌, [], ◌∷◌, length, map};
 ghost use Rattle.std.specs.Option.{MatchOption, option_or};
-ghost use Rattle.ir_expressions.specs.Plain.{expression_view};
+ghost use Rattle.ir_types.specs.ExpressionPlain.{expression_view};
 ghost use Rattle.ir_items.specs.View.{module_view};
 ghost use Rattle.ir_references.specs.Faults.{outside_functions};
 ghost use Rattle.ir_references.specs.First.{first_past};

@@ -11,8 +11,8 @@ use Rattle.ir_types.specs.Plain.{PlainInner, plain, PlainType}
 use Rattle.ir_types.specs.declared.types.TypeInner.TheVariants as inner
 use Rattle.spec_globals.specs.Spaces.{array_base, counted}
 use Rattle.spec_report.specs.Lines.{is_buffer, buffer_line, buffer_of}
-use Rattle.spec_types.specs.Layout.{size, alignment}
-use Rattle.spec_types.specs.View.{type_tree}
+use Rattle.typing_layout.specs.Layout.{size, alignment}
+use Rattle.typing_layout.specs.View.{type_tree}
 use Rattle.typing_forms.specs.Order.{TypesGoBack}
 use Rattle.typing_forms.specs.Resolutions.{inner_at}
 use Rattle.typing_layout.specs.Held.{IsLayoutOf}

@@ -6,13 +6,13 @@ use Rattle.ir_types.specs.declared.types.ArraySize.{ArraySize}
 use Rattle.ir_types.specs.declared.types.ArraySize.TheVariants.{Constant, Pending, Dynamic}
 use Rattle.module_types.proofs.Inside.{everywhere_in, somewhere_struct, somewhere_here}
 use Rattle.module_types.specs.Layouts.{IsStructOf, IsStructAt, IsArrayAt, StoragePart, UniformPart, FitsAt, free_before, IsUniformAlignment}
-use Rattle.spec_types.specs.Buffers.{StorageAt, IsStorage, UniformAt, IsUniform, uniform_alignment, free_behind}
-use Rattle.spec_types.specs.Flags.{HasFlag, HostShareable}
-use Rattle.spec_types.specs.Immediates.{ImmediateAt, FitsImmediates, scalar_of}
-use Rattle.spec_types.specs.Parts.{Part, before, end_of, Somewhere}
-use Rattle.spec_types.specs.Layout.{alignment}
-use Rattle.spec_types.specs.Tree.{Tree, array}
-use Rattle.spec_types.specs.View.{members_by}
+use Rattle.typing_layout.specs.Buffers.{StorageAt, IsStorage, UniformAt, IsUniform, uniform_alignment, free_behind}
+use Rattle.typing_layout.specs.Flags.{HasFlag, HostShareable}
+use Rattle.typing_layout.specs.Immediates.{ImmediateAt, FitsImmediates, scalar_of}
+use Rattle.typing_layout.specs.Parts.{Part, before, end_of, Somewhere}
+use Rattle.typing_layout.specs.Layout.{alignment}
+use Rattle.typing_layout.specs.Tree.{Tree, array}
+use Rattle.typing_layout.specs.View.{members_by}
 use Rattle.type_checks.specs.Known.{types_in, tree_in}
 use Rattle.type_checks.specs.Placed.{parts_in, part_of, IsPlaced, IsBefore, AtPlace}
 use Rattle.type_checks.specs.declared.context.TypeContext.{TypeContext}

@@ -12,14 +12,14 @@ use Rattle.ir_types.specs.Plain.{PlainInner, PlainMember, PlainType, struct as w
 use Rattle.ir_types.specs.declared.types.ArraySize.{ArraySize}
 use Rattle.ir_types.specs.declared.types.ArraySize.TheVariants as count
 use Rattle.ir_types.specs.declared.types.TypeInner.TheVariants as inner
-use Rattle.spec_types.specs.Blends.{BlendOK, HasSource, BlendsOK, LocationOK, IsOnlySource, location_of, source_at}
-use Rattle.spec_types.specs.Flags.{HasFlag, IoShareable, blend_source}
-use Rattle.spec_types.specs.Images.{ImageOK, StructureOK, QueryOK}
-use Rattle.spec_types.specs.Parts.{listed, before, end_of}
-use Rattle.spec_types.specs.Rules.{ShapeOK, TypeOK, CooperativeOK, PointerOK, IsKnownCount, ArrayOK, BindingArrayOK}
-use Rattle.spec_types.specs.Structs.{MemberOK, StructOK}
-use Rattle.spec_types.specs.Widths.{IsKindAllowed}
-use Rattle.spec_types.specs.View.{members_by, type_tree}
+use Rattle.typing_layout.specs.Blends.{BlendOK, HasSource, BlendsOK, LocationOK, IsOnlySource, location_of, source_at}
+use Rattle.typing_layout.specs.Flags.{HasFlag, IoShareable, blend_source}
+use Rattle.typing_layout.specs.Images.{ImageOK, StructureOK, QueryOK}
+use Rattle.typing_layout.specs.Parts.{listed, before, end_of}
+use Rattle.typing_layout.specs.Rules.{ShapeOK, TypeOK, CooperativeOK, PointerOK, IsKnownCount, ArrayOK, BindingArrayOK}
+use Rattle.typing_layout.specs.Structs.{MemberOK, StructOK}
+use Rattle.typing_layout.specs.Widths.{IsKindAllowed}
+use Rattle.typing_layout.specs.View.{members_by, type_tree}
 use Rattle.type_checks.proofs.Known.{tree_of}
 use Rattle.type_checks.proofs.Places.{part_at, many_parts}
 use Rattle.type_checks.proofs.Scalars.{lacked, width_refuted, atomic_refuted}

@@ -9,12 +9,12 @@ use Rattle.type_checks.specs.Kinds.{whole_flags}
 use Rattle.module_types.specs.Layouts.{IsStructOf, IsArrayAt, IsScalarFit, IsScalarUnfit}
 use Rattle.type_checks.specs.Sets.{AreOf}
 use Rattle.module_types.specs.Whole.{IsWhole}
-use Rattle.spec_types.specs.Buffers.{IsStorage, IsUniform, uniform_alignment}
-use Rattle.spec_types.specs.Flags.{HasFlag, HostShareable}
-use Rattle.spec_types.specs.Immediates.{FitsImmediates, scalar_of}
-use Rattle.spec_types.specs.Layout.{alignment}
-use Rattle.spec_types.specs.Tree.{Tree, scalar, vector, matrix, cooperative_matrix, atomic, pointer, value_pointer, array, struct, image, sampler, acceleration_structure, ray_query, binding_array}
-use Rattle.spec_types.specs.View.{tree_by, members_by}
+use Rattle.typing_layout.specs.Buffers.{IsStorage, IsUniform, uniform_alignment}
+use Rattle.typing_layout.specs.Flags.{HasFlag, HostShareable}
+use Rattle.typing_layout.specs.Immediates.{FitsImmediates, scalar_of}
+use Rattle.typing_layout.specs.Layout.{alignment}
+use Rattle.typing_layout.specs.Tree.{Tree, scalar, vector, matrix, cooperative_matrix, atomic, pointer, value_pointer, array, struct, image, sampler, acceleration_structure, ray_query, binding_array}
+use Rattle.typing_layout.specs.View.{tree_by, members_by}
 use Rattle.type_checks.proofs.Known.{tree_of}
 use Rattle.type_checks.specs.Known.{types_in, tree_in, IsKnown, AreFacts}
 use Rattle.type_checks.specs.declared.context.TypeContext.{TypeContext}

@@ -4,12 +4,12 @@ use Rattle.std.specs.Int.{◌∣◌}
 use Rattle.ir_kinds.specs.declared.scalars.Scalar.{Scalar}
 use Rattle.ir_types.specs.Plain.{PlainMember}
 use Rattle.ir_types.specs.declared.types.ArraySize.{ArraySize}
-use Rattle.spec_types.specs.Buffers.{IsStorage, IsUniform, uniform_alignment, free_behind}
-use Rattle.spec_types.specs.Immediates.{FitsImmediates}
-use Rattle.spec_types.specs.Parts.{Part, before}
-use Rattle.spec_types.specs.Layout.{alignment}
-use Rattle.spec_types.specs.Tree.{Tree, array, struct}
-use Rattle.spec_types.specs.View.{members_by}
+use Rattle.typing_layout.specs.Buffers.{IsStorage, IsUniform, uniform_alignment, free_behind}
+use Rattle.typing_layout.specs.Immediates.{FitsImmediates}
+use Rattle.typing_layout.specs.Parts.{Part, before}
+use Rattle.typing_layout.specs.Layout.{alignment}
+use Rattle.typing_layout.specs.Tree.{Tree, array, struct}
+use Rattle.typing_layout.specs.View.{members_by}
 use Rattle.type_checks.specs.Known.{tree_in, AreFacts}
 use Rattle.type_checks.specs.declared.context.TypeContext.{TypeContext}
 use Rattle.type_checks.specs.declared.facts.Facts.{Facts}

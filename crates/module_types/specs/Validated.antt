@@ -6,8 +6,8 @@ use Rattle.ir_faults.specs.declared.refusal.Refusal.TheVariants as refusal
 use Rattle.ir_flags.specs.declared.settings.Capabilities.{Capabilities}
 use Rattle.ir_types.specs.Plain.{PlainInner, PlainType}
 use Rattle.module_types.specs.declared.validate.InvalidType.{InvalidType}
-use Rattle.spec_types.specs.Rules.{TypeOK}
-use Rattle.spec_types.specs.View.{type_tree}
+use Rattle.typing_layout.specs.Rules.{TypeOK}
+use Rattle.typing_layout.specs.View.{type_tree}
 use Rattle.type_infos.specs.Faults.{IsInnerFault}
 use Rattle.type_infos.specs.Infos.{HasInfo}
 use Rattle.type_infos.specs.declared.error.TypeError.{TypeError}

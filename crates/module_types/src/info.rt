@@ -4,10 +4,10 @@ ghost use Rattle.std.specs.Prelude.{◌≡◌, ◌<◌, ◌≤◌, ℕ, Some, Al
 ghost use Rattle.ir_types.specs.Plain.{inner_view, member_view};
 ghost use Rattle.module_types.specs.Layouts.{IsStructOf};
 ghost use Rattle.module_types.specs.Whole.{IsWhole};
-ghost use Rattle.spec_types.specs.Buffers.{IsStorage, IsUniform, uniform_alignment};
-ghost use Rattle.spec_types.specs.Layout.{alignment};
-ghost use Rattle.spec_types.specs.Tree.{array};
-ghost use Rattle.spec_types.specs.View.{tree_by};
+ghost use Rattle.typing_layout.specs.Buffers.{IsStorage, IsUniform, uniform_alignment};
+ghost use Rattle.typing_layout.specs.Layout.{alignment};
+ghost use Rattle.typing_layout.specs.Tree.{array};
+ghost use Rattle.typing_layout.specs.View.{tree_by};
 ghost use Rattle.type_checks.specs.Known.{IsKnown, tree_in, types_in};
 ghost use Rattle.type_infos.specs.BufferFaults.{BreaksStorage, BreaksUniform, IsBroken};
 ghost use Rattle.type_infos.specs.Infos.{AreFlags, HasInfo};

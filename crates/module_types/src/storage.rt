@@ -3,8 +3,8 @@
 ghost use Rattle.std.specs.Prelude.{◌≡◌, ◌<◌, All, length, map, MatchResult};
 ghost use Rattle.ir_types.specs.Plain.{member_view};
 ghost use Rattle.module_types.specs.Layouts.{IsArrayAt, IsStructAt, IsStructOf, StoragePart};
-ghost use Rattle.spec_types.specs.Buffers.{IsStorage};
-ghost use Rattle.spec_types.specs.Layout.{alignment};
+ghost use Rattle.typing_layout.specs.Buffers.{IsStorage};
+ghost use Rattle.typing_layout.specs.Layout.{alignment};
 ghost use Rattle.type_checks.specs.Known.{IsKnown, tree_in, types_in};
 ghost use Rattle.type_checks.specs.Placed.{parts_in, AtPlace};
 ghost use Rattle.type_infos.specs.BufferFaults.{BreaksStorage, IsBroken};

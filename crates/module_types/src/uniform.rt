@@ -3,9 +3,9 @@
 ghost use Rattle.std.specs.Prelude.{◌≡◌, ◌<◌, All, length, map, MatchResult};
 ghost use Rattle.ir_types.specs.Plain.{member_view};
 ghost use Rattle.module_types.specs.Layouts.{IsArrayAt, IsStructAt, IsStructOf, IsUniformAlignment, UniformPart, free_before};
-ghost use Rattle.spec_types.specs.Buffers.{IsUniform, uniform_alignment};
-ghost use Rattle.spec_types.specs.Parts.{before};
-ghost use Rattle.spec_types.specs.Layout.{alignment};
+ghost use Rattle.typing_layout.specs.Buffers.{IsUniform, uniform_alignment};
+ghost use Rattle.typing_layout.specs.Parts.{before};
+ghost use Rattle.typing_layout.specs.Layout.{alignment};
 ghost use Rattle.type_checks.specs.Known.{IsKnown, tree_in, types_in};
 ghost use Rattle.type_checks.specs.Placed.{parts_in, AtPlace, IsPlaced};
 ghost use Rattle.type_infos.specs.BufferFaults.{BreaksUniform, IsBroken};

@@ -6,9 +6,9 @@ use Rattle.module_types.specs.declared.validate.InvalidType.{InvalidType}
 use Rattle.spec_expressions.specs.Context.{outside}
 use Rattle.spec_modules.specs.Steps.{layout, type, typing, StepPasses, FailsFirst}
 use Rattle.spec_modules.specs.declared.settings.ModuleSettings.{ModuleSettings}
-use Rattle.spec_types.specs.Layout.{LayoutOK}
-use Rattle.spec_types.specs.Tree.{Tree}
-use Rattle.spec_types.specs.View.{type_tree}
+use Rattle.typing_layout.specs.Layout.{LayoutOK}
+use Rattle.typing_layout.specs.Tree.{Tree}
+use Rattle.typing_layout.specs.View.{type_tree}
 use Rattle.typing_expressions.specs.Types.{AreTypes, IsUntypedFirst}
 use Rattle.typing_forms.specs.declared.resolution.TypeResolution.{TypeResolution}
 use Rattle.typing_layout.specs.Held.{AreLayouts, IsFaultOf, IsRefused}

@@ -18,7 +18,7 @@ use Rattle.spec_handles.specs.InOrder.{HandlesOK}
 use Rattle.spec_modules.specs.Steps as step
 use Rattle.spec_modules.specs.Steps.{IsFirstFailing}
 use Rattle.spec_modules.specs.declared.settings.ModuleSettings.{ModuleSettings}
-use Rattle.spec_types.specs.View.{type_tree}
+use Rattle.typing_layout.specs.View.{type_tree}
 use Rattle.typing_expressions.specs.declared.refusal.TypingRefusal.{TypingRefusal}
 use Rattle.typing_expressions.specs.declared.refusal.TypingRefusal.TheVariants as typing
 use Rattle.typing_layout.specs.Held.{IsFaultOf}

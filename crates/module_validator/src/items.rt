@@ -3,7 +3,7 @@
 //! What a context says of capabilities does not count: they are the validator's.
 
 ghost use Rattle.std.specs.Prelude.{◌<◌, ◌≤◌, length, MatchResult};
-ghost use Rattle.check_operands.specs.View.{IsKnown as IsKnownOfExpressions};
+ghost use Rattle.statement_checks.specs.OperandView.{IsKnown as IsKnownOfExpressions};
 ghost use Rattle.expression_validator.specs.Faults.{IsExpressionFault};
 ghost use Rattle.module_constants.specs.Known.{IsKnown as IsKnownOfValues, module_in};
 ghost use Rattle.module_constants.specs.Refusals.{IsExpressionRefused};
@@ -15,7 +15,6 @@ ghost use Rattle.spec_expressions.specs.GlobalExpressions.{GlobalExpressionOK};
 ghost use Rattle.type_checks.specs.Known.{IsKnown as IsKnownOfTypes, types_in};
 
 use crate::validator::ModuleValidator;
-use check_operands::CheckContext;
 use error_functions::{ConstExpressionError, ExpressionError};
 use expression_validator::validate_expression;
 use ir_arena::handle::Handle;
@@ -23,6 +22,7 @@ use ir_flags::ShaderStages;
 use ir_types::key;
 use module_constants::{GlobalContext, validate_const_expression};
 use module_types::validate_type;
+use statement_checks::CheckContext;
 use type_checks::TypeContext;
 use type_infos::{TypeError, TypeInfo};
 

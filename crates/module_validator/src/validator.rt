@@ -4,7 +4,7 @@ ghost use Rattle.std.specs.Prelude.{◌≡◌, [], MatchResult, IfOk, IfErr, OnO
 ghost use Rattle.ir_items.specs.View.{module_view};
 ghost use Rattle.module_validator.specs.Faults.{IsRefusal};
 ghost use Rattle.module_validator.specs.Told.{IsInfoOf, settings_of};
-ghost use Rattle.spec_types.specs.Widths.{ScalarOK};
+ghost use Rattle.typing_layout.specs.Widths.{ScalarOK};
 ghost use Rattle.spec_expressions.specs.ConstantLiterals.{LiteralOK};
 ghost use Rattle.spec_modules.specs.Steps.{ModuleOK};
 ghost use Rattle.type_infos.specs.Faults.{IsWidthFault};

@@ -2,7 +2,7 @@
 
 ghost use Rattle.std.specs.Prelude.{◌≡◌, ◌↔◌, IsTrue, MatchResult, option_map, slice_get};
 ghost use Rattle.ir_blocks.specs.declared.operations.RayQueryFunction.TheVariants.{Initialize};
-ghost use Rattle.ir_expressions.specs.Plain.{expression_view};
+ghost use Rattle.ir_types.specs.ExpressionPlain.{expression_view};
 ghost use Rattle.ray_checks.specs.RayQueries.{IsStartFault, IsStepFault, IsRayQueryFault};
 ghost use Rattle.spec_statements.specs.ExpressionRayQueries.{query_of};
 ghost use Rattle.spec_statements.specs.Shapes.{IsMadeOf, IsAlone, IsFloating};
@@ -11,14 +11,12 @@ ghost use Rattle.statement_checks.specs.View.{context_view};
 ghost use Rattle.typing_forms.specs.Resolutions.{inner_at};
 
 use crate::rays::{is_ray_descriptor, structure_of};
-use check_operands::{is_floating, shaped_of};
 use error_functions::FunctionError;
 use expression_checks::{is_alone, query_of};
 use ir_arena::handle::Handle;
 use ir_blocks::RayQueryFunction;
-use ir_expressions::Expression;
-use ir_types::key;
-use statement_checks::BlockContext;
+use ir_types::{Expression, key};
+use statement_checks::{BlockContext, is_floating, shaped_of};
 use typing_forms::Form;
 
 // ---- the query
@@ -34,7 +32,7 @@ fn local_of(expression: &Expression) -> Option<Handle<key::LocalVariable>>
 }
 
 // The type of a variable of the function.
-#[tactic(auto, using(check_operands::proofs::Lookups::found, check_operands::proofs::Lookups::missing))]
+#[tactic(auto, using(statement_checks::proofs::Lookups::found, statement_checks::proofs::Lookups::missing))]
 fn local_type(
     context: &BlockContext<'_>,
     local: Handle<key::LocalVariable>,

@@ -6,10 +6,9 @@ ghost use Rattle.spec_statements.specs.RayQueries.{structure_of, IsMadeAs, IsRay
 ghost use Rattle.statement_checks.specs.View.{context_view};
 ghost use Rattle.typing_forms.specs.Resolutions.{inner_at};
 
-use check_operands::are_same;
 use ir_arena::handle::Handle;
 use ir_types::{TypeInner, key};
-use statement_checks::BlockContext;
+use statement_checks::{BlockContext, are_same};
 use typing_forms::Form;
 
 /// Whether the acceleration structure that a type is gives the vertices of a hit.

@@ -4,7 +4,7 @@ use Rattle.error_functions.specs.declared.expressions.ExpressionError.{Expressio
 use Rattle.expression_validator.proofs.Refuted.{expression_refuted}
 use Rattle.expression_validator.specs.Faults.{IsExpressionFault}
 use Rattle.function_lower.specs.Question.{Question}
-use Rattle.ir_expressions.specs.Plain.{PlainExpression}
+use Rattle.ir_types.specs.ExpressionPlain.{PlainExpression}
 use Rattle.ir_flags.specs.declared.settings.Capabilities.{Capabilities}
 use Rattle.ir_flags.specs.declared.stages.ShaderStages.{ShaderStages}
 use Rattle.spec_statements.specs.Expressions.{ExpressionOK}

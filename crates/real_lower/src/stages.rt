@@ -2,13 +2,13 @@
 
 ghost use Rattle.std.specs.Prelude.{◌≡◌, [], map};
 ghost use Rattle.interface_checks.specs.Callees.{noted};
-ghost use Rattle.ir_expressions.specs.Plain.{expression_view};
+ghost use Rattle.ir_types.specs.ExpressionPlain.{expression_view};
 ghost use Rattle.spec_statements.specs.ExpressionStages.{stages_of};
 
 use analysis_info::FunctionInfo;
 use interface_checks::{CalleeStages, NotedStages};
-use ir_expressions::Expression;
 use ir_flags::ShaderStages;
+use ir_types::Expression;
 
 /// The stages that may run an expression, of which `alone` may where nothing is noted of functions.
 pub(crate) fn stages_by(

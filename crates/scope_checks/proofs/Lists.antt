@@ -4,9 +4,9 @@ use Rattle.std.proofs.lemmas.Bool.{eqb-true, eq-eqb, or_right}
 use Rattle.std.proofs.lemmas.List.Elements.{Contains-append_right}
 use Rattle.std.proofs.lemmas.List.{get_or-set_same, get_or-set_other}
 use Rattle.std.proofs.lemmas.Option.{slice_get_within, slice_get-get_or, get_or_from_slice_get}
-use Rattle.ir_expressions.specs.Plain.{expression_view, always_in_scope}
-use Rattle.ir_expressions.specs.declared.expressions.Expression.{Expression}
-use Rattle.ir_expressions.specs.declared.expressions.Expression.TheVariants.{Compose}
+use Rattle.ir_types.specs.ExpressionPlain.{expression_view, always_in_scope}
+use Rattle.ir_types.specs.declared.expressions.Expression.{Expression}
+use Rattle.ir_types.specs.declared.expressions.Expression.TheVariants.{Compose}
 use Rattle.spec_statements.specs.Scope.{is_pre_emitted}
 use Rattle.scope_checks.specs.Carried.{holds}
 use Rattle.scope_checks.specs.Lists.{AreFound}

@@ -10,7 +10,7 @@ use Rattle.error_functions.specs.declared.error.FunctionError.TheVariants.{Expre
 use Rattle.ir_arena.specs.Handles.{handles_between}
 use Rattle.ir_blocks.specs.Places.{statement, loop_condition}
 use Rattle.ir_blocks.specs.Plain.{PlainStatement, emit, block, if_, switch, loop, break, continue, return, kill, operation, call}
-use Rattle.ir_expressions.specs.Plain.{PlainExpression}
+use Rattle.ir_types.specs.ExpressionPlain.{PlainExpression}
 use Rattle.ir_items.specs.Plain.{PlainFunction}
 use Rattle.ir_references.specs.First.{emitted_view}
 use Rattle.spec_handles.specs.Statements.{Emitted, statement_callee, statement_range, statement_result}

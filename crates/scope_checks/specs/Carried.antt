@@ -12,7 +12,7 @@ use Rattle.error_functions.specs.declared.calls.CallError.{CallError}
 use Rattle.error_functions.specs.declared.calls.CallError.TheVariants as call_error
 use Rattle.ir_blocks.specs.Places.{Spot, nothing, statement, loop_condition}
 use Rattle.ir_blocks.specs.Plain.{PlainStatement, emit, block, if_, switch, loop, break, continue, return, kill, operation, call, PlainBlock, stop, next, PlainCases, no_case, case}
-use Rattle.ir_expressions.specs.Plain.{PlainExpression}
+use Rattle.ir_types.specs.ExpressionPlain.{PlainExpression}
 use Rattle.ir_items.specs.Plain.{PlainFunction}
 use Rattle.spec_handles.specs.Statements.{statement_callee}
 use Rattle.spec_statements.specs.Answered.{answered_in, answered_at}

@@ -2,7 +2,7 @@
 
 ghost use Rattle.std.specs.Prelude.{◌≡◌, None, slice_get};
 ghost use Rattle.ir_blocks.specs.View.{statement_view};
-ghost use Rattle.ir_expressions.specs.Plain.{expression_view};
+ghost use Rattle.ir_types.specs.ExpressionPlain.{expression_view};
 ghost use Rattle.ir_items.specs.View.{function_view};
 ghost use Rattle.scope_checks.specs.Carried.{holds, pre_known, known, first_lacking, place_lacking};
 ghost use Rattle.spec_handles.specs.Expressions.{given};

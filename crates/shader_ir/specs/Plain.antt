@@ -1,6 +1,6 @@
 -- The items of a module as plain data.
 pub use Rattle.ir_types.specs.Plain.{PlainMember, PlainInner, struct, PlainType}
-pub use Rattle.ir_expressions.specs.Plain.{PlainExpression, compose}
+pub use Rattle.ir_types.specs.ExpressionPlain.{PlainExpression, compose}
 pub use Rattle.ir_blocks.specs.Plain.{PlainOperation, control_barrier, memory_barrier, store, image_store, atomic, image_atomic, uniform_load, ray_query, ballot, collective, gather, cooperative_store, ray_pipeline}
 pub use Rattle.ir_blocks.specs.Plain.{PlainStatement, emit, block, if_, switch, loop, break, continue, return, kill, operation, call}
 pub use Rattle.ir_blocks.specs.Plain.{PlainBlock, stop, next, PlainCases, no_case, case}

@@ -6,9 +6,9 @@ pub use spec_analysis::laws::{by_calls, joined_by_callees, joined_is_summary};
 pub use spec_expressions::laws::{
     equivalent_operands_decide, faulty_has_none, one_type, operands_decide,
 };
-pub use spec_types::laws::{rounded_is_least, size_of_tree, tree_by_trees, trees_stay};
 pub use typing_forms::laws::form_equality;
 pub use typing_forms::rule_laws::{
     canonical_once, compare_reflexive, compare_symmetric, compare_transitive,
 };
 pub use typing_layout::laws::{layouts_stay, one_kind, one_layout};
+pub use typing_layout::tree_laws::{rounded_is_least, size_of_tree, tree_by_trees, trees_stay};

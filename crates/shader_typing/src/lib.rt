@@ -22,9 +22,8 @@ pub use error_functions::{
     SubgroupError, UniformityDisruptor,
 };
 pub use overload_tables::{Arguments, Conclusion, ConstructorSize, Pattern, Rule, ValueType};
-pub use spec_expressions::TypingFault;
+pub use spec_expressions::{ConclusionExt, MissingSpecialType, TypingFault};
 pub use typing_compare::CompareTypes;
-pub use typing_conclusions::{ConclusionExt, MissingSpecialType};
 pub use typing_conditions::{
     arities_match, callees_precede, filter_parents_precede, handles_in_range, operands_precede,
 };

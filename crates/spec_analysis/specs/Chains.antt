@@ -1,8 +1,8 @@
 -- Chains of call statements, what expressions stand for at their ends, and what a function has over all of them.
 use Rattle.std.specs.Prelude.{◌≡◌, ◌⊎◌, ℕ, List, [], ◌∷◌, Option, Some, None, slice_get, ⊤}
 use Rattle.std.specs.Int.{bit_at}
-use Rattle.ir_expressions.specs.Plain.{PlainExpression, plain}
-use Rattle.ir_expressions.specs.declared.expressions.Expression.TheVariants.{GlobalVariable, FunctionArgument, Access, AccessIndex}
+use Rattle.ir_types.specs.ExpressionPlain.{PlainExpression, plain}
+use Rattle.ir_types.specs.declared.expressions.Expression.TheVariants.{GlobalVariable, FunctionArgument, Access, AccessIndex}
 use Rattle.ir_items.specs.Plain.{PlainFunction, PlainModule}
 use Rattle.overload_tables.specs.Laws.{IsAmong}
 use Rattle.analysis_forms.specs.declared.global_use.TheConstants.GlobalUse.{QUERY}

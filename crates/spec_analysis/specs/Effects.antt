@@ -1,7 +1,7 @@
 -- What a function does that its summary tells, in the order of its text.
 use Rattle.std.specs.Prelude.{ℕ, ◌+◌, List, [], ◌∷◌, ◌++◌, map, ◌==◌, if◌then◌else◌}
-use Rattle.ir_expressions.specs.Plain.{PlainExpression, compose, plain}
-use Rattle.ir_expressions.specs.declared.expressions.Expression.TheVariants.{ImageSample}
+use Rattle.ir_types.specs.ExpressionPlain.{PlainExpression, compose, plain}
+use Rattle.ir_types.specs.declared.expressions.Expression.TheVariants.{ImageSample}
 use Rattle.ir_blocks.specs.Plain.{PlainStatement, emit, block, if_, switch, loop, break, continue, return, kill, operation, call, PlainBlock, stop, next, PlainCases, no_case, case}
 use Rattle.ir_items.specs.Plain.{PlainFunction}
 use Rattle.spec_analysis.specs.Operands.{Operand, expression_operands, statement_operands}

@@ -1,12 +1,12 @@
 -- The operands of expressions and of statements, and the use that each makes of a global variable.
 use Rattle.std.specs.Prelude.{ℕ, List, [], ◌∷◌, ◌++◌, map, Option, Some, None}
-use Rattle.ir_expressions.specs.Plain.{PlainExpression, compose, plain}
-use Rattle.ir_expressions.specs.declared.expressions.Expression.{Expression}
-use Rattle.ir_expressions.specs.declared.expressions.Expression.TheVariants as x
-use Rattle.ir_expressions.specs.declared.expressions.ImageQuery.{ImageQuery}
-use Rattle.ir_expressions.specs.declared.expressions.ImageQuery.TheVariants.{Size, NumLevels, NumLayers, NumSamples}
-use Rattle.ir_expressions.specs.declared.expressions.SampleLevel.{SampleLevel}
-use Rattle.ir_expressions.specs.declared.expressions.SampleLevel.TheVariants.{Auto, Zero, Exact, Bias, Gradient}
+use Rattle.ir_types.specs.ExpressionPlain.{PlainExpression, compose, plain}
+use Rattle.ir_types.specs.declared.expressions.Expression.{Expression}
+use Rattle.ir_types.specs.declared.expressions.Expression.TheVariants as x
+use Rattle.ir_types.specs.declared.expressions.ImageQuery.{ImageQuery}
+use Rattle.ir_types.specs.declared.expressions.ImageQuery.TheVariants.{Size, NumLevels, NumLayers, NumSamples}
+use Rattle.ir_types.specs.declared.expressions.SampleLevel.{SampleLevel}
+use Rattle.ir_types.specs.declared.expressions.SampleLevel.TheVariants.{Auto, Zero, Exact, Bias, Gradient}
 use Rattle.ir_blocks.specs.Plain.{PlainOperation, control_barrier, memory_barrier, store, image_store, atomic, image_atomic, uniform_load, ray_query, ballot, collective, gather, cooperative_store, ray_pipeline, PlainStatement, emit, block, if_, switch, loop, break, continue, return, kill, operation, call}
 use Rattle.ir_blocks.specs.declared.operations.AtomicFunction.{AtomicFunction}
 use Rattle.ir_blocks.specs.declared.operations.AtomicFunction.TheVariants as fun

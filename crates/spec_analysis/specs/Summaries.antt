@@ -1,7 +1,7 @@
 -- What is kept of a function, and what it says of it.
 use Rattle.std.specs.Prelude.{◌≡◌, ◌↔◌, ◌⊎◌, ℕ, ◌<◌, Bool, IsTrue, List, Some, None, length, slice_get, slice_index_or}
 use Rattle.std.specs.Int.{bit_at}
-use Rattle.ir_expressions.specs.Plain.{PlainExpression}
+use Rattle.ir_types.specs.ExpressionPlain.{PlainExpression}
 use Rattle.ir_items.specs.Plain.{PlainFunction, PlainModule}
 use Rattle.overload_tables.specs.Laws.{IsAmong}
 use Rattle.analysis_forms.specs.declared.global_use.GlobalUse.{GlobalUse}

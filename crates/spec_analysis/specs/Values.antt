@@ -13,9 +13,9 @@ use Rattle.ir_kinds.specs.declared.spaces.AddressSpace.{AddressSpace}
 use Rattle.ir_kinds.specs.declared.spaces.AddressSpace.TheVariants as space
 use Rattle.ir_types.specs.Plain.{PlainInner, PlainType, plain as plain_inner}
 use Rattle.ir_types.specs.declared.types.TypeInner.TheVariants.{Image}
-use Rattle.ir_expressions.specs.Plain.{PlainExpression, compose, plain, implicit_derivatives}
-use Rattle.ir_expressions.specs.declared.expressions.Expression.{Expression}
-use Rattle.ir_expressions.specs.declared.expressions.Expression.TheVariants as x
+use Rattle.ir_types.specs.ExpressionPlain.{PlainExpression, compose, plain, implicit_derivatives}
+use Rattle.ir_types.specs.declared.expressions.Expression.{Expression}
+use Rattle.ir_types.specs.declared.expressions.Expression.TheVariants as x
 use Rattle.ir_items.specs.GlobalPlain.{PlainGlobal}
 use Rattle.ir_items.specs.Plain.{PlainArgument, PlainFunction, PlainModule}
 use Rattle.analysis_forms.specs.declared.uniformity.TheConstants.UniformityRequirements.{DERIVATIVE, IMPLICIT_LEVEL, COOP_OPS}

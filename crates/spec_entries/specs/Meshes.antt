@@ -1,7 +1,7 @@
 -- What a mesh shader gives, by the variable that holds it.
 use Rattle.std.specs.Prelude.{◌≡◌, ℕ, List, [], ◌∷◌, Option, Some, None, false, IsSome, option_and_then, slice_get}
-use Rattle.ir_expressions.specs.Plain.{PlainExpression, plain as plain_expression}
-use Rattle.ir_expressions.specs.declared.expressions.Expression.TheVariants.{Override}
+use Rattle.ir_types.specs.ExpressionPlain.{PlainExpression, plain as plain_expression}
+use Rattle.ir_types.specs.declared.expressions.Expression.TheVariants.{Override}
 use Rattle.ir_flags.specs.Sets.{Has}
 use Rattle.ir_flags.specs.declared.settings.Capabilities.{Capabilities}
 use Rattle.ir_flags.specs.declared.settings.TheConstants.Capabilities.{MESH_SHADER_POINT_TOPOLOGY}

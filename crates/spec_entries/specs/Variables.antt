@@ -12,8 +12,8 @@ use Rattle.ir_types.specs.Plain.{PlainInner}
 use Rattle.spec_entries.specs.Payloads.{space_at, binding_at}
 use Rattle.spec_entries.specs.Uses.{allowed_uses, is_reached}
 use Rattle.spec_globals.specs.Spaces.{counted}
-use Rattle.spec_types.specs.Layout.{size}
-use Rattle.spec_types.specs.View.{type_tree}
+use Rattle.typing_layout.specs.Layout.{size}
+use Rattle.typing_layout.specs.View.{type_tree}
 use Rattle.typing_forms.specs.Resolutions.{inner_at}
 
 -- the variable is used in some way, where each is used so: with these bits

@@ -8,7 +8,7 @@ use Rattle.ir_kinds.specs.declared.scalars.ScalarKind.{ScalarKind}
 use Rattle.ir_kinds.specs.declared.scalars.ScalarKind.TheVariants as kind
 use Rattle.spec_expressions.specs.GlobalExpressions.{Asked, of_literal, of_composition, of_value, to_work_out, IsMet}
 use Rattle.spec_expressions.specs.ConstantLaws.{MoreCapabilities}
-use Rattle.spec_types.specs.Widths.{IsWidthAllowed, IsKindAllowed}
+use Rattle.typing_layout.specs.Widths.{IsWidthAllowed, IsKindAllowed}
 use Rattle.ir_kinds.specs.Values.{literal_scalar}
 use Rattle.typing_layout.specs.declared.constness.ExpressionKind.{ExpressionKind}
 

@@ -1,3 +1,4 @@
 pub mod TypingLaws
 pub mod Capable
 pub mod Resolved
+pub mod Keys

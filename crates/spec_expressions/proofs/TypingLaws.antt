@@ -1,6 +1,6 @@
 -- One type at most, and none where there is a fault: both from one lemma, that a rule reads its operands alone.
 use Rattle.std.proofs.Common.{◌≡◌, ◌∙◌, sym, refl, ap, subst, ℕ, List, [], ◌∷◌, Ok, inl, inr, zero, suc}
-use Rattle.ir_expressions.specs.Plain.{PlainExpression}
+use Rattle.ir_types.specs.ExpressionPlain.{PlainExpression}
 use Rattle.typing_forms.specs.declared.form.Form.{Form}
 use Rattle.typing_forms.specs.Forms.{form_of}
 use Rattle.typing_forms.specs.Resolutions.{PlainResolution}

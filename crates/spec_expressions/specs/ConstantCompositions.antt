@@ -1,6 +1,6 @@
 -- Which values make a composed one.
 use Rattle.std.specs.Prelude.{◌≡◌, ℕ, List, Some, length, map, slice_get, sum}
-use Rattle.ir_expressions.specs.Plain.{PlainExpression}
+use Rattle.ir_types.specs.ExpressionPlain.{PlainExpression}
 use Rattle.ir_kinds.specs.Scalars.{component_count}
 use Rattle.ir_kinds.specs.declared.scalars.Scalar.{Scalar}
 use Rattle.ir_types.specs.Plain.{PlainInner, PlainMember, PlainType, struct, plain}

@@ -2,7 +2,7 @@
 use Rattle.ir_flags.specs.declared.settings.Capabilities.{Capabilities}
 use Rattle.ir_kinds.specs.Values.{literal_scalar}
 use Rattle.ir_kinds.specs.declared.values.Literal.{Literal}
-use Rattle.spec_types.specs.Widths.{ScalarOK}
+use Rattle.typing_layout.specs.Widths.{ScalarOK}
 
 -- there is its scalar
 abbrev pub LiteralOK : Capabilities → Literal → Type 0

@@ -3,8 +3,8 @@ use Rattle.std.specs.Prelude.{◌≡◌, ℕ, Some, slice_get}
 use Rattle.ir_items.specs.GlobalPlain.{PlainConstant}
 use Rattle.ir_items.specs.Plain.{PlainModule}
 use Rattle.spec_expressions.specs.Typing.{HasGlobalType}
-use Rattle.spec_types.specs.Flags.{HasFlag, Constructible}
-use Rattle.spec_types.specs.View.{type_tree}
+use Rattle.typing_layout.specs.Flags.{HasFlag, Constructible}
+use Rattle.typing_layout.specs.View.{type_tree}
 use Rattle.typing_forms.specs.Forms.{form_of_type}
 use Rattle.typing_layout.specs.Constness.{IsOfKind}
 use Rattle.typing_layout.specs.declared.constness.ExpressionKind.TheVariants.{Const}

@@ -1,9 +1,9 @@
 -- What expressions may name: the items of a module, and a function's arguments and variables.
 use Rattle.std.specs.Prelude.{◌<◌, ℕ, List, [], Option, Some, None, length}
 use Rattle.ir_types.specs.Plain.{PlainType}
-use Rattle.ir_expressions.specs.Plain.{PlainExpression, compose, plain}
-use Rattle.ir_expressions.specs.declared.expressions.Expression.{Expression}
-use Rattle.ir_expressions.specs.declared.expressions.Expression.TheVariants as x
+use Rattle.ir_types.specs.ExpressionPlain.{PlainExpression, compose, plain}
+use Rattle.ir_types.specs.declared.expressions.Expression.{Expression}
+use Rattle.ir_types.specs.declared.expressions.Expression.TheVariants as x
 use Rattle.ir_items.specs.GlobalPlain.{PlainConstant, PlainOverride, PlainGlobal, PlainSpecial}
 use Rattle.ir_items.specs.Plain.{PlainArgument, PlainLocal, PlainFunction, PlainModule}
 use Rattle.typing_forms.specs.declared.form.Form.{Form}

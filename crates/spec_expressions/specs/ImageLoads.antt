@@ -7,8 +7,8 @@ use Rattle.ir_kinds.specs.declared.images.ImageDimension.TheVariants.{D1, D2, D3
 use Rattle.ir_kinds.specs.declared.scalars.VectorSize.TheVariants.{Bi, Tri}
 use Rattle.ir_kinds.specs.Images.{format_scalar}
 use Rattle.ir_kinds.specs.Scalars.{unsigned, floating}
-use Rattle.ir_expressions.specs.declared.expressions.ImageQuery.{ImageQuery}
-use Rattle.ir_expressions.specs.declared.expressions.ImageQuery.TheVariants.{Size, NumLevels, NumLayers, NumSamples}
+use Rattle.ir_types.specs.declared.expressions.ImageQuery.{ImageQuery}
+use Rattle.ir_types.specs.declared.expressions.ImageQuery.TheVariants.{Size, NumLevels, NumLayers, NumSamples}
 use Rattle.typing_forms.specs.declared.form.Form.{Form}
 use Rattle.typing_forms.specs.declared.form.Form.TheVariants as form
 use Rattle.spec_expressions.specs.ImageSamples.{texel_scalar, texel}

@@ -1,6 +1,6 @@
 -- What holds of all types of expressions.
 use Rattle.std.specs.Prelude.{◌≡◌, ℕ, List, Some, Err, slice_get}
-use Rattle.ir_expressions.specs.Plain.{PlainExpression}
+use Rattle.ir_types.specs.ExpressionPlain.{PlainExpression}
 use Rattle.typing_forms.specs.declared.form.Form.{Form}
 use Rattle.typing_forms.specs.Forms.{form_of}
 use Rattle.typing_forms.specs.Resolutions.{PlainResolution}

@@ -22,3 +22,4 @@ pub mod GlobalExpressions
 pub mod ConstantLaws
 pub mod ConstantLiterals
 pub mod Overrides
+pub mod Given

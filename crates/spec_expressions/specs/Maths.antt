@@ -11,7 +11,7 @@ use Rattle.overload_tables.specs.declared.rules.ValueType.{ValueType}
 use Rattle.overload_tables.specs.Ranks.{accepts_if}
 use Rattle.overload_tables.specs.Tables.{table}
 use Rattle.overload_tables.specs.Types.{value_type}
-use Rattle.typing_conclusions.specs.Given.{given_type}
+use Rattle.spec_expressions.specs.Given.{given_type}
 use Rattle.spec_expressions.specs.Context.{Context}
 use Rattle.spec_expressions.specs.declared.faults.TypingFault.{TypingFault}
 use Rattle.spec_expressions.specs.declared.faults.TypingFault.TheVariants.{BuiltinArgumentsInvalid, MissingSpecialType}

@@ -14,7 +14,7 @@ use Rattle.ir_kinds.specs.declared.spaces.AddressSpace.TheVariants.{Private}
 use Rattle.spec_expressions.specs.Overrides.{IsKnownByOverrides}
 use Rattle.spec_expressions.specs.Typing.{HasGlobalType}
 use Rattle.spec_globals.specs.Spaces.{counted, ArraysOK, required, HasAll, space_capability, LiesIn, is_resource, is_storage}
-use Rattle.spec_types.specs.View.{type_tree}
+use Rattle.typing_layout.specs.View.{type_tree}
 use Rattle.typing_forms.specs.Forms.{form_of_type}
 use Rattle.typing_forms.specs.Resolutions.{inner_at}
 

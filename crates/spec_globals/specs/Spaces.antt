@@ -10,13 +10,13 @@ use Rattle.ir_kinds.specs.declared.spaces.AddressSpace.{AddressSpace}
 use Rattle.ir_kinds.specs.declared.spaces.AddressSpace.TheVariants.{Function, Private, WorkGroup, Uniform, Storage, Handle, Immediate, TaskPayload, RayPayload, IncomingRayPayload}
 use Rattle.ir_types.specs.Plain.{PlainInner, plain, PlainType}
 use Rattle.ir_types.specs.declared.types.TypeInner.TheVariants as inner
-use Rattle.spec_types.specs.Buffers.{IsStorage, IsUniform}
-use Rattle.spec_types.specs.Flags.{TypeFlag, Data, Sized, Copy, HostShareable, CreationResolved, Constructible, HasFlag, among}
-use Rattle.spec_types.specs.Immediates.{FitsImmediates}
+use Rattle.typing_layout.specs.Buffers.{IsStorage, IsUniform}
+use Rattle.typing_layout.specs.Flags.{TypeFlag, Data, Sized, Copy, HostShareable, CreationResolved, Constructible, HasFlag, among}
+use Rattle.typing_layout.specs.Immediates.{FitsImmediates}
 use Rattle.spec_globals.specs.Handles.{is_handle, handle_capability, handles_capability}
-use Rattle.spec_types.specs.Layout.{size}
-use Rattle.spec_types.specs.Tree.{Tree}
-use Rattle.spec_types.specs.View.{type_tree}
+use Rattle.typing_layout.specs.Layout.{size}
+use Rattle.typing_layout.specs.Tree.{Tree}
+use Rattle.typing_layout.specs.View.{type_tree}
 use Rattle.typing_forms.specs.Resolutions.{inner_at}
 
 -- ---- binding arrays

@@ -1,12 +1,12 @@
 -- What expressions name, a row a kind.
 use Rattle.std.specs.Prelude.{ℕ, List, [], ◌∷◌, Option, Some, None}
-use Rattle.ir_expressions.specs.Plain.{PlainExpression, compose, plain}
-use Rattle.ir_expressions.specs.declared.expressions.Expression.{Expression}
-use Rattle.ir_expressions.specs.declared.expressions.Expression.TheVariants as x
-use Rattle.ir_expressions.specs.declared.expressions.ImageQuery.{ImageQuery}
-use Rattle.ir_expressions.specs.declared.expressions.ImageQuery.TheVariants.{Size, NumLevels, NumLayers, NumSamples}
-use Rattle.ir_expressions.specs.declared.expressions.SampleLevel.{SampleLevel}
-use Rattle.ir_expressions.specs.declared.expressions.SampleLevel.TheVariants.{Auto, Zero, Exact, Bias, Gradient}
+use Rattle.ir_types.specs.ExpressionPlain.{PlainExpression, compose, plain}
+use Rattle.ir_types.specs.declared.expressions.Expression.{Expression}
+use Rattle.ir_types.specs.declared.expressions.Expression.TheVariants as x
+use Rattle.ir_types.specs.declared.expressions.ImageQuery.{ImageQuery}
+use Rattle.ir_types.specs.declared.expressions.ImageQuery.TheVariants.{Size, NumLevels, NumLayers, NumSamples}
+use Rattle.ir_types.specs.declared.expressions.SampleLevel.{SampleLevel}
+use Rattle.ir_types.specs.declared.expressions.SampleLevel.TheVariants.{Auto, Zero, Exact, Bias, Gradient}
 use Rattle.spec_handles.specs.declared.target.Target.{Target}
 use Rattle.spec_handles.specs.declared.target.Target.TheVariants as target
 

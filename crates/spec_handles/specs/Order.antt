@@ -1,6 +1,6 @@
 -- Which items have to come after others, and when they do.
 use Rattle.std.specs.Prelude.{◌≡◌, ℕ, ◌<◌, ◌≤◌, Some, Contains, slice_get}
-use Rattle.ir_expressions.specs.Plain.{PlainExpression}
+use Rattle.ir_types.specs.ExpressionPlain.{PlainExpression}
 use Rattle.ir_items.specs.GlobalPlain.{PlainConstant, PlainOverride, PlainNode}
 use Rattle.ir_items.specs.Plain.{PlainFunction, PlainEntry, PlainModule}
 use Rattle.ir_types.specs.Plain.{PlainType}

@@ -7,8 +7,8 @@ use Rattle.ir_items.specs.Plain.{PlainModule}
 use Rattle.spec_expressions.proofs.Capable.{more_capabilities as expressions_more}
 use Rattle.spec_expressions.specs.GlobalExpressions.{GlobalExpressionOK}
 use Rattle.spec_expressions.specs.Overrides.{OverrideOK}
-use Rattle.spec_types.proofs.Capable.{more_capabilities as types_more}
-use Rattle.spec_types.specs.Rules.{TypeOK}
+use Rattle.typing_layout.proofs.Capable.{more_capabilities as types_more}
+use Rattle.typing_layout.specs.Rules.{TypeOK}
 use Rattle.spec_modules.specs.Laws.{MayUseMore, MoreCapabilities}
 use Rattle.spec_modules.specs.declared.settings.ModuleSettings.{ModuleSettings}
 use Rattle.spec_modules.specs.Steps.{ModuleStep, layout, type, typing, expression, constant, override, StepOK}

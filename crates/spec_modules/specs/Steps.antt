@@ -7,11 +7,11 @@ use Rattle.spec_expressions.specs.Constants.{ConstantOK}
 use Rattle.spec_expressions.specs.GlobalExpressions.{GlobalExpressionOK}
 use Rattle.spec_expressions.specs.Overrides.{OverrideOK}
 use Rattle.spec_expressions.specs.Typing.{HasGlobalType}
-use Rattle.spec_types.specs.Rules.{TypeOK}
+use Rattle.typing_layout.specs.Rules.{TypeOK}
 use Rattle.spec_handles.specs.InOrder.{HandlesOK}
 use Rattle.spec_modules.specs.declared.settings.ModuleSettings.{ModuleSettings}
-use Rattle.spec_types.specs.Layout.{LayoutOK}
-use Rattle.spec_types.specs.View.{type_tree}
+use Rattle.typing_layout.specs.Layout.{LayoutOK}
+use Rattle.typing_layout.specs.View.{type_tree}
 use Rattle.typing_forms.specs.declared.form.Form.{Form}
 
 -- The steps behind that of the handles: types are laid out and judged, global expressions are given types and judged, and

@@ -5,8 +5,8 @@ use Rattle.analysis_forms.specs.Pairs.{SamplingPair}
 use Rattle.analysis_forms.specs.declared.global_use.GlobalUse.{GlobalUse}
 use Rattle.analysis_forms.specs.declared.sampling.GlobalOrArgument.{GlobalOrArgument}
 use Rattle.analysis_forms.specs.declared.sampling.GlobalOrArgument.TheVariants.{Global, Argument}
-use Rattle.ir_expressions.specs.Plain.{PlainExpression, plain}
-use Rattle.ir_expressions.specs.declared.expressions.Expression.TheVariants as x
+use Rattle.ir_types.specs.ExpressionPlain.{PlainExpression, plain}
+use Rattle.ir_types.specs.declared.expressions.Expression.TheVariants as x
 use Rattle.ir_items.specs.Plain.{PlainEntry, PlainFunction, PlainModule}
 use Rattle.overload_tables.specs.Laws.{IsAmong}
 use Rattle.spec_analysis.specs.Chains.{base_stands_for, stands_for, place, Step, IsChain, end_of, bound, argument_means, seen_through, HasUse, HasPair}

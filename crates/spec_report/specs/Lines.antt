@@ -9,8 +9,8 @@ use Rattle.ir_kinds.specs.declared.spaces.AddressSpace.{AddressSpace}
 use Rattle.ir_kinds.specs.declared.spaces.AddressSpace.TheVariants.{Function, Private, WorkGroup, Uniform, Storage, Handle, Immediate, TaskPayload, RayPayload, IncomingRayPayload}
 use Rattle.ir_types.specs.Plain.{PlainType}
 use Rattle.spec_globals.specs.Spaces.{counted}
-use Rattle.spec_types.specs.Layout.{size, alignment}
-use Rattle.spec_types.specs.View.{type_tree}
+use Rattle.typing_layout.specs.Layout.{size, alignment}
+use Rattle.typing_layout.specs.View.{type_tree}
 
 -- what is told of each item, which is given its number, in order
 abbrev pub each_from : {X : Type 0} → (told : ℕ → X → List ℕ) → (first : ℕ) → List X → List ℕ

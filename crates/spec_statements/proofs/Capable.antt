@@ -1,8 +1,8 @@
 -- More capabilities refuse nothing more.
 use Rattle.std.proofs.Common.{ℕ, List, [], ◌∷◌, Option, Some, None, IsSomeAnd, Bool, true, false}
-use Rattle.ir_expressions.specs.Plain.{PlainExpression, compose, plain}
-use Rattle.ir_expressions.specs.declared.expressions.Expression.{Expression}
-use Rattle.ir_expressions.specs.declared.expressions.Expression.TheVariants as x
+use Rattle.ir_types.specs.ExpressionPlain.{PlainExpression, compose, plain}
+use Rattle.ir_types.specs.declared.expressions.Expression.{Expression}
+use Rattle.ir_types.specs.declared.expressions.Expression.TheVariants as x
 use Rattle.ir_flags.specs.Sets.{IsWithin}
 use Rattle.ir_flags.specs.declared.settings.Capabilities.{Capabilities}
 use Rattle.ir_kinds.specs.Values.{literal_scalar}
@@ -18,9 +18,9 @@ use Rattle.spec_statements.specs.Laws.{MoreCapabilities, under}
 use Rattle.spec_statements.specs.ExpressionResults.{IsAtomicValue, AreExchangeMembers, IsExchange, AtomicResultOK}
 use Rattle.spec_statements.specs.Shapes.{IsAlone}
 use Rattle.spec_statements.specs.declared.shapes.Shaped.{Shaped}
-use Rattle.spec_types.proofs.Capable.{more_capabilities as more_types}
-use Rattle.spec_types.specs.Widths.{ScalarOK, AtomicOK}
-use Rattle.spec_types.specs.View.{type_tree, tree_along}
+use Rattle.typing_layout.proofs.Capable.{more_capabilities as more_types}
+use Rattle.typing_layout.specs.Widths.{ScalarOK, AtomicOK}
+use Rattle.typing_layout.specs.View.{type_tree, tree_along}
 use Rattle.typing_forms.specs.declared.form.Form.{Form}
 
 -- a module of one type

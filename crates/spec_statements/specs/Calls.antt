@@ -1,7 +1,7 @@
 -- Calls.
 use Rattle.std.specs.Prelude.{◌≡◌, ℕ, List, Option, Some, None, IsSome, slice_get}
-use Rattle.ir_expressions.specs.Plain.{plain}
-use Rattle.ir_expressions.specs.declared.expressions.Expression.TheVariants as x
+use Rattle.ir_types.specs.ExpressionPlain.{plain}
+use Rattle.ir_types.specs.declared.expressions.Expression.TheVariants as x
 use Rattle.ir_items.specs.Plain.{PlainArgument, PlainFunction}
 use Rattle.typing_forms.specs.Forms.{form_of_type}
 use Rattle.spec_statements.specs.BlockContext.{BlockContext, form_at}

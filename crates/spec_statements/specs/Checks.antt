@@ -1,7 +1,7 @@
 -- What is asked of an expression that is no composition, beside its type: a row for each kind.
 use Rattle.std.specs.Prelude.{slice_get}
-use Rattle.ir_expressions.specs.declared.expressions.Expression.{Expression}
-use Rattle.ir_expressions.specs.declared.expressions.Expression.TheVariants as x
+use Rattle.ir_types.specs.declared.expressions.Expression.{Expression}
+use Rattle.ir_types.specs.declared.expressions.Expression.TheVariants as x
 use Rattle.spec_statements.specs.Access.{AccessOK, AccessIndexOK}
 use Rattle.spec_statements.specs.Compositions.{SwizzleOK}
 use Rattle.spec_statements.specs.Conversions.{AsOK}

@@ -6,7 +6,7 @@ use Rattle.ir_kinds.specs.declared.scalars.ScalarKind.{ScalarKind}
 use Rattle.ir_kinds.specs.declared.scalars.ScalarKind.TheVariants.{Bool}
 use Rattle.typing_forms.specs.declared.form.Form.{Form}
 use Rattle.spec_expressions.specs.Conversions.{converted}
-use Rattle.spec_types.specs.Widths.{ScalarOK}
+use Rattle.typing_layout.specs.Widths.{ScalarOK}
 use Rattle.spec_statements.specs.Shapes.{shaped_of}
 
 -- into a scalar that there is; where the same bits are read anew, neither from truth values nor as such

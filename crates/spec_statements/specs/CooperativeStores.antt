@@ -1,6 +1,6 @@
 -- Cooperative matrices that are stored.
 use Rattle.std.specs.Prelude.{◌≡◌, ℕ, Option, Some, None}
-use Rattle.ir_expressions.specs.declared.expressions.CooperativeData.{CooperativeData}
+use Rattle.ir_types.specs.declared.expressions.CooperativeData.{CooperativeData}
 use Rattle.ir_kinds.specs.declared.scalars.Scalar.{Scalar}
 use Rattle.typing_forms.specs.declared.form.Form.{Form}
 use Rattle.typing_forms.specs.declared.form.Form.TheVariants as form

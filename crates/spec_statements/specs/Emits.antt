@@ -1,9 +1,9 @@
 -- Expressions that are emitted.
 use Rattle.std.specs.Prelude.{ℕ, List, All, IfSome, slice_get}
 use Rattle.ir_arena.specs.Handles.{handles_between}
-use Rattle.ir_expressions.specs.Plain.{PlainExpression, compose, plain}
-use Rattle.ir_expressions.specs.declared.expressions.Expression.{Expression}
-use Rattle.ir_expressions.specs.declared.expressions.Expression.TheVariants as x
+use Rattle.ir_types.specs.ExpressionPlain.{PlainExpression, compose, plain}
+use Rattle.ir_types.specs.declared.expressions.Expression.{Expression}
+use Rattle.ir_types.specs.declared.expressions.Expression.TheVariants as x
 
 -- what stands for the answer of a statement is not emitted; what is always in scope is refused by scope
 abbrev pub IsComputedHere : Expression → Type 0

@@ -2,9 +2,9 @@
 use Rattle.std.specs.Prelude.{◌≡◌, ℕ, List, [], ◌∷◌, Option, Some, None, Bool, true, false, IsSomeAnd, codes}
 use Rattle.ir_flags.specs.declared.settings.Capabilities.{Capabilities}
 use Rattle.ir_types.specs.Plain.{PlainInner, PlainMember, struct, plain, PlainType}
-use Rattle.spec_types.specs.Flags.{HasFlag, Sized, Constructible}
-use Rattle.spec_types.specs.Widths.{AtomicOK}
-use Rattle.spec_types.specs.View.{type_tree}
+use Rattle.typing_layout.specs.Flags.{HasFlag, Sized, Constructible}
+use Rattle.typing_layout.specs.Widths.{AtomicOK}
+use Rattle.typing_layout.specs.View.{type_tree}
 use Rattle.typing_forms.specs.Forms.{form_of_type}
 use Rattle.typing_forms.specs.Resolutions.{inner_at}
 use Rattle.typing_forms.specs.declared.form.Form.{Form}

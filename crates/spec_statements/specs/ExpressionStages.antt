@@ -4,11 +4,11 @@ use Rattle.bitflags.specs.Sets.{known_bits}
 use Rattle.ir_flags.specs.Words.{shader_stages}
 use Rattle.ir_flags.specs.declared.stages.ShaderStages.{ShaderStages}
 use Rattle.ir_flags.specs.declared.stages.TheConstants.ShaderStages.{FRAGMENT, COMPUTE}
-use Rattle.ir_expressions.specs.Plain.{PlainExpression, compose, plain}
-use Rattle.ir_expressions.specs.declared.expressions.Expression.{Expression}
-use Rattle.ir_expressions.specs.declared.expressions.Expression.TheVariants as x
-use Rattle.ir_expressions.specs.declared.expressions.SampleLevel.{SampleLevel}
-use Rattle.ir_expressions.specs.declared.expressions.SampleLevel.TheVariants.{Auto, Zero, Exact, Bias, Gradient}
+use Rattle.ir_types.specs.ExpressionPlain.{PlainExpression, compose, plain}
+use Rattle.ir_types.specs.declared.expressions.Expression.{Expression}
+use Rattle.ir_types.specs.declared.expressions.Expression.TheVariants as x
+use Rattle.ir_types.specs.declared.expressions.SampleLevel.{SampleLevel}
+use Rattle.ir_types.specs.declared.expressions.SampleLevel.TheVariants.{Auto, Zero, Exact, Bias, Gradient}
 
 abbrev pub all_stages : ShaderStages
 all_stages = record { 0 = known_bits shader_stages }

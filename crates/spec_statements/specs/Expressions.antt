@@ -1,6 +1,6 @@
 -- What is asked of an expression of any kind, beside its type.
 use Rattle.std.specs.Prelude.{◌≡◌, ℕ, Some, map, slice_get}
-use Rattle.ir_expressions.specs.Plain.{PlainExpression, compose, plain}
+use Rattle.ir_types.specs.ExpressionPlain.{PlainExpression, compose, plain}
 use Rattle.spec_expressions.specs.ConstantCompositions.{ComposeOK}
 use Rattle.spec_statements.specs.Checks.{CheckOf}
 use Rattle.spec_statements.specs.Scene.{Scene, form_at}

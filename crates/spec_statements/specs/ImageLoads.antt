@@ -1,7 +1,7 @@
 -- How texels are loaded, and what is asked of images.
 use Rattle.std.specs.Prelude.{◌≡◌, ℕ, List, Option, Some, None, true, IsSomeAnd}
-use Rattle.ir_expressions.specs.declared.expressions.ImageQuery.{ImageQuery}
-use Rattle.ir_expressions.specs.declared.expressions.ImageQuery.TheVariants.{Size, NumLevels, NumLayers, NumSamples}
+use Rattle.ir_types.specs.declared.expressions.ImageQuery.{ImageQuery}
+use Rattle.ir_types.specs.declared.expressions.ImageQuery.TheVariants.{Size, NumLevels, NumLayers, NumSamples}
 use Rattle.ir_flags.specs.Sets.{Has}
 use Rattle.ir_flags.specs.declared.memory.TheConstants.StorageAccess.{LOAD}
 use Rattle.ir_kinds.specs.Images.{is_multisampled, is_mipmapped}

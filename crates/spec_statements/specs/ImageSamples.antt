@@ -1,8 +1,8 @@
 -- How images are sampled.
 use Rattle.std.specs.Prelude.{◌≡◌, ◌≢◌, ◌⊎◌, ℕ, List, Option, Some, None, Bool, true, false, is_some, IfSome, IsSomeAnd}
-use Rattle.ir_expressions.specs.Plain.{PlainExpression}
-use Rattle.ir_expressions.specs.declared.expressions.SampleLevel.{SampleLevel}
-use Rattle.ir_expressions.specs.declared.expressions.SampleLevel.TheVariants.{Auto, Zero, Exact, Bias, Gradient}
+use Rattle.ir_types.specs.ExpressionPlain.{PlainExpression}
+use Rattle.ir_types.specs.declared.expressions.SampleLevel.{SampleLevel}
+use Rattle.ir_types.specs.declared.expressions.SampleLevel.TheVariants.{Auto, Zero, Exact, Bias, Gradient}
 use Rattle.ir_kinds.specs.Images.{is_multisampled, is_depth}
 use Rattle.ir_kinds.specs.Scalars.{signed, floating}
 use Rattle.ir_kinds.specs.declared.images.ImageClass.{ImageClass}

@@ -4,8 +4,8 @@ use Rattle.ir_items.specs.Plain.{PlainArgument, PlainLocal, PlainModule}
 use Rattle.ir_items.specs.declared.functions.FunctionResult.{FunctionResult}
 use Rattle.ir_kinds.specs.declared.spaces.AddressSpace.{AddressSpace}
 use Rattle.ir_kinds.specs.declared.spaces.AddressSpace.TheVariants as space
-use Rattle.spec_types.specs.Flags.{HasFlag, Argument, Constructible}
-use Rattle.spec_types.specs.View.{type_tree}
+use Rattle.typing_layout.specs.Flags.{HasFlag, Argument, Constructible}
+use Rattle.typing_layout.specs.View.{type_tree}
 use Rattle.typing_forms.specs.Forms.{form_of_type}
 use Rattle.typing_layout.specs.Constness.{IsOfKind}
 use Rattle.typing_layout.specs.declared.constness.ExpressionKind.TheVariants.{Const, Override}

@@ -1,6 +1,6 @@
 -- What is known of the checks.
 use Rattle.std.specs.Prelude.{◌≡◌, ℕ, List}
-use Rattle.ir_expressions.specs.Plain.{PlainExpression}
+use Rattle.ir_types.specs.ExpressionPlain.{PlainExpression}
 use Rattle.ir_flags.specs.Sets.{IsWithin}
 use Rattle.ir_flags.specs.declared.settings.Capabilities.{Capabilities}
 use Rattle.ir_types.specs.Plain.{PlainType}

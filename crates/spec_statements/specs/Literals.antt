@@ -1,8 +1,8 @@
 -- Which types have a zero. When a literal may be used is told in `spec_expressions`.
 use Rattle.std.specs.Prelude.{ℕ, List}
 use Rattle.ir_types.specs.Plain.{PlainType}
-use Rattle.spec_types.specs.Flags.{HasFlag, Constructible}
-use Rattle.spec_types.specs.View.{type_tree}
+use Rattle.typing_layout.specs.Flags.{HasFlag, Constructible}
+use Rattle.typing_layout.specs.View.{type_tree}
 
 -- values of the type can be composed
 abbrev pub ZeroOK : List PlainType → (type : ℕ) → Type 0

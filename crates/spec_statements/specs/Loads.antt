@@ -4,8 +4,8 @@ use Rattle.ir_types.specs.Plain.{PlainInner, struct, plain, PlainType}
 use Rattle.ir_types.specs.declared.types.ArraySize.{ArraySize}
 use Rattle.ir_types.specs.declared.types.ArraySize.TheVariants as count
 use Rattle.ir_types.specs.declared.types.TypeInner.TheVariants as inner
-use Rattle.spec_types.specs.Flags.{HasFlag, Data, Sized}
-use Rattle.spec_types.specs.View.{type_tree}
+use Rattle.typing_layout.specs.Flags.{HasFlag, Data, Sized}
+use Rattle.typing_layout.specs.View.{type_tree}
 use Rattle.typing_forms.specs.declared.form.Form.{Form}
 use Rattle.typing_forms.specs.declared.form.Form.TheVariants as form
 use Rattle.spec_statements.specs.Shapes.{pointed_in}

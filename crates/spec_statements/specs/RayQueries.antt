@@ -2,8 +2,8 @@
 use Rattle.std.specs.Prelude.{◌≡◌, ℕ, List, Option, Some, None, Bool, true, IsSomeAnd, option_and_then, option_map, slice_get}
 use Rattle.ir_blocks.specs.declared.operations.RayQueryFunction.{RayQueryFunction}
 use Rattle.ir_blocks.specs.declared.operations.RayQueryFunction.TheVariants as ray
-use Rattle.ir_expressions.specs.Plain.{PlainExpression, plain}
-use Rattle.ir_expressions.specs.declared.expressions.Expression.TheVariants as x
+use Rattle.ir_types.specs.ExpressionPlain.{PlainExpression, plain}
+use Rattle.ir_types.specs.declared.expressions.Expression.TheVariants as x
 use Rattle.ir_items.specs.Plain.{PlainFunction}
 use Rattle.ir_types.specs.Plain.{PlainType}
 use Rattle.typing_forms.specs.Forms.{form_of_type}

@@ -1,6 +1,6 @@
 -- What the checks of an expression may look at.
 use Rattle.std.specs.Prelude.{◌≡◌, ℕ, List, Some, length, slice_get, unwrap_or}
-use Rattle.ir_expressions.specs.Plain.{PlainExpression}
+use Rattle.ir_types.specs.ExpressionPlain.{PlainExpression}
 use Rattle.ir_flags.specs.declared.settings.Capabilities.{Capabilities}
 use Rattle.ir_items.specs.Plain.{PlainFunction, PlainModule}
 use Rattle.ir_types.specs.Plain.{PlainType}

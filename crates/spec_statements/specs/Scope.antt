@@ -2,7 +2,7 @@
 use Rattle.std.specs.Prelude.{◌≡◌, ◌⊎◌, ℕ, Bool, true, false, Contains, IsSomeAnd, slice_get}
 use Rattle.ir_blocks.specs.Places.{Place, Before, spot_at}
 use Rattle.ir_blocks.specs.Plain.{PlainBlock}
-use Rattle.ir_expressions.specs.Plain.{PlainExpression, compose, plain, always_in_scope}
+use Rattle.ir_types.specs.ExpressionPlain.{PlainExpression, compose, plain, always_in_scope}
 use Rattle.ir_items.specs.Plain.{PlainFunction}
 use Rattle.spec_statements.specs.Tables.{checked_at, introduced_at}
 

@@ -2,8 +2,8 @@
 use Rattle.std.specs.Prelude.{◌≡◌, ◌≤◌, ℕ, Option, Some, None, IfSome, IsSomeAnd, option_and_then, slice_get}
 use Rattle.ir_blocks.specs.declared.operations.GatherMode.{GatherMode}
 use Rattle.ir_blocks.specs.declared.operations.GatherMode.TheVariants as mode
-use Rattle.ir_expressions.specs.Plain.{PlainExpression, plain}
-use Rattle.ir_expressions.specs.declared.expressions.Expression.TheVariants as x
+use Rattle.ir_types.specs.ExpressionPlain.{PlainExpression, plain}
+use Rattle.ir_types.specs.declared.expressions.Expression.TheVariants as x
 use Rattle.ir_flags.specs.Sets.{Has}
 use Rattle.ir_flags.specs.declared.settings.TheConstants.Capabilities.{SUBGROUP}
 use Rattle.ir_flags.specs.declared.stages.SubgroupOperationSet.{SubgroupOperationSet}

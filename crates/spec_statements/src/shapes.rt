@@ -1,12 +1,11 @@
 //! What is made of scalars, and images, as the rules of expressions look at them.
 
 use ir_arena::handle::Handle;
-use ir_expressions::SampleLevel;
 use ir_kinds::{
     CooperativeRole, CooperativeSize, ImageClass, ImageDimension, Scalar, SwizzleComponent,
     VectorSize,
 };
-use ir_types::key;
+use ir_types::{SampleLevel, key};
 
 /// How many scalars there are, and how they are laid out.
 #[derive(Clone, Copy)]

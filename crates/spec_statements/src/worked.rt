@@ -3,9 +3,9 @@
 //! The functions do nothing: their contracts are the examples.
 
 ghost use Rattle.std.specs.Prelude.{◌≡◌, [], ◌∷◌, pos, negsuc, Some, None, true, false};
-ghost use Rattle.ir_expressions.specs.Plain.{compose, plain};
-ghost use Rattle.ir_expressions.specs.declared.expressions.Expression.TheVariants as x;
-ghost use Rattle.ir_expressions.specs.declared.expressions.SampleLevel.TheVariants.{Zero, Exact, Bias, Gradient};
+ghost use Rattle.ir_types.specs.ExpressionPlain.{compose, plain};
+ghost use Rattle.ir_types.specs.declared.expressions.Expression.TheVariants as x;
+ghost use Rattle.ir_types.specs.declared.expressions.SampleLevel.TheVariants.{Zero, Exact, Bias, Gradient};
 ghost use Rattle.ir_kinds.specs.declared.operators.DerivativeAxis.TheVariants as axis;
 ghost use Rattle.ir_kinds.specs.declared.operators.DerivativeControl.TheVariants as control;
 ghost use Rattle.ir_kinds.specs.Scalars.{boolean, floating, signed, unsigned};
@@ -27,7 +27,7 @@ ghost use Rattle.spec_statements.specs.ImageLoads.{IsAnswered, IsReadable, IsTex
 ghost use Rattle.spec_statements.specs.ImageSamples.{HasNeighbours, ClampOK, IsClamped, IsFiltered, IsGathered, IsLevel, IsOffset, OutsideOK};
 ghost use Rattle.spec_statements.specs.Laws.{under};
 ghost use Rattle.spec_statements.specs.Shapes.{ExactlyIf};
-ghost use Rattle.ir_expressions.specs.declared.expressions.ImageQuery.TheVariants.{Size, NumLevels, NumLayers, NumSamples};
+ghost use Rattle.ir_types.specs.declared.expressions.ImageQuery.TheVariants.{Size, NumLevels, NumLayers, NumSamples};
 ghost use Rattle.ir_kinds.specs.declared.images.ImageClass.TheVariants as class;
 ghost use Rattle.ir_flags.specs.declared.memory.TheConstants.StorageAccess.{STORE};
 ghost use Rattle.ir_kinds.specs.declared.images.StorageFormat.TheVariants.{R32Uint};

@@ -13,8 +13,8 @@ use Rattle.ir_kinds.specs.declared.stages.ShaderStage.TheVariants.{Vertex, Fragm
 use Rattle.ir_types.specs.Plain.{PlainType}
 use Rattle.ir_types.specs.declared.types.ArraySize.{ArraySize}
 use Rattle.ir_types.specs.declared.types.ArraySize.TheVariants as size
-use Rattle.spec_types.specs.Flags.{HasFlag, IoShareable}
-use Rattle.spec_types.specs.View.{type_tree}
+use Rattle.typing_layout.specs.Flags.{HasFlag, IoShareable}
+use Rattle.typing_layout.specs.View.{type_tree}
 use Rattle.spec_varyings.specs.BuiltIns.{array_of}
 use Rattle.spec_varyings.specs.Contexts.{VaryingContext}
 use Rattle.spec_varyings.specs.declared.varyings.Direction.{Direction}

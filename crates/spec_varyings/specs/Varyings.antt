@@ -12,7 +12,7 @@ use Rattle.ir_kinds.specs.declared.bindings.BuiltIn.{BuiltIn}
 use Rattle.ir_kinds.specs.declared.bindings.BuiltIn.TheVariants.{Position, Barycentric}
 use Rattle.ir_kinds.specs.declared.stages.ShaderStage.TheVariants.{Fragment}
 use Rattle.ir_types.specs.Plain.{PlainInner, PlainMember, PlainType, struct, plain}
-use Rattle.spec_types.specs.Flags.{blend_source}
+use Rattle.typing_layout.specs.Flags.{blend_source}
 use Rattle.spec_varyings.specs.BuiltIns.{BuiltInOK}
 use Rattle.spec_varyings.specs.Contexts.{VaryingContext, context_of}
 use Rattle.spec_varyings.specs.Locations.{LocationOK}

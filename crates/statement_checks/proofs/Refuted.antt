@@ -6,8 +6,8 @@ use Rattle.error_functions.specs.declared.error.FunctionError.TheVariants as err
 use Rattle.error_functions.specs.declared.calls.CallError.{CallError}
 use Rattle.error_functions.specs.declared.calls.CallError.TheVariants.{ArgumentType, ExpressionMismatch}
 use Rattle.error_functions.specs.declared.subgroups.SubgroupError.TheVariants.{UnsupportedOperation}
-use Rattle.ir_expressions.specs.Plain.{PlainExpression}
-use Rattle.ir_expressions.specs.declared.expressions.CooperativeData.{CooperativeData}
+use Rattle.ir_types.specs.ExpressionPlain.{PlainExpression}
+use Rattle.ir_types.specs.declared.expressions.CooperativeData.{CooperativeData}
 use Rattle.ir_arena.specs.Handles.{handles_between}
 use Rattle.ir_flags.specs.declared.memory.Barrier.{Barrier}
 use Rattle.ir_items.specs.Plain.{PlainFunction}

@@ -2,7 +2,7 @@
 use Rattle.std.specs.Prelude.{◌≡◌, ℕ, None}
 use Rattle.error_functions.specs.declared.error.FunctionError.{FunctionError}
 use Rattle.error_functions.specs.declared.error.FunctionError.TheVariants as error
-use Rattle.ir_expressions.specs.declared.expressions.CooperativeData.{CooperativeData}
+use Rattle.ir_types.specs.declared.expressions.CooperativeData.{CooperativeData}
 use Rattle.spec_expressions.specs.CooperativeMatrices.{pointed_scalar}
 use Rattle.spec_statements.specs.BlockContext.{BlockContext, form_at}
 use Rattle.spec_statements.specs.CooperativeStores.{matrix_scalar}

@@ -1,7 +1,7 @@
 -- A statement with a fault does not meet its rule.
 use Rattle.std.specs.Prelude.{ℕ, List, Option}
 use Rattle.error_functions.specs.declared.error.FunctionError.{FunctionError}
-use Rattle.ir_expressions.specs.declared.expressions.CooperativeData.{CooperativeData}
+use Rattle.ir_types.specs.declared.expressions.CooperativeData.{CooperativeData}
 use Rattle.ir_flags.specs.declared.memory.Barrier.{Barrier}
 use Rattle.spec_statements.specs.Barriers.{BarrierOK}
 use Rattle.spec_statements.specs.BlockContext.{BlockContext, form_at}

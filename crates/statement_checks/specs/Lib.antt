@@ -7,3 +7,5 @@ pub mod Emits
 pub mod Returns
 pub mod Stores
 pub mod Laws
+pub mod Refused
+pub mod OperandView

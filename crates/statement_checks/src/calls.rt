@@ -1,20 +1,19 @@
 //! Calls.
 
 ghost use Rattle.std.specs.Prelude.{◌≡◌, ◌↔◌, ◌<◌, ℕ, Option, IfNone, IfSome, IsTrue, MatchResult, length, option_map, slice_get};
-ghost use Rattle.ir_expressions.specs.Plain.{expression_view, plain};
-ghost use Rattle.ir_expressions.specs.declared.expressions.Expression.TheVariants as x;
+ghost use Rattle.ir_types.specs.ExpressionPlain.{expression_view, plain};
+ghost use Rattle.ir_types.specs.declared.expressions.Expression.TheVariants as x;
 ghost use Rattle.ir_items.specs.View.{argument_view, function_view};
 ghost use Rattle.spec_statements.specs.Calls.{CallOK, CallResultOK};
 ghost use Rattle.statement_checks.specs.Calls.{PassesAt, IsCallError, IsCallFault};
 ghost use Rattle.statement_checks.specs.View.{context_view};
 
+use crate::are_same;
 use crate::context::BlockContext;
-use check_operands::are_same;
 use error_functions::{CallError, FunctionError};
 use ir_arena::handle::Handle;
-use ir_expressions::Expression;
 use ir_items::{Function, FunctionArgument};
-use ir_types::key;
+use ir_types::{Expression, key};
 
 // The argument that a function declares at a place.
 #[tactic(auto, using(crate::proofs::CallLemmas::declared))]

@@ -1,7 +1,7 @@
 //! What the rules of a statement may look at.
 
 ghost use Rattle.std.specs.Prelude.{◌≡◌, ◌↔◌, IsTrue, option_map, slice_get};
-ghost use Rattle.ir_expressions.specs.Plain.{expression_view};
+ghost use Rattle.ir_types.specs.ExpressionPlain.{expression_view};
 ghost use Rattle.ir_types.specs.Plain.{inner_view};
 ghost use Rattle.spec_statements.specs.BlockContext.{form_at};
 ghost use Rattle.statement_checks.specs.View.{context_view, IsKnown};
@@ -11,10 +11,9 @@ ghost use Rattle.typing_layout.specs.Constness.{IsOfKind};
 ghost use Rattle.typing_layout.specs.declared.constness.ExpressionKind.TheVariants.{Const};
 
 use ir_arena::handle::Handle;
-use ir_expressions::Expression;
 use ir_flags::{Capabilities, SubgroupOperationSet};
 use ir_items::{Function, Module};
-use ir_types::{TypeInner, key};
+use ir_types::{Expression, TypeInner, key};
 use typing_forms::{Form, form_of_type, inner_of};
 use typing_layout::ExpressionKindTracker;
 
@@ -61,7 +60,7 @@ impl BlockContext<'_> {
     }
 
     /// An expression of the function, if there is one at the handle.
-    #[tactic(auto, using(check_operands::proofs::Lookups::found, check_operands::proofs::Lookups::missing))]
+    #[tactic(auto, using(crate::proofs::Lookups::found, crate::proofs::Lookups::missing))]
     pub fn expression_at(&self, handle: Handle<key::Expression>) -> Option<&Expression>
         ensures { option_map (λ found. expression_view found.now) result ≡ slice_get (context_view self.now).f.expressions handle }
     {

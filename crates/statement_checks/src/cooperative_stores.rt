@@ -13,9 +13,8 @@ use crate::context::BlockContext;
 use crate::pointers::is_writable;
 use error_functions::FunctionError;
 use ir_arena::handle::Handle;
-use ir_expressions::CooperativeData;
 use ir_kinds::Scalar;
-use ir_types::{TypeInner, key};
+use ir_types::{CooperativeData, TypeInner, key};
 use typing_forms::Form;
 
 // The scalar of a cooperative matrix.

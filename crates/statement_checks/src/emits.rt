@@ -1,7 +1,7 @@
 //! Expressions that are emitted.
 
 ghost use Rattle.std.specs.Prelude.{◌≡◌, ◌↔◌, IfSome, IsTrue, MatchResult, slice_get};
-ghost use Rattle.ir_expressions.specs.Plain.{expression_view};
+ghost use Rattle.ir_types.specs.ExpressionPlain.{expression_view};
 ghost use Rattle.spec_statements.specs.Emits.{EmitOK, IsEmittable};
 ghost use Rattle.statement_checks.specs.Emits.{IsEmitFault};
 ghost use Rattle.statement_checks.specs.View.{context_view};
@@ -10,8 +10,7 @@ use crate::context::BlockContext;
 use error_functions::FunctionError;
 use ir_arena::handle::Handle;
 use ir_arena::range::Range;
-use ir_expressions::Expression;
-use ir_types::key;
+use ir_types::{Expression, key};
 
 // Whether an expression is computed where it is emitted, and doesn't stand for the answer of a statement.
 fn is_emittable(expression: &Expression) -> bool

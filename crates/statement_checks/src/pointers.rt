@@ -1,7 +1,7 @@
 //! Pointers: where they begin, and what lies where they lead.
 
 ghost use Rattle.std.specs.Prelude.{◌≡◌, ◌↔◌, IsTrue, Some};
-ghost use Rattle.ir_expressions.specs.Plain.{expression_view};
+ghost use Rattle.ir_types.specs.ExpressionPlain.{expression_view};
 ghost use Rattle.ir_types.specs.Plain.{inner_view};
 ghost use Rattle.ir_walks.specs.Bases.{base_of, BasesPrecede};
 ghost use Rattle.spec_expressions.specs.Loads.{loaded, loaded_value};
@@ -9,14 +9,13 @@ ghost use Rattle.spec_statements.specs.Stores.{base_at, BeginsAt, IsVariable, Is
 ghost use Rattle.typing_forms.specs.Resolutions.{inner_at};
 ghost use Rattle.statement_checks.specs.View.{context_view};
 
+use crate::are_same;
 use crate::context::BlockContext;
 use bitflags::Flags;
-use check_operands::are_same;
 use ir_arena::handle::Handle;
-use ir_expressions::Expression;
 use ir_flags::StorageAccess;
 use ir_kinds::{AddressSpace, Scalar, VectorSize};
-use ir_types::{TypeInner, key};
+use ir_types::{Expression, TypeInner, key};
 use typing_forms::Form;
 
 // ---- where a pointer begins

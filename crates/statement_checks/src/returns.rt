@@ -5,8 +5,8 @@ ghost use Rattle.spec_statements.specs.Returns.{ReturnOK};
 ghost use Rattle.statement_checks.specs.Returns.{IsReturnFault};
 ghost use Rattle.statement_checks.specs.View.{context_view};
 
+use crate::are_same;
 use crate::context::BlockContext;
-use check_operands::are_same;
 use error_functions::FunctionError;
 use ir_arena::handle::Handle;
 use ir_types::key;

@@ -2,7 +2,7 @@
 
 ghost use Rattle.std.specs.Prelude.{◌≡◌, option_map, slice_get};
 ghost use Rattle.std.specs.Option.{option_or};
-ghost use Rattle.ir_expressions.specs.Plain.{expression_view};
+ghost use Rattle.ir_types.specs.ExpressionPlain.{expression_view};
 ghost use Rattle.ir_items.specs.GlobalView.{global_view};
 ghost use Rattle.ir_walks.specs.Bases.{global_of};
 ghost use Rattle.spec_statements.specs.Variables.{variable_at, accessed_at};
@@ -11,9 +11,8 @@ ghost use Rattle.statement_checks.specs.View.{context_view};
 use crate::context::BlockContext;
 use crate::pointers::base_at;
 use ir_arena::handle::Handle;
-use ir_expressions::Expression;
 use ir_items::GlobalVariable;
-use ir_types::key;
+use ir_types::{Expression, key};
 
 // The global variable that an expression is.
 fn global_of(expression: &Expression) -> Option<Handle<key::GlobalVariable>>
@@ -26,7 +25,7 @@ fn global_of(expression: &Expression) -> Option<Handle<key::GlobalVariable>>
 }
 
 // The global variable of a handle, if there is one.
-#[tactic(auto, using(check_operands::proofs::Lookups::found, check_operands::proofs::Lookups::missing))]
+#[tactic(auto, using(crate::proofs::Lookups::found, crate::proofs::Lookups::missing))]
 fn global_at<'a>(
     context: &'a BlockContext<'_>,
     variable: Handle<key::GlobalVariable>,

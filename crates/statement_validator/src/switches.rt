@@ -8,7 +8,6 @@ ghost use Rattle.statement_checks.specs.View.{context_view};
 ghost use Rattle.statement_validator.specs.Switches.{Selects, IsSelectorFault, IsSwitchRefusal};
 
 use crate::cases::cases_fault;
-use check_operands::{is_integer, shaped_of};
 use error_functions::FunctionError;
 use ir_arena::handle::Handle;
 use ir_blocks::SwitchCase;
@@ -16,7 +15,7 @@ use ir_faults::refusal::Refusal;
 use ir_faults::with_span::WithSpan;
 use ir_kinds::ScalarKind;
 use ir_types::key;
-use statement_checks::BlockContext;
+use statement_checks::{BlockContext, is_integer, shaped_of};
 use std::alloc::Global;
 
 // The kind of the integers that a selector is made of.

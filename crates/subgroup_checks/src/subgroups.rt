@@ -1,7 +1,7 @@
 //! Operations of subgroups.
 
 ghost use Rattle.std.specs.Prelude.{◌≡◌, ◌↔◌, IsTrue, MatchResult, IfSome, IsSomeAnd, Some, None, option_and_then, slice_get};
-ghost use Rattle.ir_expressions.specs.Plain.{expression_view};
+ghost use Rattle.ir_types.specs.ExpressionPlain.{expression_view};
 ghost use Rattle.ir_flags.specs.declared.stages.TheConstants.SubgroupOperationSet.{BALLOT};
 ghost use Rattle.ir_kinds.specs.Scalars.{unsigned};
 ghost use Rattle.subgroup_checks.specs.Subgroups.{IsOperationFault, IsBallotFault, IsCollectiveFault, IsGatherFault};
@@ -12,17 +12,15 @@ ghost use Rattle.spec_statements.specs.Subgroups.{collective_needs, gather_needs
 ghost use Rattle.statement_checks.specs.View.{context_view, IsKnown};
 
 use bitflags::Flags;
-use check_operands::{are_same, is_integer, is_truth, shaped_of};
 use error_functions::{FunctionError, SubgroupError};
 use expression_checks::{is_alone, is_of_value};
 use ir_arena::handle::Handle;
 use ir_blocks::GatherMode;
-use ir_expressions::Expression;
 use ir_flags::{Capabilities, SubgroupOperationSet};
 use ir_kinds::{CollectiveOperation, Scalar, ScalarKind, SubgroupOperation};
-use ir_types::key;
+use ir_types::{Expression, key};
 use spec_statements::Shape;
-use statement_checks::BlockContext;
+use statement_checks::{BlockContext, are_same, is_integer, is_truth, shaped_of};
 use typing_forms::Form;
 
 // ---- what is needed

@@ -4,9 +4,9 @@ use ir_items::SpecialTypes;
 use ir_kinds::PredeclaredType;
 use overload_tables::{Conclusion, ConstructorSize, ValueType};
 use serde_json::Value;
+use spec_expressions::ConclusionExt;
 use std::alloc::{AllocError, Global};
 use test_support::call::{text, told};
-use typing_conclusions::ConclusionExt;
 
 /// The predeclared type that a line names, of a scalar.
 pub fn predeclared(call: &Value) -> Option<PredeclaredType> {

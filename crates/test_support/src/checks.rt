@@ -2,7 +2,7 @@
 ghost use Rattle.std.specs.Prelude.{◌≡◌, ◌<◌, length, IsTrue};
 ghost use Rattle.std.specs.List.{All};
 ghost use Rattle.std.specs.Option.{ForSome};
-ghost use Rattle.ir_expressions.specs.Plain.{expression_view};
+ghost use Rattle.ir_types.specs.ExpressionPlain.{expression_view};
 ghost use Rattle.ir_walks.specs.Bases.{expressions_of, base_of, BasesPrecede};
 ghost use Rattle.ir_walks.specs.Filters.{nodes_of, ParentsPrecede};
 ghost use Rattle.ir_walks.specs.Flat.{parts_of, PartsPrecede};

@@ -3,8 +3,8 @@ use Rattle.std.proofs.Common.{◌≡◌, ◌+◌, ◌≤◌, ℕ, zero, suc, Opt
 use Rattle.std.proofs.lemmas.List.{drop_all, length-append, length-map, map-append}
 use Rattle.ir_arena.specs.Arenas.{value_at}
 use Rattle.ir_arena.specs.declared.span.Span.{Span}
-use Rattle.ir_expressions.specs.Plain.{PlainExpression, expression_view}
-use Rattle.ir_expressions.specs.declared.expressions.Expression.{Expression}
+use Rattle.ir_types.specs.ExpressionPlain.{PlainExpression, expression_view}
+use Rattle.ir_types.specs.declared.expressions.Expression.{Expression}
 use Rattle.ir_items.specs.GlobalView.{values_of}
 use Rattle.ir_items.specs.Plain.{PlainFunction, PlainModule}
 use Rattle.ir_references.proofs.Entries.{slice_get-entries}

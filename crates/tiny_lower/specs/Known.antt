@@ -1,8 +1,8 @@
 -- Which expressions the layer knows.
 use Rattle.std.specs.Prelude.{Option, Some, None}
-use Rattle.ir_expressions.specs.Plain.{PlainExpression, compose, plain}
-use Rattle.ir_expressions.specs.declared.expressions.Expression.{Expression}
-use Rattle.ir_expressions.specs.declared.expressions.Expression.TheVariants as x
+use Rattle.ir_types.specs.ExpressionPlain.{PlainExpression, compose, plain}
+use Rattle.ir_types.specs.declared.expressions.Expression.{Expression}
+use Rattle.ir_types.specs.declared.expressions.Expression.TheVariants as x
 use Rattle.tiny_lower.specs.declared.known.Known.{Known}
 use Rattle.tiny_lower.specs.declared.known.Known.TheVariants as known
 

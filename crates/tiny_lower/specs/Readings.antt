@@ -7,7 +7,7 @@ use Rattle.error_functions.specs.declared.error.FunctionError.TheVariants.{Expre
 use Rattle.function_lower.specs.Analysis.{Faults}
 use Rattle.function_lower.specs.Question.{Question}
 use Rattle.interface_checks.specs.Told.{AreTold}
-use Rattle.ir_expressions.specs.Plain.{PlainExpression}
+use Rattle.ir_types.specs.ExpressionPlain.{PlainExpression}
 use Rattle.ir_flags.specs.declared.stages.ShaderStages.{ShaderStages}
 use Rattle.ir_items.specs.Plain.{PlainFunction, PlainModule}
 use Rattle.spec_statements.specs.ExpressionStages.{all_stages, callee_stages}

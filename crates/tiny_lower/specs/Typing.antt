@@ -1,6 +1,6 @@
 -- Which expressions have a type, and which.
 use Rattle.std.specs.Prelude.{◌≡◌, ℕ, List, [], ◌∷◌, ◌++◌, Option, Some, None, option_map, option_and_then, slice_get}
-use Rattle.ir_expressions.specs.Plain.{PlainExpression}
+use Rattle.ir_types.specs.ExpressionPlain.{PlainExpression}
 use Rattle.ir_items.specs.Plain.{PlainArgument, PlainFunction, PlainModule}
 use Rattle.ir_items.specs.declared.functions.FunctionResult.{FunctionResult}
 use Rattle.ir_kinds.specs.declared.operators.BinaryOperator.{BinaryOperator}

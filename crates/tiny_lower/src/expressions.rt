@@ -1,7 +1,7 @@
 //! The type of an expression, by the types of those before it.
 
 ghost use Rattle.std.specs.Prelude.{◌≡◌, Some, map, option_map};
-ghost use Rattle.ir_expressions.specs.Plain.{expression_view};
+ghost use Rattle.ir_types.specs.ExpressionPlain.{expression_view};
 ghost use Rattle.ir_items.specs.View.{function_view, module_view};
 ghost use Rattle.tiny_lower.specs.Typing.{binary_type, earlier, expression_type, literal_type, type_in};
 
@@ -9,10 +9,9 @@ use crate::known::{Known, known_of};
 use crate::lookups::{answer_type, argument_type, type_at};
 use crate::value_type::ValueType;
 use ir_arena::handle::Handle;
-use ir_expressions::Expression;
 use ir_items::{Function, Module};
 use ir_kinds::{BinaryOperator, Literal};
-use ir_types::key;
+use ir_types::{Expression, key};
 
 fn literal_type(value: Literal) -> Option<ValueType>
     ensures { result ≡ literal_type value }

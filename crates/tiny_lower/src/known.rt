@@ -1,13 +1,12 @@
 //! The expressions that the layer knows.
 
 ghost use Rattle.std.specs.Prelude.{◌≡◌};
-ghost use Rattle.ir_expressions.specs.Plain.{expression_view};
+ghost use Rattle.ir_types.specs.ExpressionPlain.{expression_view};
 ghost use Rattle.tiny_lower.specs.Known.{known_of};
 
 use ir_arena::handle::Handle;
-use ir_expressions::Expression;
 use ir_kinds::{BinaryOperator, Literal, UnaryOperator};
-use ir_types::key;
+use ir_types::{Expression, key};
 
 /// An expression of a kind that the layer knows.
 #[derive(Clone, Copy)]

@@ -1,15 +1,14 @@
 //! Whether operations fit the types of their operands.
 
 ghost use Rattle.std.specs.Prelude.{◌≡◌, Some};
-ghost use Rattle.ir_expressions.specs.Plain.{expression_view};
+ghost use Rattle.ir_types.specs.ExpressionPlain.{expression_view};
 ghost use Rattle.tiny_lower.specs.Operations.{are_same, fits, fits_in, is_condition, is_float, is_number, is_same, is_truth, is_word, left_fits, takes_one, takes_two, type_given, unary_fits};
 
 use crate::known::{Known, known_of};
 use crate::value_type::{ValueType, type_of_form};
 use ir_arena::handle::Handle;
-use ir_expressions::Expression;
 use ir_kinds::{BinaryOperator, UnaryOperator};
-use ir_types::key;
+use ir_types::{Expression, key};
 use typing_forms::Form;
 
 // ---- sorts of values

@@ -1,7 +1,7 @@
 //! The stages that may run an expression.
 
 ghost use Rattle.std.specs.Prelude.{◌≡◌, Some, map};
-ghost use Rattle.ir_expressions.specs.Plain.{expression_view};
+ghost use Rattle.ir_types.specs.ExpressionPlain.{expression_view};
 ghost use Rattle.spec_statements.specs.ExpressionStages.{callee_stages};
 ghost use Rattle.tiny_lower.specs.Ends.{noted_of};
 ghost use Rattle.tiny_lower.specs.Readings.{stages_by, stages_in};
@@ -10,9 +10,8 @@ use crate::known::{Known, known_of};
 use crate::tiny::TinyInfo;
 use bitflags::Flags;
 use ir_arena::handle::Handle;
-use ir_expressions::Expression;
 use ir_flags::ShaderStages;
-use ir_types::key;
+use ir_types::{Expression, key};
 
 // Those that may run a function, and all where nothing is kept of it.
 fn stages_at(callees: &[TinyInfo], function: Handle<key::Function>) -> ShaderStages

@@ -4,8 +4,8 @@ use Rattle.ir_types.specs.Plain.{PlainInner, inner_view, member_view}
 use Rattle.ir_types.specs.declared.types.StructMember.{StructMember}
 use Rattle.ir_types.specs.declared.types.TypeInner.{TypeInner}
 use Rattle.ir_types.specs.declared.types.TypeInner.TheVariants as inner
-use Rattle.spec_types.specs.Blends.{BlendsOK}
-use Rattle.spec_types.specs.Rules.{ShapeOK, TypeOK}
+use Rattle.typing_layout.specs.Blends.{BlendsOK}
+use Rattle.typing_layout.specs.Rules.{ShapeOK, TypeOK}
 use Rattle.type_checks.proofs.Known.{tree_of}
 use Rattle.type_checks.specs.Checked.{IsInnerOK, AreMembersOK, AreMembersRefused, IsTypeFault}
 use Rattle.type_checks.specs.Known.{types_in, IsKnown}

@@ -7,11 +7,11 @@ use Rattle.ir_types.specs.declared.types.ArraySize.{ArraySize}
 use Rattle.ir_types.specs.declared.types.StructMember.{StructMember}
 use Rattle.type_checks.proofs.Sets.{by_flags, both_have}
 use Rattle.type_checks.specs.Sets.{AreOf, HostIf, AreKept, IoIs, AreShared, AreCommon, CommonBelow, Follows}
-use Rattle.spec_types.specs.Blends.{HasSource, source_at}
-use Rattle.spec_types.specs.Flags.{TypeFlag, bit, array_flags, HasFlag, AllHave, StructHas, HasBlendSource, IsInOrder, blend_source, Data, Sized, Copy, IoShareable, HostShareable, CreationResolved, Argument, Constructible}
-use Rattle.spec_types.specs.Parts.{Part, listed, before, end_of}
-use Rattle.spec_types.specs.Tree.{Tree, Members, no_members, member, array, struct}
-use Rattle.spec_types.specs.View.{members_by}
+use Rattle.typing_layout.specs.Blends.{HasSource, source_at}
+use Rattle.typing_layout.specs.Flags.{TypeFlag, bit, array_flags, HasFlag, AllHave, StructHas, HasBlendSource, IsInOrder, blend_source, Data, Sized, Copy, IoShareable, HostShareable, CreationResolved, Argument, Constructible}
+use Rattle.typing_layout.specs.Parts.{Part, listed, before, end_of}
+use Rattle.typing_layout.specs.Tree.{Tree, Members, no_members, member, array, struct}
+use Rattle.typing_layout.specs.View.{members_by}
 use Rattle.type_checks.proofs.Places.{part_at, below_none, below_more, below_all}
 use Rattle.type_checks.specs.Known.{tree_in}
 use Rattle.type_checks.specs.Placed.{parts_in, part_of, IsPlaced, IsBefore, AtPlace, Below}

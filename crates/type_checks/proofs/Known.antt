@@ -2,13 +2,13 @@
 use Rattle.std.proofs.Common.{◌≡◌, ◌<◌, ◌↔◌, ℕ, Some, Bool, IsTrue, length, slice_get, get_or, sym, ap, subst, ◌∙◌, if◌then◌else◌}
 use Rattle.std.proofs.lemmas.Option.{slice_get-get_or}
 use Rattle.ir_types.specs.Plain.{PlainInner}
-use Rattle.spec_types.specs.Buffers.{uniform_alignment, free_behind}
-use Rattle.spec_types.specs.Parts.{Part, end_of}
-use Rattle.spec_types.specs.Rules.{IsBound}
-use Rattle.spec_types.proofs.Trees.{tree_by_trees}
-use Rattle.spec_types.specs.Layout.{alignment}
-use Rattle.spec_types.specs.Tree.{Tree}
-use Rattle.spec_types.specs.View.{tree_by}
+use Rattle.typing_layout.specs.Buffers.{uniform_alignment, free_behind}
+use Rattle.typing_layout.specs.Parts.{Part, end_of}
+use Rattle.typing_layout.specs.Rules.{IsBound}
+use Rattle.typing_layout.proofs.Trees.{tree_by_trees}
+use Rattle.typing_layout.specs.Layout.{alignment}
+use Rattle.typing_layout.specs.Tree.{Tree}
+use Rattle.typing_layout.specs.View.{tree_by}
 use Rattle.type_checks.specs.Known.{types_in, tree_in, IsKnown, AreFacts}
 use Rattle.type_checks.specs.declared.context.TypeContext.{TypeContext}
 use Rattle.type_checks.specs.declared.facts.Facts.{Facts}

@@ -2,10 +2,10 @@
 use Rattle.std.proofs.Common.{◌≡◌, ◌≢◌, ◌<◌, ◌≤◌, ◌+◌, ◌-◌, ◌⊎◌, inl, inr, ℕ, suc, List, [], ◌∷◌, Option, Some, None, IfSome, map, length, slice_get, get_or, refl, sym, ap, subst, ◌∙◌, arith}
 use Rattle.ir_types.specs.Plain.{PlainMember, member_view}
 use Rattle.ir_types.specs.declared.types.StructMember.{StructMember}
-use Rattle.spec_types.specs.Flags.{HasFlag, Data, Sized}
-use Rattle.spec_types.specs.Parts.{Part, before, end_of}
-use Rattle.spec_types.specs.Structs.{MemberOK}
-use Rattle.spec_types.specs.Layout.{size}
+use Rattle.typing_layout.specs.Flags.{HasFlag, Data, Sized}
+use Rattle.typing_layout.specs.Parts.{Part, before, end_of}
+use Rattle.typing_layout.specs.Structs.{MemberOK}
+use Rattle.typing_layout.specs.Layout.{size}
 use Rattle.type_checks.specs.Known.{tree_in, types_in, AreFacts}
 use Rattle.type_checks.specs.Placed.{parts_in, part_of, IsPlaced, IsBefore, end_behind, PlacedOK}
 use Rattle.type_checks.specs.declared.context.TypeContext.{TypeContext}

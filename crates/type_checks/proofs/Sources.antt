@@ -2,13 +2,13 @@
 use Rattle.std.proofs.Common.{◌≡◌, ◌≢◌, ◌<◌, ◌≤◌, ◌+◌, ◌⊎◌, inl, inr, ℕ, zero, suc, List, [], ◌∷◌, Option, Some, None, All, Result, Ok, Err, MatchOption, MatchResult, map, length, slice_get, get_or, option_and_then, refl, sym, ap, subst, ◌∙◌, arith, rules}
 use Rattle.ir_types.specs.Plain.{PlainMember, member_view}
 use Rattle.ir_types.specs.declared.types.StructMember.{StructMember}
-use Rattle.spec_types.specs.Blends.{source_at, HasSource, LocationOK, BlendOK}
-use Rattle.spec_types.specs.Flags.{blend_source}
+use Rattle.typing_layout.specs.Blends.{source_at, HasSource, LocationOK, BlendOK}
+use Rattle.typing_layout.specs.Flags.{blend_source}
 use Rattle.type_checks.specs.Blends.{AreLocated, IsLocationFaultIn, IsSoleBelow, IsSole, IsOnlyType, IsCollision, PairOK, IsPairFault, SourcesOK}
 use Rattle.type_infos.specs.BlendFaults.{IsTwice, IsAbsent, IsAlone, IsSource, IsVaryingFault}
 use Rattle.ir_flags.specs.Sets.{Has}
 use Rattle.ir_flags.specs.declared.settings.TheConstants.Capabilities.{DUAL_SOURCE_BLENDING}
-use Rattle.spec_types.specs.Blends.{location_of}
+use Rattle.typing_layout.specs.Blends.{location_of}
 use Rattle.ir_kinds.specs.declared.bindings.Binding.{Binding}
 use Rattle.ir_kinds.specs.declared.bindings.Binding.TheVariants as bound
 use Rattle.type_checks.specs.Known.{types_in}

@@ -1,8 +1,8 @@
 -- Sources of a blend, step by step.
 use Rattle.std.specs.Prelude.{◌≡◌, ◌≢◌, ◌⊎◌, ◌<◌, ℕ, List, Option, Some, None, length, slice_get}
 use Rattle.ir_types.specs.Plain.{PlainMember}
-use Rattle.spec_types.specs.Blends.{location_of, source_at, LocationOK, IsOnlySource}
-use Rattle.spec_types.specs.Flags.{HasFlag, IoShareable, blend_source}
+use Rattle.typing_layout.specs.Blends.{location_of, source_at, LocationOK, IsOnlySource}
+use Rattle.typing_layout.specs.Flags.{HasFlag, IoShareable, blend_source}
 use Rattle.type_checks.specs.Known.{types_in, tree_in}
 use Rattle.type_checks.specs.declared.context.TypeContext.{TypeContext}
 use Rattle.type_infos.specs.BlendFaults.{IsTwice, IsAbsent}

@@ -1,10 +1,10 @@
 -- What is asked of a type, from what it is made of.
 use Rattle.std.specs.Prelude.{◌≡◌, ◌⊎◌, ℕ, List, Some}
 use Rattle.ir_types.specs.Plain.{PlainInner, PlainMember}
-use Rattle.spec_types.specs.Blends.{HasSource, BlendOK, BlendsOK}
-use Rattle.spec_types.specs.Rules.{ShapeOK}
-use Rattle.spec_types.specs.Structs.{StructOK}
-use Rattle.spec_types.specs.View.{tree_by}
+use Rattle.typing_layout.specs.Blends.{HasSource, BlendOK, BlendsOK}
+use Rattle.typing_layout.specs.Rules.{ShapeOK}
+use Rattle.typing_layout.specs.Structs.{StructOK}
+use Rattle.typing_layout.specs.View.{tree_by}
 use Rattle.type_checks.specs.Known.{types_in, tree_in}
 use Rattle.type_checks.specs.Placed.{parts_in}
 use Rattle.type_checks.specs.declared.context.TypeContext.{TypeContext}

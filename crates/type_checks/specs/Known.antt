@@ -1,11 +1,11 @@
 -- What is known of the types before one.
 use Rattle.std.specs.Prelude.{◌≡◌, ◌≤◌, ℕ, List, Some, length, slice_get, if◌then◌else◌}
 use Rattle.ir_types.specs.Plain.{PlainType}
-use Rattle.spec_types.specs.Buffers.{uniform_alignment, free_behind}
-use Rattle.spec_types.specs.Parts.{Part, end_of}
-use Rattle.spec_types.specs.Layout.{size, alignment}
-use Rattle.spec_types.specs.Tree.{Tree}
-use Rattle.spec_types.specs.View.{type_tree}
+use Rattle.typing_layout.specs.Buffers.{uniform_alignment, free_behind}
+use Rattle.typing_layout.specs.Parts.{Part, end_of}
+use Rattle.typing_layout.specs.Layout.{size, alignment}
+use Rattle.typing_layout.specs.Tree.{Tree}
+use Rattle.typing_layout.specs.View.{type_tree}
 use Rattle.type_checks.specs.declared.context.TypeContext.{TypeContext}
 use Rattle.type_checks.specs.declared.facts.Facts.{Facts}
 use Rattle.type_infos.specs.Infos.{HasInfo}

@@ -1,10 +1,10 @@
 -- Members at their places.
 use Rattle.std.specs.Prelude.{◌≡◌, ◌<◌, ℕ, List, Option, Some, None, slice_get}
 use Rattle.ir_types.specs.Plain.{PlainMember}
-use Rattle.spec_types.specs.Parts.{Part, listed, before, end_of}
-use Rattle.spec_types.specs.Structs.{MemberOK}
-use Rattle.spec_types.specs.Tree.{Tree}
-use Rattle.spec_types.specs.View.{members_by}
+use Rattle.typing_layout.specs.Parts.{Part, listed, before, end_of}
+use Rattle.typing_layout.specs.Structs.{MemberOK}
+use Rattle.typing_layout.specs.Tree.{Tree}
+use Rattle.typing_layout.specs.View.{members_by}
 use Rattle.type_checks.specs.Known.{tree_in, AreFacts}
 use Rattle.type_checks.specs.declared.context.TypeContext.{TypeContext}
 use Rattle.type_checks.specs.declared.members.Placed.{Placed}

@@ -2,9 +2,9 @@
 use Rattle.std.specs.Prelude.{◌↔◌, ◌≤◌, ℕ, List, Bool, IsTrue, IfSome}
 use Rattle.ir_flags.specs.Sets.{Has}
 use Rattle.ir_types.specs.Plain.{PlainMember}
-use Rattle.spec_types.specs.Flags.{TypeFlag, bit, among, HasFlag, AllHave, Data, Sized, Copy, IoShareable, HostShareable, CreationResolved, Argument, Constructible}
-use Rattle.spec_types.specs.Parts.{Part, before, end_of}
-use Rattle.spec_types.specs.View.{members_by}
+use Rattle.typing_layout.specs.Flags.{TypeFlag, bit, among, HasFlag, AllHave, Data, Sized, Copy, IoShareable, HostShareable, CreationResolved, Argument, Constructible}
+use Rattle.typing_layout.specs.Parts.{Part, before, end_of}
+use Rattle.typing_layout.specs.View.{members_by}
 use Rattle.type_checks.specs.Known.{tree_in}
 use Rattle.type_checks.specs.Placed.{parts_in, Below}
 use Rattle.type_checks.specs.declared.context.TypeContext.{TypeContext}

@@ -2,8 +2,8 @@
 
 ghost use Rattle.std.specs.Prelude.{◌≡◌, ◌<◌, ◌+◌, ◌↔◌, Some, None, IsTrue, All, length, map, MatchOption, MatchResult};
 ghost use Rattle.ir_types.specs.Plain.{inner_view, member_view};
-ghost use Rattle.spec_types.specs.Blends.{HasSource, LocationOK, BlendOK, location_of};
-ghost use Rattle.spec_types.specs.Flags.{HasFlag, IoShareable, blend_source};
+ghost use Rattle.typing_layout.specs.Blends.{HasSource, LocationOK, BlendOK, location_of};
+ghost use Rattle.typing_layout.specs.Flags.{HasFlag, IoShareable, blend_source};
 ghost use Rattle.type_checks.specs.Blends.{AreLocated, IsLocationFault, IsLocationFaultIn, IsSole, IsSoleBelow, IsCollision, IsOnlyType, PairOK, IsPairFault, SourcesOK};
 ghost use Rattle.type_checks.specs.Known.{IsKnown, types_in, tree_in};
 ghost use Rattle.type_infos.specs.BlendFaults.{IsAbsent, IsVaryingFault, IsBlendFault};

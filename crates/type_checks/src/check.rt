@@ -2,7 +2,7 @@
 
 ghost use Rattle.std.specs.Prelude.{◌<◌, ◌≤◌, All, length, map, MatchResult};
 ghost use Rattle.ir_types.specs.Plain.{inner_view, member_view};
-ghost use Rattle.spec_types.specs.Rules.{TypeOK};
+ghost use Rattle.typing_layout.specs.Rules.{TypeOK};
 ghost use Rattle.type_checks.specs.Checked.{IsInnerOK, AreMembersOK, AreMembersRefused, IsTypeFault};
 ghost use Rattle.type_checks.specs.Known.{IsKnown, types_in};
 ghost use Rattle.type_infos.specs.Faults.{IsInnerFault};

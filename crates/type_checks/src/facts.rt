@@ -2,11 +2,11 @@
 
 ghost use Rattle.std.specs.Prelude.{◌≡◌, ◌<◌, ℕ, Some, length, max, if◌then◌else◌};
 ghost use Rattle.ir_types.specs.Plain.{inner_view};
-ghost use Rattle.spec_types.specs.Buffers.{uniform_alignment, free_behind};
-ghost use Rattle.spec_types.specs.Parts.{Part, end_of};
-ghost use Rattle.spec_types.specs.Layout.{alignment};
-ghost use Rattle.spec_types.specs.Tree.{Tree};
-ghost use Rattle.spec_types.specs.View.{tree_by};
+ghost use Rattle.typing_layout.specs.Buffers.{uniform_alignment, free_behind};
+ghost use Rattle.typing_layout.specs.Parts.{Part, end_of};
+ghost use Rattle.typing_layout.specs.Layout.{alignment};
+ghost use Rattle.typing_layout.specs.Tree.{Tree};
+ghost use Rattle.typing_layout.specs.View.{tree_by};
 ghost use Rattle.type_checks.specs.Known.{AreFacts, IsKnown, tree_in};
 ghost use Rattle.typing_forms.specs.Resolutions.{types_view, inner_at};
 ghost use Rattle.typing_forms.specs.Sizes.{rounded_up};

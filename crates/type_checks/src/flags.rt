@@ -4,9 +4,9 @@ ghost use Rattle.std.specs.Prelude.{◌<◌, ◌≤◌, ◌↔◌, ℕ, IsTrue, 
 ghost use Rattle.ir_types.specs.Plain.{inner_view, member_view};
 ghost use Rattle.type_checks.specs.Kinds.{whole_flags};
 ghost use Rattle.type_checks.specs.Sets.{AreOf, AreKept, AreShared, AreCommon, Follows};
-ghost use Rattle.spec_types.specs.Flags.{scalar_flags, pointer_flags, array_flags, IsInOrder};
-ghost use Rattle.spec_types.specs.Tree.{Tree, array, struct};
-ghost use Rattle.spec_types.specs.View.{members_by};
+ghost use Rattle.typing_layout.specs.Flags.{scalar_flags, pointer_flags, array_flags, IsInOrder};
+ghost use Rattle.typing_layout.specs.Tree.{Tree, array, struct};
+ghost use Rattle.typing_layout.specs.View.{members_by};
 ghost use Rattle.type_checks.specs.Known.{IsKnown, tree_in};
 ghost use Rattle.type_checks.specs.Placed.{parts_in, AtPlace};
 ghost use Rattle.type_infos.specs.Infos.{AreFlags};

@@ -1,7 +1,7 @@
 //! Which images, and what traces rays, there are.
 
 ghost use Rattle.std.specs.Prelude.{MatchResult};
-ghost use Rattle.spec_types.specs.Images.{ImageOK, VerticesOK, StructureOK, QueryOK};
+ghost use Rattle.typing_layout.specs.Images.{ImageOK, VerticesOK, StructureOK, QueryOK};
 ghost use Rattle.type_checks.specs.Images.{IsVerticesFault};
 ghost use Rattle.type_infos.specs.Faults.{IsImageFault, IsStructureFault, IsQueryFault};
 

@@ -3,8 +3,8 @@
 ghost use Rattle.std.specs.Prelude.{◌≡◌, IsOk, MatchResult};
 ghost use Rattle.ir_flags.specs.Sets.{Has};
 ghost use Rattle.ir_kinds.specs.Values.{literal_scalar};
-ghost use Rattle.spec_types.specs.Rules.{CooperativeOK};
-ghost use Rattle.spec_types.specs.Widths.{ScalarOK, AtomicOK, IsWidthAllowed, IsAtomicInteger};
+ghost use Rattle.typing_layout.specs.Rules.{CooperativeOK};
+ghost use Rattle.typing_layout.specs.Widths.{ScalarOK, AtomicOK, IsWidthAllowed, IsAtomicInteger};
 ghost use Rattle.type_checks.specs.Widths.{IsWideFault, IsLiteralFault, IsAtomicIntegerFault};
 ghost use Rattle.type_infos.specs.Faults.{IsWidthFault, IsScalarFault, IsMatrixFault, IsCooperativeFault, IsAtomicFault};
 

@@ -4,9 +4,9 @@ use Rattle.ir_flags.specs.Sets.{Has}
 use Rattle.ir_flags.specs.declared.settings.Capabilities.{Capabilities}
 use Rattle.ir_flags.specs.declared.settings.TheConstants.Capabilities.{DUAL_SOURCE_BLENDING}
 use Rattle.ir_types.specs.Plain.{PlainMember, PlainType}
-use Rattle.spec_types.specs.Blends.{location_of, source_at, HasSource}
-use Rattle.spec_types.specs.Flags.{HasFlag, IoShareable, blend_source}
-use Rattle.spec_types.specs.View.{type_tree}
+use Rattle.typing_layout.specs.Blends.{location_of, source_at, HasSource}
+use Rattle.typing_layout.specs.Flags.{HasFlag, IoShareable, blend_source}
+use Rattle.typing_layout.specs.View.{type_tree}
 use Rattle.typing_forms.specs.Resolutions.{inner_at}
 use Rattle.type_infos.specs.declared.error.TypeError.{TypeError}
 use Rattle.type_infos.specs.declared.error.TypeError.TheVariants as error

@@ -3,13 +3,13 @@ use Rattle.std.specs.Prelude.{◌≡◌, ◌<◌, ◌⊎◌, ℕ, List, Some, sl
 use Rattle.std.specs.Int.{◌∣◌}
 use Rattle.ir_types.specs.Plain.{PlainType}
 use Rattle.ir_types.specs.declared.types.ArraySize.{ArraySize}
-use Rattle.spec_types.specs.Buffers.{uniform_alignment, free_behind}
-use Rattle.spec_types.specs.Flags.{HasFlag, HostShareable}
-use Rattle.spec_types.specs.Immediates.{scalar_of}
-use Rattle.spec_types.specs.Parts.{Part, listed, before, Somewhere}
-use Rattle.spec_types.specs.Layout.{alignment}
-use Rattle.spec_types.specs.Tree.{Tree, Members, array, struct}
-use Rattle.spec_types.specs.View.{type_tree}
+use Rattle.typing_layout.specs.Buffers.{uniform_alignment, free_behind}
+use Rattle.typing_layout.specs.Flags.{HasFlag, HostShareable}
+use Rattle.typing_layout.specs.Immediates.{scalar_of}
+use Rattle.typing_layout.specs.Parts.{Part, listed, before, Somewhere}
+use Rattle.typing_layout.specs.Layout.{alignment}
+use Rattle.typing_layout.specs.Tree.{Tree, Members, array, struct}
+use Rattle.typing_layout.specs.View.{type_tree}
 use Rattle.type_infos.specs.declared.error.Disalignment.{Disalignment}
 use Rattle.type_infos.specs.declared.error.Disalignment.TheVariants as fault
 use Rattle.type_infos.specs.declared.error.ImmediateError.{ImmediateError}

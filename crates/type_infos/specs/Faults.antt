@@ -18,9 +18,9 @@ use Rattle.ir_types.specs.Plain.{PlainInner, struct, plain, PlainType}
 use Rattle.ir_types.specs.declared.types.ArraySize.{ArraySize}
 use Rattle.ir_types.specs.declared.types.ArraySize.TheVariants as count
 use Rattle.ir_types.specs.declared.types.TypeInner.TheVariants as inner
-use Rattle.spec_types.specs.Flags.{HasFlag, Data, Sized}
-use Rattle.spec_types.specs.Rules.{IsStorageSpace, BindingArrayOK}
-use Rattle.spec_types.specs.View.{type_tree}
+use Rattle.typing_layout.specs.Flags.{HasFlag, Data, Sized}
+use Rattle.typing_layout.specs.Rules.{IsStorageSpace, BindingArrayOK}
+use Rattle.typing_layout.specs.View.{type_tree}
 use Rattle.type_infos.specs.BlendFaults.{IsBlendFault}
 use Rattle.type_infos.specs.MemberFaults.{IsStructFault}
 use Rattle.type_infos.specs.declared.error.TypeError.{TypeError}

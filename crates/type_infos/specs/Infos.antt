@@ -2,11 +2,11 @@
 use Rattle.std.specs.Prelude.{◌≡◌, ◌↔◌, List, MatchResult}
 use Rattle.ir_flags.specs.Sets.{Has}
 use Rattle.ir_types.specs.Plain.{PlainType}
-use Rattle.spec_types.specs.Buffers.{IsStorage, IsUniform, uniform_alignment}
-use Rattle.spec_types.specs.Flags.{TypeFlag, bit, HasFlag}
-use Rattle.spec_types.specs.Immediates.{FitsImmediates}
-use Rattle.spec_types.specs.Layout.{alignment}
-use Rattle.spec_types.specs.Tree.{Tree}
+use Rattle.typing_layout.specs.Buffers.{IsStorage, IsUniform, uniform_alignment}
+use Rattle.typing_layout.specs.Flags.{TypeFlag, bit, HasFlag}
+use Rattle.typing_layout.specs.Immediates.{FitsImmediates}
+use Rattle.typing_layout.specs.Layout.{alignment}
+use Rattle.typing_layout.specs.Tree.{Tree}
 use Rattle.type_infos.specs.BufferFaults.{BreaksStorage, BreaksUniform, IsBroken, IsUnfit}
 use Rattle.type_infos.specs.declared.flags.TypeFlags.{TypeFlags}
 use Rattle.type_infos.specs.declared.info.TypeInfo.{TypeInfo}

@@ -1,10 +1,10 @@
 -- Why a member is refused at its place.
 use Rattle.std.specs.Prelude.{◌≡◌, ◌≢◌, ◌<◌, ◌+◌, ℕ, suc, List, [], Some, length, slice_get}
 use Rattle.ir_types.specs.Plain.{PlainMember, PlainType}
-use Rattle.spec_types.specs.Flags.{HasFlag, Data, Sized}
-use Rattle.spec_types.specs.Parts.{before}
-use Rattle.spec_types.specs.Layout.{size}
-use Rattle.spec_types.specs.View.{type_tree}
+use Rattle.typing_layout.specs.Flags.{HasFlag, Data, Sized}
+use Rattle.typing_layout.specs.Parts.{before}
+use Rattle.typing_layout.specs.Layout.{size}
+use Rattle.typing_layout.specs.View.{type_tree}
 use Rattle.type_infos.specs.declared.error.TypeError.{TypeError}
 use Rattle.type_infos.specs.declared.error.TypeError.TheVariants as error
 

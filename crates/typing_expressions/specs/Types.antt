@@ -1,6 +1,6 @@
 -- The types of the expressions of a list.
 use Rattle.std.specs.Prelude.{◌≡◌, ℕ, ◌<◌, List, Some, length, slice_get, Result, Ok, Err}
-use Rattle.ir_expressions.specs.Plain.{PlainExpression}
+use Rattle.ir_types.specs.ExpressionPlain.{PlainExpression}
 use Rattle.spec_expressions.specs.Context.{Context, NamesItem}
 use Rattle.spec_expressions.specs.Typing.{typing_operands, HasTypeAmong}
 use Rattle.overload_tables.specs.Laws.{IsAmong}

@@ -1,7 +1,7 @@
 //! The types of the expressions of a list.
 
 ghost use Rattle.std.specs.Prelude.{◌≡◌, ◌++◌, ◌∷◌, [], List, Err, IfOk, IfErr, OnOk, length, map, slice_index_or};
-ghost use Rattle.ir_expressions.specs.Plain.{PlainExpression, expression_view};
+ghost use Rattle.ir_types.specs.ExpressionPlain.{PlainExpression, expression_view};
 ghost use Rattle.ir_items.specs.GlobalView.{values_of};
 ghost use Rattle.spec_analysis.specs.Values.{OperandsPrecede};
 ghost use Rattle.spec_expressions.specs.Context.{Context, NamesItem};
@@ -12,8 +12,7 @@ ghost use Rattle.typing_resolve.specs.View.{context_view};
 use crate::refusal::TypingRefusal;
 use ir_arena::arena::Arena;
 use ir_arena::handle::Handle;
-use ir_expressions::Expression;
-use ir_types::{TypeInner, key};
+use ir_types::{Expression, TypeInner, key};
 use std::alloc::{AllocError, Global};
 use typing_forms::TypeResolution;
 use typing_operands::ResolveRefusal;

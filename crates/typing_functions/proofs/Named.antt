@@ -1,7 +1,7 @@
 -- Where all handles of a function are in range, each item that an expression names is there.
 use Rattle.std.proofs.Common.{◌≡◌, ℕ, Some, refl, slice_get}
-use Rattle.ir_expressions.specs.Plain.{PlainExpression, compose, plain}
-use Rattle.ir_expressions.specs.declared.expressions.Expression.TheVariants as x
+use Rattle.ir_types.specs.ExpressionPlain.{PlainExpression, compose, plain}
+use Rattle.ir_types.specs.declared.expressions.Expression.TheVariants as x
 use Rattle.ir_items.specs.Plain.{PlainFunction, PlainModule}
 use Rattle.spec_expressions.specs.Context.{inside}
 use Rattle.spec_handles.specs.Conditions.{HandlesInRange}

@@ -2,7 +2,7 @@
 use Rattle.std.proofs.Common.{◌≡◌, ℕ, Option, List, length, map, sym, ap, ◌∙◌, subst}
 use Rattle.std.proofs.lemmas.List.{length-map}
 use Rattle.ir_blocks.specs.View.{block_view}
-use Rattle.ir_expressions.specs.Plain.{expression_view}
+use Rattle.ir_types.specs.ExpressionPlain.{expression_view}
 use Rattle.ir_items.specs.GlobalView.{values_of, global_view}
 use Rattle.ir_items.specs.View.{function_view, module_view}
 use Rattle.ir_items.specs.declared.functions.Function.{Function}

@@ -7,9 +7,9 @@ use Rattle.ir_types.specs.declared.types.StructMember.{StructMember}
 use Rattle.ir_types.specs.declared.types.TypeInner.{TypeInner}
 use Rattle.ir_types.specs.declared.types.TypeInner.TheVariants as inner
 use Rattle.typing_forms.specs.Order.{named_types}
-use Rattle.spec_types.specs.Layout.{alignment, greatest_alignment, IsWidthOK}
-use Rattle.spec_types.specs.Tree.{Tree, Members, no_members, member}
-use Rattle.spec_types.specs.View.{members_by, tree_by}
+use Rattle.typing_layout.specs.Layout.{alignment, greatest_alignment, IsWidthOK}
+use Rattle.typing_layout.specs.Tree.{Tree, Members, no_members, member}
+use Rattle.typing_layout.specs.View.{members_by, tree_by}
 use Rattle.typing_layout.specs.declared.layout.TypeLayout.{TypeLayout}
 use Rattle.typing_layout.specs.Laid.{AreAligned}
 

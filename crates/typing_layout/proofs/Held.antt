@@ -11,9 +11,9 @@ use Rattle.ir_types.specs.declared.types.IrType.{IrType}
 use Rattle.typing_forms.specs.Order.{named_types, TypesGoBack}
 use Rattle.typing_forms.specs.Resolutions.{types_view, inner_at}
 use Rattle.typing_forms.proofs.Lookups.{inner_found}
-use Rattle.spec_types.specs.Tree.{Tree}
-use Rattle.spec_types.specs.View.{tree_by, type_tree}
-use Rattle.spec_types.proofs.Trees.{tree_by_trees, trees_stay}
+use Rattle.typing_layout.specs.Tree.{Tree}
+use Rattle.typing_layout.specs.View.{tree_by, type_tree}
+use Rattle.typing_layout.proofs.Trees.{tree_by_trees, trees_stay}
 use Rattle.typing_layout.specs.declared.error.LayoutError.{LayoutError}
 use Rattle.typing_layout.specs.declared.layout.TypeLayout.{TypeLayout}
 use Rattle.typing_layout.specs.Held.{IsLayoutOf, AreLayouts, IsFaultOf, IsRefused, OneLayout, LayoutsStay}

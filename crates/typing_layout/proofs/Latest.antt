@@ -3,8 +3,8 @@ use Rattle.std.proofs.Common.{◌≡◌, ◌<◌, ◌+◌, ◌++◌, ℕ, zero, 
 use Rattle.std.proofs.lemmas.Option.{slice_get_within, get_or_from_slice_get}
 use Rattle.ir_arena.specs.Arenas.{value_at, value_of_entry}
 use Rattle.ir_arena.specs.declared.span.Span.{Span}
-use Rattle.ir_expressions.specs.Plain.{PlainExpression, expression_view}
-use Rattle.ir_expressions.specs.declared.expressions.Expression.{Expression}
+use Rattle.ir_types.specs.ExpressionPlain.{PlainExpression, expression_view}
+use Rattle.ir_types.specs.declared.expressions.Expression.{Expression}
 use Rattle.typing_layout.specs.declared.constness.ExpressionKind.{ExpressionKind}
 use Rattle.typing_layout.specs.declared.constness.ExpressionKind.TheVariants.{Const, Override, Runtime}
 use Rattle.typing_layout.specs.Constness.{later, latest, Origin, own, latest_of, origin_of, IsOfKind, by_itself, by_operands, AreKinds, OriginsPrecede, operands_from, OneKind}

@@ -4,3 +4,6 @@ pub mod Latest
 pub mod Powers
 pub mod Precedence
 pub mod Rounds
+pub mod Sizes
+pub mod Trees
+pub mod Capable

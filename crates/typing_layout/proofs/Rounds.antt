@@ -3,8 +3,8 @@ use Rattle.std.proofs.Common.{◌≡◌, ◌≢◌, ◌<◌, ◌≤◌, ◌+◌,
 use Rattle.std.specs.Int.{◌∣◌}
 use Rattle.std.proofs.Math.Nat.{dvd-mul_right}
 use Rattle.typing_forms.specs.Sizes.{rounded_up}
-use Rattle.spec_types.specs.Layout.{IsLeastMultiple}
-use Rattle.spec_types.proofs.Sizes.{least_near, rounded_is_least}
+use Rattle.typing_layout.specs.Layout.{IsLeastMultiple}
+use Rattle.typing_layout.proofs.Sizes.{least_near, rounded_is_least}
 
 pub rest_is_none : (rest : ℕ) → IsTrue (rest == 0) → rest ≡ 0
 rest_is_none rest e = search rules

@@ -1,7 +1,7 @@
 -- When the value of an expression is known.
 use Rattle.std.specs.Prelude.{◌≡◌, ◌<◌, ◌++◌, ℕ, List, [], ◌∷◌, Some, map, option_to_list, slice_get, length, All}
-use Rattle.ir_expressions.specs.Plain.{PlainExpression, compose, plain}
-use Rattle.ir_expressions.specs.declared.expressions.Expression.TheVariants as expression
+use Rattle.ir_types.specs.ExpressionPlain.{PlainExpression, compose, plain}
+use Rattle.ir_types.specs.declared.expressions.Expression.TheVariants as expression
 use Rattle.typing_layout.specs.declared.constness.ExpressionKind.{ExpressionKind}
 use Rattle.typing_layout.specs.declared.constness.ExpressionKind.TheVariants.{Const, Override, Runtime}
 

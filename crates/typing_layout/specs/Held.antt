@@ -6,9 +6,9 @@ use Rattle.ir_faults.specs.Faults.{error_of, spans_of}
 use Rattle.ir_types.specs.Plain.{PlainType}
 use Rattle.typing_forms.specs.Order.{TypesGoBack}
 use Rattle.typing_forms.specs.declared.sizes.TheConstants.{MAX_TYPE_SIZE}
-use Rattle.spec_types.specs.Layout.{size, alignment, IsWidthOK, LayoutOK}
-use Rattle.spec_types.specs.Tree.{Tree}
-use Rattle.spec_types.specs.View.{type_tree}
+use Rattle.typing_layout.specs.Layout.{size, alignment, IsWidthOK, LayoutOK}
+use Rattle.typing_layout.specs.Tree.{Tree}
+use Rattle.typing_layout.specs.View.{type_tree}
 use Rattle.typing_layout.specs.declared.error.LayoutError.{LayoutError}
 use Rattle.typing_layout.specs.declared.error.LayoutErrorInner.{LayoutErrorInner}
 use Rattle.typing_layout.specs.declared.error.LayoutErrorInner.TheVariants.{NonPowerOfTwoWidth, TooLarge}

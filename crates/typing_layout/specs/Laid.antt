@@ -1,7 +1,7 @@
 -- The alignment of a type from those of the types before it.
 use Rattle.std.specs.Prelude.{◌≡◌, ℕ, List, Option, Some, None, slice_get}
-use Rattle.spec_types.specs.Layout.{alignment, IsWidthOK}
-use Rattle.spec_types.specs.Tree.{Tree}
+use Rattle.typing_layout.specs.Layout.{alignment, IsWidthOK}
+use Rattle.typing_layout.specs.Tree.{Tree}
 use Rattle.typing_layout.specs.declared.layout.TypeLayout.{TypeLayout}
 
 -- the layouts have the alignments of the trees

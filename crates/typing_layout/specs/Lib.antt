@@ -2,3 +2,16 @@ pub mod Constness
 pub mod Held
 pub mod Kinds
 pub mod Laid
+pub mod Layout
+pub mod Tree
+pub mod View
+pub mod Blends
+pub mod Buffers
+pub mod Flags
+pub mod Images
+pub mod Immediates
+pub mod TreeLaws
+pub mod Parts
+pub mod Rules
+pub mod Structs
+pub mod Widths

@@ -2,7 +2,7 @@
 
 ghost use Rattle.std.specs.Prelude.{◌≡◌, ◌↔◌, ◌<◌, ◌≤◌, ◌^◌, IsTrue, IsSome, IfSome};
 ghost use Rattle.std.specs.Int.{IsPowerOfTwo, ◌∣◌};
-ghost use Rattle.spec_types.specs.Layout.{IsLeastMultiple};
+ghost use Rattle.typing_layout.specs.Layout.{IsLeastMultiple};
 ghost use Rattle.typing_forms.specs.Sizes.{rounded_up};
 
 use ir_kinds::{CooperativeSize, VectorSize};

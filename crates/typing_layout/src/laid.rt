@@ -8,9 +8,9 @@ ghost use Rattle.std.specs.Int.{IsPowerOfTwo};
 ghost use Rattle.ir_types.specs.Plain.{inner_view, member_view};
 ghost use Rattle.typing_forms.specs.Order.{named_types};
 ghost use Rattle.typing_forms.specs.Sizes.{vector_alignment};
-ghost use Rattle.spec_types.specs.Layout.{alignment, greatest_alignment, IsWidthOK};
-ghost use Rattle.spec_types.specs.Tree.{Tree};
-ghost use Rattle.spec_types.specs.View.{members_by, tree_by};
+ghost use Rattle.typing_layout.specs.Layout.{alignment, greatest_alignment, IsWidthOK};
+ghost use Rattle.typing_layout.specs.Tree.{Tree};
+ghost use Rattle.typing_layout.specs.View.{members_by, tree_by};
 ghost use Rattle.typing_layout.specs.Held.{IsLayoutOf, IsFaultOf};
 ghost use Rattle.typing_layout.specs.Laid.{AreAligned, IsAlignmentOf};
 

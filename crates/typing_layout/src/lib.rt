@@ -1,18 +1,25 @@
-//! How many bytes the values of a module's types take and at which addresses they may lie, and which of its expressions are
-//! known before a shader runs.
+//! How many bytes the values of a module's types take and at which addresses they may lie; which types a module may have
+//! under its capabilities, what they may be used for, and which of them a host can lay out; which of a module's
+//! expressions are known before a shader runs.
 //!
-//! The names are those of naga's `proc::layouter` and `proc::constant_evaluator`.
+//! The names of the code are those of naga's `proc::layouter` and `proc::constant_evaluator`. The functions of
+//! [`tree_laws`], [`flag_laws`], [`tree_worked`] and [`flag_worked`] do nothing: their contracts are what is known of the
+//! definitions, and what these say of small types.
 #![tactic(auto)]
 
 mod alignment;
 mod constness;
 mod error;
+pub mod flag_laws;
+pub mod flag_worked;
 mod laid;
 pub mod laws;
 mod layout;
 mod layouter;
 mod precede;
 mod tracker;
+pub mod tree_laws;
+pub mod tree_worked;
 
 pub use alignment::Alignment;
 pub use constness::ExpressionKind;

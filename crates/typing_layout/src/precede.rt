@@ -2,13 +2,12 @@
 
 ghost use Rattle.std.specs.Prelude.{◌≡◌, ◌<◌, ◌↔◌, ◌++◌, ◌∷◌, [], IsTrue, map, option_to_list, All};
 ghost use Rattle.ir_arena.specs.Arenas.{value_of_entry};
-ghost use Rattle.ir_expressions.specs.Plain.{expression_view};
+ghost use Rattle.ir_types.specs.ExpressionPlain.{expression_view};
 ghost use Rattle.typing_layout.specs.Constness.{OriginsPrecede, origin_of, operands_from};
 
 use ir_arena::arena::Arena;
 use ir_arena::handle::Handle;
-use ir_expressions::Expression;
-use ir_types::key;
+use ir_types::{Expression, key};
 
 // Whether each of some expressions comes before a place.
 fn are_below(operands: &[Handle<key::Expression>], place: usize) -> bool

@@ -2,7 +2,7 @@
 
 ghost use Rattle.std.specs.Prelude.{◌≡◌, ◌<◌, ◌↔◌, ◌⊎◌, ◌++◌, ◌∷◌, [], ℕ, Some, IsTrue, IfOk, length, map, option_to_list, slice_get, All};
 ghost use Rattle.ir_arena.specs.Arenas.{value_of_entry};
-ghost use Rattle.ir_expressions.specs.Plain.{expression_view};
+ghost use Rattle.ir_types.specs.ExpressionPlain.{expression_view};
 ghost use Rattle.typing_layout.specs.Constness.{AreKinds, OriginsPrecede, later, latest, origin_of, operands_from};
 ghost use Rattle.typing_layout.specs.declared.constness.ExpressionKind.TheVariants.{Const, Override};
 ghost use Rattle.typing_layout.specs.Kinds.{known_kind, kind_by};
@@ -10,8 +10,7 @@ ghost use Rattle.typing_layout.specs.Kinds.{known_kind, kind_by};
 use crate::constness::ExpressionKind;
 use ir_arena::arena::Arena;
 use ir_arena::handle::Handle;
-use ir_expressions::Expression;
-use ir_types::key;
+use ir_types::{Expression, key};
 use std::alloc::{AllocError, Global};
 use std::marker::Model;
 

@@ -1,7 +1,7 @@
 -- What an answer says: a canonical form, or a fault.
 use Rattle.std.specs.Prelude.{ℕ, List, Option, Some, None, Result, Ok, Err, option_map}
 use Rattle.ir_types.specs.Plain.{PlainType}
-use Rattle.ir_expressions.specs.Plain.{PlainExpression}
+use Rattle.ir_types.specs.ExpressionPlain.{PlainExpression}
 use Rattle.spec_expressions.specs.Context.{Context}
 use Rattle.spec_expressions.specs.Laws.{IsFaulty}
 use Rattle.spec_expressions.specs.Typing.{HasTypeAmong}

@@ -5,7 +5,7 @@ use Rattle.ir_types.specs.Plain.{PlainType}
 use Rattle.typing_forms.specs.declared.form.Form.{Form}
 use Rattle.typing_forms.specs.declared.form.Form.TheVariants as form
 use Rattle.typing_forms.specs.declared.resolution.TypeResolution.{TypeResolution}
-use Rattle.ir_expressions.specs.Plain.{PlainExpression}
+use Rattle.ir_types.specs.ExpressionPlain.{PlainExpression}
 use Rattle.spec_expressions.specs.Context.{Context}
 use Rattle.spec_expressions.specs.Typing.{rule}
 use Rattle.spec_expressions.specs.declared.faults.TypingFault.{TypingFault}

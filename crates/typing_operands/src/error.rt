@@ -5,10 +5,9 @@ ghost use Rattle.typing_operands.specs.Answers.{fault_of};
 
 use ir_arena::handle::Handle;
 use ir_types::key;
-use spec_expressions::TypingFault;
+use spec_expressions::{MissingSpecialType, TypingFault};
 use std::alloc::{AllocError, Global};
 use thiserror::Error;
-use typing_conclusions::MissingSpecialType;
 
 /// Why an expression has no type (naga's `ResolveError`). The texts are for people.
 #[derive(Clone, Debug, PartialEq, Drop, Error)]

@@ -1,7 +1,7 @@
 //! The operands whose types make that of an expression.
 
 ghost use Rattle.std.specs.Prelude.{◌≡◌, List, IfOk, Ok, Some, None, slice_get};
-ghost use Rattle.ir_expressions.specs.Plain.{expression_view};
+ghost use Rattle.ir_types.specs.ExpressionPlain.{expression_view};
 ghost use Rattle.ir_types.specs.Plain.{PlainType};
 ghost use Rattle.spec_expressions.specs.Maths.{math_operands};
 ghost use Rattle.spec_expressions.specs.Typing.{typing_operands};
@@ -10,8 +10,7 @@ ghost use Rattle.typing_operands.specs.Answers.{form_given, form_answer};
 ghost use Rattle.typing_operands.specs.Operands.{given_form};
 
 use ir_arena::handle::Handle;
-use ir_expressions::Expression;
-use ir_types::{IrType, TypeInner, key};
+use ir_types::{Expression, IrType, TypeInner, key};
 use ir_unique_arena::unique_arena::UniqueArena;
 use spec_expressions::TypingFault;
 use std::alloc::{AllocError, Global};

@@ -3,7 +3,7 @@
 ghost use Rattle.std.specs.Prelude.{◌≡◌, ◌↔◌, IsTrue, ℕ, List, map, slice_get, Some};
 ghost use Rattle.ir_types.specs.Plain.{PlainType};
 ghost use Rattle.std.specs.Borrow.{Bor};
-ghost use Rattle.ir_expressions.specs.Plain.{PlainExpression, expression_view};
+ghost use Rattle.ir_types.specs.ExpressionPlain.{PlainExpression, expression_view};
 ghost use Rattle.ir_items.specs.GlobalView.{values_of};
 ghost use Rattle.ir_items.specs.View.{argument_view, local_view, module_view};
 ghost use Rattle.overload_tables.specs.Laws.{IsAmong};
@@ -18,12 +18,11 @@ ghost use Rattle.typing_resolve.specs.View.{context_view};
 use crate::typing::answered;
 use ir_arena::arena::Arena;
 use ir_arena::handle::Handle;
-use ir_expressions::Expression;
 use ir_items::{
     Constant, Function, FunctionArgument, GlobalVariable, LocalVariable, Module, Override,
     SpecialTypes,
 };
-use ir_types::{IrType, key};
+use ir_types::{Expression, IrType, key};
 use ir_unique_arena::unique_arena::UniqueArena;
 use std::alloc::Global;
 use typing_forms::TypeResolution;

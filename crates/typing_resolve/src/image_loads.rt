@@ -8,9 +8,8 @@ ghost use Rattle.typing_operands.specs.Answers.{form_given, form_answer};
 
 use crate::image_samples::{texel, texel_scalar};
 use ir_arena::handle::Handle;
-use ir_expressions::ImageQuery;
 use ir_kinds::{ImageClass, ImageDimension, Scalar, VectorSize};
-use ir_types::{TypeInner, key};
+use ir_types::{ImageQuery, TypeInner, key};
 use spec_expressions::TypingFault;
 use typing_forms::{Form, TypeResolution};
 

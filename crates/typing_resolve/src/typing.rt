@@ -2,7 +2,7 @@
 
 ghost use Rattle.std.specs.Prelude.{◌≡◌, List, IfOk, Some};
 ghost use Rattle.ir_types.specs.Plain.{PlainType};
-ghost use Rattle.ir_expressions.specs.Plain.{expression_view};
+ghost use Rattle.ir_types.specs.ExpressionPlain.{expression_view};
 ghost use Rattle.spec_expressions.specs.Context.{NamesItem};
 ghost use Rattle.typing_operands.specs.Answers.{form_answer, told};
 ghost use Rattle.typing_operands.specs.Operands.{rule_given};
@@ -23,7 +23,7 @@ use crate::ray_queries::{proceed_type, special_type};
 use crate::results::call_result_type;
 use crate::selections::relational_type;
 use crate::subgroups::ballot_type;
-use ir_expressions::Expression;
+use ir_types::Expression;
 use std::alloc::{AllocError, Global};
 use typing_forms::TypeResolution;
 use typing_operands::{Given, ResolveRefusal, Typing, error_of, given_again, given_form};

@@ -2,9 +2,9 @@
 use Rattle.std.proofs.Common.{◌≡◌, ◌<◌, ◌≤◌, ◌↔◌, ◌==◌, ℕ, zero, suc, List, [], ◌∷◌, Some, None, Bool, false, IsTrue, length, get_or, slice_get, option_map, bit_and, true≢false, refl, sym, ap, subst, ◌∙◌, arith, rules, tests}
 use Rattle.std.proofs.lemmas.Option.{slice_get-get_or}
 use Rattle.ir_types.specs.Plain.{PlainType}
-use Rattle.spec_types.specs.Flags.{HasFlag, IoShareable}
-use Rattle.spec_types.specs.Tree.{no_type}
-use Rattle.spec_types.specs.View.{type_tree, tree_along, tree_found}
+use Rattle.typing_layout.specs.Flags.{HasFlag, IoShareable}
+use Rattle.typing_layout.specs.Tree.{no_type}
+use Rattle.typing_layout.specs.View.{type_tree, tree_along, tree_found}
 use Rattle.type_checks.specs.Known.{AreInfos}
 use Rattle.type_infos.specs.declared.info.TypeInfo.{TypeInfo}
 

@@ -12,8 +12,8 @@ use Rattle.ir_kinds.specs.declared.scalars.ScalarKind.{ScalarKind}
 use Rattle.ir_kinds.specs.declared.scalars.ScalarKind.TheVariants.{Sint, Uint, Float}
 use Rattle.ir_kinds.specs.declared.stages.ShaderStage.TheVariants.{Fragment}
 use Rattle.ir_types.specs.Plain.{inner_view}
-use Rattle.spec_types.specs.Flags.{HasFlag, IoShareable}
-use Rattle.spec_types.specs.View.{type_tree}
+use Rattle.typing_layout.specs.Flags.{HasFlag, IoShareable}
+use Rattle.typing_layout.specs.View.{type_tree}
 use Rattle.spec_varyings.specs.BuiltIns.{AreRows, IsAhead, IsFree, IsOfType, StandsAt}
 use Rattle.spec_varyings.specs.Contexts.{VaryingContext}
 use Rattle.spec_varyings.specs.Locations.{IsBetween, counted, goes_with, kind_of, of_three}

@@ -9,8 +9,8 @@ use Rattle.ir_kinds.specs.declared.scalars.ScalarKind.{ScalarKind}
 use Rattle.ir_kinds.specs.declared.scalars.ScalarKind.TheVariants.{Sint, Uint, Float}
 use Rattle.ir_kinds.specs.declared.stages.ShaderStage.{ShaderStage}
 use Rattle.ir_kinds.specs.declared.stages.ShaderStage.TheVariants.{Fragment}
-use Rattle.spec_types.specs.Flags.{HasFlag, IoShareable}
-use Rattle.spec_types.specs.View.{type_tree}
+use Rattle.typing_layout.specs.Flags.{HasFlag, IoShareable}
+use Rattle.typing_layout.specs.View.{type_tree}
 use Rattle.spec_varyings.specs.Contexts.{VaryingContext}
 use Rattle.spec_varyings.specs.Locations.{IsBetween, IsValue, PrimitiveOK, VerticesOK, counted, goes_with}
 use Rattle.spec_varyings.specs.declared.varyings.Direction.{Direction}

@@ -1,8 +1,8 @@
 //! What types are made of.
 
 ghost use Rattle.std.specs.Prelude.{◌≡◌, ◌<◌, ◌↔◌, IsTrue, length};
-ghost use Rattle.spec_types.specs.Flags.{HasFlag, IoShareable};
-ghost use Rattle.spec_types.specs.View.{type_tree};
+ghost use Rattle.typing_layout.specs.Flags.{HasFlag, IoShareable};
+ghost use Rattle.typing_layout.specs.View.{type_tree};
 ghost use Rattle.spec_varyings.specs.BuiltIns.{array_of};
 ghost use Rattle.spec_varyings.specs.Locations.{kind_of, of_three, three};
 ghost use Rattle.varying_checks.specs.View.{IsTold, context_view};

@@ -3,7 +3,7 @@
 ghost use Rattle.std.specs.Prelude.{◌≡◌, ◌++◌, IfOk, OnOk, is_some, map};
 ghost use Rattle.ir_items.specs.View.{argument_view};
 ghost use Rattle.ir_types.specs.Plain.{member_view};
-ghost use Rattle.spec_types.specs.Flags.{blend_source};
+ghost use Rattle.typing_layout.specs.Flags.{blend_source};
 ghost use Rattle.spec_varyings.specs.Varyings.{argument_varyings, bound_member, bound_members, bound_value, has_source, unbound, varying, varyings_of};
 ghost use Rattle.typing_forms.specs.Resolutions.{inner_at, types_view};
 

@@ -1,8 +1,8 @@
 -- Functions, modules and bodies of the worked examples.
 use Rattle.std.specs.Prelude.{ℕ, List, [], ◌∷◌, Option, Some, None, true}
 use Rattle.ir_blocks.specs.Plain.{PlainStatement, if_, PlainBlock, stop, next}
-use Rattle.ir_expressions.specs.Plain.{PlainExpression, plain}
-use Rattle.ir_expressions.specs.declared.expressions.Expression.TheVariants as x
+use Rattle.ir_types.specs.ExpressionPlain.{PlainExpression, plain}
+use Rattle.ir_types.specs.declared.expressions.Expression.TheVariants as x
 use Rattle.ir_items.specs.Plain.{PlainArgument, PlainFunction, PlainModule}
 use Rattle.ir_items.specs.declared.functions.FunctionResult.{FunctionResult}
 use Rattle.ir_kinds.specs.declared.operators.UnaryOperator.TheVariants.{LogicalNot}

@@ -13,7 +13,7 @@ ghost use Rattle.ir_blocks.specs.Plain.{emit, block, if_, switch, loop, break, r
 ghost use Rattle.ir_blocks.specs.Shapes.{breaks, continues, returns, kills, inner, case_at, loop_body, loop_continuing};
 ghost use Rattle.ir_blocks.specs.Control.{may_leave};
 ghost use Rattle.ir_blocks.specs.Tails.{completed};
-ghost use Rattle.spec_types.specs.Widths.{IsKindAllowed};
+ghost use Rattle.typing_layout.specs.Widths.{IsKindAllowed};
 ghost use Rattle.spec_handles.specs.Statements.{statement_operands, statement_callee, statement_result, statement_range};
 ghost use Rattle.judgement.specs.Text.{text_of};
 ghost use Rattle.judgement.specs.declared.finding.Finding.TheVariants.{Accepted, RefusedDocument, RefusedHandles, Refused};

@@ -1,4 +1,4 @@
-use Rattle.check_operands.specs.View.{types_in}
+use Rattle.statement_checks.specs.OperandView.{types_in}
 use Rattle.expression_checks.proofs.OldValues.{by_test}
 use Rattle.spec_statements.specs.ExpressionResults.{IsAtomicValue}
 use Rattle.typing_forms.specs.Resolutions.{inner_at}

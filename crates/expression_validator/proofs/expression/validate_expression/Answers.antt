@@ -1,5 +1,5 @@
-use Rattle.check_operands.proofs.Lookups.{found}
-use Rattle.ir_expressions.specs.Plain.{expression_view}
+use Rattle.statement_checks.proofs.Lookups.{found}
+use Rattle.ir_types.specs.ExpressionPlain.{expression_view}
 use Rattle.expression_validator.proofs.expression.validate_expression.Goals as goal
 
 pub returns-in-Ok : goal.returns-in-Ok

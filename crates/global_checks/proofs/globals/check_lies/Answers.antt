@@ -7,7 +7,7 @@ use Rattle.ir_items.specs.GlobalView.{global_view}
 use Rattle.ir_types.specs.Plain.{inner_view}
 use Rattle.module_constants.proofs.FlagLemmas.{info_at}
 use Rattle.module_constants.specs.Known.{module_in}
-use Rattle.spec_types.specs.View.{type_tree}
+use Rattle.typing_layout.specs.View.{type_tree}
 use Rattle.type_infos.specs.Infos.{HasInfo}
 use Rattle.typing_forms.specs.Resolutions.{inner_at}
 use Rattle.global_checks.proofs.globals.check_lies.Goals as goal

@@ -1,7 +1,7 @@
 use Rattle.std.proofs.Common.{◌+◌, drop, map, sym, arith}
 use Rattle.ir_types.specs.Plain.{inner_view, member_view}
 use Rattle.immediate_slots.proofs.Parts.{far, element_more, element_all, element_rest, member_more, split_at, none_met, none_along, missing_along, found_along, met_found}
-use Rattle.spec_types.specs.View.{tree_along}
+use Rattle.typing_layout.specs.View.{tree_along}
 use Rattle.typing_forms.specs.Resolutions.{types_view}
 use Rattle.immediate_slots.proofs.leaves.+leaves.Goals as goal
 use Rattle.immediate_slots.proofs.leaves.+leaves.Goals.{slots_along-then-depth-eq0-via-then-depth-eq0, slots_along-then-depth-eq0-via-else-depth-eq0+then-offset-ge256}

@@ -2,7 +2,7 @@ use Rattle.std.proofs.Common.{◌↔◌, ◌<◌, ◌+◌, ◌*◌, ◌⊎◌, �
 use Rattle.immediate_slots.specs.Reached.{IsReachedIn, IsReachedAmong}
 use Rattle.immediate_slots.specs.Slots.{IsIn}
 use Rattle.ir_types.specs.Plain.{member_view}
-use Rattle.spec_types.specs.View.{members_by, tree_along}
+use Rattle.typing_layout.specs.View.{members_by, tree_along}
 use Rattle.typing_forms.specs.Resolutions.{types_view}
 use Rattle.immediate_slots.proofs.leaves.+leaves.Given as goal
 

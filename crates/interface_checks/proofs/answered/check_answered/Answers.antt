@@ -1,8 +1,8 @@
 use Rattle.std.proofs.Common.{◌≡◌, Some, slice_get, sym, subst, arith}
-use Rattle.check_operands.proofs.Lookups.{found, many_viewed}
+use Rattle.statement_checks.proofs.Lookups.{found, many_viewed}
 use Rattle.interface_checks.proofs.AnsweredLemmas.{one_unanswered, answered_more, answered_all}
 use Rattle.interface_checks.specs.Answered.{IsUnanswered}
-use Rattle.ir_expressions.specs.Plain.{expression_view}
+use Rattle.ir_types.specs.ExpressionPlain.{expression_view}
 use Rattle.ir_items.specs.View.{function_view}
 use Rattle.interface_checks.proofs.answered.check_answered.Goals as goal
 

@@ -1,7 +1,7 @@
 use Rattle.std.proofs.Common.{arith, refl}
-use Rattle.check_operands.proofs.Absent.{known_flag}
+use Rattle.statement_checks.proofs.Absent.{known_flag}
 use Rattle.interface_checks.proofs.Known.{taken_past}
-use Rattle.spec_types.specs.Flags.{Argument}
+use Rattle.typing_layout.specs.Flags.{Argument}
 use Rattle.interface_checks.proofs.flags.is_argument.Goals as goal
 
 pub returns-in-Some : goal.returns-in-Some

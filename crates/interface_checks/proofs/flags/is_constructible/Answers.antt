@@ -1,6 +1,6 @@
 use Rattle.std.proofs.Common.{arith, refl}
-use Rattle.check_operands.proofs.Absent.{known_flag, absent_flag, none_composed}
-use Rattle.spec_types.specs.Flags.{Constructible}
+use Rattle.statement_checks.proofs.Absent.{known_flag, absent_flag, none_composed}
+use Rattle.typing_layout.specs.Flags.{Constructible}
 use Rattle.interface_checks.proofs.flags.is_constructible.Goals as goal
 
 pub returns-in-Some : goal.returns-in-Some

@@ -1,5 +1,5 @@
 use Rattle.std.proofs.Common.{◌≡◌, Some, slice_get, refl, sym, subst, arith}
-use Rattle.check_operands.proofs.Lookups.{found, many_viewed}
+use Rattle.statement_checks.proofs.Lookups.{found, many_viewed}
 use Rattle.interface_checks.proofs.Below.{one_more, all_below}
 use Rattle.interface_checks.specs.Items.{EachBelow}
 use Rattle.ir_items.specs.View.{local_view}

@@ -1,8 +1,8 @@
 use Rattle.std.proofs.Common.{◌≡◌, arith, length}
-use Rattle.check_operands.proofs.Constness.{past_the_last}
-use Rattle.check_operands.proofs.Lookups.{many_viewed}
+use Rattle.statement_checks.proofs.Constness.{past_the_last}
+use Rattle.statement_checks.proofs.Lookups.{many_viewed}
 use Rattle.interface_checks.proofs.Known.{known_early, unknown_past}
-use Rattle.ir_expressions.specs.Plain.{expression_view}
+use Rattle.ir_types.specs.ExpressionPlain.{expression_view}
 use Rattle.statement_checks.specs.View.{context_view}
 use Rattle.interface_checks.proofs.locals.is_known.Goals as goal
 

@@ -1,6 +1,6 @@
 use Rattle.std.proofs.Common.{sym, subst, map}
 use Rattle.std.specs.Option.{MatchOption}
-use Rattle.ir_expressions.specs.Plain.{expression_view}
+use Rattle.ir_types.specs.ExpressionPlain.{expression_view}
 use Rattle.ir_items.specs.GlobalView.{values_of}
 use Rattle.ir_references.specs.Faults.{IsForwardOperand}
 use Rattle.ir_references.proofs.FaultLaws.{operands_told}

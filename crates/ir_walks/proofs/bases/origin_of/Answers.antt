@@ -1,5 +1,5 @@
 use Rattle.std.proofs.Common.{◌≡◌, ◌<◌, length, sym, ap, ◌∙◌, arith}
-use Rattle.ir_expressions.specs.Plain.{expression_view}
+use Rattle.ir_types.specs.ExpressionPlain.{expression_view}
 use Rattle.ir_walks.specs.Bases.{itself, through, global_of}
 use Rattle.ir_walks.proofs.Places.{plain_at}
 use Rattle.ir_walks.proofs.bases.origin_of.Goals as goal

@@ -2,7 +2,7 @@ use Rattle.std.proofs.Common.{◌≡◌, ◌<◌, ◌++◌, [], ℕ, List, lengt
 use Rattle.std.specs.List.{All}
 use Rattle.std.proofs.lemmas.List.{reverse-reverse}
 use Rattle.std.proofs.lemmas.List.Elements.{All-pop}
-use Rattle.ir_expressions.specs.Plain.{expression_view}
+use Rattle.ir_types.specs.ExpressionPlain.{expression_view}
 use Rattle.ir_walks.specs.Bases.{expressions_of}
 use Rattle.ir_walks.specs.Flat.{AreLeaves}
 use Rattle.ir_walks.proofs.FlatLemmas.{All-reverse, goes_on, stays_in, comes_nearer, one_more, empty, enough, nothing_left}

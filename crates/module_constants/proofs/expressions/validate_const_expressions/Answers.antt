@@ -1,5 +1,5 @@
 use Rattle.std.proofs.Common.{arith}
-use Rattle.ir_expressions.specs.Plain.{expression_view}
+use Rattle.ir_types.specs.ExpressionPlain.{expression_view}
 use Rattle.module_constants.proofs.Told.{accepted_more, many_viewed}
 use Rattle.module_constants.specs.Known.{module_in}
 use Rattle.spec_expressions.specs.GlobalExpressions.{GlobalExpressionOK}

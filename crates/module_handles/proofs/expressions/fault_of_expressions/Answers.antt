@@ -1,4 +1,4 @@
-use Rattle.ir_expressions.specs.Plain.{expression_view}
+use Rattle.ir_types.specs.ExpressionPlain.{expression_view}
 use Rattle.ir_items.specs.GlobalView.{values_of}
 use Rattle.ir_items.specs.View.{module_view}
 use Rattle.module_handles.proofs.OutsideFaults.{global_fault}

@@ -1,5 +1,5 @@
 use Rattle.std.proofs.Common.{sym, ◌∙◌, arith}
-use Rattle.ir_expressions.specs.Plain.{expression_view}
+use Rattle.ir_types.specs.ExpressionPlain.{expression_view}
 use Rattle.ir_items.specs.View.{module_view}
 use Rattle.module_handles.proofs.TypeLemmas.{between_more, between_all, expressions_long}
 use Rattle.module_handles.proofs.Viewed.{entry_at}

@@ -1,5 +1,5 @@
 use Rattle.std.proofs.Common.{refl, sym, ◌∙◌, true≢false}
-use Rattle.check_operands.proofs.Lookups.{found}
+use Rattle.statement_checks.proofs.Lookups.{found}
 use Rattle.ir_items.specs.View.{function_view}
 use Rattle.statement_checks.proofs.calls.check_call.Goals as goal
 

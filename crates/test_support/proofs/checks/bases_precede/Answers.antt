@@ -1,6 +1,6 @@
 use Rattle.std.proofs.Common.{◌≡◌, ◌<◌, ℕ, Some, length, slice_get, subst, arith}
 use Rattle.std.specs.Option.{ForSome}
-use Rattle.ir_expressions.specs.Plain.{PlainExpression, expression_view}
+use Rattle.ir_types.specs.ExpressionPlain.{PlainExpression, expression_view}
 use Rattle.ir_walks.specs.Bases.{expressions_of, base_of}
 use Rattle.ir_walks.proofs.Places.{plain_at}
 use Rattle.test_support.proofs.CheckLemmas.{UpTo, further, everywhere}

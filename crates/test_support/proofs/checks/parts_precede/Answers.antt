@@ -1,7 +1,7 @@
 use Rattle.std.proofs.Common.{◌≡◌, ◌<◌, ℕ, Some, length, slice_get, subst, arith}
 use Rattle.std.specs.Option.{ForSome}
 use Rattle.std.specs.List.{All}
-use Rattle.ir_expressions.specs.Plain.{PlainExpression, expression_view}
+use Rattle.ir_types.specs.ExpressionPlain.{PlainExpression, expression_view}
 use Rattle.ir_walks.specs.Bases.{expressions_of}
 use Rattle.ir_walks.specs.Flat.{parts_of}
 use Rattle.ir_walks.proofs.Places.{plain_at}

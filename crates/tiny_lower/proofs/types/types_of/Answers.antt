@@ -1,5 +1,5 @@
 use Rattle.std.proofs.Common.{◌≡◌, ◌+◌, [], ◌∷◌, ◌++◌, Some, None, map, sym, subst}
-use Rattle.ir_expressions.specs.Plain.{expression_view}
+use Rattle.ir_types.specs.ExpressionPlain.{expression_view}
 use Rattle.ir_items.specs.View.{function_view, module_view}
 use Rattle.tiny_lower.proofs.Typed.{stands_at, AreFound, found_more, found_untyped}
 use Rattle.tiny_lower.specs.Typing.{expression_type, IsUntyped}

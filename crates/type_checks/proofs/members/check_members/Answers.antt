@@ -1,6 +1,6 @@
 use Rattle.std.proofs.Common.{◌≢◌, [], map, arith, rules}
 use Rattle.ir_types.specs.Plain.{member_view}
-use Rattle.spec_types.specs.Structs.{MemberOK}
+use Rattle.typing_layout.specs.Structs.{MemberOK}
 use Rattle.type_checks.specs.Known.{tree_in}
 use Rattle.type_checks.specs.Placed.{parts_in}
 use Rattle.type_checks.proofs.PlacedLaws.{parts_some}

@@ -1,5 +1,5 @@
 use Rattle.std.proofs.Common.{arith, sym, subst, map}
-use Rattle.ir_expressions.specs.Plain.{expression_view}
+use Rattle.ir_types.specs.ExpressionPlain.{expression_view}
 use Rattle.ir_items.specs.GlobalView.{values_of}
 use Rattle.spec_expressions.specs.Context.{NamesItem}
 use Rattle.typing_expressions.specs.Types.{TypedSoFar}

@@ -1,5 +1,5 @@
 use Rattle.std.proofs.Common.{map}
-use Rattle.ir_expressions.specs.Plain.{expression_view}
+use Rattle.ir_types.specs.ExpressionPlain.{expression_view}
 use Rattle.ir_items.specs.GlobalView.{values_of}
 use Rattle.typing_resolve.specs.View.{context_view}
 use Rattle.typing_expressions.proofs.TypeLemmas.{Known}

@@ -1,9 +1,9 @@
 -- The greatest so far, and of the rest, is the greatest of all.
 use Rattle.std.proofs.Common.{◌≡◌, ◌≤◌, ℕ, drop, map, max}
 use Rattle.ir_types.specs.Plain.{member_view}
-use Rattle.spec_types.specs.Layout.{greatest_alignment}
-use Rattle.spec_types.specs.Tree.{Tree}
-use Rattle.spec_types.specs.View.{members_by}
+use Rattle.typing_layout.specs.Layout.{greatest_alignment}
+use Rattle.typing_layout.specs.Tree.{Tree}
+use Rattle.typing_layout.specs.View.{members_by}
 use Rattle.typing_layout.specs.Laid.{AreAligned}
 use Rattle.typing_layout.proofs.laid.greatest_alignment.Given as goal
 

@@ -1,5 +1,5 @@
 use Rattle.std.proofs.Common.{◌≡◌, drop, map}
-use Rattle.ir_expressions.specs.Plain.{expression_view}
+use Rattle.ir_types.specs.ExpressionPlain.{expression_view}
 use Rattle.ir_items.specs.GlobalView.{values_of}
 use Rattle.analysis_tally.specs.Tallies.{paired, pass_all_up}
 use Rattle.analysis_tally.proofs.pairs.Sampled.pass_all_up.Given as goal

@@ -1,6 +1,6 @@
 use Rattle.std.proofs.Common.{◌≡◌, [], sym, ap, ◌∙◌}
-use Rattle.check_operands.proofs.Lookups.{found}
-use Rattle.ir_expressions.specs.Plain.{PlainExpression, expression_view}
+use Rattle.statement_checks.proofs.Lookups.{found}
+use Rattle.ir_types.specs.ExpressionPlain.{PlainExpression, expression_view}
 use Rattle.spec_statements.specs.ExpressionStages.{stages_of}
 use Rattle.real_lower.proofs.real.RealLowerLower.check_expression.Goals as goal
 

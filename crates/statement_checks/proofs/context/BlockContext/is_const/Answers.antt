@@ -1,7 +1,7 @@
 use Rattle.std.proofs.Common.{◌≡◌, arith, length}
-use Rattle.check_operands.proofs.Constness.{constant_at, none_past, past_the_last}
-use Rattle.check_operands.proofs.Lookups.{many_viewed}
-use Rattle.ir_expressions.specs.Plain.{expression_view}
+use Rattle.statement_checks.proofs.Constness.{constant_at, none_past, past_the_last}
+use Rattle.statement_checks.proofs.Lookups.{many_viewed}
+use Rattle.ir_types.specs.ExpressionPlain.{expression_view}
 use Rattle.statement_checks.specs.View.{context_view}
 use Rattle.statement_checks.proofs.context.BlockContext.is_const.Goals as goal
 

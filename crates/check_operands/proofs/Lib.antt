@@ -1,4 +1,0 @@
-pub mod Absent
-pub mod Constness
-pub mod Lookups
-pub mod Refusals

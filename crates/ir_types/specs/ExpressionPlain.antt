@@ -1,0 +1,85 @@
+-- Expressions as plain data, without the memory that lists lie in.
+use Rattle.std.specs.Prelude.{ℕ, List, Bool, true, false}
+use Rattle.ir_types.specs.declared.expressions.SampleLevel.{SampleLevel}
+use Rattle.ir_types.specs.declared.expressions.SampleLevel.TheVariants.{Auto, Zero, Exact, Bias, Gradient}
+use Rattle.ir_types.specs.declared.expressions.Expression.{Expression}
+use Rattle.ir_types.specs.declared.expressions.Expression.TheVariants.{Literal, Constant, Override, ZeroValue, Compose, FunctionArgument, GlobalVariable, LocalVariable, Access, AccessIndex, Splat, Swizzle, Load, ArrayLength, Unary, Binary, Select, Derivative, Relational, Math, As, ImageSample, ImageLoad, ImageQuery, CallResult, AtomicResult, WorkGroupUniformLoadResult, RayQueryVertexPositions, RayQueryProceedResult, RayQueryGetIntersection, SubgroupBallotResult, SubgroupOperationResult, CooperativeLoad, CooperativeMultiplyAdd}
+
+-- a composition by its type and its components, and any other expression as it is
+pub data PlainExpression : Type 0 where
+  compose : (type : ℕ) → (components : List ℕ) → PlainExpression
+  plain : Expression → PlainExpression
+
+abbrev pub expression_view : Expression → PlainExpression
+expression_view (Compose type components) = compose type components.items
+expression_view other = plain other
+
+-- the expression holds no list
+abbrev pub IsPlain : PlainExpression → Type 0
+IsPlain (compose type components) = ⊥
+IsPlain (plain other) = Unit {0}
+
+-- it is neither a value that is always in scope or lies in another, nor made of parts, nor the length of an array
+abbrev pub IsComputed : Expression → Type 0
+IsComputed (Literal value) = ⊥
+IsComputed (Constant handle) = ⊥
+IsComputed (Override handle) = ⊥
+IsComputed (ZeroValue type) = ⊥
+IsComputed (Compose type components) = ⊥
+IsComputed (Access base index) = ⊥
+IsComputed (AccessIndex base index) = ⊥
+IsComputed (Splat size value) = ⊥
+IsComputed (Swizzle size vector pattern) = ⊥
+IsComputed (FunctionArgument index) = ⊥
+IsComputed (GlobalVariable handle) = ⊥
+IsComputed (LocalVariable handle) = ⊥
+IsComputed (Load pointer) = ⊥
+IsComputed (ArrayLength array) = ⊥
+IsComputed _ = Unit {0}
+
+-- it stands for what a statement answered, or is of rays or of cooperative matrices
+abbrev pub IsResult : Expression → Type 0
+IsResult (CallResult function) = Unit {0}
+IsResult (AtomicResult type comparison) = Unit {0}
+IsResult (WorkGroupUniformLoadResult type) = Unit {0}
+IsResult (RayQueryVertexPositions query committed) = Unit {0}
+IsResult RayQueryProceedResult = Unit {0}
+IsResult (RayQueryGetIntersection query committed) = Unit {0}
+IsResult SubgroupBallotResult = Unit {0}
+IsResult (SubgroupOperationResult type) = Unit {0}
+IsResult (CooperativeLoad columns rows role block) = Unit {0}
+IsResult (CooperativeMultiplyAdd a b c) = Unit {0}
+IsResult _ = ⊥
+
+-- it is found in an image, or is one of the results below
+abbrev pub IsFound : Expression → Type 0
+IsFound (ImageSample image sampler gather coordinate array_index offset level depth_ref clamp_to_edge) = Unit {0}
+IsFound (ImageLoad image coordinate array_index sample level) = Unit {0}
+IsFound (ImageQuery image query) = Unit {0}
+IsFound other = IsResult other
+
+-- the level is found from neighbouring fragments
+abbrev pub implicit_derivatives : SampleLevel → Bool
+implicit_derivatives Auto = true
+implicit_derivatives Zero = false
+implicit_derivatives (Exact level) = false
+implicit_derivatives (Bias bias) = true
+implicit_derivatives (Gradient x y) = false
+
+-- expressions that are in scope everywhere in their function
+abbrev pub always_in_scope : Expression → Bool
+always_in_scope (Literal value) = true
+always_in_scope (Constant handle) = true
+always_in_scope (Override handle) = true
+always_in_scope (ZeroValue type) = true
+always_in_scope (FunctionArgument index) = true
+always_in_scope (GlobalVariable handle) = true
+always_in_scope (LocalVariable handle) = true
+always_in_scope _ = false
+
+-- an index that is not known before the shader runs
+abbrev pub is_dynamic : Expression → Bool
+is_dynamic (Literal value) = false
+is_dynamic (ZeroValue type) = false
+is_dynamic (Constant handle) = false
+is_dynamic _ = true

@@ -1,7 +1,0 @@
-//! Laws of the types that are accepted.
-ghost use Rattle.spec_types.specs.Laws.{MoreCapabilities};
-
-/// A larger set of capabilities refuses no type that a smaller one accepted.
-pub fn more_capabilities()
-    ensures { MoreCapabilities }
-{}
