@@ -1,6 +1,4 @@
 mod Bits
-mod Finds
-pub mod Places
 mod UsedLaws
 mod SeenLaws
 mod Told

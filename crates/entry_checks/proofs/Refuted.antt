@@ -2,7 +2,7 @@
 use Rattle.std.proofs.Common.{◌≡◌, ℕ, List, false, Option, Some, IfSome, sym, ap, subst, ◌∙◌, arith, true≢false}
 use Rattle.std.specs.Prelude.{IsSome, IsTrue, is_some}
 use Rattle.entry_checks.proofs.MeshLaws.{said_refuted, same_implied}
-use Rattle.entry_checks.proofs.Places.{not_some_by}
+use Rattle.spec_entries.proofs.Places.{not_some_by}
 use Rattle.entry_checks.specs.ConnectionFaults.{IsConnectionFault, of_arguments, of_result, of_answer, of_variables, of_mesh}
 use Rattle.entry_checks.specs.Faults.{IsBindingFault, IsCapabilityFault, IsEarlyFault, IsFaultOfOne, IsImmediateFault, IsMeshInfoFault, IsPayloadUseFault, IsReachFault, IsSizeFault, IsStageFault, of_capability, of_early, of_sizes, of_mesh as of_mesh_info, IsUseFault, IsVariableFault, of_payload, of_stage, of_uses, IsVariablesFault, of_immediates, of_one, of_bindings}
 use Rattle.entry_checks.specs.Laws.{ConnectionFaultRefutes, OneImplied, PayloadFaultRefutes, StageFaultRefutes}

@@ -1,7 +1,6 @@
 pub mod Bindings
 pub mod Contexts
 pub mod Faults
-pub mod Found
 pub mod MeshFaults
 pub mod VaryingFaults
 pub mod OutputFaults

@@ -10,7 +10,6 @@ ghost use Rattle.spec_entries.specs.Payloads.{binding_at};
 ghost use Rattle.spec_entries.specs.Variables.{BindingsApart, IsUsed};
 
 use crate::error::EntryPointError;
-use crate::lookups::{binding_at, use_at};
 use analysis_forms::GlobalUse;
 use ir_arena::handle::Handle;
 use ir_faults::refusal::Refusal;
@@ -18,6 +17,7 @@ use ir_faults::with_span::WithSpan;
 use ir_items::Module;
 use ir_kinds::ResourceBinding;
 use ir_types::key;
+use spec_entries::{binding_at, use_at};
 use std::alloc::{AllocError, Global};
 use std::collections::BTreeSet;
 

@@ -1,24 +1,20 @@
 //! Whether what is asked of an entry point beside its function is met.
 //!
-//! A room a module, as the definitions have them: the stage (`stages.rt`), the payload of tasks (`payloads.rt`), what may be done with
-//! variables (`uses.rt`) and what is (`variables.rt`, `bindings.rt`), what is given and answered (`varyings.rt`), and what a mesh
-//! shader gives (`members.rt`, `meshes.rt`, `outputs.rt`); `connections.rt` has the last three together.
+//! A room a module, as the definitions have them: the stage (`stages.rt`), the payload of tasks (`payloads.rt`), what is done
+//! with variables (`variables.rt`, `bindings.rt`), what is given and answered (`varyings.rt`), and what a mesh shader gives
+//! (`meshes.rt`, `outputs.rt`); `connections.rt` has the last three together.
 #![tactic(auto)]
 
 mod bindings;
 mod connections;
 mod context;
 mod error;
-mod found;
 pub mod laws;
-mod lookups;
-mod members;
 mod mesh_info;
 mod meshes;
 mod outputs;
 mod payloads;
 mod stages;
-mod uses;
 mod variables;
 mod varyings;
 

@@ -10,13 +10,11 @@ ghost use Rattle.spec_entries.specs.Meshes.{FieldsOK, HoldsMost, Implies, IsCoun
 ghost use Rattle.ir_items.specs.declared.entries.MeshStageInfo.{MeshStageInfo};
 
 use crate::error::EntryPointError;
-use crate::lookups::{inner_at, members_at};
-use crate::members::{parts_of, topology_at};
 use ir_arena::handle::Handle;
 use ir_items::{MeshStageInfo, Module};
 use ir_kinds::Scalar;
 use ir_types::{ArraySize, Expression, StructMember, TypeInner, key};
-use spec_entries::MeshParts;
+use spec_entries::{MeshParts, inner_at, members_at, parts_of, topology_at};
 use typing_forms::laws::form_equality;
 use typing_forms::{Form, form_of_type};
 

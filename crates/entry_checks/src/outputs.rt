@@ -14,7 +14,6 @@ ghost use Rattle.spec_entries.specs.Payloads.{space_at};
 
 use crate::context::EntryContext;
 use crate::error::EntryPointError;
-use crate::lookups::{is_workgroup, space_at};
 use crate::meshes::check_said;
 use crate::varyings::check_output;
 use bitflags::Flags;
@@ -25,6 +24,7 @@ use ir_flags::Capabilities;
 use ir_items::{MeshStageInfo, Module};
 use ir_kinds::{BuiltIn, MeshOutputTopology};
 use ir_types::key;
+use spec_entries::{is_workgroup, space_at};
 use spec_varyings::Direction;
 use std::alloc::Global;
 use varying_checks::has_built_in;

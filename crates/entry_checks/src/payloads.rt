@@ -6,9 +6,9 @@ ghost use Rattle.ir_items.specs.View.{entry_view, module_view};
 ghost use Rattle.spec_entries.specs.Payloads.{PayloadOK, has_payload};
 
 use crate::error::EntryPointError;
-use crate::lookups::{is_task_payload, space_at};
 use ir_items::{EntryPoint, Module};
 use ir_kinds::ShaderStage;
+use spec_entries::{is_task_payload, space_at};
 
 // Whether a stage hands a payload on, or may be handed one.
 const fn has_payload(stage: ShaderStage) -> bool

@@ -14,14 +14,16 @@ ghost use Rattle.typing_layout.specs.Layout.{size};
 ghost use Rattle.typing_layout.specs.View.{type_tree};
 
 use crate::error::EntryPointError;
-use crate::lookups::{inner_at, is_immediate, is_task_payload, space_at, use_at};
-use crate::uses::{allowed_uses, is_run_for_rays, traces_rays};
 use analysis_forms::GlobalUse;
 use bitflags::Flags;
 use ir_arena::handle::Handle;
 use ir_items::{EntryPoint, GlobalVariable, Module};
 use ir_kinds::{AddressSpace, ShaderStage};
 use ir_types::key;
+use spec_entries::{
+    allowed_uses, inner_at, is_immediate, is_run_for_rays, is_task_payload, space_at, traces_rays,
+    use_at,
+};
 use typing_forms::TypeInnerExt;
 
 /// The fewest bytes that a payload of a task takes.

@@ -11,13 +11,13 @@ ghost use Rattle.spec_varyings.specs.Varyings.{HasBlendSources, VaryingsOK, argu
 
 use crate::context::{EntryContext, varying_context};
 use crate::error::EntryPointError;
-use crate::members::is_struct;
 use ir_arena::handle::Handle;
 use ir_faults::refusal::Refusal;
 use ir_faults::with_span::WithSpan;
 use ir_items::{FunctionResult, Module};
 use ir_kinds::{BuiltIn, Scalar, ShaderStage, VectorSize};
 use ir_types::key;
+use spec_entries::is_struct;
 use spec_varyings::{Direction, Varying};
 use std::alloc::Global;
 use typing_forms::laws::form_equality;

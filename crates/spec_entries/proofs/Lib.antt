@@ -1,1 +1,3 @@
 pub mod OneStages
+mod Finds
+pub mod Places

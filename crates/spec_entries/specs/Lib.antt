@@ -8,3 +8,4 @@ pub mod Results
 pub mod Entries
 pub mod Held
 pub mod Modules
+pub mod Found

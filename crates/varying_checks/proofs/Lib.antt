@@ -1,4 +1,3 @@
-mod Equal
 mod Told
 mod Places
 mod Located

@@ -1,7 +1,7 @@
 //! Whether an entry point may have the varyings that it has.
 //!
 //! `validate_arguments` and `validate_value` say it of all varyings that go one way, in three steps: which varyings there are
-//! (`spread.rt`), each by itself (`built_ins.rt` by the table of `rows.rt`, `locations.rt`), and all of them (`validate.rt`).
+//! (`spread.rt`), each by itself (`built_ins.rt` by the table of `spec_varyings`, `locations.rt`), and all of them (`validate.rt`).
 #![tactic(auto)]
 
 mod built_ins;
@@ -10,11 +10,9 @@ mod error;
 mod forms;
 pub mod laws;
 mod locations;
-mod rows;
 mod shown;
 mod spread;
 mod validate;
-mod words;
 
 pub use context::VaryingContext;
 pub use error::{VaryingError, VaryingRefusal};

@@ -5,9 +5,8 @@ ghost use Rattle.spec_varyings.specs.Varyings.{HasBlendSources, HasBuiltIn, buil
 ghost use Rattle.spec_varyings.specs.declared.varyings.Bound.TheVariants.{BlendSources};
 ghost use Rattle.varying_checks.specs.Faults.{ShowsBefore};
 
-use crate::words::are_same;
 use ir_kinds::BuiltIn;
-use spec_varyings::{Bound, Varying};
+use spec_varyings::{Bound, Varying, are_same};
 
 /// The location that is taken, if one is; sources of a blend take the first one.
 pub(crate) const fn location_of(bound: &Bound) -> Option<u32>

@@ -1,5 +1,5 @@
 use Rattle.std.proofs.Common.{◌≡◌, ℕ, sym, ap, ◌∙◌}
-use Rattle.entry_checks.proofs.Places.{none_some, some_is}
+use Rattle.spec_entries.proofs.Places.{none_some, some_is}
 use Rattle.ir_types.specs.declared.types.ArraySize.{ArraySize}
 use Rattle.spec_entries.specs.Meshes.{most}
 use Rattle.entry_checks.proofs.meshes.held_by.Goals as goal

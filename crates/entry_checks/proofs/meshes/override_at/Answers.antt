@@ -1,6 +1,6 @@
 use Rattle.std.proofs.Common.{true≢false, sym, ap, ◌∙◌}
 use Rattle.std.specs.Prelude.{option_and_then}
-use Rattle.entry_checks.proofs.Places.{found, missing}
+use Rattle.spec_entries.proofs.Places.{found, missing}
 use Rattle.ir_types.specs.ExpressionPlain.{expression_view}
 use Rattle.spec_entries.specs.Meshes.{override_of}
 use Rattle.entry_checks.proofs.meshes.override_at.Goals as goal

@@ -1,6 +1,6 @@
 use Rattle.std.proofs.Common.{◌≡◌, Some, None, map, sym, subst}
 use Rattle.std.specs.Prelude.{MatchOption, option_and_then}
-use Rattle.entry_checks.proofs.Places.{found}
+use Rattle.spec_entries.proofs.Places.{found}
 use Rattle.ir_items.specs.GlobalPlain.{PlainGlobal}
 use Rattle.ir_items.specs.GlobalView.{global_view}
 use Rattle.ir_items.specs.View.{module_view}

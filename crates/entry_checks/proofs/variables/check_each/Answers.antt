@@ -1,7 +1,7 @@
 use Rattle.std.proofs.Common.{◌≡◌, subst, arith}
 use Rattle.std.specs.Int.{bit_at}
 use Rattle.analysis_forms.specs.declared.global_use.GlobalUse.{GlobalUse}
-use Rattle.entry_checks.proofs.Places.{found}
+use Rattle.spec_entries.proofs.Places.{found}
 use Rattle.entry_checks.proofs.UsedLaws.{all_each, each_at, each_unused, unused_by, use_is, used_by}
 use Rattle.entry_checks.specs.Faults.{IsVariableFault}
 use Rattle.immediate_slots.proofs.SizeLemmas.{many_variables}
