@@ -1,10 +1,12 @@
 //! How a global variable is used.
 
 use bitflags::{Flag, Flags, bitflag_items};
+use ir_flags::write_set;
+use std::fmt;
 
 /// How a function uses a global variable (naga's `GlobalUse`). A contract sees the number of its bits, as
 /// `set.0`.
-#[derive(Clone, Copy, PartialEq, Eq, Debug)]
+#[derive(Clone, Copy, PartialEq, Eq)]
 pub struct GlobalUse(
     /// The bits as a number.
     pub u8,
@@ -20,6 +22,12 @@ bitflag_items! {
         const QUERY = 4;
         /// A texel of it is changed at once.
         const ATOMIC = 8;
+    }
+}
+
+impl fmt::Debug for GlobalUse {
+    fn fmt<W: fmt::Write>(&self, f: &mut fmt::Formatter<W>) -> fmt::Result {
+        write_set(f, "GlobalUse", self)
     }
 }
 

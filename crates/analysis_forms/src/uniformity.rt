@@ -2,11 +2,13 @@
 
 use bitflags::{Flag, Flags, bitflag_items};
 use ir_arena::handle::Handle;
+use ir_flags::write_set;
 use ir_types::key;
+use std::fmt;
 
 /// What asks that all invocations arrive at it together (naga's `UniformityRequirements`). A contract sees the
 /// number of its bits, as `set.0`.
-#[derive(Clone, Copy, PartialEq, Eq, Debug)]
+#[derive(Clone, Copy, PartialEq, Eq)]
 pub struct UniformityRequirements(
     /// The bits as a number.
     pub u8,
@@ -22,6 +24,12 @@ bitflag_items! {
         const IMPLICIT_LEVEL = 4;
         /// A cooperative matrix is loaded or multiplied.
         const COOP_OPS = 8;
+    }
+}
+
+impl fmt::Debug for UniformityRequirements {
+    fn fmt<W: fmt::Write>(&self, f: &mut fmt::Formatter<W>) -> fmt::Result {
+        write_set(f, "UniformityRequirements", self)
     }
 }
 

@@ -9,7 +9,9 @@ use crate::place::Told;
 use document_forms::Place;
 use document_reader::{DocumentError, MAX_LEN, read_document};
 use ir_items::Module;
-use shader_check::{Examined, Finding, ModuleError, ValidationError, examine_document, refused_by};
+use shader_check::{
+    Examined, Finding, ModuleError, Named, ValidationError, examine_document, refused_by,
+};
 use std::alloc::{AllocError, Global};
 use std::fmt::{self, Display};
 
@@ -129,6 +131,7 @@ impl Display for Explanation {
             Explanation::Accepted => write!(f, "accepted"),
             Explanation::Refused(name, error) => {
                 write_item(f, name, error)?;
+                write!(f, "{}: ", Named(error))?;
                 write_reason(f, error)
             }
         }

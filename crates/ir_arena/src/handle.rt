@@ -2,6 +2,7 @@
 
 ghost use Rattle.std.specs.Prelude.{◌≡◌, ◌<◌, ◌+◌, ◌↔◌, ℕ, List, IsSome, IfSome};
 
+use std::fmt;
 use std::marker::{Model, PhantomData};
 use thiserror::Error;
 
@@ -64,7 +65,7 @@ pub type Index = NonMaxU32;
 /// `T` only tells the handles of one arena from those of another: no `T` is held, and copies,
 /// comparisons and hashes ask nothing of it. An arena whose values hold handles of its own takes a
 /// tag as the `T` of its handles (see [`crate::arena::Arena`]).
-#[derive_where(Clone, Copy, PartialEq, Eq, PartialOrd, Ord, Hash, Debug)]
+#[derive_where(Clone, Copy, PartialEq, Eq, PartialOrd, Ord, Hash)]
 pub struct Handle<T> {
     index: NonMaxU32,
     marker: PhantomData<T>,
@@ -78,6 +79,13 @@ impl<T> Model for Handle<T> {
     ghost view = { λ h. h.index };
 
     ghost inverse = { λ n. record { index = n; marker = record {} } };
+}
+
+// The place in square brackets.
+impl<T> fmt::Debug for Handle<T> {
+    fn fmt<W: fmt::Write>(&self, f: &mut fmt::Formatter<W>) -> fmt::Result {
+        write!(f, "[{}]", self.index())
+    }
 }
 
 impl<T> Handle<T> {

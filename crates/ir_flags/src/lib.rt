@@ -1,11 +1,13 @@
 //! Sets of words, each with one bit for a word, in naga's order.
 #![tactic(auto)]
 
+mod debug;
 pub mod laws;
 mod memory;
 mod settings;
 mod stages;
 
+pub use debug::write_set;
 pub use memory::{Barrier, MemoryDecorations, StorageAccess};
 pub use settings::{Capabilities, ValidationFlags};
 pub use stages::{ShaderStages, SubgroupOperationSet};

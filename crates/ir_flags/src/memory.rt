@@ -1,10 +1,12 @@
 //! Sets that say what is done with memory.
 
+use crate::debug::write_set;
 use bitflags::{Flag, Flags, bitflag_items};
+use std::fmt;
 
 /// What may be done with a storage buffer or a storage texture (naga's `StorageAccess`). A contract sees
 /// the number of its bits, as `set.0`.
-#[derive(Clone, Copy, PartialEq, Eq, Hash, Debug)]
+#[derive(Clone, Copy, PartialEq, Eq, Hash)]
 pub struct StorageAccess(
     /// The bits as a number.
     pub u32,
@@ -18,6 +20,12 @@ bitflag_items! {
         const STORE = 2;
         /// Atomic operations on texels.
         const ATOMIC = 4;
+    }
+}
+
+impl fmt::Debug for StorageAccess {
+    fn fmt<W: fmt::Write>(&self, f: &mut fmt::Formatter<W>) -> fmt::Result {
+        write_set(f, "StorageAccess", self)
     }
 }
 
@@ -48,7 +56,7 @@ impl Flags for StorageAccess {
 
 /// The memory that a barrier orders (naga's `Barrier`). A contract sees
 /// the number of its bits, as `set.0`.
-#[derive(Clone, Copy, PartialEq, Eq, Debug)]
+#[derive(Clone, Copy, PartialEq, Eq)]
 pub struct Barrier(
     /// The bits as a number.
     pub u32,
@@ -64,6 +72,12 @@ bitflag_items! {
         const SUB_GROUP = 4;
         /// Textures.
         const TEXTURE = 8;
+    }
+}
+
+impl fmt::Debug for Barrier {
+    fn fmt<W: fmt::Write>(&self, f: &mut fmt::Formatter<W>) -> fmt::Result {
+        write_set(f, "Barrier", self)
     }
 }
 
@@ -94,7 +108,7 @@ impl Flags for Barrier {
 
 /// How a storage buffer's memory is shared (naga's `MemoryDecorations`). A contract sees
 /// the number of its bits, as `set.0`.
-#[derive(Clone, Copy, PartialEq, Eq, Debug)]
+#[derive(Clone, Copy, PartialEq, Eq)]
 pub struct MemoryDecorations(
     /// The bits as a number.
     pub u8,
@@ -106,6 +120,12 @@ bitflag_items! {
         const COHERENT = 1;
         /// The memory may change from outside.
         const VOLATILE = 2;
+    }
+}
+
+impl fmt::Debug for MemoryDecorations {
+    fn fmt<W: fmt::Write>(&self, f: &mut fmt::Formatter<W>) -> fmt::Result {
+        write_set(f, "MemoryDecorations", self)
     }
 }
 

@@ -2,11 +2,13 @@
 
 ghost use Rattle.std.specs.Prelude.{◌≡◌, ◌-◌, ◌^◌};
 
+use crate::debug::write_set;
 use bitflags::{Flag, Flags, bitflag_items};
+use std::fmt;
 
 /// The checks that a validator makes (naga's `ValidationFlags`). A contract sees
 /// the number of its bits, as `set.0`.
-#[derive(Clone, Copy, PartialEq, Eq, Debug)]
+#[derive(Clone, Copy, PartialEq, Eq)]
 pub struct ValidationFlags(
     /// The bits as a number.
     pub u8,
@@ -26,6 +28,12 @@ bitflag_items! {
         const CONSTANTS = 16;
         /// Bindings and varyings.
         const BINDINGS = 32;
+    }
+}
+
+impl fmt::Debug for ValidationFlags {
+    fn fmt<W: fmt::Write>(&self, f: &mut fmt::Formatter<W>) -> fmt::Result {
+        write_set(f, "ValidationFlags", self)
     }
 }
 
@@ -56,7 +64,7 @@ impl Flags for ValidationFlags {
 
 /// What shaders may use beyond the common part (naga's `Capabilities`). A contract sees
 /// the number of its bits, as `set.0`.
-#[derive(Clone, Copy, PartialEq, Eq, Debug)]
+#[derive(Clone, Copy, PartialEq, Eq)]
 pub struct Capabilities(
     /// The bits as a number.
     pub u64,
@@ -140,6 +148,12 @@ bitflag_items! {
         const MEMORY_DECORATION_COHERENT = 68719476736;
         /// Volatile memory.
         const MEMORY_DECORATION_VOLATILE = 137438953472;
+    }
+}
+
+impl fmt::Debug for Capabilities {
+    fn fmt<W: fmt::Write>(&self, f: &mut fmt::Formatter<W>) -> fmt::Result {
+        write_set(f, "Capabilities", self)
     }
 }
 

@@ -1,10 +1,12 @@
 //! Sets of stages and of subgroup operations.
 
+use crate::debug::write_set;
 use bitflags::{Flag, Flags, bitflag_items};
+use std::fmt;
 
 /// A set of pipeline stages (naga's `ShaderStages`). A contract sees
 /// the number of its bits, as `set.0`.
-#[derive(Clone, Copy, PartialEq, Eq, Debug)]
+#[derive(Clone, Copy, PartialEq, Eq)]
 pub struct ShaderStages(
     /// The bits as a number.
     pub u16,
@@ -30,6 +32,12 @@ bitflag_items! {
         const CLOSEST_HIT = 128;
         /// A ray that hits nothing.
         const MISS = 256;
+    }
+}
+
+impl fmt::Debug for ShaderStages {
+    fn fmt<W: fmt::Write>(&self, f: &mut fmt::Formatter<W>) -> fmt::Result {
+        write_set(f, "ShaderStages", self)
     }
 }
 
@@ -60,7 +68,7 @@ impl Flags for ShaderStages {
 
 /// The kinds of subgroup operation that a device has (naga's `SubgroupOperationSet`). A contract sees
 /// the number of its bits, as `set.0`.
-#[derive(Clone, Copy, PartialEq, Eq, Debug)]
+#[derive(Clone, Copy, PartialEq, Eq)]
 pub struct SubgroupOperationSet(
     /// The bits as a number.
     pub u8,
@@ -82,6 +90,12 @@ bitflag_items! {
         const SHUFFLE_RELATIVE = 32;
         /// Quad operations.
         const QUAD = 64;
+    }
+}
+
+impl fmt::Debug for SubgroupOperationSet {
+    fn fmt<W: fmt::Write>(&self, f: &mut fmt::Formatter<W>) -> fmt::Result {
+        write_set(f, "SubgroupOperationSet", self)
     }
 }
 

@@ -3,6 +3,7 @@
 use crate::entries::InvalidEntryPoint;
 use crate::functions::InvalidFunction;
 use module_validator::{InvalidGlobalVariable, ModuleError};
+use std::fmt::{self, Display};
 use thiserror::Error;
 
 /// Why a module is refused (naga's `ValidationError`): the first step that fails, at the first item that fails it, and why.
@@ -20,4 +21,31 @@ pub enum ValidationError {
     /// An entry point is refused.
     #[error("{0}")]
     EntryPoint(InvalidEntryPoint),
+}
+
+/// The error of the item that is refused, by its name and with what it holds (as `{:?}` writes it), where
+/// [`ValidationError`] writes its text.
+pub struct Named<'a>(pub &'a ValidationError);
+
+// The error of a step up to overrides, by its name.
+fn write_early<W: fmt::Write>(f: &mut fmt::Formatter<W>, error: &ModuleError) -> fmt::Result {
+    match error {
+        ModuleError::InvalidHandle(error) => write!(f, "{error:?}"),
+        ModuleError::Layouter(error) => write!(f, "{:?}", error.inner),
+        ModuleError::Type(error) => write!(f, "{:?}", error.error),
+        ModuleError::ConstExpression(error) => write!(f, "{:?}", error.error),
+        ModuleError::Constant(error) => write!(f, "{:?}", error.error),
+        ModuleError::Override(error) => write!(f, "{:?}", error.error),
+    }
+}
+
+impl Display for Named<'_> {
+    fn fmt<W: fmt::Write>(&self, f: &mut fmt::Formatter<W>) -> fmt::Result {
+        match self.0 {
+            ValidationError::Module(error) => write_early(f, error),
+            ValidationError::GlobalVariable(error) => write!(f, "{:?}", error.error),
+            ValidationError::Function(error) => write!(f, "{:?}", error.error),
+            ValidationError::EntryPoint(error) => write!(f, "{:?}", error.error),
+        }
+    }
 }

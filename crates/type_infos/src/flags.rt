@@ -1,9 +1,11 @@
 //! What a type may be used for.
 
 use bitflags::{Flag, Flags, bitflag_items};
+use ir_flags::write_set;
+use std::fmt;
 
 /// What a type may be used for (naga's `TypeFlags`). A contract sees the number of its bits, as `set.0`.
-#[derive(Clone, Copy, PartialEq, Eq, Debug)]
+#[derive(Clone, Copy, PartialEq, Eq)]
 pub struct TypeFlags(
     /// The bits as a number.
     pub u8,
@@ -27,6 +29,12 @@ bitflag_items! {
         const ARGUMENT = 64;
         /// Values can be composed.
         const CONSTRUCTIBLE = 128;
+    }
+}
+
+impl fmt::Debug for TypeFlags {
+    fn fmt<W: fmt::Write>(&self, f: &mut fmt::Formatter<W>) -> fmt::Result {
+        write_set(f, "TypeFlags", self)
     }
 }
 
