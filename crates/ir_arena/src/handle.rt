@@ -84,7 +84,7 @@ impl<T> Model for Handle<T> {
 // The place in square brackets.
 impl<T> fmt::Debug for Handle<T> {
     fn fmt<W: fmt::Write>(&self, f: &mut fmt::Formatter<W>) -> fmt::Result {
-        write!(f, "[{}]", self.index())
+        write!(f, "[{}]", self.index.get())
     }
 }
 
