@@ -26,7 +26,7 @@ CAPABILITIES = (
 
 
 def capability(word):
-    return "Capabilities(%d)" % (1 << CAPABILITIES.index(word))
+    return "Capabilities(%s)" % word
 
 
 def info(answer):

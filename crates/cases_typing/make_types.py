@@ -17,7 +17,7 @@ SCALARS = {
 }
 SIZES = {2: "Bi", 3: "Tri", 4: "Quad"}
 SIDES = {8: "Eight", 16: "Sixteen"}
-ACCESS = {"LOAD": 1, "STORE": 2, "ATOMIC": 4}
+ACCESS = ("LOAD", "STORE", "ATOMIC")
 TEXTS = {
     "IncompatibleOperands": "the operation does not take their types",
     "BuiltinArgumentsInvalid": "the function has no rule for their types",
@@ -25,7 +25,7 @@ TEXTS = {
 
 
 def handle(n):
-    return "Handle { index: NonMaxU32 { value: %d }, marker: PhantomData<_> }" % n
+    return "[%d]" % n
 
 
 def truth(b):
@@ -38,7 +38,7 @@ def scalar(s):
 
 
 def access(words):
-    return "StorageAccess(%d)" % sum(ACCESS[w] for w in words)
+    return "StorageAccess(%s)" % (" | ".join(w for w in ACCESS if w in words) or "0x0")
 
 
 def space(s):

@@ -2,12 +2,12 @@
 use crate::checks::{Overrides, checks_told};
 use crate::conditions::{Test, tests_told};
 use crate::constness::{kinds_told, tracked};
-use crate::functions::functions_told;
 use crate::handles::handles_told;
 use crate::infos::{Told, infos_told};
 use crate::layouts::{laid, layouts_told};
 use crate::summaries::{ordered, summaries_told, summarized};
 use crate::types::{typed, types_told};
+use crate::whole::{functions_told, refusals_told};
 use document_reader::Document;
 use std::alloc::{AllocError, Global};
 
@@ -17,6 +17,7 @@ use std::alloc::{AllocError, Global};
 pub fn answer(alloc: Global, asked: &str, document: &mut Document) -> Result<String, AllocError> {
     match asked {
         "functions" => functions_told(alloc, document),
+        "refusal" => refusals_told(alloc, document),
         _ => answer_unchanged(alloc, asked, document),
     }
 }

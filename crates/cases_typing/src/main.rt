@@ -1,11 +1,11 @@
 // Asks what the files of data/ ask of modules: layouts, kinds of expressions, their types, tests of handles, what types may be
 // used for and why they are refused, whether all handles are in order, whether a module is accepted up to its overrides, what
-// the analysis keeps of functions, and whether functions are accepted and why not. Tells which answers are others than those
-// that stand there.
+// the analysis keeps of functions, whether functions are accepted and why not, and of the whole judgement by which error a
+// document is refused. Tells which answers are others than those that stand there.
 //
 // A line of a data file is a list of texts: the case's name, what is asked, a document, and the answer, or two of which either
 // is right. `make_data.py`, `make_types.py`, `make_tests.py`, `make_infos.py`, `make_checks.py`, `make_summaries.py`,
-// `make_chains.py` and `make_functions.py` write these files. The answers come from two implementations that were written
+// `make_chains.py`, `make_functions.py` and `make_names.py` write these files. The answers come from two implementations that were written
 // independently of this one, those of chains of calls from the model in `make_chains.py`; which function is refused comes from
 // those two as well, and why from the model in `model_functions.py`. Beside that it makes each call of layouts, of kinds and of
 // slots of immediate data once.
@@ -17,22 +17,23 @@ mod case;
 mod checks;
 mod conditions;
 mod constness;
-mod functions;
 mod handles;
 mod infos;
 mod layouts;
 mod refusals;
 mod summaries;
 mod types;
+mod whole;
 
 use anyhow::{Context, Result, ensure};
 use calls::every_call;
-use case::{Case, judge};
+use case::judge;
 use serde_json::Value;
 use std::fs;
+use test_support::case::Case;
 
 /// The files of cases.
-const FILES: [&str; 10] = [
+const FILES: [&str; 11] = [
     "layouts.jsonl",
     "constness.jsonl",
     "types.jsonl",
@@ -43,6 +44,7 @@ const FILES: [&str; 10] = [
     "summaries.jsonl",
     "chains.jsonl",
     "functions.jsonl",
+    "names.jsonl",
 ];
 
 // Asks what a line asks. Answers whether the answer is another one.

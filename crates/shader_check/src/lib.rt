@@ -16,7 +16,7 @@ mod whole;
 pub use check::{Fault, MAX_TAKEN, Verdict, check_document, outcome};
 pub use document_reader::{Document, DocumentError, Settings, build_module, read_document};
 pub use entries::InvalidEntryPoint;
-pub use error::ValidationError;
+pub use error::{Named, ValidationError};
 pub use examined::{Examined, refused_by};
 pub use functions::InvalidFunction;
 pub use judge::{examine_document, judge_document};

@@ -3,6 +3,7 @@
 #![tactic(auto)]
 
 pub mod call;
+pub mod case;
 pub mod checks;
 pub mod fakes;
 pub mod forms;
