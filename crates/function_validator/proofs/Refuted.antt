@@ -23,7 +23,8 @@ use Rattle.spec_statements.specs.Functions.{Reading, FunctionSettings, AreFormsB
 use Rattle.spec_statements.specs.Interfaces.{InterfaceOK}
 use Rattle.statement_validator.proofs.Refuted.{faults_refute_lem as by_statement}
 use Rattle.typing_forms.specs.declared.form.Form.{Form}
-use Rattle.function_validator.proofs.ArityLaws.{wrong_refutes}
+use Rattle.typing_conditions.proofs.OrderLaws.{wrong_refutes}
+use Rattle.typing_conditions.specs.Tests.{fault_at}
 use Rattle.function_validator.specs.Arities.{IsArityError, IsArityFault}
 use Rattle.function_validator.specs.Faults.{AllAccepted, IsExpressionFault, IsFaultOfBody, IsUnanswered, IsFaultBehind, in_interface, in_expressions, in_body, unanswered, IsFunctionFault, in_arity, in_analysis, behind}
 
@@ -47,7 +48,7 @@ same_forms R f xs ys one a b = same_lists xs ys (a.many ∙ sym b.many) (λ i x 
 -- ---- each part
 
 arity_refuted : (m : PlainModule) (f : PlainFunction) (function : ℕ) (e : CallError) → IsArityError m f function e → AritiesMatch m f → ⊥
-arity_refuted m f function (call_error.ArgumentCount required seen) w ok = wrong_refutes m f function required seen w ok
+arity_refuted m f function (call_error.ArgumentCount required seen) w ok = wrong_refutes m f (fault_at function (Some required) seen) w ok
 arity_refuted m f function _ w ok = absurd w
 
 arities_refuted : (m : PlainModule) (f : PlainFunction) (e : FunctionError) → IsArityFault m f e → AritiesMatch m f → ⊥

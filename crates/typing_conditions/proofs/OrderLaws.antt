@@ -1,55 +1,82 @@
--- The test that calls have the arguments that they should.
-use Rattle.std.proofs.Common.{◌≡◌, ℕ, List, length, Bool, true, false, if◌then◌else◌, Option, Some, None, refl, sym, ap, ◌∙◌, subst, slice_get}
-use borrow.Author.Tests.{eqb-true, eq-eqb}
+-- Calls that pass another number of arguments, found in a body.
+use Rattle.std.proofs.Common.{◌≡◌, ◌≢◌, ◌==◌, ℕ, List, length, Bool, true, false, true≢false, if◌then◌else◌, Option, Some, None, refl, sym, ap, ◌∙◌, subst, slice_get}
+use Rattle.std.proofs.lemmas.Bool.{eq-eqb, eqb-true}
 use Rattle.ir_blocks.specs.Plain.{PlainStatement, emit, block, if_, switch, loop, break, continue, return, kill, operation, call}
-use Rattle.ir_blocks.specs.Places.{statement}
+use Rattle.ir_blocks.specs.Places.{StandsAt}
 use Rattle.ir_items.specs.Plain.{PlainFunction, PlainModule}
 use Rattle.ir_references.proofs.FirstLaws.{none_at, place_found}
 use Rattle.ir_references.specs.First.{first_in}
 use Rattle.spec_handles.specs.Conditions.{AritiesMatch}
-use Rattle.typing_conditions.specs.Tests.{takes, wrong_arity}
+use Rattle.typing_conditions.specs.Tests.{count_of, fault_at, wrong_count, arity_fault_of, PassesWrongCount}
+use Rattle.typing_conditions.specs.declared.arities.ArityFault.{ArityFault}
 
-abbrev Takes : Option PlainFunction → ℕ → Type 0
-Takes o count = (g : PlainFunction) × (o ≡ Some g) × (count ≡ length g.arguments)
+-- ---- none is found
 
-taken : (o : Option PlainFunction) (count : ℕ) → takes o count ≡ true → Takes o count
-taken None count e = cc
-taken (Some g) count e = (g, refl, sym (eqb-true (length g.arguments) count e))
+none_counted : (function seen : ℕ) (o : Option ℕ) → wrong_count function seen o ≡ None → o ≡ Some seen
+none_counted function seen None e = absurd (let x = e in cc)
+none_counted function seen (Some required) e = by_test (required == seen) refl e
+  where
+    by_test : (b : Bool) → (required == seen) ≡ b → (if b then None else Some (fault_at function (Some required) seen)) ≡ None → Some required ≡ Some seen
+    by_test true is e = ap Some (eqb-true required seen is)
+    by_test false is e = absurd (let x = e in cc)
 
-takes_as_many : (o : Option PlainFunction) (count : ℕ) → Takes o count → takes o count ≡ true
-takes_as_many None count h = let e = h.1 in cc
-takes_as_many (Some g) count h =
-    let same : g ≡ h.0 = (let e = h.1 in cc) in
-    eq-eqb (length g.arguments) count (ap (λ (x : PlainFunction). length x.arguments) same ∙ sym h.2)
+counted_function : (o : Option PlainFunction) (seen : ℕ) → count_of o ≡ Some seen → (g : PlainFunction) × (o ≡ Some g) × (seen ≡ length g.arguments)
+counted_function None seen e = absurd (let x = e in cc)
+counted_function (Some g) seen e = (g, refl, (let x = e in cc))
 
-abbrev unless : Bool → Option (Unit {0})
-unless b = if b then None else Some (record {})
+pub arities : (m : PlainModule) (f : PlainFunction) → first_in (arity_fault_of m) f.body ≡ None → AritiesMatch m f
+arities m f e p callee arguments result stands =
+    counted_function (slice_get m.functions callee) (length arguments) (none_counted callee (length arguments) (count_of (slice_get m.functions callee)) (none_at (arity_fault_of m) p f.body e (call callee arguments result) stands))
 
-none_takes : (b : Bool) → unless b ≡ None → b ≡ true
-none_takes true e = refl
-none_takes false e = cc
+-- ---- one is found
 
-module _ (m : PlainModule) (f : PlainFunction) where
-  pub arities : first_in (wrong_arity m) f.body ≡ None → AritiesMatch m f
-  arities e p callee arguments result stands =
-      taken (slice_get m.functions callee) (length arguments) (none_takes _ (none_at (wrong_arity m) p f.body e (call callee arguments result) stands))
+record Counted (m : PlainModule) (s : PlainStatement) (x : ArityFault) : Type 0 where
+  pub arguments : List ℕ
+  pub answer : Option ℕ
+  pub is : s ≡ call x.function arguments answer
+  pub has : x.required ≡ count_of (slice_get m.functions x.function)
+  pub passed : x.seen ≡ length arguments
+  pub differs : x.required ≢ Some x.seen
 
-  not_wrong : (s : PlainStatement) (x : Unit {0}) → ((callee : ℕ) (arguments : List ℕ) (result : Option ℕ) → s ≡ call callee arguments result → Takes (slice_get m.functions callee) (length arguments)) → ¬ (wrong_arity m s ≡ Some x)
-  not_wrong (emit first end) x h e = cc
-  not_wrong (block b) x h e = cc
-  not_wrong (if_ condition accept reject) x h e = cc
-  not_wrong (switch selector cases) x h e = cc
-  not_wrong (loop body continuing break_if) x h e = cc
-  not_wrong break x h e = cc
-  not_wrong continue x h e = cc
-  not_wrong (return value) x h e = cc
-  not_wrong kill x h e = cc
-  not_wrong (operation a) x h e = cc
-  not_wrong (call callee arguments answer) x h e =
-      let g = subst (λ b. unless b ≡ Some x) (takes_as_many (slice_get m.functions callee) (length arguments) (h callee arguments answer refl)) e in
-      cc
+some_counted : (function seen : ℕ) (o : Option ℕ) (x : ArityFault) → wrong_count function seen o ≡ Some x → (fault_at function o seen ≡ x) × (o ≢ Some seen)
+some_counted function seen None x e = ((let y = e in cc), λ same. (let y = same in cc))
+some_counted function seen (Some required) x e = by_test (required == seen) refl e
+  where
+    by_test : (b : Bool) → (required == seen) ≡ b → (if b then None else Some (fault_at function (Some required) seen)) ≡ Some x → (fault_at function (Some required) seen ≡ x) × (Some required ≢ Some seen)
+    by_test true is e = absurd (let y = e in cc)
+    by_test false is e = ((let y = e in cc), λ same. true≢false (sym (eq-eqb required seen (let y = same in cc)) ∙ is))
 
-  pub wrong_refutes : (x : Unit {0}) → first_in (wrong_arity m) f.body ≡ Some x → ¬ AritiesMatch m f
-  wrong_refutes x e ok =
-      let r = place_found (wrong_arity m) f.body x e in
-      not_wrong r.1 x (λ callee arguments answer is. ok r.0 callee arguments answer (r.2 ∙ ap statement is)) r.3
+counted : (m : PlainModule) (s : PlainStatement) (x : ArityFault) → arity_fault_of m s ≡ Some x → Counted m s x
+counted m (call function arguments answer) x e =
+    let c = some_counted function (length arguments) (count_of (slice_get m.functions function)) x e in
+    let same : function ≡ x.function = ap (λ (y : ArityFault). y.function) c.0 in
+    let has : count_of (slice_get m.functions function) ≡ x.required = ap (λ (y : ArityFault). y.required) c.0 in
+    let passed : length arguments ≡ x.seen = ap (λ (y : ArityFault). y.seen) c.0 in
+    record {
+      arguments = arguments;
+      answer = answer;
+      is = ap (λ h. call h arguments answer) same;
+      has = subst (λ h. x.required ≡ count_of (slice_get m.functions h)) same (sym has);
+      passed = sym passed;
+      differs = λ e. c.1 (has ∙ e ∙ ap Some (sym passed));
+    }
+counted m _ x e = absurd (let y = e in cc)
+
+pub wrong_found : (m : PlainModule) (f : PlainFunction) (x : ArityFault) → first_in (arity_fault_of m) f.body ≡ Some x → PassesWrongCount m f x
+wrong_found m f x e =
+    let r = place_found (arity_fault_of m) f.body x e in
+    let c = counted m r.1 x r.3 in
+    record {
+      place = r.0;
+      arguments = c.arguments;
+      answer = c.answer;
+      stands = subst (λ s. StandsAt f.body r.0 s) c.is r.2;
+      has = c.has;
+      passed = c.passed;
+      differs = c.differs;
+    }
+
+pub wrong_refutes : (m : PlainModule) (f : PlainFunction) (x : ArityFault) → PassesWrongCount m f x → AritiesMatch m f → ⊥
+wrong_refutes m f x w ok =
+    let c = ok w.place x.function w.arguments w.answer w.stands in
+    w.differs (w.has ∙ ap count_of c.1 ∙ ap Some (sym c.2 ∙ sym w.passed))

@@ -1,6 +1,7 @@
 //! Whether the handles of a function are in order: what the analysis of a function asks of it. The tests take no memory.
 //!
-//! [`handles_in_range`], [`operands_precede`], [`callees_precede`], [`filter_parents_precede`], [`arities_match`].
+//! [`handles_in_range`], [`operands_precede`], [`callees_precede`], [`filter_parents_precede`], [`arities_match`]; and
+//! [`arity_fault`], which tells the first call that fails the last.
 #![tactic(auto)]
 
 mod arities;
@@ -10,7 +11,7 @@ pub mod laws;
 mod precede;
 mod range;
 
-pub use arities::arities_match;
+pub use arities::{ArityFault, arities_match, arity_fault};
 pub use callees::callees_precede;
 pub use filters::filter_parents_precede;
 pub use precede::operands_precede;
