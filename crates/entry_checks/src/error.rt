@@ -10,7 +10,7 @@ use thiserror::Error;
 use varying_checks::VaryingError;
 
 /// Why an entry point is refused (naga's `EntryPointError`).
-#[derive(PartialEq, Debug, Drop, Error)]
+#[derive(Debug, Drop, Error)]
 pub enum EntryPointError {
     /// An earlier entry point of the stage has the name.
     #[error("an earlier entry point of the stage has the name")]

@@ -8,7 +8,7 @@ use ir_types::key;
 use thiserror::Error;
 
 /// Why an atomic operation is refused (naga's `AtomicError`).
-#[derive(Clone, Copy, PartialEq, Debug, Error)]
+#[derive(Clone, Copy, Debug, Error)]
 pub enum AtomicError {
     /// It is no pointer to an atomic.
     #[error("{0:?} is no pointer to an atomic")]

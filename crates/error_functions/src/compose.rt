@@ -5,7 +5,7 @@ use ir_types::key;
 use thiserror::Error;
 
 /// Why values don't make a composed one (naga's `ComposeError`).
-#[derive(Clone, Copy, PartialEq, Debug, Error)]
+#[derive(Clone, Copy, Debug, Error)]
 pub enum ComposeError {
     /// Nothing of this type is composed (naga's `Type`).
     #[error("nothing of type {0:?} is composed")]

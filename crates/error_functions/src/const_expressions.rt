@@ -6,7 +6,7 @@ use type_infos::LiteralError;
 use typing_operands::ResolveError;
 
 /// Why a global expression is refused (naga's `ConstExpressionError`).
-#[derive(PartialEq, Debug, Drop, Error)]
+#[derive(Debug, Drop, Error)]
 pub enum ConstExpressionError {
     /// Its value is known only when the shader runs.
     #[error("the value is neither constant nor known by the overrides")]

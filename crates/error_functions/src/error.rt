@@ -12,7 +12,7 @@ use ir_types::{TypeInner, key};
 
 /// Why a function is refused (naga's `FunctionError`). Its text is for people: what is wrong, with the expression at fault
 /// where there is one, and the error inside it.
-#[derive(PartialEq, Debug, Drop)]
+#[derive(Debug, Drop)]
 pub enum FunctionError {
     /// An expression is refused.
     Expression {

@@ -10,7 +10,7 @@ use type_infos::LiteralError;
 use typing_operands::ResolveError;
 
 /// Why an expression of a function is refused (naga's `ExpressionError`).
-#[derive(PartialEq, Debug, Drop, Error)]
+#[derive(Debug, Drop, Error)]
 pub enum ExpressionError {
     /// A statement uses it where it is not yet in scope.
     #[error("it is not in scope where it is used")]

@@ -5,7 +5,7 @@ use ir_types::key;
 use thiserror::Error;
 
 /// Why a variable of a function is refused (naga's `LocalVariableError`).
-#[derive(Clone, Copy, PartialEq, Debug, Error)]
+#[derive(Clone, Copy, Debug, Error)]
 pub enum LocalVariableError {
     /// No variable is of this type.
     #[error("no variable is of type {0:?}")]

@@ -8,7 +8,7 @@ use thiserror::Error;
 use type_infos::{Disalignment, ImmediateError, TypeFlags};
 
 /// Why a global variable is refused (naga's `GlobalVariableError`).
-#[derive(Clone, Copy, PartialEq, Debug, Error)]
+#[derive(Clone, Copy, Debug, Error)]
 pub enum GlobalVariableError {
     /// No such variable lies in the space.
     #[error("no such variable lies in {0:?}")]

@@ -23,7 +23,7 @@ use type_checks::validate_literal;
 use typing_layout::ExpressionKind;
 
 /// A global expression that is refused (naga's `ValidationError::ConstExpression`).
-#[derive(PartialEq, Debug, Drop, Error)]
+#[derive(Debug, Drop, Error)]
 #[error("global expression {expression:?} is refused: {error}")]
 pub struct InvalidGlobalExpression {
     /// The expression.

@@ -16,7 +16,7 @@ use std::alloc::Global;
 use thiserror::Error;
 
 /// An override that is refused (naga's `ValidationError::Override`).
-#[derive(Clone, Copy, PartialEq, Debug, Error)]
+#[derive(Clone, Copy, Debug, Error)]
 #[error("override {id:?} is refused: {error}")]
 pub struct InvalidOverride {
     /// The override.

@@ -21,7 +21,7 @@ use type_infos::{TypeError, TypeInfo};
 use typing_layout::Layouter;
 
 /// A type that is refused (naga's `ValidationError::Type`).
-#[derive(Clone, Copy, PartialEq, Debug, Error)]
+#[derive(Clone, Copy, Debug, Error)]
 #[error("type {ty:?} is refused: {error}")]
 pub struct InvalidType {
     /// The type.

@@ -27,7 +27,7 @@ use typing_forms::TypeResolution;
 use typing_layout::ExpressionKindTracker;
 
 /// A global variable that is refused (naga's `ValidationError::GlobalVariable`).
-#[derive(Clone, Copy, PartialEq, Debug, Error)]
+#[derive(Clone, Copy, Debug, Error)]
 #[error("global variable {global:?} is refused: {error}")]
 pub struct InvalidGlobalVariable {
     /// The variable.

@@ -25,7 +25,7 @@ use std::alloc::Global;
 use thiserror::Error;
 
 /// An entry point that is refused (naga's `ValidationError::EntryPoint`).
-#[derive(PartialEq, Debug, Drop, Error)]
+#[derive(Debug, Drop, Error)]
 #[error("entry point {index} is refused: {error}")]
 pub struct InvalidEntryPoint {
     /// Its index among the module's entry points.

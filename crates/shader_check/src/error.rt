@@ -7,7 +7,7 @@ use std::fmt::{self, Display};
 use thiserror::Error;
 
 /// Why a module is refused (naga's `ValidationError`): the first step that fails, at the first item that fails it, and why.
-#[derive(PartialEq, Debug, Drop, Error)]
+#[derive(Debug, Drop, Error)]
 pub enum ValidationError {
     /// Handles are out of order, or a step up to overrides fails.
     #[error("{0}")]

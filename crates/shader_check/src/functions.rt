@@ -19,7 +19,7 @@ use std::alloc::Global;
 use thiserror::Error;
 
 /// A function that is refused (naga's `ValidationError::Function`).
-#[derive(PartialEq, Debug, Drop, Error)]
+#[derive(Debug, Drop, Error)]
 #[error("function {function:?} is refused: {error}")]
 pub struct InvalidFunction {
     /// The function.

@@ -8,7 +8,7 @@ use thiserror::Error;
 use typing_layout::Alignment;
 
 /// Why there is no scalar of a kind and a width (naga's `WidthError`).
-#[derive(Clone, Copy, PartialEq, Debug, Error)]
+#[derive(Clone, Copy, Debug, Error)]
 pub enum WidthError {
     /// No scalar of this kind takes so many bytes.
     #[error("there is no {0:?} scalar of {1} bytes")]
@@ -22,7 +22,7 @@ pub enum WidthError {
 }
 
 /// Why there is no such literal (naga's `LiteralError`, of values that are told by their bits).
-#[derive(Clone, Copy, PartialEq, Debug, Error)]
+#[derive(Clone, Copy, Debug, Error)]
 pub enum LiteralError {
     /// Its scalar is none that there is.
     #[error("the literal's scalar: {0}")]
@@ -30,7 +30,7 @@ pub enum LiteralError {
 }
 
 /// Why immediate data can't be of a type (naga's `ImmediateError`).
-#[derive(Clone, Copy, PartialEq, Debug, Error)]
+#[derive(Clone, Copy, Debug, Error)]
 pub enum ImmediateError {
     /// This scalar is inside, which takes two bytes.
     #[error("immediate data has no scalar {0:?}")]
@@ -38,7 +38,7 @@ pub enum ImmediateError {
 }
 
 /// What keeps a host from laying out a type (naga's `Disalignment`).
-#[derive(Clone, Copy, PartialEq, Debug, Error)]
+#[derive(Clone, Copy, Debug, Error)]
 pub enum Disalignment {
     /// The stride of an array is no multiple of what is asked of it.
     #[error("the stride {stride} is no multiple of {alignment}")]
@@ -82,7 +82,7 @@ pub enum Disalignment {
 }
 
 /// Why members can't be sources of a blend: what naga's `VaryingError` tells of a type.
-#[derive(Clone, Copy, PartialEq, Debug, Error)]
+#[derive(Clone, Copy, Debug, Error)]
 pub enum VaryingError {
     /// Values of the type don't go from one stage to the next.
     #[error("values of type {0:?} don't go between stages")]
@@ -124,7 +124,7 @@ pub enum VaryingError {
 }
 
 /// Why a type is refused (naga's `TypeError`; [`TypeError::Other`] is this project's own).
-#[derive(Clone, Copy, PartialEq, Debug, Error)]
+#[derive(Clone, Copy, Debug, Error)]
 pub enum TypeError {
     /// There is no such scalar.
     #[error("{0}")]

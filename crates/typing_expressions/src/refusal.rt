@@ -6,7 +6,7 @@ use std::alloc::AllocError;
 use typing_operands::ResolveError;
 
 /// Why not all expressions of a list have a type.
-#[derive(PartialEq, Debug, Drop)]
+#[derive(Debug, Drop)]
 pub enum TypingRefusal {
     /// A growth was refused.
     Memory(AllocError),
