@@ -25,6 +25,7 @@ pub enum ValidationError {
 
 /// The error of the item that is refused, by its name and with what it holds (as `{:?}` writes it), where
 /// [`ValidationError`] writes its text.
+#[derive(Clone, Copy)]
 pub struct Named<'a>(pub &'a ValidationError);
 
 // The error of a step up to overrides, by its name.

@@ -22,7 +22,7 @@ use ir_kinds::Severity;
 use std::alloc::{AllocError, Global};
 
 /// What asks that all invocations arrive at it together, and stands where they may not.
-#[derive(Clone, Copy, PartialEq, Debug)]
+#[derive(Clone, Copy, Debug)]
 pub struct NonUniform {
     /// What it asks for.
     pub requirements: UniformityRequirements,
