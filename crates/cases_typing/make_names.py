@@ -41,6 +41,17 @@ PARTS, LIMIT = 14, 150000
 STATED, DECLARED = ["CONSTANTS"], ["STRUCT_LAYOUTS", "CONSTANTS", "BINDINGS"]
 LINKED, ENTERED = ["BINDINGS"], ["EXPRESSIONS", "BLOCKS", "BINDINGS"]
 
+# the words of sets, by their bits
+FLAGS = "DATA SIZED COPY IO_SHAREABLE HOST_SHAREABLE CREATION_RESOLVED ARGUMENT CONSTRUCTIBLE".split()
+USES = "READ WRITE QUERY ATOMIC".split()
+
+
+def words(name, all_of_it, bits):
+    """A set as it is printed."""
+    held = [word for place, word in enumerate(all_of_it) if bits >> place & 1]
+    return "%s(%s)" % (name, " | ".join(held) or "0x0")
+
+
 # ---- types
 
 BOOL, U16, U32, I32, F16, F32, F64 = ([None, ["Scalar", word]] for word in "bool u16 u32 i32 f16 f32 f64".split())
@@ -310,11 +321,11 @@ def told(name, errors, types, *variables, flags=DECLARED, **more):
 
 
 def unfit(required, seen):
-    return "MissingTypeFlags { required: TypeFlags(%d), seen: TypeFlags(%d) }" % (required, seen)
+    return "MissingTypeFlags { required: %s, seen: %s }" % (words("TypeFlags", FLAGS, required), words("TypeFlags", FLAGS, seen))
 
 
 def unaligned(space, ty, fault):
-    printed = "Storage { access: StorageAccess(1) }" if space == LOADED else space
+    printed = "Storage { access: StorageAccess(LOAD) }" if space == LOADED else space
     return "Alignment(%s, %s, %s)" % (printed, handle(ty), fault)
 
 
@@ -435,7 +446,7 @@ GLOBALS = [
     told("begins as an override", None, [F32], variable("Private", 0, init=0), expressions=[["Override", 0]], overrides=LENGTH),
     told("variable of a workgroup begins as a number", "InitializerNotAllowed(WorkGroup)", [F32],
          variable("WorkGroup", 0, init=0), expressions=[HALF]),
-    told("storage buffer begins as a number", "InitializerNotAllowed(Storage { access: StorageAccess(3) })", [F32],
+    told("storage buffer begins as a number", "InitializerNotAllowed(Storage { access: StorageAccess(LOAD | STORE) })", [F32],
          variable(storage("STORE", "LOAD"), 0, BOUND, init=0), expressions=[HALF]),
     # what a space asks besides
     told("storage buffer that is written alone", "StorageAddressSpaceWriteOnlyNotSupported", [U32],
@@ -685,7 +696,7 @@ def task(name, errors, *variables, types=(U32, U3), payload=0, result=(1, is_("M
 
 
 def wrong_use(place, bits):
-    return "InvalidGlobalUsage(%s, GlobalUse(%d))" % (handle(place), bits)
+    return "InvalidGlobalUsage(%s, %s)" % (handle(place), words("GlobalUse", USES, bits))
 
 
 def texel_put(*access):
