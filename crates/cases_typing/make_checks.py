@@ -18,7 +18,7 @@ import sys
 from pathlib import Path
 
 from make_data import handles, module
-from make_infos import capability, error as type_error, lines, nameless
+from make_infos import capability, error as type_error, lines, nameless, placeless
 from make_types import error as resolve_error, handle
 
 LIMIT = 900000
@@ -197,7 +197,7 @@ def waits(document):
 
 def name_of(answer):
     """An answer without the item and the parts of the fault."""
-    return " ".join(answer.split()[::2][:2])
+    return " ".join(placeless(answer).split()[::2][:2])
 
 
 def asked(folder):

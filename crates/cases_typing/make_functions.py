@@ -8,7 +8,7 @@ beside this script where none is given. Without --all the shortest documents are
 and one for each set of flags; the worked rows below are always taken.
 
 The answer is `accepted`, or the first function that is refused, or else the first entry point's, with the error as
-model_functions.py tells it. The model has to refuse what the corpus says is refused. A case has two answers where either of
+model_functions.py tells it; where an entry point is refused for something else, its document is left out. The model has to refuse what the corpus says is refused. A case has two answers where either of
 two errors may be told, and is left out where one of more.
 """
 import json
@@ -232,6 +232,11 @@ def kind(statement):
     return statement[1][:1] if statement[0] == "SubgroupGather" else []
 
 
+def beside(words, told):
+    """Whether an entry point is refused for what is no matter of functions: what is wrong with one is not what is answered."""
+    return words[1:2] == ["entry"] and told[0].split()[:2] != words[1:3]
+
+
 def cases(folder):
     for name in ("functions.jsonl", "whole.jsonl"):
         for text in open(folder / name, encoding="utf-8"):
@@ -241,7 +246,7 @@ def cases(folder):
                 document = json.loads(line["document"])
                 assert agrees(line["output"], judged(document)), line["name"]
                 told = answers(document)
-                if len(told) < 3:
+                if len(told) < 3 and not beside(words, told):
                     case = ["%s/%s" % (name[:-6], line["name"]), "functions", line["document"], *told]
                     yield case, set(marks(document, told))
 

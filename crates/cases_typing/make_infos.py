@@ -8,6 +8,7 @@ the one fault that stands where it refuses, or `one_of` where there are several.
 data/ beside this script where none is given. Without --all the documents are chosen for coverage.
 """
 import json
+import re
 import sys
 from pathlib import Path
 
@@ -97,6 +98,11 @@ def nameless(inner):
     return "MissingCapability(%s)" % capability("DUAL_SOURCE_BLENDING") if inner[0] == "Struct" else "Other"
 
 
+def placeless(answer):
+    """An answer without the places of handles."""
+    return re.sub(r"\[\d+\]", "[]", answer)
+
+
 def told(case):
     """The answer that is expected where the types are reached, or None."""
     document, words = json.loads(case["document"]), case["output"].split()
@@ -126,7 +132,7 @@ def asked(folder):
         answer = told(case)
         if answer is not None:
             whole = answer.count(" ") > 1
-            marks = {("refused", *answer.split()[2:4])} if whole else {(answer.split()[0],)}
+            marks = {("refused", *placeless(answer).split()[2:4])} if whole else {(answer.split()[0],)}
             yield case["name"], "infos" if whole else "refused", case["document"], answer, marks
 
 

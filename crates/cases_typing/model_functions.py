@@ -621,7 +621,7 @@ class Function:
             return self.fault("InvalidImageAtomic", "InvalidImageClass")
         _, format, access = form[3]
         if "ATOMIC" not in access:
-            self.fault("InvalidImageAtomic", "InvalidImageStorageAccess", sum(ACCESS[word] for word in access))
+            self.fault("InvalidImageAtomic", "InvalidImageStorageAccess", sum(1 << ACCESS.index(word) for word in access))
         self.format_faults(format, fun)
         if self.forms[value] != ("Scalar", format_scalar(format)):
             self.fault("InvalidImageAtomicValue", value)
