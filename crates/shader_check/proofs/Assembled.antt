@@ -1,9 +1,9 @@
 -- What is answered of a whole module, put together of its steps.
 use Rattle.std.proofs.Common.{◌≡◌, ◌∙◌, ℕ, Bool, List, length, Option, Result, Ok, Err, IfErr, sym, ap, subst}
-use Rattle.shader_check.proofs.EntryByChains.{accepted_at, entry_fault}
+use Rattle.shader_check.proofs.EntryByChains.{accepted_at, entry_fault, noted_by_chains}
 use Rattle.shader_check.proofs.Staged.{are_stages}
 use Rattle.shader_check.specs.Judged.{AreJudged}
-use Rattle.shader_check.specs.JudgedEntries.{AreEntriesJudged, IsEntryRefusal}
+use Rattle.shader_check.specs.JudgedEntries.{AreEntriesJudged, AreEntryNotes, IsEntryRefusal, Note}
 use Rattle.shader_check.specs.Validated.{AreEntriesKept, IsEntryFault, IsFaultBehind, IsKeptWith, IsRefusedWith, IsToldBy, IsValidated, IsValidationFault, module_settings}
 use Rattle.shader_check.specs.declared.entries.InvalidEntryPoint.{InvalidEntryPoint}
 use Rattle.shader_check.specs.declared.error.ValidationError.{ValidationError}
@@ -29,7 +29,7 @@ use Rattle.module_validator.specs.declared.validator.ModuleValidator.{ModuleVali
 use Rattle.real_lower.specs.Made.{IsMadeOf}
 use Rattle.real_lower.specs.Readings.{reading_of, faults_of}
 use Rattle.spec_analysis.specs.Summaries.{Summary}
-use Rattle.spec_entries.specs.Modules.{AreStages}
+use Rattle.spec_entries.specs.Modules.{AreStages, reading_with}
 use Rattle.spec_expressions.specs.Context.{outside}
 use Rattle.spec_globals.specs.Globals.{GlobalsOK}
 use Rattle.spec_handles.specs.InOrder.{HandlesOK}
@@ -55,15 +55,19 @@ widened P Q widen (refusal.Fault f) h = (widen (error_of f) h.0, h.1)
 -- ---- functions and entry points
 
 module _ (s : FunctionSettings) (m : PlainModule) (handles : HandlesOK m) (summaries : List Summary) (stages : List ShaderStages) (held : Option ℕ) (judged : AreJudged reading_of s m (length m.functions) summaries stages held) where
-  run_so : AreStages s m stages
+  pub run_so : AreStages s m stages
   run_so = are_stages s m stages (λ i f there. ((order_gives_conditions m handles).functions i f there).callees) judged.counted judged.stages
 
-  pub entries_kept : (kept : List Summary) (after : Option ℕ) → AreEntriesJudged reading_of s m summaries stages (length m.entries) kept after → AreEntriesKept s m kept
-  entries_kept kept after e = record {
+  pub entries_kept : (kept : List Summary) (notes : List Note) (after : Option ℕ) → AreEntriesJudged reading_of s m summaries stages (length m.entries) kept notes after → AreEntriesKept s m kept
+  entries_kept kept notes after e = record {
     accepted = λ i lt. accepted_at s m handles summaries judged.many judged.known stages run_so i (e.accepted i lt);
     many = e.many;
     known = e.known;
   }
+
+  pub entries_noted : (kept : List Summary) (notes : List Note) (after : Option ℕ) → AreEntriesJudged reading_of s m summaries stages (length m.entries) kept notes after
+      → AreEntryNotes (λ e. reading_with stages m e.function) s m stages notes
+  entries_noted kept notes after j index e n at there = noted_by_chains s m e summaries stages n.0 n.1 (j.noted index e n at there)
 
   pub entry_refused : (r : Refusal InvalidEntryPoint) → IsEntryRefusal reading_of faults_of s m summaries stages r → IsRefusedWith (IsEntryFault s m) r
   entry_refused (refusal.Memory a) h = tt
@@ -92,6 +96,7 @@ module _ (s : FunctionSettings) (resolved : Bool) (m : PlainModule) where
       globals = globals;
       functions = kept.functions;
       entries = kept.entries;
+      noted = kept.noted;
       types = subst (λ v. AreAccepted s.capabilities resolved m.types v.items) (sym kept.types) told.types;
       layouts = subst (AreLayouts m.types) (sym kept.layouts) told.layouts;
       laid = ap length kept.layouts ∙ told.laid;

@@ -1,8 +1,9 @@
 -- What is read of entry points with summaries of the functions is read by chains of calls.
-use Rattle.std.proofs.Common.{◌≡◌, ℕ, List, length, Option, Some, sym, subst, ◌∙◌, slice_get}
+use Rattle.std.proofs.Common.{◌≡◌, ℕ, Bool, List, length, Option, Some, sym, subst, ◌∙◌, slice_get}
 use Rattle.std.proofs.lemmas.Option.{slice_get_within}
 use Rattle.entry_checks.specs.declared.error.EntryPointError.{EntryPointError}
 use Rattle.function_lower.specs.Question.{question}
+use Rattle.function_validator.specs.Validated.{IsEntryNoted}
 use Rattle.shader_check.proofs.ByChains.{ok_by_chains, ok_by_summaries}
 use Rattle.shader_check.proofs.Chained.{some_is}
 use Rattle.shader_check.proofs.EntryHeld.{one_entry_held}
@@ -75,6 +76,17 @@ module _ (m : PlainModule) (e : PlainEntry) (summaries : List Summary) (stages :
     runs = runs_by_summaries (stage_set e.stage).0 ok.runs;
     connections = ok.connections;
   }
+
+-- what is noted of one
+pub noted_by_chains : (s : FunctionSettings) (m : PlainModule) (e : PlainEntry) (summaries : List Summary) (stages : List ShaderStages) (own : ShaderStages) (blending : Bool)
+    → IsEntryNoted (reading_of (question m e.function summaries stages)) stages s m e own blending → IsEntryNoted (reading_with stages m e.function) stages s m e own blending
+noted_by_chains s m e summaries stages own blending n = record {
+  run = λ stage. (
+    (λ h. (let r = (n.run stage).0 h in (r.0, record { statements = r.1.statements; expressions = r.1.expressions }))),
+    (λ r. (n.run stage).1 (r.0, record { statements = r.1.statements; expressions = r.1.expressions })),
+  );
+  blended = n.blended;
+}
 
 -- ---- all of them
 

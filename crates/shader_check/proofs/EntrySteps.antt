@@ -1,17 +1,17 @@
 -- The entry points of a module, one more of them judged.
-use Rattle.std.proofs.Common.{◌≡◌, inl, inr, ℕ, ◌+◌, ◌<◌, List, [], ◌∷◌, ◌++◌, length, Option, Some, refl, sym, ap, subst, ◌∙◌, arith, slice_get}
+use Rattle.std.proofs.Common.{◌≡◌, inl, inr, ℕ, Bool, ◌+◌, ◌<◌, List, [], ◌∷◌, ◌++◌, length, Option, Some, refl, sym, ap, subst, ◌∙◌, arith, slice_get}
 use Rattle.std.proofs.lemmas.List.Elements.{Contains-append_left, Contains-append_right}
 use Rattle.std.proofs.lemmas.Option.{slice_get_cases}
 use Rattle.std.specs.Prelude.{Contains, IfSome, None, option_to_list}
 use Rattle.entry_checks.specs.Faults.{IsRefusedFor}
 use Rattle.entry_checks.specs.declared.error.EntryPointError.{EntryPointError}
 use Rattle.function_validator.specs.EntryFaults.{IsRefusedAs}
-use Rattle.function_validator.specs.Validated.{IsEntrySummary, IsEntryValidated}
+use Rattle.function_validator.specs.Validated.{IsEntryNoted, IsEntrySummary, IsEntryValidated}
 use Rattle.function_lower.specs.Analysis.{Faults}
 use Rattle.function_lower.specs.Question.{Question, question}
 use Rattle.shader_check.proofs.Chained.{one_more_at, some_is, one_longer, below_or_here}
 use Rattle.shader_check.proofs.EntryHeld.{entry_held_next}
-use Rattle.shader_check.specs.JudgedEntries.{reading_at, IsEntryAcceptedAt, IsEntryRefusedAt, conflicting, unaccepted, AreEntrySummaries, AreEntriesJudged, IsFirstEntryRefused, IsEntryToldAt, IsConflictTold, IsEntryRefusal}
+use Rattle.shader_check.specs.JudgedEntries.{reading_at, Note, IsEntryAcceptedAt, IsEntryRefusedAt, conflicting, unaccepted, AreEntryNotes, AreEntrySummaries, AreEntriesJudged, IsFirstEntryRefused, IsEntryToldAt, IsConflictTold, IsEntryRefusal}
 use Rattle.shader_check.specs.declared.entries.InvalidEntryPoint.{InvalidEntryPoint}
 use Rattle.ir_faults.specs.Faults.{error_of}
 use Rattle.ir_faults.specs.declared.refusal.Refusal.{Refusal}
@@ -76,11 +76,11 @@ module _ (m : PlainModule) (handles : HandlesOK m) (n : ℕ) (e : PlainEntry) (a
   pub output_there : IfSome e.mesh (λ (i : MeshStageInfo). i.output_variable < length m.globals)
   output_there = output_by e.mesh (λ i is. variable_there i.output_variable (in_output e.payload i e.mesh is))
 
-  module _ (reading : Question → Reading) (faults : Question → Faults) (s : FunctionSettings) (summaries : List Summary) (stages : List ShaderStages) (kept : List Summary) (held : Option ℕ)
-      (judged : AreEntriesJudged reading s m summaries stages n kept held) where
+  module _ (reading : Question → Reading) (faults : Question → Faults) (s : FunctionSettings) (summaries : List Summary) (stages : List ShaderStages) (kept : List Summary) (notes : List Note) (held : Option ℕ)
+      (judged : AreEntriesJudged reading s m summaries stages n kept notes held) where
     -- ---- accepted
 
-    module _ (apart : ¬ IsConflict m n e) (t : Summary) (own : ShaderStages) (blending : _) (after : Option ℕ)
+    module _ (apart : ¬ IsConflict m n e) (t : Summary) (own : ShaderStages) (blending : Bool) (after : Option ℕ)
         (v : IsEntryValidated (reading_at reading m summaries stages e) stages (entry_settings s held) m e t own blending after) where
       accepted_here : IsEntryAcceptedAt reading s m summaries stages n
       accepted_here = record { entry = e; at = at; held = held; before = judged.payloads; apart = apart; ok = v.ok }
@@ -94,7 +94,27 @@ module _ (m : PlainModule) (handles : HandlesOK m) (n : ℕ) (e : PlainEntry) (a
             subst (IsEntrySummary m f) last.1 (subst (λ (g : PlainEntry). IsEntrySummary m g t) same v.summary))
       ]
 
-      pub judged_more : AreEntriesJudged reading s m summaries stages (n + 1) (kept ++ t ∷ []) after
+      -- whatever payloads are held
+      noted_here : IsEntryNoted (reading_at reading m summaries stages e) stages s m e own blending
+      noted_here = record {
+        run = λ stage. (
+          (λ h. (let r = (v.noted.run stage).0 h in (r.0, record { statements = r.1.statements; expressions = r.1.expressions }))),
+          (λ r. (v.noted.run stage).1 (r.0, record { statements = r.1.statements; expressions = r.1.expressions })),
+        );
+        blended = v.noted.blended;
+      }
+
+      notes_more : AreEntryNotes (reading_at reading m summaries stages) s m stages (notes ++ (own, blending) ∷ [])
+      notes_more i f u found noted = elim (one_more_at notes (own, blending) i u noted) [
+        | inl before ↦ judged.noted i f u found before
+        | inr last ↦
+            (let here : i ≡ n = last.0 ∙ judged.counted in
+            let same : e ≡ f = some_is (sym at ∙ (ap (slice_get m.entries) (sym here) ∙ found)) in
+            subst (λ (w : Note). IsEntryNoted (reading_at reading m summaries stages f) stages s m f w.0 w.1) last.1
+            (subst (λ (g : PlainEntry). IsEntryNoted (reading_at reading m summaries stages g) stages s m g own blending) same noted_here))
+      ]
+
+      pub judged_more : AreEntriesJudged reading s m summaries stages (n + 1) (kept ++ t ∷ []) (notes ++ (own, blending) ∷ []) after
       judged_more = record {
         accepted = λ i lt. elim (below_or_here i n lt) [
           | inl before ↦ judged.accepted i before
@@ -102,6 +122,8 @@ module _ (m : PlainModule) (handles : HandlesOK m) (n : ℕ) (e : PlainEntry) (a
         ];
         many = one_longer kept t n judged.many;
         known = summaries_more;
+        counted = one_longer notes (own, blending) n judged.counted;
+        noted = notes_more;
         payloads = subst (λ k. IsHeldBeforeEntry s.flags m k after) (omega arith) (entry_held_next s.flags m n e at held after judged.payloads (λ asked. (v.ok.function.body asked).payloads) v.after);
       }
 
@@ -141,11 +163,13 @@ module _ (m : PlainModule) (handles : HandlesOK m) (n : ℕ) (e : PlainEntry) (a
 
 -- none is judged at first
 pub none_judged : (reading : Question → Reading) (s : FunctionSettings) (m : PlainModule) (summaries : List Summary) (stages : List ShaderStages) (held : Option ℕ) → IsHeldBeforeEntry s.flags m 0 held
-    → AreEntriesJudged reading s m summaries stages 0 [] held
+    → AreEntriesJudged reading s m summaries stages 0 [] [] held
 none_judged reading s m summaries stages held before = record {
   accepted = λ i lt. absurd (omega (arith, lt));
   many = refl;
   known = λ i e t at there. absurd (let h = there in cc);
+  counted = refl;
+  noted = λ i e n at there. absurd (let h = there in cc);
   payloads = before;
 }
 

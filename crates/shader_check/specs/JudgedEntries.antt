@@ -1,11 +1,11 @@
 -- What is said of the entry points of a module that are judged one after the other.
-use Rattle.std.specs.Prelude.{◌≡◌, ◌<◌, ℕ, [], List, length, Option, Some, slice_get}
+use Rattle.std.specs.Prelude.{◌≡◌, ◌<◌, ℕ, [], Bool, List, length, Option, Some, slice_get}
 use Rattle.entry_checks.specs.declared.error.EntryPointError.{EntryPointError}
 use Rattle.entry_checks.specs.declared.error.EntryPointError.TheVariants.{Conflict}
 use Rattle.function_lower.specs.Analysis.{Faults}
 use Rattle.function_lower.specs.Question.{Question, question}
 use Rattle.function_validator.specs.EntryFaults.{IsRefusedAs}
-use Rattle.function_validator.specs.Validated.{IsEntrySummary}
+use Rattle.function_validator.specs.Validated.{IsEntryNoted, IsEntrySummary}
 use Rattle.shader_check.specs.declared.entries.InvalidEntryPoint.{InvalidEntryPoint}
 use Rattle.ir_faults.specs.Faults.{error_of, spans_of}
 use Rattle.ir_faults.specs.declared.refusal.Refusal.{Refusal}
@@ -49,11 +49,25 @@ pub record IsEntryRefusedAt (reading : Question → Reading) (faults : Question 
 abbrev pub AreEntrySummaries : PlainModule → List Summary → Type 0
 AreEntrySummaries m kept = (index : ℕ) (e : PlainEntry) (t : Summary) → slice_get m.entries index ≡ Some e → slice_get kept index ≡ Some t → IsEntrySummary m e t
 
--- The first so many entry points are accepted; these summaries are theirs, and this type of payloads is held after them.
-pub record AreEntriesJudged (reading : Question → Reading) (s : FunctionSettings) (m : PlainModule) (summaries : List Summary) (stages : List ShaderStages) (count : ℕ) (kept : List Summary) (held : Option ℕ) : Type 0 where
+-- what is noted of a function: which stages may run it, and whether two sources of a blend are among what it answers
+abbrev pub Note : Type 0
+Note = ShaderStages × Bool
+
+abbrev pub note_of : {Info : Type 0} → (Info → ShaderStages) → (Info → Bool) → Info → Note
+note_of noted blending i = (noted i, blending i)
+
+-- this is noted of the functions of the first entry points
+abbrev pub AreEntryNotes : (PlainEntry → Reading) → FunctionSettings → PlainModule → List ShaderStages → List Note → Type 0
+AreEntryNotes reading s m stages notes = (index : ℕ) (e : PlainEntry) (n : Note) → slice_get m.entries index ≡ Some e → slice_get notes index ≡ Some n → IsEntryNoted (reading e) stages s m e n.0 n.1
+
+-- The first so many entry points are accepted; these summaries are theirs, this is noted of them, and this type of payloads is held
+-- after them.
+pub record AreEntriesJudged (reading : Question → Reading) (s : FunctionSettings) (m : PlainModule) (summaries : List Summary) (stages : List ShaderStages) (count : ℕ) (kept : List Summary) (notes : List Note) (held : Option ℕ) : Type 0 where
   pub accepted : (index : ℕ) → index < count → IsEntryAcceptedAt reading s m summaries stages index
   pub many : length kept ≡ count
   pub known : AreEntrySummaries m kept
+  pub counted : length notes ≡ count
+  pub noted : AreEntryNotes (reading_at reading m summaries stages) s m stages notes
   pub payloads : IsHeldBeforeEntry s.flags m count held
 
 -- The entry point is refused for this, and each before it is accepted.

@@ -1,8 +1,9 @@
 -- What is answered of a whole module.
 use Rattle.std.specs.Prelude.{◌≡◌, [], Bool, List, length, map}
 use Rattle.analysis_info.specs.Infos.{summary_of}
+use Rattle.analysis_info.specs.declared.function_info.FunctionInfo.{FunctionInfo}
 use Rattle.shader_check.specs.Chains.{AreKept, IsFunctionFault}
-use Rattle.shader_check.specs.JudgedEntries.{AreEntrySummaries, IsEntryRefusedAt}
+use Rattle.shader_check.specs.JudgedEntries.{AreEntryNotes, AreEntrySummaries, IsEntryRefusedAt, Note, note_of}
 use Rattle.shader_check.specs.declared.entries.InvalidEntryPoint.{InvalidEntryPoint}
 use Rattle.shader_check.specs.declared.error.ValidationError.{ValidationError}
 use Rattle.shader_check.specs.declared.error.ValidationError.TheVariants as error
@@ -10,7 +11,7 @@ use Rattle.ir_faults.specs.Faults.{error_of, spans_of}
 use Rattle.ir_faults.specs.declared.refusal.Refusal.{Refusal}
 use Rattle.ir_faults.specs.declared.refusal.Refusal.TheVariants as refusal
 use Rattle.ir_flags.specs.declared.stages.ShaderStages.{ShaderStages}
-use Rattle.ir_items.specs.Plain.{PlainModule}
+use Rattle.ir_items.specs.Plain.{PlainEntry, PlainModule}
 use Rattle.module_info.specs.declared.info.ModuleInfo.{ModuleInfo}
 use Rattle.module_types.specs.Validated.{AreAccepted}
 use Rattle.module_validator.specs.Faults.{IsModuleFault}
@@ -18,7 +19,7 @@ use Rattle.module_validator.specs.Refusals.{IsVariableFault}
 use Rattle.real_lower.specs.Readings.{reading_of, faults_of}
 use Rattle.spec_analysis.specs.Summaries.{Summary, AreSummaries}
 use Rattle.spec_entries.specs.Modules as entries
-use Rattle.spec_entries.specs.Modules.{EntriesOK, AreStages}
+use Rattle.spec_entries.specs.Modules.{EntriesOK, AreStages, reading_with}
 use Rattle.spec_expressions.specs.Context.{outside}
 use Rattle.spec_functions.specs.Functions.{FunctionsOK}
 use Rattle.spec_globals.specs.Globals.{GlobalsOK}
@@ -38,12 +39,24 @@ pub record AreEntriesKept (s : FunctionSettings) (m : PlainModule) (kept : List 
   pub many : length kept ≡ length m.entries
   pub known : AreEntrySummaries m kept
 
+-- these stages may run a function
+abbrev pub stages_of : FunctionInfo → ShaderStages
+stages_of i = i.available_stages
+
+-- What is noted of functions and of entry points: which stages may run each of them, with the functions that it calls, and whether
+-- an entry point answers two sources of a blend.
+pub record AreNoted (s : FunctionSettings) (m : PlainModule) (functions entries : List FunctionInfo) : Type 0 where
+  pub run : AreStages s m (map stages_of functions)
+  pub counted : length entries ≡ length m.entries
+  pub entries_noted : AreEntryNotes (λ e. reading_with (map stages_of functions) m e.function) s m (map stages_of functions) (map (note_of stages_of (λ i. i.dual_source_blending)) entries)
+
 -- All steps accept the module, and this is kept of it.
 pub record IsValidated (s : FunctionSettings) (resolved : Bool) (m : PlainModule) (info : ModuleInfo) : Type 0 where
   pub ok : ModuleOK (module_settings s resolved) m
   pub globals : GlobalsOK s.flags s.capabilities m
   pub functions : AreKept s m (map summary_of info.functions.items)
   pub entries : AreEntriesKept s m (map summary_of info.entry_points.items)
+  pub noted : AreNoted s m info.functions.items info.entry_points.items
   pub types : AreAccepted s.capabilities resolved m.types info.types.items
   pub layouts : AreLayouts m.types info.layouter
   pub laid : length info.layouter ≡ length m.types
@@ -77,6 +90,7 @@ IsRefusedWith IsFault (refusal.Fault e) = IsFault (error_of e) × (spans_of e �
 pub record IsKeptWith (s : FunctionSettings) (m : PlainModule) (before info : ModuleInfo) : Type 0 where
   pub functions : AreKept s m (map summary_of info.functions.items)
   pub entries : AreEntriesKept s m (map summary_of info.entry_points.items)
+  pub noted : AreNoted s m info.functions.items info.entry_points.items
   pub types : info.types ≡ before.types
   pub layouts : info.layouter ≡ before.layouter
   pub expressions : info.const_expression_types ≡ before.const_expression_types

@@ -2,7 +2,7 @@
 
 ghost use Rattle.std.specs.Prelude.{◌≡◌, ◌<◌, ◌+◌, ◌++◌, ◌∷◌, [], MatchResult, OnOk, Some, length, map, slice_get};
 ghost use Rattle.function_validator.specs.Names.{AreNamesBelow};
-ghost use Rattle.shader_check.specs.JudgedEntries.{AreEntriesJudged, IsConflictTold, IsEntryRefusal, IsEntryToldAt};
+ghost use Rattle.shader_check.specs.JudgedEntries.{AreEntriesJudged, IsConflictTold, IsEntryRefusal, IsEntryToldAt, note_of};
 ghost use Rattle.shader_check.specs.Settings.{settings_in};
 ghost use Rattle.ir_items.specs.Plain.{PlainEntry};
 ghost use Rattle.ir_items.specs.View.{module_view};
@@ -96,11 +96,12 @@ fn judge_next<L: Lower>(
     requires many { length callees.now ≡ length (module_view «module».now).functions }
     requires known { AreSummaries (module_view «module».now) (map (L.summary validator.now.lower) callees.now) }
     requires apart { (e : PlainEntry) → slice_get (module_view «module».now).entries index ≡ Some e → ¬ IsConflict (module_view «module».now) index e }
-    requires before { AreEntriesJudged (L.reading validator.now.lower) (settings_in validator.now) (module_view «module».now) (map (L.summary validator.now.lower) callees.now) (map (L.noted validator.now.lower) callees.now) index (map (L.summary validator.now.lower) kept.now) held }
+    requires before { AreEntriesJudged (L.reading validator.now.lower) (settings_in validator.now) (module_view «module».now) (map (L.summary validator.now.lower) callees.now) (map (L.noted validator.now.lower) callees.now) index (map (L.summary validator.now.lower) kept.now) (map (note_of (L.noted validator.now.lower) (L.blending validator.now.lower)) kept.now) held }
     ensures { let summaries = map (L.summary validator.now.lower) callees.now in
         let stages = map (L.noted validator.now.lower) callees.now in
+        let note = note_of (L.noted validator.now.lower) (L.blending validator.now.lower) in
         MatchResult result
-        (λ v. AreEntriesJudged (L.reading validator.now.lower) (settings_in validator.now) (module_view «module».now) summaries stages (index + 1) (map (L.summary validator.now.lower) kept.now ++ L.summary validator.now.lower v.info ∷ []) v.held)
+        (λ v. AreEntriesJudged (L.reading validator.now.lower) (settings_in validator.now) (module_view «module».now) summaries stages (index + 1) (map (L.summary validator.now.lower) kept.now ++ L.summary validator.now.lower v.info ∷ []) (map note kept.now ++ note v.info ∷ []) v.held)
         (IsEntryRefusal (L.reading validator.now.lower) (L.faults validator.now.lower) (settings_in validator.now) (module_view «module».now) summaries stages) }
 {
     let settings = FunctionSettings {
@@ -140,7 +141,7 @@ pub(crate) fn judge_entries<L: Lower>(
     ensures { let summaries = map (L.summary validator.now.lower) callees.now in
         let stages = map (L.noted validator.now.lower) callees.now in
         MatchResult result
-        (λ j. AreEntriesJudged (L.reading validator.now.lower) (settings_in validator.now) (module_view «module».now) summaries stages (length (module_view «module».now).entries) (map (L.summary validator.now.lower) j.infos.items) j.held)
+        (λ j. AreEntriesJudged (L.reading validator.now.lower) (settings_in validator.now) (module_view «module».now) summaries stages (length (module_view «module».now).entries) (map (L.summary validator.now.lower) j.infos.items) (map (note_of (L.noted validator.now.lower) (L.blending validator.now.lower)) j.infos.items) j.held)
         (IsEntryRefusal (L.reading validator.now.lower) (L.faults validator.now.lower) (settings_in validator.now) (module_view «module».now) summaries stages) }
 {
     let alloc = validator.alloc;

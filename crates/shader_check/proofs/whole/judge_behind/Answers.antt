@@ -2,13 +2,13 @@ use Rattle.std.proofs.Common.{◌∙◌, List, length, map, sym, ap, subst}
 use Rattle.std.proofs.lemmas.List.{length-map}
 use Rattle.analysis_info.specs.Infos.{summary_of}
 use Rattle.analysis_info.specs.declared.function_info.FunctionInfo.{FunctionInfo}
-use Rattle.shader_check.proofs.Assembled.{entries_kept, entry_refused, told_by}
+use Rattle.shader_check.proofs.Assembled.{entries_kept, entries_noted, entry_refused, run_so, told_by}
 use Rattle.shader_check.proofs.EntryHeld.{held_behind_functions}
 use Rattle.shader_check.proofs.FunctionKept.{kept, refused_by}
 use Rattle.shader_check.specs.Chains.{AreKept, IsFunctionFault}
-use Rattle.shader_check.specs.JudgedEntries.{AreEntriesJudged, IsEntryRefusal}
+use Rattle.shader_check.specs.JudgedEntries.{AreEntriesJudged, IsEntryRefusal, note_of}
 use Rattle.shader_check.specs.Settings.{settings_in}
-use Rattle.shader_check.specs.Validated.{AreEntriesKept, IsEntryFault, IsFaultBehind}
+use Rattle.shader_check.specs.Validated.{AreEntriesKept, AreNoted, IsEntryFault, IsFaultBehind}
 use Rattle.shader_check.specs.declared.error.ValidationError.TheVariants as error
 use Rattle.ir_items.specs.View.{module_view}
 use Rattle.module_info.specs.declared.info.ModuleInfo.{ModuleInfo}
@@ -42,16 +42,23 @@ returns-in-Ok-judge_entries c =
     let s = settings_in c.args.own in
     let m = module_view c.args.«module».now in
     let stages = λ (i : FunctionInfo). i.available_stages in
+    let note = note_of stages (λ (i : FunctionInfo). i.dual_source_blending) in
     let functions = c.in-Ok.functions.infos.items in
     let entries = c.in-Ok-judge_entries.entries in
-    let judged = subst (λ (xs : List FunctionInfo). AreEntriesJudged reading_of s m (map summary_of xs) (map stages xs) (length m.entries) (map summary_of entries.infos.items) entries.held) c.deref.ensures.value c.in-Ok-judge_entries.ensures in
+    let judged = subst (λ (xs : List FunctionInfo). AreEntriesJudged reading_of s m (map summary_of xs) (map stages xs) (length m.entries) (map summary_of entries.infos.items) (map note entries.infos.items) entries.held) c.deref.ensures.value c.in-Ok-judge_entries.ensures in
     let with = c.with_entry_points.ensures in
     let own = c.with_functions-info.ensures in
     let given = c.into_info.ensures in
+    let info = c.with_entry_points.result in
     record {
       functions = subst (λ v. AreKept s m (map summary_of v.items)) (sym (with.functions ∙ own.functions)) (kept s m (map summary_of functions) (map stages functions) c.in-Ok.functions.held c.in-Ok.ensures);
       entries = subst (λ v. AreEntriesKept s m (map summary_of v.items)) (sym with.entry_points)
-          (entries_kept s m c.requires.made.handles (map summary_of functions) (map stages functions) c.in-Ok.functions.held c.in-Ok.ensures (map summary_of entries.infos.items) entries.held judged);
+          (entries_kept s m c.requires.made.handles (map summary_of functions) (map stages functions) c.in-Ok.functions.held c.in-Ok.ensures (map summary_of entries.infos.items) (map note entries.infos.items) entries.held judged);
+      noted = subst (λ v. AreNoted s m v.items info.entry_points.items) (sym (with.functions ∙ own.functions)) (subst (λ v. AreNoted s m functions v.items) (sym with.entry_points) (record {
+        run = run_so s m c.requires.made.handles (map summary_of functions) (map stages functions) c.in-Ok.functions.held c.in-Ok.ensures;
+        counted = sym (length-map entries.infos.items summary_of) ∙ judged.many;
+        entries_noted = entries_noted s m c.requires.made.handles (map summary_of functions) (map stages functions) c.in-Ok.functions.held c.in-Ok.ensures (map summary_of entries.infos.items) (map note entries.infos.items) entries.held judged;
+      }));
       types = with.types ∙ (own.types ∙ ap (λ (i : ModuleInfo). i.types) given);
       layouts = with.layouts ∙ (own.layouts ∙ ap (λ (i : ModuleInfo). i.layouter) given);
       expressions = with.expressions ∙ (own.expressions ∙ ap (λ (i : ModuleInfo). i.const_expression_types) given);
