@@ -4,7 +4,7 @@ use Rattle.spec_analysis.proofs.Members.{get-within}
 use Rattle.ir_items.specs.Plain.{PlainFunction, PlainModule}
 use Rattle.spec_handles.specs.Conditions.{HandlesInRange}
 use Rattle.spec_handles.specs.References.{done, statement_calls}
-use Rattle.typing_conditions.specs.Tests.{PassesWrongCount, count_of, fault_at}
+use Rattle.typing_conditions.specs.Tests.{PassesWrongCount, count_of}
 use Rattle.typing_conditions.specs.declared.arities.ArityFault.{ArityFault}
 
 pub never_missing : (m : PlainModule) (f : PlainFunction) (x : ArityFault) → HandlesInRange m f → PassesWrongCount m f x → x.required ≡ None → ⊥
@@ -12,14 +12,3 @@ never_missing m f x there w none =
     let found = get-within m.functions x.function (there (done w.place) _ (statement_calls w.stands refl)) in
     let e : None ≡ Some (length found.0.arguments) = sym none ∙ w.has ∙ ap count_of found.1 in
     cc
-
-pub told : (m : PlainModule) (f : PlainFunction) (x : ArityFault) (required : ℕ) → PassesWrongCount m f x → x.required ≡ Some required → PassesWrongCount m f (fault_at x.function (Some required) x.seen)
-told m f x required w is = record {
-  place = w.place;
-  arguments = w.arguments;
-  answer = w.answer;
-  stands = w.stands;
-  has = sym is ∙ w.has;
-  passed = w.passed;
-  differs = λ e. w.differs (is ∙ e);
-}
