@@ -1,5 +1,5 @@
 // Documents, and what is found of their functions.
-use crate::judged::told_of;
+use crate::layer_judged::told_of;
 use document_reader::{DocumentError, read_document};
 use std::alloc::{AllocError, Global};
 use std::test::Fail;

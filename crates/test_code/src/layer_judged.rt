@@ -6,7 +6,7 @@ ghost use Rattle.ir_walks.specs.Filters.{ParentsPrecede};
 ghost use Rattle.spec_handles.specs.Conditions.{HandlesInRange, OperandsPrecede};
 ghost use Rattle.tiny_lower.specs.Readings.{IsMadeOf};
 
-use crate::made::lower_for;
+use crate::layer_made::lower_for;
 use error_functions::FunctionError;
 use function_lower::Lower;
 use ir_faults::refusal::Refusal;
