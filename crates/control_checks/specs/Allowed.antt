@@ -7,6 +7,8 @@ use Rattle.ir_blocks.specs.Places as at
 use Rattle.ir_blocks.specs.Plain.{PlainStatement, emit, block, if_, switch, loop, break, continue, return, kill, operation, call, PlainBlock, stop, next, PlainCases, no_case, case}
 use Rattle.ir_blocks.specs.Shapes.{Exit, breaks, continues, returns, kills, exit_of, shape_of, Part, inner, accepting, rejecting, case_at, loop_body, loop_continuing}
 use Rattle.control_checks.specs.declared.control.Allowed.{Allowed}
+use Rattle.control_checks.specs.declared.control.Wrong.{Wrong}
+use Rattle.control_checks.specs.declared.control.Wrong.TheVariants as wrong
 
 pub record MayLeave : Type 0 where
   pub by_break : Bool
@@ -66,6 +68,12 @@ abbrev mutual
   pub CasesLeave : MayLeave → PlainCases → Type 0
   CasesLeave m no_case = Unit {0}
   CasesLeave m (case value body falls rest) = AllLeave m body × CasesLeave m rest
+
+-- the error of a statement that leaves its block so where it may not
+abbrev pub error_of : Wrong → FunctionError
+error_of wrong.Break = error.BreakOutsideOfLoopOrSwitch
+error_of wrong.Continue = error.ContinueOutsideOfLoop
+error_of wrong.Return = error.InvalidReturnSpot
 
 -- the exit that an error is of
 abbrev pub IsExitError : Exit → FunctionError → Type 0

@@ -3,6 +3,18 @@
 ghost use Rattle.std.specs.Prelude.{◌≡◌};
 ghost use Rattle.control_checks.specs.Allowed.{view_of};
 
+/// How a statement leaves its block where it may not. It is small, as what each statement is answered, where an error of
+/// functions is not.
+#[derive(Clone, Copy)]
+pub enum Wrong {
+    /// By a break.
+    Break,
+    /// By a continue.
+    Continue,
+    /// By a return.
+    Return,
+}
+
 /// How a statement may leave its block at a place: by the nearest loop or switch around it, and whether a continuing part lies
 /// between (naga's `ControlFlowAbility`).
 #[derive(Clone, Copy, Debug, PartialEq, Eq)]

@@ -5,7 +5,7 @@ ghost use Rattle.ir_blocks.specs.Control.{ControlOK};
 ghost use Rattle.ir_blocks.specs.View.{block_view};
 ghost use Rattle.control_checks.specs.Faults.{IsControlFault};
 
-use crate::control::Allowed;
+use crate::control::{Allowed, Wrong};
 use crate::walk::check_block;
 use error_functions::FunctionError;
 use ir_items::Block;
@@ -22,6 +22,8 @@ pub fn check_control(body: &Block) -> Result<(), FunctionError>
 {
     match check_block(Allowed::BODY, body) {
         Ok(()) => Ok(()),
-        Err(error) => Err(error),
+        Err(Wrong::Break) => Err(FunctionError::BreakOutsideOfLoopOrSwitch),
+        Err(Wrong::Continue) => Err(FunctionError::ContinueOutsideOfLoop),
+        Err(Wrong::Return) => Err(FunctionError::InvalidReturnSpot),
     }
 }

@@ -2,16 +2,15 @@
 
 ghost use Rattle.std.specs.Prelude.{MatchResult, map};
 ghost use Rattle.ir_blocks.specs.View.{statement_view, block_view, case_view, cases_of};
-ghost use Rattle.control_checks.specs.Allowed.{view_of, AllLeave, LeavesWithin, CasesLeave, LeavesIn, LeftBy, LeavesInCases};
+ghost use Rattle.control_checks.specs.Allowed.{error_of, view_of, AllLeave, LeavesWithin, CasesLeave, LeavesIn, LeftBy, LeavesInCases};
 
-use crate::control::Allowed;
-use error_functions::FunctionError;
+use crate::control::{Allowed, Wrong};
 use ir_items::{Block, Statement, SwitchCase};
 
 /// Whether the statements of a block, at any depth, leave it only as they may.
 #[cycle(walk)]
-pub fn check_block(allowed: Allowed, block: &Block) -> Result<(), FunctionError>
-    ensures { MatchResult result (λ _. AllLeave (view_of allowed) (block_view block.now)) (λ e. LeavesIn e (view_of allowed) (block_view block.now)) }
+pub fn check_block(allowed: Allowed, block: &Block) -> Result<(), Wrong>
+    ensures { MatchResult result (λ _. AllLeave (view_of allowed) (block_view block.now)) (λ e. LeavesIn (error_of e) (view_of allowed) (block_view block.now)) }
 {
     for statement in block.as_slice() {
         check_statement(allowed, statement)?;
@@ -21,8 +20,8 @@ pub fn check_block(allowed: Allowed, block: &Block) -> Result<(), FunctionError>
 
 // The same of a statement and of those inside it.
 #[cycle(walk)]
-fn check_statement(allowed: Allowed, statement: &Statement) -> Result<(), FunctionError>
-    ensures { MatchResult result (λ _. LeavesWithin (view_of allowed) (statement_view statement.now)) (λ e. LeftBy e (view_of allowed) (statement_view statement.now)) }
+fn check_statement(allowed: Allowed, statement: &Statement) -> Result<(), Wrong>
+    ensures { MatchResult result (λ _. LeavesWithin (view_of allowed) (statement_view statement.now)) (λ e. LeftBy (error_of e) (view_of allowed) (statement_view statement.now)) }
 {
     match statement {
         Statement::Block(block) => check_block(allowed, block),
@@ -43,21 +42,21 @@ fn check_statement(allowed: Allowed, statement: &Statement) -> Result<(), Functi
             if allowed.breaks {
                 Ok(())
             } else {
-                Err(FunctionError::BreakOutsideOfLoopOrSwitch)
+                Err(Wrong::Break)
             }
         }
         Statement::Continue => {
             if allowed.continues {
                 Ok(())
             } else {
-                Err(FunctionError::ContinueOutsideOfLoop)
+                Err(Wrong::Continue)
             }
         }
         Statement::Return { .. } => {
             if allowed.returns {
                 Ok(())
             } else {
-                Err(FunctionError::InvalidReturnSpot)
+                Err(Wrong::Return)
             }
         }
         Statement::Emit(_)
@@ -81,8 +80,8 @@ fn check_statement(allowed: Allowed, statement: &Statement) -> Result<(), Functi
 
 // The same of the cases of a switch.
 #[cycle(walk)]
-fn check_cases(allowed: Allowed, cases: &[SwitchCase]) -> Result<(), FunctionError>
-    ensures { MatchResult result (λ _. CasesLeave (view_of allowed) (cases_of (map case_view cases.now))) (λ e. LeavesInCases e (view_of allowed) (cases_of (map case_view cases.now))) }
+fn check_cases(allowed: Allowed, cases: &[SwitchCase]) -> Result<(), Wrong>
+    ensures { MatchResult result (λ _. CasesLeave (view_of allowed) (cases_of (map case_view cases.now))) (λ e. LeavesInCases (error_of e) (view_of allowed) (cases_of (map case_view cases.now))) }
 {
     for case in cases {
         check_block(allowed, &case.body)?;

@@ -144,4 +144,9 @@ argument_fault f asked s scope answered function arguments _ callee is h = absur
 
 pub if_fault_then : (r : ScopeError) (P Q : FunctionError → Type 0) → ((e : FunctionError) → P e → Q e) → IfFault r P → IfFault r Q
 if_fault_then (scope_error.Memory e) P Q then h = h
-if_fault_then (scope_error.Fault e) P Q then h = then e h
+if_fault_then (scope_error.Unknown e) P Q then h = then _ h
+if_fault_then (scope_error.UnknownArgument function index) P Q then h = then _ h
+if_fault_then (scope_error.Known e) P Q then h = then _ h
+if_fault_then (scope_error.KnownResult function answer) P Q then h = then _ h
+if_fault_then (scope_error.Answered function answer) P Q then h = then _ h
+if_fault_then (scope_error.AnsweredAtomic answer) P Q then h = then _ h

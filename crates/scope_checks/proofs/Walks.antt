@@ -3,13 +3,16 @@ use Rattle.std.proofs.Math.Seq.{take-append_seam}
 use Rattle.std.proofs.Common.{◌≡◌, ℕ, Bool, List, [], ◌∷◌, ◌++◌, All, Option, length, take, inl, inr, refl, sym, ap, ◌∙◌, subst}
 use Rattle.std.proofs.lemmas.List.{append-nil, append_assoc}
 use Rattle.error_functions.specs.declared.error.FunctionError.{FunctionError}
+use Rattle.ir_blocks.specs.Places.{statement, loop_condition}
 use Rattle.ir_blocks.specs.Plain.{PlainStatement, if_, switch, loop, PlainBlock, stop, next, PlainCases, no_case, case}
 use Rattle.ir_kinds.specs.declared.values.SwitchValue.{SwitchValue}
 use Rattle.ir_items.specs.Plain.{PlainFunction}
 use Rattle.spec_statements.specs.Answered.{answered_in, answered_at, answered_in_cases}
 use Rattle.spec_statements.specs.Tables.{introduced, statement_checked}
 use Rattle.spec_statements.specs.Visible.{top_level}
-use Rattle.scope_checks.specs.Carried.{AllFine, FineWithin, FineInCases, FaultIn, FaultWithin, FaultInCases, Known}
+use Rattle.scope_checks.proofs.FaultLaws.{if_fault_then}
+use Rattle.scope_checks.specs.Carried.{AllFine, FineWithin, FineInCases, FaultIn, FaultWithin, FaultInCases, IfFault, IsFaultHere, Known}
+use Rattle.scope_checks.specs.declared.error.ScopeError.{ScopeError}
 
 pub record Leads (f : PlainFunction) (asked : Bool) (scope answered : List ℕ) (whole : PlainBlock) (scope_now answered_now : List ℕ) (rest : PlainBlock) : Type 0 where
   pub fine : AllFine f asked scope_now answered_now rest → AllFine f asked scope answered whole
@@ -123,3 +126,21 @@ pub loop_answered : (answered answered_body answered_last : List ℕ) (s : Plain
     → answered_body ≡ answered ++ answered_in body → answered_last ≡ answered_body ++ answered_in continuing → answered_last ≡ answered ++ answered_at s
 loop_answered answered answered_body answered_last s body continuing break_if is first second =
     subst (λ x. answered_last ≡ answered ++ answered_at x) (sym is) (second ∙ (ap (λ xs. xs ++ answered_in continuing) first ∙ append_assoc answered (answered_in body) (answered_in continuing)))
+
+-- ---- what is wrong with a statement itself
+
+pub if_wrong : (f : PlainFunction) (asked : Bool) (scope answered : List ℕ) (s : PlainStatement) (test : ℕ) (accept reject : PlainBlock) → s ≡ if_ test accept reject → (r : ScopeError)
+    → IfFault r (IsFaultHere f asked (statement s) scope answered) → IfFault r (λ e. FaultWithin f asked e scope answered s)
+if_wrong f asked scope answered s test accept reject is r h =
+    if_fault_then r (IsFaultHere f asked (statement s) scope answered) (λ e. FaultWithin f asked e scope answered s)
+    (λ e here. subst (FaultWithin f asked e scope answered) (sym is) (inl (subst (λ u. IsFaultHere f asked (statement u) scope answered e) is here))) h
+
+pub loop_wrong : (f : PlainFunction) (asked : Bool) (scope answered scope_body scope_end answered_body answered_end : List ℕ) (s : PlainStatement) (body continuing : PlainBlock) (break_if : Option ℕ)
+    → s ≡ loop body continuing break_if → scope_body ≡ scope ++ top_level body → scope_end ≡ scope_body ++ top_level continuing → answered_body ≡ answered ++ answered_in body
+    → answered_end ≡ answered_body ++ answered_in continuing → (r : ScopeError) → IfFault r (IsFaultHere f asked (loop_condition break_if) scope_end answered_end)
+    → IfFault r (λ e. FaultWithin f asked e scope answered s)
+loop_wrong f asked scope answered scope_body scope_end answered_body answered_end s body continuing break_if is in_body at_end said_body said_end r h =
+    let there : scope_end ≡ (scope ++ top_level body) ++ top_level continuing = at_end ∙ ap (λ xs. xs ++ top_level continuing) in_body in
+    let said : answered_end ≡ (answered ++ answered_in body) ++ answered_in continuing = said_end ∙ ap (λ xs. xs ++ answered_in continuing) said_body in
+    if_fault_then r (IsFaultHere f asked (loop_condition break_if) scope_end answered_end) (λ e. FaultWithin f asked e scope answered s)
+    (λ e here. subst (FaultWithin f asked e scope answered) (sym is) (inr (inr (subst (λ xs. IsFaultHere f asked (loop_condition break_if) ((scope ++ top_level body) ++ top_level continuing) xs e) said (subst (λ xs. IsFaultHere f asked (loop_condition break_if) xs answered_end e) there here))))) h

@@ -24,7 +24,12 @@ use Rattle.spec_statements.specs.Visible.{top_level}
 -- what an error speaks of, which is nothing where there is no memory
 abbrev pub IfFault : ScopeError → (FunctionError → Type 0) → Type 0
 IfFault (scope_error.Memory e) P = Unit {0}
-IfFault (scope_error.Fault e) P = P e
+IfFault (scope_error.Unknown e) P = P (error.Expression e NotInScope)
+IfFault (scope_error.UnknownArgument function index) P = P (error.InvalidCall function (call_error.Argument index NotInScope))
+IfFault (scope_error.Known e) P = P (error.ExpressionAlreadyInScope e)
+IfFault (scope_error.KnownResult function answer) P = P (error.InvalidCall function (call_error.ResultAlreadyInScope answer))
+IfFault (scope_error.Answered function answer) P = P (error.InvalidCall function (call_error.ResultAlreadyPopulated answer))
+IfFault (scope_error.AnsweredAtomic answer) P = P (error.InvalidAtomic (atomic_error.ResultAlreadyPopulated answer))
 
 abbrev pub Known : PlainFunction → (scope : List ℕ) → ℕ → Type 0
 Known f scope e = PreEmitted f e ⊎ Contains scope e

@@ -9,7 +9,6 @@ ghost use Rattle.spec_statements.specs.Results.{answer_of};
 
 use crate::error::ScopeError;
 use crate::list::ExpressionList;
-use error_functions::{AtomicError, CallError, FunctionError};
 use ir_arena::handle::Handle;
 use ir_items::{Statement, key};
 use ir_references::callee_of;
@@ -46,17 +45,17 @@ fn answer_of(statement: &Statement) -> Option<Handle<key::Expression>>
     }
 }
 
-// The error of an answer that is that of another statement.
-fn populated(statement: &Statement, handle: Handle<key::Expression>) -> FunctionError
-    ensures { (f : PlainFunction) (asked : Bool) (scope answered : List ℕ) → answer_of (statement_view statement.now) ≡ Some handle → IsAgain asked answered handle
-        → IsFaultHere f asked (spot (statement_view statement.now)) scope answered result }
+// The fault of an answer that is that of another statement.
+fn populated(statement: &Statement, handle: Handle<key::Expression>) -> ScopeError
+    ensures { (asked : Bool) (answered : List ℕ) → answer_of (statement_view statement.now) ≡ Some handle → IsAgain asked answered handle
+        → IfFault result (λ e. (f : PlainFunction) (scope : List ℕ) → IsFaultHere f asked (spot (statement_view statement.now)) scope answered e) }
 {
     match callee_of(statement) {
-        Some(function) => FunctionError::InvalidCall {
+        Some(function) => ScopeError::Answered {
             function,
-            error: CallError::ResultAlreadyPopulated(handle),
+            answer: handle,
         },
-        None => FunctionError::InvalidAtomic(AtomicError::ResultAlreadyPopulated(handle)),
+        None => ScopeError::AnsweredAtomic(handle),
     }
 }
 
@@ -73,10 +72,10 @@ pub fn note_answer(
         return Ok(());
     };
     if !asked {
-        return Err(ScopeError::Fault(populated(statement, handle)));
+        return Err(populated(statement, handle));
     }
     if !answered.insert(handle)? {
-        return Err(ScopeError::Fault(populated(statement, handle)));
+        return Err(populated(statement, handle));
     }
     Ok(())
 }

@@ -12,7 +12,6 @@ ghost use Rattle.spec_statements.specs.Tables.{introduced};
 use crate::error::ScopeError;
 use crate::list::ExpressionList;
 use crate::operands::is_known;
-use error_functions::{CallError, FunctionError};
 use ir_arena::handle::Handle;
 use ir_arena::range::Range;
 use ir_items::{Function, Statement, key};
@@ -83,17 +82,17 @@ fn bring_all(
     }
 }
 
-// The error of an expression that is in scope already.
-fn known_already(statement: &Statement, handle: Handle<key::Expression>) -> FunctionError
-    ensures { (f : PlainFunction) (asked : Bool) (scope answered : List ℕ) → Contains (introduced (statement_view statement.now)) handle → Known f scope handle
-        → IsFaultHere f asked (spot (statement_view statement.now)) scope answered result }
+// The fault of an expression that is in scope already.
+fn known_already(statement: &Statement, handle: Handle<key::Expression>) -> ScopeError
+    ensures { (f : PlainFunction) (scope : List ℕ) → Contains (introduced (statement_view statement.now)) handle → Known f scope handle
+        → IfFault result (λ e. (asked : Bool) (answered : List ℕ) → IsFaultHere f asked (spot (statement_view statement.now)) scope answered e) }
 {
     match callee_of(statement) {
-        Some(function) => FunctionError::InvalidCall {
+        Some(function) => ScopeError::KnownResult {
             function,
-            error: CallError::ResultAlreadyInScope(handle),
+            answer: handle,
         },
-        None => FunctionError::ExpressionAlreadyInScope(handle),
+        None => ScopeError::Known(handle),
     }
 }
 
@@ -108,7 +107,7 @@ pub fn bring(
     ensures fault { IfErr result (λ r. IfFault r (λ e. (asked : Bool) (answered : List ℕ) → IsFaultHere (function_view function.now) asked (spot (statement_view statement.now)) scope.old answered e)) }
 {
     match bring_all(function, scope, statement)? {
-        Some(handle) => Err(ScopeError::Fault(known_already(statement, handle))),
+        Some(handle) => Err(known_already(statement, handle)),
         None => Ok(()),
     }
 }

@@ -1,22 +1,42 @@
-//! Why a walk over a body stops, and the errors of operands.
+//! Why a walk over a body stops.
 
-ghost use Rattle.std.specs.Prelude.{◌≡◌};
-ghost use Rattle.error_functions.specs.declared.expressions.ExpressionError.TheVariants.{NotInScope};
-ghost use Rattle.error_functions.specs.declared.error.FunctionError.TheVariants as error;
-ghost use Rattle.error_functions.specs.declared.calls.CallError.TheVariants as call_error;
-
-use error_functions::{CallError, ExpressionError, FunctionError};
 use ir_arena::handle::Handle;
 use ir_types::key;
 use std::alloc::AllocError;
 
-/// Why a walk over a body stops: there is no memory, or a statement has a fault.
-#[derive(Drop)]
+/// Why a walk over a body stops: there is no memory, or a statement has a fault. It is small, as what each statement is
+/// answered, where an error of functions is not.
+#[derive(Clone, Copy)]
 pub enum ScopeError {
     /// A growth was refused.
     Memory(AllocError),
-    /// What is wrong.
-    Fault(FunctionError),
+    /// An operand is not in scope.
+    Unknown(Handle<key::Expression>),
+    /// What is passed to a function at a place is not in scope.
+    UnknownArgument {
+        /// The function.
+        function: Handle<key::Function>,
+        /// The place.
+        index: usize,
+    },
+    /// What is brought into scope is there already.
+    Known(Handle<key::Expression>),
+    /// The answer of a call is in scope already.
+    KnownResult {
+        /// The function that is called.
+        function: Handle<key::Function>,
+        /// The expression.
+        answer: Handle<key::Expression>,
+    },
+    /// A call answers by what is answered by already, or where no answers are asked for.
+    Answered {
+        /// The function that is called.
+        function: Handle<key::Function>,
+        /// The expression.
+        answer: Handle<key::Expression>,
+    },
+    /// The same of an atomic operation.
+    AnsweredAtomic(Handle<key::Expression>),
 }
 
 impl From<AllocError> for ScopeError {
@@ -28,23 +48,4 @@ impl From<AllocError> for ScopeError {
     fn from(error: AllocError) -> Self {
         ScopeError::Memory(error)
     }
-}
-
-/// An operand is not in scope.
-pub fn unknown(handle: Handle<key::Expression>) -> FunctionError
-    ensures { result ≡ error.Expression handle NotInScope }
-{
-    FunctionError::Expression {
-        handle,
-        source: ExpressionError::NotInScope,
-    }
-}
-
-/// What is passed to a function is not in scope.
-pub fn unknown_argument(function: Handle<key::Function>, index: usize) -> FunctionError
-    ensures { result ≡ error.InvalidCall function (call_error.Argument index NotInScope) }
-{
-    let source = ExpressionError::NotInScope;
-    let error = CallError::Argument { index, source };
-    FunctionError::InvalidCall { function, error }
 }

@@ -7,6 +7,7 @@ ghost use Rattle.ir_flags.specs.declared.settings.TheConstants.ValidationFlags.{
 ghost use Rattle.ir_flags.specs.declared.settings.ValidationFlags.{ValidationFlags};
 ghost use Rattle.ir_items.specs.Plain.{PlainFunction};
 ghost use Rattle.ir_items.specs.View.{function_view};
+ghost use Rattle.error_functions.specs.declared.error.FunctionError.TheVariants.{InvalidCall};
 ghost use Rattle.scope_checks.specs.Carried.{IfFault};
 ghost use Rattle.scope_checks.specs.Faults.{IsScopeFault, IsScopeRefusal};
 ghost use Rattle.spec_statements.specs.Answered.{EachOnce};
@@ -18,11 +19,12 @@ use crate::list::ExpressionList;
 use crate::statement::Carried;
 use crate::walk::check_block;
 use bitflags::Flags;
-use error_functions::FunctionError;
+use error_functions::{AtomicError, CallError, ExpressionError, FunctionError};
+use ir_arena::handle::Handle;
 use ir_faults::refusal::Refusal;
 use ir_faults::with_span::WithSpan;
 use ir_flags::ValidationFlags;
-use ir_items::Function;
+use ir_items::{Function, key};
 use std::alloc::{AllocError, Global};
 
 // Nothing is in scope, and nothing has been answered by. The error is out of memory.
@@ -37,13 +39,46 @@ fn beginning(alloc: Global, count: usize) -> Result<Carried, AllocError>
     })
 }
 
+// The refusal of a call.
+fn refused_call(
+    alloc: Global,
+    function: Handle<key::Function>,
+    error: CallError,
+) -> Refusal<FunctionError>
+    ensures { (flags : ValidationFlags) (f : PlainFunction) → IsScopeFault flags f (InvalidCall function error) → IsScopeRefusal flags f result }
+{
+    let error = FunctionError::InvalidCall { function, error };
+    Refusal::Fault(WithSpan::new(alloc, error))
+}
+
 // The refusal that tells an error.
 fn refused(alloc: Global, error: ScopeError) -> Refusal<FunctionError>
     ensures { (flags : ValidationFlags) (f : PlainFunction) → IfFault error (IsScopeFault flags f) → IsScopeRefusal flags f result }
 {
     match error {
         ScopeError::Memory(error) => Refusal::Memory(error),
-        ScopeError::Fault(error) => Refusal::Fault(WithSpan::new(alloc, error)),
+        ScopeError::Unknown(handle) => {
+            let source = ExpressionError::NotInScope;
+            Refusal::Fault(WithSpan::new(alloc, FunctionError::Expression { handle, source }))
+        }
+        ScopeError::UnknownArgument { function, index } => {
+            let source = ExpressionError::NotInScope;
+            refused_call(alloc, function, CallError::Argument { index, source })
+        }
+        ScopeError::Known(handle) => Refusal::Fault(WithSpan::new(
+            alloc,
+            FunctionError::ExpressionAlreadyInScope(handle),
+        )),
+        ScopeError::KnownResult { function, answer } => {
+            refused_call(alloc, function, CallError::ResultAlreadyInScope(answer))
+        }
+        ScopeError::Answered { function, answer } => {
+            refused_call(alloc, function, CallError::ResultAlreadyPopulated(answer))
+        }
+        ScopeError::AnsweredAtomic(answer) => {
+            let error = AtomicError::ResultAlreadyPopulated(answer);
+            Refusal::Fault(WithSpan::new(alloc, FunctionError::InvalidAtomic(error)))
+        }
     }
 }
 

@@ -11,10 +11,9 @@ ghost use Rattle.spec_statements.specs.Tables.{checked_at, introduced, statement
 
 use crate::answers::note_answer;
 use crate::bringing::bring;
-use crate::error::{ScopeError, unknown, unknown_argument};
+use crate::error::ScopeError;
 use crate::list::ExpressionList;
 use crate::operands::{is_known, unknown_operand, unknown_place};
-use error_functions::FunctionError;
 use ir_arena::handle::Handle;
 use ir_items::{Function, Statement, key};
 use ir_references::callee_of;
@@ -64,12 +63,15 @@ fn argument_error(
     scope: &ExpressionList,
     callee: Handle<key::Function>,
     arguments: &[Handle<key::Expression>],
-) -> Option<FunctionError>
+) -> Option<ScopeError>
     ensures none { IfNone result (All (Known (function_view function.now) scope.now) arguments.now) }
-    ensures found { IfSome result (IsArgumentError (function_view function.now) scope.now callee arguments.now) }
+    ensures found { IfSome result (λ r. IfFault r (IsArgumentError (function_view function.now) scope.now callee arguments.now)) }
 {
     match unknown_place(function, scope, arguments) {
-        Some(place) => Some(unknown_argument(callee, place)),
+        Some(place) => Some(ScopeError::UnknownArgument {
+            function: callee,
+            index: place,
+        }),
         None => None,
     }
 }
@@ -80,14 +82,14 @@ fn operand_error(
     function: &Function,
     scope: &ExpressionList,
     statement: &Statement,
-) -> Option<FunctionError>
+) -> Option<ScopeError>
     ensures none { IfNone result (All (Known (function_view function.now) scope.now) (statement_checked (statement_view statement.now))) }
-    ensures found { IfSome result (λ e. (asked : Bool) (answered : List ℕ) → IsFaultHere (function_view function.now) asked (spot (statement_view statement.now)) scope.now answered e) }
+    ensures found { IfSome result (λ r. IfFault r (λ e. (asked : Bool) (answered : List ℕ) → IsFaultHere (function_view function.now) asked (spot (statement_view statement.now)) scope.now answered e)) }
 {
     match callee_of(statement) {
         Some(callee) => argument_error(function, scope, callee, arguments_of(statement)),
         None => match unknown_operand(function, scope, statement) {
-            Some(handle) => Some(unknown(handle)),
+            Some(handle) => Some(ScopeError::Unknown(handle)),
             None => None,
         },
     }
@@ -104,7 +106,7 @@ pub fn check_used(
     ensures fault { IfErr result (λ r. IfFault r (λ e. IsFaultHere (function_view function.now) asked (spot (statement_view statement.now)) carried.now.scope carried.now.answered e)) }
 {
     match operand_error(function, &carried.scope, statement) {
-        Some(error) => Err(ScopeError::Fault(error)),
+        Some(error) => Err(error),
         None => Ok(()),
     }
 }
@@ -125,7 +127,7 @@ pub fn check_condition(
             if is_known(function, &carried.scope, handle) {
                 Ok(())
             } else {
-                Err(ScopeError::Fault(unknown(handle)))
+                Err(ScopeError::Unknown(handle))
             }
         }
         None => Ok(()),

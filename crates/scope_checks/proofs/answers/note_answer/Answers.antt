@@ -8,10 +8,10 @@ pub returns-then-not-asked-clause-fault : goal.returns-then-not-asked-clause-fau
 returns-then-not-asked-clause-fault c =
     let is : answer_of (statement_view c.args.statement.now) ≡ Some c.in-Some.handle = search rules in
     let unasked : c.args.asked ≡ false = search rules in
-    λ f scope. c.populated.ensures f c.args.asked scope c.args.answered.now is (inl unasked)
+    c.populated.ensures c.args.asked c.args.answered.now is (inl unasked)
 
 pub returns-then-not-branch-clause-fault : goal.returns-then-not-branch-clause-fault
 returns-then-not-branch-clause-fault c =
     let is : answer_of (statement_view c.args.statement.now) ≡ Some c.in-Some.handle = search rules in
     let there : c.in_ok-insert.field-0 ≡ false = search rules in
-    λ f scope. c.populated-then-not-branch.ensures f c.args.asked scope c.args.answered.now is (inr (was_there c.args.answered.now _ c.in-Some.handle c.in_ok-insert.field-0 c.in_ok-insert.ensures there))
+    c.populated-then-not-branch.ensures c.args.asked c.args.answered.now is (inr (was_there c.args.answered.now _ c.in-Some.handle c.in_ok-insert.field-0 c.in_ok-insert.ensures there))

@@ -1,10 +1,14 @@
-use Rattle.std.proofs.Common.{rules, ◌≡◌, map}
+use Rattle.std.proofs.Common.{rules, ◌≡◌, ◌++◌, map}
 use Rattle.ir_blocks.specs.declared.statements.Statement.{the_lemmas}
-use Rattle.std.proofs.lemmas.Result.{on_ok_weaker}
+use Rattle.std.proofs.lemmas.Result.{IfErr-weaker, on_ok_weaker}
+use Rattle.error_functions.specs.declared.error.FunctionError.{FunctionError}
+use Rattle.ir_blocks.specs.Places.{statement}
+use Rattle.scope_checks.proofs.FaultLaws.{if_fault_then}
 use Rattle.ir_blocks.specs.Plain.{if_, switch, loop}
 use Rattle.ir_blocks.specs.View.{statement_view, block_view, case_view, cases_of}
 use Rattle.ir_items.specs.View.{function_view}
-use Rattle.scope_checks.proofs.Walks.{if_fine, if_answered, switch_fine, loop_scope, loop_answered}
+use Rattle.scope_checks.proofs.Walks.{if_fine, if_answered, if_wrong, switch_fine, loop_scope, loop_answered, loop_wrong}
+use Rattle.scope_checks.specs.Carried.{FaultWithin, IfFault, IsFaultHere}
 use Rattle.scope_checks.proofs.walk.+walk.Goals as goal
 
 pub check_statement-returns-in_ok-check_inner-in-If-clause-fine : goal.check_statement-returns-in_ok-check_inner-in-If-clause-fine
@@ -43,3 +47,34 @@ check_statement-returns-in_ok-check_condition-in-Loop-clause-answered t c =
     let s = statement_view c.args.statement.now in
     let is : s ≡ loop (block_view c.in-Loop.body) (block_view c.in-Loop.continuing) c.in-Loop.break_if = search (rules, the_lemmas) in
     loop_answered c.args.carried.now.answered _ _ s (block_view c.in-Loop.body) (block_view c.in-Loop.continuing) c.in-Loop.break_if is c.in_ok-check_block-in-Loop.ensures.answered c.in_ok-check_block-in-Loop-2.ensures.answered
+
+pub check_statement-returns-in_err-check_used-in-If-clause-fault : goal.check_statement-returns-in_err-check_used-in-If-clause-fault
+check_statement-returns-in_err-check_used-in-If-clause-fault t c =
+    let f = function_view c.args.function.now in
+    let carried = c.args.carried.now in
+    let s = statement_view c.args.statement.now in
+    let is : s ≡ if_ c.in-If.condition (block_view c.in-If.accept) (block_view c.in-If.reject) = search (rules, the_lemmas) in
+    let told : IfFault c.in_err-check_used-in-If.field-0.0 (λ e. FaultWithin f c.args.asked e carried.scope carried.answered s) =
+        if_wrong f c.args.asked carried.scope carried.answered s c.in-If.condition (block_view c.in-If.accept) (block_view c.in-If.reject) is c.in_err-check_used-in-If.field-0.0 c.in_err-check_used-in-If.ensures.fault in
+    search rules
+
+pub check_statement-returns-in_err-check_condition-in-Loop-clause-fault : goal.check_statement-returns-in_err-check_condition-in-Loop-clause-fault
+check_statement-returns-in_err-check_condition-in-Loop-clause-fault t c =
+    let f = function_view c.args.function.now in
+    let carried = c.args.carried.now in
+    let s = statement_view c.args.statement.now in
+    let is : s ≡ loop (block_view c.in-Loop.body) (block_view c.in-Loop.continuing) c.in-Loop.break_if = search (rules, the_lemmas) in
+    let told : IfFault c.in_err-check_condition-in-Loop.field-0.0 (λ e. FaultWithin f c.args.asked e carried.scope carried.answered s) =
+        loop_wrong f c.args.asked carried.scope carried.answered _ _ _ _ s (block_view c.in-Loop.body) (block_view c.in-Loop.continuing) c.in-Loop.break_if is
+        c.in_ok-check_block-in-Loop.ensures.scope c.in_ok-check_block-in-Loop-2.ensures.scope c.in_ok-check_block-in-Loop.ensures.answered c.in_ok-check_block-in-Loop-2.ensures.answered
+        c.in_err-check_condition-in-Loop.field-0.0 c.in_err-check_condition-in-Loop.ensures.fault in
+    search rules
+
+pub check_statement-returns-in-Emit-clause-fault : goal.check_statement-returns-in-Emit-clause-fault
+check_statement-returns-in-Emit-clause-fault t c =
+    let f = function_view c.args.function.now in
+    let carried = c.args.carried.now in
+    let s = statement_view c.args.statement.now in
+    let at : (e : FunctionError) → IsFaultHere f c.args.asked (statement s) carried.scope carried.answered e → FaultWithin f c.args.asked e carried.scope carried.answered s = search (rules, the_lemmas) in
+    IfErr-weaker c.check_own.result (λ r. IfFault r (IsFaultHere f c.args.asked (statement s) carried.scope carried.answered)) _
+    (λ r h. if_fault_then r (IsFaultHere f c.args.asked (statement s) carried.scope carried.answered) (λ e. FaultWithin f c.args.asked e carried.scope carried.answered s) at h) c.check_own.ensures.fault
