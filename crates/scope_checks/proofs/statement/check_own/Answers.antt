@@ -14,8 +14,8 @@ returns-in_err-bring-clause-fault c =
     let s = statement_view c.args.statement.now in
     let carried = c.args.carried.now in
     let told : IfFault c.in_err-bring.field-0.0 (IsFaultHere f c.args.asked (spot s) carried.scope carried.answered) =
-        if_fault_then c.in_err-bring.field-0.0 (λ e. (asked : Bool) (answered : List ℕ) → IsFaultHere f asked (spot s) carried.scope answered e) (IsFaultHere f c.args.asked (spot s) carried.scope carried.answered)
-        (λ e h. h c.args.asked carried.answered) c.in_err-bring.ensures.fault in
+    if_fault_then c.in_err-bring.field-0.0 (λ e. (asked : Bool) (answered : List ℕ) → IsFaultHere f asked (spot s) carried.scope answered e) (IsFaultHere f c.args.asked (spot s) carried.scope carried.answered)
+    (λ e h. h c.args.asked carried.answered) c.in_err-bring.ensures.fault in
     search rules
 
 pub returns-clause-fault : goal.returns-clause-fault

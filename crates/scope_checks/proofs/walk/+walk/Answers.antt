@@ -55,7 +55,7 @@ check_statement-returns-in_err-check_used-in-If-clause-fault t c =
     let s = statement_view c.args.statement.now in
     let is : s ≡ if_ c.in-If.condition (block_view c.in-If.accept) (block_view c.in-If.reject) = search (rules, the_lemmas) in
     let told : IfFault c.in_err-check_used-in-If.field-0.0 (λ e. FaultWithin f c.args.asked e carried.scope carried.answered s) =
-        if_wrong f c.args.asked carried.scope carried.answered s c.in-If.condition (block_view c.in-If.accept) (block_view c.in-If.reject) is c.in_err-check_used-in-If.field-0.0 c.in_err-check_used-in-If.ensures.fault in
+    if_wrong f c.args.asked carried.scope carried.answered s c.in-If.condition (block_view c.in-If.accept) (block_view c.in-If.reject) is c.in_err-check_used-in-If.field-0.0 c.in_err-check_used-in-If.ensures.fault in
     search rules
 
 pub check_statement-returns-in_err-check_condition-in-Loop-clause-fault : goal.check_statement-returns-in_err-check_condition-in-Loop-clause-fault
@@ -65,9 +65,9 @@ check_statement-returns-in_err-check_condition-in-Loop-clause-fault t c =
     let s = statement_view c.args.statement.now in
     let is : s ≡ loop (block_view c.in-Loop.body) (block_view c.in-Loop.continuing) c.in-Loop.break_if = search (rules, the_lemmas) in
     let told : IfFault c.in_err-check_condition-in-Loop.field-0.0 (λ e. FaultWithin f c.args.asked e carried.scope carried.answered s) =
-        loop_wrong f c.args.asked carried.scope carried.answered _ _ _ _ s (block_view c.in-Loop.body) (block_view c.in-Loop.continuing) c.in-Loop.break_if is
-        c.in_ok-check_block-in-Loop.ensures.scope c.in_ok-check_block-in-Loop-2.ensures.scope c.in_ok-check_block-in-Loop.ensures.answered c.in_ok-check_block-in-Loop-2.ensures.answered
-        c.in_err-check_condition-in-Loop.field-0.0 c.in_err-check_condition-in-Loop.ensures.fault in
+    loop_wrong f c.args.asked carried.scope carried.answered _ _ _ _ s (block_view c.in-Loop.body) (block_view c.in-Loop.continuing) c.in-Loop.break_if is
+    c.in_ok-check_block-in-Loop.ensures.scope c.in_ok-check_block-in-Loop-2.ensures.scope c.in_ok-check_block-in-Loop.ensures.answered c.in_ok-check_block-in-Loop-2.ensures.answered
+    c.in_err-check_condition-in-Loop.field-0.0 c.in_err-check_condition-in-Loop.ensures.fault in
     search rules
 
 pub check_statement-returns-in-Emit-clause-fault : goal.check_statement-returns-in-Emit-clause-fault
