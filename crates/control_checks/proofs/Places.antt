@@ -1,5 +1,5 @@
 -- What a walk carries to a place is what stands around it.
-use Rattle.std.proofs.Common.{◌≡◌, zero, suc, ℕ, ◌⊎◌, inl, inr, Bool, true, false, List, [], ◌∷◌, Option, Some, None, IsTrue, refl, sym, ap, ◌∙◌, subst}
+use Rattle.std.proofs.Common.{◌≡◌, zero, suc, ℕ, inl, inr, false, List, [], ◌∷◌, Some, None, IsTrue, refl, sym, ap, ◌∙◌, subst}
 use Rattle.error_functions.specs.declared.error.FunctionError.{FunctionError}
 use Rattle.error_functions.specs.declared.error.FunctionError.TheVariants as error
 use Rattle.ir_blocks.specs.Control.{breaks_in, continues_in, returns_in, may_leave, parts_around, ControlOK}

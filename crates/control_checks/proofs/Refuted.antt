@@ -1,11 +1,10 @@
 -- A fault refutes the rule.
-use Rattle.std.proofs.Common.{◌≡◌, sym, ◌∙◌, true≢false}
-use Rattle.error_functions.specs.declared.error.FunctionError.{FunctionError}
+use Rattle.std.proofs.Common.{sym, ◌∙◌, true≢false}
 use Rattle.error_functions.specs.declared.error.FunctionError.TheVariants as error
 use Rattle.ir_blocks.specs.Control.{ControlOK}
 use Rattle.ir_blocks.specs.Plain.{PlainBlock}
 use Rattle.ir_blocks.specs.Shapes.{Exit, breaks, continues, returns}
-use Rattle.control_checks.specs.Faults.{IsLeftWrongly, IsControlFault}
+use Rattle.control_checks.specs.Faults.{IsLeftWrongly}
 use Rattle.control_checks.specs.Laws.{FaultsRefute}
 
 left_refutes : (b : PlainBlock) (exit : Exit) → IsLeftWrongly b exit → ControlOK b → ⊥

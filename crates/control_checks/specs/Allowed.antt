@@ -1,11 +1,11 @@
 -- How statements may leave their block, carried along a body.
-use Rattle.std.specs.Prelude.{◌≡◌, ◌⊎◌, Bool, true, false, IsTrue, Option, Some}
+use Rattle.std.specs.Prelude.{◌≡◌, ◌⊎◌, Bool, true, false, IsTrue}
 use Rattle.error_functions.specs.declared.error.FunctionError.{FunctionError}
 use Rattle.error_functions.specs.declared.error.FunctionError.TheVariants as error
 use Rattle.ir_blocks.specs.Places.{Place, here, later, condition}
 use Rattle.ir_blocks.specs.Places as at
 use Rattle.ir_blocks.specs.Plain.{PlainStatement, emit, block, if_, switch, loop, break, continue, return, kill, operation, call, PlainBlock, stop, next, PlainCases, no_case, case}
-use Rattle.ir_blocks.specs.Shapes.{Exit, breaks, continues, returns, kills, exit_of, shape_of, Part, inner, accepting, rejecting, case_at, loop_body, loop_continuing}
+use Rattle.ir_blocks.specs.Shapes.{Exit, breaks, continues, returns, kills, Part, inner, accepting, rejecting, case_at, loop_body, loop_continuing}
 use Rattle.control_checks.specs.declared.control.Allowed.{Allowed}
 use Rattle.control_checks.specs.declared.control.Wrong.{Wrong}
 use Rattle.control_checks.specs.declared.control.Wrong.TheVariants as wrong
