@@ -14,7 +14,7 @@ use ir_items::Block;
 ///
 /// # Errors
 ///
-/// Of the first statement that may not: [`FunctionError::BreakOutsideOfLoopOrSwitch`], [`FunctionError::ContinueOutsideOfLoop`],
+/// Of a statement that may not (the first in the order of the text, which no clause says): [`FunctionError::BreakOutsideOfLoopOrSwitch`], [`FunctionError::ContinueOutsideOfLoop`],
 /// or [`FunctionError::InvalidReturnSpot`] in a continuing part.
 #[tactic(auto, using(crate::proofs::Places::control_fine, crate::proofs::Places::control_wrong))]
 pub fn check_control(body: &Block) -> Result<(), FunctionError>

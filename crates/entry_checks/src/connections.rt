@@ -63,7 +63,7 @@ fn check_variables(
 /// # Errors
 ///
 /// [`Refusal::Fault`] with a fault that stands: of the arguments, the result, the variables that are used, or what a mesh shader
-/// gives, the first of these with which something is wrong; [`Refusal::Memory`] where memory ran out.
+/// gives (of the first of these with which something is wrong, which no clause says); [`Refusal::Memory`] where memory ran out.
 pub fn check_connections(
     alloc: Global,
     context: &EntryContext<'_>,

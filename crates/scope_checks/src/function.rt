@@ -95,7 +95,7 @@ fn asks_answers(flags: ValidationFlags) -> bool
 ///
 /// # Errors
 ///
-/// A fault of the first statement that has one, in the order of the text: [`FunctionError::Expression`] with `NotInScope` for
+/// A fault of a statement that has one (the first in the order of the text, which no clause says): [`FunctionError::Expression`] with `NotInScope` for
 /// an operand, or [`FunctionError::InvalidCall`] with `Argument` for what is passed to a function;
 /// [`FunctionError::ExpressionAlreadyInScope`], or `ResultAlreadyInScope` of a call; `ResultAlreadyPopulated` of a call or of an
 /// atomic operation. [`Refusal::Memory`] where there is no memory.

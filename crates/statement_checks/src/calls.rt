@@ -98,7 +98,7 @@ fn is_answered(
 ///
 /// # Errors
 ///
-/// [`FunctionError::InvalidCall`] with [`CallError::ArgumentType`] for the first argument of another type, or with
+/// [`FunctionError::InvalidCall`] with [`CallError::ArgumentType`] for an argument of another type (the first, which no clause says), or with
 /// [`CallError::ExpressionMismatch`] where the answer is no `CallResult` of the function, or is there exactly where there
 /// should be none.
 pub fn check_call(

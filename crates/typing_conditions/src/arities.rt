@@ -120,8 +120,8 @@ fn first_fault(function: &Function, module: &Module) -> Option<ArityFault>
     first_in(&arity, &function.body)
 }
 
-/// The first call of a function, in the order of the text, that passes another number of arguments than the function that it
-/// names has, or names none that is there; `None` where there is no such call.
+/// A call of a function that passes another number of arguments than the function that it names has, or names none that is
+/// there (the first in the order of the text, which no clause says); `None` where there is no such call.
 pub fn arity_fault(function: &Function, module: &Module) -> Option<ArityFault>
     ensures { MatchOption result
         (AritiesMatch (module_view «module».now) (function_view function.now))

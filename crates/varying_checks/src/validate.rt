@@ -250,7 +250,8 @@ fn accepted(
 ///
 /// # Errors
 ///
-/// [`VaryingRefusal::Fault`] for the first that it may not be given, by the argument that it is or belongs to;
+/// [`VaryingRefusal::Fault`] for one that it may not be given (the first, which no clause says), by the argument that it is or
+/// belongs to;
 /// [`VaryingRefusal::Memory`] where there is no memory for the varyings, their locations or what an error speaks of.
 pub fn validate_arguments(
     alloc: Global,
@@ -273,7 +274,7 @@ pub fn validate_arguments(
 ///
 /// # Errors
 ///
-/// [`VaryingRefusal::Fault`] for the first that it may not give; [`VaryingRefusal::Memory`] where there is no memory for the
+/// [`VaryingRefusal::Fault`] for one that it may not give (the first, which no clause says); [`VaryingRefusal::Memory`] where there is no memory for the
 /// varyings, their locations or what an error speaks of.
 pub fn validate_value(
     alloc: Global,
