@@ -62,7 +62,23 @@ pub(crate) fn handle_capability(inner: &TypeInner) -> Option<Capabilities>
                 None
             }
         }
-        _ => None,
+        TypeInner::Image {
+            class: ImageClass::Sampled { .. } | ImageClass::Depth { .. } | ImageClass::External,
+            ..
+        }
+        | TypeInner::Sampler { .. }
+        | TypeInner::AccelerationStructure { .. }
+        | TypeInner::BindingArray { .. }
+        | TypeInner::Scalar(_)
+        | TypeInner::Vector { .. }
+        | TypeInner::Matrix { .. }
+        | TypeInner::CooperativeMatrix { .. }
+        | TypeInner::Atomic(_)
+        | TypeInner::Pointer { .. }
+        | TypeInner::ValuePointer { .. }
+        | TypeInner::Array { .. }
+        | TypeInner::Struct { .. }
+        | TypeInner::RayQuery { .. } => None,
     }
 }
 
@@ -89,7 +105,17 @@ pub(crate) fn handles_capability(inner: &TypeInner) -> Option<Capabilities>
         TypeInner::AccelerationStructure { .. } => {
             Some(Capabilities::ACCELERATION_STRUCTURE_BINDING_ARRAY)
         }
-        _ => None,
+        TypeInner::Scalar(_)
+        | TypeInner::Vector { .. }
+        | TypeInner::Matrix { .. }
+        | TypeInner::CooperativeMatrix { .. }
+        | TypeInner::Atomic(_)
+        | TypeInner::Pointer { .. }
+        | TypeInner::ValuePointer { .. }
+        | TypeInner::Array { .. }
+        | TypeInner::Struct { .. }
+        | TypeInner::RayQuery { .. }
+        | TypeInner::BindingArray { .. } => None,
     }
 }
 
