@@ -10,38 +10,52 @@ use thiserror::Error;
 /// Where a part stands: the indexes that lead to it, from the outermost on, as far as there is room for them.
 #[derive(Clone, Copy, Debug, PartialEq, Eq)]
 pub struct Place {
-    steps: [Option<usize>; 8],
+    steps: [u32; 8],
+    // how many of them there are
+    count: u8,
 }
 
 impl Place {
     // The value itself.
     fn here() -> Place {
-        Place { steps: [None; 8] }
+        Place {
+            steps: [0; 8],
+            count: 0,
+        }
     }
 
     // The same place inside the part at this index.
     fn inside(self, index: usize) -> Place {
         let [a, b, c, d, e, f, g, _] = self.steps;
         Place {
-            steps: [Some(index), a, b, c, d, e, f, g],
+            steps: [
+                u32::try_from(index).unwrap_or(u32::MAX),
+                a,
+                b,
+                c,
+                d,
+                e,
+                f,
+                g,
+            ],
+            count: self.count.saturating_add(1),
         }
     }
 
-    /// The indexes, those that are there first.
-    pub fn steps(&self) -> &[Option<usize>] {
-        &self.steps
+    /// The indexes, the outermost first.
+    pub fn steps(&self) -> &[u32] {
+        let count = usize::from(self.count).min(self.steps.len());
+        &self.steps[..count]
     }
 }
 
 impl Display for Place {
     fn fmt<W: fmt::Write>(&self, f: &mut fmt::Formatter<W>) -> fmt::Result {
-        if self.steps[0].is_none() {
+        if self.count == 0 {
             return write!(f, "the whole");
         }
-        for step in self.steps.iter() {
-            if let Some(index) = *step {
-                write!(f, "[{index}]")?;
-            }
+        for index in self.steps() {
+            write!(f, "[{index}]")?;
         }
         Ok(())
     }

@@ -35,7 +35,10 @@ pub trait Form {
 pub fn read_at<F: Form>(alloc: Global, value: &Value, index: usize) -> Result<F::Item, ReadError>
     ensures { Answers result (λ found. option_map F.view found ≡ F.form.find (data_of value.now)) }
 {
-    F::read(alloc, value).map_err(|e| e.at(index))
+    match F::read(alloc, value) {
+        Ok(item) => Ok(item),
+        Err(error) => Err(error.at(index)),
+    }
 }
 
 /// The item that the value is written for, or that it is written for none, unless memory ran out.
@@ -64,7 +67,10 @@ impl Form for Truth {
     ghost form = { a_bool };
 
     fn read(_alloc: Global, value: &Value) -> Result<bool, ReadError> {
-        value.as_bool().ok_or(ReadError::here(Wanted::Truth))
+        match value.as_bool() {
+            Some(truth) => Ok(truth),
+            None => Err(ReadError::here(Wanted::Truth)),
+        }
     }
 }
 

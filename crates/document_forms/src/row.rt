@@ -51,9 +51,10 @@ pub fn read_row<R: Row>(alloc: Global, value: &Value) -> Result<R::Items, ReadEr
 pub fn split_part(items: &[Value], index: usize) -> Result<(&Value, &[Value]), ReadError>
     ensures { Answers result (λ found. option_map (λ t. (data_of t.0.now, items_view t.1.now)) found ≡ first (items_view items.now)) }
 {
-    items
-        .split_first()
-        .ok_or(ReadError::here(Wanted::FurtherPart).at(index))
+    let Some(parts) = items.split_first() else {
+        return Err(ReadError::here(Wanted::FurtherPart).at(index));
+    };
+    Ok(parts)
 }
 
 /// Nothing.

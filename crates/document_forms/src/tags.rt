@@ -17,8 +17,10 @@ pub fn split_tag<W: Word>(items: &[Value], index: usize) -> Result<(W, &[Value])
     let Some((item, rest)) = items.split_first() else {
         return Err(ReadError::here(Wanted::FurtherPart).at(index));
     };
-    let kind = read_word(item).map_err(|e| e.at(index))?;
-    Ok((kind, rest))
+    match read_word(item) {
+        Ok(kind) => Ok((kind, rest)),
+        Err(error) => Err(error.at(index)),
+    }
 }
 
 /// What the first word of an array stands for, and what comes behind it.

@@ -20,7 +20,10 @@ pub fn read_word<W: Word>(value: &Value) -> Result<W, ReadError>
     let Some(text) = value.as_str() else {
         return Err(ReadError::here(Wanted::Word));
     };
-    find_word(text).ok_or(ReadError::here(Wanted::Word))
+    match find_word(text) {
+        Some(word) => Ok(word),
+        None => Err(ReadError::here(Wanted::Word)),
+    }
 }
 
 /// A word of the set.

@@ -61,10 +61,11 @@ pub fn explain(alloc: Global, bytes: &[u8]) -> Result<Explanation, AllocError>
 
 // Where in the document it is, unless it is the whole.
 fn write_place<W: fmt::Write>(f: &mut fmt::Formatter<W>, place: &Place) -> fmt::Result {
-    match place.steps().first() {
-        Some(Some(_)) => write!(f, "{}: ", Told(place.steps())),
-        _ => Ok(()),
+    let steps = place.steps();
+    if steps.is_empty() {
+        return Ok(());
     }
+    write!(f, "{}: ", Told(steps))
 }
 
 // Why the bytes spell no document.

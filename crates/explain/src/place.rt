@@ -5,16 +5,16 @@ use std::fmt::{self, Display};
 
 /// The indexes that lead to a place of a document, from the outermost on, as the names of the parts that have one.
 #[derive(Clone, Copy)]
-pub struct Told<'a>(pub &'a [Option<usize>]);
+pub struct Told<'a>(pub &'a [u32]);
 
 // One step into a part, and what is there.
 fn write_step<W: fmt::Write>(
     f: &mut fmt::Formatter<W>,
     part: Part,
-    index: usize,
+    index: u32,
     dot: &str,
 ) -> Result<Part, fmt::Error> {
-    let (name, inside) = part.inside(index);
+    let (name, inside) = part.inside(index as usize);
     match name {
         Some(name) => write!(f, "{dot}{name}")?,
         None => write!(f, "[{index}]")?,
@@ -26,10 +26,7 @@ impl<'a> Display for Told<'a> {
     fn fmt<W: fmt::Write>(&self, f: &mut fmt::Formatter<W>) -> fmt::Result {
         let mut part = Part::Row(Row::Document);
         let mut dot = "";
-        for step in self.0 {
-            let Some(index) = step else {
-                return Ok(());
-            };
+        for index in self.0 {
             part = write_step(f, part, *index, dot)?;
             dot = ".";
         }
