@@ -1,5 +1,5 @@
 //! Whether statements meet the rules of their kinds that change values and texels at once, write texels, or load values of
-//! workgroup memory together. The others stand in `statement_checks`, `statement_validator`, `ray_checks` and `subgroup_checks`.
+//! workgroup memory together. The others stand in `statement_checks`, `statement_validator` and `operation_checks`.
 #![tactic(auto)]
 
 mod atomics;

@@ -16,7 +16,7 @@ ghost use Rattle.typing_forms.specs.Resolutions.{inner_at};
 use crate::atomics::is_extremum;
 use bitflags::Flags;
 use error_functions::{ExpressionError, FunctionError};
-use image_checks::is_texel;
+use expression_validator::is_texel;
 use ir_arena::handle::Handle;
 use ir_blocks::AtomicFunction;
 use ir_faults::refusal::Refusal;

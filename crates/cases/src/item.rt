@@ -1,7 +1,7 @@
 // Items of the IR: how a line of the input gives them, how they are copied, and what is told of them.
 use crate::modules::document_of;
+use document_reader::{BodyForm, EntryForm, FunctionForm, LocalForm};
 use expression_forms::ExpressionForm;
-use function_forms::{BodyForm, EntryForm, FunctionForm, LocalForm};
 use ir_items::{
     Block, Constant, DiagnosticFilterNode, EntryPoint, Expression, Function, GlobalVariable,
     IrType, LocalVariable, Module, Override, SpecialTypes,

@@ -1,3 +1,4 @@
 pub mod Distinct
 pub mod Seam
 pub mod Candidates
+pub mod Steps

@@ -24,7 +24,7 @@ use Rattle.item_forms.specs.Types.{a_type}
 use Rattle.item_forms.specs.Items.{a_constant, an_override, a_global, a_filter}
 use Rattle.item_forms.specs.Special.{the_special}
 use Rattle.expression_forms.specs.Expressions.{an_expression}
-use Rattle.function_forms.specs.Functions.{a_function, an_entry}
+use Rattle.document_reader.specs.Functions.{a_function, an_entry}
 use Rattle.document_reader.specs.Plain.{PlainDocument}
 use Rattle.document_reader.specs.Form.{IsVersion, ADocument}
 

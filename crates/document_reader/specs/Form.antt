@@ -9,8 +9,8 @@ use Rattle.document_forms.specs.Form.{ABool, ASet, AnArray, AList, Ends, ◌▸�
 use Rattle.item_forms.specs.Form.{AType}
 use Rattle.expression_forms.specs.Form.{AnExpression}
 use Rattle.item_forms.specs.ItemForm.{ASpecial, AllFilters, AConstant, AnOverride, AGlobal}
-use Rattle.function_forms.specs.FunctionForm.{AFunction}
-use Rattle.function_forms.specs.EntryForm.{AnEntry}
+use Rattle.document_reader.specs.FunctionForm.{AFunction}
+use Rattle.document_reader.specs.EntryForm.{AnEntry}
 use Rattle.document_reader.specs.declared.reading.TheConstants.{MAX_LEN}
 use Rattle.document_reader.specs.Distinct.{AreDistinct}
 use Rattle.document_reader.specs.Plain.{PlainDocument}

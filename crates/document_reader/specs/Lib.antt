@@ -4,3 +4,9 @@ pub mod View
 pub mod Form
 pub mod Reasons
 pub mod Documents
+pub mod Kinds
+pub mod StatementForm
+pub mod Statements
+pub mod FunctionForm
+pub mod EntryForm
+pub mod Functions

@@ -15,12 +15,12 @@ ghost use Rattle.document_reader.specs.Documents.{a_version, content_of, content
 
 use crate::first::read_first;
 use crate::model::{Document, Settings};
+use crate::{EntryForm, FunctionForm};
 use document_forms::{
     At, Each, Form, InArena, InArray, Maybe, ReadError, Row, SetOf, Truth, Wanted, read_all,
     split_part,
 };
 use expression_forms::ExpressionForm;
-use function_forms::{EntryForm, FunctionForm};
 use ir_flags::{Capabilities, ShaderStages, SubgroupOperationSet, ValidationFlags};
 use ir_items::Module;
 use ir_types::{IrType, key};

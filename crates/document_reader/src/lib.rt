@@ -1,14 +1,24 @@
 //! From bytes to a document, and what a document holds: what it asks of the validator, and a module.
+//!
+//! The written forms of functions and entry points, and of the statements and bodies in them.
 #![tactic(auto)]
 
 mod document;
 mod error;
 mod first;
+mod functions;
+mod kinds;
 pub mod laws;
 mod model;
+mod operations;
+mod parts;
 mod reading;
+mod statements;
 
 pub use document::VersionForm;
 pub use error::DocumentError;
+pub use functions::{ArgumentForm, EntryForm, FunctionForm, LocalForm, ResultForm};
 pub use model::{Document, Settings, build_module};
+pub use parts::{AtomicForm, GatherForm, PipelineForm, RayQueryForm, ValueForm};
 pub use reading::{MAX_LEN, read_document};
+pub use statements::BodyForm;

@@ -8,6 +8,7 @@ ghost use Rattle.spec_statements.specs.Expressions.{AskedOf, ExpressionOK};
 ghost use Rattle.spec_statements.specs.ExpressionStages.{IsRunBy};
 
 use crate::stages::stages_of;
+use crate::{check_image_load, check_image_query, check_image_sample};
 use error_functions::ExpressionError;
 use expression_checks::{
     check_access, check_access_index, check_array_length, check_as, check_atomic_result,
@@ -15,7 +16,6 @@ use expression_checks::{
     check_literal, check_load, check_multiply_add, check_relational, check_select, check_swizzle,
     check_unary, check_uniform_load, check_vertex_positions, check_zero,
 };
-use image_checks::{check_image_load, check_image_query, check_image_sample};
 use ir_arena::handle::Handle;
 use ir_flags::ShaderStages;
 use ir_types::{Expression, key};

@@ -12,7 +12,7 @@ use Rattle.function_validator.specs.EntryFaults.{IsEntryPointFault, of_stage, of
 use Rattle.function_validator.specs.Validated.{AddsOwnUses, IsEntryNoted, IsEntrySummary, IsEntryValidated, TellsSame}
 use Rattle.error_functions.specs.declared.error.FunctionError.{FunctionError}
 use Rattle.function_validator.specs.Faults.{IsFunctionFault}
-use Rattle.function_lower.specs.Analysis.{Faults, IsRefusedFor as IsFunctionRefusedFor}
+use Rattle.function_interface.specs.Analysis.{Faults, IsRefusedFor as IsFunctionRefusedFor}
 use Rattle.ir_faults.specs.Faults.{error_of}
 use Rattle.ir_faults.specs.declared.refusal.Refusal.{Refusal}
 use Rattle.ir_faults.specs.declared.refusal.Refusal.TheVariants as refusal

@@ -4,7 +4,7 @@ use Rattle.std.proofs.lemmas.List.{length-map}
 use Rattle.std.proofs.lemmas.Option.{slice_get_within}
 use Rattle.error_functions.specs.declared.error.FunctionError.{FunctionError}
 use Rattle.error_functions.specs.declared.error.FunctionError.TheVariants as error
-use Rattle.interface_checks.specs.Answered.{AllAnswered, IsUnansweredFault}
+use Rattle.function_interface.specs.Answered.{AllAnswered, IsUnansweredFault}
 use Rattle.ir_blocks.specs.Places.{Place}
 use Rattle.ir_types.specs.ExpressionPlain.{PlainExpression}
 use Rattle.spec_statements.specs.BlockContext.{BlockContext}

@@ -3,9 +3,9 @@ use Rattle.std.proofs.Common.{◌≡◌, ◌↔◌, ◌⊎◌, inl, inr, ◌<◌
 use Rattle.std.specs.Int.RustNames.{bit_and}
 use Rattle.control_checks.specs.Faults.{IsControlFault}
 use Rattle.error_functions.specs.declared.error.FunctionError.{FunctionError}
-use Rattle.function_lower.specs.Analysis.{Faults, IsRefusedFor}
-use Rattle.interface_checks.specs.Interfaces.{IsInterfaceFault}
-use Rattle.interface_checks.specs.Refusals.{IsRefusal}
+use Rattle.function_interface.specs.Analysis.{Faults, IsRefusedFor}
+use Rattle.function_interface.specs.Interfaces.{IsInterfaceFault}
+use Rattle.function_interface.specs.Refusals.{IsRefusal}
 use Rattle.ir_blocks.specs.Places.{Place, StandsAt}
 use Rattle.ir_blocks.specs.Plain.{PlainStatement}
 use Rattle.ir_faults.specs.Faults.{error_of}
@@ -14,7 +14,7 @@ use Rattle.ir_faults.specs.declared.refusal.Refusal.TheVariants as refusal
 use Rattle.ir_flags.specs.Sets.{Has}
 use Rattle.ir_flags.specs.declared.settings.TheConstants.ValidationFlags.{EXPRESSIONS, BLOCKS}
 use Rattle.ir_flags.specs.declared.stages.ShaderStages.{ShaderStages}
-use Rattle.interface_checks.specs.Bodies.{MayRun}
+use Rattle.function_interface.specs.Bodies.{MayRun}
 use Rattle.scope_checks.specs.Faults.{IsScopeFault, IsScopeRefusal}
 use Rattle.spec_statements.specs.ExpressionStages.{all_stages}
 use Rattle.spec_statements.specs.BlockContext.{BlockContext}

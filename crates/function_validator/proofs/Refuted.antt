@@ -7,14 +7,14 @@ use Rattle.error_functions.specs.declared.error.FunctionError.{FunctionError}
 use Rattle.error_functions.specs.declared.error.FunctionError.TheVariants as error
 use Rattle.error_functions.specs.declared.calls.CallError.{CallError}
 use Rattle.error_functions.specs.declared.calls.CallError.TheVariants as call_error
-use Rattle.function_lower.specs.Analysis.{Faults}
-use Rattle.interface_checks.proofs.Refuted.{faults_refute_lem as by_interface}
+use Rattle.function_interface.specs.Analysis.{Faults}
+use Rattle.function_interface.proofs.Refuted.{faults_refute_lem as by_interface}
 use Rattle.ir_flags.specs.Sets.{Has}
 use Rattle.ir_flags.specs.declared.settings.Capabilities.{Capabilities}
 use Rattle.ir_flags.specs.declared.settings.TheConstants.ValidationFlags.{EXPRESSIONS}
 use Rattle.ir_flags.specs.declared.settings.ValidationFlags.{ValidationFlags}
 use Rattle.ir_items.specs.Plain.{PlainFunction, PlainModule}
-use Rattle.ray_checks.proofs.Refuted.{faults_refute_lem as by_ray}
+use Rattle.operation_checks.proofs.Refuted.{faults_refute_lem as by_ray}
 use Rattle.scope_checks.proofs.Refuted.{faults_refute_lem as by_scope}
 use Rattle.spec_analysis.proofs.Members.{get-within}
 use Rattle.spec_handles.specs.Conditions.{AritiesMatch}

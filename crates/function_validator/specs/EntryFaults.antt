@@ -6,7 +6,7 @@ use Rattle.entry_checks.specs.declared.error.EntryPointError.{EntryPointError}
 use Rattle.entry_checks.specs.declared.error.EntryPointError.TheVariants.{ForbiddenStageOperations, Function}
 use Rattle.error_functions.specs.declared.error.FunctionError.{FunctionError}
 use Rattle.function_validator.specs.Faults.{IsFunctionFault}
-use Rattle.function_lower.specs.Analysis.{Faults}
+use Rattle.function_interface.specs.Analysis.{Faults}
 use Rattle.ir_faults.specs.Faults.{error_of}
 use Rattle.ir_faults.specs.declared.refusal.Refusal.{Refusal}
 use Rattle.ir_faults.specs.declared.refusal.Refusal.TheVariants as refusal

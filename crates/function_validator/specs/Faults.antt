@@ -4,14 +4,14 @@ use Rattle.control_checks.specs.Faults.{IsControlFault}
 use Rattle.error_functions.specs.declared.expressions.ExpressionError.{ExpressionError}
 use Rattle.error_functions.specs.declared.error.FunctionError.{FunctionError}
 use Rattle.error_functions.specs.declared.error.FunctionError.TheVariants as error
-use Rattle.function_lower.specs.Analysis.{Faults}
+use Rattle.function_interface.specs.Analysis.{Faults}
 use Rattle.function_validator.specs.Arities.{IsArityFault}
-use Rattle.interface_checks.specs.Interfaces.{IsInterfaceFault}
+use Rattle.function_interface.specs.Interfaces.{IsInterfaceFault}
 use Rattle.ir_blocks.specs.Places.{Place}
 use Rattle.ir_flags.specs.Sets.{Has}
 use Rattle.ir_flags.specs.declared.settings.TheConstants.ValidationFlags.{EXPRESSIONS, BLOCKS}
 use Rattle.ir_items.specs.Plain.{PlainFunction, PlainModule}
-use Rattle.ray_checks.specs.Payloads.{IsPayloadsFault}
+use Rattle.operation_checks.specs.Payloads.{IsPayloadsFault}
 use Rattle.scope_checks.specs.Faults.{IsScopeFault}
 use Rattle.spec_handles.specs.Conditions.{AritiesMatch}
 use Rattle.spec_statements.specs.BlockContext.{BlockContext}

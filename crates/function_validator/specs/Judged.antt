@@ -8,7 +8,7 @@ use Rattle.ir_blocks.specs.Plain.{PlainStatement}
 use Rattle.ir_flags.specs.Sets.{Has}
 use Rattle.ir_flags.specs.declared.settings.TheConstants.ValidationFlags.{EXPRESSIONS, BLOCKS}
 use Rattle.ir_flags.specs.declared.stages.ShaderStages.{ShaderStages}
-use Rattle.ray_checks.specs.Payloads.{AreOfOneType}
+use Rattle.operation_checks.specs.Payloads.{AreOfOneType}
 use Rattle.spec_statements.specs.ExpressionStages.{all_stages}
 use Rattle.spec_statements.specs.Answered.{EachOnce}
 use Rattle.spec_statements.specs.BlockContext.{BlockContext}

@@ -3,13 +3,13 @@
 ghost use Rattle.std.specs.Prelude.{◌≡◌, ◌↔◌, ◌<◌, ◌≤◌, ℕ, Contains, IfOk, MatchResult, Some, length, slice_get, true};
 ghost use Rattle.function_validator.specs.Faults.{IsUnanswered};
 ghost use Rattle.function_validator.specs.Judged.{AllAnswer};
-ghost use Rattle.function_lower.specs.Analysis.{IsRefusedFor};
+ghost use Rattle.function_interface.specs.Analysis.{IsRefusedFor};
 ghost use Rattle.ir_blocks.specs.Places.{Place};
 ghost use Rattle.spec_statements.specs.Results.{AnswersBy};
 ghost use Rattle.statement_checks.specs.View.{context_view};
 
 use error_functions::FunctionError;
-use interface_checks::check_answered;
+use function_interface::check_answered;
 use ir_arena::handle::Handle;
 use ir_faults::refusal::Refusal;
 use ir_faults::with_span::WithSpan;

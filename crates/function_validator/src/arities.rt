@@ -14,7 +14,8 @@ use typing_conditions::arity_fault;
 ///
 /// # Errors
 ///
-/// [`FunctionError::InvalidCall`] with [`CallError::ArgumentCount`] for the first call that doesn't, in the order of the text.
+/// [`FunctionError::InvalidCall`] with [`CallError::ArgumentCount`] for a call that doesn't (the first in the order of the text, which no clause
+/// says).
 pub fn check_arities(module: &Module, function: &Function) -> Result<(), FunctionError>
     requires { HandlesInRange (module_view «module».now) (function_view function.now) }
     ensures { MatchResult result

@@ -1,8 +1,7 @@
 //! The stages that a layer has noted of functions.
 
 use bitflags::Flags;
-use function_lower::Lower;
-use interface_checks::CalleeStages;
+use function_interface::{CalleeStages, Lower};
 use ir_arena::handle::Handle;
 use ir_flags::ShaderStages;
 use ir_types::key;

@@ -14,7 +14,7 @@ ghost use Rattle.spec_varyings.specs.Varyings.{HasBlendSources, result_varyings}
 use crate::settings::FunctionSettings;
 use crate::uses::{note_own, uses_of};
 use entry_checks::{EntryContext, EntryPointError, check_connections};
-use function_lower::Lower;
+use function_interface::Lower;
 use ir_faults::refusal::Refusal;
 use ir_items::{EntryPoint, Module};
 use std::alloc::Global;

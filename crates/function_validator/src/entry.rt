@@ -5,7 +5,7 @@ ghost use Rattle.entry_checks.specs.Faults.{IsRefusedFor};
 ghost use Rattle.function_validator.specs.EntryFaults.{IsRefusedAs, IsToldAs};
 ghost use Rattle.function_validator.specs.Validated.{IsEntryValidated, own_settings};
 ghost use Rattle.function_validator.specs.Settings.{settings_view};
-ghost use Rattle.function_lower.specs.Question.{question};
+ghost use Rattle.function_interface.specs.Question.{question};
 ghost use Rattle.ir_faults.specs.Faults.{error_of};
 ghost use Rattle.ir_flags.specs.Sets.{Has};
 ghost use Rattle.ir_items.specs.View.{entry_view, module_view};
@@ -22,7 +22,7 @@ use crate::validate::{Validated, validate_function};
 use bitflags::Flags;
 use entry_checks::{EntryPointError, check_payload, check_stage, stage_set};
 use error_functions::FunctionError;
-use function_lower::Lower;
+use function_interface::Lower;
 use ir_faults::refusal::Refusal;
 use ir_faults::with_span::WithSpan;
 use ir_items::{EntryPoint, Module};
@@ -72,8 +72,8 @@ fn allows_stage<L: Lower>(lower: &L, info: &L::Info, stage: ShaderStage) -> bool
 ///
 /// # Errors
 ///
-/// [`Refusal::Fault`] exactly where the entry point is not accepted, with no span, and with a fault of the first of these with
-/// which something is wrong: its stage, its function ([`EntryPointError::Function`]), its payload, what its function does at its
+/// [`Refusal::Fault`] exactly where the entry point is not accepted, with a fault that stands. It has no span, and is of the first of
+/// these with which something is wrong, which no clause says: its stage, its function ([`EntryPointError::Function`]), its payload, what its function does at its
 /// stage ([`EntryPointError::ForbiddenStageOperations`]), its arguments, its result, the global variables that it uses, and what a
 /// mesh shader gives. [`Refusal::Memory`] where memory ran out.
 pub fn validate_entry_point<L: Lower>(

@@ -3,12 +3,12 @@
 ghost use Rattle.std.specs.Prelude.{MatchResult, length, map};
 ghost use Rattle.function_validator.specs.Faults.{IsExpressionFault};
 ghost use Rattle.function_validator.specs.Judged.{AcceptedBelow};
-ghost use Rattle.function_lower.specs.Question.{question};
+ghost use Rattle.function_interface.specs.Question.{question};
 ghost use Rattle.statement_checks.specs.View.{context_view, IsKnown};
 
 use bitflags::Flags;
 use error_functions::FunctionError;
-use function_lower::Lower;
+use function_interface::Lower;
 use ir_arena::handle::Handle;
 use ir_flags::ShaderStages;
 use statement_checks::BlockContext;

@@ -4,7 +4,7 @@ ghost use Rattle.std.specs.Prelude.{◌≡◌, ◌≤◌, IfOk, length, map};
 ghost use Rattle.typing_forms.specs.Resolutions.{types_view};
 ghost use Rattle.typing_operands.specs.Answers.{form_given};
 
-use function_lower::Lower;
+use function_interface::Lower;
 use ir_arena::handle::Handle;
 use ir_types::{IrType, key};
 use ir_unique_arena::unique_arena::UniqueArena;

@@ -7,7 +7,7 @@ ghost use Rattle.spec_analysis.specs.Summaries.{HasUseBit};
 ghost use Rattle.spec_entries.specs.Uses.{OwnUse, mesh_output, own_payload_use};
 
 use analysis_forms::GlobalUse;
-use function_lower::Lower;
+use function_interface::Lower;
 use ir_arena::handle::Handle;
 use ir_items::EntryPoint;
 use ir_kinds::ShaderStage;

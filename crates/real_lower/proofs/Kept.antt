@@ -6,8 +6,8 @@ use Rattle.analysis_forms.specs.declared.expression_info.ExpressionInfo.{Express
 use Rattle.analysis_info.specs.Infos.{summary_of}
 use Rattle.analysis_info.specs.declared.function_info.FunctionInfo.{FunctionInfo}
 use Rattle.error_functions.specs.declared.error.FunctionError.{FunctionError}
-use Rattle.function_lower.specs.Analysis.{IsKept, IsRefusedFor}
-use Rattle.function_lower.specs.Question.{question}
+use Rattle.function_interface.specs.Analysis.{IsKept, IsRefusedFor}
+use Rattle.function_interface.specs.Question.{question}
 use Rattle.ir_faults.specs.declared.refusal.Refusal.{Refusal}
 use Rattle.ir_faults.specs.declared.refusal.Refusal.TheVariants as refusal
 use Rattle.ir_flags.specs.declared.settings.ValidationFlags.{ValidationFlags}

@@ -3,7 +3,7 @@ use Rattle.std.proofs.Common.{◌≡◌, ℕ, List, Some, sym, ap, ◌∙◌}
 use Rattle.error_functions.specs.declared.expressions.ExpressionError.{ExpressionError}
 use Rattle.expression_validator.proofs.Refuted.{expression_refuted}
 use Rattle.expression_validator.specs.Faults.{IsExpressionFault}
-use Rattle.function_lower.specs.Question.{Question}
+use Rattle.function_interface.specs.Question.{Question}
 use Rattle.ir_types.specs.ExpressionPlain.{PlainExpression}
 use Rattle.ir_flags.specs.declared.settings.Capabilities.{Capabilities}
 use Rattle.ir_flags.specs.declared.stages.ShaderStages.{ShaderStages}

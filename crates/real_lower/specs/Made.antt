@@ -2,7 +2,7 @@
 use Rattle.std.specs.Prelude.{List, map}
 use Rattle.analysis_forms.specs.declared.expression_info.ExpressionInfo.{ExpressionInfo}
 use Rattle.analysis_info.specs.declared.function_info.FunctionInfo.{FunctionInfo}
-use Rattle.interface_checks.specs.Told.{AreTold}
+use Rattle.function_interface.specs.Told.{AreTold}
 use Rattle.ir_items.specs.Plain.{PlainModule}
 use Rattle.module_info.specs.declared.info.ModuleInfo.{ModuleInfo}
 use Rattle.spec_expressions.specs.Context.{outside}

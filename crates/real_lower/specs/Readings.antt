@@ -2,8 +2,8 @@
 use Rattle.std.specs.Prelude.{ℕ}
 use Rattle.error_functions.specs.declared.error.FunctionError.{FunctionError}
 use Rattle.expression_validator.specs.Faults.{IsExpressionFault}
-use Rattle.function_lower.specs.Analysis.{Faults}
-use Rattle.function_lower.specs.Question.{Question}
+use Rattle.function_interface.specs.Analysis.{Faults}
+use Rattle.function_interface.specs.Question.{Question}
 use Rattle.spec_statements.specs.Expressions.{ExpressionOK}
 use Rattle.spec_statements.specs.Scene.{scene_of}
 use Rattle.spec_statements.specs.ExpressionStages.{IsRunBy}

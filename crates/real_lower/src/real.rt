@@ -7,7 +7,7 @@ use analysis_forms::{GlobalUse, SamplingPair};
 use analysis_info::FunctionInfo;
 use error_functions::{ExpressionError, FunctionError};
 use expression_validator::validate_expression;
-use function_lower::Lower;
+use function_interface::Lower;
 use ir_arena::handle::Handle;
 use ir_faults::refusal::Refusal;
 use ir_flags::{ShaderStages, ValidationFlags};

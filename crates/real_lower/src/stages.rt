@@ -1,12 +1,12 @@
 //! The stages that may run an expression, where those of functions are noted.
 
 ghost use Rattle.std.specs.Prelude.{◌≡◌, [], map};
-ghost use Rattle.interface_checks.specs.Callees.{noted};
+ghost use Rattle.function_interface.specs.Callees.{noted};
 ghost use Rattle.ir_types.specs.ExpressionPlain.{expression_view};
 ghost use Rattle.spec_statements.specs.ExpressionStages.{stages_of};
 
 use analysis_info::FunctionInfo;
-use interface_checks::{CalleeStages, NotedStages};
+use function_interface::{CalleeStages, NotedStages};
 use ir_flags::ShaderStages;
 use ir_types::Expression;
 

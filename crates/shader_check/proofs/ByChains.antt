@@ -5,7 +5,7 @@ use Rattle.error_functions.specs.declared.expressions.ExpressionError.TheVariant
 use Rattle.error_functions.specs.declared.error.FunctionError.{FunctionError}
 use Rattle.error_functions.specs.declared.error.FunctionError.TheVariants.{Expression, NonUniformControlFlow}
 use Rattle.error_functions.specs.declared.disruptor.UniformityDisruptor.TheVariants.{Discard}
-use Rattle.function_lower.specs.Question.{question}
+use Rattle.function_interface.specs.Question.{question}
 use Rattle.shader_check.proofs.Chained.{some_is}
 use Rattle.shader_check.specs.Judged.{IsAcceptedAt, IsRefusedAt}
 use Rattle.ir_flags.specs.declared.settings.ValidationFlags.{ValidationFlags}

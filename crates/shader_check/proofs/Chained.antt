@@ -4,8 +4,8 @@ use Rattle.std.proofs.lemmas.Bool.{cases_eq}
 use Rattle.std.proofs.lemmas.Option.{slice_get_within}
 use Rattle.error_functions.specs.declared.error.FunctionError.{FunctionError}
 use Rattle.function_validator.specs.Faults.{IsFunctionFault}
-use Rattle.function_lower.specs.Analysis.{Faults, IsRefusedFor}
-use Rattle.function_lower.specs.Question.{Question, question}
+use Rattle.function_interface.specs.Analysis.{Faults, IsRefusedFor}
+use Rattle.function_interface.specs.Question.{Question, question}
 use Rattle.shader_check.specs.Judged.{Preceding, IsAcceptedAt, IsRefusedAt, IsNotedAt, AreNoted, AreJudged, IsFirstRefused, IsToldAt, IsRefusal}
 use Rattle.shader_check.specs.declared.functions.InvalidFunction.{InvalidFunction}
 use Rattle.ir_faults.specs.Faults.{error_of}

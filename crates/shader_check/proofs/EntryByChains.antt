@@ -2,7 +2,7 @@
 use Rattle.std.proofs.Common.{◌≡◌, ℕ, Bool, List, length, Option, Some, sym, subst, ◌∙◌, slice_get}
 use Rattle.std.proofs.lemmas.Option.{slice_get_within}
 use Rattle.entry_checks.specs.declared.error.EntryPointError.{EntryPointError}
-use Rattle.function_lower.specs.Question.{question}
+use Rattle.function_interface.specs.Question.{question}
 use Rattle.function_validator.specs.Validated.{IsEntryNoted}
 use Rattle.shader_check.proofs.ByChains.{ok_by_chains, ok_by_summaries}
 use Rattle.shader_check.proofs.Chained.{some_is}

@@ -7,8 +7,8 @@ use Rattle.entry_checks.specs.Faults.{IsRefusedFor}
 use Rattle.entry_checks.specs.declared.error.EntryPointError.{EntryPointError}
 use Rattle.function_validator.specs.EntryFaults.{IsRefusedAs}
 use Rattle.function_validator.specs.Validated.{IsEntryNoted, IsEntrySummary, IsEntryValidated}
-use Rattle.function_lower.specs.Analysis.{Faults}
-use Rattle.function_lower.specs.Question.{Question, question}
+use Rattle.function_interface.specs.Analysis.{Faults}
+use Rattle.function_interface.specs.Question.{Question, question}
 use Rattle.shader_check.proofs.Chained.{one_more_at, some_is, one_longer, below_or_here}
 use Rattle.shader_check.proofs.EntryHeld.{entry_held_next}
 use Rattle.shader_check.specs.JudgedEntries.{reading_at, Note, IsEntryAcceptedAt, IsEntryRefusedAt, conflicting, unaccepted, AreEntryNotes, AreEntrySummaries, AreEntriesJudged, IsFirstEntryRefused, IsEntryToldAt, IsConflictTold, IsEntryRefusal}

@@ -1,6 +1,6 @@
 -- What is noted of functions that were judged one after the other is which stages may run them, each with its callees.
 use Rattle.std.proofs.Common.{◌≡◌, ◌↔◌, ℕ, ◌<◌, List, length, Option, Some, refl, sym, ap, subst, ◌∙◌, slice_get, unwrap_or}
-use Rattle.function_lower.specs.Question.{question}
+use Rattle.function_interface.specs.Question.{question}
 use Rattle.shader_check.proofs.Chained.{some_is}
 use Rattle.shader_check.specs.Judged.{IsNotedAt, AreNoted}
 use Rattle.ir_blocks.specs.Places.{Place, StandsAt}

@@ -2,8 +2,8 @@
 use Rattle.std.specs.Prelude.{◌≡◌, ◌<◌, ◌↔◌, ℕ, [], List, length, Option, Some, slice_get}
 use Rattle.error_functions.specs.declared.error.FunctionError.{FunctionError}
 use Rattle.function_validator.specs.Faults.{IsFunctionFault}
-use Rattle.function_lower.specs.Analysis.{Faults}
-use Rattle.function_lower.specs.Question.{Question, question}
+use Rattle.function_interface.specs.Analysis.{Faults}
+use Rattle.function_interface.specs.Question.{Question, question}
 use Rattle.shader_check.specs.declared.functions.InvalidFunction.{InvalidFunction}
 use Rattle.ir_faults.specs.Faults.{error_of, spans_of}
 use Rattle.ir_faults.specs.declared.refusal.Refusal.{Refusal}

@@ -2,8 +2,8 @@
 use Rattle.std.specs.Prelude.{◌≡◌, ◌<◌, ℕ, [], Bool, List, length, Option, Some, slice_get}
 use Rattle.entry_checks.specs.declared.error.EntryPointError.{EntryPointError}
 use Rattle.entry_checks.specs.declared.error.EntryPointError.TheVariants.{Conflict}
-use Rattle.function_lower.specs.Analysis.{Faults}
-use Rattle.function_lower.specs.Question.{Question, question}
+use Rattle.function_interface.specs.Analysis.{Faults}
+use Rattle.function_interface.specs.Question.{Question, question}
 use Rattle.function_validator.specs.EntryFaults.{IsRefusedAs}
 use Rattle.function_validator.specs.Validated.{IsEntryNoted, IsEntrySummary}
 use Rattle.shader_check.specs.declared.entries.InvalidEntryPoint.{InvalidEntryPoint}

@@ -14,7 +14,7 @@ ghost use Rattle.spec_handles.specs.InOrder.{HandlesOK};
 use crate::functions::Judged;
 use crate::validator::Validator;
 use entry_checks::EntryPointError;
-use function_lower::Lower;
+use function_interface::Lower;
 use function_validator::{FunctionSettings, SeenNames, Validated, validate_entry_point};
 use ir_arena::handle::Handle;
 use ir_faults::refusal::Refusal;

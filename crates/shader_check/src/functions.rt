@@ -8,7 +8,7 @@ ghost use Rattle.spec_handles.specs.InOrder.{HandlesOK};
 
 use crate::validator::Validator;
 use error_functions::FunctionError;
-use function_lower::Lower;
+use function_interface::Lower;
 use function_validator::{FunctionSettings, Validated, validate_function};
 use ir_arena::handle::Handle;
 use ir_faults::refusal::Refusal;

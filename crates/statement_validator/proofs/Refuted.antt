@@ -6,8 +6,8 @@ use Rattle.spec_statements.specs.BlockContext.{BlockContext}
 use Rattle.spec_statements.specs.Statements.{StatementOK, OperationOK}
 use Rattle.statement_checks.proofs.Refuted.{faults_refute_lem as by_statement}
 use Rattle.atomic_checks.proofs.Refuted.{faults_refute_lem as by_atomic}
-use Rattle.ray_checks.proofs.Refuted.{faults_refute_lem as by_ray}
-use Rattle.subgroup_checks.proofs.Refuted.{faults_refute_lem as by_subgroup}
+use Rattle.operation_checks.proofs.Refuted.{faults_refute_lem as by_ray}
+use Rattle.operation_checks.proofs.SubgroupRefuted.{faults_refute_lem as by_subgroup}
 use Rattle.statement_validator.proofs.SwitchRefuted.{faults_refute_lem as by_switch}
 use Rattle.statement_validator.specs.Faults.{IsOperationFault, IsStatementFault}
 use Rattle.statement_validator.specs.Laws.{FaultsRefute}

@@ -1,6 +1,6 @@
 -- What holds of each statement of a body, wherever it stands, and of one of them, along the body.
 use Rattle.std.specs.Prelude.{◌⊎◌, ◌<◌, ℕ, length}
-use Rattle.ir_blocks.specs.Plain.{PlainStatement, emit, block, if_, switch, loop, break, continue, return, kill, operation, call, PlainBlock, stop, next, PlainCases, no_case, case}
+use Rattle.ir_blocks.specs.Plain.{image_store, PlainStatement, emit, block, if_, switch, loop, break, continue, return, kill, operation, call, PlainBlock, stop, next, PlainCases, no_case, case}
 use Rattle.ir_items.specs.Plain.{PlainModule}
 use Rattle.spec_statements.specs.BlockContext.{BlockContext}
 use Rattle.spec_statements.specs.Statements.{StatementOK}
@@ -15,6 +15,13 @@ HasCallee m _ = Unit {0}
 -- it meets its rule, if what it calls is there
 abbrev pub Meets : BlockContext → PlainStatement → Type 0
 Meets c u = HasCallee c.m u → StatementOK c u
+
+-- it does, where its rule is asked without memory: it is no switch, and writes no texel
+abbrev pub MeetsPlainly : BlockContext → PlainStatement → Type 0
+MeetsPlainly c (switch selector cases) = Unit {0}
+MeetsPlainly c (operation (image_store image coordinate array_index value)) = Unit {0}
+MeetsPlainly c (call function arguments answer) = function < length c.m.functions → StatementOK c (call function arguments answer)
+MeetsPlainly c u = StatementOK c u
 
 -- it has the fault that is told, if one is
 abbrev pub IsWrong : BlockContext → StatementError → PlainStatement → Type 0

@@ -9,8 +9,8 @@ use Rattle.ir_faults.specs.declared.refusal.Refusal.TheVariants as refusal
 use Rattle.atomic_checks.specs.Atomics.{IsAtomicFault}
 use Rattle.atomic_checks.specs.StorageImages.{IsImageStoreFault, IsImageAtomicFault}
 use Rattle.atomic_checks.specs.UniformLoads.{IsUniformLoadFault}
-use Rattle.ray_checks.specs.RayPipelines.{IsRayPipelineFault}
-use Rattle.ray_checks.specs.RayQueries.{IsRayQueryFault}
+use Rattle.operation_checks.specs.RayPipelines.{IsRayPipelineFault}
+use Rattle.operation_checks.specs.RayQueries.{IsRayQueryFault}
 use Rattle.spec_statements.specs.BlockContext.{BlockContext}
 use Rattle.statement_checks.specs.Barriers.{IsBarrierFault}
 use Rattle.statement_checks.specs.Calls.{IsCallFault}
@@ -21,7 +21,7 @@ use Rattle.statement_checks.specs.Returns.{IsReturnFault}
 use Rattle.statement_checks.specs.Stores.{IsStoreFault}
 use Rattle.statement_validator.specs.declared.error.StatementError.{StatementError}
 use Rattle.statement_validator.specs.declared.error.StatementError.TheVariants.{Memory, Fault}
-use Rattle.subgroup_checks.specs.Subgroups.{IsBallotFault, IsCollectiveFault, IsGatherFault}
+use Rattle.operation_checks.specs.Subgroups.{IsBallotFault, IsCollectiveFault, IsGatherFault}
 use Rattle.statement_validator.specs.Switches.{IsSwitchFault}
 
 abbrev pub IsOperationFault : BlockContext → PlainOperation → FunctionError → Type 0

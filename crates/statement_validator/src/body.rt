@@ -23,7 +23,8 @@ use std::alloc::Global;
 ///
 /// # Errors
 ///
-/// [`Refusal::Fault`] with a fault of the first statement that has one, in the order of the text, as its check answers it.
+/// [`Refusal::Fault`] with a fault of a statement that has one, as its check answers it: the first in the order of the text,
+/// which no clause says.
 /// [`Refusal::Memory`] where memory ran out.
 pub fn validate_statements(
     alloc: Global,

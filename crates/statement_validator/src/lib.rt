@@ -1,5 +1,5 @@
 //! Whether each statement of a body, at any depth, meets its rule, and switches among them. The rules of other kinds stand in
-//! `statement_checks`, `subgroup_checks`, `ray_checks` and `atomic_checks`.
+//! `statement_checks`, `operation_checks` and `atomic_checks`.
 #![tactic(auto)]
 
 mod body;

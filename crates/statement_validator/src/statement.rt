@@ -12,7 +12,7 @@ ghost use Rattle.spec_statements.specs.Switches.{SwitchOK};
 ghost use Rattle.statement_checks.specs.Calls.{IsCallFault};
 ghost use Rattle.statement_checks.specs.Conditions.{IsConditionFault};
 ghost use Rattle.statement_checks.specs.View.{context_view, IsKnown};
-ghost use Rattle.statement_validator.specs.Bodies.{Meets};
+ghost use Rattle.statement_validator.specs.Bodies.{Meets, MeetsPlainly};
 ghost use Rattle.statement_validator.specs.Faults.{IfFault, IsStatementFault};
 ghost use Rattle.statement_validator.specs.Switches.{IsSwitchFault};
 
@@ -24,13 +24,14 @@ use ir_arena::handle::Handle;
 use ir_blocks::{Statement, SwitchCase};
 use ir_faults::refusal::Refusal;
 use ir_types::key;
-use ray_checks::{check_ray_pipeline, check_ray_query};
+use operation_checks::{
+    check_ballot, check_collective, check_gather, check_ray_pipeline, check_ray_query,
+};
 use statement_checks::{
     BlockContext, check_barrier, check_call, check_condition, check_cooperative_store, check_emit,
     check_return, check_store,
 };
 use std::alloc::Global;
-use subgroup_checks::{check_ballot, check_collective, check_gather};
 
 // A switch.
 fn check_cases(
@@ -108,6 +109,71 @@ fn check_called(
     }
 }
 
+// Whether a statement meets its rule, what stands inside it aside, where its rule takes no memory: not a switch, and not a
+// texel that is written.
+fn check_plain(context: &BlockContext<'_>, statement: &Statement) -> Result<(), FunctionError>
+    requires known { IsKnown context.now }
+    requires precede { BasesPrecede (context_view context.now).f.expressions }
+    ensures { MatchResult result
+        (λ _. MeetsPlainly (context_view context.now) (statement_view statement.now))
+        (IsStatementFault (context_view context.now) (statement_view statement.now)) }
+{
+    match statement {
+        Statement::Emit(range) => check_emit(context, *range),
+        Statement::Block(_) => Ok(()),
+        Statement::If { condition, .. } => check_condition(context, *condition),
+        Statement::Switch { .. } => Ok(()),
+        Statement::Loop { break_if, .. } => check_break_if(context, break_if),
+        Statement::Break => Ok(()),
+        Statement::Continue => Ok(()),
+        Statement::Return { value } => check_return(context, *value),
+        Statement::Kill => Ok(()),
+        Statement::ControlBarrier(barrier) => check_barrier(context, *barrier),
+        Statement::MemoryBarrier(barrier) => check_barrier(context, *barrier),
+        Statement::Store { pointer, value } => check_store(context, *pointer, *value),
+        Statement::ImageStore { .. } => Ok(()),
+        Statement::Atomic {
+            pointer,
+            fun,
+            value,
+            result: answer,
+        } => check_atomic(context, *pointer, *fun, *value, *answer),
+        Statement::ImageAtomic {
+            image,
+            coordinate,
+            array_index,
+            fun,
+            value,
+        } => check_image_atomic(context, *image, *coordinate, *array_index, *fun, *value),
+        Statement::WorkGroupUniformLoad {
+            pointer,
+            result: answer,
+        } => check_uniform_load(context, *pointer, *answer),
+        Statement::Call {
+            function,
+            arguments,
+            result: answer,
+        } => check_called(context, *function, arguments, *answer),
+        Statement::RayQuery { query, fun } => check_ray_query(context, *query, *fun),
+        Statement::SubgroupBallot { predicate, .. } => check_ballot(context, *predicate),
+        Statement::SubgroupCollectiveOperation {
+            op,
+            collective_op,
+            argument,
+            result: answer,
+        } => check_collective(context, *op, *collective_op, *argument, *answer),
+        Statement::SubgroupGather {
+            mode,
+            argument,
+            result: answer,
+        } => check_gather(context, *mode, *argument, *answer),
+        Statement::CooperativeStore { target, block } => {
+            check_cooperative_store(context, *target, *block)
+        }
+        Statement::RayPipelineFunction(fun) => check_ray_pipeline(context, *fun),
+    }
+}
+
 /// Whether a statement meets its rule, what stands inside it aside. A call of a function that is not there is not refused here:
 /// that it is there is asked beforehand.
 pub(crate) fn check_own(
@@ -122,121 +188,36 @@ pub(crate) fn check_own(
         (λ r. IfFault r (IsStatementFault (context_view context.now) (statement_view statement.now))) }
 {
     match statement {
-        Statement::Emit(range) => match check_emit(context, *range) {
-            Ok(()) => Ok(()),
-            Err(error) => Err(StatementError::Fault(error))
-        },
-        Statement::Block(_) => Ok(()),
-        Statement::If { condition, .. } => match check_condition(context, *condition) {
-            Ok(()) => Ok(()),
-            Err(error) => Err(StatementError::Fault(error))
-        },
-        Statement::Switch { selector, cases } => match check_cases(
-            alloc, context, *selector, cases,
-        ) {
-            Ok(()) => Ok(()),
-            Err(error) => Err(error)
-        },
-        Statement::Loop { break_if, .. } => match check_break_if(context, break_if) {
-            Ok(()) => Ok(()),
-            Err(error) => Err(StatementError::Fault(error))
-        },
-        Statement::Break => Ok(()),
-        Statement::Continue => Ok(()),
-        Statement::Return { value } => match check_return(context, *value) {
-            Ok(()) => Ok(()),
-            Err(error) => Err(StatementError::Fault(error))
-        },
-        Statement::Kill => Ok(()),
-        Statement::ControlBarrier(barrier) => match check_barrier(context, *barrier) {
-            Ok(()) => Ok(()),
-            Err(error) => Err(StatementError::Fault(error))
-        },
-        Statement::MemoryBarrier(barrier) => match check_barrier(context, *barrier) {
-            Ok(()) => Ok(()),
-            Err(error) => Err(StatementError::Fault(error))
-        },
-        Statement::Store { pointer, value } => match check_store(context, *pointer, *value) {
-            Ok(()) => Ok(()),
-            Err(error) => Err(StatementError::Fault(error))
-        },
+        Statement::Switch { selector, cases } => check_cases(alloc, context, *selector, cases),
         Statement::ImageStore {
             image,
             coordinate,
             array_index,
             value,
-        } => match check_written(alloc, context, *image, *coordinate, *array_index, *value) {
+        } => check_written(alloc, context, *image, *coordinate, *array_index, *value),
+        Statement::Emit(_)
+        | Statement::Block(_)
+        | Statement::If { .. }
+        | Statement::Loop { .. }
+        | Statement::Break
+        | Statement::Continue
+        | Statement::Return { .. }
+        | Statement::Kill
+        | Statement::ControlBarrier(_)
+        | Statement::MemoryBarrier(_)
+        | Statement::Store { .. }
+        | Statement::Atomic { .. }
+        | Statement::ImageAtomic { .. }
+        | Statement::WorkGroupUniformLoad { .. }
+        | Statement::Call { .. }
+        | Statement::RayQuery { .. }
+        | Statement::SubgroupBallot { .. }
+        | Statement::SubgroupCollectiveOperation { .. }
+        | Statement::SubgroupGather { .. }
+        | Statement::CooperativeStore { .. }
+        | Statement::RayPipelineFunction(_) => match check_plain(context, statement) {
             Ok(()) => Ok(()),
-            Err(error) => Err(error)
-        },
-        Statement::Atomic {
-            pointer,
-            fun,
-            value,
-            result: answer,
-        } => match check_atomic(context, *pointer, *fun, *value, *answer) {
-            Ok(()) => Ok(()),
-            Err(error) => Err(StatementError::Fault(error))
-        },
-        Statement::ImageAtomic {
-            image,
-            coordinate,
-            array_index,
-            fun,
-            value,
-        } => match check_image_atomic(context, *image, *coordinate, *array_index, *fun, *value) {
-            Ok(()) => Ok(()),
-            Err(error) => Err(StatementError::Fault(error))
-        },
-        Statement::WorkGroupUniformLoad {
-            pointer,
-            result: answer,
-        } => match check_uniform_load(context, *pointer, *answer) {
-            Ok(()) => Ok(()),
-            Err(error) => Err(StatementError::Fault(error))
-        },
-        Statement::Call {
-            function,
-            arguments,
-            result: answer,
-        } => match check_called(context, *function, arguments, *answer) {
-            Ok(()) => Ok(()),
-            Err(error) => Err(StatementError::Fault(error))
-        },
-        Statement::RayQuery { query, fun } => match check_ray_query(context, *query, *fun) {
-            Ok(()) => Ok(()),
-            Err(error) => Err(StatementError::Fault(error))
-        },
-        Statement::SubgroupBallot { predicate, .. } => match check_ballot(context, *predicate) {
-            Ok(()) => Ok(()),
-            Err(error) => Err(StatementError::Fault(error))
-        },
-        Statement::SubgroupCollectiveOperation {
-            op,
-            collective_op,
-            argument,
-            result: answer,
-        } => match check_collective(context, *op, *collective_op, *argument, *answer) {
-            Ok(()) => Ok(()),
-            Err(error) => Err(StatementError::Fault(error))
-        },
-        Statement::SubgroupGather {
-            mode,
-            argument,
-            result: answer,
-        } => match check_gather(context, *mode, *argument, *answer) {
-            Ok(()) => Ok(()),
-            Err(error) => Err(StatementError::Fault(error))
-        },
-        Statement::CooperativeStore { target, block } => match check_cooperative_store(
-            context, *target, *block,
-        ) {
-            Ok(()) => Ok(()),
-            Err(error) => Err(StatementError::Fault(error))
-        },
-        Statement::RayPipelineFunction(fun) => match check_ray_pipeline(context, *fun) {
-            Ok(()) => Ok(()),
-            Err(error) => Err(StatementError::Fault(error))
+            Err(error) => Err(StatementError::Fault(error)),
         },
     }
 }

@@ -1,6 +1,6 @@
 -- What is told of types that are accepted.
 use Rattle.std.specs.Prelude.{Bool, List}
-use Rattle.interface_checks.specs.Told.{AreTold}
+use Rattle.function_interface.specs.Told.{AreTold}
 use Rattle.ir_flags.specs.declared.settings.Capabilities.{Capabilities}
 use Rattle.ir_types.specs.Plain.{PlainType}
 use Rattle.module_types.specs.Validated.{AreAccepted}

@@ -8,7 +8,7 @@ ghost use Rattle.tiny_lower.specs.Readings.{IsMadeOf};
 
 use crate::layer_made::lower_for;
 use error_functions::FunctionError;
-use function_lower::Lower;
+use function_interface::Lower;
 use ir_faults::refusal::Refusal;
 use ir_flags::{Capabilities, ValidationFlags};
 use ir_items::{Function, Module};

@@ -1,7 +1,7 @@
 //! The small layer, made for a module.
 
 ghost use Rattle.std.specs.Prelude.{IfOk, IfSome};
-ghost use Rattle.interface_checks.specs.Told.{AreTold};
+ghost use Rattle.function_interface.specs.Told.{AreTold};
 ghost use Rattle.ir_items.specs.View.{module_view};
 ghost use Rattle.tiny_lower.specs.Readings.{IsMadeOf};
 ghost use Rattle.typing_forms.specs.Resolutions.{types_view};

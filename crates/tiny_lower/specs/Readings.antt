@@ -4,9 +4,9 @@ use Rattle.error_functions.specs.declared.expressions.ExpressionError.{Expressio
 use Rattle.error_functions.specs.declared.expressions.ExpressionError.TheVariants.{Other}
 use Rattle.error_functions.specs.declared.error.FunctionError.{FunctionError}
 use Rattle.error_functions.specs.declared.error.FunctionError.TheVariants.{Expression}
-use Rattle.function_lower.specs.Analysis.{Faults}
-use Rattle.function_lower.specs.Question.{Question}
-use Rattle.interface_checks.specs.Told.{AreTold}
+use Rattle.function_interface.specs.Analysis.{Faults}
+use Rattle.function_interface.specs.Question.{Question}
+use Rattle.function_interface.specs.Told.{AreTold}
 use Rattle.ir_types.specs.ExpressionPlain.{PlainExpression}
 use Rattle.ir_flags.specs.declared.stages.ShaderStages.{ShaderStages}
 use Rattle.ir_items.specs.Plain.{PlainFunction, PlainModule}

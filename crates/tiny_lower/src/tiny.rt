@@ -10,7 +10,7 @@ use crate::uses::mark_all;
 use analysis_forms::{GlobalUse, SamplingPair};
 use bitflags::Flags;
 use error_functions::{ExpressionError, FunctionError};
-use function_lower::Lower;
+use function_interface::Lower;
 use ir_arena::handle::Handle;
 use ir_faults::refusal::Refusal;
 use ir_flags::{ShaderStages, ValidationFlags};

@@ -1,7 +1,7 @@
 //! The types of all expressions of a function.
 
 ghost use Rattle.std.specs.Prelude.{◌≡◌, Some, IfErr, IfOk, map};
-ghost use Rattle.function_lower.specs.Analysis.{IsRefusedFor};
+ghost use Rattle.function_interface.specs.Analysis.{IsRefusedFor};
 ghost use Rattle.ir_items.specs.View.{function_view, module_view};
 ghost use Rattle.tiny_lower.specs.Readings.{IsTypeFault};
 ghost use Rattle.tiny_lower.specs.Typing.{IsUntyped, types_of};

@@ -1,7 +1,7 @@
 use Rattle.std.proofs.Common.{subst, sym}
 use Rattle.function_validator.proofs.Marks.{as_many, all_answer, unanswered}
 use Rattle.function_validator.specs.Faults.{IsUnanswered}
-use Rattle.interface_checks.specs.Answered.{AllAnswered, IsUnansweredFault}
+use Rattle.function_interface.specs.Answered.{AllAnswered, IsUnansweredFault}
 use Rattle.ir_arena.specs.Arenas.{value_of_entry}
 use Rattle.ir_types.specs.ExpressionPlain.{expression_view}
 use Rattle.statement_checks.specs.View.{context_view}

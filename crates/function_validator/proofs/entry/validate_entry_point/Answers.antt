@@ -5,8 +5,8 @@ use Rattle.function_validator.proofs.EntryWhole.{by_stage, by_function, by_paylo
 use Rattle.function_validator.specs.EntryFaults.{IsRefusedAs, IsUnconnected}
 use Rattle.function_validator.specs.Validated.{own_settings}
 use Rattle.function_validator.specs.Faults.{IsFunctionFault}
-use Rattle.function_lower.specs.Analysis.{IsRefusedFor as IsFunctionRefusedFor}
-use Rattle.function_lower.specs.Question.{question}
+use Rattle.function_interface.specs.Analysis.{IsRefusedFor as IsFunctionRefusedFor}
+use Rattle.function_interface.specs.Question.{question}
 use Rattle.ir_flags.specs.Sets.{Has}
 use Rattle.ir_items.specs.View.{entry_view, module_view}
 use Rattle.spec_analysis.specs.Chains.{HasUse}

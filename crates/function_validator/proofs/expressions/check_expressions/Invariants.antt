@@ -1,6 +1,6 @@
 use Rattle.std.proofs.Common.{map}
 use Rattle.function_validator.specs.Judged.{AcceptedBelow}
-use Rattle.function_lower.specs.Question.{question}
+use Rattle.function_interface.specs.Question.{question}
 use Rattle.statement_checks.specs.View.{context_view}
 use Rattle.function_validator.proofs.expressions.check_expressions.Given as goal
 

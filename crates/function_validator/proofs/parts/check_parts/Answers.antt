@@ -3,7 +3,7 @@ use Rattle.function_validator.proofs.PartLaws.{refused_as, parts_met, behind_blo
 use Rattle.function_validator.specs.Faults.{IsFaultBehind}
 use Rattle.function_validator.specs.Judged.{IsBlocksFault}
 use Rattle.function_validator.specs.Settings.{settings_view}
-use Rattle.function_lower.specs.Question.{question}
+use Rattle.function_interface.specs.Question.{question}
 use Rattle.statement_checks.specs.View.{context_view}
 use Rattle.function_validator.proofs.parts.check_parts.Goals as goal
 

@@ -5,7 +5,7 @@ use Rattle.function_validator.proofs.Refuted.{function_refuted}
 use Rattle.function_validator.proofs.Whole.{accepted, stages_noted, joined_noted}
 use Rattle.function_validator.specs.Faults.{IsFaultBehind, IsFunctionFault, in_analysis, behind}
 use Rattle.function_validator.specs.Settings.{settings_view}
-use Rattle.function_lower.specs.Question.{question}
+use Rattle.function_interface.specs.Question.{question}
 use Rattle.ir_items.specs.View.{function_view, module_view}
 use Rattle.spec_analysis.proofs.SummaryLaws.{summary_of_joined}
 use Rattle.spec_statements.specs.Functions.{FunctionOK, block_context}

@@ -1,0 +1,147 @@
+// Functions and entry points.
+ghost use Rattle.std.specs.Prelude.{◌≡◌, option_map};
+ghost use Rattle.ir_items.specs.Plain.{PlainArgument, PlainLocal, PlainFunction, PlainEntry};
+ghost use Rattle.ir_items.specs.View.{argument_view, local_view, function_view, entry_view};
+ghost use Rattle.ir_items.specs.declared.functions.FunctionResult.{FunctionResult};
+ghost use Rattle.document_reader.specs.Functions.{an_argument, a_result, a_local, a_function, an_entry};
+
+use crate::statements::BodyForm;
+use document_forms::{At, Each, Form, InArena, Maybe, ReadError, Text, read_row};
+use expression_forms::ExpressionForm;
+use ir_items::{EntryPoint, Function, FunctionArgument, FunctionResult, LocalVariable};
+use ir_types::key;
+use item_forms::{BindingForm, EarlyForm, MeshForm, SizesForm, StageForm};
+use serde_json::Value;
+use std::alloc::Global;
+
+type T = At<key::IrType>;
+
+/// How an argument is written.
+pub struct ArgumentForm;
+
+impl Form for ArgumentForm {
+    type Item = FunctionArgument;
+
+    ghost Plain = { PlainArgument };
+
+    ghost view = { argument_view };
+
+    ghost form = { an_argument };
+
+    fn read(alloc: Global, value: &Value) -> Result<FunctionArgument, ReadError> {
+        let (name, ty, binding) = read_row::<(Maybe<Text>, T, Maybe<BindingForm>)>(alloc, value)?;
+        Ok(FunctionArgument { name, ty, binding })
+    }
+}
+
+/// How the result of a function is written.
+pub struct ResultForm;
+
+impl Form for ResultForm {
+    type Item = FunctionResult;
+
+    ghost Plain = { FunctionResult };
+
+    ghost view = { λ r. r };
+
+    ghost form = { a_result };
+
+    fn read(alloc: Global, value: &Value) -> Result<FunctionResult, ReadError> {
+        let (ty, binding) = read_row::<(T, Maybe<BindingForm>)>(alloc, value)?;
+        Ok(FunctionResult { ty, binding })
+    }
+}
+
+/// How a local variable is written.
+pub struct LocalForm;
+
+impl Form for LocalForm {
+    type Item = LocalVariable;
+
+    ghost Plain = { PlainLocal };
+
+    ghost view = { local_view };
+
+    ghost form = { a_local };
+
+    fn read(alloc: Global, value: &Value) -> Result<LocalVariable, ReadError> {
+        let (name, ty, init) = read_row::<(Maybe<Text>, T, Maybe<At<key::Expression>>)>(
+            alloc, value,
+        )?;
+        Ok(LocalVariable { name, ty, init })
+    }
+}
+
+type FunctionRow = (
+    Maybe<Text>,
+    Each<ArgumentForm>,
+    Maybe<ResultForm>,
+    InArena<LocalForm, key::LocalVariable>,
+    InArena<ExpressionForm, key::Expression>,
+    BodyForm,
+    Maybe<At<key::DiagnosticFilterNode>>,
+);
+
+/// How a function is written. Its arenas are the lists that are written, index for index, and nothing has a span.
+pub struct FunctionForm;
+
+impl Form for FunctionForm {
+    type Item = Function;
+
+    ghost Plain = { PlainFunction };
+
+    ghost view = { function_view };
+
+    ghost form = { a_function };
+
+    fn read(alloc: Global, value: &Value) -> Result<Function, ReadError> {
+        let (name, arguments, answer, local_variables, expressions, body, diagnostic_filter_leaf) =
+            read_row::<FunctionRow>(alloc, value)?;
+        Ok(Function {
+            name,
+            arguments,
+            result: answer,
+            local_variables,
+            expressions,
+            body,
+            diagnostic_filter_leaf,
+        })
+    }
+}
+
+type EntryRow = (
+    StageForm,
+    Text,
+    Maybe<EarlyForm>,
+    SizesForm,
+    Maybe<MeshForm>,
+    Maybe<At<key::GlobalVariable>>,
+    FunctionForm,
+);
+
+/// How an entry point is written.
+pub struct EntryForm;
+
+impl Form for EntryForm {
+    type Item = EntryPoint;
+
+    ghost Plain = { PlainEntry };
+
+    ghost view = { entry_view };
+
+    ghost form = { an_entry };
+
+    fn read(alloc: Global, value: &Value) -> Result<EntryPoint, ReadError> {
+        let (stage, name, early_depth_test, workgroup_size, mesh_info, task_payload, function) =
+            read_row::<EntryRow>(alloc, value)?;
+        Ok(EntryPoint {
+            name,
+            stage,
+            early_depth_test,
+            workgroup_size,
+            mesh_info,
+            task_payload,
+            function,
+        })
+    }
+}

@@ -1,0 +1,41 @@
+-- What a lower layer's analysis of a function answers.
+use Rattle.std.specs.Prelude.{◌≡◌, ℕ, Bool, false, List, Some, length, map, slice_get}
+use Rattle.error_functions.specs.declared.expressions.ExpressionError.{ExpressionError}
+use Rattle.error_functions.specs.declared.error.FunctionError.{FunctionError}
+use Rattle.ir_faults.specs.Faults.{error_of}
+use Rattle.ir_faults.specs.declared.refusal.Refusal.{Refusal}
+use Rattle.ir_faults.specs.declared.refusal.Refusal.TheVariants as refusal
+use Rattle.ir_flags.specs.declared.settings.Capabilities.{Capabilities}
+use Rattle.ir_flags.specs.declared.settings.ValidationFlags.{ValidationFlags}
+use Rattle.ir_flags.specs.declared.stages.ShaderStages.{ShaderStages}
+use Rattle.spec_analysis.specs.Summaries.{Summary, IsJoined}
+use Rattle.spec_statements.specs.ExpressionStages.{all_stages}
+use Rattle.spec_statements.specs.Functions.{Reading, AreFormsBy}
+use Rattle.typing_forms.specs.Forms.{NoStructValue}
+use Rattle.typing_forms.specs.Resolutions.{resolution_view}
+use Rattle.typing_forms.specs.declared.form.Form.{Form}
+use Rattle.typing_forms.specs.declared.resolution.TypeResolution.{TypeResolution}
+use Rattle.typing_operands.specs.Answers.{form_given}
+use Rattle.function_interface.specs.Question.{Question}
+
+-- What a lower layer says is wrong with a function: which faults its analysis finds, and which it finds at an expression.
+pub record Faults : Type 1 where
+  pub IsAnalysisFault : ValidationFlags → FunctionError → Type 0
+  pub IsFaultAt : Capabilities → (forms : List Form) → (expression : ℕ) → ExpressionError → Type 0
+
+-- What is kept of a function: its analysis finds no fault, its expressions have these types, of which each struct is one of the
+-- module's by its handle, its uses and pairs are joined of its own and of its callees', each use of a global variable has a place,
+-- and nothing is noted yet.
+pub record IsKept (reading : Reading) (flags : ValidationFlags) (q : Question) (types : List TypeResolution) (summary : Summary) (stages : ShaderStages) (blending : Bool) : Type 0 where
+  pub analysed : reading.IsAnalysed flags
+  pub typed : AreFormsBy reading q.f (map (form_given q.m.types) types)
+  pub named : (expression : ℕ) (r : TypeResolution) → slice_get types expression ≡ Some r → NoStructValue (resolution_view r)
+  pub globals : length summary.uses ≡ length q.m.globals
+  pub joined : IsJoined (length q.m.globals) q.f q.summaries summary
+  pub all_run : stages ≡ all_stages
+  pub unblended : blending ≡ false
+
+-- memory ran out, or the fault that is told is one of these
+abbrev pub IsRefusedFor : (FunctionError → Type 0) → Refusal FunctionError → Type 0
+IsRefusedFor IsFault (refusal.Memory e) = Unit {0}
+IsRefusedFor IsFault (refusal.Fault e) = IsFault (error_of e)

@@ -1,0 +1,188 @@
+//! A layer that types expressions, analyses functions and tells of types.
+
+ghost use Rattle.std.specs.Prelude.{◌≡◌, ◌<◌, ◌↔◌, ◌⊎◌, ◌||◌, ℕ, All, Bool, IfErr, IfOk, List, MatchResult, Some, bit_and, length, map, slice_get};
+ghost use Rattle.analysis_info.specs.Infos.{NotesUse};
+ghost use Rattle.error_functions.specs.declared.expressions.ExpressionError.{ExpressionError};
+ghost use Rattle.error_functions.specs.declared.error.FunctionError.{FunctionError};
+ghost use Rattle.function_interface.specs.Analysis.{Faults, IsKept, IsRefusedFor};
+ghost use Rattle.function_interface.specs.Question.{Question, question};
+ghost use Rattle.function_interface.specs.Told.{AreTold};
+ghost use Rattle.ir_flags.specs.declared.settings.Capabilities.{Capabilities};
+ghost use Rattle.ir_flags.specs.declared.settings.ValidationFlags.{ValidationFlags};
+ghost use Rattle.ir_flags.specs.declared.stages.ShaderStages.{ShaderStages};
+ghost use Rattle.ir_items.specs.Plain.{PlainModule};
+ghost use Rattle.ir_items.specs.View.{function_view, module_view};
+ghost use Rattle.ir_walks.specs.Filters.{ParentsPrecede};
+ghost use Rattle.spec_analysis.specs.Summaries.{AgreeOnCallees, HasUseBit, Summary};
+ghost use Rattle.spec_handles.specs.Conditions.{HandlesInRange, OperandsPrecede};
+ghost use Rattle.spec_statements.specs.Functions.{Reading};
+ghost use Rattle.statement_checks.specs.View.{context_view, IsKnown};
+ghost use Rattle.type_infos.specs.declared.info.TypeInfo.{TypeInfo};
+ghost use Rattle.typing_forms.specs.declared.form.Form.{Form};
+ghost use Rattle.typing_forms.specs.declared.resolution.TypeResolution.{TypeResolution};
+ghost use Rattle.typing_operands.specs.Answers.{form_given};
+
+use analysis_forms::{GlobalUse, SamplingPair};
+use error_functions::{ExpressionError, FunctionError};
+use ir_arena::handle::Handle;
+use ir_faults::refusal::Refusal;
+use ir_flags::{ShaderStages, ValidationFlags};
+use ir_items::{Function, Module};
+use ir_types::key;
+use statement_checks::BlockContext;
+use std::alloc::Global;
+use type_infos::TypeInfo;
+use typing_forms::TypeResolution;
+
+/// What types the expressions of a module's functions, analyses its functions, and tells of its types. The rules of functions
+/// stand on it and on nothing that it does: over any such layer they are the same, read with what the layer says.
+pub trait Lower {
+    /// What is kept of a function.
+    type Info: Drop;
+
+    /// The layer was made for the module.
+    ghost is_for: { Self → PlainModule → Type 0 };
+
+    /// What it says of a function.
+    ghost reading: { Self → Question → Reading };
+
+    /// What it says is wrong with one.
+    ghost faults: { Self → Question → Faults };
+
+    /// What it tells of the module's types.
+    ghost told: { Self → List TypeInfo };
+
+    /// Which forms the types of the module's global expressions may have.
+    ghost has_global_form: { Self → PlainModule → (expression : ℕ) → Form → Type 0 };
+
+    /// The types of the module's global expressions.
+    ghost global_types: { Self → List TypeResolution };
+
+    /// What an info says of the types of a function's expressions.
+    ghost types: { Self → Self.Info → List TypeResolution };
+
+    /// What it says of uses and pairs.
+    ghost summary: { Self → Self.Info → Summary };
+
+    /// Which stages it has noted.
+    ghost noted: { Self → Self.Info → ShaderStages };
+
+    /// Whether it has noted that two sources are blended.
+    ghost blending: { Self → Self.Info → Bool };
+
+    /// What is told of the module's types, in order.
+    fn type_infos(&self) -> &[TypeInfo]
+        ensures { result.now ≡ told self.now };
+
+    /// What is told of a type. Asks that it is there.
+    fn type_info(&self, ty: Handle<key::IrType>) -> &TypeInfo
+        requires { ty < length (told self.now) }
+        ensures { slice_get (told self.now) ty ≡ Some result.now };
+
+    /// The type of a global expression. Asks that it is there.
+    fn global_resolution(&self, expression: Handle<key::Expression>) -> &TypeResolution
+        requires { expression < length (global_types self.now) }
+        ensures { slice_get (global_types self.now) expression ≡ Some result.now };
+
+    /// What is kept of a function, or of an entry point's. `callees` has what was kept of the functions before it, where stages
+    /// and uses may have been noted since. Asks that the function's handles are in order.
+    ///
+    /// # Errors
+    ///
+    /// A fault of the analysis, each only where it stands; or out of memory.
+    fn analyse(
+        &self,
+        alloc: Global,
+        module: &Module,
+        function: &Function,
+        callees: &[Self::Info],
+        flags: ValidationFlags,
+    ) -> Result<Self::Info, Refusal<FunctionError>>
+        requires made { is_for self.now (module_view «module».now) }
+        requires handles { HandlesInRange (module_view «module».now) (function_view function.now) }
+        requires precede { OperandsPrecede (function_view function.now).expressions }
+        requires parents { ParentsPrecede (module_view «module».now).filters }
+        ensures kept { (others : List Summary) → AgreeOnCallees (function_view function.now) (map (summary self.now) callees.now) others
+            → (let q = question (module_view «module».now) (function_view function.now) others (map (noted self.now) callees.now) in
+            IfOk result (λ info. IsKept (reading self.now q) flags q (types self.now info) (summary self.now info) (noted self.now info) (blending self.now info))) }
+        ensures fault { (others : List Summary) → AgreeOnCallees (function_view function.now) (map (summary self.now) callees.now) others
+            → IfErr result (IsRefusedFor ((faults self.now (question (module_view «module».now) (function_view function.now) others (map (noted self.now) callees.now))).IsAnalysisFault flags)) };
+
+    /// The type of an expression. Asks that it is there.
+    fn resolution<'a>(
+        &self,
+        info: &'a Self::Info,
+        expression: Handle<key::Expression>,
+    ) -> &'a TypeResolution
+        requires { expression < length (types self.now info.now) }
+        ensures { slice_get (types self.now info.now) expression ≡ Some result.now };
+
+    /// Whether an expression is accepted, and which stages may run it. `callees` has what was kept of the functions before. Asks
+    /// that the expression is there.
+    ///
+    /// # Errors
+    ///
+    /// What is wrong with it, each only where it stands.
+    fn check_expression(
+        &self,
+        context: &BlockContext<'_>,
+        expression: Handle<key::Expression>,
+        callees: &[Self::Info],
+    ) -> Result<ShaderStages, ExpressionError>
+        requires made { is_for self.now (context_view context.now).m }
+        requires known { IsKnown context.now }
+        requires within { expression < length (context_view context.now).f.expressions }
+        ensures { let q = question (context_view context.now).m (context_view context.now).f (map (summary self.now) callees.now) (map (noted self.now) callees.now) in
+            MatchResult result
+            (λ stages. (reading self.now q).IsAccepted context.now.capabilities context.now.forms.now expression × (reading self.now q).IsRunBy expression stages)
+            ((faults self.now q).IsFaultAt context.now.capabilities context.now.forms.now expression) };
+
+    /// Which stages have been noted.
+    fn stages(&self, info: &Self::Info) -> ShaderStages
+        ensures { result ≡ noted self.now info.now };
+
+    /// How a global variable is used. Asks that it is there.
+    fn uses(&self, info: &Self::Info, global: Handle<key::GlobalVariable>) -> GlobalUse
+        requires { global < length (summary self.now info.now).uses }
+        ensures { slice_get (summary self.now info.now).uses global ≡ Some result };
+
+    /// The pairs of images and samplers.
+    fn pairs<'a>(&self, info: &'a Self::Info) -> &'a [SamplingPair]
+        ensures { result.now ≡ (summary self.now info.now).pairs };
+
+    /// Notes stages, of which the common ones are left, further uses, and whether two sources are blended. Asks that the
+    /// variables are there. No memory is taken.
+    fn note(
+        &self,
+        info: &mut Self::Info,
+        stages: ShaderStages,
+        uses: &[(Handle<key::GlobalVariable>, GlobalUse)],
+        dual_source_blending: bool,
+    )
+        requires { All (λ u. u.0 < length (summary self.now info.old).uses) uses.now }
+        ensures stages { (noted self.now info.new).0 ≡ bit_and (noted self.now info.old).0 stages.0 }
+        ensures uses { (g k : ℕ) → HasUseBit (summary self.now info.new).uses g k ↔ (HasUseBit (summary self.now info.old).uses g k ⊎ NotesUse uses.now g k) }
+        ensures globals { length (summary self.now info.new).uses ≡ length (summary self.now info.old).uses }
+        ensures pairs { (summary self.now info.new).pairs ≡ (summary self.now info.old).pairs }
+        ensures may_kill { (summary self.now info.new).may_kill ≡ (summary self.now info.old).may_kill }
+        ensures blending { blending self.now info.new ≡ (blending self.now info.old || dual_source_blending) }
+        ensures types { types self.now info.new ≡ types self.now info.old };
+
+    /// What it tells of types is told of all types of its module.
+    ghost told_of_all: { (l : Self) (m : PlainModule) → is_for l m → AreTold m.types (told l) };
+
+    /// The types of global expressions are as it says.
+    ghost global_typed: { (l : Self) (m : PlainModule) → is_for l m → (e : ℕ) (r : TypeResolution) → slice_get (global_types l) e ≡ Some r → has_global_form l m e (form_given m.types r) };
+
+    /// The type of an expression has one form.
+    ghost one_form: { (l : Self) (q : Question) (e : ℕ) (s t : Form) → (reading l q).HasForm e s → (reading l q).HasForm e t → s ≡ t };
+
+    /// An expression is run by the same stages, however often it is asked.
+    ghost one_run: { (l : Self) (q : Question) (e : ℕ) (s t : ShaderStages) → (reading l q).IsRunBy e s → (reading l q).IsRunBy e t → s ≡ t };
+
+    /// A function with a fault of the analysis is not accepted by it.
+    ghost fault_refutes: { (l : Self) (q : Question) (flags : ValidationFlags) (e : FunctionError) → (faults l q).IsAnalysisFault flags e → (reading l q).IsAnalysed flags → ⊥ };
+
+    /// Nor is an expression with a fault.
+    ghost expression_refuted: { (l : Self) (q : Question) (capabilities : Capabilities) (forms : List Form) (e : ℕ) (x : ExpressionError) → (faults l q).IsFaultAt capabilities forms e x → (reading l q).IsAccepted capabilities forms e → ⊥ };
+}

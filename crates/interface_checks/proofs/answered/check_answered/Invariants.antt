@@ -1,7 +1,0 @@
-use Rattle.interface_checks.specs.Answered.{AnsweredBelow}
-use Rattle.ir_items.specs.View.{function_view}
-use Rattle.interface_checks.proofs.answered.check_answered.Given as goal
-
--- those before have been answered
-abbrev pub invariant-loop-index : goal.invariant-loop-index
-invariant-loop-index l = AnsweredBelow (function_view l.function).expressions l.answered l.index

@@ -1,0 +1,173 @@
+//! The types of the payloads of the rays that a function traces.
+
+ghost use Rattle.std.specs.Prelude.{◌≡◌, ◌≢◌, ℕ, Option as Maybe, option_map, MatchResult};
+ghost use Rattle.std.specs.Option.{MatchOption};
+ghost use Rattle.ir_blocks.specs.Plain.{operation, ray_pipeline};
+ghost use Rattle.ir_blocks.specs.View.{statement_view};
+ghost use Rattle.operation_checks.specs.Payloads.{payload_type, unlike, IsPayloadsFault, AreOfOneType};
+ghost use Rattle.spec_statements.specs.Payloads.{HasPayload};
+ghost use Rattle.spec_statements.specs.Variables.{variable_at};
+ghost use Rattle.statement_checks.specs.View.{context_view};
+
+use error_functions::FunctionError;
+use ir_arena::handle::Handle;
+use ir_blocks::{RayPipelineFunction, Statement};
+use ir_references::{StatementLook, first_in};
+use ir_types::key;
+use statement_checks::{BlockContext, variable_at};
+
+// ---- one payload
+
+// The type of the global variable that a payload is.
+fn type_at(
+    context: &BlockContext<'_>,
+    payload: Handle<key::Expression>,
+) -> Option<Handle<key::IrType>>
+    ensures { result ≡ option_map (λ g. g.ty) (variable_at (context_view context.now).m (context_view context.now).f payload) }
+{
+    match variable_at(context, payload) {
+        Some(variable) => Some(variable.ty),
+        None => None,
+    }
+}
+
+// The type of the payload of the ray that a pipeline traces.
+fn traced_type(context: &BlockContext<'_>, fun: &RayPipelineFunction) -> Option<Handle<key::IrType>>
+    ensures { result ≡ payload_type (context_view context.now) (operation (ray_pipeline fun.now)) }
+{
+    match *fun {
+        RayPipelineFunction::TraceRay { payload, .. } => type_at(context, payload),
+    }
+}
+
+// The type of the payload of the ray that a statement traces.
+fn payload_type(context: &BlockContext<'_>, statement: &Statement) -> Option<Handle<key::IrType>>
+    ensures { result ≡ payload_type (context_view context.now) (statement_view statement.now) }
+{
+    match statement {
+        Statement::RayPipelineFunction(fun) => traced_type(context, fun),
+        Statement::Emit(_)
+        | Statement::Block(_)
+        | Statement::If { .. }
+        | Statement::Switch { .. }
+        | Statement::Loop { .. }
+        | Statement::Break
+        | Statement::Continue
+        | Statement::Return { .. }
+        | Statement::Kill
+        | Statement::ControlBarrier(_)
+        | Statement::MemoryBarrier(_)
+        | Statement::Store { .. }
+        | Statement::ImageStore { .. }
+        | Statement::Atomic { .. }
+        | Statement::ImageAtomic { .. }
+        | Statement::WorkGroupUniformLoad { .. }
+        | Statement::Call { .. }
+        | Statement::RayQuery { .. }
+        | Statement::SubgroupBallot { .. }
+        | Statement::SubgroupCollectiveOperation { .. }
+        | Statement::SubgroupGather { .. }
+        | Statement::CooperativeStore { .. } => None,
+    }
+}
+
+// A type, where it is another one.
+fn unlike(ty: Option<Handle<key::IrType>>, held: Handle<key::IrType>) -> Option<Handle<key::IrType>>
+    ensures { result ≡ unlike held ty }
+{
+    match ty {
+        Some(ty) => { if ty == held { None } else { Some(ty) } }
+        None => None,
+    }
+}
+
+// ---- all of them
+
+// Payloads of any type.
+#[derive(Drop)]
+struct AnyPayload<'a> {
+    context: &'a BlockContext<'a>,
+}
+
+impl StatementLook<Handle<key::IrType>> for AnyPayload<'_> {
+    ghost use Rattle.operation_checks.specs.Payloads.{payload_type};
+    ghost use Rattle.statement_checks.specs.View.{context_view};
+
+    ghost look = { λ t s. payload_type (context_view t.context.now) s };
+
+    fn look(&self, statement: &Statement) -> Option<Handle<key::IrType>> {
+        payload_type(self.context, statement)
+    }
+}
+
+// Payloads of another type.
+#[derive(Drop)]
+struct OtherPayload<'a> {
+    context: &'a BlockContext<'a>,
+    held: Handle<key::IrType>,
+}
+
+impl StatementLook<Handle<key::IrType>> for OtherPayload<'_> {
+    ghost use Rattle.operation_checks.specs.Payloads.{payload_type, unlike};
+    ghost use Rattle.statement_checks.specs.View.{context_view};
+
+    ghost look = { λ t s. unlike t.held (payload_type (context_view t.context.now) s) };
+
+    fn look(&self, statement: &Statement) -> Option<Handle<key::IrType>> {
+        unlike(payload_type(self.context, statement), self.held)
+    }
+}
+
+// The type of a payload of the function, if it has one.
+fn first_payload(context: &BlockContext<'_>) -> Option<Handle<key::IrType>>
+    ensures { MatchOption result
+        ((type : ℕ) → HasPayload (context_view context.now).m (context_view context.now).f type → ⊥)
+        (HasPayload (context_view context.now).m (context_view context.now).f) }
+{
+    let any = AnyPayload { context };
+    first_in(&any, &context.function.body)
+}
+
+// Another type of a payload of the function, if it has one.
+fn other_payload(
+    context: &BlockContext<'_>,
+    held: Handle<key::IrType>,
+) -> Option<Handle<key::IrType>>
+    ensures { MatchOption result
+        ((type : ℕ) → HasPayload (context_view context.now).m (context_view context.now).f type → type ≡ held)
+        (λ type. HasPayload (context_view context.now).m (context_view context.now).f type × (type ≢ held)) }
+{
+    let other = OtherPayload { context, held };
+    first_in(&other, &context.function.body)
+}
+
+/// The type of the payloads of all functions so far, if there is one: that of those before, which is given, or else that of the
+/// payloads of this function. The body is walked twice at most. Whether a payload is a variable at all is no part of it.
+///
+/// # Errors
+///
+/// [`FunctionError::MismatchedPayloadType`] where a payload is of another type than that of those before, or than an earlier one
+/// of the function.
+#[tactic(auto, using(crate::proofs::PayloadLemmas::before_held, crate::proofs::PayloadLemmas::found_held))]
+pub fn payload_of(
+    context: &BlockContext<'_>,
+    held: Option<Handle<key::IrType>>,
+) -> Result<Option<Handle<key::IrType>>, FunctionError>
+    ensures { MatchResult result
+        (AreOfOneType (context_view context.now).m (context_view context.now).f held)
+        (IsPayloadsFault (context_view context.now).m (context_view context.now).f held) }
+{
+    match held {
+        Some(before) => match other_payload(context, before) {
+            Some(ty) => Err(FunctionError::MismatchedPayloadType(ty, before)),
+            None => Ok(held),
+        },
+        None => match first_payload(context) {
+            Some(before) => match other_payload(context, before) {
+                Some(ty) => Err(FunctionError::MismatchedPayloadType(ty, before)),
+                None => Ok(Some(before)),
+            },
+            None => Ok(None),
+        },
+    }
+}

@@ -1,2 +1,0 @@
-pub mod PayloadLemmas
-pub mod Refuted

@@ -1,2 +1,0 @@
-pub mod Subgroups
-pub mod Laws
