@@ -1,0 +1,63 @@
+#!/usr/bin/env python3
+"""Counts what reading a document takes of a run of the program, beside reading it as JSON: reader.py
+
+The program is run once on each document under valgrind's callgrind. Of that run the instructions are told of what makes a module
+of the JSON value (`read_module`), and of the JSON reader with letting its value go; both hold all that they call. The ratio
+is that of both to the JSON reader.
+Prints a table in Markdown. The program has to be built: `rt ci` leaves it, and so does `rt run` in crates/checker. The
+status is 1 where a target is missed.
+"""
+import sys
+import tempfile
+
+sys.dont_write_bytecode = True
+import functions
+import modules
+
+MOST_RATIO = 1.4
+MODULE = "document_reader::document::read_module"
+JSON = ("serde_json::de::read_items", "document_reader::serde_json++value++Value+Destruct::drop")
+SIZES = (1 << 17, 1 << 20)
+
+
+def of_count(made):
+    """As many items as fill so many bytes about."""
+    def write(path, size):
+        few, many = (len(made(it)) for it in (100, 200))
+        with open(path, "w") as it:
+            it.write(made(max(1, (size - few) * 100 // (many - few) + 100)))
+    return write
+
+
+KINDS = {**functions.KINDS, **{name: of_count(made) for name, made in modules.KINDS.items()}}
+
+
+def counted(room, path):
+    """The instructions of making the module, and of the JSON reader."""
+    said = modules.called(room, path)
+    made = modules.of_call(said, MODULE)
+    if not made:
+        sys.exit(f"reader: no call of {MODULE} was counted")
+    return made, sum(modules.of_call(said, it) for it in JSON)
+
+
+def main():
+    if not modules.CHECKER.is_file():
+        sys.exit(f"reader: {modules.CHECKER.relative_to(modules.TOP)} is not built yet")
+    missed = False
+    print("| document | bytes | making the module, million instructions | the JSON reader, million instructions | ratio |")
+    print("|---|---|---|---|---|")
+    for name, write in KINDS.items():
+        for size in SIZES:
+            with tempfile.TemporaryDirectory() as room:
+                path = f"{room}/document.json"
+                write(path, size)
+                made, reader = counted(room, path)
+            ratio = (made + reader) / reader
+            print(f"| {name} | {size} | {made / 1e6:.2f} | {reader / 1e6:.1f} | {ratio:.2f} |", flush=True)
+            missed = missed or ratio > MOST_RATIO
+    return 1 if missed else 0
+
+
+if __name__ == "__main__":
+    sys.exit(main())
