@@ -89,7 +89,7 @@ KINDS = {
 def counted(room, path):
     """The instructions of the step over functions and of the JSON reader."""
     said = modules.called(room, path)
-    reader = modules.of_call(said, "serde_json::de::read_items") + modules.of_call(said, "document_reader::serde_json++value++Value+Destruct::drop")
+    reader = sum(modules.of_json(said))
     step = modules.of_call(said, STEP)
     if not step:
         sys.exit(f"functions: no call of {STEP} was counted")

@@ -103,11 +103,16 @@ def called(room, path):
                           capture_output=True, text=True).stdout
 
 
+def of_json(said):
+    """The instructions of the JSON reader, and those of letting its value go, which each crate that does so has a copy of."""
+    dropped = re.findall(r"^ *[\d,]+ .*:(\w+::serde_json\+\+value\+\+Value\+Destruct::drop) \[", said, re.M)
+    return of_call(said, "serde_json::de::read_items"), sum(of_call(said, it) for it in dropped)
+
+
 def counted(room, path):
-    """The instructions of the steps and of the JSON reader."""
+    """The instructions of the steps, and of the JSON reader with letting its value go."""
     said = called(room, path)
-    reader = of_call(said, "serde_json::de::read_items") + of_call(said, "document_reader::serde_json++value++Value+Destruct::drop")
-    return of_call(said, "module_validator::validator::ModuleValidator::judge"), reader
+    return of_call(said, "module_validator::validator::ModuleValidator::judge"), sum(of_json(said))
 
 
 def main():

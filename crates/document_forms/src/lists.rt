@@ -9,6 +9,7 @@ ghost use Rattle.document_forms.specs.declared.error.ReadError.TheVariants.{Memo
 use crate::error::ReadError;
 use crate::form::{Form, read_at};
 use crate::grow::Grow;
+use crate::take::{Take, take_at};
 use crate::wanted::Wanted;
 use ir_arena::arena::Arena;
 use serde_json::Value;
@@ -42,6 +43,24 @@ pub fn read_all<F: Form, C: Grow<F>>(alloc: Global, value: &Value) -> Result<C, 
     Ok(found)
 }
 
+/// The same of a value that is let go of, each item once it is read.
+pub fn take_all<F: Take, C: Grow<F>>(alloc: Global, value: Value) -> Result<C, ReadError>
+    ensures found { IfOk result (λ c. Some (map F.view (C.items c)) ≡ all_of F.form.find (data_of value)) }
+    ensures refused { IfErr result (λ e. e ≢ Memory → NoneTaken C.refuses F.view (all_of F.form.find (data_of value))) }
+{
+    let Value::Array(items) = value else {
+        return Err(ReadError::here(Wanted::List));
+    };
+    let mut found = C::with_room(alloc, items.len())?;
+    let mut index = 0usize;
+    for item in items {
+        let next = take_at::<F>(alloc, item, index)?;
+        add_at::<F, C>(&mut found, next, index)?;
+        index = index.saturating_add(1);
+    }
+    Ok(found)
+}
+
 /// Any number of these, in a `Vec`.
 pub struct Each<F>(PhantomData<F>);
 
@@ -59,6 +78,12 @@ impl<F: Form> Form for Each<F> {
     }
 }
 
+impl<F: Take> Take for Each<F> {
+    fn take(alloc: Global, value: Value) -> Result<Vec<F::Item>, ReadError> {
+        take_all::<F, Vec<F::Item>>(alloc, value)
+    }
+}
+
 /// Any number of these, in an arena, index for index, none with a span.
 pub struct InArena<F, K>(PhantomData<F>, PhantomData<K>);
 
@@ -73,5 +98,11 @@ impl<F: Form, K> Form for InArena<F, K> {
 
     fn read(alloc: Global, value: &Value) -> Result<Arena<F::Item, K>, ReadError> {
         read_all::<F, Arena<F::Item, K>>(alloc, value)
+    }
+}
+
+impl<F: Take, K> Take for InArena<F, K> {
+    fn take(alloc: Global, value: Value) -> Result<Arena<F::Item, K>, ReadError> {
+        take_all::<F, Arena<F::Item, K>>(alloc, value)
     }
 }

@@ -8,6 +8,7 @@ ghost use Rattle.document_forms.specs.Forms.{ends, ◌▹◌, an_array};
 
 use crate::error::ReadError;
 use crate::form::{Form, read_at};
+use crate::take::{Take, take_at};
 use crate::wanted::Wanted;
 use serde_json::Value;
 use std::alloc::Global;
@@ -30,6 +31,13 @@ pub trait Row {
         ensures { Answers result (λ found. option_map view found ≡ form.find (items_view items.now)) };
 }
 
+/// A row whose items are let go of while they are read.
+pub trait TakeRow: Row {
+    /// What the items are written for, each of which is taken out. The first of them stands at `index`.
+    fn take(alloc: Global, items: &mut [Value], index: usize) -> Result<Self::Items, ReadError>
+        ensures { Answers result (λ found. option_map Self.view found ≡ Self.form.find (items_view items.old)) };
+}
+
 /// What the items behind a word are written for.
 pub fn read_items<R: Row>(alloc: Global, items: &[Value]) -> Result<R::Items, ReadError>
     ensures { Answers result (λ found. option_map R.view found ≡ R.form.find (items_view items.now)) }
@@ -47,6 +55,17 @@ pub fn read_row<R: Row>(alloc: Global, value: &Value) -> Result<R::Items, ReadEr
     R::read(alloc, items, 0)
 }
 
+/// The same of an array that is let go of.
+pub fn take_row<R: TakeRow>(alloc: Global, value: Value) -> Result<R::Items, ReadError>
+    ensures { Answers result (λ found. option_map R.view found ≡ array_of R.form.find (data_of value)) }
+{
+    let Value::Array(items) = value else {
+        return Err(ReadError::here(Wanted::Row));
+    };
+    let mut items = items;
+    R::take(alloc, &mut items, 0)
+}
+
 /// The first item, which stands at `index`, and those behind it.
 pub fn split_part(items: &[Value], index: usize) -> Result<(&Value, &[Value]), ReadError>
     ensures { Answers result (λ found. option_map (λ t. (data_of t.0.now, items_view t.1.now)) found ≡ first (items_view items.now)) }
@@ -55,6 +74,16 @@ pub fn split_part(items: &[Value], index: usize) -> Result<(&Value, &[Value]), R
         return Err(ReadError::here(Wanted::FurtherPart).at(index));
     };
     Ok(parts)
+}
+
+/// The first item, which stands at `index` and is taken out, and those behind it.
+pub fn take_part(items: &mut [Value], index: usize) -> Result<(Value, &mut [Value]), ReadError>
+    ensures { Answers result (λ found. option_map (λ t. (data_of t.0, items_view t.1.now)) found ≡ first (items_view items.old)) }
+{
+    let Some((item, rest)) = items.split_first_mut() else {
+        return Err(ReadError::here(Wanted::FurtherPart).at(index));
+    };
+    Ok((item.take(), rest))
 }
 
 /// Nothing.
@@ -74,6 +103,12 @@ impl Row for End {
             None => Ok(()),
             Some(_) => Err(ReadError::here(Wanted::NothingMore).at(index)),
         }
+    }
+}
+
+impl TakeRow for End {
+    fn take(alloc: Global, items: &mut [Value], index: usize) -> Result<(), ReadError> {
+        End::read(alloc, items, index)
     }
 }
 
@@ -97,6 +132,19 @@ impl<F: Form, R: Row> Row for Then<F, R> {
         let (item, rest) = split_part(items, index)?;
         let part = read_at::<F>(alloc, item, index)?;
         let rest = R::read(alloc, rest, index.saturating_add(1))?;
+        Ok((part, rest))
+    }
+}
+
+impl<F: Take, R: TakeRow> TakeRow for Then<F, R> {
+    fn take(
+        alloc: Global,
+        items: &mut [Value],
+        index: usize,
+    ) -> Result<(F::Item, R::Items), ReadError> {
+        let (item, rest) = take_part(items, index)?;
+        let part = take_at::<F>(alloc, item, index)?;
+        let rest = R::take(alloc, rest, index.saturating_add(1))?;
         Ok((part, rest))
     }
 }

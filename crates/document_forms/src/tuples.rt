@@ -4,7 +4,8 @@ ghost use Rattle.document_forms.specs.Rows.{row1, row2, row3, row4, row5, row6, 
 
 use crate::error::ReadError;
 use crate::form::Form;
-use crate::row::{End, Row, Then};
+use crate::row::{End, Row, TakeRow, Then};
+use crate::take::Take;
 use serde_json::Value;
 use std::alloc::Global;
 
@@ -163,6 +164,33 @@ impl<A: Form, B: Form, C: Form, D: Form, E: Form, F: Form, G: Form> Row for (A, 
     }
 }
 
+impl<A: Take, B: Take, C: Take, D: Take, E: Take, F: Take, G: Take> TakeRow
+    for (A, B, C, D, E, F, G) {
+    fn take(
+        alloc: Global,
+        items: &mut [Value],
+        index: usize,
+    ) -> Result<
+        (
+            A::Item,
+            B::Item,
+            C::Item,
+            D::Item,
+            E::Item,
+            F::Item,
+            G::Item,
+        ),
+        ReadError,
+    > {
+        let (a, (b, (c, (d, (e, (f, (g, ()))))))) = <Then<
+            A,
+            Then<B, Then<C, Then<D, Then<E, Then<F, Then<G, End>>>>>>,
+        > as TakeRow>::take(alloc, items, index)?;
+        let taken = (a, b, c, d, e, f, g);
+        Ok(taken)
+    }
+}
+
 impl<A: Form, B: Form, C: Form, D: Form, E: Form, F: Form, G: Form, H: Form> Row
     for (A, B, C, D, E, F, G, H) {
     type Items = (
@@ -204,6 +232,34 @@ impl<A: Form, B: Form, C: Form, D: Form, E: Form, F: Form, G: Form, H: Form> Row
             Then<B, Then<C, Then<D, Then<E, Then<F, Then<G, Then<H, End>>>>>>>,
         > as Row>::read(alloc, items, index)?;
         Ok((a, b, c, d, e, f, g, h))
+    }
+}
+
+impl<A: Take, B: Take, C: Take, D: Take, E: Take, F: Take, G: Take, H: Take> TakeRow
+    for (A, B, C, D, E, F, G, H) {
+    fn take(
+        alloc: Global,
+        items: &mut [Value],
+        index: usize,
+    ) -> Result<
+        (
+            A::Item,
+            B::Item,
+            C::Item,
+            D::Item,
+            E::Item,
+            F::Item,
+            G::Item,
+            H::Item,
+        ),
+        ReadError,
+    > {
+        let (a, (b, (c, (d, (e, (f, (g, (h, ())))))))) = <Then<
+            A,
+            Then<B, Then<C, Then<D, Then<E, Then<F, Then<G, Then<H, End>>>>>>>,
+        > as TakeRow>::take(alloc, items, index)?;
+        let taken = (a, b, c, d, e, f, g, h);
+        Ok(taken)
     }
 }
 

@@ -1,5 +1,5 @@
 -- Types of an arena, and of a list that repeats one.
-use Rattle.std.proofs.Common.{◌≡◌, ◌≢◌, ℕ, zero, suc, ◌<◌, ◌+◌, List, [], ◌∷◌, ◌++◌, length, get_or, map, Contains, Option, Some, None, Bool, true, false, true≢false, refl, sym, ap, subst, ◌∙◌, arith}
+use Rattle.std.proofs.Common.{◌≡◌, ◌≢◌, ℕ, zero, suc, ◌<◌, List, [], ◌∷◌, ◌++◌, length, get_or, map, Contains, Option, Some, None, false, true≢false, refl, sym, subst, ◌∙◌, arith}
 use Rattle.std.specs.List.{AllPairs, AllByRecursion, IsDistinct}
 use Rattle.std.proofs.lemmas.List.{length-append}
 use Rattle.ir_arena.specs.Arenas.{IsDistinctBy}
@@ -9,7 +9,7 @@ use Rattle.ir_types.specs.declared.types.IrType.{IrType}
 use Rattle.ir_types.specs.contracts.types.IrTypePartialEq.TheImpl.{ghosts}
 use Rattle.ir_types.proofs.TypeEquality.{type_eq}
 use Rattle.ir_items.specs.GlobalView.{values_of}
-use Rattle.document_forms.specs.Refusals.{IsRefused, NoneTaken}
+use Rattle.document_forms.specs.Refusals.{NoneTaken}
 use Rattle.document_reader.specs.Distinct.{AreDistinct}
 
 -- ---- an arena repeats no type

@@ -1,5 +1,5 @@
 -- From the value that the bytes are to the document that they spell.
-use Rattle.std.proofs.Common.{◌≡◌, ◌≢◌, ◌≤◌, ℕ, Bool, List, length, Option, Some, None, option_map, option_and_then, Result, Ok, Err, IfErr, IsErr, IsErrAnd, IsUtf8, refl, sym, ap, subst, ◌∙◌}
+use Rattle.std.proofs.Common.{◌≡◌, ◌≢◌, ◌≤◌, ℕ, Bool, List, length, Option, Some, None, option_map, option_and_then, Result, Ok, Err, IfErr, IsErr, IsErrAnd, IsUtf8, refl, sym, subst, ◌∙◌}
 use Rattle.document_forms.specs.declared.error.ReadError.{ReadError}
 use Rattle.document_forms.specs.declared.error.ReadError.TheVariants as part
 use Rattle.document_reader.specs.declared.error.DocumentError.{DocumentError}
@@ -9,7 +9,6 @@ use Rattle.serde_json.specs.Find.{as_array, as_bool}
 use Rattle.serde_json.specs.Read.{read}
 use Rattle.serde_json.proofs.Nesting.{depth-read}
 use Rattle.document_forms.specs.Decide.{first, all_of, behind}
-use Rattle.document_forms.specs.Forms.{a_bool, a_list, ◌▹◌}
 use Rattle.document_forms.specs.Inverse.{some_is, bind_some}
 use Rattle.item_forms.specs.Types.{a_type}
 use Rattle.document_reader.specs.Distinct.{AreDistinct}
@@ -20,7 +19,7 @@ use Rattle.ir_flags.specs.declared.stages.ShaderStages.{ShaderStages}
 use Rattle.ir_flags.specs.declared.stages.SubgroupOperationSet.{SubgroupOperationSet}
 use Rattle.ir_types.specs.Plain.{PlainType}
 use Rattle.ir_items.specs.Plain.{PlainModule}
-use Rattle.document_reader.specs.Documents.{ListParts, made_of, a_version, the_flags, the_capabilities, the_subgroups, the_lists, the_parts, version_of, document_made, a_document, first_part, content_of, content_in, parts_in, document_in, settings_of}
+use Rattle.document_reader.specs.Documents.{ListParts, made_of, the_flags, the_capabilities, the_subgroups, the_lists, the_parts, version_of, document_made, a_document, first_part, content_of, content_in, parts_in, document_in}
 use Rattle.document_reader.specs.Form.{ADocument, Reads, OneDocument}
 use Rattle.document_reader.specs.declared.reading.TheConstants.{MAX_LEN}
 

@@ -13,12 +13,12 @@ ghost use Rattle.document_reader.specs.Plain.{PlainDocument};
 ghost use Rattle.document_reader.specs.View.{document_view};
 ghost use Rattle.document_reader.specs.Documents.{a_version, content_of, content_in, document_in};
 
-use crate::first::read_first;
+use crate::first::take_first;
 use crate::model::{Document, Settings};
 use crate::{EntryForm, FunctionForm};
 use document_forms::{
-    At, Each, Form, InArena, InArray, Maybe, ReadError, Row, SetOf, Truth, Wanted, read_all,
-    split_part,
+    At, Each, Form, InArena, InArray, Maybe, ReadError, SetOf, TakeRow, Truth, Wanted, Whole,
+    take_all, take_part,
 };
 use expression_forms::ExpressionForm;
 use ir_flags::{Capabilities, ShaderStages, SubgroupOperationSet, ValidationFlags};
@@ -66,12 +66,12 @@ type FilterListForm = InArray<
 >;
 
 type ListsRow = (
-    SpecialForm,
-    FilterListForm,
-    InArena<ConstantForm, key::Constant>,
-    InArena<OverrideForm, key::Override>,
-    InArena<ExpressionForm, key::Expression>,
-    InArena<GlobalForm, key::GlobalVariable>,
+    Whole<SpecialForm>,
+    Whole<FilterListForm>,
+    InArena<Whole<ConstantForm>, key::Constant>,
+    InArena<Whole<OverrideForm>, key::Override>,
+    InArena<Whole<ExpressionForm>, key::Expression>,
+    InArena<Whole<GlobalForm>, key::GlobalVariable>,
     InArena<FunctionForm, key::Function>,
     Each<EntryForm>,
 );
@@ -87,25 +87,25 @@ fn distinct_types(types: &UniqueArena<IrType, key::IrType>)
 // The types that the part at this index is written for, of which no two are equal.
 fn read_types(
     alloc: Global,
-    value: &Value,
+    value: Value,
     index: usize,
 ) -> Result<UniqueArena<IrType, key::IrType>, ReadError>
-    ensures found { IfOk result (λ a. Some (map type_view (values_of a)) ≡ all_of a_type.find (data_of value.now)) }
-    ensures refused { IfErr result (λ e. e ≢ Memory → (ts : List PlainType) → all_of a_type.find (data_of value.now) ≡ Some ts → ¬ AreDistinct ts) }
+    ensures found { IfOk result (λ a. Some (map type_view (values_of a)) ≡ all_of a_type.find (data_of value)) }
+    ensures refused { IfErr result (λ e. e ≢ Memory → (ts : List PlainType) → all_of a_type.find (data_of value) ≡ Some ts → ¬ AreDistinct ts) }
 {
-    match read_all::<TypeForm, UniqueArena<IrType, key::IrType>>(alloc, value) {
+    match take_all::<TypeForm, UniqueArena<IrType, key::IrType>>(alloc, value) {
         Ok(types) => Ok(types),
         Err(e) => Err(e.at(index)),
     }
 }
 
 // The module that these parts of a document are written for.
-fn read_module(alloc: Global, parts: &[Value]) -> Result<Module, ReadError>
-    ensures found { IfOk result (λ m. Some (module_view m) ≡ content_in (items_view parts.now)) }
+fn read_module(alloc: Global, parts: &mut [Value]) -> Result<Module, ReadError>
+    ensures found { IfOk result (λ m. Some (module_view m) ≡ content_in (items_view parts.old)) }
     ensures distinct { IfOk result (λ m. AreDistinct (module_view m).types) }
-    ensures refused { IfErr result (λ e. e ≢ Memory → (m : PlainModule) → content_in (items_view parts.now) ≡ Some m → ¬ AreDistinct m.types) }
+    ensures refused { IfErr result (λ e. e ≢ Memory → (m : PlainModule) → content_in (items_view parts.old) ≡ Some m → ¬ AreDistinct m.types) }
 {
-    let (first, rest) = split_part(parts, TYPES)?;
+    let (first, rest) = take_part(parts, TYPES)?;
     let types = read_types(alloc, first, TYPES)?;
     distinct_types(&types);
     let (
@@ -117,7 +117,7 @@ fn read_module(alloc: Global, parts: &[Value]) -> Result<Module, ReadError>
         global_variables,
         functions,
         entry_points,
-    ) = <ListsRow as Row>::read(alloc, rest, SPECIAL_TYPES)?;
+    ) = <ListsRow as TakeRow>::take(alloc, rest, SPECIAL_TYPES)?;
     Ok(Module {
         types,
         special_types,
@@ -132,22 +132,24 @@ fn read_module(alloc: Global, parts: &[Value]) -> Result<Module, ReadError>
     })
 }
 
-/// The document that the value is written for.
-pub fn read_value(alloc: Global, value: &Value) -> Result<Document, ReadError>
-    ensures found { IfOk result (λ d. Some (document_view d) ≡ document_in (data_of value.now)) }
+/// The document that the value is written for. Each part of the value is let go of once it is read, so that both never
+/// take their memory whole.
+pub fn read_value(alloc: Global, value: Value) -> Result<Document, ReadError>
+    ensures found { IfOk result (λ d. Some (document_view d) ≡ document_in (data_of value)) }
     ensures distinct { IfOk result (λ d. AreDistinct (document_view d).content.types) }
-    ensures refused { IfErr result (λ e. e ≢ Memory → (d : PlainDocument) → document_in (data_of value.now) ≡ Some d → ¬ AreDistinct d.content.types) }
+    ensures refused { IfErr result (λ e. e ≢ Memory → (d : PlainDocument) → document_in (data_of value) ≡ Some d → ¬ AreDistinct d.content.types) }
 {
-    let Some(parts) = value.as_array() else {
+    let Value::Array(items) = value else {
         return Err(ReadError::here(Wanted::Row));
     };
-    let ((), parts) = read_first::<VersionForm>(alloc, parts, 0)?;
-    let (flags, parts) = read_first::<SetOf<ValidationFlags>>(alloc, parts, 1)?;
-    let (capabilities, parts) = read_first::<SetOf<Capabilities>>(alloc, parts, 2)?;
-    let ((subgroup_stages, subgroup_operations), parts) = read_first::<SubgroupsForm>(
+    let mut items = items;
+    let ((), parts) = take_first::<VersionForm>(alloc, &mut items, 0)?;
+    let (flags, parts) = take_first::<SetOf<ValidationFlags>>(alloc, parts, 1)?;
+    let (capabilities, parts) = take_first::<SetOf<Capabilities>>(alloc, parts, 2)?;
+    let ((subgroup_stages, subgroup_operations), parts) = take_first::<SubgroupsForm>(
         alloc, parts, 3,
     )?;
-    let (returns, parts) = read_first::<Truth>(alloc, parts, 4)?;
+    let (returns, parts) = take_first::<Truth>(alloc, parts, 4)?;
     let module = read_module(alloc, parts)?;
     let settings = Settings {
         flags,

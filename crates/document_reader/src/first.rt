@@ -4,19 +4,19 @@ ghost use Rattle.serde_json.specs.View.{items_view};
 ghost use Rattle.document_forms.specs.Answers.{Answers};
 ghost use Rattle.document_reader.specs.Documents.{first_part};
 
-use document_forms::{Form, ReadError, read_at, split_part};
+use document_forms::{Form, ReadError, read_at, take_part};
 use serde_json::Value;
 use std::alloc::Global;
 
-/// What the first of these parts is written for, and the parts behind it. It stands at `index`.
-pub fn read_first<F: Form>(
+/// What the first of these parts is written for, which stands at `index` and is taken out, and the parts behind it.
+pub fn take_first<F: Form>(
     alloc: Global,
-    parts: &[Value],
+    parts: &mut [Value],
     index: usize,
-) -> Result<(F::Item, &[Value]), ReadError>
-    ensures { Answers result (λ found. option_map (λ t. (F.view t.0, items_view t.1.now)) found ≡ first_part F.form.find (items_view parts.now)) }
+) -> Result<(F::Item, &mut [Value]), ReadError>
+    ensures { Answers result (λ found. option_map (λ t. (F.view t.0, items_view t.1.now)) found ≡ first_part F.form.find (items_view parts.old)) }
 {
-    let (first, rest) = split_part(parts, index)?;
-    let item = read_at::<F>(alloc, first, index)?;
+    let (first, rest) = take_part(parts, index)?;
+    let item = read_at::<F>(alloc, &first, index)?;
     Ok((item, rest))
 }

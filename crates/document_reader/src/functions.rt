@@ -6,7 +6,9 @@ ghost use Rattle.ir_items.specs.declared.functions.FunctionResult.{FunctionResul
 ghost use Rattle.document_reader.specs.Functions.{an_argument, a_result, a_local, a_function, an_entry};
 
 use crate::statements::BodyForm;
-use document_forms::{At, Each, Form, InArena, Maybe, ReadError, Text, read_row};
+use document_forms::{
+    At, Each, Form, InArena, Maybe, ReadError, Row, Take, Text, Whole, read_row, take_row,
+};
 use expression_forms::ExpressionForm;
 use ir_items::{EntryPoint, Function, FunctionArgument, FunctionResult, LocalVariable};
 use ir_types::key;
@@ -73,14 +75,31 @@ impl Form for LocalForm {
 }
 
 type FunctionRow = (
-    Maybe<Text>,
-    Each<ArgumentForm>,
-    Maybe<ResultForm>,
-    InArena<LocalForm, key::LocalVariable>,
-    InArena<ExpressionForm, key::Expression>,
+    Whole<Maybe<Text>>,
+    Whole<Each<ArgumentForm>>,
+    Whole<Maybe<ResultForm>>,
+    Whole<InArena<LocalForm, key::LocalVariable>>,
+    InArena<Whole<ExpressionForm>, key::Expression>,
     BodyForm,
-    Maybe<At<key::DiagnosticFilterNode>>,
+    Whole<Maybe<At<key::DiagnosticFilterNode>>>,
 );
+
+// The function of these parts.
+fn function_of(parts: <FunctionRow as Row>::Items) -> Function
+    ensures { result ≡ record { name = parts.0; arguments = parts.1; result = parts.2; local_variables = parts.3; expressions = parts.4; body = parts.5; diagnostic_filter_leaf = parts.6 } }
+{
+    let (name, arguments, answer, local_variables, expressions, body, diagnostic_filter_leaf) =
+        parts;
+    Function {
+        name,
+        arguments,
+        result: answer,
+        local_variables,
+        expressions,
+        body,
+        diagnostic_filter_leaf,
+    }
+}
 
 /// How a function is written. Its arenas are the lists that are written, index for index, and nothing has a span.
 pub struct FunctionForm;
@@ -95,29 +114,41 @@ impl Form for FunctionForm {
     ghost form = { a_function };
 
     fn read(alloc: Global, value: &Value) -> Result<Function, ReadError> {
-        let (name, arguments, answer, local_variables, expressions, body, diagnostic_filter_leaf) =
-            read_row::<FunctionRow>(alloc, value)?;
-        Ok(Function {
-            name,
-            arguments,
-            result: answer,
-            local_variables,
-            expressions,
-            body,
-            diagnostic_filter_leaf,
-        })
+        Ok(function_of(read_row::<FunctionRow>(alloc, value)?))
+    }
+}
+
+impl Take for FunctionForm {
+    fn take(alloc: Global, value: Value) -> Result<Function, ReadError> {
+        Ok(function_of(take_row::<FunctionRow>(alloc, value)?))
     }
 }
 
 type EntryRow = (
-    StageForm,
-    Text,
-    Maybe<EarlyForm>,
-    SizesForm,
-    Maybe<MeshForm>,
-    Maybe<At<key::GlobalVariable>>,
+    Whole<StageForm>,
+    Whole<Text>,
+    Whole<Maybe<EarlyForm>>,
+    Whole<SizesForm>,
+    Whole<Maybe<MeshForm>>,
+    Whole<Maybe<At<key::GlobalVariable>>>,
     FunctionForm,
 );
+
+// The entry point of these parts.
+fn entry_of(parts: <EntryRow as Row>::Items) -> EntryPoint
+    ensures { result ≡ record { name = parts.1; stage = parts.0; early_depth_test = parts.2; workgroup_size = parts.3; mesh_info = parts.4; task_payload = parts.5; function = parts.6 } }
+{
+    let (stage, name, early_depth_test, workgroup_size, mesh_info, task_payload, function) = parts;
+    EntryPoint {
+        name,
+        stage,
+        early_depth_test,
+        workgroup_size,
+        mesh_info,
+        task_payload,
+        function,
+    }
+}
 
 /// How an entry point is written.
 pub struct EntryForm;
@@ -132,16 +163,12 @@ impl Form for EntryForm {
     ghost form = { an_entry };
 
     fn read(alloc: Global, value: &Value) -> Result<EntryPoint, ReadError> {
-        let (stage, name, early_depth_test, workgroup_size, mesh_info, task_payload, function) =
-            read_row::<EntryRow>(alloc, value)?;
-        Ok(EntryPoint {
-            name,
-            stage,
-            early_depth_test,
-            workgroup_size,
-            mesh_info,
-            task_payload,
-            function,
-        })
+        Ok(entry_of(read_row::<EntryRow>(alloc, value)?))
+    }
+}
+
+impl Take for EntryForm {
+    fn take(alloc: Global, value: Value) -> Result<EntryPoint, ReadError> {
+        Ok(entry_of(take_row::<EntryRow>(alloc, value)?))
     }
 }

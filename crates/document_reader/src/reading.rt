@@ -27,7 +27,7 @@ pub fn read_document(alloc: Global, bytes: &[u8]) -> Result<Document, DocumentEr
         return Err(DocumentError::TooLong);
     }
     match Value::from_slice(alloc, bytes) {
-        Ok(value) => Ok(read_value(alloc, &value)?),
+        Ok(value) => Ok(read_value(alloc, value)?),
         Err(e) if e.is_memory() => Err(DocumentError::Memory),
         Err(e) => Err(DocumentError::NotJson {
             line: e.line(),

@@ -11,7 +11,8 @@ use crate::kinds::StatementKind;
 use crate::operations;
 use crate::parts::ValueForm;
 use document_forms::{
-    At, End, Form, MAX_DEPTH, Maybe, ReadError, Row, Truth, Wanted, read_at, read_tag, split_part,
+    At, End, Form, MAX_DEPTH, Maybe, ReadError, Row, Take, Truth, Wanted, read_at, read_tag,
+    split_part,
 };
 use ir_arena::span::Span;
 use ir_blocks::{Block, Statement, SwitchCase};
@@ -78,7 +79,7 @@ fn nested(alloc: Global, rest: &[Value], depth: usize) -> Result<Statement, Read
     ensures { Answers result (λ found. option_map statement_view found ≡ statement_with (block_at depth) StatementKind.Block (items_view rest.now)) }
 {
     let (body, rest) = split_part(rest, 1)?;
-    let body = block(alloc, body, depth).map_err(|e| e.at(1))?;
+    let body = block_inside(alloc, body, depth, 1)?;
     End::read(alloc, rest, 2)?;
     Ok(Statement::Block(body))
 }
@@ -91,9 +92,9 @@ fn if_statement(alloc: Global, rest: &[Value], depth: usize) -> Result<Statement
     let (condition, rest) = split_part(rest, 1)?;
     let condition = read_at::<E>(alloc, condition, 1)?;
     let (accept, rest) = split_part(rest, 2)?;
-    let accept = block(alloc, accept, depth).map_err(|e| e.at(2))?;
+    let accept = block_inside(alloc, accept, depth, 2)?;
     let (reject, rest) = split_part(rest, 3)?;
-    let reject = block(alloc, reject, depth).map_err(|e| e.at(3))?;
+    let reject = block_inside(alloc, reject, depth, 3)?;
     End::read(alloc, rest, 4)?;
     Ok(Statement::If {
         condition,
@@ -145,7 +146,7 @@ fn switch_case(alloc: Global, value: &Value, depth: usize) -> Result<SwitchCase,
     let (value, rest) = split_part(items, 0)?;
     let value = read_at::<ValueForm>(alloc, value, 0)?;
     let (body, rest) = split_part(rest, 1)?;
-    let body = block(alloc, body, depth).map_err(|e| e.at(1))?;
+    let body = block_inside(alloc, body, depth, 1)?;
     let (fall_through,) = <(Truth,) as Row>::read(alloc, rest, 2)?;
     Ok(SwitchCase {
         value,
@@ -160,9 +161,9 @@ fn loop_statement(alloc: Global, rest: &[Value], depth: usize) -> Result<Stateme
     ensures { Answers result (λ found. option_map statement_view found ≡ statement_with (block_at depth) StatementKind.Loop (items_view rest.now)) }
 {
     let (body, rest) = split_part(rest, 1)?;
-    let body = block(alloc, body, depth).map_err(|e| e.at(1))?;
+    let body = block_inside(alloc, body, depth, 1)?;
     let (continuing, rest) = split_part(rest, 2)?;
-    let continuing = block(alloc, continuing, depth).map_err(|e| e.at(2))?;
+    let continuing = block_inside(alloc, continuing, depth, 2)?;
     let (break_if,) = <(Maybe<E>,) as Row>::read(alloc, rest, 3)?;
     Ok(Statement::Loop {
         body,
@@ -191,6 +192,41 @@ fn block(alloc: Global, value: &Value, depth: usize) -> Result<Block, ReadError>
     Ok(found)
 }
 
+// The same of the part of a statement at this index.
+#[cycle(statements)]
+fn block_inside(
+    alloc: Global,
+    value: &Value,
+    depth: usize,
+    index: usize,
+) -> Result<Block, ReadError>
+    ensures { Answers result (λ found. option_map block_view found ≡ block_at depth (data_of value.now)) }
+{
+    match block(alloc, value, depth) {
+        Ok(found) => Ok(found),
+        Err(error) => Err(error.at(index)),
+    }
+}
+
+// The statements of the body that the value is written for, each of which is let go of once it is read.
+fn body(alloc: Global, value: Value) -> Result<Block, ReadError>
+    ensures { Answers result (λ found. option_map block_view found ≡ a_body.find (data_of value)) }
+{
+    let Value::Array(items) = value else {
+        return Err(ReadError::here(Wanted::List));
+    };
+    let mut found = Block::with_capacity(alloc, items.len())?;
+    let mut index = 0usize;
+    for item in items {
+        match statement(alloc, &item, MAX_DEPTH) {
+            Ok(read) => found.push(read, Span::UNDEFINED)?,
+            Err(error) => return Err(error.at(index)),
+        }
+        index = index.saturating_add(1);
+    }
+    Ok(found)
+}
+
 /// How the body of a function is written, whose statements have no span.
 pub struct BodyForm;
 
@@ -205,5 +241,11 @@ impl Form for BodyForm {
 
     fn read(alloc: Global, value: &Value) -> Result<Block, ReadError> {
         block(alloc, value, MAX_DEPTH)
+    }
+}
+
+impl Take for BodyForm {
+    fn take(alloc: Global, value: Value) -> Result<Block, ReadError> {
+        body(alloc, value)
     }
 }

@@ -9,8 +9,8 @@ use crate::bindings::BindingForm;
 use crate::kinds::InnerKind;
 use crate::spaces::{ArraySizeForm, ClassForm, SpaceForm};
 use document_forms::{
-    At, Each, Form, Maybe, ReadError, Side, Size, Text, Truth, U32, WordOf, read_items, read_row,
-    read_tag,
+    At, Each, Form, Maybe, ReadError, Side, Size, Take, Text, Truth, U32, WordOf, read_items,
+    read_row, read_tag,
 };
 use ir_kinds::{CooperativeRole, ImageDimension, Scalar};
 use ir_types::{IrType, StructMember, TypeInner, key};
@@ -227,5 +227,11 @@ impl Form for TypeForm {
     fn read(alloc: Global, value: &Value) -> Result<IrType, ReadError> {
         let (name, inner) = read_row::<(Maybe<Text>, InnerForm)>(alloc, value)?;
         Ok(IrType { name, inner })
+    }
+}
+
+impl Take for TypeForm {
+    fn take(alloc: Global, value: Value) -> Result<IrType, ReadError> {
+        TypeForm::read(alloc, &value)
     }
 }

@@ -6,31 +6,34 @@ use Rattle.document_reader.specs.Statements.{statement_at, case_with, block_at}
 use Rattle.document_reader.proofs.statements.+statements.Given as goal
 
 abbrev pub decreases-statement : goal.decreases-statement
-decreases-statement l = 6 * l.depth
+decreases-statement l = 7 * l.depth
 
 abbrev pub decreases-block : goal.decreases-block
-decreases-block l = 6 * l.depth + 1
+decreases-block l = 7 * l.depth + 1
+
+abbrev pub decreases-block_inside : goal.decreases-block_inside
+decreases-block_inside l = 7 * l.depth + 2
 
 abbrev pub decreases-switch_case : goal.decreases-switch_case
-decreases-switch_case l = 6 * l.depth + 2
+decreases-switch_case l = 7 * l.depth + 3
 
 abbrev pub decreases-switch_cases : goal.decreases-switch_cases
-decreases-switch_cases l = 6 * l.depth + 3
+decreases-switch_cases l = 7 * l.depth + 4
 
 abbrev pub decreases-switch : goal.decreases-switch
-decreases-switch l = 6 * l.depth + 4
+decreases-switch l = 7 * l.depth + 5
 
 abbrev pub decreases-if_statement : goal.decreases-if_statement
-decreases-if_statement l = 6 * l.depth + 4
+decreases-if_statement l = 7 * l.depth + 5
 
 abbrev pub decreases-loop_statement : goal.decreases-loop_statement
-decreases-loop_statement l = 6 * l.depth + 4
+decreases-loop_statement l = 7 * l.depth + 5
 
 abbrev pub decreases-nested : goal.decreases-nested
-decreases-nested l = 6 * l.depth + 4
+decreases-nested l = 7 * l.depth + 5
 
 abbrev pub decreases-statement_of : goal.decreases-statement_of
-decreases-statement_of l = 6 * l.depth + 5
+decreases-statement_of l = 7 * l.depth + 6
 
 -- what was found so far, and what the rest gives, is what all of it gives
 abbrev pub invariant-block-loop-item : goal.invariant-block-loop-item
