@@ -80,7 +80,7 @@ type FunctionRow = (
     Whole<Maybe<ResultForm>>,
     Whole<InArena<LocalForm, key::LocalVariable>>,
     InArena<Whole<ExpressionForm>, key::Expression>,
-    BodyForm,
+    Whole<BodyForm>,
     Whole<Maybe<At<key::DiagnosticFilterNode>>>,
 );
 

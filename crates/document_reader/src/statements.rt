@@ -11,8 +11,7 @@ use crate::kinds::StatementKind;
 use crate::operations;
 use crate::parts::ValueForm;
 use document_forms::{
-    At, End, Form, MAX_DEPTH, Maybe, ReadError, Row, Take, Truth, Wanted, read_at, read_tag,
-    split_part,
+    At, End, Form, MAX_DEPTH, Maybe, ReadError, Row, Truth, Wanted, read_at, read_tag, split_part,
 };
 use ir_arena::span::Span;
 use ir_blocks::{Block, Statement, SwitchCase};
@@ -208,25 +207,6 @@ fn block_inside(
     }
 }
 
-// The statements of the body that the value is written for, each of which is let go of once it is read.
-fn body(alloc: Global, value: Value) -> Result<Block, ReadError>
-    ensures { Answers result (λ found. option_map block_view found ≡ a_body.find (data_of value)) }
-{
-    let Value::Array(items) = value else {
-        return Err(ReadError::here(Wanted::List));
-    };
-    let mut found = Block::with_capacity(alloc, items.len())?;
-    let mut index = 0usize;
-    for item in items {
-        match statement(alloc, &item, MAX_DEPTH) {
-            Ok(read) => found.push(read, Span::UNDEFINED)?,
-            Err(error) => return Err(error.at(index)),
-        }
-        index = index.saturating_add(1);
-    }
-    Ok(found)
-}
-
 /// How the body of a function is written, whose statements have no span.
 pub struct BodyForm;
 
@@ -241,11 +221,5 @@ impl Form for BodyForm {
 
     fn read(alloc: Global, value: &Value) -> Result<Block, ReadError> {
         block(alloc, value, MAX_DEPTH)
-    }
-}
-
-impl Take for BodyForm {
-    fn take(alloc: Global, value: Value) -> Result<Block, ReadError> {
-        body(alloc, value)
     }
 }
