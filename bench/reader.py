@@ -1,9 +1,9 @@
 #!/usr/bin/env python3
 """Counts what reading a document takes of a run of the program, beside reading it as JSON: reader.py
 
-The program is run once on each document under valgrind's callgrind. Of that run the instructions are told of what makes a
-document of the JSON value and lets the value go on the way (`read_value`), and of the JSON reader with letting its value go;
-both hold all that they call. The ratio is that of making the value and then the document of it to the JSON reader alone.
+The program is run once on each document under valgrind's callgrind. Of that run the instructions are told of all that reads
+the document (`read_document`), and of the JSON reader with letting its value go, which is what is left of the former without
+making the module of the value (`read_module`), and the value's own drops; all hold what they call. The ratio is that of both.
 Prints a table in Markdown. The program has to be built: `rt ci` leaves it, and so does `rt run` in crates/checker. The
 status is 1 where a target is missed.
 """
@@ -15,7 +15,8 @@ import functions
 import modules
 
 MOST_RATIO = 1.4
-MADE = "document_reader::document::read_value"
+READ = "document_reader::reading::read_document"
+MADE = "document_reader::document::read_module"
 SIZES = (1 << 17, 1 << 20)
 
 
@@ -32,13 +33,12 @@ KINDS = {**functions.KINDS, **{name: of_count(made) for name, made in modules.KI
 
 
 def counted(room, path):
-    """The instructions of making the value and the document of it, and of making the value and letting it go."""
+    """The instructions of reading the document, and of making the JSON value and letting it go."""
     said = modules.called(room, path)
-    made = modules.of_call(said, MADE)
-    if not made:
-        sys.exit(f"reader: no call of {MADE} was counted")
-    read, dropped = modules.of_json(said)
-    return read + made, read + dropped
+    read, made = (modules.of_call(said, it) for it in (READ, MADE))
+    if not read or not made:
+        sys.exit(f"reader: no call of {READ} or {MADE} was counted")
+    return read, read - made + modules.of_json(said)[1]
 
 
 def main():
