@@ -1,2 +1,5 @@
 pub mod Facts
 pub mod Told
+pub mod Asking
+pub mod Uniform
+pub mod Faults

@@ -1,11 +1,22 @@
 //! What is known of the expressions of a function before its statements are looked at: where their values come from, the
 //! global variables that their chains of accesses start at, and what they ask of control flow.
+//!
+//! Faults of uniformity of functions: what asks that all invocations arrive at it together, and stands where they may not.
 #![tactic(auto)]
 
+mod analysis_fault;
+mod asking;
 mod facts;
+mod fault;
 mod found;
+mod next;
 mod requirements;
+mod severity;
 mod sources;
 mod uniformities;
+mod walk;
 
+pub use analysis_fault::uniformity_fault;
 pub use facts::{Facts, facts_of};
+pub use fault::{NonUniform, find_fault};
+pub use severity::derivative_severity;

@@ -6,7 +6,7 @@ use Rattle.std.proofs.lemmas.List.{set_past}
 use Rattle.analysis_forms.specs.declared.global_use.GlobalUse.{GlobalUse}
 use Rattle.spec_analysis.specs.Summaries.{no_use}
 use Rattle.std.specs.Prelude.{slice_index_or}
-use Rattle.analysis_info.specs.Infos.{joined_use}
+use Rattle.module_info.specs.Infos.{joined_use}
 use Rattle.analysis_tally.specs.Tallies.{merged_from}
 
 past : (n : ℕ) (uses others : List GlobalUse) → length uses ≤ n → merged_from n uses others ≡ uses

@@ -14,7 +14,7 @@ use Rattle.spec_analysis.specs.Values.{known_at}
 use Rattle.spec_analysis.specs.Summaries.{Summary, no_use, HasUseBit, HasBit}
 use Rattle.analysis_tally.specs.Tallies.{Known, Tallied, bumped, join_summary}
 use Rattle.analysis_tally.proofs.Effects.{do_one, do_all}
-use Rattle.analysis_info.proofs.UseBits.{one_use, marked_length}
+use Rattle.module_info.proofs.UseBits.{one_use, marked_length}
 use Rattle.analysis_tally.proofs.UseLemmas.{merge_bits, merge_length}
 use Rattle.analysis_tally.proofs.PairLemmas.{Means, paired_one, SomeComesUp, passed_pairs, IsSome, WrongPair, pair_here, pair_stays, pair_comes, SomeWrong, passed_here, passed_stays, passed_comes}
 

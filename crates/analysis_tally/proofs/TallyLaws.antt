@@ -20,8 +20,8 @@ use Rattle.spec_analysis.specs.Summaries.{Summary, no_use, HasUseBit, HasBit, Ca
 use Rattle.analysis_tally.specs.Tallies.{Known, Tallied, queried, name_one, name_all, nothing_tallied, expressions_done, done_in, named, whole_tally}
 use Rattle.analysis_tally.specs.Tallied.{summary_in, IsTally}
 use Rattle.analysis_tally.proofs.Effects.{do_all, do_append, do_expressions, do_in}
-use Rattle.analysis_info.specs.Infos.{marked}
-use Rattle.analysis_info.proofs.UseBits.{zero_has_none, marked_length, one_use, marked_same, marked_other}
+use Rattle.module_info.specs.Infos.{marked}
+use Rattle.module_info.proofs.UseBits.{zero_has_none, marked_length, one_use, marked_same, marked_other}
 use Rattle.analysis_tally.proofs.UseLemmas.{some_bit}
 use Rattle.analysis_tally.proofs.PairLemmas.{IsSome, SomeComesUp, SomeWrong, WrongPair}
 use Rattle.analysis_tally.proofs.SumLemmas.{Given, uses_length, GivesUse, uses_after, longer_after, GivesPair, pairs_after, GivesKill, kills_after, GivesWrong, wrong_after, wrong_comes, counts_after, counts_length}

@@ -11,8 +11,8 @@ use Rattle.spec_analysis.specs.Operands.{Operand}
 use Rattle.spec_analysis.specs.Effects.{Effect, takes, samples, runs, discards}
 use Rattle.spec_analysis.specs.Values.{known_at}
 use Rattle.spec_analysis.specs.Summaries.{Summary, no_use, HasUseBit, HasBit}
-use Rattle.analysis_info.specs.Infos.{marked}
-use Rattle.analysis_info.proofs.UseBits.{or_bits, zero_has_none, marked_length, one_use}
+use Rattle.module_info.specs.Infos.{marked}
+use Rattle.module_info.proofs.UseBits.{or_bits, zero_has_none, marked_length, one_use}
 use Rattle.analysis_tally.specs.Tallies.{Known, Tallied, Counted, merged_from, merged, take_one, pair_one, pass_all_up, join_summary}
 use Rattle.analysis_tally.proofs.Effects.{do_one, do_all}
 

@@ -15,7 +15,7 @@ use Rattle.spec_analysis.specs.Operands.{Operand, expression_operands, statement
 use Rattle.spec_analysis.specs.Values.{known_at}
 use Rattle.spec_analysis.specs.Chains.{place, seen_through}
 use Rattle.spec_analysis.specs.Summaries.{Summary, no_use}
-use Rattle.analysis_info.specs.Infos.{marked, summary_of}
+use Rattle.module_info.specs.Infos.{marked, summary_of}
 use Rattle.analysis_tally.specs.Listed.{listed}
 use Rattle.analysis_tally.specs.declared.tally.Context.{Context}
 use Rattle.analysis_tally.specs.declared.tally.Tally.{Tally}

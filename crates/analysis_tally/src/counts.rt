@@ -4,14 +4,14 @@ ghost use Rattle.std.specs.Prelude.{◌≡◌, Option, List, Some, map, IfOk, re
 ghost use Rattle.spec_analysis.specs.Operands.{reads, reads_if};
 ghost use Rattle.spec_analysis.specs.Summaries.{no_use};
 ghost use Rattle.spec_analysis.specs.Values.{known_at};
-ghost use Rattle.analysis_info.specs.Infos.{marked, joined_use};
+ghost use Rattle.module_info.specs.Infos.{marked, joined_use};
 ghost use Rattle.analysis_tally.specs.Tallies.{Counted, counted, bumped, take_one, take_all, merged, queried};
 
 use analysis_forms::GlobalUse;
-use analysis_info::mark_at;
 use bitflags::Flags;
 use ir_arena::handle::Handle;
 use ir_types::key;
+use module_info::mark_at;
 use std::alloc::{AllocError, Global};
 
 /// At how many places each expression is an operand, and the use of each global variable.

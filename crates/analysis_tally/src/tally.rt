@@ -6,11 +6,11 @@ ghost use Rattle.analysis_tally.specs.Tallies.{known, tallied, nothing_tallied, 
 
 use crate::counts::Counts;
 use crate::pairs::Sampled;
-use analysis_info::FunctionInfo;
 use ir_arena::arena::Arena;
 use ir_arena::handle::Handle;
 use ir_blocks::Block;
 use ir_types::{Expression, key};
+use module_info::FunctionInfo;
 use std::alloc::{AllocError, Global};
 
 /// What a tally is made from.

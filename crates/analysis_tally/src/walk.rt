@@ -2,7 +2,7 @@
 
 ghost use Rattle.std.specs.Prelude.{◌≡◌, map, OnOk, slice_get};
 ghost use Rattle.ir_blocks.specs.View.{statement_view, block_view, case_view, cases_of};
-ghost use Rattle.analysis_info.specs.Infos.{summary_of};
+ghost use Rattle.module_info.specs.Infos.{summary_of};
 ghost use Rattle.analysis_tally.specs.Tallies.{Known, known, tallied, join_summary, leave, statement_done, done_in, done_inside, done_in_cases};
 
 use crate::tally::{Context, Tally};

@@ -1,6 +1,6 @@
 // Each call of alignments, of layouters and of slots of immediate data, once.
 use anyhow::{Result, ensure};
-use immediate_slots::ImmediateSlots;
+use global_checks::ImmediateSlots;
 use ir_kinds::{CooperativeSize, Scalar, VectorSize};
 use ir_types::{IrType, TypeInner, key};
 use ir_unique_arena::unique_arena::UniqueArena;

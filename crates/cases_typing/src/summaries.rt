@@ -5,16 +5,16 @@ ghost use Rattle.ir_walks.specs.Filters.{ParentsPrecede};
 ghost use Rattle.spec_handles.specs.Conditions.{HandlesInRange, OperandsPrecede};
 
 use analysis_forms::{ExpressionInfo, GlobalOrArgument, GlobalUse, SamplingPair};
-use analysis_info::FunctionInfo;
 use error_functions::{ExpressionError, FunctionError};
 use ir_faults::refusal::Refusal;
 use ir_flags::ValidationFlags;
 use ir_items::{Function, Module};
+use module_info::FunctionInfo;
+use real_lower::process_function;
 use std::alloc::{AllocError, Global};
 use typing_conditions::{
     arities_match, callees_precede, filter_parents_precede, handles_in_range, operands_precede,
 };
-use typing_functions::process_function;
 
 // Tells of an expression how often it is used, which global variable it starts at, whether it is the same in all invocations,
 // and what it asks for.

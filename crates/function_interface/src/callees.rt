@@ -4,11 +4,11 @@ ghost use Rattle.std.specs.Prelude.{◌≡◌, List, map};
 ghost use Rattle.ir_flags.specs.declared.stages.ShaderStages.{ShaderStages};
 ghost use Rattle.spec_statements.specs.ExpressionStages.{callee_stages};
 
-use analysis_info::FunctionInfo;
 use bitflags::Flags;
 use ir_arena::handle::Handle;
 use ir_flags::ShaderStages;
 use ir_types::key;
+use module_info::FunctionInfo;
 
 /// The stages that may run the module's functions, as far as they are known.
 pub trait CalleeStages {

@@ -1,7 +1,7 @@
 //! A layer that types expressions, analyses functions and tells of types.
 
 ghost use Rattle.std.specs.Prelude.{◌≡◌, ◌<◌, ◌↔◌, ◌⊎◌, ◌||◌, ℕ, All, Bool, IfErr, IfOk, List, MatchResult, Some, bit_and, length, map, slice_get};
-ghost use Rattle.analysis_info.specs.Infos.{NotesUse};
+ghost use Rattle.module_info.specs.Infos.{NotesUse};
 ghost use Rattle.error_functions.specs.declared.expressions.ExpressionError.{ExpressionError};
 ghost use Rattle.error_functions.specs.declared.error.FunctionError.{FunctionError};
 ghost use Rattle.function_interface.specs.Analysis.{Faults, IsKept, IsRefusedFor};

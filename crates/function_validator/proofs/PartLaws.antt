@@ -1,7 +1,7 @@
 -- What the parts of a check find, put together.
 use Rattle.std.proofs.Common.{◌≡◌, ◌↔◌, ◌⊎◌, inl, inr, ◌<◌, ℕ, List, Option, Some, None, length, refl, sym, subst}
 use Rattle.std.specs.Int.RustNames.{bit_and}
-use Rattle.control_checks.specs.Faults.{IsControlFault}
+use Rattle.body_checks.specs.ControlFaults.{IsControlFault}
 use Rattle.error_functions.specs.declared.error.FunctionError.{FunctionError}
 use Rattle.function_interface.specs.Analysis.{Faults, IsRefusedFor}
 use Rattle.function_interface.specs.Interfaces.{IsInterfaceFault}
@@ -15,7 +15,7 @@ use Rattle.ir_flags.specs.Sets.{Has}
 use Rattle.ir_flags.specs.declared.settings.TheConstants.ValidationFlags.{EXPRESSIONS, BLOCKS}
 use Rattle.ir_flags.specs.declared.stages.ShaderStages.{ShaderStages}
 use Rattle.function_interface.specs.Bodies.{MayRun}
-use Rattle.scope_checks.specs.Faults.{IsScopeFault, IsScopeRefusal}
+use Rattle.body_checks.specs.Faults.{IsScopeFault, IsScopeRefusal}
 use Rattle.spec_statements.specs.ExpressionStages.{all_stages}
 use Rattle.spec_statements.specs.BlockContext.{BlockContext}
 use Rattle.spec_statements.specs.Functions.{Reading, FunctionSettings, BodyOK, AllowsStage}

@@ -1,7 +1,7 @@
 -- A function with a fault is not accepted.
 use Rattle.std.proofs.Common.{◌≡◌, ◌⊎◌, inl, inr, ◌<◌, zero, suc, ℕ, List, [], ◌∷◌, Some, length, refl, sym, ap, subst, slice_get, ◌∙◌, arith}
 use Rattle.std.proofs.lemmas.Option.{slice_get_within}
-use Rattle.control_checks.proofs.Refuted.{faults_refute_lem as by_control}
+use Rattle.body_checks.proofs.ControlRefuted.{faults_refute_lem as by_control}
 use Rattle.error_functions.specs.declared.expressions.ExpressionError.{ExpressionError}
 use Rattle.error_functions.specs.declared.error.FunctionError.{FunctionError}
 use Rattle.error_functions.specs.declared.error.FunctionError.TheVariants as error
@@ -15,7 +15,7 @@ use Rattle.ir_flags.specs.declared.settings.TheConstants.ValidationFlags.{EXPRES
 use Rattle.ir_flags.specs.declared.settings.ValidationFlags.{ValidationFlags}
 use Rattle.ir_items.specs.Plain.{PlainFunction, PlainModule}
 use Rattle.operation_checks.proofs.Refuted.{faults_refute_lem as by_ray}
-use Rattle.scope_checks.proofs.Refuted.{faults_refute_lem as by_scope}
+use Rattle.body_checks.proofs.Refuted.{faults_refute_lem as by_scope}
 use Rattle.spec_analysis.proofs.Members.{get-within}
 use Rattle.spec_handles.specs.Conditions.{AritiesMatch}
 use Rattle.spec_statements.specs.BlockContext.{BlockContext}

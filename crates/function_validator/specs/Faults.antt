@@ -1,6 +1,6 @@
 -- What is wrong with a function: of its parts in their order the first with which something is wrong.
 use Rattle.std.specs.Prelude.{◌≡◌, ◌⊎◌, ◌<◌, ℕ, List, length}
-use Rattle.control_checks.specs.Faults.{IsControlFault}
+use Rattle.body_checks.specs.ControlFaults.{IsControlFault}
 use Rattle.error_functions.specs.declared.expressions.ExpressionError.{ExpressionError}
 use Rattle.error_functions.specs.declared.error.FunctionError.{FunctionError}
 use Rattle.error_functions.specs.declared.error.FunctionError.TheVariants as error
@@ -12,7 +12,7 @@ use Rattle.ir_flags.specs.Sets.{Has}
 use Rattle.ir_flags.specs.declared.settings.TheConstants.ValidationFlags.{EXPRESSIONS, BLOCKS}
 use Rattle.ir_items.specs.Plain.{PlainFunction, PlainModule}
 use Rattle.operation_checks.specs.Payloads.{IsPayloadsFault}
-use Rattle.scope_checks.specs.Faults.{IsScopeFault}
+use Rattle.body_checks.specs.Faults.{IsScopeFault}
 use Rattle.spec_handles.specs.Conditions.{AritiesMatch}
 use Rattle.spec_statements.specs.BlockContext.{BlockContext}
 use Rattle.spec_statements.specs.Functions.{Reading, FunctionSettings, AreFormsBy, block_context}

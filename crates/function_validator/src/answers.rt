@@ -8,12 +8,12 @@ ghost use Rattle.ir_blocks.specs.Places.{Place};
 ghost use Rattle.spec_statements.specs.Results.{AnswersBy};
 ghost use Rattle.statement_checks.specs.View.{context_view};
 
+use body_checks::ExpressionList;
 use error_functions::FunctionError;
 use function_interface::check_answered;
 use ir_arena::handle::Handle;
 use ir_faults::refusal::Refusal;
 use ir_faults::with_span::WithSpan;
-use scope_checks::ExpressionList;
 use statement_checks::BlockContext;
 use std::alloc::{AllocError, Global};
 

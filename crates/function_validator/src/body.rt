@@ -10,14 +10,13 @@ ghost use Rattle.spec_handles.specs.Conditions.{AritiesMatch};
 ghost use Rattle.statement_checks.specs.View.{context_view, IsKnown};
 
 use crate::settings::FunctionSettings;
-use control_checks::check_control;
+use body_checks::{ExpressionList, check_control, check_scope};
 use error_functions::FunctionError;
 use ir_arena::handle::Handle;
 use ir_faults::refusal::Refusal;
 use ir_faults::with_span::WithSpan;
 use ir_types::key;
 use operation_checks::payload_of;
-use scope_checks::{ExpressionList, check_scope};
 use statement_checks::BlockContext;
 use statement_validator::validate_statements;
 use std::alloc::Global;

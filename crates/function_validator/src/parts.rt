@@ -20,6 +20,7 @@ use crate::callees::KeptStages;
 use crate::expressions::check_expressions;
 use crate::settings::FunctionSettings;
 use bitflags::Flags;
+use body_checks::ExpressionList;
 use error_functions::FunctionError;
 use function_interface::{Lower, check_interface, stages_of};
 use ir_arena::handle::Handle;
@@ -27,7 +28,6 @@ use ir_faults::refusal::Refusal;
 use ir_faults::with_span::WithSpan;
 use ir_flags::{ShaderStages, ValidationFlags};
 use ir_types::key;
-use scope_checks::ExpressionList;
 use statement_checks::BlockContext;
 use std::alloc::Global;
 

@@ -5,3 +5,8 @@ mod Lies
 mod Whole
 mod Broken
 pub mod Refuted
+pub mod Along
+pub mod Bits
+pub mod LeafLemmas
+pub mod Parts
+pub mod SizeLemmas

@@ -14,7 +14,7 @@ use Rattle.ir_items.specs.Plain.{PlainModule}
 use Rattle.ir_kinds.specs.declared.spaces.AddressSpace.{AddressSpace}
 use Rattle.ir_kinds.specs.declared.spaces.AddressSpace.TheVariants.{Uniform, Storage, Immediate, TaskPayload}
 use Rattle.ir_types.specs.Plain.{PlainInner, PlainType}
-use Rattle.immediate_slots.proofs.SizeLemmas.{size_found}
+use Rattle.global_checks.proofs.SizeLemmas.{size_found}
 use Rattle.typing_layout.specs.Buffers.{IsStorage, IsUniform, uniform_alignment}
 use Rattle.typing_layout.specs.Immediates.{FitsImmediates}
 use Rattle.spec_globals.specs.Spaces.{LiesIn, counted, is_storage}

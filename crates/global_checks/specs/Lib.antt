@@ -1,3 +1,7 @@
 pub mod Faults
 pub mod There
 pub mod Laws
+pub mod Reached
+pub mod Sizes
+pub mod Slots
+pub mod Leaves

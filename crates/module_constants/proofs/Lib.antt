@@ -3,4 +3,3 @@ pub mod FlagLemmas
 pub mod IdLemmas
 pub mod ScalarLemmas
 pub mod Told
-mod OverrideTold

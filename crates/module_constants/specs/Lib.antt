@@ -4,4 +4,3 @@ pub mod Ids
 pub mod Kinds
 pub mod Known
 pub mod Refusals
-pub mod OverrideRefusals

@@ -6,7 +6,6 @@ mod constants;
 mod context;
 mod expressions;
 mod ids;
-mod listed_overrides;
 mod overrides;
 
 pub use constants::{InvalidConstant, validate_constant, validate_constants};
@@ -15,5 +14,4 @@ pub use expressions::{
     InvalidGlobalExpression, validate_const_expression, validate_const_expressions,
 };
 pub use ids::OverrideIds;
-pub use listed_overrides::{InvalidOverride, validate_overrides};
 pub use overrides::validate_override;

@@ -2,7 +2,7 @@
 
 ghost use Rattle.std.specs.Prelude.{◌≡◌, ◌<◌, ◌++◌, ◌∷◌, [], Some, OnErr, OnOk, length, slice_get};
 
-use analysis_info::FunctionInfo;
+use crate::FunctionInfo;
 use ir_arena::handle::Handle;
 use ir_types::key;
 use std::alloc::{AllocError, Global};

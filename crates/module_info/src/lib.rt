@@ -1,6 +1,10 @@
-//! What is kept of a module that was judged.
+//! What is kept of a module that was judged, and of each of its functions.
 #![tactic(auto)]
 
+mod function_info;
 mod info;
+mod uses;
 
+pub use function_info::{FunctionInfo, FunctionParts};
 pub use info::ModuleInfo;
+pub use uses::mark_at;

@@ -6,7 +6,7 @@ use Rattle.std.proofs.lemmas.List.{append_assoc, append-nil, drop_all, flat_map_
 use Rattle.analysis_forms.specs.Pairs.{SamplingPair}
 use Rattle.analysis_forms.specs.declared.sampling.GlobalOrArgument.{GlobalOrArgument}
 use Rattle.analysis_forms.specs.declared.sampling.GlobalOrArgument.TheVariants.{Argument, Global}
-use Rattle.analysis_info.specs.declared.function_info.FunctionInfo.{FunctionInfo}
+use Rattle.module_info.specs.declared.function_info.FunctionInfo.{FunctionInfo}
 use Rattle.ir_items.specs.Plain.{PlainEntry, PlainModule}
 use Rattle.module_report.specs.Told.{numbers_in, numbers_of, IsEntryInfo, Tells, AreLinesOf, AreEntryLines}
 use Rattle.overload_tables.specs.Laws.{IsAmong}

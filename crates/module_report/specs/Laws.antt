@@ -1,7 +1,7 @@
 -- When what is kept of an entry point is what the report reads.
 use Rattle.std.specs.Prelude.{◌≡◌, ◌<◌, ◌↔◌, ℕ, length}
 use Rattle.analysis_forms.specs.Pairs.{SamplingPair}
-use Rattle.analysis_info.specs.declared.function_info.FunctionInfo.{FunctionInfo}
+use Rattle.module_info.specs.declared.function_info.FunctionInfo.{FunctionInfo}
 use Rattle.ir_items.specs.Plain.{PlainEntry, PlainModule}
 use Rattle.module_report.specs.Told.{IsEntryInfo}
 use Rattle.overload_tables.specs.Laws.{IsAmong}

@@ -8,11 +8,10 @@ ghost use Rattle.spec_report.specs.Lines.{each_from, mesh_output, is_at, is_own,
 use crate::lines::{is_used, write_global, write_head, write_own};
 use crate::pairs::write_samples;
 use analysis_forms::GlobalUse;
-use analysis_info::FunctionInfo;
 use ir_arena::handle::Handle;
 use ir_items::{EntryPoint, Module};
 use ir_types::key;
-use module_info::ModuleInfo;
+use module_info::{FunctionInfo, ModuleInfo};
 use std::alloc::{AllocError, Global};
 
 // The variable that holds what a mesh shader gives.

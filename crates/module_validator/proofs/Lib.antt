@@ -3,3 +3,4 @@ pub mod Refusals
 pub mod StepLemmas
 pub mod ValueLemmas
 mod Known
+mod OverrideTold

@@ -13,7 +13,7 @@ use Rattle.ir_items.specs.Plain.{PlainModule}
 use Rattle.module_constants.specs.declared.constants.InvalidConstant.{InvalidConstant}
 use Rattle.module_constants.specs.declared.expressions.InvalidGlobalExpression.{InvalidGlobalExpression}
 use Rattle.module_handles.specs.Errors.{IsHandleError}
-use Rattle.module_constants.specs.declared.listed_overrides.InvalidOverride.{InvalidOverride}
+use Rattle.module_validator.specs.declared.listed_overrides.InvalidOverride.{InvalidOverride}
 use Rattle.module_types.specs.Validated.{IsFirstRefused as IsTypeRefused}
 use Rattle.module_types.specs.declared.validate.InvalidType.{InvalidType}
 use Rattle.module_validator.proofs.Handles.{handle_refuted}

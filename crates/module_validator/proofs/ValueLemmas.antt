@@ -12,7 +12,7 @@ use Rattle.module_constants.specs.Known.{AreTyped, IsKnown, module_in}
 use Rattle.module_constants.specs.declared.constants.InvalidConstant.{InvalidConstant}
 use Rattle.module_constants.specs.declared.context.GlobalContext.{GlobalContext}
 use Rattle.module_constants.specs.declared.expressions.InvalidGlobalExpression.{InvalidGlobalExpression}
-use Rattle.module_constants.specs.declared.listed_overrides.InvalidOverride.{InvalidOverride}
+use Rattle.module_validator.specs.declared.listed_overrides.InvalidOverride.{InvalidOverride}
 use Rattle.module_types.specs.Validated.{AreAccepted as AreTold}
 use Rattle.module_validator.proofs.Handles.{named_are_there}
 use Rattle.module_validator.proofs.Refusals.{by_expression, by_constant, by_override}

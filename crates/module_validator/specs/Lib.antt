@@ -3,3 +3,4 @@ pub mod Told
 pub mod Faults
 pub mod Settings
 pub mod Refusals
+pub mod OverrideRefusals

@@ -1,6 +1,7 @@
 //! Why a module is refused.
 
-use module_constants::{InvalidConstant, InvalidGlobalExpression, InvalidOverride};
+use crate::InvalidOverride;
+use module_constants::{InvalidConstant, InvalidGlobalExpression};
 use module_handles::InvalidHandleError;
 use module_types::InvalidType;
 use thiserror::Error;

@@ -5,6 +5,7 @@
 mod error;
 mod globals;
 mod items;
+mod listed_overrides;
 mod steps;
 mod validator;
 mod values;
@@ -12,7 +13,8 @@ mod values;
 pub use error::ModuleError;
 pub use global_checks::GlobalVariableError;
 pub use globals::{InvalidGlobalVariable, validate_globals};
-pub use module_constants::{InvalidConstant, InvalidGlobalExpression, InvalidOverride};
+pub use listed_overrides::{InvalidOverride, validate_overrides};
+pub use module_constants::{InvalidConstant, InvalidGlobalExpression};
 pub use module_info::ModuleInfo;
 pub use module_types::InvalidType;
 pub use steps::{check_handles, expression_types, lay_out, type_infos};

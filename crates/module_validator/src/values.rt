@@ -13,14 +13,13 @@ ghost use Rattle.spec_modules.specs.Steps.{IsReached, ModuleOK, expression, cons
 ghost use Rattle.typing_expressions.specs.Types.{AreTypes};
 
 use crate::error::ModuleError;
+use crate::listed_overrides::validate_overrides;
 use crate::steps::refused;
 use bitflags::Flags;
 use ir_faults::refusal::Refusal;
 use ir_flags::ValidationFlags;
 use ir_items::Module;
-use module_constants::{
-    GlobalContext, validate_const_expressions, validate_constants, validate_overrides,
-};
+use module_constants::{GlobalContext, validate_const_expressions, validate_constants};
 use module_expressions::forms_given;
 use spec_modules::ModuleSettings;
 use std::alloc::Global;

@@ -3,8 +3,8 @@ use Rattle.std.proofs.Common.{◌≡◌, ℕ, List, Option, Some, None, Result, 
 use Rattle.std.proofs.lemmas.List.{length-map}
 use Rattle.std.proofs.lemmas.Option.{slice_get-map}
 use Rattle.analysis_forms.specs.declared.expression_info.ExpressionInfo.{ExpressionInfo}
-use Rattle.analysis_info.specs.Infos.{summary_of}
-use Rattle.analysis_info.specs.declared.function_info.FunctionInfo.{FunctionInfo}
+use Rattle.module_info.specs.Infos.{summary_of}
+use Rattle.module_info.specs.declared.function_info.FunctionInfo.{FunctionInfo}
 use Rattle.error_functions.specs.declared.error.FunctionError.{FunctionError}
 use Rattle.function_interface.specs.Analysis.{IsKept, IsRefusedFor}
 use Rattle.function_interface.specs.Question.{question}
@@ -22,12 +22,12 @@ use Rattle.spec_statements.specs.ExpressionStages.{all_stages}
 use Rattle.spec_expressions.specs.Typing.{HasType}
 use Rattle.spec_handles.specs.Conditions.{HandlesInRange}
 use Rattle.spec_handles.specs.InOrder.{HandlesOK}
-use Rattle.typing_functions.specs.Infos.{AreExpressionInfos}
+use Rattle.real_lower.specs.Infos.{AreExpressionInfos}
 use Rattle.typing_forms.specs.Forms.{NoStructValue, form_of}
 use Rattle.typing_forms.specs.Resolutions.{PlainResolution, by_handle, by_value, resolution_view}
 use Rattle.typing_forms.specs.declared.resolution.TypeResolution.{TypeResolution}
 use Rattle.typing_forms.specs.declared.form.Form.{Form}
-use Rattle.typing_functions.specs.Processed.{IsAnalysed, IsProcessed}
+use Rattle.real_lower.specs.Processed.{IsAnalysed, IsProcessed}
 use Rattle.typing_operands.specs.Answers.{form_given}
 
 typed_at : (m : PlainModule) (f : PlainFunction) (e : ℕ) (t : Form) (o : Option ExpressionInfo)

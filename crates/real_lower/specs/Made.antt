@@ -1,7 +1,7 @@
 -- What is kept of a module is that of this one, whose handles are in order.
 use Rattle.std.specs.Prelude.{List, map}
 use Rattle.analysis_forms.specs.declared.expression_info.ExpressionInfo.{ExpressionInfo}
-use Rattle.analysis_info.specs.declared.function_info.FunctionInfo.{FunctionInfo}
+use Rattle.module_info.specs.declared.function_info.FunctionInfo.{FunctionInfo}
 use Rattle.function_interface.specs.Told.{AreTold}
 use Rattle.ir_items.specs.Plain.{PlainModule}
 use Rattle.module_info.specs.declared.info.ModuleInfo.{ModuleInfo}

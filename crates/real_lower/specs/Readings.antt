@@ -9,7 +9,7 @@ use Rattle.spec_statements.specs.Scene.{scene_of}
 use Rattle.spec_statements.specs.ExpressionStages.{IsRunBy}
 use Rattle.spec_expressions.specs.Typing.{HasType}
 use Rattle.spec_statements.specs.Functions.{Reading}
-use Rattle.typing_functions.specs.Processed.{IsAnalysisFault}
+use Rattle.real_lower.specs.Processed.{IsAnalysisFault}
 
 -- its expressions have types by the rules of their kinds, and no fault of the analysis stands
 abbrev pub reading_of : Question → Reading

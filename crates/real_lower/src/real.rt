@@ -2,9 +2,9 @@
 
 ghost use Rattle.std.specs.Prelude.{◌≡◌};
 
+use crate::process_function;
 use crate::stages::stages_by;
 use analysis_forms::{GlobalUse, SamplingPair};
-use analysis_info::FunctionInfo;
 use error_functions::{ExpressionError, FunctionError};
 use expression_validator::validate_expression;
 use function_interface::Lower;
@@ -13,12 +13,11 @@ use ir_faults::refusal::Refusal;
 use ir_flags::{ShaderStages, ValidationFlags};
 use ir_items::{Function, Module};
 use ir_types::key;
-use module_info::ModuleInfo;
+use module_info::{FunctionInfo, ModuleInfo};
 use statement_checks::{BlockContext, CheckContext};
 use std::alloc::Global;
 use type_infos::TypeInfo;
 use typing_forms::TypeResolution;
-use typing_functions::process_function;
 
 /// What is kept of a module, and with it the typing of its expressions, the analysis of its functions and the checks of their
 /// expressions.
@@ -53,7 +52,7 @@ impl RealLower {
 impl Lower for RealLower {
     type Info = FunctionInfo;
 
-    ghost use Rattle.analysis_info.specs.Infos.{summary_of};
+    ghost use Rattle.module_info.specs.Infos.{summary_of};
     ghost use Rattle.real_lower.specs.Made.{IsMadeOf, types_of};
     ghost use Rattle.real_lower.specs.Readings.{reading_of, faults_of};
     ghost use Rattle.real_lower.specs.Laws.{one_form_by, one_run_by, expression_refuted_by};

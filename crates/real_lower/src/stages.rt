@@ -5,10 +5,10 @@ ghost use Rattle.function_interface.specs.Callees.{noted};
 ghost use Rattle.ir_types.specs.ExpressionPlain.{expression_view};
 ghost use Rattle.spec_statements.specs.ExpressionStages.{stages_of};
 
-use analysis_info::FunctionInfo;
 use function_interface::{CalleeStages, NotedStages};
 use ir_flags::ShaderStages;
 use ir_types::Expression;
+use module_info::FunctionInfo;
 
 /// The stages that may run an expression, of which `alone` may where nothing is noted of functions.
 pub(crate) fn stages_by(

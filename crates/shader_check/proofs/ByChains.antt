@@ -22,7 +22,7 @@ use Rattle.spec_functions.specs.Analysis.{IsAnalysed}
 use Rattle.spec_functions.specs.Functions.{reading_over, settings_with, FunctionAtOK}
 use Rattle.spec_statements.specs.Functions.{FunctionSettings, FunctionOK, AreFormsBy}
 use Rattle.typing_forms.specs.declared.form.Form.{Form}
-use Rattle.typing_functions.specs.Processed.{IsAnalysisFault, untyped, wrong_form, non_uniform}
+use Rattle.real_lower.specs.Processed.{IsAnalysisFault, untyped, wrong_form, non_uniform}
 use Rattle.typing_operands.specs.Answers.{fault_of, TellsFault}
 
 module _ (m : PlainModule) (f : PlainFunction) (summaries : List Summary) (stages : List ShaderStages) (known : CalleesKnown m f summaries) where

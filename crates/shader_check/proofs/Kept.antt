@@ -2,8 +2,8 @@
 use Rattle.std.proofs.Common.{◌≡◌, ◌∙◌, ℕ, false, Some, option_map, slice_get, sym, ap}
 use Rattle.std.proofs.lemmas.List.{length-map}
 use Rattle.std.proofs.lemmas.Option.{slice_get-map}
-use Rattle.analysis_info.specs.Infos.{summary_of}
-use Rattle.analysis_info.specs.declared.function_info.FunctionInfo.{FunctionInfo}
+use Rattle.module_info.specs.Infos.{summary_of}
+use Rattle.module_info.specs.declared.function_info.FunctionInfo.{FunctionInfo}
 use Rattle.shader_check.specs.Validated.{IsValidated}
 use Rattle.ir_items.specs.Plain.{PlainEntry, PlainModule}
 use Rattle.module_handles.proofs.Whole.{order_gives_conditions}

@@ -1,7 +1,7 @@
 -- What is answered of a whole module.
 use Rattle.std.specs.Prelude.{◌≡◌, [], Bool, List, length, map}
-use Rattle.analysis_info.specs.Infos.{summary_of}
-use Rattle.analysis_info.specs.declared.function_info.FunctionInfo.{FunctionInfo}
+use Rattle.module_info.specs.Infos.{summary_of}
+use Rattle.module_info.specs.declared.function_info.FunctionInfo.{FunctionInfo}
 use Rattle.shader_check.specs.Chains.{AreKept, IsFunctionFault}
 use Rattle.shader_check.specs.JudgedEntries.{AreEntryNotes, AreEntrySummaries, IsEntryRefusedAt, Note, note_of}
 use Rattle.shader_check.specs.declared.entries.InvalidEntryPoint.{InvalidEntryPoint}

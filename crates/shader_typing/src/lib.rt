@@ -1,10 +1,9 @@
 //! The typing of a shader's expressions from one place: the types that expressions are given as and their canonical
-//! forms of `typing_forms`, which says too what types are built of and which of them are equivalent, with
-//! `typing_compare`, layouts of types and kinds of expressions of `typing_layout`, the rules of math functions of
-//! `overload_tables`, sets of scalars and of shapes of `constructor_sets`, overload sets of `typing_overloads`, what rules
-//! give in a module of `typing_conclusions`, the types of expressions of `typing_resolve`, which are those that
-//! `spec_expressions` defines, those of all expressions of a list of `typing_expressions`, what the analysis of a function
-//! asks of `typing_conditions`, and what is kept of a function of `typing_functions`, with its errors.
+//! forms of `typing_forms`, which says too what types are built of and which of them are equivalent, layouts of types and
+//! kinds of expressions of `typing_layout`, the rules of math functions of `overload_tables`, sets of scalars and of shapes of
+//! `constructor_sets`, overload sets of `typing_overloads`, the types of expressions of `typing_resolve`, which are those that
+//! `spec_expressions` defines, those of all expressions of a list and comparing types of `typing_expressions`, what the
+//! analysis of a function asks of `typing_conditions`, and what is kept of a function of `real_lower`, with its errors.
 //!
 //! Nothing is defined here. A crate that uses the typing as a whole names this crate alone.
 #![tactic(auto)]
@@ -15,27 +14,26 @@ pub use analysis_forms::{
     ExpressionInfo, GlobalOrArgument, GlobalUse, SamplingKey, SamplingPair, Uniformity,
     UniformityRequirements,
 };
-pub use analysis_info::FunctionInfo;
 pub use constructor_sets::{ConstructorSet, Members, OneBitsIter, ScalarSet};
 pub use error_functions::{
     AtomicError, CallError, ComposeError, ExpressionError, FunctionError, LocalVariableError,
     SubgroupError, UniformityDisruptor,
 };
+pub use module_info::FunctionInfo;
 pub use overload_tables::{Arguments, Conclusion, ConstructorSize, Pattern, Rule, ValueType};
+pub use real_lower::process_function;
 pub use spec_expressions::{ConclusionExt, MissingSpecialType, TypingFault};
-pub use typing_compare::CompareTypes;
 pub use typing_conditions::{
     arities_match, callees_precede, filter_parents_precede, handles_in_range, operands_precede,
 };
 pub use typing_expressions::{
-    TypingRefusal, const_expression_types, process_const_expression, types_of,
+    CompareTypes, TypingRefusal, const_expression_types, process_const_expression, types_of,
 };
 pub use typing_forms::{
     Form, IndexableLength, IndexableLengthError, MAX_TYPE_SIZE, ResolveArraySizeError, ScalarExt,
     ScalarKindExt, TypeInnerExt, TypeResolution, compare_types, conversion_rank, converted_rank,
     form_in, form_of, form_of_type, inner_of, types_go_back,
 };
-pub use typing_functions::process_function;
 pub use typing_layout::{
     Alignment, ExpressionKind, ExpressionKindTracker, LayoutError, LayoutErrorInner, Layouter,
     TypeLayout, origins_precede,

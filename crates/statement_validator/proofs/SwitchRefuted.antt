@@ -13,7 +13,8 @@ use Rattle.ir_kinds.specs.declared.values.SwitchValue.TheVariants.{Default}
 use Rattle.spec_statements.specs.BlockContext.{BlockContext, form_at}
 use Rattle.spec_statements.specs.Switches.{case_values, CasesOK, SwitchOK}
 use Rattle.statement_validator.specs.SwitchLaws.{FaultsRefute}
-use Rattle.statement_validator.specs.Switches.{StandsTwice, IsValueFault, IsEndFault, IsCaseFault, IsSwitchFault}
+use Rattle.body_checks.specs.Cases.{StandsTwice, IsValueFault, IsEndFault, IsCaseFault}
+use Rattle.statement_validator.specs.Switches.{IsSwitchFault}
 
 twice_refuted : (values : List SwitchValue) (v : SwitchValue) → StandsTwice values v → AllPairs (λ x y. x ≢ y) values → ⊥
 twice_refuted values v h apart =

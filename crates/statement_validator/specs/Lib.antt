@@ -1,6 +1,5 @@
 pub mod Faults
 pub mod Bodies
 pub mod Laws
-pub mod Values
 pub mod Switches
 pub mod SwitchLaws

@@ -5,7 +5,8 @@ use Rattle.ir_blocks.specs.Plain.{PlainCases}
 use Rattle.ir_kinds.specs.declared.scalars.ScalarKind.{ScalarKind}
 use Rattle.spec_statements.specs.BlockContext.{BlockContext, form_at}
 use Rattle.spec_statements.specs.Switches.{CasesOK, SwitchOK}
-use Rattle.statement_validator.specs.Switches.{IsCaseFault, IsSwitchFault}
+use Rattle.body_checks.specs.Cases.{IsCaseFault}
+use Rattle.statement_validator.specs.Switches.{IsSwitchFault}
 
 -- What refutes the rules.
 pub record Refuted (c : BlockContext) (e : FunctionError) : Type 0 where

@@ -3,7 +3,6 @@
 #![tactic(auto)]
 
 mod body;
-mod cases;
 mod error;
 pub mod laws;
 mod statement;
@@ -12,5 +11,4 @@ mod switches;
 mod walk;
 
 pub use body::validate_statements;
-pub use cases::cases_fault;
 pub use switches::check_switch;

@@ -7,7 +7,7 @@ ghost use Rattle.spec_statements.specs.Switches.{SwitchOK};
 ghost use Rattle.statement_checks.specs.View.{context_view};
 ghost use Rattle.statement_validator.specs.Switches.{Selects, IsSelectorFault, IsSwitchRefusal};
 
-use crate::cases::cases_fault;
+use body_checks::cases_fault;
 use error_functions::FunctionError;
 use ir_arena::handle::Handle;
 use ir_blocks::SwitchCase;

@@ -5,7 +5,7 @@ use ir_items::Module;
 use serde_json::Value;
 use std::alloc::{AllocError, Global};
 use test_support::call::{handle, no_call, text, told};
-use typing_compare::CompareTypes;
+use typing_expressions::CompareTypes;
 use typing_forms::laws::form_equality;
 use typing_forms::{TypeResolution, compare_types, form_in, form_of, form_of_type, inner_of};
 

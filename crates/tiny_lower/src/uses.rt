@@ -1,12 +1,12 @@
 //! Uses of global variables, one for each in order.
 
 ghost use Rattle.std.specs.Prelude.{◌≡◌};
-ghost use Rattle.analysis_info.specs.Infos.{with_uses};
+ghost use Rattle.module_info.specs.Infos.{with_uses};
 
 use analysis_forms::GlobalUse;
-use analysis_info::mark_at;
 use ir_arena::handle::Handle;
 use ir_types::key;
+use module_info::mark_at;
 
 /// Further uses of global variables. Where there is no such variable, nothing changes.
 pub(crate) fn mark_all(

@@ -1,5 +1,5 @@
 use Rattle.std.proofs.Common.{◌∙◌}
-use Rattle.immediate_slots.proofs.SizeLemmas.{size_found, size_missing}
+use Rattle.global_checks.proofs.SizeLemmas.{size_found, size_missing}
 use Rattle.ir_items.specs.View.{module_view}
 use Rattle.ir_types.specs.Plain.{inner_view}
 use Rattle.entry_checks.proofs.variables.bytes_of.Goals as goal

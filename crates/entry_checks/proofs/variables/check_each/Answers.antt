@@ -4,7 +4,7 @@ use Rattle.analysis_forms.specs.declared.global_use.GlobalUse.{GlobalUse}
 use Rattle.spec_entries.proofs.Places.{found}
 use Rattle.entry_checks.proofs.UsedLaws.{all_each, each_at, each_unused, unused_by, use_is, used_by}
 use Rattle.entry_checks.specs.Faults.{IsVariableFault}
-use Rattle.immediate_slots.proofs.SizeLemmas.{many_variables}
+use Rattle.global_checks.proofs.SizeLemmas.{many_variables}
 use Rattle.ir_items.specs.GlobalView.{global_view}
 use Rattle.ir_items.specs.View.{entry_view, module_view}
 use Rattle.spec_analysis.specs.Summaries.{HasUseBit}

@@ -1,7 +1,7 @@
 use Rattle.std.proofs.Common.{◌∙◌, List, length, map, sym, ap, subst}
 use Rattle.std.proofs.lemmas.List.{length-map}
-use Rattle.analysis_info.specs.Infos.{summary_of}
-use Rattle.analysis_info.specs.declared.function_info.FunctionInfo.{FunctionInfo}
+use Rattle.module_info.specs.Infos.{summary_of}
+use Rattle.module_info.specs.declared.function_info.FunctionInfo.{FunctionInfo}
 use Rattle.shader_check.proofs.Assembled.{entries_kept, entries_noted, entry_refused, run_so, told_by}
 use Rattle.shader_check.proofs.EntryHeld.{held_behind_functions}
 use Rattle.shader_check.proofs.FunctionKept.{kept, refused_by}

@@ -1,6 +1,6 @@
 -- What the rest adds is what all add.
 use Rattle.std.proofs.Common.{◌≡◌, drop}
-use Rattle.analysis_info.specs.Infos.{with_uses}
+use Rattle.module_info.specs.Infos.{with_uses}
 use Rattle.tiny_lower.proofs.uses.mark_all.Given as goal
 
 abbrev pub invariant-loop-more : goal.invariant-loop-more

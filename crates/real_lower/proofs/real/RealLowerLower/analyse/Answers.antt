@@ -1,5 +1,5 @@
 use Rattle.std.proofs.Common.{map}
-use Rattle.analysis_info.specs.declared.function_info.FunctionInfo.{FunctionInfo}
+use Rattle.module_info.specs.declared.function_info.FunctionInfo.{FunctionInfo}
 use Rattle.ir_items.specs.View.{function_view, module_view}
 use Rattle.real_lower.proofs.Kept.{kept_by, fault_by}
 use Rattle.real_lower.proofs.real.RealLowerLower.analyse.Goals as goal

@@ -1,7 +1,7 @@
 use Rattle.std.proofs.Common.{length, sym, ap, subst, ◌∙◌}
 use Rattle.std.specs.Prelude.{◌↔◌, ◌⊎◌}
-use Rattle.analysis_info.proofs.UseBits.{with_bits, with_length}
-use Rattle.analysis_info.specs.Infos.{NotesUse}
+use Rattle.module_info.proofs.UseBits.{with_bits, with_length}
+use Rattle.module_info.specs.Infos.{NotesUse}
 use Rattle.spec_analysis.specs.Summaries.{HasUseBit}
 use Rattle.tiny_lower.proofs.tiny.TinyLowerLower.note.Goals as goal
 

@@ -1,0 +1,31 @@
+//! The fault of uniformity of a function.
+
+ghost use Rattle.std.specs.Prelude.{◌≡◌, IfOk};
+ghost use Rattle.ir_items.specs.View.{function_view, module_view};
+ghost use Rattle.ir_walks.specs.Filters.{ParentsPrecede};
+ghost use Rattle.analysis_facts.specs.Facts.{AreUniformities};
+ghost use Rattle.analysis_facts.specs.Faults.{IsAnswer};
+
+use crate::{NonUniform, derivative_severity, find_fault};
+use analysis_forms::Uniformity;
+use ir_flags::ValidationFlags;
+use ir_items::{Function, Module};
+use std::alloc::{AllocError, Global};
+
+/// A fault of uniformity of a function of the module, or `None` where it has none (see [`find_fault`]). `uniformities` says of
+/// each of its expressions where its value comes from and what it asks for, and the parent of each diagnostic filter comes
+/// before it. The error is out of memory.
+pub fn uniformity_fault(
+    alloc: Global,
+    flags: ValidationFlags,
+    module: &Module,
+    function: &Function,
+    uniformities: &[Uniformity],
+) -> Result<Option<NonUniform>, AllocError>
+    requires uniformities { AreUniformities (module_view «module».now) (function_view function.now) uniformities.now }
+    requires parents { ParentsPrecede ((module_view «module».now).filters) }
+    ensures { IfOk result (IsAnswer flags (module_view «module».now) (function_view function.now)) }
+{
+    let severity = derivative_severity(function, module);
+    find_fault(alloc, flags, severity, uniformities, &function.body)
+}

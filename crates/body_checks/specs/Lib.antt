@@ -1,0 +1,9 @@
+pub mod Lists
+pub mod Carried
+pub mod Faults
+pub mod Laws
+pub mod Allowed
+pub mod ControlFaults
+pub mod ControlLaws
+pub mod Cases
+pub mod CaseValues

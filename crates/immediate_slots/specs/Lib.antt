@@ -1,4 +1,0 @@
-pub mod Reached
-pub mod Sizes
-pub mod Slots
-pub mod Leaves

@@ -1,4 +1,0 @@
-pub mod Lists
-pub mod Carried
-pub mod Faults
-pub mod Laws

@@ -1,5 +1,0 @@
-pub mod Processed
-pub mod Faults
-pub mod Infos
-pub mod Kept
-pub mod Summarized
