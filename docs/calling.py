@@ -19,7 +19,7 @@ PAGES = [
      ("cases/src/returns.rt", None), ["ir_flags", "ir_kinds", "ir_arena", "ir_unique_arena", "ir_sets", "ir_faults", "ir_types",
                                         "ir_blocks", "ir_items", "ir_emitter", "ir_walks"]),
     ("shader_typing", "What is asked of types, their layouts, the kinds and types of expressions, and the overload sets of the math functions.",
-     ("test_kinds/src/overload_alone.rt", None), ["typing_forms", "typing_compare", "typing_layout", "overload_tables",
+     ("test_kinds/src/overload_alone.rt", None), ["typing_forms", "typing_expressions", "typing_layout", "overload_tables",
                                             "constructor_sets", "typing_overloads",
                                             "spec_expressions", "typing_resolve"]),
     ("document_reader", "From bytes to a document.",
