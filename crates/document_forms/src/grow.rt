@@ -46,8 +46,9 @@ impl<F: Form, K> Grow<F> for Arena<F::Item, K> {
 
     ghost refuses = { λ xs x. ⊥ };
 
-    fn with_room(alloc: Global, _room: usize) -> Result<Self, AllocError> {
-        Ok(Arena::new(alloc))
+    fn with_room(alloc: Global, room: usize) -> Result<Self, AllocError> {
+        let arena = Arena::with_capacity(alloc, room)?;
+        Ok(arena)
     }
 
     fn add(&mut self, item: F::Item) -> Result<(), ReadError> {

@@ -80,6 +80,22 @@ impl<T, K> Arena<T, K> {
         }
     }
 
+    /// An empty arena with room for so many values.
+    ///
+    /// # Errors
+    ///
+    /// `AllocError` where there is no memory.
+    pub fn with_capacity(alloc: Global, count: usize) -> Result<Self, AllocError>
+    where
+        T: Drop,
+        ensures { IfOk result (λ arena. arena ≡ []) }
+    {
+        Ok(Arena {
+            entries: Spanned::with_capacity(alloc, count)?,
+            key: PhantomData,
+        })
+    }
+
     /// An arena that holds the same, each value with its span.
     ///
     /// # Errors

@@ -1,6 +1,6 @@
 //! Values and their spans, in two lists that are as long.
 
-ghost use Rattle.std.specs.Prelude.{◌≡◌, ◌<◌, ◌++◌, [], ◌∷◌, Some, length, map, position, take, IfSome, OnOk, OnErr};
+ghost use Rattle.std.specs.Prelude.{◌≡◌, ◌<◌, ◌++◌, [], ◌∷◌, Some, length, map, position, take, IfOk, IfSome, OnOk, OnErr};
 ghost use Rattle.std.specs.Borrow.{sem};
 ghost use Rattle.std.specs.List.{swap, zip};
 ghost use Rattle.ir_arena.specs.Arenas.{value_of_entry, span_of_entry, value_at, span_at, found_at, with_value};
@@ -52,6 +52,18 @@ impl<T> Spanned<T> {
             values: Vec::new(alloc),
             spans: Vec::new(alloc),
         }
+    }
+
+    /// None, with room for so many. The error is out of memory.
+    pub fn with_capacity(alloc: Global, count: usize) -> Result<Self, AllocError>
+    where
+        T: Drop,
+        ensures { IfOk result (λ s. s ≡ []) }
+    {
+        Ok(Spanned {
+            values: Vec::with_capacity(alloc, count)?,
+            spans: Vec::with_capacity(alloc, count)?,
+        })
     }
 
     /// How many there are.
