@@ -2,7 +2,7 @@
 """Counts what reading a document takes of a run of the program, beside reading it as JSON: reader.py
 
 The program is run once on each document under valgrind's callgrind. Of that run the instructions are told of all that reads
-the document (`read_document`), and of the JSON reader with letting its value go, which is what is left of the former without
+the document (`take_document`), and of the JSON reader with letting its value go, which is what is left of the former without
 making the module of the value (`read_module`), and the value's own drops; all hold what they call. The ratio is that of both.
 Prints a table in Markdown. The program has to be built: `rt ci` leaves it, and so does `rt run` in crates/checker. The
 status is 1 where a target is missed.
@@ -15,7 +15,7 @@ import functions
 import modules
 
 MOST_RATIO = 1.4
-READ = "document_reader::reading::read_document"
+READ = "document_reader::reading::take_document"
 MADE = "document_reader::document::read_module"
 SIZES = (1 << 17, 1 << 20)
 

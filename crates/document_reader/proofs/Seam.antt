@@ -20,7 +20,7 @@ use Rattle.ir_flags.specs.declared.stages.SubgroupOperationSet.{SubgroupOperatio
 use Rattle.ir_types.specs.Plain.{PlainType}
 use Rattle.ir_items.specs.Plain.{PlainModule}
 use Rattle.document_reader.specs.Documents.{ListParts, made_of, the_flags, the_capabilities, the_subgroups, the_lists, the_parts, version_of, document_made, a_document, first_part, content_of, content_in, parts_in, document_in}
-use Rattle.document_reader.specs.Form.{ADocument, Reads, OneDocument}
+use Rattle.document_reader.specs.Form.{ADocument, IsValueOf, Reads, OneDocument}
 use Rattle.document_reader.specs.declared.reading.TheConstants.{MAX_LEN}
 
 -- ---- read part by part, and as a row
@@ -89,18 +89,22 @@ found_in bytes v d value r =
     let same : r.value ≡ v = some_is _ _ (sym r.value_is ∙ value) in
     document_is v ∙ a_document.exact.complete v d (subst (ADocument d) same r.form) (depth-read bytes v value)
 
-pub reads_document : (bytes : List ℕ) (v : Data) (d : PlainDocument) → length bytes ≤ MAX_LEN → IsUtf8 bytes × (read bytes ≡ Some v) → Some d ≡ document_in v → AreDistinct d.content.types → Reads bytes d
-reads_document bytes v d short u found distinct =
-    record { short = short; utf8 = u.0; value = v; value_is = u.1; form = a_document.exact.sound v d (sym (document_is v) ∙ sym found); distinct = distinct }
+pub reads_document : (bytes : List ℕ) (v : Data) (d : PlainDocument) → IsValueOf bytes v → Some d ≡ document_in v → AreDistinct d.content.types → Reads bytes d
+reads_document bytes v d u found distinct =
+    record { short = u.short; utf8 = u.utf8; value = v; value_is = u.value_is; form = a_document.exact.sound v d (sym (document_is v) ∙ sym found); distinct = distinct }
 
-pub reads_none : (bytes : List ℕ) (v : Data) → IsUtf8 bytes × (read bytes ≡ Some v) → ((d : PlainDocument) → document_in v ≡ Some d → ¬ AreDistinct d.content.types) → (d : PlainDocument) → ¬ Reads bytes d
-reads_none bytes v u refused d r = refused d (found_in bytes v d u.1 r) r.distinct
+pub reads_none : (bytes : List ℕ) (v : Data) → IsValueOf bytes v → ((d : PlainDocument) → document_in v ≡ Some d → ¬ AreDistinct d.content.types) → (d : PlainDocument) → ¬ Reads bytes d
+reads_none bytes v u refused d r = refused d (found_in bytes v d u.value_is r) r.distinct
+
+-- bytes that are no value spell no document
+pub no_value : (bytes : List ℕ) → ((value : Data) → ¬ IsValueOf bytes value) → (d : PlainDocument) → ¬ Reads bytes d
+no_value bytes none d r = none r.value (record { short = r.short; utf8 = r.utf8; value_is = r.value_is })
 
 -- a value for which none is found is written for none
-pub none_written : (bytes : List ℕ) (v : Data) → length bytes ≤ MAX_LEN → IsUtf8 bytes × (read bytes ≡ Some v) → ((d : PlainDocument) → document_in v ≡ Some d → ¬ AreDistinct d.content.types)
+pub none_written : (bytes : List ℕ) (v : Data) → IsValueOf bytes v → ((d : PlainDocument) → document_in v ≡ Some d → ¬ AreDistinct d.content.types)
     → IsMalformed bytes
-none_written bytes v short u refused =
-    record { short = short; utf8 = u.0; value = v; value_is = u.1; none = λ d form. refused d (document_is v ∙ a_document.exact.complete v d form (depth-read bytes v u.1)) }
+none_written bytes v u refused =
+    record { short = u.short; utf8 = u.utf8; value = v; value_is = u.value_is; none = λ d form. refused d (document_is v ∙ a_document.exact.complete v d form (depth-read bytes v u.value_is)) }
 
 -- the error of a part is the whole's reason, where it is one that is not of memory
 pub reason_of : (bytes : List ℕ) (p : ReadError) (e : DocumentError) → e ≡ of_part p → (p ≢ part.Memory → IsMalformed bytes) → IsReason bytes e

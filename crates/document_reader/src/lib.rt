@@ -20,5 +20,5 @@ pub use error::DocumentError;
 pub use functions::{ArgumentForm, EntryForm, FunctionForm, LocalForm, ResultForm};
 pub use model::{Document, Settings, build_module};
 pub use parts::{AtomicForm, GatherForm, PipelineForm, RayQueryForm, ValueForm};
-pub use reading::{MAX_LEN, read_document};
+pub use reading::{MAX_LEN, read_document, take_document};
 pub use statements::BodyForm;

@@ -2,7 +2,9 @@
 ghost use Rattle.std.specs.Prelude.{◌≢◌, IfOk, IfErr};
 ghost use Rattle.document_reader.specs.Plain.{PlainDocument};
 ghost use Rattle.document_reader.specs.View.{document_view};
-ghost use Rattle.document_reader.specs.Form.{Reads};
+ghost use Rattle.document_reader.specs.Form.{IsValueOf, Reads};
+ghost use Rattle.serde_json.specs.Data.{Data};
+ghost use Rattle.serde_json.specs.View.{view as data_of};
 ghost use Rattle.document_reader.specs.Reasons.{IsReason};
 ghost use Rattle.document_reader.specs.declared.error.DocumentError.TheVariants.{Memory};
 
@@ -15,6 +17,25 @@ use std::alloc::Global;
 /// How many bytes a document may have.
 pub const MAX_LEN: usize = 16777216;
 
+// The value that the JSON reader makes of the bytes, where these are not too many.
+fn value_of(alloc: Global, bytes: &[u8]) -> Result<Value, DocumentError>
+    ensures value { IfOk result (λ value. IsValueOf bytes.now (data_of value)) }
+    ensures reason { IfErr result (λ e. IsReason bytes.now e) }
+    ensures none { IfErr result (λ e. e ≢ Memory → (value : Data) → ¬ IsValueOf bytes.now value) }
+{
+    if bytes.len() > MAX_LEN {
+        return Err(DocumentError::TooLong);
+    }
+    match Value::from_slice(alloc, bytes) {
+        Ok(value) => Ok(value),
+        Err(e) if e.is_memory() => Err(DocumentError::Memory),
+        Err(e) => Err(DocumentError::NotJson {
+            line: e.line(),
+            column: e.column(),
+        }),
+    }
+}
+
 /// The document that the bytes spell. An error other than [`DocumentError::Memory`] says that they spell none, and why:
 /// [`DocumentError::TooLong`] stands where there are too many, [`DocumentError::NotJson`] where the JSON reader refuses
 /// them, [`DocumentError::Malformed`] where their value is written for no document without equal types.
@@ -23,15 +44,23 @@ pub fn read_document(alloc: Global, bytes: &[u8]) -> Result<Document, DocumentEr
     ensures reason { IfErr result (λ e. IsReason bytes.now e) }
     ensures refused { IfErr result (λ e. e ≢ Memory → (d : PlainDocument) → ¬ Reads bytes.now d) }
 {
-    if bytes.len() > MAX_LEN {
-        return Err(DocumentError::TooLong);
-    }
-    match Value::from_slice(alloc, bytes) {
+    match value_of(alloc, bytes) {
         Ok(value) => Ok(read_value(alloc, value)?),
-        Err(e) if e.is_memory() => Err(DocumentError::Memory),
-        Err(e) => Err(DocumentError::NotJson {
-            line: e.line(),
-            column: e.column(),
-        }),
+        Err(error) => Err(error),
+    }
+}
+
+/// The same of bytes that are let go of as soon as the JSON reader has read them, so that the document does not take its
+/// memory beside them.
+pub fn take_document(alloc: Global, bytes: Vec<u8>) -> Result<Document, DocumentError>
+    ensures found { IfOk result (λ d. Reads bytes.items (document_view d)) }
+    ensures reason { IfErr result (λ e. IsReason bytes.items e) }
+    ensures refused { IfErr result (λ e. e ≢ Memory → (d : PlainDocument) → ¬ Reads bytes.items d) }
+{
+    let read = value_of(alloc, bytes.as_slice());
+    drop(bytes);
+    match read {
+        Ok(value) => Ok(read_value(alloc, value)?),
+        Err(error) => Err(error),
     }
 }

@@ -299,65 +299,65 @@ expression_with expression_kind.CooperativeMultiplyAdd ds = option_map (λ t. co
 pub expression_sound : AreSound expression_with (λ x ds. AnExpression x (array ds)) expression_kinds
 unfolding expression_with AnExpression
 expression_sound = (
-  kind_sound a_literal (λ t. computes (computed.Literal t)) (codes "Literal") (λ x ds. AnExpression x (array ds)) (λ t ds h. (refl, h)),
+  kind_sound (row1 a_handle) (λ t. computes (computed.Load t)) (codes "Load") (λ x ds. AnExpression x (array ds)) (λ t ds h. (refl, h)),
   (
-    kind_sound (row1 a_handle) (λ t. computes (computed.Constant t)) (codes "Constant") (λ x ds. AnExpression x (array ds)) (λ t ds h. (refl, h)),
+    kind_sound a_literal (λ t. computes (computed.Literal t)) (codes "Literal") (λ x ds. AnExpression x (array ds)) (λ t ds h. (refl, h)),
     (
-      kind_sound (row1 a_handle) (λ t. computes (computed.Override t)) (codes "Override") (λ x ds. AnExpression x (array ds)) (λ t ds h. (refl, h)),
+      kind_sound (row2 a_handle a_u32) (λ t. computes (computed.AccessIndex t.0 t.1)) (codes "AccessIndex") (λ x ds. AnExpression x (array ds)) (λ t ds h. (refl, h)),
       (
-        kind_sound (row1 a_handle) (λ t. computes (computed.ZeroValue t)) (codes "ZeroValue") (λ x ds. AnExpression x (array ds)) (λ t ds h. (refl, h)),
+        kind_sound (row2 a_handle a_handle) (λ t. computes (computed.Access t.0 t.1)) (codes "Access") (λ x ds. AnExpression x (array ds)) (λ t ds h. (refl, h)),
         (
-          kind_sound (row2 a_handle (a_list a_handle)) (λ t. compose t.0 t.1) (codes "Compose") (λ x ds. AnExpression x (array ds)) (λ t ds h. (refl, h)),
+          kind_sound (row3 (a_word binary_operators) a_handle a_handle) (λ t. computes (computed.Binary t.0 t.1 t.2)) (codes "Binary") (λ x ds. AnExpression x (array ds)) (λ t ds h. (refl, h)),
           (
-            kind_sound (row2 a_handle a_handle) (λ t. computes (computed.Access t.0 t.1)) (codes "Access") (λ x ds. AnExpression x (array ds)) (λ t ds h. (refl, h)),
+            kind_sound (row2 a_handle (a_list a_handle)) (λ t. compose t.0 t.1) (codes "Compose") (λ x ds. AnExpression x (array ds)) (λ t ds h. (refl, h)),
             (
-              kind_sound (row2 a_handle a_u32) (λ t. computes (computed.AccessIndex t.0 t.1)) (codes "AccessIndex") (λ x ds. AnExpression x (array ds)) (λ t ds h. (refl, h)),
+              kind_sound (row1 a_handle) (λ t. computes (computed.GlobalVariable t)) (codes "GlobalVariable") (λ x ds. AnExpression x (array ds)) (λ t ds h. (refl, h)),
               (
-                kind_sound (row2 a_size a_handle) (λ t. computes (computed.Splat t.0 t.1)) (codes "Splat") (λ x ds. AnExpression x (array ds)) (λ t ds h. (refl, h)),
+                kind_sound (row1 a_handle) (λ t. computes (computed.LocalVariable t)) (codes "LocalVariable") (λ x ds. AnExpression x (array ds)) (λ t ds h. (refl, h)),
                 (
-                  kind_sound (row3 a_size a_handle a_pattern) (λ t. computes (computed.Swizzle t.0 t.1 t.2)) (codes "Swizzle") (λ x ds. AnExpression x (array ds)) (λ t ds h. (refl, h)),
+                  kind_sound (row1 a_u32) (λ t. computes (computed.FunctionArgument t)) (codes "FunctionArgument") (λ x ds. AnExpression x (array ds)) (λ t ds h. (refl, h)),
                   (
-                    kind_sound (row1 a_u32) (λ t. computes (computed.FunctionArgument t)) (codes "FunctionArgument") (λ x ds. AnExpression x (array ds)) (λ t ds h. (refl, h)),
+                    kind_sound (row1 a_handle) (λ t. computes (computed.CallResult t)) (codes "CallResult") (λ x ds. AnExpression x (array ds)) (λ t ds h. (refl, h)),
                     (
-                      kind_sound (row1 a_handle) (λ t. computes (computed.GlobalVariable t)) (codes "GlobalVariable") (λ x ds. AnExpression x (array ds)) (λ t ds h. (refl, h)),
+                      kind_sound (row2 a_size a_handle) (λ t. computes (computed.Splat t.0 t.1)) (codes "Splat") (λ x ds. AnExpression x (array ds)) (λ t ds h. (refl, h)),
                       (
-                        kind_sound (row1 a_handle) (λ t. computes (computed.LocalVariable t)) (codes "LocalVariable") (λ x ds. AnExpression x (array ds)) (λ t ds h. (refl, h)),
+                        kind_sound (row3 a_size a_handle a_pattern) (λ t. computes (computed.Swizzle t.0 t.1 t.2)) (codes "Swizzle") (λ x ds. AnExpression x (array ds)) (λ t ds h. (refl, h)),
                         (
-                          kind_sound (row1 a_handle) (λ t. computes (computed.Load t)) (codes "Load") (λ x ds. AnExpression x (array ds)) (λ t ds h. (refl, h)),
+                          kind_sound (row5 (a_word math_functions) a_handle (maybe a_handle) (maybe a_handle) (maybe a_handle)) (λ t. computes (computed.Math t.0 t.1 t.2 t.3 t.4)) (codes "Math") (λ x ds. AnExpression x (array ds)) (λ t ds h. (refl, h)),
                           (
-                            kind_sound (row9 a_handle a_handle (maybe (a_word letters)) a_handle (maybe a_handle) (maybe a_handle) a_level (maybe a_handle) a_bool) (λ t. computes (computed.ImageSample t.0 t.1 t.2 t.3 t.4 t.5 t.6 t.7 t.8)) (codes "ImageSample") (λ x ds. AnExpression x (array ds)) (λ t ds h. (refl, h)),
+                            kind_sound (row2 (a_word unary_operators) a_handle) (λ t. computes (computed.Unary t.0 t.1)) (codes "Unary") (λ x ds. AnExpression x (array ds)) (λ t ds h. (refl, h)),
                             (
-                              kind_sound (row5 a_handle a_handle (maybe a_handle) (maybe a_handle) (maybe a_handle)) (λ t. computes (computed.ImageLoad t.0 t.1 t.2 t.3 t.4)) (codes "ImageLoad") (λ x ds. AnExpression x (array ds)) (λ t ds h. (refl, h)),
+                              kind_sound (row3 a_handle a_handle a_handle) (λ t. computes (computed.Select t.0 t.1 t.2)) (codes "Select") (λ x ds. AnExpression x (array ds)) (λ t ds h. (refl, h)),
                               (
-                                kind_sound (row2 a_handle a_query) (λ t. computes (computed.ImageQuery t.0 t.1)) (codes "ImageQuery") (λ x ds. AnExpression x (array ds)) (λ t ds h. (refl, h)),
+                                kind_sound (row3 a_handle (a_word scalar_kinds) (maybe a_u8)) (λ t. computes (computed.As t.0 t.1 t.2)) (codes "As") (λ x ds. AnExpression x (array ds)) (λ t ds h. (refl, h)),
                                 (
-                                  kind_sound (row2 (a_word unary_operators) a_handle) (λ t. computes (computed.Unary t.0 t.1)) (codes "Unary") (λ x ds. AnExpression x (array ds)) (λ t ds h. (refl, h)),
+                                  kind_sound (row9 a_handle a_handle (maybe (a_word letters)) a_handle (maybe a_handle) (maybe a_handle) a_level (maybe a_handle) a_bool) (λ t. computes (computed.ImageSample t.0 t.1 t.2 t.3 t.4 t.5 t.6 t.7 t.8)) (codes "ImageSample") (λ x ds. AnExpression x (array ds)) (λ t ds h. (refl, h)),
                                   (
-                                    kind_sound (row3 (a_word binary_operators) a_handle a_handle) (λ t. computes (computed.Binary t.0 t.1 t.2)) (codes "Binary") (λ x ds. AnExpression x (array ds)) (λ t ds h. (refl, h)),
+                                    kind_sound (row1 a_handle) (λ t. computes (computed.Constant t)) (codes "Constant") (λ x ds. AnExpression x (array ds)) (λ t ds h. (refl, h)),
                                     (
-                                      kind_sound (row3 a_handle a_handle a_handle) (λ t. computes (computed.Select t.0 t.1 t.2)) (codes "Select") (λ x ds. AnExpression x (array ds)) (λ t ds h. (refl, h)),
+                                      kind_sound (row1 a_handle) (λ t. computes (computed.ZeroValue t)) (codes "ZeroValue") (λ x ds. AnExpression x (array ds)) (λ t ds h. (refl, h)),
                                       (
-                                        kind_sound (row3 (a_word derivative_axes) (a_word derivative_controls) a_handle) (λ t. computes (computed.Derivative t.0 t.1 t.2)) (codes "Derivative") (λ x ds. AnExpression x (array ds)) (λ t ds h. (refl, h)),
+                                        kind_sound (row5 a_handle a_handle (maybe a_handle) (maybe a_handle) (maybe a_handle)) (λ t. computes (computed.ImageLoad t.0 t.1 t.2 t.3 t.4)) (codes "ImageLoad") (λ x ds. AnExpression x (array ds)) (λ t ds h. (refl, h)),
                                         (
-                                          kind_sound (row2 (a_word relational_functions) a_handle) (λ t. computes (computed.Relational t.0 t.1)) (codes "Relational") (λ x ds. AnExpression x (array ds)) (λ t ds h. (refl, h)),
+                                          kind_sound (row2 a_handle a_query) (λ t. computes (computed.ImageQuery t.0 t.1)) (codes "ImageQuery") (λ x ds. AnExpression x (array ds)) (λ t ds h. (refl, h)),
                                           (
-                                            kind_sound (row5 (a_word math_functions) a_handle (maybe a_handle) (maybe a_handle) (maybe a_handle)) (λ t. computes (computed.Math t.0 t.1 t.2 t.3 t.4)) (codes "Math") (λ x ds. AnExpression x (array ds)) (λ t ds h. (refl, h)),
+                                            kind_sound (row2 (a_word relational_functions) a_handle) (λ t. computes (computed.Relational t.0 t.1)) (codes "Relational") (λ x ds. AnExpression x (array ds)) (λ t ds h. (refl, h)),
                                             (
-                                              kind_sound (row3 a_handle (a_word scalar_kinds) (maybe a_u8)) (λ t. computes (computed.As t.0 t.1 t.2)) (codes "As") (λ x ds. AnExpression x (array ds)) (λ t ds h. (refl, h)),
+                                              kind_sound (row3 (a_word derivative_axes) (a_word derivative_controls) a_handle) (λ t. computes (computed.Derivative t.0 t.1 t.2)) (codes "Derivative") (λ x ds. AnExpression x (array ds)) (λ t ds h. (refl, h)),
                                               (
-                                                kind_sound (row1 a_handle) (λ t. computes (computed.CallResult t)) (codes "CallResult") (λ x ds. AnExpression x (array ds)) (λ t ds h. (refl, h)),
+                                                kind_sound (row2 a_handle a_bool) (λ t. computes (computed.AtomicResult t.0 t.1)) (codes "AtomicResult") (λ x ds. AnExpression x (array ds)) (λ t ds h. (refl, h)),
                                                 (
-                                                  kind_sound (row2 a_handle a_bool) (λ t. computes (computed.AtomicResult t.0 t.1)) (codes "AtomicResult") (λ x ds. AnExpression x (array ds)) (λ t ds h. (refl, h)),
+                                                  kind_sound (row1 a_handle) (λ t. computes (computed.Override t)) (codes "Override") (λ x ds. AnExpression x (array ds)) (λ t ds h. (refl, h)),
                                                   (
-                                                    kind_sound (row1 a_handle) (λ t. computes (computed.WorkGroupUniformLoadResult t)) (codes "WorkGroupUniformLoadResult") (λ x ds. AnExpression x (array ds)) (λ t ds h. (refl, h)),
+                                                    kind_sound (row1 a_handle) (λ t. computes (computed.ArrayLength t)) (codes "ArrayLength") (λ x ds. AnExpression x (array ds)) (λ t ds h. (refl, h)),
                                                     (
-                                                      kind_sound (row1 a_handle) (λ t. computes (computed.ArrayLength t)) (codes "ArrayLength") (λ x ds. AnExpression x (array ds)) (λ t ds h. (refl, h)),
+                                                      kind_sound (row1 a_handle) (λ t. computes (computed.WorkGroupUniformLoadResult t)) (codes "WorkGroupUniformLoadResult") (λ x ds. AnExpression x (array ds)) (λ t ds h. (refl, h)),
                                                       (
-                                                        kind_sound (row2 a_handle a_bool) (λ t. computes (computed.RayQueryVertexPositions t.0 t.1)) (codes "RayQueryVertexPositions") (λ x ds. AnExpression x (array ds)) (λ t ds h. (refl, h)),
+                                                        kind_sound ends (λ t. computes computed.RayQueryProceedResult) (codes "RayQueryProceedResult") (λ x ds. AnExpression x (array ds)) (λ t ds h. (refl, h)),
                                                         (
-                                                          kind_sound ends (λ t. computes computed.RayQueryProceedResult) (codes "RayQueryProceedResult") (λ x ds. AnExpression x (array ds)) (λ t ds h. (refl, h)),
+                                                          kind_sound (row2 a_handle a_bool) (λ t. computes (computed.RayQueryGetIntersection t.0 t.1)) (codes "RayQueryGetIntersection") (λ x ds. AnExpression x (array ds)) (λ t ds h. (refl, h)),
                                                           (
-                                                            kind_sound (row2 a_handle a_bool) (λ t. computes (computed.RayQueryGetIntersection t.0 t.1)) (codes "RayQueryGetIntersection") (λ x ds. AnExpression x (array ds)) (λ t ds h. (refl, h)),
+                                                            kind_sound (row2 a_handle a_bool) (λ t. computes (computed.RayQueryVertexPositions t.0 t.1)) (codes "RayQueryVertexPositions") (λ x ds. AnExpression x (array ds)) (λ t ds h. (refl, h)),
                                                             (
                                                               kind_sound ends (λ t. computes computed.SubgroupBallotResult) (codes "SubgroupBallotResult") (λ x ds. AnExpression x (array ds)) (λ t ds h. (refl, h)),
                                                               (

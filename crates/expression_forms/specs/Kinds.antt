@@ -12,36 +12,36 @@ use Rattle.expression_forms.specs.declared.kinds.QueryKind.TheVariants as query_
 -- the kinds of expressions
 abbrev pub expression_kinds : List (List ℕ × ExpressionKind)
 expression_kinds =
+    (codes "Load", expression_kind.Load) ∷
     (codes "Literal", expression_kind.Literal) ∷
-    (codes "Constant", expression_kind.Constant) ∷
-    (codes "Override", expression_kind.Override) ∷
-    (codes "ZeroValue", expression_kind.ZeroValue) ∷
-    (codes "Compose", expression_kind.Compose) ∷
-    (codes "Access", expression_kind.Access) ∷
     (codes "AccessIndex", expression_kind.AccessIndex) ∷
-    (codes "Splat", expression_kind.Splat) ∷
-    (codes "Swizzle", expression_kind.Swizzle) ∷
-    (codes "FunctionArgument", expression_kind.FunctionArgument) ∷
+    (codes "Access", expression_kind.Access) ∷
+    (codes "Binary", expression_kind.Binary) ∷
+    (codes "Compose", expression_kind.Compose) ∷
     (codes "GlobalVariable", expression_kind.GlobalVariable) ∷
     (codes "LocalVariable", expression_kind.LocalVariable) ∷
-    (codes "Load", expression_kind.Load) ∷
+    (codes "FunctionArgument", expression_kind.FunctionArgument) ∷
+    (codes "CallResult", expression_kind.CallResult) ∷
+    (codes "Splat", expression_kind.Splat) ∷
+    (codes "Swizzle", expression_kind.Swizzle) ∷
+    (codes "Math", expression_kind.Math) ∷
+    (codes "Unary", expression_kind.Unary) ∷
+    (codes "Select", expression_kind.Select) ∷
+    (codes "As", expression_kind.As) ∷
     (codes "ImageSample", expression_kind.ImageSample) ∷
+    (codes "Constant", expression_kind.Constant) ∷
+    (codes "ZeroValue", expression_kind.ZeroValue) ∷
     (codes "ImageLoad", expression_kind.ImageLoad) ∷
     (codes "ImageQuery", expression_kind.ImageQuery) ∷
-    (codes "Unary", expression_kind.Unary) ∷
-    (codes "Binary", expression_kind.Binary) ∷
-    (codes "Select", expression_kind.Select) ∷
-    (codes "Derivative", expression_kind.Derivative) ∷
     (codes "Relational", expression_kind.Relational) ∷
-    (codes "Math", expression_kind.Math) ∷
-    (codes "As", expression_kind.As) ∷
-    (codes "CallResult", expression_kind.CallResult) ∷
+    (codes "Derivative", expression_kind.Derivative) ∷
     (codes "AtomicResult", expression_kind.AtomicResult) ∷
-    (codes "WorkGroupUniformLoadResult", expression_kind.WorkGroupUniformLoadResult) ∷
+    (codes "Override", expression_kind.Override) ∷
     (codes "ArrayLength", expression_kind.ArrayLength) ∷
-    (codes "RayQueryVertexPositions", expression_kind.RayQueryVertexPositions) ∷
+    (codes "WorkGroupUniformLoadResult", expression_kind.WorkGroupUniformLoadResult) ∷
     (codes "RayQueryProceedResult", expression_kind.RayQueryProceedResult) ∷
     (codes "RayQueryGetIntersection", expression_kind.RayQueryGetIntersection) ∷
+    (codes "RayQueryVertexPositions", expression_kind.RayQueryVertexPositions) ∷
     (codes "SubgroupBallotResult", expression_kind.SubgroupBallotResult) ∷
     (codes "SubgroupOperationResult", expression_kind.SubgroupOperationResult) ∷
     (codes "CooperativeLoad", expression_kind.CooperativeLoad) ∷

@@ -125,7 +125,7 @@ pub fn check_document<R: ReadCall, W: WriteCall>(
         (reader_of source.new) MAX_TAKEN MAX_CALLS calls }
 {
     let bytes = source.take_all(alloc, MAX_TAKEN)?;
-    let judgement = judge(alloc, &bytes)?;
+    let judgement = judge(alloc, bytes)?;
     let text = judgement.text(alloc)?;
     sink.write_all(text.as_bytes())?;
     Ok(verdict_of(judgement.finding))

@@ -11,7 +11,7 @@ ghost use Rattle.shader_check.specs.Judgements.{IsJudgementOf, IsJudgementOn};
 use crate::examined::Examined;
 use crate::told::Judgement;
 use crate::validator::Validator;
-use document_reader::{Document, DocumentError, Settings, read_document};
+use document_reader::{Document, DocumentError, Settings, take_document};
 use ir_faults::refusal::Refusal;
 use ir_items::Module;
 use judgement::Finding;
@@ -102,11 +102,12 @@ fn no_document(alloc: Global) -> Judgement
 }
 
 /// What is found of the document that the bytes spell, the first step that fails and in it the least index, and the report on
-/// it. Where they spell none, the document is refused. The error says that there is no memory.
-pub fn judge(alloc: Global, bytes: &[u8]) -> Result<Judgement, AllocError>
-    ensures { IfOk result (IsJudgementOn bytes.now) }
+/// it. Where they spell none, the document is refused. The bytes are let go of once they are read. The error says that there
+/// is no memory.
+pub fn judge(alloc: Global, bytes: Vec<u8>) -> Result<Judgement, AllocError>
+    ensures { IfOk result (IsJudgementOn bytes.items) }
 {
-    match read_document(alloc, bytes) {
+    match take_document(alloc, bytes) {
         Ok(mut document) => judge_document(alloc, &mut document),
         Err(DocumentError::Memory) => Err(AllocError),
         Err(DocumentError::TooLong) => Ok(no_document(alloc)),

@@ -14,7 +14,9 @@ mod validator;
 mod whole;
 
 pub use check::{Fault, MAX_TAKEN, Verdict, check_document, outcome};
-pub use document_reader::{Document, DocumentError, Settings, build_module, read_document};
+pub use document_reader::{
+    Document, DocumentError, Settings, build_module, read_document, take_document,
+};
 pub use entries::InvalidEntryPoint;
 pub use error::{Named, ValidationError};
 pub use examined::{Examined, refused_by};

@@ -5,7 +5,7 @@ use Rattle.shader_check.proofs.check.check_document.Goals as goal
 
 pub returns-in_err-write_all-clause-write_prefix : goal.returns-in_err-write_all-clause-write_prefix
 returns-in_err-write_all-clause-write_prefix g c = λ _.
-    let judged = rw c.deref.ensures.value at c.in_ok-judgement.ensures in
+    let judged = c.in_ok-judgement.ensures in
     record {
       text = text_of c.in_ok-judgement.judgement.finding ++ string_bytes c.in_ok-judgement.judgement.report;
       expected = expected_for _ _ c.in_ok-bytes.bytes.items _ c.in_ok-bytes.ensures.ok judged;
@@ -14,7 +14,7 @@ returns-in_err-write_all-clause-write_prefix g c = λ _.
 
 pub returns-clause-ok : goal.returns-clause-ok
 returns-clause-ok g c =
-    let judged = rw c.deref.ensures.value at c.in_ok-judgement.ensures in
+    let judged = c.in_ok-judgement.ensures in
     record {
       text = text_of c.in_ok-judgement.judgement.finding ++ string_bytes c.in_ok-judgement.judgement.report;
       expected = expected_for _ _ c.in_ok-bytes.bytes.items _ c.in_ok-bytes.ensures.ok judged;
