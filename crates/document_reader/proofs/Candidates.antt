@@ -9,7 +9,7 @@ use Rattle.document_forms.specs.Inverse.{some_is}
 use Rattle.document_reader.specs.Distinct.{AreDistinct}
 use Rattle.document_reader.specs.Plain.{PlainDocument}
 use Rattle.document_reader.specs.Documents.{document_in}
-use Rattle.document_reader.specs.Form.{Reads}
+use Rattle.document_reader.specs.Form.{IsValueOf, Reads}
 use Rattle.document_reader.specs.declared.reading.TheConstants.{MAX_LEN}
 use Rattle.document_reader.proofs.Seam.{found_in, reads_document}
 
@@ -23,12 +23,13 @@ Candidate bytes = ((d : PlainDocument) → ¬ Reads bytes d) ⊎ ((d : PlainDocu
 
 by_value : (bytes : List ℕ) → length bytes ≤ MAX_LEN → IsUtf8 bytes → (v : Data) → read bytes ≡ Some v → Candidate bytes
 by_value bytes short utf8 v is =
+    let value : IsValueOf bytes v = record { short = short; utf8 = utf8; value_is = is } in
     elim (document_in v) as (λ o. document_in v ≡ o → Candidate bytes) [
       | None ↦ λ e. inl (λ d r. absurd (let k : None ≡ Some d = sym e ∙ found_in bytes v d is r in cc))
       | Some d ↦ λ e. inr (
         d,
         record {
-          spelled = λ distinct. reads_document bytes v d short (utf8, is) (sym e) distinct;
+          spelled = λ distinct. reads_document bytes v d value (sym e) distinct;
           alone = λ other r. some_is other d (sym (found_in bytes v other is r) ∙ e);
         },
       )
