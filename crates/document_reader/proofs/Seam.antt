@@ -1,5 +1,5 @@
 -- From the value that the bytes are to the document that they spell.
-use Rattle.std.proofs.Common.{◌≡◌, ◌≢◌, ◌≤◌, ℕ, Bool, List, length, Option, Some, None, option_map, option_and_then, Result, Ok, Err, IfErr, IsErr, IsErrAnd, IsUtf8, refl, sym, subst, ◌∙◌}
+use Rattle.std.proofs.Common.{◌≡◌, ◌≢◌, ℕ, Bool, List, Option, Some, None, option_map, option_and_then, Result, Ok, Err, IfErr, IsErr, IsErrAnd, refl, sym, subst, ◌∙◌}
 use Rattle.document_forms.specs.declared.error.ReadError.{ReadError}
 use Rattle.document_forms.specs.declared.error.ReadError.TheVariants as part
 use Rattle.document_reader.specs.declared.error.DocumentError.{DocumentError}
@@ -21,7 +21,6 @@ use Rattle.ir_types.specs.Plain.{PlainType}
 use Rattle.ir_items.specs.Plain.{PlainModule}
 use Rattle.document_reader.specs.Documents.{ListParts, made_of, the_flags, the_capabilities, the_subgroups, the_lists, the_parts, version_of, document_made, a_document, first_part, content_of, content_in, parts_in, document_in}
 use Rattle.document_reader.specs.Form.{ADocument, IsValueOf, Reads, OneDocument}
-use Rattle.document_reader.specs.declared.reading.TheConstants.{MAX_LEN}
 
 -- ---- read part by part, and as a row
 
