@@ -2,9 +2,9 @@
 """Counts what the step over functions takes of a run of the program, beside reading the document as JSON: functions.py
 
 The program is run once on each document under valgrind's callgrind. Of that run the instructions are told of the step over
-functions (`validate_function`, of each), and of the JSON reader with letting its value go; both hold all that they call. Prints a table
-in Markdown. The program has to be built: `rt ci` leaves it, and so does `rt run` in crates/checker. The status is 1 where a
-target is missed.
+functions (`validate_function`, of each), with all that it calls; beside them those of the JSON reader alone, with letting its
+value go, in a run of `test_kinds json` on the same bytes. Prints a table in Markdown. Both programs have to be built: `rt ci`
+leaves them, and so does `rt run` in crates/checker and crates/test_kinds. The status is 1 where a target is missed.
 """
 import json
 import pathlib
@@ -87,18 +87,16 @@ KINDS = {
 
 
 def counted(room, path):
-    """The instructions of the step over functions and of the JSON reader."""
+    """The instructions of the step over functions and of the JSON reader alone."""
     said = modules.called(room, path)
-    reader = sum(modules.of_json(said))
     step = modules.of_call(said, STEP)
     if not step:
         sys.exit(f"functions: no call of {STEP} was counted")
-    return step, reader
+    return step, modules.json_alone(room, path)
 
 
 def main():
-    if not modules.CHECKER.is_file():
-        sys.exit(f"functions: {modules.CHECKER.relative_to(modules.TOP)} is not built yet")
+    modules.are_built()
     missed = False
     print("| document | bytes | the step over functions, million instructions | the JSON reader, million instructions | share |")
     print("|---|---|---|---|---|")

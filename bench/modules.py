@@ -2,9 +2,9 @@
 """Counts what the steps up to overrides take of a run of the program, beside reading the document as JSON: modules.py
 
 The program is run once on each document under valgrind's callgrind. Of that run the instructions are told of all steps up to
-overrides (`ModuleValidator::validate`), and of the JSON reader with letting its value go; both hold all that they call.
-Prints a table in Markdown. The program has to be built: `rt ci` leaves it, and so does `rt run` in crates/checker. The
-status is 1 where a target is missed.
+overrides (`ModuleValidator::validate`), with all that they call; beside them those of the JSON reader alone, with letting its
+value go, in a run of `test_kinds json` on the same bytes. Prints a table in Markdown. Both programs have to be built: `rt ci`
+leaves them, and so does `rt run` in crates/checker and crates/test_kinds. The status is 1 where a target is missed.
 """
 import json
 import pathlib
@@ -15,6 +15,7 @@ import tempfile
 
 TOP = pathlib.Path(__file__).resolve().parent.parent
 CHECKER = TOP / "crates/checker/out/checker"
+MEASURES = TOP / "crates/test_kinds/out/test_kinds"
 MOST_SHARE = 0.25
 FLAGS = ["EXPRESSIONS", "BLOCKS", "CONTROL_FLOW_UNIFORMITY", "STRUCT_LAYOUTS", "CONSTANTS", "BINDINGS"]
 ONE = ["Literal", "f32", 1065353216]
@@ -92,32 +93,46 @@ def of_call(said, name):
     return int(found.group(1).replace(",", "")) if found else 0
 
 
-def called(room, path):
-    """What callgrind says of a run on the document, which has to be accepted."""
+def counted_run(room, path, program, printed):
+    """What callgrind says of a run of a program on the document, which has to print this."""
     with open(path) as it:
-        ended = subprocess.run(["valgrind", "--tool=callgrind", f"--callgrind-out-file={room}/calls", CHECKER], stdin=it,
+        ended = subprocess.run(["valgrind", "--tool=callgrind", f"--callgrind-out-file={room}/calls", *program], stdin=it,
                                capture_output=True, text=True)
-    if ended.stdout != "accepted\n":
+    if ended.stdout != printed:
         sys.exit(f"modules: {ended.stdout}{ended.stderr[-300:]}")
     return subprocess.run(["callgrind_annotate", "--inclusive=yes", "--threshold=100", f"{room}/calls"],
                           capture_output=True, text=True).stdout
 
 
-def of_json(said):
-    """The instructions of the JSON reader, and those of letting its value go, which each crate that does so has a copy of."""
-    dropped = re.findall(r"^ *[\d,]+ .*:(\w+::serde_json\+\+value\+\+Value\+Destruct::drop) \[", said, re.M)
-    return of_call(said, "serde_json::de::read_items"), sum(of_call(said, it) for it in dropped)
+def called(room, path):
+    """What callgrind says of a run of the check on the document, which has to be accepted."""
+    return counted_run(room, path, [CHECKER], "accepted\n")
+
+
+def json_alone(room, path):
+    """The instructions of reading the bytes as JSON and letting the value go, without taking the bytes in."""
+    said = counted_run(room, path, [MEASURES, "json"], "read\n")
+    whole, taken = of_call(said, "test_kinds::json_alone::run"), of_call(said, "ports::source::Source::take_all")
+    if not whole or not taken:
+        sys.exit("modules: the JSON reader was not counted")
+    return whole - taken
 
 
 def counted(room, path):
-    """The instructions of the steps, and of the JSON reader with letting its value go."""
+    """The instructions of the steps, and of the JSON reader alone."""
     said = called(room, path)
-    return of_call(said, "module_validator::validator::ModuleValidator::judge"), sum(of_json(said))
+    return of_call(said, "module_validator::validator::ModuleValidator::judge"), json_alone(room, path)
+
+
+def are_built():
+    """Stops where one of the two programs is not built."""
+    for program in (CHECKER, MEASURES):
+        if not program.is_file():
+            sys.exit(f"{program.relative_to(TOP)} is not built yet")
 
 
 def main():
-    if not CHECKER.is_file():
-        sys.exit(f"modules: {CHECKER.relative_to(TOP)} is not built yet")
+    are_built()
     missed = False
     print("| document | items | steps up to overrides, million instructions | the JSON reader, million instructions | share |")
     print("|---|---|---|---|---|")

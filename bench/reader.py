@@ -2,10 +2,9 @@
 """Counts what reading a document takes of a run of the program, beside reading it as JSON: reader.py
 
 The program is run once on each document under valgrind's callgrind. Of that run the instructions are told of all that reads
-the document (`take_document`), and of the JSON reader with letting its value go, which is what is left of the former without
-making the module of the value (`read_module`), and the value's own drops; all hold what they call. The ratio is that of both.
-Prints a table in Markdown. The program has to be built: `rt ci` leaves it, and so does `rt run` in crates/checker. The
-status is 1 where a target is missed.
+the document (`take_document`); beside them those of the JSON reader alone, with letting its value go, in a run of
+`test_kinds json` on the same bytes. The ratio is that of both. Prints a table in Markdown. Both programs have to be built:
+`rt ci` leaves them, and so does `rt run` in crates/checker and crates/test_kinds. The status is 1 where a target is missed.
 """
 import sys
 import tempfile
@@ -16,7 +15,6 @@ import modules
 
 MOST_RATIO = 1.4
 READ = "document_reader::reading::take_document"
-MADE = "document_reader::document::read_module"
 SIZES = (1 << 17, 1 << 20)
 
 
@@ -33,17 +31,15 @@ KINDS = {**functions.KINDS, **{name: of_count(made) for name, made in modules.KI
 
 
 def counted(room, path):
-    """The instructions of reading the document, and of making the JSON value and letting it go."""
-    said = modules.called(room, path)
-    read, made = (modules.of_call(said, it) for it in (READ, MADE))
-    if not read or not made:
-        sys.exit(f"reader: no call of {READ} or {MADE} was counted")
-    return read, read - made + modules.of_json(said)[1]
+    """The instructions of reading the document, and of the JSON reader alone."""
+    read = modules.of_call(modules.called(room, path), READ)
+    if not read:
+        sys.exit(f"reader: no call of {READ} was counted")
+    return read, modules.json_alone(room, path)
 
 
 def main():
-    if not modules.CHECKER.is_file():
-        sys.exit(f"reader: {modules.CHECKER.relative_to(modules.TOP)} is not built yet")
+    modules.are_built()
     missed = False
     print("| document | bytes | reading, million instructions | the JSON reader, million instructions | ratio |")
     print("|---|---|---|---|---|")

@@ -67,22 +67,22 @@ pipeline_kinds =
 abbrev pub statement_kinds : List (List ℕ × StatementKind)
 statement_kinds =
     (codes "Emit", statement_kind.Emit) ∷
-    (codes "Block", statement_kind.Block) ∷
+    (codes "Store", statement_kind.Store) ∷
     (codes "If", statement_kind.If) ∷
-    (codes "Switch", statement_kind.Switch) ∷
-    (codes "Loop", statement_kind.Loop) ∷
-    (codes "Break", statement_kind.Break) ∷
-    (codes "Continue", statement_kind.Continue) ∷
     (codes "Return", statement_kind.Return) ∷
+    (codes "Call", statement_kind.Call) ∷
+    (codes "Block", statement_kind.Block) ∷
+    (codes "Break", statement_kind.Break) ∷
+    (codes "Loop", statement_kind.Loop) ∷
+    (codes "Switch", statement_kind.Switch) ∷
+    (codes "Continue", statement_kind.Continue) ∷
     (codes "Kill", statement_kind.Kill) ∷
     (codes "ControlBarrier", statement_kind.ControlBarrier) ∷
     (codes "MemoryBarrier", statement_kind.MemoryBarrier) ∷
-    (codes "Store", statement_kind.Store) ∷
     (codes "ImageStore", statement_kind.ImageStore) ∷
     (codes "Atomic", statement_kind.Atomic) ∷
     (codes "ImageAtomic", statement_kind.ImageAtomic) ∷
     (codes "WorkGroupUniformLoad", statement_kind.WorkGroupUniformLoad) ∷
-    (codes "Call", statement_kind.Call) ∷
     (codes "RayQuery", statement_kind.RayQuery) ∷
     (codes "SubgroupBallot", statement_kind.SubgroupBallot) ∷
     (codes "SubgroupCollectiveOperation", statement_kind.SubgroupCollectiveOperation) ∷

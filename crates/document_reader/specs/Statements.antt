@@ -330,37 +330,37 @@ module _ (inside : Data → Option PlainBlock) (sound : (d : Data) (b : PlainBlo
   statements_sound = (
     kind_sound (row2 a_u32 a_u32) (λ t. emit t.0 t.1) (codes "Emit") (λ x ds. AStatement x (array ds)) (λ t ds h. (refl, h)),
     (
-      kind_sound (row1 (a_found inside)) (λ t. block t) (codes "Block") (λ x ds. AStatement x (array ds)) (λ t ds h. (refl, starts_all _ _ _ _ ds h (λ d k. sound d t k) (λ es k. k))),
+      kind_sound (row2 a_handle a_handle) (λ t. operation (store t.0 t.1)) (codes "Store") (λ x ds. AStatement x (array ds)) (λ t ds h. (refl, h)),
       (
         kind_sound (row3 a_handle (a_found inside) (a_found inside)) (λ t. if_ t.0 t.1 t.2) (codes "If") (λ x ds. AStatement x (array ds)) (λ t ds h. (refl, starts_all _ _ _ _ ds h (λ d k. k) (λ es k. starts_all _ _ _ _ es k (λ d k. sound d t.1 k) (λ fs k. starts_all _ _ _ _ fs k (λ d k. sound d t.2 k) (λ gs k. k))))),
         (
-          kind_sound (row2 a_handle (a_list (a_found (case_with inside)))) (λ t. switch t.0 (cases_of t.1)) (codes "Switch") (λ x ds. AStatement x (array ds)) (λ t ds h. (refl, starts_all _ _ _ _ ds h (λ d k. k) (λ es k. starts_all _ _ _ _ es k (λ d k. array_map _ _ d k (cases_found t.1)) (λ fs k. k)))),
+          kind_sound (row1 (maybe a_handle)) (λ t. return t) (codes "Return") (λ x ds. AStatement x (array ds)) (λ t ds h. (refl, h)),
           (
-            kind_sound (row3 (a_found inside) (a_found inside) (maybe a_handle)) (λ t. loop t.0 t.1 t.2) (codes "Loop") (λ x ds. AStatement x (array ds)) (λ t ds h. (refl, starts_all _ _ _ _ ds h (λ d k. sound d t.0 k) (λ es k. starts_all _ _ _ _ es k (λ d k. sound d t.1 k) (λ fs k. k)))),
+            kind_sound (row3 a_handle (a_list a_handle) (maybe a_handle)) (λ t. call t.0 t.1 t.2) (codes "Call") (λ x ds. AStatement x (array ds)) (λ t ds h. (refl, h)),
             (
-              kind_sound ends (λ t. break) (codes "Break") (λ x ds. AStatement x (array ds)) (λ t ds h. (refl, h)),
+              kind_sound (row1 (a_found inside)) (λ t. block t) (codes "Block") (λ x ds. AStatement x (array ds)) (λ t ds h. (refl, starts_all _ _ _ _ ds h (λ d k. sound d t k) (λ es k. k))),
               (
-                kind_sound ends (λ t. continue) (codes "Continue") (λ x ds. AStatement x (array ds)) (λ t ds h. (refl, h)),
+                kind_sound ends (λ t. break) (codes "Break") (λ x ds. AStatement x (array ds)) (λ t ds h. (refl, h)),
                 (
-                  kind_sound (row1 (maybe a_handle)) (λ t. return t) (codes "Return") (λ x ds. AStatement x (array ds)) (λ t ds h. (refl, h)),
+                  kind_sound (row3 (a_found inside) (a_found inside) (maybe a_handle)) (λ t. loop t.0 t.1 t.2) (codes "Loop") (λ x ds. AStatement x (array ds)) (λ t ds h. (refl, starts_all _ _ _ _ ds h (λ d k. sound d t.0 k) (λ es k. starts_all _ _ _ _ es k (λ d k. sound d t.1 k) (λ fs k. k)))),
                   (
-                    kind_sound ends (λ t. kill) (codes "Kill") (λ x ds. AStatement x (array ds)) (λ t ds h. (refl, h)),
+                    kind_sound (row2 a_handle (a_list (a_found (case_with inside)))) (λ t. switch t.0 (cases_of t.1)) (codes "Switch") (λ x ds. AStatement x (array ds)) (λ t ds h. (refl, starts_all _ _ _ _ ds h (λ d k. k) (λ es k. starts_all _ _ _ _ es k (λ d k. array_map _ _ d k (cases_found t.1)) (λ fs k. k)))),
                     (
-                      kind_sound (row1 (a_set barriers (record { 0 = 0 }) barrier_union)) (λ t. operation (control_barrier t)) (codes "ControlBarrier") (λ x ds. AStatement x (array ds)) (λ t ds h. (refl, h)),
+                      kind_sound ends (λ t. continue) (codes "Continue") (λ x ds. AStatement x (array ds)) (λ t ds h. (refl, h)),
                       (
-                        kind_sound (row1 (a_set barriers (record { 0 = 0 }) barrier_union)) (λ t. operation (memory_barrier t)) (codes "MemoryBarrier") (λ x ds. AStatement x (array ds)) (λ t ds h. (refl, h)),
+                        kind_sound ends (λ t. kill) (codes "Kill") (λ x ds. AStatement x (array ds)) (λ t ds h. (refl, h)),
                         (
-                          kind_sound (row2 a_handle a_handle) (λ t. operation (store t.0 t.1)) (codes "Store") (λ x ds. AStatement x (array ds)) (λ t ds h. (refl, h)),
+                          kind_sound (row1 (a_set barriers (record { 0 = 0 }) barrier_union)) (λ t. operation (control_barrier t)) (codes "ControlBarrier") (λ x ds. AStatement x (array ds)) (λ t ds h. (refl, h)),
                           (
-                            kind_sound (row4 a_handle a_handle (maybe a_handle) a_handle) (λ t. operation (image_store t.0 t.1 t.2 t.3)) (codes "ImageStore") (λ x ds. AStatement x (array ds)) (λ t ds h. (refl, h)),
+                            kind_sound (row1 (a_set barriers (record { 0 = 0 }) barrier_union)) (λ t. operation (memory_barrier t)) (codes "MemoryBarrier") (λ x ds. AStatement x (array ds)) (λ t ds h. (refl, h)),
                             (
-                              kind_sound (row4 a_handle an_atomic a_handle (maybe a_handle)) (λ t. operation (atomic t.0 t.1 t.2 t.3)) (codes "Atomic") (λ x ds. AStatement x (array ds)) (λ t ds h. (refl, h)),
+                              kind_sound (row4 a_handle a_handle (maybe a_handle) a_handle) (λ t. operation (image_store t.0 t.1 t.2 t.3)) (codes "ImageStore") (λ x ds. AStatement x (array ds)) (λ t ds h. (refl, h)),
                               (
-                                kind_sound (row5 a_handle a_handle (maybe a_handle) an_atomic a_handle) (λ t. operation (image_atomic t.0 t.1 t.2 t.3 t.4)) (codes "ImageAtomic") (λ x ds. AStatement x (array ds)) (λ t ds h. (refl, h)),
+                                kind_sound (row4 a_handle an_atomic a_handle (maybe a_handle)) (λ t. operation (atomic t.0 t.1 t.2 t.3)) (codes "Atomic") (λ x ds. AStatement x (array ds)) (λ t ds h. (refl, h)),
                                 (
-                                  kind_sound (row2 a_handle a_handle) (λ t. operation (uniform_load t.0 t.1)) (codes "WorkGroupUniformLoad") (λ x ds. AStatement x (array ds)) (λ t ds h. (refl, h)),
+                                  kind_sound (row5 a_handle a_handle (maybe a_handle) an_atomic a_handle) (λ t. operation (image_atomic t.0 t.1 t.2 t.3 t.4)) (codes "ImageAtomic") (λ x ds. AStatement x (array ds)) (λ t ds h. (refl, h)),
                                   (
-                                    kind_sound (row3 a_handle (a_list a_handle) (maybe a_handle)) (λ t. call t.0 t.1 t.2) (codes "Call") (λ x ds. AStatement x (array ds)) (λ t ds h. (refl, h)),
+                                    kind_sound (row2 a_handle a_handle) (λ t. operation (uniform_load t.0 t.1)) (codes "WorkGroupUniformLoad") (λ x ds. AStatement x (array ds)) (λ t ds h. (refl, h)),
                                     (
                                       kind_sound (row2 a_handle a_ray_query) (λ t. operation (ray_query t.0 t.1)) (codes "RayQuery") (λ x ds. AStatement x (array ds)) (λ t ds h. (refl, h)),
                                       (

@@ -51,29 +51,29 @@ literal_with literal_kind.AbstractFloat ds = option_map literal.AbstractFloat ((
 pub literal_sound : AreSound literal_with ALiteral literal_kinds
 unfolding literal_with
 literal_sound = (
-  kind_sound (row1 a_bool) literal.Bool (codes "bool") ALiteral (λ t ds h. (refl, h)),
+  kind_sound (row1 a_u32) literal.F32 (codes "f32") ALiteral (λ t ds h. (refl, h)),
   (
-    kind_sound (row1 a_i16) literal.I16 (codes "i16") ALiteral (λ t ds h. (refl, h)),
+    kind_sound (row1 a_u32) literal.U32 (codes "u32") ALiteral (λ t ds h. (refl, h)),
     (
-      kind_sound (row1 a_u16) literal.U16 (codes "u16") ALiteral (λ t ds h. (refl, h)),
+      kind_sound (row1 a_i32) literal.I32 (codes "i32") ALiteral (λ t ds h. (refl, h)),
       (
-        kind_sound (row1 a_i32) literal.I32 (codes "i32") ALiteral (λ t ds h. (refl, h)),
+        kind_sound (row1 a_bool) literal.Bool (codes "bool") ALiteral (λ t ds h. (refl, h)),
         (
-          kind_sound (row1 a_u32) literal.U32 (codes "u32") ALiteral (λ t ds h. (refl, h)),
+          kind_sound (row1 a_i64) literal.AbstractInt (codes "aint") ALiteral (λ t ds h. (refl, h)),
           (
-            kind_sound (row1 a_i64) literal.I64 (codes "i64") ALiteral (λ t ds h. (refl, h)),
+            kind_sound (row1 a_u64) literal.AbstractFloat (codes "afloat") ALiteral (λ t ds h. (refl, h)),
             (
-              kind_sound (row1 a_u64) literal.U64 (codes "u64") ALiteral (λ t ds h. (refl, h)),
+              kind_sound (row1 a_u16) literal.F16 (codes "f16") ALiteral (λ t ds h. (refl, h)),
               (
-                kind_sound (row1 a_u16) literal.F16 (codes "f16") ALiteral (λ t ds h. (refl, h)),
+                kind_sound (row1 a_u64) literal.F64 (codes "f64") ALiteral (λ t ds h. (refl, h)),
                 (
-                  kind_sound (row1 a_u32) literal.F32 (codes "f32") ALiteral (λ t ds h. (refl, h)),
+                  kind_sound (row1 a_i64) literal.I64 (codes "i64") ALiteral (λ t ds h. (refl, h)),
                   (
-                    kind_sound (row1 a_u64) literal.F64 (codes "f64") ALiteral (λ t ds h. (refl, h)),
+                    kind_sound (row1 a_u64) literal.U64 (codes "u64") ALiteral (λ t ds h. (refl, h)),
                     (
-                      kind_sound (row1 a_i64) literal.AbstractInt (codes "aint") ALiteral (λ t ds h. (refl, h)),
+                      kind_sound (row1 a_i16) literal.I16 (codes "i16") ALiteral (λ t ds h. (refl, h)),
                       (
-                        kind_sound (row1 a_u64) literal.AbstractFloat (codes "afloat") ALiteral (λ t ds h. (refl, h)),
+                        kind_sound (row1 a_u16) literal.U16 (codes "u16") ALiteral (λ t ds h. (refl, h)),
                         tt,
                       ),
                     ),

@@ -51,18 +51,18 @@ expression_kinds =
 -- the scalars of literals
 abbrev pub literal_kinds : List (List ℕ × LiteralKind)
 literal_kinds =
-    (codes "bool", literal_kind.Bool) ∷
-    (codes "i16", literal_kind.I16) ∷
-    (codes "u16", literal_kind.U16) ∷
-    (codes "i32", literal_kind.I32) ∷
-    (codes "u32", literal_kind.U32) ∷
-    (codes "i64", literal_kind.I64) ∷
-    (codes "u64", literal_kind.U64) ∷
-    (codes "f16", literal_kind.F16) ∷
     (codes "f32", literal_kind.F32) ∷
-    (codes "f64", literal_kind.F64) ∷
+    (codes "u32", literal_kind.U32) ∷
+    (codes "i32", literal_kind.I32) ∷
+    (codes "bool", literal_kind.Bool) ∷
     (codes "aint", literal_kind.AbstractInt) ∷
     (codes "afloat", literal_kind.AbstractFloat) ∷
+    (codes "f16", literal_kind.F16) ∷
+    (codes "f64", literal_kind.F64) ∷
+    (codes "i64", literal_kind.I64) ∷
+    (codes "u64", literal_kind.U64) ∷
+    (codes "i16", literal_kind.I16) ∷
+    (codes "u16", literal_kind.U16) ∷
     []
 
 -- the kinds of levels of detail

@@ -124,18 +124,18 @@ pub enum LiteralKind {
 }
 
 static LITERAL_KINDS: [(&str, LiteralKind); 12] = [
-    ("bool", LiteralKind::Bool),
-    ("i16", LiteralKind::I16),
-    ("u16", LiteralKind::U16),
-    ("i32", LiteralKind::I32),
-    ("u32", LiteralKind::U32),
-    ("i64", LiteralKind::I64),
-    ("u64", LiteralKind::U64),
-    ("f16", LiteralKind::F16),
     ("f32", LiteralKind::F32),
-    ("f64", LiteralKind::F64),
+    ("u32", LiteralKind::U32),
+    ("i32", LiteralKind::I32),
+    ("bool", LiteralKind::Bool),
     ("aint", LiteralKind::AbstractInt),
     ("afloat", LiteralKind::AbstractFloat),
+    ("f16", LiteralKind::F16),
+    ("f64", LiteralKind::F64),
+    ("i64", LiteralKind::I64),
+    ("u64", LiteralKind::U64),
+    ("i16", LiteralKind::I16),
+    ("u16", LiteralKind::U16),
 ];
 
 impl Word for LiteralKind {
