@@ -16,7 +16,10 @@ use Rattle.typing_forms.specs.Resolutions.{resolution_view}
 use Rattle.typing_forms.specs.declared.form.Form.{Form}
 use Rattle.typing_forms.specs.declared.resolution.TypeResolution.{TypeResolution}
 use Rattle.typing_operands.specs.Answers.{form_given}
+use Rattle.function_interface.specs.Arities.{IsArityFault}
 use Rattle.function_interface.specs.Question.{Question}
+use Rattle.ir_items.specs.Plain.{PlainFunction, PlainModule}
+use Rattle.spec_handles.specs.Conditions.{AritiesMatch}
 
 -- What a lower layer says is wrong with a function: which faults its analysis finds, and which it finds at an expression.
 pub record Faults : Type 1 where
@@ -39,3 +42,8 @@ pub record IsKept (reading : Reading) (flags : ValidationFlags) (q : Question) (
 abbrev pub IsRefusedFor : (FunctionError → Type 0) → Refusal FunctionError → Type 0
 IsRefusedFor IsFault (refusal.Memory e) = Unit {0}
 IsRefusedFor IsFault (refusal.Fault e) = IsFault (error_of e)
+
+-- what is wrong with a function before its other parts are asked: with the arity of a call, or where that is right its analysis
+pub data IsFaultBefore (faults : Faults) (flags : ValidationFlags) (m : PlainModule) (f : PlainFunction) (e : FunctionError) : Type 0 where
+  in_arity : IsArityFault m f e → IsFaultBefore faults flags m f e
+  in_analysis : AritiesMatch m f → faults.IsAnalysisFault flags e → IsFaultBefore faults flags m f e

@@ -12,4 +12,5 @@ pub mod Callees
 pub mod Bodies
 pub mod Left
 pub mod Question
+pub mod Arities
 pub mod Analysis

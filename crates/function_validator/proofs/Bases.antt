@@ -1,7 +1,7 @@
 -- The bases of accesses are operands.
-use Rattle.std.proofs.Common.{◌≡◌, ◌<◌, ℕ, List, [], ◌∷◌, Some, None, All, subst, slice_get}
+use Rattle.std.proofs.Common.{◌≡◌, ◌<◌, ℕ, List, [], ◌∷◌, Some, All, subst}
 use Rattle.std.proofs.lemmas.List.Elements.{All-head}
-use Rattle.ir_types.specs.ExpressionPlain.{PlainExpression, compose, plain}
+use Rattle.ir_types.specs.ExpressionPlain.{PlainExpression, plain}
 use Rattle.ir_types.specs.declared.expressions.Expression.TheVariants as x
 use Rattle.ir_walks.specs.Bases.{base_of, BasesPrecede}
 use Rattle.spec_handles.specs.Conditions.{OperandsPrecede}

@@ -1,5 +1,5 @@
 -- Expressions that are accepted one after another, and the stages that may run them.
-use Rattle.std.proofs.Common.{◌≡◌, ◌↔◌, ◌⊎◌, inl, inr, rules, ℕ, ◌+◌, ◌<◌, ◌≤◌, refl, sym, subst, arith}
+use Rattle.std.proofs.Common.{◌≡◌, ◌⊎◌, inl, inr, rules, ℕ, ◌+◌, ◌<◌, sym, subst, arith}
 use Rattle.std.specs.Int.RustNames.{bit_and}
 use Rattle.ir_flags.proofs.SetLaws.{within-intersection, within-over, intersection-within_left, intersection-within_right}
 use Rattle.ir_flags.specs.Sets.{Has}

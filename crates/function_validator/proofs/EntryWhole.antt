@@ -1,15 +1,13 @@
 -- An entry point that is accepted or refused, put together of its parts.
-use Rattle.std.proofs.Common.{◌≡◌, ◌↔◌, ◌⊎◌, inl, inr, ◌<◌, ◌||◌, ℕ, List, Bool, IsTrue, true, false, Option, Some, length, ◌^◌, ◌-◌, refl, sym, ap, subst, ◌∙◌}
-use Rattle.analysis_forms.specs.Pairs.{SamplingPair}
-use Rattle.analysis_forms.specs.declared.global_use.GlobalUse.{GlobalUse}
+use Rattle.std.proofs.Common.{◌≡◌, ◌↔◌, inl, inr, ◌<◌, ◌||◌, ℕ, List, Bool, IsTrue, false, length, ◌^◌, ◌-◌, refl, sym, ap, subst, ◌∙◌}
 use Rattle.entry_checks.proofs.Refuted.{connection_refuted, payload_fault_refutes, stage_fault_refutes}
 use Rattle.entry_checks.proofs.Transport.{connection_fault_to, connections_to}
 use Rattle.entry_checks.specs.ConnectionFaults.{IsConnectionFault}
 use Rattle.entry_checks.specs.Faults.{IsPayloadFault, IsRefusedFor, IsStageFault}
 use Rattle.entry_checks.specs.declared.error.EntryPointError.{EntryPointError}
-use Rattle.entry_checks.specs.declared.error.EntryPointError.TheVariants.{ForbiddenStageOperations, Function}
-use Rattle.function_validator.specs.EntryFaults.{IsEntryPointFault, of_stage, of_function, of_payload, of_runs, of_connections, IsRefusedAs, IsToldAs, IsUnconnected}
-use Rattle.function_validator.specs.Validated.{AddsOwnUses, IsEntryNoted, IsEntrySummary, IsEntryValidated, TellsSame}
+use Rattle.entry_checks.specs.declared.error.EntryPointError.TheVariants.{ForbiddenStageOperations}
+use Rattle.function_validator.specs.EntryFaults.{of_stage, of_function, of_payload, of_runs, of_connections, IsRefusedAs, IsToldAs, IsUnconnected}
+use Rattle.function_validator.specs.Validated.{AddsOwnUses, IsEntrySummary, TellsSame}
 use Rattle.error_functions.specs.declared.error.FunctionError.{FunctionError}
 use Rattle.function_validator.specs.Faults.{IsFunctionFault}
 use Rattle.function_interface.specs.Analysis.{Faults, IsRefusedFor as IsFunctionRefusedFor}
@@ -26,16 +24,12 @@ use Rattle.ir_kinds.specs.declared.stages.ShaderStage.{ShaderStage}
 use Rattle.ir_kinds.specs.declared.stages.ShaderStage.TheVariants.{Vertex, Fragment, Compute, Mesh, Task, RayGeneration, AnyHit, ClosestHit, Miss}
 use Rattle.overload_tables.specs.Laws.{IsAmong}
 use Rattle.spec_analysis.specs.Chains.{HasUse, HasPair, MayKill}
-use Rattle.spec_analysis.specs.Summaries.{CalleesKnown, HasUseBit, IsSummary, Summary}
-use Rattle.spec_entries.specs.Entries.{ConnectionsOK, EntryOK}
-use Rattle.spec_entries.specs.Payloads.{PayloadOK}
-use Rattle.spec_entries.specs.Stages.{StageOK}
+use Rattle.spec_analysis.specs.Summaries.{HasUseBit, IsSummary, Summary}
+use Rattle.spec_entries.specs.Entries.{ConnectionsOK}
 use Rattle.spec_entries.specs.Uses.{EntryUses}
 use Rattle.spec_statements.specs.ExpressionStages.{all_stages}
 use Rattle.spec_statements.specs.Functions.{AllowsStage, FunctionOK, FunctionSettings, Reading}
-use Rattle.spec_statements.specs.Payloads.{IsHeldAfter}
 use Rattle.spec_varyings.specs.Contexts.{stage_set}
-use Rattle.spec_varyings.specs.Varyings.{HasBlendSources, result_varyings}
 
 -- ---- refusals
 

@@ -1,4 +1,3 @@
-mod ArityLaws
 mod Below
 mod Bases
 mod Marks

@@ -3,7 +3,6 @@ use Rattle.std.proofs.Common.{◌≡◌, ◌⊎◌, ◌↔◌, inl, inr, ◌||�
 use Rattle.std.specs.Int.{bit_at}
 use Rattle.analysis_forms.specs.declared.global_use.GlobalUse.{GlobalUse}
 use Rattle.module_info.specs.Infos.{NotesUse}
-use Rattle.overload_tables.specs.Laws.{IsAmong}
 
 -- ---- one of them
 

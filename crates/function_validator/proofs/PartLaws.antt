@@ -1,13 +1,11 @@
 -- What the parts of a check find, put together.
-use Rattle.std.proofs.Common.{◌≡◌, ◌↔◌, ◌⊎◌, inl, inr, ◌<◌, ℕ, List, Option, Some, None, length, refl, sym, subst}
+use Rattle.std.proofs.Common.{◌≡◌, ◌↔◌, inl, inr, ℕ, List, Option, length, refl, sym, subst}
 use Rattle.std.specs.Int.RustNames.{bit_and}
-use Rattle.body_checks.specs.ControlFaults.{IsControlFault}
 use Rattle.error_functions.specs.declared.error.FunctionError.{FunctionError}
-use Rattle.function_interface.specs.Analysis.{Faults, IsRefusedFor}
-use Rattle.function_interface.specs.Interfaces.{IsInterfaceFault}
+use Rattle.function_interface.specs.Analysis.{Faults, IsRefusedFor, IsFaultBefore, in_arity as with_arity, in_analysis as with_analysis}
+use Rattle.function_interface.proofs.RefusedAs.{refused_as}
+use Rattle.ir_items.specs.Plain.{PlainFunction, PlainModule}
 use Rattle.function_interface.specs.Refusals.{IsRefusal}
-use Rattle.ir_blocks.specs.Places.{Place, StandsAt}
-use Rattle.ir_blocks.specs.Plain.{PlainStatement}
 use Rattle.ir_faults.specs.Faults.{error_of}
 use Rattle.ir_faults.specs.declared.refusal.Refusal.{Refusal}
 use Rattle.ir_faults.specs.declared.refusal.Refusal.TheVariants as refusal
@@ -15,24 +13,22 @@ use Rattle.ir_flags.specs.Sets.{Has}
 use Rattle.ir_flags.specs.declared.settings.TheConstants.ValidationFlags.{EXPRESSIONS, BLOCKS}
 use Rattle.ir_flags.specs.declared.stages.ShaderStages.{ShaderStages}
 use Rattle.function_interface.specs.Bodies.{MayRun}
-use Rattle.body_checks.specs.Faults.{IsScopeFault, IsScopeRefusal}
+use Rattle.body_checks.specs.Faults.{IsScopeRefusal}
 use Rattle.spec_statements.specs.ExpressionStages.{all_stages}
 use Rattle.spec_statements.specs.BlockContext.{BlockContext}
-use Rattle.spec_statements.specs.Functions.{Reading, FunctionSettings, BodyOK, AllowsStage}
+use Rattle.spec_statements.specs.Functions.{Reading, FunctionSettings}
 use Rattle.spec_statements.specs.Interfaces.{InterfaceOK}
-use Rattle.spec_statements.specs.Payloads.{IsHeldAfter}
-use Rattle.spec_statements.specs.Results.{AnsweredOnce}
-use Rattle.spec_statements.specs.Stages.{statement_stages}
-use Rattle.statement_validator.specs.Faults.{IsBodyFault, IsBodyRefusal}
+use Rattle.statement_validator.specs.Faults.{IsBodyRefusal}
 use Rattle.function_validator.proofs.Below.{left_has, right_has, both_have}
-use Rattle.function_validator.specs.Faults.{AllAccepted, IsExpressionFault, IsFaultOfBody, IsUnanswered, IsFaultBehind, in_interface, in_expressions, in_body, unanswered}
+use Rattle.function_validator.specs.Faults.{AllAccepted, IsFaultOfBody, IsUnanswered, IsFaultBehind, in_body, unanswered, IsFunctionFault, in_arity, in_analysis}
 use Rattle.function_validator.specs.Judged.{AcceptedBelow, AreExpressionsMet, IsBodyMet, AllAnswer, AreBlocksMet, IsBlocksFault, ArePartsMet}
 
 -- ---- refusals
 
-pub refused_as : (P Q : FunctionError → Type 0) → ((e : FunctionError) → P e → Q e) → (r : Refusal FunctionError) → IsRefusedFor P r → IsRefusedFor Q r
-refused_as P Q widen (refusal.Memory e) h = tt
-refused_as P Q widen (refusal.Fault e) h = widen (error_of e) h
+pub before_function : (reading : Reading) (faults : Faults) (s : FunctionSettings) (m : PlainModule) (f : PlainFunction) (e : FunctionError)
+    → IsFaultBefore faults s.flags m f e → IsFunctionFault reading faults s m f e
+before_function reading faults s m f e (with_arity w) = in_arity w
+before_function reading faults s m f e (with_analysis arity w) = in_analysis arity w
 
 pub interface_refused : (Rule : Type 0) (P Q : FunctionError → Type 0) → ((e : FunctionError) → P e → Q e) → (r : Refusal FunctionError) → IsRefusal Rule P r → IsRefusedFor Q r
 interface_refused Rule P Q widen (refusal.Memory e) h = tt

@@ -1,6 +1,5 @@
 -- A function with a fault is not accepted.
-use Rattle.std.proofs.Common.{◌≡◌, ◌⊎◌, inl, inr, ◌<◌, zero, suc, ℕ, List, [], ◌∷◌, Some, length, refl, sym, ap, subst, slice_get, ◌∙◌, arith}
-use Rattle.std.proofs.lemmas.Option.{slice_get_within}
+use Rattle.std.proofs.Common.{◌≡◌, inl, inr, ◌<◌, suc, ℕ, List, [], ◌∷◌, Some, length, refl, sym, ap, subst, slice_get, ◌∙◌, arith}
 use Rattle.body_checks.proofs.ControlRefuted.{faults_refute_lem as by_control}
 use Rattle.error_functions.specs.declared.expressions.ExpressionError.{ExpressionError}
 use Rattle.error_functions.specs.declared.error.FunctionError.{FunctionError}
@@ -16,7 +15,6 @@ use Rattle.ir_flags.specs.declared.settings.ValidationFlags.{ValidationFlags}
 use Rattle.ir_items.specs.Plain.{PlainFunction, PlainModule}
 use Rattle.operation_checks.proofs.Refuted.{faults_refute_lem as by_ray}
 use Rattle.body_checks.proofs.Refuted.{faults_refute_lem as by_scope}
-use Rattle.spec_analysis.proofs.Members.{get-within}
 use Rattle.spec_handles.specs.Conditions.{AritiesMatch}
 use Rattle.spec_statements.specs.BlockContext.{BlockContext}
 use Rattle.spec_statements.specs.Functions.{Reading, FunctionSettings, AreFormsBy, BodyOK, FunctionOK, block_context}
@@ -25,8 +23,8 @@ use Rattle.statement_validator.proofs.Refuted.{faults_refute_lem as by_statement
 use Rattle.typing_forms.specs.declared.form.Form.{Form}
 use Rattle.typing_conditions.proofs.OrderLaws.{wrong_refutes}
 use Rattle.typing_conditions.specs.Tests.{fault_at}
-use Rattle.function_validator.specs.Arities.{IsArityError, IsArityFault}
-use Rattle.function_validator.specs.Faults.{AllAccepted, IsExpressionFault, IsFaultOfBody, IsUnanswered, IsFaultBehind, in_interface, in_expressions, in_body, unanswered, IsFunctionFault, in_arity, in_analysis, behind}
+use Rattle.function_interface.specs.Arities.{IsArityError, IsArityFault}
+use Rattle.function_validator.specs.Faults.{IsExpressionFault, IsFaultOfBody, IsUnanswered, IsFaultBehind, in_interface, in_expressions, in_body, unanswered, IsFunctionFault, in_arity, in_analysis, behind}
 
 -- ---- the forms of a function's expressions are one list
 

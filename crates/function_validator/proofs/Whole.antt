@@ -1,10 +1,9 @@
 -- A function that is accepted, and what is kept of it.
-use Rattle.std.proofs.Common.{◌≡◌, ◌↔◌, ◌⊎◌, inl, inr, ◌<◌, ℕ, List, Option, IsTrue, length, sym, subst}
+use Rattle.std.proofs.Common.{◌≡◌, ◌↔◌, ℕ, List, Option, IsTrue, sym, subst}
 use Rattle.std.specs.Int.RustNames.{bit_and}
 use Rattle.ir_flags.specs.Sets.{Has}
 use Rattle.ir_flags.specs.declared.stages.ShaderStages.{ShaderStages}
 use Rattle.ir_items.specs.Plain.{PlainFunction, PlainModule}
-use Rattle.analysis_forms.specs.Pairs.{SamplingPair}
 use Rattle.overload_tables.specs.Laws.{IsAmong}
 use Rattle.spec_analysis.specs.Summaries.{Summary, IsJoined, HasUseBit}
 use Rattle.spec_statements.specs.ExpressionStages.{all_stages}

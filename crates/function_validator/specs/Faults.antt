@@ -1,11 +1,11 @@
 -- What is wrong with a function: of its parts in their order the first with which something is wrong.
-use Rattle.std.specs.Prelude.{◌≡◌, ◌⊎◌, ◌<◌, ℕ, List, length}
+use Rattle.std.specs.Prelude.{◌⊎◌, ◌<◌, ℕ, List, length}
 use Rattle.body_checks.specs.ControlFaults.{IsControlFault}
 use Rattle.error_functions.specs.declared.expressions.ExpressionError.{ExpressionError}
 use Rattle.error_functions.specs.declared.error.FunctionError.{FunctionError}
 use Rattle.error_functions.specs.declared.error.FunctionError.TheVariants as error
 use Rattle.function_interface.specs.Analysis.{Faults}
-use Rattle.function_validator.specs.Arities.{IsArityFault}
+use Rattle.function_interface.specs.Arities.{IsArityFault}
 use Rattle.function_interface.specs.Interfaces.{IsInterfaceFault}
 use Rattle.ir_blocks.specs.Places.{Place}
 use Rattle.ir_flags.specs.Sets.{Has}

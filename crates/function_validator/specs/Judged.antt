@@ -1,5 +1,5 @@
 -- What the parts of a check of a function find.
-use Rattle.std.specs.Prelude.{◌≡◌, ◌↔◌, ◌⊎◌, ◌<◌, ℕ, Contains, List, Option, length}
+use Rattle.std.specs.Prelude.{◌↔◌, ◌⊎◌, ◌<◌, ℕ, Contains, List, Option, length}
 use Rattle.function_validator.specs.Faults.{AllAccepted, IsFaultOfBody, IsUnanswered}
 use Rattle.error_functions.specs.declared.error.FunctionError.{FunctionError}
 use Rattle.ir_blocks.specs.Control.{ControlOK}

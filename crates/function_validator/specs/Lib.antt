@@ -1,4 +1,3 @@
-pub mod Arities
 pub mod Settings
 pub mod Faults
 pub mod Judged

@@ -4,7 +4,6 @@
 #![tactic(auto)]
 
 mod answers;
-mod arities;
 mod body;
 mod callees;
 mod connect;
@@ -17,7 +16,6 @@ mod settings;
 mod uses;
 mod validate;
 
-pub use arities::check_arities;
 pub use entry::validate_entry_point;
 pub use names::SeenNames;
 pub use settings::FunctionSettings;

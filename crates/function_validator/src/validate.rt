@@ -16,15 +16,13 @@ ghost use Rattle.spec_statements.specs.Functions.{FunctionOK, AllowsStage, block
 ghost use Rattle.spec_statements.specs.Payloads.{IsHeldAfter};
 ghost use Rattle.typing_operands.specs.Answers.{form_given};
 
-use crate::arities::check_arities;
 use crate::forms::forms_of;
 use crate::parts::{Met, check_parts};
 use crate::settings::FunctionSettings;
 use error_functions::FunctionError;
-use function_interface::Lower;
+use function_interface::{Lower, analyse_function};
 use ir_arena::handle::Handle;
 use ir_faults::refusal::Refusal;
-use ir_faults::with_span::WithSpan;
 use ir_items::{Function, Module};
 use ir_types::key;
 use statement_checks::BlockContext;
@@ -142,11 +140,7 @@ pub fn validate_function<L: Lower>(
     ensures unblended { IfOk result (λ v. L.blending lower.now v.info ≡ false) }
     ensures held { IfOk result (λ v. IsHeldAfter settings.now.flags (module_view «module».now) (function_view function.now) settings.now.held v.held) }
 {
-    match check_arities(module, function) {
-        Ok(()) => {}
-        Err(error) => return Err(Refusal::Fault(WithSpan::new(alloc, error))),
-    }
-    let info = match lower.analyse(alloc, module, function, callees, settings.flags) {
+    let info = match analyse_function(lower, alloc, module, function, callees, settings.flags) {
         Ok(info) => info,
         Err(refusal) => return Err(refusal),
     };

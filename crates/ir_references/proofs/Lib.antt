@@ -1,3 +1,4 @@
+pub mod EachLaws
 pub mod FirstLaws
 pub mod Entries
 pub mod FaultLaws

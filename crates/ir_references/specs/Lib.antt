@@ -1,2 +1,3 @@
+pub mod Each
 pub mod First
 pub mod Faults

@@ -1,9 +1,10 @@
 //! What expressions and statements name, found: items, operands that do not come before an end, ranges and callees; the
-//! first of what is looked for in the statements of a body; and what is wrong with the handles of a function.
+//! first of what is looked for in the statements of a body; whether each statement of a body meets a rule; and what is wrong with the handles of a function.
 //! `spec_handles` has what each kind names, and what is asked of it.
 #![tactic(auto)]
 
 mod bounds;
+mod each;
 mod expressions;
 mod fault;
 mod functions;
@@ -13,6 +14,7 @@ mod statements;
 mod walk;
 
 pub use bounds::{Bounds, absent};
+pub use each::{StatementRule, check_each};
 pub use expressions::{item_of, operand_past};
 pub use fault::HandleFault;
 pub use functions::{expression_missing, missing_in_function};

@@ -1,5 +1,5 @@
 -- A fault refutes the rule.
-use Rattle.std.proofs.Common.{◌≡◌, ℕ, Option, Some, None}
+use Rattle.std.proofs.Common.{Some, None}
 use Rattle.error_functions.specs.declared.error.FunctionError.{FunctionError}
 use Rattle.ir_blocks.specs.Plain.{PlainOperation, control_barrier, memory_barrier, store, image_store, atomic, image_atomic, uniform_load, ray_query, ballot, collective, gather, cooperative_store, ray_pipeline, PlainStatement, emit, block, if_, switch, loop, break, continue, return, kill, operation, call}
 use Rattle.spec_statements.specs.BlockContext.{BlockContext}

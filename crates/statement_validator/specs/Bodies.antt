@@ -1,6 +1,6 @@
--- What holds of each statement of a body, wherever it stands, and of one of them, along the body.
-use Rattle.std.specs.Prelude.{◌⊎◌, ◌<◌, ℕ, length}
-use Rattle.ir_blocks.specs.Plain.{image_store, PlainStatement, emit, block, if_, switch, loop, break, continue, return, kill, operation, call, PlainBlock, stop, next, PlainCases, no_case, case}
+-- What is asked of each statement of a body, and what one is refused for.
+use Rattle.std.specs.Prelude.{◌<◌, length}
+use Rattle.ir_blocks.specs.Plain.{image_store, PlainStatement, switch, operation, call}
 use Rattle.ir_items.specs.Plain.{PlainModule}
 use Rattle.spec_statements.specs.BlockContext.{BlockContext}
 use Rattle.spec_statements.specs.Statements.{StatementOK}
@@ -26,51 +26,3 @@ MeetsPlainly c u = StatementOK c u
 -- it has the fault that is told, if one is
 abbrev pub IsWrong : BlockContext → StatementError → PlainStatement → Type 0
 IsWrong c r u = IfFault r (IsStatementFault c u)
-
-abbrev mutual
-  -- each statement does, and those inside it
-  pub AllMeet : BlockContext → PlainBlock → Type 0
-  AllMeet c stop = Unit {0}
-  AllMeet c (next s rest) = Meets c s × (MeetWithin c s × AllMeet c rest)
-
-  -- those inside a statement do
-  pub MeetWithin : BlockContext → PlainStatement → Type 0
-  MeetWithin c (emit first end) = Unit {0}
-  MeetWithin c (block b) = AllMeet c b
-  MeetWithin c (if_ condition accept reject) = AllMeet c accept × AllMeet c reject
-  MeetWithin c (switch selector cases) = AllMeetInCases c cases
-  MeetWithin c (loop body continuing break_if) = AllMeet c body × AllMeet c continuing
-  MeetWithin c break = Unit {0}
-  MeetWithin c continue = Unit {0}
-  MeetWithin c (return value) = Unit {0}
-  MeetWithin c kill = Unit {0}
-  MeetWithin c (operation a) = Unit {0}
-  MeetWithin c (call function arguments answer) = Unit {0}
-
-  pub AllMeetInCases : BlockContext → PlainCases → Type 0
-  AllMeetInCases c no_case = Unit {0}
-  AllMeetInCases c (case value body falls rest) = AllMeet c body × AllMeetInCases c rest
-
-abbrev mutual
-  -- one statement is wrong, or one inside it
-  pub OneIs : BlockContext → StatementError → PlainBlock → Type 0
-  OneIs c r stop = ⊥
-  OneIs c r (next s rest) = IsWrong c r s ⊎ (OneWithin c r s ⊎ OneIs c r rest)
-
-  -- one inside a statement
-  pub OneWithin : BlockContext → StatementError → PlainStatement → Type 0
-  OneWithin c r (emit first end) = ⊥
-  OneWithin c r (block b) = OneIs c r b
-  OneWithin c r (if_ condition accept reject) = OneIs c r accept ⊎ OneIs c r reject
-  OneWithin c r (switch selector cases) = OneIsInCases c r cases
-  OneWithin c r (loop body continuing break_if) = OneIs c r body ⊎ OneIs c r continuing
-  OneWithin c r break = ⊥
-  OneWithin c r continue = ⊥
-  OneWithin c r (return value) = ⊥
-  OneWithin c r kill = ⊥
-  OneWithin c r (operation a) = ⊥
-  OneWithin c r (call function arguments answer) = ⊥
-
-  pub OneIsInCases : BlockContext → StatementError → PlainCases → Type 0
-  OneIsInCases c r no_case = ⊥
-  OneIsInCases c r (case value body falls rest) = OneIs c r body ⊎ OneIsInCases c r rest

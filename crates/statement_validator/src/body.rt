@@ -10,10 +10,11 @@ ghost use Rattle.statement_checks.specs.View.{context_view, IsKnown};
 ghost use Rattle.statement_validator.specs.Faults.{IsBodyRefusal};
 
 use crate::error::StatementError;
-use crate::walk::check_block;
+use crate::rules::Rules;
 use error_functions::FunctionError;
 use ir_faults::refusal::Refusal;
 use ir_faults::with_span::WithSpan;
+use ir_references::check_each;
 use statement_checks::BlockContext;
 use std::alloc::Global;
 
@@ -37,7 +38,8 @@ pub fn validate_statements(
         (λ _. (p : Place) (u : PlainStatement) → StandsAt (context_view context.now).f.body p u → StatementOK (context_view context.now) u)
         (IsBodyRefusal (context_view context.now)) }
 {
-    match check_block(alloc, context, &context.function.body) {
+    let rules = Rules { alloc, context };
+    match check_each(&rules, &context.function.body) {
         Ok(()) => Ok(()),
         Err(StatementError::Memory(error)) => Err(Refusal::Memory(error)),
         Err(StatementError::Fault(error)) => Err(Refusal::Fault(WithSpan::new(alloc, error))),

@@ -5,10 +5,10 @@
 mod body;
 mod error;
 pub mod laws;
+mod rules;
 mod statement;
 pub mod switch_laws;
 mod switches;
-mod walk;
 
 pub use body::validate_statements;
 pub use switches::check_switch;

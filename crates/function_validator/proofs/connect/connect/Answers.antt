@@ -1,10 +1,7 @@
-use Rattle.std.proofs.Common.{◌≡◌, ◌∙◌, ◌<◌, length, Option, Some, None, sym, ap, subst}
-use Rattle.std.specs.Prelude.{◌↔◌, IfSome}
 use Rattle.function_validator.proofs.EntryWhole.{adds_still, blending_is, refused_as, uses_added, unconnected_to}
 use Rattle.function_validator.specs.EntryFaults.{IsUnconnected}
 use Rattle.ir_items.specs.View.{entry_view, module_view}
 use Rattle.spec_analysis.specs.Summaries.{HasUseBit}
-use Rattle.spec_entries.specs.Entries.{ConnectionsOK}
 use Rattle.spec_entries.specs.Uses.{EntryUses}
 use Rattle.spec_varyings.specs.Varyings.{HasBlendSources, result_varyings}
 use Rattle.function_validator.proofs.connect.connect.Goals as goal

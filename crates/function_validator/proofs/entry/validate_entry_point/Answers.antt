@@ -1,6 +1,5 @@
-use Rattle.std.proofs.Common.{◌≡◌, ◌∙◌, ℕ, map, length, sym, ap, subst, true≢false}
+use Rattle.std.proofs.Common.{◌∙◌, ℕ, map, sym, subst, true≢false}
 use Rattle.std.specs.Prelude.{◌↔◌}
-use Rattle.entry_checks.specs.Faults.{IsRefusedFor}
 use Rattle.function_validator.proofs.EntryWhole.{by_stage, by_function, by_payload, by_runs, by_connections, connected, entry_summary, noted_still, refused_as, runs}
 use Rattle.function_validator.specs.EntryFaults.{IsRefusedAs, IsUnconnected}
 use Rattle.function_validator.specs.Validated.{own_settings}

@@ -1,5 +1,6 @@
 use Rattle.std.proofs.Common.{map, refl}
-use Rattle.function_validator.proofs.PartLaws.{refused_as, parts_met, behind_blocks}
+use Rattle.function_interface.proofs.RefusedAs.{refused_as}
+use Rattle.function_validator.proofs.PartLaws.{parts_met, behind_blocks}
 use Rattle.function_validator.specs.Faults.{IsFaultBehind}
 use Rattle.function_validator.specs.Judged.{IsBlocksFault}
 use Rattle.function_validator.specs.Settings.{settings_view}

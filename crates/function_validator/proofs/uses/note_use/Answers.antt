@@ -1,4 +1,4 @@
-use Rattle.std.proofs.Common.{◌≡◌, ◌∙◌, ap, sym}
+use Rattle.std.proofs.Common.{◌∙◌, ap}
 use Rattle.std.specs.Int.Bits.{and_self}
 use Rattle.std.specs.Prelude.{bit_and}
 use Rattle.function_validator.proofs.Noted.{noted_none, noted_one, or_false}

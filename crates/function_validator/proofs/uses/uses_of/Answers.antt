@@ -1,4 +1,4 @@
-use Rattle.std.proofs.Common.{◌≡◌, [], ◌∷◌, ◌++◌, Some, take, slice_get, ap, sym, subst, ◌∙◌}
+use Rattle.std.proofs.Common.{◌≡◌, [], ◌∷◌, ◌++◌, Some, slice_get, ap, sym, subst, ◌∙◌}
 use Rattle.function_validator.proofs.Noted.{one_more_taken}
 use Rattle.function_validator.proofs.uses.uses_of.Goals as goal
 

@@ -1,9 +1,11 @@
-use Rattle.std.proofs.Common.{◌≡◌, ◌∙◌, ◌||◌, false, map, length, refl, sym, ap}
+use Rattle.std.proofs.Common.{◌∙◌, ◌||◌, false, map, length, sym, ap}
 use Rattle.std.proofs.lemmas.List.{length-map}
-use Rattle.function_validator.proofs.PartLaws.{refused_as}
+use Rattle.function_interface.proofs.RefusedAs.{refused_as}
+use Rattle.function_interface.specs.Analysis.{IsFaultBefore}
+use Rattle.function_validator.proofs.PartLaws.{before_function}
 use Rattle.function_validator.proofs.Refuted.{function_refuted}
 use Rattle.function_validator.proofs.Whole.{accepted, stages_noted, joined_noted}
-use Rattle.function_validator.specs.Faults.{IsFaultBehind, IsFunctionFault, in_analysis, behind}
+use Rattle.function_validator.specs.Faults.{IsFaultBehind, IsFunctionFault, behind}
 use Rattle.function_validator.specs.Settings.{settings_view}
 use Rattle.function_interface.specs.Question.{question}
 use Rattle.ir_items.specs.View.{function_view, module_view}
@@ -12,8 +14,8 @@ use Rattle.spec_statements.specs.Functions.{FunctionOK, block_context}
 use Rattle.typing_operands.specs.Answers.{form_given}
 use Rattle.function_validator.proofs.validate.validate_function.Goals as goal
 
-pub returns-in-Err-analyse-clause-refused : goal.returns-in-Err-analyse-clause-refused
-returns-in-Err-analyse-clause-refused g c =
+pub returns-in-Err-clause-refused : goal.returns-in-Err-clause-refused
+returns-in-Err-clause-refused g c =
     let m = module_view c.args.«module».now in
     let f = function_view c.args.function.now in
     let s = settings_view c.args.settings.now in
@@ -24,11 +26,11 @@ returns-in-Err-analyse-clause-refused g c =
     let faults = g.L.Lower.faults c.args.lower.now q in
     refused_as (IsFunctionFault reading faults s m f) (λ e. FunctionOK reading s m f → ⊥)
     (λ e w. function_refuted reading faults s m f e (g.met.L.Lower.one_form c.args.lower.now q) (g.met.L.Lower.fault_refutes c.args.lower.now q) (g.met.L.Lower.expression_refuted c.args.lower.now q) w)
-    c.in-Err-analyse.refusal (refused_as (faults.IsAnalysisFault s.flags) (IsFunctionFault reading faults s m f) (λ e w. in_analysis c.in-Ok.ensures w)
-    c.in-Err-analyse.refusal (c.in-Err-analyse.ensures.fault summaries (λ callee arguments call. refl)))
+    c.in-Err.refusal (refused_as (IsFaultBefore faults s.flags m f) (IsFunctionFault reading faults s m f) (before_function reading faults s m f)
+    c.in-Err.refusal c.in-Err.ensures.fault)
 
-pub returns-in-Err-analyse-clause-fault : goal.returns-in-Err-analyse-clause-fault
-returns-in-Err-analyse-clause-fault g c =
+pub returns-in-Err-clause-fault : goal.returns-in-Err-clause-fault
+returns-in-Err-clause-fault g c =
     let m = module_view c.args.«module».now in
     let f = function_view c.args.function.now in
     let s = settings_view c.args.settings.now in
@@ -37,8 +39,8 @@ returns-in-Err-analyse-clause-fault g c =
     let q = question m f summaries stages in
     let reading = g.L.Lower.reading c.args.lower.now q in
     let faults = g.L.Lower.faults c.args.lower.now q in
-    refused_as (faults.IsAnalysisFault s.flags) (IsFunctionFault reading faults s m f) (λ e w. in_analysis c.in-Ok.ensures w)
-    c.in-Err-analyse.refusal (c.in-Err-analyse.ensures.fault summaries (λ callee arguments call. refl))
+    refused_as (IsFaultBefore faults s.flags m f) (IsFunctionFault reading faults s m f) (before_function reading faults s m f)
+    c.in-Err.refusal c.in-Err.ensures.fault
 
 pub judge-requires-clause-many : goal.judge-requires-clause-many
 judge-requires-clause-many g c =
@@ -50,9 +52,9 @@ judge-requires-clause-many g c =
     let q = question m f summaries stages in
     let reading = g.L.Lower.reading c.args.lower.now q in
     let faults = g.L.Lower.faults c.args.lower.now q in
-    let kept = c.in-Ok-analyse.ensures.kept summaries (λ callee arguments call. refl) in
-    let forms = map (form_given m.types) (g.L.Lower.types c.args.lower.now c.in-Ok-analyse.info) in
-    sym kept.typed.many ∙ length-map (g.L.Lower.types c.args.lower.now c.in-Ok-analyse.info) (form_given m.types)
+    let kept = c.in-Ok.ensures.kept in
+    let forms = map (form_given m.types) (g.L.Lower.types c.args.lower.now c.in-Ok.info) in
+    sym kept.typed.many ∙ length-map (g.L.Lower.types c.args.lower.now c.in-Ok.info) (form_given m.types)
 
 pub returns-in-Ok-judge-clause-accepted : goal.returns-in-Ok-judge-clause-accepted
 returns-in-Ok-judge-clause-accepted g c =
@@ -64,9 +66,9 @@ returns-in-Ok-judge-clause-accepted g c =
     let q = question m f summaries stages in
     let reading = g.L.Lower.reading c.args.lower.now q in
     let faults = g.L.Lower.faults c.args.lower.now q in
-    let kept = c.in-Ok-analyse.ensures.kept summaries (λ callee arguments call. refl) in
-    let forms = map (form_given m.types) (g.L.Lower.types c.args.lower.now c.in-Ok-analyse.info) in
-    accepted reading s m f forms stages c.in-Ok-judge.met.stages c.in-Ok-judge.met.held c.in-Ok.ensures kept.analysed kept.typed c.in-Ok-judge.ensures
+    let kept = c.in-Ok.ensures.kept in
+    let forms = map (form_given m.types) (g.L.Lower.types c.args.lower.now c.in-Ok.info) in
+    accepted reading s m f forms stages c.in-Ok-judge.met.stages c.in-Ok-judge.met.held c.in-Ok.ensures.arities kept.analysed kept.typed c.in-Ok-judge.ensures
 
 pub returns-in-Ok-judge-clause-stages : goal.returns-in-Ok-judge-clause-stages
 returns-in-Ok-judge-clause-stages g c =
@@ -78,9 +80,9 @@ returns-in-Ok-judge-clause-stages g c =
     let q = question m f summaries stages in
     let reading = g.L.Lower.reading c.args.lower.now q in
     let faults = g.L.Lower.faults c.args.lower.now q in
-    let kept = c.in-Ok-analyse.ensures.kept summaries (λ callee arguments call. refl) in
-    let forms = map (form_given m.types) (g.L.Lower.types c.args.lower.now c.in-Ok-analyse.info) in
-    stages_noted reading s (block_context s m f forms) stages c.in-Ok-judge.met.stages c.in-Ok-judge.met.held (g.L.Lower.noted c.args.lower.now c.in-Ok-analyse.info) (g.L.Lower.noted c.args.lower.now c.noted.result.info)
+    let kept = c.in-Ok.ensures.kept in
+    let forms = map (form_given m.types) (g.L.Lower.types c.args.lower.now c.in-Ok.info) in
+    stages_noted reading s (block_context s m f forms) stages c.in-Ok-judge.met.stages c.in-Ok-judge.met.held (g.L.Lower.noted c.args.lower.now c.in-Ok.info) (g.L.Lower.noted c.args.lower.now c.noted.result.info)
     kept.all_run c.noted.ensures.stages c.in-Ok-judge.ensures
 
 pub returns-in-Ok-judge-clause-joined : goal.returns-in-Ok-judge-clause-joined
@@ -93,9 +95,9 @@ returns-in-Ok-judge-clause-joined g c =
     let q = question m f summaries stages in
     let reading = g.L.Lower.reading c.args.lower.now q in
     let faults = g.L.Lower.faults c.args.lower.now q in
-    let kept = c.in-Ok-analyse.ensures.kept summaries (λ callee arguments call. refl) in
-    let forms = map (form_given m.types) (g.L.Lower.types c.args.lower.now c.in-Ok-analyse.info) in
-    joined_noted (length m.globals) f summaries (g.L.Lower.summary c.args.lower.now c.in-Ok-analyse.info) (g.L.Lower.summary c.args.lower.now c.noted.result.info)
+    let kept = c.in-Ok.ensures.kept in
+    let forms = map (form_given m.types) (g.L.Lower.types c.args.lower.now c.in-Ok.info) in
+    joined_noted (length m.globals) f summaries (g.L.Lower.summary c.args.lower.now c.in-Ok.info) (g.L.Lower.summary c.args.lower.now c.noted.result.info)
     c.noted.ensures.uses c.noted.ensures.pairs c.noted.ensures.may_kill kept.joined
 
 pub returns-in-Ok-judge-clause-chains : goal.returns-in-Ok-judge-clause-chains
@@ -108,10 +110,10 @@ returns-in-Ok-judge-clause-chains g c =
     let q = question m f summaries stages in
     let reading = g.L.Lower.reading c.args.lower.now q in
     let faults = g.L.Lower.faults c.args.lower.now q in
-    let kept = c.in-Ok-analyse.ensures.kept summaries (λ callee arguments call. refl) in
-    let forms = map (form_given m.types) (g.L.Lower.types c.args.lower.now c.in-Ok-analyse.info) in
+    let kept = c.in-Ok.ensures.kept in
+    let forms = map (form_given m.types) (g.L.Lower.types c.args.lower.now c.in-Ok.info) in
     λ known. summary_of_joined m f summaries known (g.L.Lower.summary c.args.lower.now c.noted.result.info)
-    (joined_noted (length m.globals) f summaries (g.L.Lower.summary c.args.lower.now c.in-Ok-analyse.info) (g.L.Lower.summary c.args.lower.now c.noted.result.info)
+    (joined_noted (length m.globals) f summaries (g.L.Lower.summary c.args.lower.now c.in-Ok.info) (g.L.Lower.summary c.args.lower.now c.noted.result.info)
     c.noted.ensures.uses c.noted.ensures.pairs c.noted.ensures.may_kill kept.joined)
 
 pub returns-in-Err-judge-clause-refused : goal.returns-in-Err-judge-clause-refused
@@ -124,12 +126,12 @@ returns-in-Err-judge-clause-refused g c =
     let q = question m f summaries stages in
     let reading = g.L.Lower.reading c.args.lower.now q in
     let faults = g.L.Lower.faults c.args.lower.now q in
-    let kept = c.in-Ok-analyse.ensures.kept summaries (λ callee arguments call. refl) in
-    let forms = map (form_given m.types) (g.L.Lower.types c.args.lower.now c.in-Ok-analyse.info) in
+    let kept = c.in-Ok.ensures.kept in
+    let forms = map (form_given m.types) (g.L.Lower.types c.args.lower.now c.in-Ok.info) in
     refused_as (IsFunctionFault reading faults s m f) (λ e. FunctionOK reading s m f → ⊥)
     (λ e w. function_refuted reading faults s m f e (g.met.L.Lower.one_form c.args.lower.now q) (g.met.L.Lower.fault_refutes c.args.lower.now q) (g.met.L.Lower.expression_refuted c.args.lower.now q) w)
     c.in-Err-judge.refusal (refused_as (IsFaultBehind reading faults s (block_context s m f forms)) (IsFunctionFault reading faults s m f)
-    (λ e w. behind c.in-Ok.ensures kept.analysed forms kept.typed w) c.in-Err-judge.refusal c.in-Err-judge.ensures)
+    (λ e w. behind c.in-Ok.ensures.arities kept.analysed forms kept.typed w) c.in-Err-judge.refusal c.in-Err-judge.ensures)
 
 pub returns-in-Err-judge-clause-fault : goal.returns-in-Err-judge-clause-fault
 returns-in-Err-judge-clause-fault g c =
@@ -141,19 +143,19 @@ returns-in-Err-judge-clause-fault g c =
     let q = question m f summaries stages in
     let reading = g.L.Lower.reading c.args.lower.now q in
     let faults = g.L.Lower.faults c.args.lower.now q in
-    let kept = c.in-Ok-analyse.ensures.kept summaries (λ callee arguments call. refl) in
-    let forms = map (form_given m.types) (g.L.Lower.types c.args.lower.now c.in-Ok-analyse.info) in
+    let kept = c.in-Ok.ensures.kept in
+    let forms = map (form_given m.types) (g.L.Lower.types c.args.lower.now c.in-Ok.info) in
     refused_as (IsFaultBehind reading faults s (block_context s m f forms)) (IsFunctionFault reading faults s m f)
-    (λ e w. behind c.in-Ok.ensures kept.analysed forms kept.typed w) c.in-Err-judge.refusal c.in-Err-judge.ensures
+    (λ e w. behind c.in-Ok.ensures.arities kept.analysed forms kept.typed w) c.in-Err-judge.refusal c.in-Err-judge.ensures
 
 pub returns-in-Ok-judge-clause-globals : goal.returns-in-Ok-judge-clause-globals
 returns-in-Ok-judge-clause-globals g c =
     let summaries = map (g.L.Lower.summary c.args.lower.now) c.args.callees.now in
-    let kept = c.in-Ok-analyse.ensures.kept summaries (λ callee arguments call. refl) in
+    let kept = c.in-Ok.ensures.kept in
     c.noted.ensures.globals ∙ kept.globals
 
 pub returns-in-Ok-judge-clause-unblended : goal.returns-in-Ok-judge-clause-unblended
 returns-in-Ok-judge-clause-unblended g c =
     let summaries = map (g.L.Lower.summary c.args.lower.now) c.args.callees.now in
-    let kept = c.in-Ok-analyse.ensures.kept summaries (λ callee arguments call. refl) in
+    let kept = c.in-Ok.ensures.kept in
     c.noted.ensures.blending ∙ ap (λ b. b || false) kept.unblended

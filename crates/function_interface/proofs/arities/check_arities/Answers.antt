@@ -1,6 +1,6 @@
 use Rattle.ir_items.specs.View.{function_view, module_view}
-use Rattle.function_validator.proofs.ArityLaws.{never_missing}
-use Rattle.function_validator.proofs.arities.check_arities.Goals as goal
+use Rattle.function_interface.proofs.ArityLaws.{never_missing}
+use Rattle.function_interface.proofs.arities.check_arities.Goals as goal
 
 pub returns-in-None : goal.returns-in-None
 returns-in-None c = c.in-None.ensures

@@ -1,7 +1,7 @@
 //! Whether calls pass as many arguments as their functions have.
 
 ghost use Rattle.std.specs.Prelude.{MatchResult};
-ghost use Rattle.function_validator.specs.Arities.{IsArityFault};
+ghost use Rattle.function_interface.specs.Arities.{IsArityFault};
 ghost use Rattle.ir_items.specs.View.{function_view, module_view};
 ghost use Rattle.spec_handles.specs.Conditions.{AritiesMatch, HandlesInRange};
 

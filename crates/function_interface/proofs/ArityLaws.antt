@@ -1,5 +1,5 @@
 -- Calls that pass another number of arguments, where the functions called are there.
-use Rattle.std.proofs.Common.{◌≡◌, ℕ, length, Option, Some, None, refl, sym, ap, ◌∙◌}
+use Rattle.std.proofs.Common.{◌≡◌, length, Some, None, refl, sym, ap, ◌∙◌}
 use Rattle.spec_analysis.proofs.Members.{get-within}
 use Rattle.ir_items.specs.Plain.{PlainFunction, PlainModule}
 use Rattle.spec_handles.specs.Conditions.{HandlesInRange}

@@ -1,0 +1,53 @@
+//! The analysis of a function whose calls pass as many arguments as the functions called have.
+
+ghost use Rattle.std.specs.Prelude.{IfErr, IfOk, OnOk, map};
+ghost use Rattle.function_interface.specs.Analysis.{IsFaultBefore, IsKept, IsRefusedFor};
+ghost use Rattle.function_interface.specs.Question.{question};
+ghost use Rattle.ir_items.specs.View.{function_view, module_view};
+ghost use Rattle.ir_walks.specs.Filters.{ParentsPrecede};
+ghost use Rattle.spec_handles.specs.Conditions.{AritiesMatch, HandlesInRange, OperandsPrecede};
+
+use crate::arities::check_arities;
+use crate::lower::Lower;
+use error_functions::FunctionError;
+use ir_faults::refusal::Refusal;
+use ir_faults::with_span::WithSpan;
+use ir_flags::ValidationFlags;
+use ir_items::{Function, Module};
+use std::alloc::Global;
+
+/// What the layer keeps of a function, once the arity of its calls was asked, under any flags. `callees` has what was kept of
+/// the functions before it, where stages and uses may have been noted since. Asks that the layer was made for the module, and
+/// that the handles of the function are in order.
+///
+/// # Errors
+///
+/// [`Refusal::Fault`] with [`FunctionError::InvalidCall`] for a call that passes another number of arguments, and where there is
+/// none with a fault of the analysis. [`Refusal::Memory`] where memory ran out.
+pub fn analyse_function<L: Lower>(
+    lower: &L,
+    alloc: Global,
+    module: &Module,
+    function: &Function,
+    callees: &[L::Info],
+    flags: ValidationFlags,
+) -> Result<L::Info, Refusal<FunctionError>>
+    requires made { L.is_for lower.now (module_view «module».now) }
+    requires handles { HandlesInRange (module_view «module».now) (function_view function.now) }
+    requires precede { OperandsPrecede (function_view function.now).expressions }
+    requires parents { ParentsPrecede (module_view «module».now).filters }
+    ensures arities { OnOk result (AritiesMatch (module_view «module».now) (function_view function.now)) }
+    ensures kept { let q = question (module_view «module».now) (function_view function.now) (map (L.summary lower.now) callees.now) (map (L.noted lower.now) callees.now) in
+        IfOk result (λ info. IsKept (L.reading lower.now q) flags q (L.types lower.now info) (L.summary lower.now info) (L.noted lower.now info) (L.blending lower.now info)) }
+    ensures fault { let q = question (module_view «module».now) (function_view function.now) (map (L.summary lower.now) callees.now) (map (L.noted lower.now) callees.now) in
+        IfErr result (IsRefusedFor (IsFaultBefore (L.faults lower.now q) flags q.m q.f)) }
+{
+    match check_arities(module, function) {
+        Ok(()) => {}
+        Err(error) => return Err(Refusal::Fault(WithSpan::new(alloc, error))),
+    }
+    match lower.analyse(alloc, module, function, callees, flags) {
+        Ok(info) => Ok(info),
+        Err(refusal) => Err(refusal),
+    }
+}
