@@ -11,7 +11,6 @@ ghost use Rattle.spec_statements.specs.Atomics.{atomic_of, changed_scalar, IsSto
 ghost use Rattle.spec_statements.specs.BlockContext.{form_at};
 ghost use Rattle.spec_statements.specs.StorageImages.{IsExtremum};
 ghost use Rattle.spec_statements.specs.Stores.{pointer_space};
-ghost use Rattle.statement_checks.specs.View.{context_view};
 ghost use Rattle.typing_forms.specs.Resolutions.{inner_at};
 
 use bitflags::Flags;
@@ -22,7 +21,7 @@ use ir_blocks::AtomicFunction;
 use ir_flags::Capabilities;
 use ir_kinds::{AddressSpace, Scalar};
 use ir_types::{Expression, TypeInner, key};
-use statement_checks::{BlockContext, are_same, pointer_space};
+use statement_checks::{StatementContext, are_same, pointer_space};
 use typing_forms::Form;
 
 // ---- what is changed
@@ -57,8 +56,8 @@ const fn atomic_of(inner: &TypeInner) -> Option<Scalar>
 }
 
 // The same of a type of the module.
-fn atomic_at(context: &BlockContext<'_>, ty: Handle<key::IrType>) -> Option<Scalar>
-    ensures { result ≡ atomic_of (inner_at (context_view context.now).m.types ty) }
+fn atomic_at<C: StatementContext>(context: &C, ty: Handle<key::IrType>) -> Option<Scalar>
+    ensures { result ≡ atomic_of (inner_at (C.seen context.now).m.types ty) }
 {
     match context.inner_of(ty) {
         Some(inner) => atomic_of(inner),
@@ -67,8 +66,8 @@ fn atomic_at(context: &BlockContext<'_>, ty: Handle<key::IrType>) -> Option<Scal
 }
 
 // The atomic that a pointer leads to.
-fn changed_by(context: &BlockContext<'_>, pointer: &Form) -> Option<Changed>
-    ensures scalar { option_map (λ x. x.scalar) result ≡ changed_scalar (context_view context.now).m.types pointer.now }
+fn changed_by<C: StatementContext>(context: &C, pointer: &Form) -> Option<Changed>
+    ensures scalar { option_map (λ x. x.scalar) result ≡ changed_scalar (C.seen context.now).m.types pointer.now }
     ensures space { IfSome result (λ x. pointer_space pointer.now ≡ Some x.space) }
 {
     match *pointer {
@@ -94,8 +93,8 @@ fn changed_by(context: &BlockContext<'_>, pointer: &Form) -> Option<Changed>
 }
 
 /// The scalar of the atomic that a pointer leads to.
-pub(crate) fn changed_scalar(context: &BlockContext<'_>, pointer: &Form) -> Option<Scalar>
-    ensures { result ≡ changed_scalar (context_view context.now).m.types pointer.now }
+pub(crate) fn changed_scalar<C: StatementContext>(context: &C, pointer: &Form) -> Option<Scalar>
+    ensures { result ≡ changed_scalar (C.seen context.now).m.types pointer.now }
 {
     match changed_by(context, pointer) {
         Some(changed) => Some(changed.scalar),
@@ -288,11 +287,11 @@ fn declared_answer(expression: &Expression) -> Option<DeclaredAnswer>
 }
 
 // The same of the expression at a handle.
-fn declared_at(
-    context: &BlockContext<'_>,
+fn declared_at<C: StatementContext>(
+    context: &C,
     handle: Handle<key::Expression>,
 ) -> Option<DeclaredAnswer>
-    ensures { option_map answer_view result ≡ option_and_then declared_answer (slice_get (context_view context.now).f.expressions handle) }
+    ensures { option_map answer_view result ≡ option_and_then declared_answer (slice_get (C.seen context.now).f.expressions handle) }
 {
     match context.expression_at(handle) {
         Some(expression) => declared_answer(expression),
@@ -301,27 +300,26 @@ fn declared_at(
 }
 
 // Whether what an exchange that compares answers has this scalar.
-#[tactic(auto, using(expression_checks::proofs::OldValues::by_test, expression_checks::proofs::OldValues::by_none))]
-fn is_exchange_of(context: &BlockContext<'_>, ty: Handle<key::IrType>, scalar: Scalar) -> bool
+fn is_exchange_of<C: StatementContext>(context: &C, ty: Handle<key::IrType>, scalar: Scalar) -> bool
     ensures { IsTrue result
-        ↔ IsExchangeOf (λ old. old ≡ Form.Scalar scalar) (context_view context.now).m.types (inner_at (context_view context.now).m.types ty) }
+        ↔ IsExchangeOf (λ old. old ≡ Form.Scalar scalar) (C.seen context.now).m.types (inner_at (C.seen context.now).m.types ty) }
 {
-    match exchanged_value(&context.module.types, ty) {
+    match exchanged_value(context.types(), ty) {
         Some(old) => are_same(old, Form::Scalar(scalar)),
         None => false,
     }
 }
 
 // Whether the answer is the scalar that was there.
-fn check_plain(
-    context: &BlockContext<'_>,
+fn check_plain<C: StatementContext>(
+    context: &C,
     scalar: Scalar,
     answer: Handle<key::Expression>,
     declared: &DeclaredAnswer,
 ) -> Result<(), AtomicError>
     ensures { MatchResult result
-        (λ _. AnswerOK (context_view context.now) scalar None (answer_view declared.now))
-        (IsPlainFault (context_view context.now) scalar answer (answer_view declared.now)) }
+        (λ _. AnswerOK (C.seen context.now) scalar None (answer_view declared.now))
+        (IsPlainFault (C.seen context.now) scalar answer (answer_view declared.now)) }
 {
     if !are_same(context.form_of(declared.ty), Form::Scalar(scalar)) {
         return Err(AtomicError::ResultTypeMismatch(answer));
@@ -333,16 +331,16 @@ fn check_plain(
 }
 
 // Whether the answer is the scalar that was there, and whether it was replaced.
-fn check_exchange(
-    context: &BlockContext<'_>,
+fn check_exchange<C: StatementContext>(
+    context: &C,
     scalar: Scalar,
     compare: Handle<key::Expression>,
     answer: Handle<key::Expression>,
     declared: &DeclaredAnswer,
 ) -> Result<(), AtomicError>
     ensures { MatchResult result
-        (λ _. AnswerOK (context_view context.now) scalar (Some compare) (answer_view declared.now))
-        (IsExchangeFault (context_view context.now) scalar compare answer (answer_view declared.now)) }
+        (λ _. AnswerOK (C.seen context.now) scalar (Some compare) (answer_view declared.now))
+        (IsExchangeFault (C.seen context.now) scalar compare answer (answer_view declared.now)) }
 {
     if !are_same(context.form_at(compare), Form::Scalar(scalar)) {
         return Err(AtomicError::InvalidOperand(compare));
@@ -392,15 +390,15 @@ const fn may_be_unanswered(fun: &AtomicFunction) -> bool
 }
 
 // Whether an expression is the answer of this.
-fn check_result(
-    context: &BlockContext<'_>,
+fn check_result<C: StatementContext>(
+    context: &C,
     scalar: Scalar,
     fun: &AtomicFunction,
     answer: Handle<key::Expression>,
 ) -> Result<(), AtomicError>
     ensures { MatchResult result
-        (λ _. AtomicResultOK (context_view context.now) scalar fun.now (Some answer))
-        (IsAnswerFault (context_view context.now) scalar fun.now (Some answer)) }
+        (λ _. AtomicResultOK (C.seen context.now) scalar fun.now (Some answer))
+        (IsAnswerFault (C.seen context.now) scalar fun.now (Some answer)) }
 {
     match declared_at(context, answer) {
         None => Err(AtomicError::InvalidResultExpression(answer)),
@@ -418,15 +416,15 @@ fn check_result(
 }
 
 // Whether this is answered so.
-fn check_answer(
-    context: &BlockContext<'_>,
+fn check_answer<C: StatementContext>(
+    context: &C,
     scalar: Scalar,
     fun: &AtomicFunction,
     answer: &Option<Handle<key::Expression>>,
 ) -> Result<(), AtomicError>
     ensures { MatchResult result
-        (λ _. AtomicResultOK (context_view context.now) scalar fun.now answer.now)
-        (IsAnswerFault (context_view context.now) scalar fun.now answer.now) }
+        (λ _. AtomicResultOK (C.seen context.now) scalar fun.now answer.now)
+        (IsAnswerFault (C.seen context.now) scalar fun.now answer.now) }
 {
     match *answer {
         Some(answer) => check_result(context, scalar, fun, answer),
@@ -443,24 +441,24 @@ fn check_answer(
 // ---- the whole
 
 // Whether the scalar of an atomic is changed by a value.
-fn check_change(
-    context: &BlockContext<'_>,
+fn check_change<C: StatementContext>(
+    context: &C,
     pointer: Handle<key::Expression>,
     changed: Changed,
     fun: &AtomicFunction,
     value: Handle<key::Expression>,
     answer: &Option<Handle<key::Expression>>,
 ) -> Result<(), AtomicError>
-    requires { pointer_space (form_at (context_view context.now) pointer) ≡ Some changed.space }
+    requires { pointer_space (form_at (C.seen context.now) pointer) ≡ Some changed.space }
     ensures { MatchResult result
-        (λ _. IsChangedAtOnce (context_view context.now) pointer fun.now value answer.now changed.scalar)
-        (IsChangeFault (context_view context.now) pointer fun.now value answer.now changed.scalar) }
+        (λ _. IsChangedAtOnce (C.seen context.now) pointer fun.now value answer.now changed.scalar)
+        (IsChangeFault (C.seen context.now) pointer fun.now value answer.now changed.scalar) }
 {
     if !are_same(context.form_at(value), Form::Scalar(changed.scalar)) {
         return Err(AtomicError::InvalidOperand(value));
     }
     let place = context.form_at(pointer);
-    match check_scalar(context.capabilities, &place, changed, fun, answer) {
+    match check_scalar(context.capabilities(), &place, changed, fun, answer) {
         Err(error) => Err(error),
         Ok(()) => match check_answer(context, changed.scalar, fun, answer) {
             Ok(()) => Ok(()),
@@ -475,16 +473,16 @@ fn check_change(
 /// # Errors
 ///
 /// [`FunctionError::InvalidAtomic`] with what of this is not so.
-pub fn check_atomic(
-    context: &BlockContext<'_>,
+pub fn check_atomic<C: StatementContext>(
+    context: &C,
     pointer: Handle<key::Expression>,
     fun: AtomicFunction,
     value: Handle<key::Expression>,
     answer: Option<Handle<key::Expression>>,
 ) -> Result<(), FunctionError>
     ensures { MatchResult result
-        (λ _. AtomicStatementOK (context_view context.now) pointer fun value answer)
-        (IsAtomicFault (context_view context.now) pointer fun value answer) }
+        (λ _. AtomicStatementOK (C.seen context.now) pointer fun value answer)
+        (IsAtomicFault (C.seen context.now) pointer fun value answer) }
 {
     let place = context.form_at(pointer);
     match changed_by(context, &place) {

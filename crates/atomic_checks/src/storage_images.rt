@@ -9,7 +9,6 @@ ghost use Rattle.spec_statements.specs.ImageLoads.{IsTexel};
 ghost use Rattle.spec_statements.specs.Shapes.{picture_of};
 ghost use Rattle.spec_statements.specs.BlockContext.{form_at};
 ghost use Rattle.spec_statements.specs.StorageImages.{resource_of, written_image, picture_in, changed_image, IsTexelOf, ImageStoreOK, IsDoneAtTexels, FormatAllows, IsChangedBy, IsChanged, ImageAtomicOK};
-ghost use Rattle.statement_checks.specs.View.{context_view};
 ghost use Rattle.typing_forms.specs.Forms.{form_of_type};
 ghost use Rattle.typing_forms.specs.Resolutions.{inner_at};
 
@@ -26,7 +25,7 @@ use ir_kinds::{AddressSpace, ImageClass, ImageDimension, Scalar, StorageFormat, 
 use ir_types::{TypeInner, key};
 use spec_statements::Picture;
 use statement_checks::{
-    BlockContext, accessed_at, are_same, is_integer_scalar, named_at, picture_of, variable_at,
+    StatementContext, accessed_at, are_same, is_integer_scalar, named_at, picture_of, variable_at,
 };
 use std::alloc::{AllocError, Global};
 use typing_forms::Form;
@@ -57,13 +56,13 @@ const fn resource_of(of: Form) -> Option<Handle<key::IrType>>
 }
 
 // The image of which the elements of a type are.
-fn written_element(
-    context: &BlockContext<'_>,
+fn written_element<C: StatementContext>(
+    context: &C,
     ty: Handle<key::IrType>,
 ) -> Result<Picture, ExpressionError>
     ensures { MatchResult result
-        (λ picture. option_and_then (λ r. picture_of (form_of_type (context_view context.now).m.types r)) (resource_of (form_of_type (context_view context.now).m.types ty)) ≡ Some picture)
-        (IsElementFault (context_view context.now).m.types ty) }
+        (λ picture. option_and_then (λ r. picture_of (form_of_type (C.seen context.now).m.types r)) (resource_of (form_of_type (C.seen context.now).m.types ty)) ≡ Some picture)
+        (IsElementFault (C.seen context.now).m.types ty) }
 {
     match resource_of(context.form_of(ty)) {
         None => Err(ExpressionError::ExpectedBindingArrayType(ty)),
@@ -75,13 +74,13 @@ fn written_element(
 }
 
 // The image that is written: a global variable, or an element of an array of images.
-fn written_image(
-    context: &BlockContext<'_>,
+fn written_image<C: StatementContext>(
+    context: &C,
     image: Handle<key::Expression>,
 ) -> Result<Picture, ExpressionError>
     ensures { MatchResult result
-        (λ picture. written_image (context_view context.now).m (context_view context.now).f image ≡ Some picture)
-        (IsWrittenImageFault (context_view context.now) image) }
+        (λ picture. written_image (C.seen context.now).m (C.seen context.now).f image ≡ Some picture)
+        (IsWrittenImageFault (C.seen context.now) image) }
 {
     match variable_at(context, image) {
         Some(variable) => match picture_of(context.form_of(variable.ty)) {
@@ -99,8 +98,8 @@ fn written_image(
 }
 
 // The image that a type is, or an array of such.
-fn picture_in(context: &BlockContext<'_>, ty: Handle<key::IrType>) -> Option<Picture>
-    ensures { result ≡ picture_in (context_view context.now).m.types (form_of_type (context_view context.now).m.types ty) (resource_of (form_of_type (context_view context.now).m.types ty)) }
+fn picture_in<C: StatementContext>(context: &C, ty: Handle<key::IrType>) -> Option<Picture>
+    ensures { result ≡ picture_in (C.seen context.now).m.types (form_of_type (C.seen context.now).m.types ty) (resource_of (form_of_type (C.seen context.now).m.types ty)) }
 {
     match resource_of(context.form_of(ty)) {
         Some(resource) => picture_of(context.form_of(resource)),
@@ -109,13 +108,13 @@ fn picture_in(context: &BlockContext<'_>, ty: Handle<key::IrType>) -> Option<Pic
 }
 
 // The image whose texels are changed at once.
-fn changed_image(
-    context: &BlockContext<'_>,
+fn changed_image<C: StatementContext>(
+    context: &C,
     image: Handle<key::Expression>,
 ) -> Result<Picture, ExpressionError>
     ensures { MatchResult result
-        (λ picture. changed_image (context_view context.now).m (context_view context.now).f image ≡ Some picture)
-        (IsChangedImageFault (context_view context.now) image) }
+        (λ picture. changed_image (C.seen context.now).m (C.seen context.now).f image ≡ Some picture)
+        (IsChangedImageFault (C.seen context.now) image) }
 {
     match named_at(context, image) {
         Some(variable) => match picture_in(context, variable.ty) {
@@ -129,16 +128,16 @@ fn changed_image(
 // ---- the texel
 
 // Whether a texel with a number each way has a layer exactly where the image has several.
-fn check_layer(
-    context: &BlockContext<'_>,
+fn check_layer<C: StatementContext>(
+    context: &C,
     picture: &Picture,
     coordinate: Handle<key::Expression>,
     array_index: &Option<Handle<key::Expression>>,
 ) -> Result<(), ExpressionError>
-    requires { IsTexel picture.now.dim (form_at (context_view context.now) coordinate) }
+    requires { IsTexel picture.now.dim (form_at (C.seen context.now) coordinate) }
     ensures { MatchResult result
-        (λ _. IsTexelOf (context_view context.now) picture.now coordinate array_index.now)
-        (IsTexelFault (context_view context.now) picture.now coordinate array_index.now) }
+        (λ _. IsTexelOf (C.seen context.now) picture.now coordinate array_index.now)
+        (IsTexelFault (C.seen context.now) picture.now coordinate array_index.now) }
 {
     match *array_index {
         Some(layer) => {
@@ -160,15 +159,15 @@ fn check_layer(
 }
 
 // Whether an image has a texel there.
-fn check_texel(
-    context: &BlockContext<'_>,
+fn check_texel<C: StatementContext>(
+    context: &C,
     picture: &Picture,
     coordinate: Handle<key::Expression>,
     array_index: &Option<Handle<key::Expression>>,
 ) -> Result<(), ExpressionError>
     ensures { MatchResult result
-        (λ _. IsTexelOf (context_view context.now) picture.now coordinate array_index.now)
-        (IsTexelFault (context_view context.now) picture.now coordinate array_index.now) }
+        (λ _. IsTexelOf (C.seen context.now) picture.now coordinate array_index.now)
+        (IsTexelFault (C.seen context.now) picture.now coordinate array_index.now) }
 {
     let place = context.form_at(coordinate);
     if !is_texel(picture.dim, &place) {
@@ -191,16 +190,16 @@ const fn format_of(class: ImageClass) -> Option<StorageFormat>
 
 // Whether a texel is written where an image has one. The answer is the image's format, where the value is no texel of it.
 #[tactic(auto, using(crate::proofs::Formats::texel_written))]
-fn check_written(
-    context: &BlockContext<'_>,
+fn check_written<C: StatementContext>(
+    context: &C,
     image: Handle<key::Expression>,
     coordinate: Handle<key::Expression>,
     array_index: &Option<Handle<key::Expression>>,
     value: Handle<key::Expression>,
 ) -> Result<Option<StorageFormat>, ExpressionError>
     ensures { MatchResult result
-        (λ other. MatchOption other (ImageStoreOK (context_view context.now) image coordinate array_index.now value) (IsMisfit (context_view context.now) image value))
-        (IsPlaceFault (context_view context.now) image coordinate array_index.now) }
+        (λ other. MatchOption other (ImageStoreOK (C.seen context.now) image coordinate array_index.now value) (IsMisfit (C.seen context.now) image value))
+        (IsPlaceFault (C.seen context.now) image coordinate array_index.now) }
 {
     match written_image(context, image) {
         Err(error) => Err(error),
@@ -294,12 +293,12 @@ const fn image_inner(dim: ImageDimension, arrayed: bool, class: ImageClass) -> T
 }
 
 // What the type at a handle is made of, in memory of its own.
-fn copied_inner(
+fn copied_inner<C: StatementContext>(
     alloc: Global,
-    context: &BlockContext<'_>,
+    context: &C,
     ty: Handle<key::IrType>,
 ) -> Result<Option<TypeInner>, AllocError>
-    ensures { IfOk result (λ found. option_map inner_view found ≡ inner_at (context_view context.now).m.types ty) }
+    ensures { IfOk result (λ found. option_map inner_view found ≡ inner_at (C.seen context.now).m.types ty) }
 {
     match context.inner_of(ty) {
         Some(inner) => match inner.clone(alloc) {
@@ -311,12 +310,12 @@ fn copied_inner(
 }
 
 // What a type is made of, in memory of its own, if it is one.
-fn inner_of_form(
+fn inner_of_form<C: StatementContext>(
     alloc: Global,
-    context: &BlockContext<'_>,
+    context: &C,
     of: &Form,
 ) -> Result<Option<TypeInner>, AllocError>
-    ensures { IfOk result (λ found. option_map inner_view found ≡ inner_of_form (context_view context.now).m.types of.now) }
+    ensures { IfOk result (λ found. option_map inner_view found ≡ inner_of_form (C.seen context.now).m.types of.now) }
 {
     match *of {
         Form::Struct(handle) => copied_inner(alloc, context, handle),
@@ -347,13 +346,13 @@ fn inner_of_form(
 }
 
 // That a value is no texel of a format.
-fn value_error(
+fn value_error<C: StatementContext>(
     alloc: Global,
-    context: &BlockContext<'_>,
+    context: &C,
     value: Handle<key::Expression>,
     format: StorageFormat,
 ) -> Result<FunctionError, AllocError>
-    ensures { IfOk result (IsValueFault (context_view context.now) value format) }
+    ensures { IfOk result (IsValueFault (C.seen context.now) value format) }
 {
     let of = context.form_at(value);
     match inner_of_form(alloc, context, &of) {
@@ -380,17 +379,17 @@ fn value_error(
 /// one that has no type is refused as [`ExpressionError::Other`]. [`Refusal::Memory`] where there is none to tell of what type
 /// the value is.
 #[tactic(auto, using(crate::proofs::Refusals::refused_by))]
-pub fn check_image_store(
+pub fn check_image_store<C: StatementContext>(
     alloc: Global,
-    context: &BlockContext<'_>,
+    context: &C,
     image: Handle<key::Expression>,
     coordinate: Handle<key::Expression>,
     array_index: Option<Handle<key::Expression>>,
     value: Handle<key::Expression>,
 ) -> Result<(), Refusal<FunctionError>>
     ensures { MatchResult result
-        (λ _. ImageStoreOK (context_view context.now) image coordinate array_index value)
-        (IsImageStoreRefusal (context_view context.now) image coordinate array_index value) }
+        (λ _. ImageStoreOK (C.seen context.now) image coordinate array_index value)
+        (IsImageStoreRefusal (C.seen context.now) image coordinate array_index value) }
 {
     match check_written(context, image, coordinate, &array_index, value) {
         Ok(None) => Ok(()),
@@ -508,23 +507,23 @@ fn check_format(
 }
 
 // Whether texels of a storage image may be changed so by a value.
-fn check_storage(
-    context: &BlockContext<'_>,
+fn check_storage<C: StatementContext>(
+    context: &C,
     format: StorageFormat,
     access: StorageAccess,
     fun: &AtomicFunction,
     value: Handle<key::Expression>,
 ) -> Result<(), FunctionError>
     ensures { MatchResult result
-        (λ _. IsChangedBy (context_view context.now).capabilities format access fun.now (form_at (context_view context.now) value))
-        (IsStorageFault (context_view context.now) format access fun.now value) }
+        (λ _. IsChangedBy (C.seen context.now).capabilities format access fun.now (form_at (C.seen context.now) value))
+        (IsStorageFault (C.seen context.now) format access fun.now value) }
 {
     if !access.contains(StorageAccess::ATOMIC) {
         return Err(FunctionError::InvalidImageAtomic(ExpressionError::InvalidImageStorageAccess(
             access,
         )));
     }
-    match check_format(context.capabilities, format, fun) {
+    match check_format(context.capabilities(), format, fun) {
         Err(error) => Err(error),
         Ok(()) => {
             if are_same(context.form_at(value), Form::Scalar(Scalar::from(format))) {
@@ -537,15 +536,15 @@ fn check_storage(
 }
 
 // Whether texels of an image of a class may be changed so by a value.
-fn check_changed(
-    context: &BlockContext<'_>,
+fn check_changed<C: StatementContext>(
+    context: &C,
     class: ImageClass,
     fun: &AtomicFunction,
     value: Handle<key::Expression>,
 ) -> Result<(), FunctionError>
     ensures { MatchResult result
-        (λ _. IsChanged (context_view context.now).capabilities class fun.now (form_at (context_view context.now) value))
-        (IsChangeFault (context_view context.now) class fun.now value) }
+        (λ _. IsChanged (C.seen context.now).capabilities class fun.now (form_at (C.seen context.now) value))
+        (IsChangeFault (C.seen context.now) class fun.now value) }
 {
     match class {
         ImageClass::Storage { format, access } => {
@@ -565,8 +564,8 @@ fn check_changed(
 /// [`FunctionError::InvalidImageAtomic`] where no image may be changed at once so: it is no global variable, no image, has no such
 /// texel, or is of another class, format or access. [`FunctionError::MissingCapability`],
 /// [`FunctionError::InvalidImageAtomicFunction`] or [`FunctionError::InvalidImageAtomicValue`] where its format doesn't allow it.
-pub fn check_image_atomic(
-    context: &BlockContext<'_>,
+pub fn check_image_atomic<C: StatementContext>(
+    context: &C,
     image: Handle<key::Expression>,
     coordinate: Handle<key::Expression>,
     array_index: Option<Handle<key::Expression>>,
@@ -574,8 +573,8 @@ pub fn check_image_atomic(
     value: Handle<key::Expression>,
 ) -> Result<(), FunctionError>
     ensures { MatchResult result
-        (λ _. ImageAtomicOK (context_view context.now) image coordinate array_index fun value)
-        (IsImageAtomicFault (context_view context.now) image coordinate array_index fun value) }
+        (λ _. ImageAtomicOK (C.seen context.now) image coordinate array_index fun value)
+        (IsImageAtomicFault (C.seen context.now) image coordinate array_index fun value) }
 {
     match changed_image(context, image) {
         Err(error) => Err(FunctionError::InvalidImageAtomic(error)),

@@ -8,7 +8,6 @@ ghost use Rattle.spec_expressions.specs.Access.{pointer_to};
 ghost use Rattle.spec_statements.specs.Atomics.{changed_scalar};
 ghost use Rattle.spec_statements.specs.Stores.{pointer_space};
 ghost use Rattle.spec_statements.specs.UniformLoads.{loaded_type, LeadsTo, UniformLoadStatementOK};
-ghost use Rattle.statement_checks.specs.View.{context_view};
 ghost use Rattle.typing_forms.specs.Forms.{form_of_type};
 
 use crate::atomics::changed_scalar;
@@ -16,7 +15,7 @@ use error_functions::FunctionError;
 use ir_arena::handle::Handle;
 use ir_kinds::AddressSpace;
 use ir_types::{Expression, TypeInner, key};
-use statement_checks::{BlockContext, are_same, pointer_space};
+use statement_checks::{StatementContext, are_same, pointer_space};
 use typing_forms::Form;
 
 // Whether a type is a pointer into workgroup memory.
@@ -51,11 +50,11 @@ fn loaded_type(expression: &Expression) -> Option<Handle<key::IrType>>
 }
 
 // The same of the expression at a handle.
-fn loaded_at(
-    context: &BlockContext<'_>,
+fn loaded_at<C: StatementContext>(
+    context: &C,
     handle: Handle<key::Expression>,
 ) -> Option<Handle<key::IrType>>
-    ensures { result ≡ loaded_at (context_view context.now) handle }
+    ensures { result ≡ loaded_at (C.seen context.now) handle }
 {
     match context.expression_at(handle) {
         Some(expression) => loaded_type(expression),
@@ -64,8 +63,8 @@ fn loaded_at(
 }
 
 // A pointer into workgroup memory to a type of the module.
-fn workgroup_pointer(context: &BlockContext<'_>, ty: Handle<key::IrType>) -> Form
-    ensures { result ≡ pointer_to (context_view context.now).m.types ty WorkGroup }
+fn workgroup_pointer<C: StatementContext>(context: &C, ty: Handle<key::IrType>) -> Form
+    ensures { result ≡ pointer_to (C.seen context.now).m.types ty WorkGroup }
 {
     match context.inner_of(ty) {
         Some(TypeInner::Scalar(scalar)) => Form::ValuePointer {
@@ -86,9 +85,13 @@ fn workgroup_pointer(context: &BlockContext<'_>, ty: Handle<key::IrType>) -> For
 }
 
 // Whether a pointer leads to an atomic of a type.
-fn leads_to_atomic(context: &BlockContext<'_>, pointer: &Form, ty: Handle<key::IrType>) -> bool
+fn leads_to_atomic<C: StatementContext>(
+    context: &C,
+    pointer: &Form,
+    ty: Handle<key::IrType>,
+) -> bool
     ensures { IsTrue result
-        ↔ IsSomeAnd (changed_scalar (context_view context.now).m.types pointer.now) (λ s. form_of_type (context_view context.now).m.types ty ≡ Form.Scalar s) }
+        ↔ IsSomeAnd (changed_scalar (C.seen context.now).m.types pointer.now) (λ s. form_of_type (C.seen context.now).m.types ty ≡ Form.Scalar s) }
 {
     match changed_scalar(context, pointer) {
         Some(scalar) => are_same(context.form_of(ty), Form::Scalar(scalar)),
@@ -97,8 +100,8 @@ fn leads_to_atomic(context: &BlockContext<'_>, pointer: &Form, ty: Handle<key::I
 }
 
 // Whether a pointer leads to a type, or to an atomic of it.
-fn leads_to(context: &BlockContext<'_>, pointer: &Form, ty: Handle<key::IrType>) -> bool
-    ensures { IsTrue result ↔ LeadsTo (context_view context.now).m.types pointer.now ty }
+fn leads_to<C: StatementContext>(context: &C, pointer: &Form, ty: Handle<key::IrType>) -> bool
+    ensures { IsTrue result ↔ LeadsTo (C.seen context.now).m.types pointer.now ty }
 {
     are_same(*pointer, workgroup_pointer(context, ty)) || leads_to_atomic(context, pointer, ty)
 }
@@ -110,14 +113,14 @@ fn leads_to(context: &BlockContext<'_>, pointer: &Form, ty: Handle<key::IrType>)
 /// [`FunctionError::WorkgroupUniformLoadInvalidPointer`] where the pointer points into another space, is none, or leads to
 /// something else than what is answered; [`FunctionError::WorkgroupUniformLoadExpressionMismatch`] where what should stand for the
 /// answer is no `WorkGroupUniformLoadResult`.
-pub fn check_uniform_load(
-    context: &BlockContext<'_>,
+pub fn check_uniform_load<C: StatementContext>(
+    context: &C,
     pointer: Handle<key::Expression>,
     answer: Handle<key::Expression>,
 ) -> Result<(), FunctionError>
     ensures { MatchResult result
-        (λ _. UniformLoadStatementOK (context_view context.now) pointer answer)
-        (IsUniformLoadFault (context_view context.now) pointer answer) }
+        (λ _. UniformLoadStatementOK (C.seen context.now) pointer answer)
+        (IsUniformLoadFault (C.seen context.now) pointer answer) }
 {
     let place = context.form_at(pointer);
     if !is_in_workgroup(&place) {

@@ -17,7 +17,7 @@ use ir_faults::refusal::Refusal;
 use ir_faults::with_span::WithSpan;
 use ir_items::FunctionArgument;
 use ir_kinds::AddressSpace;
-use statement_checks::{BlockContext, pointer_space};
+use statement_checks::{BlockContext, StatementContext, pointer_space};
 use std::alloc::{AllocError, Global};
 use type_infos::TypeInfo;
 

@@ -20,7 +20,7 @@ use ir_faults::refusal::Refusal;
 use ir_faults::with_span::WithSpan;
 use ir_items::LocalVariable;
 use ir_types::key;
-use statement_checks::{BlockContext, are_same};
+use statement_checks::{BlockContext, StatementContext, are_same};
 use std::alloc::Global;
 use type_infos::TypeInfo;
 

@@ -7,23 +7,22 @@ ghost use Rattle.ir_blocks.specs.View.{statement_view};
 ghost use Rattle.operation_checks.specs.Payloads.{payload_type, unlike, IsPayloadsFault, AreOfOneType};
 ghost use Rattle.spec_statements.specs.Payloads.{HasPayload};
 ghost use Rattle.spec_statements.specs.Variables.{variable_at};
-ghost use Rattle.statement_checks.specs.View.{context_view};
 
 use error_functions::FunctionError;
 use ir_arena::handle::Handle;
 use ir_blocks::{RayPipelineFunction, Statement};
 use ir_references::{StatementLook, first_in};
 use ir_types::key;
-use statement_checks::{BlockContext, variable_at};
+use statement_checks::{StatementContext, variable_at};
 
 // ---- one payload
 
 // The type of the global variable that a payload is.
-fn type_at(
-    context: &BlockContext<'_>,
+fn type_at<C: StatementContext>(
+    context: &C,
     payload: Handle<key::Expression>,
 ) -> Option<Handle<key::IrType>>
-    ensures { result ≡ option_map (λ g. g.ty) (variable_at (context_view context.now).m (context_view context.now).f payload) }
+    ensures { result ≡ option_map (λ g. g.ty) (variable_at (C.seen context.now).m (C.seen context.now).f payload) }
 {
     match variable_at(context, payload) {
         Some(variable) => Some(variable.ty),
@@ -32,8 +31,11 @@ fn type_at(
 }
 
 // The type of the payload of the ray that a pipeline traces.
-fn traced_type(context: &BlockContext<'_>, fun: &RayPipelineFunction) -> Option<Handle<key::IrType>>
-    ensures { result ≡ payload_type (context_view context.now) (operation (ray_pipeline fun.now)) }
+fn traced_type<C: StatementContext>(
+    context: &C,
+    fun: &RayPipelineFunction,
+) -> Option<Handle<key::IrType>>
+    ensures { result ≡ payload_type (C.seen context.now) (operation (ray_pipeline fun.now)) }
 {
     match *fun {
         RayPipelineFunction::TraceRay { payload, .. } => type_at(context, payload),
@@ -41,8 +43,11 @@ fn traced_type(context: &BlockContext<'_>, fun: &RayPipelineFunction) -> Option<
 }
 
 // The type of the payload of the ray that a statement traces.
-fn payload_type(context: &BlockContext<'_>, statement: &Statement) -> Option<Handle<key::IrType>>
-    ensures { result ≡ payload_type (context_view context.now) (statement_view statement.now) }
+fn payload_type<C: StatementContext>(
+    context: &C,
+    statement: &Statement,
+) -> Option<Handle<key::IrType>>
+    ensures { result ≡ payload_type (C.seen context.now) (statement_view statement.now) }
 {
     match statement {
         Statement::RayPipelineFunction(fun) => traced_type(context, fun),
@@ -85,15 +90,14 @@ fn unlike(ty: Option<Handle<key::IrType>>, held: Handle<key::IrType>) -> Option<
 
 // Payloads of any type.
 #[derive(Drop)]
-struct AnyPayload<'a> {
-    context: &'a BlockContext<'a>,
+struct AnyPayload<'a, C> {
+    context: &'a C,
 }
 
-impl StatementLook<Handle<key::IrType>> for AnyPayload<'_> {
+impl<'a, C: StatementContext> StatementLook<Handle<key::IrType>> for AnyPayload<'a, C> {
     ghost use Rattle.operation_checks.specs.Payloads.{payload_type};
-    ghost use Rattle.statement_checks.specs.View.{context_view};
 
-    ghost look = { λ t s. payload_type (context_view t.context.now) s };
+    ghost look = { λ t s. payload_type (C.seen t.context.now) s };
 
     fn look(&self, statement: &Statement) -> Option<Handle<key::IrType>> {
         payload_type(self.context, statement)
@@ -102,16 +106,15 @@ impl StatementLook<Handle<key::IrType>> for AnyPayload<'_> {
 
 // Payloads of another type.
 #[derive(Drop)]
-struct OtherPayload<'a> {
-    context: &'a BlockContext<'a>,
+struct OtherPayload<'a, C> {
+    context: &'a C,
     held: Handle<key::IrType>,
 }
 
-impl StatementLook<Handle<key::IrType>> for OtherPayload<'_> {
+impl<'a, C: StatementContext> StatementLook<Handle<key::IrType>> for OtherPayload<'a, C> {
     ghost use Rattle.operation_checks.specs.Payloads.{payload_type, unlike};
-    ghost use Rattle.statement_checks.specs.View.{context_view};
 
-    ghost look = { λ t s. unlike t.held (payload_type (context_view t.context.now) s) };
+    ghost look = { λ t s. unlike t.held (payload_type (C.seen t.context.now) s) };
 
     fn look(&self, statement: &Statement) -> Option<Handle<key::IrType>> {
         unlike(payload_type(self.context, statement), self.held)
@@ -119,26 +122,26 @@ impl StatementLook<Handle<key::IrType>> for OtherPayload<'_> {
 }
 
 // The type of a payload of the function, if it has one.
-fn first_payload(context: &BlockContext<'_>) -> Option<Handle<key::IrType>>
+fn first_payload<C: StatementContext>(context: &C) -> Option<Handle<key::IrType>>
     ensures { MatchOption result
-        ((type : ℕ) → HasPayload (context_view context.now).m (context_view context.now).f type → ⊥)
-        (HasPayload (context_view context.now).m (context_view context.now).f) }
+        ((type : ℕ) → HasPayload (C.seen context.now).m (C.seen context.now).f type → ⊥)
+        (HasPayload (C.seen context.now).m (C.seen context.now).f) }
 {
     let any = AnyPayload { context };
-    first_in(&any, &context.function.body)
+    first_in(&any, context.body())
 }
 
 // Another type of a payload of the function, if it has one.
-fn other_payload(
-    context: &BlockContext<'_>,
+fn other_payload<C: StatementContext>(
+    context: &C,
     held: Handle<key::IrType>,
 ) -> Option<Handle<key::IrType>>
     ensures { MatchOption result
-        ((type : ℕ) → HasPayload (context_view context.now).m (context_view context.now).f type → type ≡ held)
-        (λ type. HasPayload (context_view context.now).m (context_view context.now).f type × (type ≢ held)) }
+        ((type : ℕ) → HasPayload (C.seen context.now).m (C.seen context.now).f type → type ≡ held)
+        (λ type. HasPayload (C.seen context.now).m (C.seen context.now).f type × (type ≢ held)) }
 {
     let other = OtherPayload { context, held };
-    first_in(&other, &context.function.body)
+    first_in(&other, context.body())
 }
 
 /// The type of the payloads of all functions so far, if there is one: that of those before, which is given, or else that of the
@@ -149,13 +152,13 @@ fn other_payload(
 /// [`FunctionError::MismatchedPayloadType`] where a payload is of another type than that of those before, or than an earlier one
 /// of the function.
 #[tactic(auto, using(crate::proofs::PayloadLemmas::before_held, crate::proofs::PayloadLemmas::found_held))]
-pub fn payload_of(
-    context: &BlockContext<'_>,
+pub fn payload_of<C: StatementContext>(
+    context: &C,
     held: Option<Handle<key::IrType>>,
 ) -> Result<Option<Handle<key::IrType>>, FunctionError>
     ensures { MatchResult result
-        (AreOfOneType (context_view context.now).m (context_view context.now).f held)
-        (IsPayloadsFault (context_view context.now).m (context_view context.now).f held) }
+        (AreOfOneType (C.seen context.now).m (C.seen context.now).f held)
+        (IsPayloadsFault (C.seen context.now).m (C.seen context.now).f held) }
 {
     match held {
         Some(before) => match other_payload(context, before) {

@@ -3,7 +3,6 @@
 ghost use Rattle.std.specs.Prelude.{◌↔◌, IsTrue, MatchResult};
 ghost use Rattle.operation_checks.specs.RayPipelines.{IsPayload, IsPayloadFault, IsTraceFault, IsRayPipelineFault};
 ghost use Rattle.spec_statements.specs.RayPipelines.{IsPayloadSpace, TraceOK, RayPipelineOK};
-ghost use Rattle.statement_checks.specs.View.{context_view};
 
 use crate::rays::{is_ray_descriptor, structure_of};
 use error_functions::FunctionError;
@@ -11,7 +10,7 @@ use ir_arena::handle::Handle;
 use ir_blocks::RayPipelineFunction;
 use ir_kinds::AddressSpace;
 use ir_types::key;
-use statement_checks::{BlockContext, pointer_space, variable_at};
+use statement_checks::{StatementContext, pointer_space, variable_at};
 
 // Whether a space is one of payloads.
 const fn is_payload_space(space: AddressSpace) -> bool
@@ -31,8 +30,8 @@ const fn is_payload_space(space: AddressSpace) -> bool
 }
 
 // Whether an expression is a payload: a global variable in a space of such.
-fn is_payload(context: &BlockContext<'_>, payload: Handle<key::Expression>) -> bool
-    ensures { IsTrue result ↔ IsPayload (context_view context.now) payload }
+fn is_payload<C: StatementContext>(context: &C, payload: Handle<key::Expression>) -> bool
+    ensures { IsTrue result ↔ IsPayload (C.seen context.now) payload }
 {
     match variable_at(context, payload) {
         Some(variable) => is_payload_space(variable.space),
@@ -41,9 +40,12 @@ fn is_payload(context: &BlockContext<'_>, payload: Handle<key::Expression>) -> b
 }
 
 // Why an expression is no payload.
-fn payload_error(context: &BlockContext<'_>, payload: Handle<key::Expression>) -> FunctionError
-    requires { ¬ IsPayload (context_view context.now) payload }
-    ensures { IsPayloadFault (context_view context.now) payload result }
+fn payload_error<C: StatementContext>(
+    context: &C,
+    payload: Handle<key::Expression>,
+) -> FunctionError
+    requires { ¬ IsPayload (C.seen context.now) payload }
+    ensures { IsPayloadFault (C.seen context.now) payload result }
 {
     match pointer_space(context.form_at(payload)) {
         None => FunctionError::InvalidPayloadType,
@@ -58,15 +60,15 @@ fn payload_error(context: &BlockContext<'_>, payload: Handle<key::Expression>) -
 }
 
 // Whether a ray is traced in a structure, with a payload and what describes it.
-fn check_trace(
-    context: &BlockContext<'_>,
+fn check_trace<C: StatementContext>(
+    context: &C,
     structure: Handle<key::Expression>,
     descriptor: Handle<key::Expression>,
     payload: Handle<key::Expression>,
 ) -> Result<(), FunctionError>
     ensures { MatchResult result
-        (λ _. TraceOK (context_view context.now) structure descriptor payload)
-        (IsTraceFault (context_view context.now) structure descriptor payload) }
+        (λ _. TraceOK (C.seen context.now) structure descriptor payload)
+        (IsTraceFault (C.seen context.now) structure descriptor payload) }
 {
     if structure_of(context.form_at(structure)).is_none() {
         return Err(FunctionError::InvalidAccelerationStructure(structure));
@@ -90,13 +92,13 @@ fn check_trace(
 /// what is no payload [`FunctionError::InvalidPayloadType`] where it is no pointer,
 /// [`FunctionError::InvalidPayloadAddressSpace`] where it points into another space, and
 /// [`FunctionError::PayloadPointerNotGlobal`] where it is no variable itself.
-pub fn check_ray_pipeline(
-    context: &BlockContext<'_>,
+pub fn check_ray_pipeline<C: StatementContext>(
+    context: &C,
     fun: RayPipelineFunction,
 ) -> Result<(), FunctionError>
     ensures { MatchResult result
-        (λ _. RayPipelineOK (context_view context.now) fun)
-        (IsRayPipelineFault (context_view context.now) fun) }
+        (λ _. RayPipelineOK (C.seen context.now) fun)
+        (IsRayPipelineFault (C.seen context.now) fun) }
 {
     match fun {
         RayPipelineFunction::TraceRay {

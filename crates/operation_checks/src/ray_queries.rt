@@ -7,7 +7,6 @@ ghost use Rattle.operation_checks.specs.RayQueries.{IsStartFault, IsStepFault, I
 ghost use Rattle.spec_statements.specs.ExpressionRayQueries.{query_of};
 ghost use Rattle.spec_statements.specs.Shapes.{IsMadeOf, IsAlone, IsFloating};
 ghost use Rattle.spec_statements.specs.RayQueries.{local_of, local_type_at, GivesVertices, StepOK, RayQueryOK};
-ghost use Rattle.statement_checks.specs.View.{context_view};
 ghost use Rattle.typing_forms.specs.Resolutions.{inner_at};
 
 use crate::rays::{is_ray_descriptor, structure_of};
@@ -16,7 +15,7 @@ use expression_checks::{is_alone, query_of};
 use ir_arena::handle::Handle;
 use ir_blocks::RayQueryFunction;
 use ir_types::{Expression, key};
-use statement_checks::{BlockContext, is_floating, shaped_of};
+use statement_checks::{StatementContext, is_floating, shaped_of};
 use typing_forms::Form;
 
 // ---- the query
@@ -31,30 +30,16 @@ fn local_of(expression: &Expression) -> Option<Handle<key::LocalVariable>>
     }
 }
 
-// The type of a variable of the function.
-#[tactic(auto, using(statement_checks::proofs::Lookups::found, statement_checks::proofs::Lookups::missing))]
-fn local_type(
-    context: &BlockContext<'_>,
-    local: Handle<key::LocalVariable>,
-) -> Option<Handle<key::IrType>>
-    ensures { result ≡ option_map (λ v. v.ty) (slice_get (context_view context.now).f.locals local) }
-{
-    match context.function.local_variables.try_get(local) {
-        Ok(variable) => Some(variable.ty),
-        Err(_) => None,
-    }
-}
-
 // The type of the variable of the function that the expression at a handle is.
-fn local_type_at(
-    context: &BlockContext<'_>,
+fn local_type_at<C: StatementContext>(
+    context: &C,
     handle: Handle<key::Expression>,
 ) -> Option<Handle<key::IrType>>
-    ensures { result ≡ local_type_at (context_view context.now).f handle }
+    ensures { result ≡ local_type_at (C.seen context.now).f handle }
 {
     match context.expression_at(handle) {
         Some(expression) => match local_of(expression) {
-            Some(local) => local_type(context, local),
+            Some(local) => context.local_type(local),
             None => None,
         },
         None => None,
@@ -62,8 +47,8 @@ fn local_type_at(
 }
 
 // Whether the ray query that a type of the module is gives the vertices of a hit.
-fn query_at(context: &BlockContext<'_>, ty: Handle<key::IrType>) -> Option<bool>
-    ensures { result ≡ query_of (inner_at (context_view context.now).m.types ty) }
+fn query_at<C: StatementContext>(context: &C, ty: Handle<key::IrType>) -> Option<bool>
+    ensures { result ≡ query_of (inner_at (C.seen context.now).m.types ty) }
 {
     match context.inner_of(ty) {
         Some(inner) => query_of(inner),
@@ -81,16 +66,16 @@ const fn gives_vertices(asked: bool, given: bool) -> bool
 }
 
 // Whether a query begins in a structure that serves it, with what describes a ray.
-fn check_start(
-    context: &BlockContext<'_>,
+fn check_start<C: StatementContext>(
+    context: &C,
     query: Handle<key::Expression>,
     vertices: bool,
     structure: Handle<key::Expression>,
     descriptor: Handle<key::Expression>,
 ) -> Result<(), FunctionError>
     ensures { MatchResult result
-        (λ _. StepOK (context_view context.now) vertices (Initialize structure descriptor))
-        (IsStartFault (context_view context.now) query vertices structure descriptor) }
+        (λ _. StepOK (C.seen context.now) vertices (Initialize structure descriptor))
+        (IsStartFault (C.seen context.now) query vertices structure descriptor) }
 {
     match structure_of(context.form_at(structure)) {
         None => Err(FunctionError::InvalidAccelerationStructure(structure)),
@@ -120,15 +105,15 @@ fn is_distance(of: Form) -> bool
 }
 
 // Whether this may be done with a query.
-fn check_step(
-    context: &BlockContext<'_>,
+fn check_step<C: StatementContext>(
+    context: &C,
     query: Handle<key::Expression>,
     vertices: bool,
     fun: &RayQueryFunction,
 ) -> Result<(), FunctionError>
     ensures { MatchResult result
-        (λ _. StepOK (context_view context.now) vertices fun.now)
-        (IsStepFault (context_view context.now) query vertices fun.now) }
+        (λ _. StepOK (C.seen context.now) vertices fun.now)
+        (IsStepFault (C.seen context.now) query vertices fun.now) }
 {
     match *fun {
         RayQueryFunction::Initialize {
@@ -157,14 +142,14 @@ fn check_step(
 /// [`FunctionError::InvalidRayQueryType`] where that is no ray query; [`FunctionError::InvalidAccelerationStructure`],
 /// [`FunctionError::MissingAccelerationStructureVertexReturn`] or [`FunctionError::InvalidRayDescriptor`] where it doesn't begin
 /// so; [`FunctionError::InvalidHitDistanceType`] where the distance is no float.
-pub fn check_ray_query(
-    context: &BlockContext<'_>,
+pub fn check_ray_query<C: StatementContext>(
+    context: &C,
     query: Handle<key::Expression>,
     fun: RayQueryFunction,
 ) -> Result<(), FunctionError>
     ensures { MatchResult result
-        (λ _. RayQueryOK (context_view context.now) query fun)
-        (IsRayQueryFault (context_view context.now) query fun) }
+        (λ _. RayQueryOK (C.seen context.now) query fun)
+        (IsRayQueryFault (C.seen context.now) query fun) }
 {
     match local_type_at(context, query) {
         None => Err(FunctionError::InvalidRayQueryExpression(query)),

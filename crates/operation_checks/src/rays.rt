@@ -3,12 +3,11 @@
 ghost use Rattle.std.specs.Prelude.{◌≡◌, ◌↔◌, IsTrue};
 ghost use Rattle.ir_types.specs.Plain.{inner_view};
 ghost use Rattle.spec_statements.specs.RayQueries.{structure_of, IsMadeAs, IsRayDescriptor};
-ghost use Rattle.statement_checks.specs.View.{context_view};
 ghost use Rattle.typing_forms.specs.Resolutions.{inner_at};
 
 use ir_arena::handle::Handle;
 use ir_types::{TypeInner, key};
-use statement_checks::{BlockContext, are_same};
+use statement_checks::{StatementContext, are_same};
 use typing_forms::Form;
 
 /// Whether the acceleration structure that a type is gives the vertices of a hit.
@@ -43,12 +42,12 @@ fn are_made_same(left: &TypeInner, right: &TypeInner) -> bool
 }
 
 // Whether two types of the module are made of the same.
-fn are_made_same_at(
-    context: &BlockContext<'_>,
+fn are_made_same_at<C: StatementContext>(
+    context: &C,
     left: Handle<key::IrType>,
     right: Handle<key::IrType>,
 ) -> bool
-    ensures { IsTrue result ↔ (inner_at (context_view context.now).m.types left ≡ inner_at (context_view context.now).m.types right) }
+    ensures { IsTrue result ↔ (inner_at (C.seen context.now).m.types left ≡ inner_at (C.seen context.now).m.types right) }
 {
     match context.inner_of(left) {
         Some(inner) => match context.inner_of(right) {
@@ -60,8 +59,8 @@ fn are_made_same_at(
 }
 
 // Whether a type is made as the one at a handle.
-fn is_made_as(context: &BlockContext<'_>, declared: Handle<key::IrType>, of: &Form) -> bool
-    ensures { IsTrue result ↔ IsMadeAs (context_view context.now).m.types declared of.now }
+fn is_made_as<C: StatementContext>(context: &C, declared: Handle<key::IrType>, of: &Form) -> bool
+    ensures { IsTrue result ↔ IsMadeAs (C.seen context.now).m.types declared of.now }
 {
     match *of {
         Form::Struct(handle) => are_made_same_at(context, handle, declared),
@@ -83,10 +82,10 @@ fn is_made_as(context: &BlockContext<'_>, declared: Handle<key::IrType>, of: &Fo
 }
 
 /// Whether a type is made as that of what describes a ray.
-pub(crate) fn is_ray_descriptor(context: &BlockContext<'_>, of: &Form) -> bool
-    ensures { IsTrue result ↔ IsRayDescriptor (context_view context.now) of.now }
+pub(crate) fn is_ray_descriptor<C: StatementContext>(context: &C, of: &Form) -> bool
+    ensures { IsTrue result ↔ IsRayDescriptor (C.seen context.now) of.now }
 {
-    match context.module.special_types.ray_desc {
+    match context.ray_descriptor() {
         Some(declared) => is_made_as(context, declared, of),
         None => false,
     }

@@ -9,7 +9,6 @@ ghost use Rattle.spec_statements.specs.Shapes.{IsOfValue, IsMadeOf, shaped_of};
 ghost use Rattle.spec_handles.specs.Statements.{gather_index};
 ghost use Rattle.spec_statements.specs.BlockContext.{form_at};
 ghost use Rattle.spec_statements.specs.Subgroups.{collective_needs, gather_needs, HasOperation, answered_type, AnswersAs, BallotOK, IsNumber, TakesShape, IsScanned, GoesOver, CollectiveOK, IndexIsKnown, GatherOK};
-ghost use Rattle.statement_checks.specs.View.{context_view, IsKnown};
 
 use bitflags::Flags;
 use error_functions::{FunctionError, SubgroupError};
@@ -20,7 +19,7 @@ use ir_flags::{Capabilities, SubgroupOperationSet};
 use ir_kinds::{CollectiveOperation, Scalar, ScalarKind, SubgroupOperation};
 use ir_types::{Expression, key};
 use spec_statements::Shape;
-use statement_checks::{BlockContext, are_same, is_integer, is_truth, shaped_of};
+use statement_checks::{StatementContext, are_same, is_integer, is_truth, shaped_of};
 use typing_forms::Form;
 
 // ---- what is needed
@@ -56,18 +55,18 @@ const fn gather_needs(mode: &GatherMode) -> SubgroupOperationSet
 }
 
 // Whether subgroups may be used, and so.
-fn check_operation(
-    context: &BlockContext<'_>,
+fn check_operation<C: StatementContext>(
+    context: &C,
     needed: SubgroupOperationSet,
 ) -> Result<(), FunctionError>
     ensures { MatchResult result
-        (λ _. HasOperation (context_view context.now) needed)
-        (IsOperationFault (context_view context.now) needed) }
+        (λ _. HasOperation (C.seen context.now) needed)
+        (IsOperationFault (C.seen context.now) needed) }
 {
-    if !context.capabilities.contains(Capabilities::SUBGROUP) {
+    if !context.capabilities().contains(Capabilities::SUBGROUP) {
         return Err(FunctionError::MissingCapability(Capabilities::SUBGROUP));
     }
-    if !context.operations.contains(needed) {
+    if !context.operations().contains(needed) {
         return Err(FunctionError::InvalidSubgroup(SubgroupError::UnsupportedOperation(needed)));
     }
     Ok(())
@@ -86,11 +85,11 @@ fn answered_type(expression: &Expression) -> Option<Handle<key::IrType>>
 }
 
 // The same of the expression at a handle.
-fn answered_at(
-    context: &BlockContext<'_>,
+fn answered_at<C: StatementContext>(
+    context: &C,
     handle: Handle<key::Expression>,
 ) -> Option<Handle<key::IrType>>
-    ensures { result ≡ option_and_then answered_type (slice_get (context_view context.now).f.expressions handle) }
+    ensures { result ≡ option_and_then answered_type (slice_get (C.seen context.now).f.expressions handle) }
 {
     match context.expression_at(handle) {
         Some(expression) => answered_type(expression),
@@ -99,12 +98,12 @@ fn answered_at(
 }
 
 // Whether an answer is of the argument's type.
-fn answers_as(
-    context: &BlockContext<'_>,
+fn answers_as<C: StatementContext>(
+    context: &C,
     argument: Handle<key::Expression>,
     answer: Handle<key::Expression>,
 ) -> bool
-    ensures { IsTrue result ↔ AnswersAs (context_view context.now) argument answer }
+    ensures { IsTrue result ↔ AnswersAs (C.seen context.now) argument answer }
 {
     match answered_at(context, answer) {
         Some(ty) => are_same(context.form_of(ty), context.form_at(argument)),
@@ -115,14 +114,14 @@ fn answers_as(
 // ---- ballots
 
 // Whether a ballot of subgroups that may be used is by a truth value, if it is by any.
-fn check_predicate(
-    context: &BlockContext<'_>,
+fn check_predicate<C: StatementContext>(
+    context: &C,
     predicate: &Option<Handle<key::Expression>>,
 ) -> Result<(), FunctionError>
-    requires { HasOperation (context_view context.now) BALLOT }
+    requires { HasOperation (C.seen context.now) BALLOT }
     ensures { MatchResult result
-        (λ _. BallotOK (context_view context.now) predicate.now)
-        (IsBallotFault (context_view context.now) predicate.now) }
+        (λ _. BallotOK (C.seen context.now) predicate.now)
+        (IsBallotFault (C.seen context.now) predicate.now) }
 {
     match *predicate {
         Some(given) => {
@@ -143,13 +142,13 @@ fn check_predicate(
 /// [`FunctionError::MissingCapability`] without that of subgroups; [`FunctionError::InvalidSubgroup`] with
 /// [`SubgroupError::UnsupportedOperation`] where ballots aren't allowed, and with [`SubgroupError::InvalidOperand`] for what is
 /// no truth value.
-pub fn check_ballot(
-    context: &BlockContext<'_>,
+pub fn check_ballot<C: StatementContext>(
+    context: &C,
     predicate: Option<Handle<key::Expression>>,
 ) -> Result<(), FunctionError>
     ensures { MatchResult result
-        (λ _. BallotOK (context_view context.now) predicate)
-        (IsBallotFault (context_view context.now) predicate) }
+        (λ _. BallotOK (C.seen context.now) predicate)
+        (IsBallotFault (C.seen context.now) predicate) }
 {
     match check_operation(context, SubgroupOperationSet::BALLOT) {
         Ok(()) => check_predicate(context, &predicate),
@@ -224,17 +223,17 @@ const fn goes_over(collective_op: CollectiveOperation, op: SubgroupOperation) ->
 }
 
 // Whether an operation that may be used takes its argument, goes over these invocations and is answered so.
-fn check_collected(
-    context: &BlockContext<'_>,
+fn check_collected<C: StatementContext>(
+    context: &C,
     op: SubgroupOperation,
     collective_op: CollectiveOperation,
     argument: Handle<key::Expression>,
     answer: Handle<key::Expression>,
 ) -> Result<(), FunctionError>
-    requires { HasOperation (context_view context.now) (collective_needs op) }
+    requires { HasOperation (C.seen context.now) (collective_needs op) }
     ensures { MatchResult result
-        (λ _. CollectiveOK (context_view context.now) op collective_op argument answer)
-        (IsCollectiveFault (context_view context.now) op collective_op argument answer) }
+        (λ _. CollectiveOK (C.seen context.now) op collective_op argument answer)
+        (IsCollectiveFault (C.seen context.now) op collective_op argument answer) }
 {
     if !takes(op, context.form_at(argument)) {
         return Err(FunctionError::InvalidSubgroup(SubgroupError::InvalidOperand(argument)));
@@ -256,16 +255,16 @@ fn check_collected(
 /// [`FunctionError::MissingCapability`] without that of subgroups; [`FunctionError::InvalidSubgroup`] with
 /// [`SubgroupError::UnsupportedOperation`], [`SubgroupError::InvalidOperand`], [`SubgroupError::UnknownOperation`] or
 /// [`SubgroupError::ResultTypeMismatch`] for what of this is not so.
-pub fn check_collective(
-    context: &BlockContext<'_>,
+pub fn check_collective<C: StatementContext>(
+    context: &C,
     op: SubgroupOperation,
     collective_op: CollectiveOperation,
     argument: Handle<key::Expression>,
     answer: Handle<key::Expression>,
 ) -> Result<(), FunctionError>
     ensures { MatchResult result
-        (λ _. CollectiveOK (context_view context.now) op collective_op argument answer)
-        (IsCollectiveFault (context_view context.now) op collective_op argument answer) }
+        (λ _. CollectiveOK (C.seen context.now) op collective_op argument answer)
+        (IsCollectiveFault (C.seen context.now) op collective_op argument answer) }
 {
     match check_operation(context, collective_needs(op)) {
         Ok(()) => check_collected(context, op, collective_op, argument, answer),
@@ -291,9 +290,9 @@ const fn gather_index(mode: &GatherMode) -> Option<Handle<key::Expression>>
 }
 
 // The index, where it is of another type than `u32`.
-fn bad_index(context: &BlockContext<'_>, mode: &GatherMode) -> Option<Handle<key::Expression>>
-    ensures good { result ≡ None → IfSome (gather_index mode.now) (λ e. form_at (context_view context.now) e ≡ Form.Scalar (unsigned 4)) }
-    ensures bad { IfSome result (λ e. (gather_index mode.now ≡ Some e) × ¬ (form_at (context_view context.now) e ≡ Form.Scalar (unsigned 4))) }
+fn bad_index<C: StatementContext>(context: &C, mode: &GatherMode) -> Option<Handle<key::Expression>>
+    ensures good { result ≡ None → IfSome (gather_index mode.now) (λ e. form_at (C.seen context.now) e ≡ Form.Scalar (unsigned 4)) }
+    ensures bad { IfSome result (λ e. (gather_index mode.now ≡ Some e) × ¬ (form_at (C.seen context.now) e ≡ Form.Scalar (unsigned 4))) }
 {
     match gather_index(mode) {
         Some(index) => {
@@ -308,10 +307,13 @@ fn bad_index(context: &BlockContext<'_>, mode: &GatherMode) -> Option<Handle<key
 }
 
 // The index, where it should be known as the module is written and is not.
-fn unknown_index(context: &BlockContext<'_>, mode: &GatherMode) -> Option<Handle<key::Expression>>
-    requires { IsKnown context.now }
-    ensures good { result ≡ None → IndexIsKnown (context_view context.now) mode.now }
-    ensures bad { IfSome result (λ e. (gather_index mode.now ≡ Some e) × ¬ IndexIsKnown (context_view context.now) mode.now) }
+fn unknown_index<C: StatementContext>(
+    context: &C,
+    mode: &GatherMode,
+) -> Option<Handle<key::Expression>>
+    requires { C.known context.now }
+    ensures good { result ≡ None → IndexIsKnown (C.seen context.now) mode.now }
+    ensures bad { IfSome result (λ e. (gather_index mode.now ≡ Some e) × ¬ IndexIsKnown (C.seen context.now) mode.now) }
 {
     match *mode {
         GatherMode::Broadcast(index) | GatherMode::QuadBroadcast(index) => {
@@ -341,17 +343,17 @@ fn is_gathered(of: Form) -> bool
 }
 
 // Whether values may be taken so, where this may be done at all.
-fn check_gathered(
-    context: &BlockContext<'_>,
+fn check_gathered<C: StatementContext>(
+    context: &C,
     mode: &GatherMode,
     argument: Handle<key::Expression>,
     answer: Handle<key::Expression>,
 ) -> Result<(), FunctionError>
-    requires known { IsKnown context.now }
-    requires operation { HasOperation (context_view context.now) (gather_needs mode.now) }
+    requires known { C.known context.now }
+    requires operation { HasOperation (C.seen context.now) (gather_needs mode.now) }
     ensures { MatchResult result
-        (λ _. GatherOK (context_view context.now) mode.now argument answer)
-        (IsGatherFault (context_view context.now) mode.now argument answer) }
+        (λ _. GatherOK (C.seen context.now) mode.now argument answer)
+        (IsGatherFault (C.seen context.now) mode.now argument answer) }
 {
     if let Some(index) = bad_index(context, mode) {
         return Err(FunctionError::InvalidSubgroup(SubgroupError::InvalidOperand(index)));
@@ -379,16 +381,16 @@ fn check_gathered(
 /// [`FunctionError::MissingCapability`] without that of subgroups; [`FunctionError::InvalidSubgroup`] with
 /// [`SubgroupError::UnsupportedOperation`], [`SubgroupError::InvalidOperand`], [`SubgroupError::InvalidInvocationIdExprType`] or
 /// [`SubgroupError::ResultTypeMismatch`] for what of this is not so.
-pub fn check_gather(
-    context: &BlockContext<'_>,
+pub fn check_gather<C: StatementContext>(
+    context: &C,
     mode: GatherMode,
     argument: Handle<key::Expression>,
     answer: Handle<key::Expression>,
 ) -> Result<(), FunctionError>
-    requires { IsKnown context.now }
+    requires { C.known context.now }
     ensures { MatchResult result
-        (λ _. GatherOK (context_view context.now) mode argument answer)
-        (IsGatherFault (context_view context.now) mode argument answer) }
+        (λ _. GatherOK (C.seen context.now) mode argument answer)
+        (IsGatherFault (C.seen context.now) mode argument answer) }
 {
     match check_operation(context, gather_needs(&mode)) {
         Ok(()) => check_gathered(context, &mode, argument, answer),

@@ -4,9 +4,8 @@ ghost use Rattle.std.specs.Prelude.{◌≡◌, ◌↔◌, IsTrue, MatchResult};
 ghost use Rattle.ir_flags.specs.Sets.{Has};
 ghost use Rattle.spec_statements.specs.Barriers.{BarrierOK};
 ghost use Rattle.statement_checks.specs.Barriers.{IsBarrierFault};
-ghost use Rattle.statement_checks.specs.View.{context_view};
 
-use crate::context::BlockContext;
+use crate::context::StatementContext;
 use bitflags::Flags;
 use error_functions::{FunctionError, SubgroupError};
 use ir_flags::{Barrier, Capabilities, SubgroupOperationSet};
@@ -25,20 +24,23 @@ fn has_barriers(capabilities: Capabilities) -> bool
 ///
 /// [`FunctionError::MissingCapability`], or [`FunctionError::InvalidSubgroup`] with
 /// [`SubgroupError::UnsupportedOperation`], for a barrier of a subgroup where that is not so.
-pub fn check_barrier(context: &BlockContext<'_>, barrier: Barrier) -> Result<(), FunctionError>
+pub fn check_barrier<C: StatementContext>(
+    context: &C,
+    barrier: Barrier,
+) -> Result<(), FunctionError>
     ensures { MatchResult result
-        (λ _. BarrierOK (context_view context.now) barrier)
-        (IsBarrierFault (context_view context.now) barrier) }
+        (λ _. BarrierOK (C.seen context.now) barrier)
+        (IsBarrierFault (C.seen context.now) barrier) }
 {
     if !barrier.contains(Barrier::SUB_GROUP) {
         return Ok(());
     }
-    if !has_barriers(context.capabilities) {
+    if !has_barriers(context.capabilities()) {
         return Err(FunctionError::MissingCapability(Capabilities(
             Capabilities::SUBGROUP.0 | Capabilities::SUBGROUP_BARRIER.0,
         )));
     }
-    if !context.operations.contains(SubgroupOperationSet::BASIC) {
+    if !context.operations().contains(SubgroupOperationSet::BASIC) {
         return Err(FunctionError::InvalidSubgroup(SubgroupError::UnsupportedOperation(
             SubgroupOperationSet::BASIC,
         )));

@@ -6,10 +6,9 @@ ghost use Rattle.ir_types.specs.declared.expressions.Expression.TheVariants as x
 ghost use Rattle.ir_items.specs.View.{argument_view, function_view};
 ghost use Rattle.spec_statements.specs.Calls.{CallOK, CallResultOK};
 ghost use Rattle.statement_checks.specs.Calls.{PassesAt, IsCallError, IsCallFault};
-ghost use Rattle.statement_checks.specs.View.{context_view};
 
 use crate::are_same;
-use crate::context::BlockContext;
+use crate::context::StatementContext;
 use error_functions::{CallError, FunctionError};
 use ir_arena::handle::Handle;
 use ir_items::{Function, FunctionArgument};
@@ -24,14 +23,14 @@ fn declared_at(callee: &Function, place: usize) -> Option<&FunctionArgument>
 }
 
 // What is wrong with what is passed at a place.
-fn argument_fault(
-    context: &BlockContext<'_>,
+fn argument_fault<C: StatementContext>(
+    context: &C,
     callee: &Function,
     arguments: &[Handle<key::Expression>],
     place: usize,
 ) -> Option<CallError>
-    ensures none { IfNone result (PassesAt (context_view context.now) (function_view callee.now) arguments.now place) }
-    ensures found { IfSome result (λ e. (function : ℕ) (answered : Option ℕ) → IsCallError (context_view context.now) function (function_view callee.now) arguments.now answered e) }
+    ensures none { IfNone result (PassesAt (C.seen context.now) (function_view callee.now) arguments.now place) }
+    ensures found { IfSome result (λ e. (function : ℕ) (answered : Option ℕ) → IsCallError (C.seen context.now) function (function_view callee.now) arguments.now answered e) }
 {
     let seen_expression = *arguments.get(place)?;
     let argument = declared_at(callee, place)?;
@@ -49,13 +48,13 @@ fn argument_fault(
 }
 
 // What is wrong with the first argument of another type.
-fn arguments_fault(
-    context: &BlockContext<'_>,
+fn arguments_fault<C: StatementContext>(
+    context: &C,
     callee: &Function,
     arguments: &[Handle<key::Expression>],
 ) -> Option<CallError>
-    ensures none { IfNone result ((place : ℕ) → PassesAt (context_view context.now) (function_view callee.now) arguments.now place) }
-    ensures found { IfSome result (λ e. (function : ℕ) (answered : Option ℕ) → IsCallError (context_view context.now) function (function_view callee.now) arguments.now answered e) }
+    ensures none { IfNone result ((place : ℕ) → PassesAt (C.seen context.now) (function_view callee.now) arguments.now place) }
+    ensures found { IfSome result (λ e. (function : ℕ) (answered : Option ℕ) → IsCallError (C.seen context.now) function (function_view callee.now) arguments.now answered e) }
 {
     for place in 0..arguments.len() {
         if let Some(error) = argument_fault(context, callee, arguments, place) {
@@ -76,13 +75,13 @@ fn is_answer_of(expression: &Expression, function: Handle<key::Function>) -> boo
 }
 
 // Whether there is an answer exactly where the function answers something, and it is that of this function.
-fn is_answered(
-    context: &BlockContext<'_>,
+fn is_answered<C: StatementContext>(
+    context: &C,
     function: Handle<key::Function>,
     callee: &Function,
     answered: &Option<Handle<key::Expression>>,
 ) -> bool
-    ensures { IsTrue result ↔ CallResultOK (context_view context.now) function (function_view callee.now) answered.now }
+    ensures { IsTrue result ↔ CallResultOK (C.seen context.now) function (function_view callee.now) answered.now }
 {
     match *answered {
         None => callee.result.is_none(),
@@ -93,26 +92,27 @@ fn is_answered(
     }
 }
 
-/// Whether a call passes what its function declares, and answers by what stands for its answer. Asks that the function is
-/// there; that as much is passed as it declares is asked beforehand.
+/// Whether a call passes what its function declares, and answers by what stands for its answer. A call of a function that is not
+/// there is not refused here: that it is there, and that as much is passed as it declares, is asked beforehand.
 ///
 /// # Errors
 ///
 /// [`FunctionError::InvalidCall`] with [`CallError::ArgumentType`] for an argument of another type (the first, which no clause says), or with
 /// [`CallError::ExpressionMismatch`] where the answer is no `CallResult` of the function, or is there exactly where there
 /// should be none.
-pub fn check_call(
-    context: &BlockContext<'_>,
+pub fn check_call<C: StatementContext>(
+    context: &C,
     function: Handle<key::Function>,
     arguments: &[Handle<key::Expression>],
     answered: Option<Handle<key::Expression>>,
 ) -> Result<(), FunctionError>
-    requires { function < length (context_view context.now).m.functions }
     ensures { MatchResult result
-        (λ _. CallOK (context_view context.now) function arguments.now answered)
-        (IsCallFault (context_view context.now) function arguments.now answered) }
+        (λ _. function < length (C.seen context.now).m.functions → CallOK (C.seen context.now) function arguments.now answered)
+        (IsCallFault (C.seen context.now) function arguments.now answered) }
 {
-    let callee = &context.module.functions[function];
+    let Some(callee) = context.function_at(function) else {
+        return Ok(());
+    };
     if let Some(error) = arguments_fault(context, callee, arguments) {
         return Err(FunctionError::InvalidCall { function, error });
     }

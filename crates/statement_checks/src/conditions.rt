@@ -4,9 +4,8 @@ ghost use Rattle.std.specs.Prelude.{◌≡◌, ◌↔◌, IsTrue, MatchResult};
 ghost use Rattle.spec_statements.specs.BlockContext.{form_at};
 ghost use Rattle.spec_statements.specs.Conditions.{ConditionOK};
 ghost use Rattle.statement_checks.specs.Conditions.{IsConditionFault};
-ghost use Rattle.statement_checks.specs.View.{context_view};
 
-use crate::context::BlockContext;
+use crate::context::StatementContext;
 use error_functions::FunctionError;
 use ir_arena::handle::Handle;
 use ir_kinds::ScalarKind;
@@ -48,13 +47,13 @@ const fn is_condition(of: Form) -> bool
 /// # Errors
 ///
 /// [`FunctionError::InvalidIfType`] where it is none.
-pub fn check_condition(
-    context: &BlockContext<'_>,
+pub fn check_condition<C: StatementContext>(
+    context: &C,
     condition: Handle<key::Expression>,
 ) -> Result<(), FunctionError>
     ensures { MatchResult result
-        (λ _. ConditionOK (form_at (context_view context.now) condition))
-        (IsConditionFault (context_view context.now) condition) }
+        (λ _. ConditionOK (form_at (C.seen context.now) condition))
+        (IsConditionFault (C.seen context.now) condition) }
 {
     if is_condition(context.form_at(condition)) {
         Ok(())

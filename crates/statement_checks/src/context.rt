@@ -1,10 +1,12 @@
 //! What the rules of a statement may look at.
 
-ghost use Rattle.std.specs.Prelude.{◌≡◌, ◌↔◌, IsTrue, option_map, slice_get};
+ghost use Rattle.std.specs.Prelude.{◌≡◌, ◌↔◌, IsTrue, map, option_map, slice_get};
+ghost use Rattle.ir_blocks.specs.View.{block_view};
+ghost use Rattle.ir_items.specs.GlobalView.{global_view, values_of};
+ghost use Rattle.ir_items.specs.View.{function_view};
 ghost use Rattle.ir_types.specs.ExpressionPlain.{expression_view};
-ghost use Rattle.ir_types.specs.Plain.{inner_view};
-ghost use Rattle.spec_statements.specs.BlockContext.{form_at};
-ghost use Rattle.statement_checks.specs.View.{context_view, IsKnown};
+ghost use Rattle.ir_types.specs.Plain.{inner_view, type_view};
+ghost use Rattle.spec_statements.specs.BlockContext.{BlockContext as PlainContext, form_at};
 ghost use Rattle.typing_forms.specs.Forms.{form_of_type};
 ghost use Rattle.typing_forms.specs.Resolutions.{inner_at};
 ghost use Rattle.typing_layout.specs.Constness.{IsOfKind};
@@ -12,10 +14,78 @@ ghost use Rattle.typing_layout.specs.declared.constness.ExpressionKind.TheVarian
 
 use ir_arena::handle::Handle;
 use ir_flags::{Capabilities, SubgroupOperationSet};
-use ir_items::{Function, Module};
-use ir_types::{Expression, TypeInner, key};
+use ir_items::{Block, Function, FunctionResult, GlobalVariable, Module};
+use ir_types::{Expression, IrType, TypeInner, key};
+use ir_unique_arena::unique_arena::UniqueArena;
 use typing_forms::{Form, form_of_type, inner_of};
 use typing_layout::ExpressionKindTracker;
+
+/// What the rules of a statement may look at: a module, one of its functions, and what is known of its expressions. The rules
+/// are the same whatever holds it.
+pub trait StatementContext {
+    /// What it holds.
+    ghost seen: { Self → PlainContext };
+
+    /// When the values of expressions are known is told of all of them.
+    ghost known: { Self → Type 0 };
+
+    /// What shaders may use beyond the common part.
+    fn capabilities(&self) -> Capabilities
+        ensures { result ≡ (seen self.now).capabilities };
+
+    /// The operations of subgroups that may be used.
+    fn operations(&self) -> SubgroupOperationSet
+        ensures { result ≡ (seen self.now).operations };
+
+    /// The form of the type of an expression, [`Form::Nothing`] where there is none.
+    fn form_at(&self, handle: Handle<key::Expression>) -> Form
+        ensures { result ≡ form_at (seen self.now) handle };
+
+    /// The form of a type of the module, [`Form::Nothing`] where there is none.
+    fn form_of(&self, ty: Handle<key::IrType>) -> Form
+        ensures { result ≡ form_of_type (seen self.now).m.types ty };
+
+    /// What a type of the module is made of, if there is one.
+    fn inner_of(&self, ty: Handle<key::IrType>) -> Option<&TypeInner>
+        ensures { option_map (λ found. inner_view found.now) result ≡ inner_at (seen self.now).m.types ty };
+
+    /// The types of the module.
+    fn types(&self) -> &UniqueArena<IrType, key::IrType>
+        ensures { map type_view (values_of result.now) ≡ (seen self.now).m.types };
+
+    /// A global variable of the module, if there is one at the handle.
+    fn global_at(&self, handle: Handle<key::GlobalVariable>) -> Option<&GlobalVariable>
+        ensures { option_map (λ found. global_view found.now) result ≡ slice_get (seen self.now).m.globals handle };
+
+    /// A function of the module, if there is one at the handle.
+    fn function_at(&self, handle: Handle<key::Function>) -> Option<&Function>
+        ensures { option_map (λ found. function_view found.now) result ≡ slice_get (seen self.now).m.functions handle };
+
+    /// The module's type of rays, if it has one.
+    fn ray_descriptor(&self) -> Option<Handle<key::IrType>>
+        ensures { result ≡ (seen self.now).m.special.ray_desc };
+
+    /// An expression of the function, if there is one at the handle.
+    fn expression_at(&self, handle: Handle<key::Expression>) -> Option<&Expression>
+        ensures { option_map (λ found. expression_view found.now) result ≡ slice_get (seen self.now).f.expressions handle };
+
+    /// Whether the value of an expression is known as the module is written.
+    fn is_const(&self, handle: Handle<key::Expression>) -> bool
+        requires { known self.now }
+        ensures { IsTrue result ↔ IsOfKind (seen self.now).f.expressions handle Const };
+
+    /// The type of a variable of the function, if there is one at the handle.
+    fn local_type(&self, handle: Handle<key::LocalVariable>) -> Option<Handle<key::IrType>>
+        ensures { result ≡ option_map (λ v. v.ty) (slice_get (seen self.now).f.locals handle) };
+
+    /// What the function answers, if it answers something.
+    fn result(&self) -> Option<FunctionResult>
+        ensures { result ≡ (seen self.now).f.result };
+
+    /// The statements of the function.
+    fn body(&self) -> &Block
+        ensures { block_view result.now ≡ (seen self.now).f.body };
+}
 
 /// What the rules of a statement may look at (naga's `BlockContext`).
 #[derive(Clone, Copy)]
@@ -34,47 +104,85 @@ pub struct BlockContext<'a> {
     pub kinds: &'a ExpressionKindTracker,
 }
 
-impl BlockContext<'_> {
-    /// The form of the type of an expression, [`Form::Nothing`] where there is none.
-    pub fn form_at(&self, handle: Handle<key::Expression>) -> Form
-        ensures { result ≡ form_at (context_view self.now) handle }
-    {
+impl<'a> StatementContext for BlockContext<'a> {
+    ghost use Rattle.statement_checks.specs.View.{context_view, IsKnown};
+
+    ghost seen = { λ c. context_view c };
+
+    ghost known = { λ c. IsKnown c };
+
+    fn capabilities(&self) -> Capabilities {
+        self.capabilities
+    }
+
+    fn operations(&self) -> SubgroupOperationSet {
+        self.operations
+    }
+
+    fn form_at(&self, handle: Handle<key::Expression>) -> Form {
         match self.forms.get(handle.index()) {
             Some(form) => *form,
             None => Form::Nothing,
         }
     }
 
-    /// The form of a type of the module, [`Form::Nothing`] where there is none.
-    pub fn form_of(&self, ty: Handle<key::IrType>) -> Form
-        ensures { result ≡ form_of_type (context_view self.now).m.types ty }
-    {
+    fn form_of(&self, ty: Handle<key::IrType>) -> Form {
         form_of_type(&self.module.types, ty)
     }
 
-    /// What a type of the module is made of, if there is one.
-    pub fn inner_of(&self, ty: Handle<key::IrType>) -> Option<&TypeInner>
-        ensures { option_map (λ found. inner_view found.now) result ≡ inner_at (context_view self.now).m.types ty }
-    {
+    fn inner_of(&self, ty: Handle<key::IrType>) -> Option<&TypeInner> {
         inner_of(&self.module.types, ty)
     }
 
-    /// An expression of the function, if there is one at the handle.
+    fn types(&self) -> &UniqueArena<IrType, key::IrType> {
+        &self.module.types
+    }
+
     #[tactic(auto, using(crate::proofs::Lookups::found, crate::proofs::Lookups::missing))]
-    pub fn expression_at(&self, handle: Handle<key::Expression>) -> Option<&Expression>
-        ensures { option_map (λ found. expression_view found.now) result ≡ slice_get (context_view self.now).f.expressions handle }
-    {
+    fn global_at(&self, handle: Handle<key::GlobalVariable>) -> Option<&GlobalVariable> {
+        match self.module.global_variables.try_get(handle) {
+            Ok(global) => Some(global),
+            Err(_) => None,
+        }
+    }
+
+    #[tactic(auto, using(crate::proofs::Lookups::found, crate::proofs::Lookups::missing))]
+    fn function_at(&self, handle: Handle<key::Function>) -> Option<&Function> {
+        match self.module.functions.try_get(handle) {
+            Ok(function) => Some(function),
+            Err(_) => None,
+        }
+    }
+
+    fn ray_descriptor(&self) -> Option<Handle<key::IrType>> {
+        self.module.special_types.ray_desc
+    }
+
+    #[tactic(auto, using(crate::proofs::Lookups::found, crate::proofs::Lookups::missing))]
+    fn expression_at(&self, handle: Handle<key::Expression>) -> Option<&Expression> {
         match self.function.expressions.try_get(handle) {
             Ok(expression) => Some(expression),
             Err(_) => None,
         }
     }
 
-    /// Whether the value of an expression is known as the module is written.
-    pub fn is_const(&self, handle: Handle<key::Expression>) -> bool
-        requires { IsKnown self.now }
-        ensures { IsTrue result ↔ IsOfKind (context_view self.now).f.expressions handle Const }
-    {
+    fn is_const(&self, handle: Handle<key::Expression>) -> bool {
         handle.index() < self.function.expressions.len() && self.kinds.is_const(handle)
+    }
+
+    #[tactic(auto, using(crate::proofs::Lookups::found, crate::proofs::Lookups::missing))]
+    fn local_type(&self, handle: Handle<key::LocalVariable>) -> Option<Handle<key::IrType>> {
+        match self.function.local_variables.try_get(handle) {
+            Ok(variable) => Some(variable.ty),
+            Err(_) => None,
+        }
+    }
+
+    fn result(&self) -> Option<FunctionResult> {
+        self.function.result
+    }
+
+    fn body(&self) -> &Block {
+        &self.function.body
     }
 }

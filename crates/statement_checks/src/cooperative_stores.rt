@@ -5,11 +5,10 @@ ghost use Rattle.ir_types.specs.Plain.{inner_view};
 ghost use Rattle.spec_expressions.specs.CooperativeMatrices.{pointed_scalar};
 ghost use Rattle.spec_statements.specs.CooperativeStores.{CooperativeStoreOK, matrix_scalar};
 ghost use Rattle.statement_checks.specs.CooperativeStores.{IsCooperativeFault};
-ghost use Rattle.statement_checks.specs.View.{context_view};
 ghost use Rattle.typing_forms.specs.Resolutions.{inner_at};
 ghost use Rattle.typing_forms.specs.Parts.{scalar_of};
 
-use crate::context::BlockContext;
+use crate::context::StatementContext;
 use crate::pointers::is_writable;
 use error_functions::FunctionError;
 use ir_arena::handle::Handle;
@@ -54,8 +53,8 @@ fn scalar_of(inner: &TypeInner) -> Option<Scalar>
 }
 
 // The scalar of what lies at a type.
-fn scalar_at(context: &BlockContext<'_>, base: Handle<key::IrType>) -> Option<Scalar>
-    ensures { result ≡ option_and_then scalar_of (inner_at (context_view context.now).m.types base) }
+fn scalar_at<C: StatementContext>(context: &C, base: Handle<key::IrType>) -> Option<Scalar>
+    ensures { result ≡ option_and_then scalar_of (inner_at (C.seen context.now).m.types base) }
 {
     match context.inner_of(base) {
         Some(inner) => scalar_of(inner),
@@ -64,8 +63,8 @@ fn scalar_at(context: &BlockContext<'_>, base: Handle<key::IrType>) -> Option<Sc
 }
 
 // The scalar of what a pointer leads to.
-fn pointed_scalar(context: &BlockContext<'_>, pointer: Form) -> Option<Scalar>
-    ensures { result ≡ pointed_scalar (context_view context.now).m.types pointer }
+fn pointed_scalar<C: StatementContext>(context: &C, pointer: Form) -> Option<Scalar>
+    ensures { result ≡ pointed_scalar (C.seen context.now).m.types pointer }
 {
     match pointer {
         Form::Pointer { base, .. } => scalar_at(context, base),
@@ -91,14 +90,14 @@ fn is_scalar(found: Option<Scalar>, scalar: Scalar) -> bool
 /// [`FunctionError::InvalidCooperativeStoreTarget`] for what is no cooperative matrix,
 /// [`FunctionError::InvalidCooperativeDataPointer`] where other scalars lie, or none, and
 /// [`FunctionError::InvalidStorePointer`] where nothing is written.
-pub fn check_cooperative_store(
-    context: &BlockContext<'_>,
+pub fn check_cooperative_store<C: StatementContext>(
+    context: &C,
     target: Handle<key::Expression>,
     place: CooperativeData,
 ) -> Result<(), FunctionError>
     ensures { MatchResult result
-        (λ _. CooperativeStoreOK (context_view context.now) target place)
-        (IsCooperativeFault (context_view context.now) target place) }
+        (λ _. CooperativeStoreOK (C.seen context.now) target place)
+        (IsCooperativeFault (C.seen context.now) target place) }
 {
     let Some(scalar) = matrix_scalar(context.form_at(target)) else {
         return Err(FunctionError::InvalidCooperativeStoreTarget(target));

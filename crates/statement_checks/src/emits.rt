@@ -4,9 +4,8 @@ ghost use Rattle.std.specs.Prelude.{◌≡◌, ◌↔◌, IfSome, IsTrue, MatchR
 ghost use Rattle.ir_types.specs.ExpressionPlain.{expression_view};
 ghost use Rattle.spec_statements.specs.Emits.{EmitOK, IsEmittable};
 ghost use Rattle.statement_checks.specs.Emits.{IsEmitFault};
-ghost use Rattle.statement_checks.specs.View.{context_view};
 
-use crate::context::BlockContext;
+use crate::context::StatementContext;
 use error_functions::FunctionError;
 use ir_arena::handle::Handle;
 use ir_arena::range::Range;
@@ -55,8 +54,8 @@ fn is_emittable(expression: &Expression) -> bool
 }
 
 // The same of the expression at a handle.
-fn is_emitted(context: &BlockContext<'_>, handle: Handle<key::Expression>) -> bool
-    ensures { IsTrue result ↔ IfSome (slice_get (context_view context.now).f.expressions handle) IsEmittable }
+fn is_emitted<C: StatementContext>(context: &C, handle: Handle<key::Expression>) -> bool
+    ensures { IsTrue result ↔ IfSome (slice_get (C.seen context.now).f.expressions handle) IsEmittable }
 {
     match context.expression_at(handle) {
         Some(expression) => is_emittable(expression),
@@ -69,13 +68,13 @@ fn is_emitted(context: &BlockContext<'_>, handle: Handle<key::Expression>) -> bo
 /// # Errors
 ///
 /// [`FunctionError::EmitResult`] for one that stands for the answer of a statement.
-pub fn check_emit(
-    context: &BlockContext<'_>,
+pub fn check_emit<C: StatementContext>(
+    context: &C,
     range: Range<key::Expression>,
 ) -> Result<(), FunctionError>
     ensures { MatchResult result
-        (λ _. EmitOK (context_view context.now).f.expressions range.0 range.1)
-        (IsEmitFault (context_view context.now) range.0 range.1) }
+        (λ _. EmitOK (C.seen context.now).f.expressions range.0 range.1)
+        (IsEmitFault (C.seen context.now) range.0 range.1) }
 {
     for handle in range {
         if !is_emitted(context, handle) {

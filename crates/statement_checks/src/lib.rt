@@ -22,7 +22,7 @@ pub use barriers::check_barrier;
 pub use calls::check_call;
 pub use check_context::CheckContext;
 pub use conditions::check_condition;
-pub use context::BlockContext;
+pub use context::{BlockContext, StatementContext};
 pub use cooperative_stores::check_cooperative_store;
 pub use emits::check_emit;
 pub use pointers::{base_at, pointer_space};

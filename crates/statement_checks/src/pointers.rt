@@ -7,10 +7,9 @@ ghost use Rattle.ir_walks.specs.Bases.{base_of, BasesPrecede};
 ghost use Rattle.spec_expressions.specs.Loads.{loaded, loaded_value};
 ghost use Rattle.spec_statements.specs.Stores.{base_at, BeginsAt, IsVariable, IsVariableOf, IsVariableAt, pointer_space, IsWritable, FitsAt};
 ghost use Rattle.typing_forms.specs.Resolutions.{inner_at};
-ghost use Rattle.statement_checks.specs.View.{context_view};
 
 use crate::are_same;
-use crate::context::BlockContext;
+use crate::context::StatementContext;
 use bitflags::Flags;
 use ir_arena::handle::Handle;
 use ir_flags::StorageAccess;
@@ -32,11 +31,11 @@ fn base_of(expression: &Expression) -> Option<Handle<key::Expression>>
 }
 
 /// The base of the access that the expression at a handle is, if it is one.
-pub fn base_at(
-    context: &BlockContext<'_>,
+pub fn base_at<C: StatementContext>(
+    context: &C,
     handle: Handle<key::Expression>,
 ) -> Option<Handle<key::Expression>>
-    ensures { result ≡ base_at (context_view context.now).f.expressions handle }
+    ensures { result ≡ base_at (C.seen context.now).f.expressions handle }
 {
     match context.expression_at(handle) {
         Some(expression) => base_of(expression),
@@ -45,12 +44,12 @@ pub fn base_at(
 }
 
 /// What a chain of accesses begins at. Asks that the base of each access comes before it.
-pub(crate) fn beginning_of(
-    context: &BlockContext<'_>,
+pub(crate) fn beginning_of<C: StatementContext>(
+    context: &C,
     pointer: Handle<key::Expression>,
 ) -> Handle<key::Expression>
-    requires { BasesPrecede (context_view context.now).f.expressions }
-    ensures { BeginsAt (context_view context.now).f.expressions pointer result }
+    requires { BasesPrecede (C.seen context.now).f.expressions }
+    ensures { BeginsAt (C.seen context.now).f.expressions pointer result }
 {
     let mut current = pointer;
     while let Some(base) = base_at(context, current) {
@@ -102,8 +101,11 @@ fn is_variable(expression: &Expression) -> bool
 }
 
 /// Whether the expression at a handle is a variable or an argument.
-pub(crate) fn is_variable_at(context: &BlockContext<'_>, handle: Handle<key::Expression>) -> bool
-    ensures { IsTrue result ↔ IsVariableAt (context_view context.now).f.expressions handle }
+pub(crate) fn is_variable_at<C: StatementContext>(
+    context: &C,
+    handle: Handle<key::Expression>,
+) -> bool
+    ensures { IsTrue result ↔ IsVariableAt (C.seen context.now).f.expressions handle }
 {
     match context.expression_at(handle) {
         Some(expression) => is_variable(expression),
@@ -157,8 +159,8 @@ const fn loaded_value(size: Option<VectorSize>, scalar: Scalar) -> Form
 }
 
 // What is loaded of what a pointer leads to: of an atomic its scalar, and else the whole.
-fn loaded(context: &BlockContext<'_>, base: Handle<key::IrType>) -> Form
-    ensures { result ≡ loaded (context_view context.now).m.types base (inner_at (context_view context.now).m.types base) }
+fn loaded<C: StatementContext>(context: &C, base: Handle<key::IrType>) -> Form
+    ensures { result ≡ loaded (C.seen context.now).m.types base (inner_at (C.seen context.now).m.types base) }
 {
     match context.inner_of(base) {
         Some(TypeInner::Atomic(scalar)) => Form::Scalar(*scalar),
@@ -167,8 +169,8 @@ fn loaded(context: &BlockContext<'_>, base: Handle<key::IrType>) -> Form
 }
 
 /// Whether a value is of the type that would be loaded.
-pub(crate) fn fits_at(context: &BlockContext<'_>, pointer: Form, value: Form) -> bool
-    ensures { IsTrue result ↔ FitsAt (context_view context.now).m.types pointer value }
+pub(crate) fn fits_at<C: StatementContext>(context: &C, pointer: Form, value: Form) -> bool
+    ensures { IsTrue result ↔ FitsAt (C.seen context.now).m.types pointer value }
 {
     match pointer {
         Form::Pointer { base, .. } => are_same(value, loaded(context, base)),

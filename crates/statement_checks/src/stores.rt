@@ -6,10 +6,9 @@ ghost use Rattle.ir_walks.specs.Bases.{BasesPrecede};
 ghost use Rattle.spec_statements.specs.BlockContext.{form_at};
 ghost use Rattle.spec_statements.specs.Stores.{StoreOK, IsStorable};
 ghost use Rattle.statement_checks.specs.Stores.{IsStoreFault};
-ghost use Rattle.statement_checks.specs.View.{context_view};
 ghost use Rattle.typing_forms.specs.Forms.{form_in};
 
-use crate::context::BlockContext;
+use crate::context::StatementContext;
 use crate::pointers::{beginning_of, fits_at, is_variable_at, is_writable};
 use error_functions::FunctionError;
 use ir_arena::handle::Handle;
@@ -49,16 +48,16 @@ fn unstorable(value: Form) -> Option<TypeInner>
 }
 
 // Whether a value that may be stored is stored where it fits and may be written.
-fn check_target(
-    context: &BlockContext<'_>,
+fn check_target<C: StatementContext>(
+    context: &C,
     pointer: Handle<key::Expression>,
     value: Handle<key::Expression>,
 ) -> Result<(), FunctionError>
-    requires precede { BasesPrecede (context_view context.now).f.expressions }
-    requires storable { IsStorable (form_at (context_view context.now) value) }
+    requires precede { BasesPrecede (C.seen context.now).f.expressions }
+    requires storable { IsStorable (form_at (C.seen context.now) value) }
     ensures { MatchResult result
-        (λ _. StoreOK (context_view context.now) pointer value)
-        (IsStoreFault (context_view context.now) pointer value) }
+        (λ _. StoreOK (C.seen context.now) pointer value)
+        (IsStoreFault (C.seen context.now) pointer value) }
 {
     let start = beginning_of(context, pointer);
     if !is_variable_at(context, start) {
@@ -81,15 +80,15 @@ fn check_target(
 /// [`FunctionError::InvalidStorePointer`] at what the pointer begins at where that is neither a variable nor an argument, or at
 /// the pointer where nothing is written in its space; [`FunctionError::InvalidStoreTexture`] for an image or a sampler;
 /// [`FunctionError::InvalidStoreTypes`] where the value is of another type.
-pub fn check_store(
-    context: &BlockContext<'_>,
+pub fn check_store<C: StatementContext>(
+    context: &C,
     pointer: Handle<key::Expression>,
     value: Handle<key::Expression>,
 ) -> Result<(), FunctionError>
-    requires { BasesPrecede (context_view context.now).f.expressions }
+    requires { BasesPrecede (C.seen context.now).f.expressions }
     ensures { MatchResult result
-        (λ _. StoreOK (context_view context.now) pointer value)
-        (IsStoreFault (context_view context.now) pointer value) }
+        (λ _. StoreOK (C.seen context.now) pointer value)
+        (IsStoreFault (C.seen context.now) pointer value) }
 {
     match unstorable(context.form_at(value)) {
         Some(actual_ty) => Err(FunctionError::InvalidStoreTexture {

@@ -6,9 +6,8 @@ ghost use Rattle.ir_types.specs.ExpressionPlain.{expression_view};
 ghost use Rattle.ir_items.specs.GlobalView.{global_view};
 ghost use Rattle.ir_walks.specs.Bases.{global_of};
 ghost use Rattle.spec_statements.specs.Variables.{variable_at, accessed_at};
-ghost use Rattle.statement_checks.specs.View.{context_view};
 
-use crate::context::BlockContext;
+use crate::context::StatementContext;
 use crate::pointers::base_at;
 use ir_arena::handle::Handle;
 use ir_items::GlobalVariable;
@@ -24,30 +23,16 @@ fn global_of(expression: &Expression) -> Option<Handle<key::GlobalVariable>>
     }
 }
 
-// The global variable of a handle, if there is one.
-#[tactic(auto, using(crate::proofs::Lookups::found, crate::proofs::Lookups::missing))]
-fn global_at<'a>(
-    context: &'a BlockContext<'_>,
-    variable: Handle<key::GlobalVariable>,
-) -> Option<&'a GlobalVariable>
-    ensures { option_map (λ found. global_view found.now) result ≡ slice_get (context_view context.now).m.globals variable }
-{
-    match context.module.global_variables.try_get(variable) {
-        Ok(global) => Some(global),
-        Err(_) => None,
-    }
-}
-
 /// The global variable that the expression at a handle is.
-pub fn variable_at<'a>(
-    context: &'a BlockContext<'_>,
+pub fn variable_at<'a, C: StatementContext>(
+    context: &'a C,
     handle: Handle<key::Expression>,
 ) -> Option<&'a GlobalVariable>
-    ensures { option_map (λ found. global_view found.now) result ≡ variable_at (context_view context.now).m (context_view context.now).f handle }
+    ensures { option_map (λ found. global_view found.now) result ≡ variable_at (C.seen context.now).m (C.seen context.now).f handle }
 {
     match context.expression_at(handle) {
         Some(expression) => match global_of(expression) {
-            Some(variable) => global_at(context, variable),
+            Some(variable) => context.global_at(variable),
             None => None,
         },
         None => None,
@@ -55,11 +40,11 @@ pub fn variable_at<'a>(
 }
 
 /// The global variable that the access at a handle is directly on.
-pub fn accessed_at<'a>(
-    context: &'a BlockContext<'_>,
+pub fn accessed_at<'a, C: StatementContext>(
+    context: &'a C,
     handle: Handle<key::Expression>,
 ) -> Option<&'a GlobalVariable>
-    ensures { option_map (λ found. global_view found.now) result ≡ accessed_at (context_view context.now).m (context_view context.now).f handle }
+    ensures { option_map (λ found. global_view found.now) result ≡ accessed_at (C.seen context.now).m (C.seen context.now).f handle }
 {
     match base_at(context, handle) {
         Some(base) => variable_at(context, base),
@@ -68,12 +53,12 @@ pub fn accessed_at<'a>(
 }
 
 /// The global variable that the expression at a handle is, or that it is an access directly on.
-pub fn named_at<'a>(
-    context: &'a BlockContext<'_>,
+pub fn named_at<'a, C: StatementContext>(
+    context: &'a C,
     handle: Handle<key::Expression>,
 ) -> Option<&'a GlobalVariable>
     ensures { option_map (λ found. global_view found.now) result
-        ≡ option_or (variable_at (context_view context.now).m (context_view context.now).f handle) (accessed_at (context_view context.now).m (context_view context.now).f handle) }
+        ≡ option_or (variable_at (C.seen context.now).m (C.seen context.now).f handle) (accessed_at (C.seen context.now).m (C.seen context.now).f handle) }
 {
     match variable_at(context, handle) {
         Some(variable) => Some(variable),

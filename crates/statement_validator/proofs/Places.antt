@@ -1,8 +1,9 @@
 -- What is asked of each statement, and what one is refused for, as the body is judged.
+use Rattle.std.proofs.Common.{◌≡◌, subst, sym}
 use Rattle.std.proofs.lemmas.Option.{slice_get_within}
 use Rattle.error_functions.specs.declared.error.FunctionError.{FunctionError}
 use Rattle.ir_blocks.specs.Places.{Place, StandsAt}
-use Rattle.ir_blocks.specs.Plain.{PlainStatement, emit, block, if_, switch, loop, break, continue, return, kill, operation, call}
+use Rattle.ir_blocks.specs.Plain.{PlainStatement, emit, block, if_, switch, loop, break, continue, return, kill, operation, call, PlainBlock}
 use Rattle.ir_items.specs.Plain.{PlainFunction, PlainModule}
 use Rattle.spec_handles.specs.Conditions.{AritiesMatch}
 use Rattle.spec_statements.specs.BlockContext.{BlockContext}
@@ -25,9 +26,9 @@ callee_there m f ok p (operation a) stands = tt
 callee_there m f ok p (call function arguments answer) stands =
     let found = ok p function arguments answer stands in slice_get_within m.functions function found.0 found.1
 
-pub all_fine : (c : BlockContext) → AritiesMatch c.m c.f → ((p : Place) (u : PlainStatement) → StandsAt c.f.body p u → Meets c u)
+pub all_fine : (c : BlockContext) → AritiesMatch c.m c.f → (b : PlainBlock) → b ≡ c.f.body → ((p : Place) (u : PlainStatement) → StandsAt b p u → Meets c u)
     → (p : Place) (u : PlainStatement) → StandsAt c.f.body p u → StatementOK c u
-all_fine c ok h p u stands = h p u stands (callee_there c.m c.f ok p u stands)
+all_fine c ok b is h p u stands = h p u (subst (λ x. StandsAt x p u) (sym is) stands) (callee_there c.m c.f ok p u stands)
 
-pub one_wrong : (c : BlockContext) (e : FunctionError) → (p : Place) × (u : PlainStatement) × StandsAt c.f.body p u × IsWrong c (Fault e) u → IsBodyFault c e
-one_wrong c e h = record { place = h.0; statement = h.1; stands = h.2; wrong = h.3 }
+pub one_wrong : (c : BlockContext) (e : FunctionError) (b : PlainBlock) → b ≡ c.f.body → (p : Place) × (u : PlainStatement) × StandsAt b p u × IsWrong c (Fault e) u → IsBodyFault c e
+one_wrong c e b is h = record { place = h.0; statement = h.1; stands = subst (λ x. StandsAt x h.0 h.1) is h.2; wrong = h.3 }

@@ -6,7 +6,6 @@ ghost use Rattle.ir_blocks.specs.Plain.{PlainStatement};
 ghost use Rattle.ir_walks.specs.Bases.{BasesPrecede};
 ghost use Rattle.spec_handles.specs.Conditions.{AritiesMatch};
 ghost use Rattle.spec_statements.specs.Statements.{StatementOK};
-ghost use Rattle.statement_checks.specs.View.{context_view, IsKnown};
 ghost use Rattle.statement_validator.specs.Faults.{IsBodyRefusal};
 
 use crate::error::StatementError;
@@ -15,7 +14,7 @@ use error_functions::FunctionError;
 use ir_faults::refusal::Refusal;
 use ir_faults::with_span::WithSpan;
 use ir_references::check_each;
-use statement_checks::BlockContext;
+use statement_checks::StatementContext;
 use std::alloc::Global;
 
 /// Whether each statement of the context's function, at any depth, meets the rule of its kind (a part of naga's
@@ -27,19 +26,19 @@ use std::alloc::Global;
 /// [`Refusal::Fault`] with a fault of a statement that has one, as its check answers it: the first in the order of the text,
 /// which no clause says.
 /// [`Refusal::Memory`] where memory ran out.
-pub fn validate_statements(
+pub fn validate_statements<C: StatementContext>(
     alloc: Global,
-    context: &BlockContext<'_>,
+    context: &C,
 ) -> Result<(), Refusal<FunctionError>>
-    requires known { IsKnown context.now }
-    requires precede { BasesPrecede (context_view context.now).f.expressions }
-    requires arities { AritiesMatch (context_view context.now).m (context_view context.now).f }
+    requires known { C.known context.now }
+    requires precede { BasesPrecede (C.seen context.now).f.expressions }
+    requires arities { AritiesMatch (C.seen context.now).m (C.seen context.now).f }
     ensures { MatchResult result
-        (λ _. (p : Place) (u : PlainStatement) → StandsAt (context_view context.now).f.body p u → StatementOK (context_view context.now) u)
-        (IsBodyRefusal (context_view context.now)) }
+        (λ _. (p : Place) (u : PlainStatement) → StandsAt (C.seen context.now).f.body p u → StatementOK (C.seen context.now) u)
+        (IsBodyRefusal (C.seen context.now)) }
 {
     let rules = Rules { alloc, context };
-    match check_each(&rules, &context.function.body) {
+    match check_each(&rules, context.body()) {
         Ok(()) => Ok(()),
         Err(StatementError::Memory(error)) => Err(Refusal::Memory(error)),
         Err(StatementError::Fault(error)) => Err(Refusal::Fault(WithSpan::new(alloc, error))),

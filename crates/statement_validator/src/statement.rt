@@ -1,17 +1,14 @@
 //! The rules of statements: one arm for each kind.
 
-ghost use Rattle.std.specs.Prelude.{◌<◌, IfSome, IsSomeAnd, MatchResult, length, map};
+ghost use Rattle.std.specs.Prelude.{IfSome, IsSomeAnd, MatchResult, map};
 ghost use Rattle.ir_blocks.specs.View.{statement_view, case_view, cases_of};
 ghost use Rattle.ir_walks.specs.Bases.{BasesPrecede};
 ghost use Rattle.atomic_checks.specs.StorageImages.{IsImageStoreFault};
 ghost use Rattle.spec_statements.specs.BlockContext.{form_at};
-ghost use Rattle.spec_statements.specs.Calls.{CallOK};
 ghost use Rattle.spec_statements.specs.Conditions.{ConditionOK};
 ghost use Rattle.spec_statements.specs.StorageImages.{ImageStoreOK};
 ghost use Rattle.spec_statements.specs.Switches.{SwitchOK};
-ghost use Rattle.statement_checks.specs.Calls.{IsCallFault};
 ghost use Rattle.statement_checks.specs.Conditions.{IsConditionFault};
-ghost use Rattle.statement_checks.specs.View.{context_view, IsKnown};
 ghost use Rattle.statement_validator.specs.Bodies.{Meets, MeetsPlainly};
 ghost use Rattle.statement_validator.specs.Faults.{IfFault, IsStatementFault};
 ghost use Rattle.statement_validator.specs.Switches.{IsSwitchFault};
@@ -28,21 +25,21 @@ use operation_checks::{
     check_ballot, check_collective, check_gather, check_ray_pipeline, check_ray_query,
 };
 use statement_checks::{
-    BlockContext, check_barrier, check_call, check_condition, check_cooperative_store, check_emit,
-    check_return, check_store,
+    StatementContext, check_barrier, check_call, check_condition, check_cooperative_store,
+    check_emit, check_return, check_store,
 };
 use std::alloc::Global;
 
 // A switch.
-fn check_cases(
+fn check_cases<C: StatementContext>(
     alloc: Global,
-    context: &BlockContext<'_>,
+    context: &C,
     selector: Handle<key::Expression>,
     cases: &[SwitchCase],
 ) -> Result<(), StatementError>
     ensures { MatchResult result
-        (λ _. SwitchOK (form_at (context_view context.now) selector) (cases_of (map case_view cases.now)))
-        (λ r. IfFault r (IsSwitchFault (context_view context.now) selector (cases_of (map case_view cases.now)))) }
+        (λ _. SwitchOK (form_at (C.seen context.now) selector) (cases_of (map case_view cases.now)))
+        (λ r. IfFault r (IsSwitchFault (C.seen context.now) selector (cases_of (map case_view cases.now)))) }
 {
     match check_switch(alloc, context, selector, cases) {
         Ok(()) => Ok(()),
@@ -52,17 +49,17 @@ fn check_cases(
 }
 
 // A texel that is written.
-fn check_written(
+fn check_written<C: StatementContext>(
     alloc: Global,
-    context: &BlockContext<'_>,
+    context: &C,
     image: Handle<key::Expression>,
     coordinate: Handle<key::Expression>,
     array_index: Option<Handle<key::Expression>>,
     value: Handle<key::Expression>,
 ) -> Result<(), StatementError>
     ensures { MatchResult result
-        (λ _. ImageStoreOK (context_view context.now) image coordinate array_index value)
-        (λ r. IfFault r (IsImageStoreFault (context_view context.now) image coordinate array_index value)) }
+        (λ _. ImageStoreOK (C.seen context.now) image coordinate array_index value)
+        (λ r. IfFault r (IsImageStoreFault (C.seen context.now) image coordinate array_index value)) }
 {
     match check_image_store(alloc, context, image, coordinate, array_index, value) {
         Ok(()) => Ok(()),
@@ -72,13 +69,13 @@ fn check_written(
 }
 
 // The condition of a loop, if it has one.
-fn check_break_if(
-    context: &BlockContext<'_>,
+fn check_break_if<C: StatementContext>(
+    context: &C,
     break_if: &Option<Handle<key::Expression>>,
 ) -> Result<(), FunctionError>
     ensures { MatchResult result
-        (λ _. IfSome break_if.now (λ e. ConditionOK (form_at (context_view context.now) e)))
-        (λ x. IsSomeAnd break_if.now (λ e. IsConditionFault (context_view context.now) e x)) }
+        (λ _. IfSome break_if.now (λ e. ConditionOK (form_at (C.seen context.now) e)))
+        (λ x. IsSomeAnd break_if.now (λ e. IsConditionFault (C.seen context.now) e x)) }
 {
     match *break_if {
         Some(condition) => match check_condition(context, condition) {
@@ -89,34 +86,14 @@ fn check_break_if(
     }
 }
 
-// A call, where the function is there.
-fn check_called(
-    context: &BlockContext<'_>,
-    function: Handle<key::Function>,
-    arguments: &[Handle<key::Expression>],
-    answer: Option<Handle<key::Expression>>,
-) -> Result<(), FunctionError>
-    ensures { MatchResult result
-        (λ _. function < length (context_view context.now).m.functions → CallOK (context_view context.now) function arguments.now answer)
-        (IsCallFault (context_view context.now) function arguments.now answer) }
-{
-    if function.index() >= context.module.functions.len() {
-        return Ok(());
-    }
-    match check_call(context, function, arguments, answer) {
-        Ok(()) => Ok(()),
-        Err(error) => Err(error),
-    }
-}
-
 // Whether a statement meets its rule, what stands inside it aside, where its rule takes no memory: not a switch, and not a
 // texel that is written.
-fn check_plain(context: &BlockContext<'_>, statement: &Statement) -> Result<(), FunctionError>
-    requires known { IsKnown context.now }
-    requires precede { BasesPrecede (context_view context.now).f.expressions }
+fn check_plain<C: StatementContext>(context: &C, statement: &Statement) -> Result<(), FunctionError>
+    requires known { C.known context.now }
+    requires precede { BasesPrecede (C.seen context.now).f.expressions }
     ensures { MatchResult result
-        (λ _. MeetsPlainly (context_view context.now) (statement_view statement.now))
-        (IsStatementFault (context_view context.now) (statement_view statement.now)) }
+        (λ _. MeetsPlainly (C.seen context.now) (statement_view statement.now))
+        (IsStatementFault (C.seen context.now) (statement_view statement.now)) }
 {
     match statement {
         Statement::Emit(range) => check_emit(context, *range),
@@ -153,7 +130,7 @@ fn check_plain(context: &BlockContext<'_>, statement: &Statement) -> Result<(), 
             function,
             arguments,
             result: answer,
-        } => check_called(context, *function, arguments, *answer),
+        } => check_call(context, *function, arguments, *answer),
         Statement::RayQuery { query, fun } => check_ray_query(context, *query, *fun),
         Statement::SubgroupBallot { predicate, .. } => check_ballot(context, *predicate),
         Statement::SubgroupCollectiveOperation {
@@ -176,16 +153,16 @@ fn check_plain(context: &BlockContext<'_>, statement: &Statement) -> Result<(), 
 
 /// Whether a statement meets its rule, what stands inside it aside. A call of a function that is not there is not refused here:
 /// that it is there is asked beforehand.
-pub(crate) fn check_own(
+pub(crate) fn check_own<C: StatementContext>(
     alloc: Global,
-    context: &BlockContext<'_>,
+    context: &C,
     statement: &Statement,
 ) -> Result<(), StatementError>
-    requires known { IsKnown context.now }
-    requires precede { BasesPrecede (context_view context.now).f.expressions }
+    requires known { C.known context.now }
+    requires precede { BasesPrecede (C.seen context.now).f.expressions }
     ensures { MatchResult result
-        (λ _. Meets (context_view context.now) (statement_view statement.now))
-        (λ r. IfFault r (IsStatementFault (context_view context.now) (statement_view statement.now))) }
+        (λ _. Meets (C.seen context.now) (statement_view statement.now))
+        (λ r. IfFault r (IsStatementFault (C.seen context.now) (statement_view statement.now))) }
 {
     match statement {
         Statement::Switch { selector, cases } => check_cases(alloc, context, *selector, cases),

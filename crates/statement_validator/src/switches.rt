@@ -4,7 +4,6 @@ ghost use Rattle.std.specs.Prelude.{◌≡◌, MatchResult, map};
 ghost use Rattle.ir_blocks.specs.View.{case_view, cases_of};
 ghost use Rattle.spec_statements.specs.BlockContext.{form_at};
 ghost use Rattle.spec_statements.specs.Switches.{SwitchOK};
-ghost use Rattle.statement_checks.specs.View.{context_view};
 ghost use Rattle.statement_validator.specs.Switches.{Selects, IsSelectorFault, IsSwitchRefusal};
 
 use body_checks::cases_fault;
@@ -15,17 +14,17 @@ use ir_faults::refusal::Refusal;
 use ir_faults::with_span::WithSpan;
 use ir_kinds::ScalarKind;
 use ir_types::key;
-use statement_checks::{BlockContext, is_integer, shaped_of};
+use statement_checks::{StatementContext, is_integer, shaped_of};
 use std::alloc::Global;
 
 // The kind of the integers that a selector is made of.
-fn check_selector(
-    context: &BlockContext<'_>,
+fn check_selector<C: StatementContext>(
+    context: &C,
     selector: Handle<key::Expression>,
 ) -> Result<ScalarKind, FunctionError>
     ensures { MatchResult result
-        (Selects (form_at (context_view context.now) selector))
-        (IsSelectorFault (context_view context.now) selector) }
+        (Selects (form_at (C.seen context.now) selector))
+        (IsSelectorFault (C.seen context.now) selector) }
 {
     match shaped_of(context.form_at(selector)) {
         Some(shaped) => {
@@ -48,15 +47,15 @@ fn check_selector(
 /// another kind, and [`FunctionError::ConflictingSwitchCase`] or [`FunctionError::MultipleDefaultCases`] where one stands twice;
 /// [`FunctionError::MissingDefaultCase`] and [`FunctionError::LastCaseFallTrough`]. [`Refusal::Memory`] where there is none for the
 /// values.
-pub fn check_switch(
+pub fn check_switch<C: StatementContext>(
     alloc: Global,
-    context: &BlockContext<'_>,
+    context: &C,
     selector: Handle<key::Expression>,
     cases: &[SwitchCase],
 ) -> Result<(), Refusal<FunctionError>>
     ensures { MatchResult result
-        (λ _. SwitchOK (form_at (context_view context.now) selector) (cases_of (map case_view cases.now)))
-        (IsSwitchRefusal (context_view context.now) selector (cases_of (map case_view cases.now))) }
+        (λ _. SwitchOK (form_at (C.seen context.now) selector) (cases_of (map case_view cases.now)))
+        (IsSwitchRefusal (C.seen context.now) selector (cases_of (map case_view cases.now))) }
 {
     match check_selector(context, selector) {
         Err(error) => Err(Refusal::Fault(WithSpan::new(alloc, error))),

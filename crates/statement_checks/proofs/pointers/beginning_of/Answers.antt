@@ -3,7 +3,7 @@ use Rattle.spec_statements.specs.Stores.{itself, through}
 use Rattle.statement_checks.proofs.pointers.beginning_of.Goals as goal
 
 pub loop-base-preserved : goal.loop-base-preserved
-loop-base-preserved c = λ start begins. c.loop-base.invariant start (through (sym c.in-Some.ensures) begins)
+loop-base-preserved g c = λ start begins. c.loop-base.invariant start (through (sym c.in-Some.ensures) begins)
 
 pub returns : goal.returns
-returns c = c.loop-base.invariant _ (itself (search rules))
+returns g c = c.loop-base.invariant _ (itself (search rules))

@@ -3,7 +3,7 @@ use Rattle.statement_checks.proofs.Constness.{constant_at, none_past, past_the_l
 use Rattle.statement_checks.proofs.Lookups.{many_viewed}
 use Rattle.ir_types.specs.ExpressionPlain.{expression_view}
 use Rattle.statement_checks.specs.View.{context_view}
-use Rattle.statement_checks.proofs.context.BlockContext.is_const.Goals as goal
+use Rattle.statement_checks.proofs.context.BlockContextStatementContext.is_const.Goals as goal
 
 pub returns-then-index-len : goal.returns-then-index-len
 returns-then-index-len c =
