@@ -2,7 +2,7 @@
 """Counts what the steps up to overrides take of a run of the program, beside reading the document as JSON: modules.py
 
 The program is run once on each document under valgrind's callgrind. Of that run the instructions are told of all steps up to
-overrides (`ModuleValidator::validate`), with all that they call; beside them those of the JSON reader alone, with letting its
+overrides (`ModuleValidator::validate`, or all steps where the compiler has joined them), with all that they call; beside them those of the JSON reader alone, with letting its
 value go, in a run of `test_kinds json` on the same bytes. Prints a table in Markdown. Both programs have to be built: `rt ci`
 leaves them, and so does `rt run` in crates/checker and crates/test_kinds. The status is 1 where a target is missed.
 """
@@ -17,6 +17,9 @@ TOP = pathlib.Path(__file__).resolve().parent.parent
 CHECKER = TOP / "crates/checker/out/checker"
 MEASURES = TOP / "crates/test_kinds/out/test_kinds"
 MOST_SHARE = 0.25
+# The steps up to overrides; and where the compiler has put them into the function that asks all steps, that one: the documents
+# have no function, no global variable and no entry point.
+STEPS = ("module_validator::validator::ModuleValidator::judge", "shader_check::whole::judge")
 FLAGS = ["EXPRESSIONS", "BLOCKS", "CONTROL_FLOW_UNIFORMITY", "STRUCT_LAYOUTS", "CONSTANTS", "BINDINGS"]
 ONE = ["Literal", "f32", 1065353216]
 BASE = [[None, ["Scalar", "u32"]], [None, ["Scalar", "f32"]], [None, ["Vector", 4, "f32"]]]
@@ -121,7 +124,10 @@ def json_alone(room, path):
 def counted(room, path):
     """The instructions of the steps, and of the JSON reader alone."""
     said = called(room, path)
-    return of_call(said, "module_validator::validator::ModuleValidator::judge"), json_alone(room, path)
+    steps = next((found for found in (of_call(said, it) for it in STEPS) if found), 0)
+    if not steps:
+        sys.exit("modules: no call of the steps was counted")
+    return steps, json_alone(room, path)
 
 
 def are_built():
