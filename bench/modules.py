@@ -2,9 +2,10 @@
 """Counts what the steps up to overrides take of a run of the program, beside reading the document as JSON: modules.py
 
 The program is run once on each document under valgrind's callgrind. Of that run the instructions are told of all steps up to
-overrides (`ModuleValidator::validate`, or all steps where the compiler has joined them), with all that they call; beside them those of the JSON reader alone, with letting its
-value go, in a run of `test_kinds json` on the same bytes. Prints a table in Markdown. Both programs have to be built: `rt ci`
-leaves them, and so does `rt run` in crates/checker and crates/test_kinds. The status is 1 where a target is missed.
+overrides (`ModuleValidator::validate`, or all steps where the compiler has joined them), with all that they call; beside them
+those of the JSON reader alone, with letting its value go, in a run of `test_kinds json` on the same bytes. Prints a table in
+Markdown. Both programs have to be built: `rt ci` leaves them, and so does `rt run` in crates/checker and crates/test_kinds. The
+status is 1 where a target is missed.
 """
 import json
 import pathlib
