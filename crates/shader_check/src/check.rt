@@ -1,7 +1,8 @@
 // From a reader to a writer: the judgement over what the one gives, as the text that the other takes.
-ghost use Rattle.std.specs.Prelude.{◌≡◌, false, true, List, IfOk, Err};
+ghost use Rattle.std.specs.Prelude.{◌≡◌, false, true, List, IfErr, IfOk, OnErr, OnOk, Err};
+ghost use Rattle.std.specs.Io.KnownBytes.{Appends};
 ghost use Rattle.ports.specs.Calls.{Call};
-ghost use Rattle.ports.specs.Sink.{has_failed as sink_failed, writer_of};
+ghost use Rattle.ports.specs.Sink.{AppendsFront, WritesAll, WritingFails, has_failed as sink_failed, writer_of};
 ghost use Rattle.ports.specs.Source.{has_failed as source_failed, reader_of, Reading, ReadingFails};
 ghost use Rattle.ports.specs.declared.source.TheConstants.{MAX_CALLS};
 ghost use Rattle.shader_check.specs.declared.check.TheConstants.{MAX_TAKEN};
@@ -85,6 +86,19 @@ fn verdict_of(finding: Finding) -> Verdict
     }
 }
 
+// Writes a whole text. The fault is that the writer failed, was interrupted or took nothing.
+fn write_text<W: WriteCall>(sink: &mut Sink<W>, text: &[u8]) -> Result<(), Fault>
+    ensures ok { OnOk result (Appends (W.contents (writer_of sink.old)) (W.contents (writer_of sink.new)) text.now) }
+    ensures front { OnErr result (AppendsFront (W.contents (writer_of sink.old)) (W.contents (writer_of sink.new)) text.now) }
+    ensures mark { OnErr result (sink_failed sink.new ≡ true) }
+    ensures fault { IfErr result (λ f. f ≡ Fault.Write) }
+    ensures ok_calls { OnOk result (WritesAll W.writes (writer_of sink.old) (writer_of sink.new) text.now) }
+    ensures err_calls { OnErr result (WritingFails W.writes (writer_of sink.old) (writer_of sink.new) text.now) }
+{
+    sink.write_all(text)?;
+    Ok(())
+}
+
 /// Reads a document to its end, or 16777217 bytes of it, and writes the text of the judgement over it.
 ///
 /// Every [`std::io::Read`] is a [`ReadCall`], and every [`std::io::Write`] a [`WriteCall`].
@@ -127,7 +141,7 @@ pub fn check_document<R: ReadCall, W: WriteCall>(
     let bytes = source.take_all(alloc, MAX_TAKEN)?;
     let judgement = judge(alloc, bytes)?;
     let text = judgement.text(alloc)?;
-    sink.write_all(text.as_bytes())?;
+    write_text(sink, text.as_bytes())?;
     Ok(verdict_of(judgement.finding))
 }
 

@@ -1,6 +1,6 @@
 //! Values that functions answer.
 
-ghost use Rattle.std.specs.Prelude.{◌≡◌, ◌↔◌, IsTrue, MatchResult, option_map};
+ghost use Rattle.std.specs.Prelude.{◌≡◌, ◌↔◌, IsTrue, MatchResult};
 ghost use Rattle.spec_statements.specs.Returns.{ReturnOK};
 ghost use Rattle.statement_checks.specs.Returns.{IsReturnFault};
 
@@ -14,22 +14,10 @@ use ir_types::key;
 fn is_answer<C: StatementContext>(context: &C, value: &Option<Handle<key::Expression>>) -> bool
     ensures { IsTrue result ↔ ReturnOK (C.seen context.now) value.now }
 {
-    match *value {
-        None => context.result().is_none(),
-        Some(value) => match context.result() {
-            Some(result) => are_same(context.form_at(value), context.form_of(result.ty)),
-            None => false,
-        },
-    }
-}
-
-// The type of what the function answers.
-fn answered_type<C: StatementContext>(context: &C) -> Option<Handle<key::IrType>>
-    ensures { result ≡ option_map (λ r. r.ty) (C.seen context.now).f.result }
-{
-    match context.result() {
-        Some(result) => Some(result.ty),
-        None => None,
+    match (*value, context.result()) {
+        (None, None) => true,
+        (Some(value), Some(answer)) => are_same(context.form_at(value), context.form_of(answer.ty)),
+        (None, Some(_)) | (Some(_), None) => false,
     }
 }
 
@@ -51,6 +39,6 @@ pub fn check_return<C: StatementContext>(
     }
     Err(FunctionError::InvalidReturnType {
         expression: value,
-        expected_ty: answered_type(context),
+        expected_ty: context.result().map(|answer| answer.ty),
     })
 }

@@ -30,13 +30,9 @@ pub fn variable_at<'a, C: StatementContext>(
 ) -> Option<&'a GlobalVariable>
     ensures { option_map (λ found. global_view found.now) result ≡ variable_at (C.seen context.now).m (C.seen context.now).f handle }
 {
-    match context.expression_at(handle) {
-        Some(expression) => match global_of(expression) {
-            Some(variable) => context.global_at(variable),
-            None => None,
-        },
-        None => None,
-    }
+    let expression = context.expression_at(handle)?;
+    let variable = global_of(expression)?;
+    context.global_at(variable)
 }
 
 /// The global variable that the access at a handle is directly on.
@@ -46,10 +42,8 @@ pub fn accessed_at<'a, C: StatementContext>(
 ) -> Option<&'a GlobalVariable>
     ensures { option_map (λ found. global_view found.now) result ≡ accessed_at (C.seen context.now).m (C.seen context.now).f handle }
 {
-    match base_at(context, handle) {
-        Some(base) => variable_at(context, base),
-        None => None,
-    }
+    let base = base_at(context, handle)?;
+    variable_at(context, base)
 }
 
 /// The global variable that the expression at a handle is, or that it is an access directly on.
