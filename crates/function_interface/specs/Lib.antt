@@ -1,13 +1,6 @@
 pub mod Told
-pub mod Named
 pub mod Items
-pub mod Refusals
-pub mod Locals
-pub mod Arguments
-pub mod Results
-pub mod Interfaces
 pub mod Answered
-pub mod Laws
 pub mod Callees
 pub mod Bodies
 pub mod Left

@@ -1,11 +1,11 @@
 //! Which stages may run all statements of a body.
 
 ghost use Rattle.std.specs.Prelude.{◌≡◌, ◌↔◌, ℕ, map};
+ghost use Rattle.ir_blocks.specs.Plain.{PlainStatement};
 ghost use Rattle.ir_blocks.specs.View.{statement_view, block_view, case_view, cases_of};
 ghost use Rattle.ir_flags.specs.Sets.{Has};
 ghost use Rattle.function_interface.specs.Bodies.{MayRun};
 ghost use Rattle.function_interface.specs.Left.{left_in, left_within, left_in_cases};
-ghost use Rattle.spec_statements.specs.Stages.{statement_stages};
 
 use crate::callees::CalleeStages;
 use crate::statements::statement_stages;
@@ -13,49 +13,65 @@ use bitflags::Flags;
 use ir_blocks::{Block, Statement, SwitchCase};
 use ir_flags::ShaderStages;
 
+// Which stages may run a statement, what stands inside it aside. The walk is the same whatever they are.
+trait RunBy {
+    // They, as bits.
+    ghost runs: { Self → PlainStatement → ℕ };
+
+    fn stages(&self, statement: &Statement) -> ShaderStages
+        ensures { result.0 ≡ runs self.now (statement_view statement.now) };
+}
+
+// Those of a statement of a module's function.
+#[derive(Drop)]
+struct StatementStages<'a, C> {
+    subgroup_stages: ShaderStages,
+    callees: &'a C,
+}
+
+impl<C: CalleeStages> RunBy for StatementStages<'_, C> {
+    ghost use Rattle.spec_statements.specs.Stages.{statement_stages};
+
+    ghost runs = { λ r u. (statement_stages r.subgroup_stages (C.stages r.callees.now) u).0 };
+
+    fn stages(&self, statement: &Statement) -> ShaderStages {
+        statement_stages(self.subgroup_stages, self.callees, statement)
+    }
+}
+
 // What is left of some stages by the statements of a block, at any depth.
 #[cycle(walk)]
-fn left_in<C: CalleeStages>(
-    subgroup_stages: ShaderStages,
-    callees: &C,
-    stages: ShaderStages,
-    block: &Block,
-) -> ShaderStages
-    ensures { result.0 ≡ left_in (λ u. (statement_stages subgroup_stages (C.stages callees.now) u).0) stages.0 (block_view block.now) }
+fn left_in<R: RunBy>(rule: &R, stages: ShaderStages, block: &Block) -> ShaderStages
+    ensures { result.0 ≡ left_in (R.runs rule.now) stages.0 (block_view block.now) }
 {
     let mut left = stages;
     for statement in block.as_slice() {
-        let own = statement_stages(subgroup_stages, callees, statement);
+        let own = rule.stages(statement);
         let shared = ShaderStages(left.0 & own.0);
-        left = left_within(subgroup_stages, callees, shared, statement);
+        left = left_within(rule, shared, statement);
     }
     left
 }
 
 // What is left by what stands inside a statement.
 #[cycle(walk)]
-fn left_within<C: CalleeStages>(
-    subgroup_stages: ShaderStages,
-    callees: &C,
-    stages: ShaderStages,
-    statement: &Statement,
-) -> ShaderStages
-    ensures { result.0 ≡ left_within (λ u. (statement_stages subgroup_stages (C.stages callees.now) u).0) stages.0 (statement_view statement.now) }
+fn left_within<R: RunBy>(rule: &R, stages: ShaderStages, statement: &Statement) -> ShaderStages
+    ensures { result.0 ≡ left_within (R.runs rule.now) stages.0 (statement_view statement.now) }
 {
     match statement {
-        Statement::Block(block) => left_in(subgroup_stages, callees, stages, block),
+        Statement::Block(block) => left_in(rule, stages, block),
         Statement::If { accept, reject, .. } => {
-            let accepting = left_in(subgroup_stages, callees, stages, accept);
-            left_in(subgroup_stages, callees, accepting, reject)
+            let accepting = left_in(rule, stages, accept);
+            left_in(rule, accepting, reject)
         }
-        Statement::Switch { cases, .. } => left_in_cases(subgroup_stages, callees, stages, cases),
+        Statement::Switch { cases, .. } => left_in_cases(rule, stages, cases),
         Statement::Loop {
             body,
             continuing,
             ..
         } => {
-            let first = left_in(subgroup_stages, callees, stages, body);
-            left_in(subgroup_stages, callees, first, continuing)
+            let first = left_in(rule, stages, body);
+            left_in(rule, first, continuing)
         }
         Statement::Emit(_)
         | Statement::Break
@@ -80,17 +96,12 @@ fn left_within<C: CalleeStages>(
 }
 
 #[cycle(walk)]
-fn left_in_cases<C: CalleeStages>(
-    subgroup_stages: ShaderStages,
-    callees: &C,
-    stages: ShaderStages,
-    cases: &[SwitchCase],
-) -> ShaderStages
-    ensures { result.0 ≡ left_in_cases (λ u. (statement_stages subgroup_stages (C.stages callees.now) u).0) stages.0 (cases_of (map case_view cases.now)) }
+fn left_in_cases<R: RunBy>(rule: &R, stages: ShaderStages, cases: &[SwitchCase]) -> ShaderStages
+    ensures { result.0 ≡ left_in_cases (R.runs rule.now) stages.0 (cases_of (map case_view cases.now)) }
 {
     let mut left = stages;
     for case in cases {
-        left = left_in(subgroup_stages, callees, left, &case.body);
+        left = left_in(rule, left, &case.body);
     }
     left
 }
@@ -104,5 +115,9 @@ pub fn stages_of<C: CalleeStages>(
 ) -> ShaderStages
     ensures { (stage : ℕ) → Has result.0 stage ↔ MayRun subgroup_stages (C.stages callees.now) (block_view body.now) stage }
 {
-    left_in(subgroup_stages, callees, ShaderStages::all(), body)
+    let rule = StatementStages {
+        subgroup_stages,
+        callees,
+    };
+    left_in(&rule, ShaderStages::all(), body)
 }

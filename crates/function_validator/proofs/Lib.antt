@@ -1,3 +1,6 @@
+mod Known
+pub mod InterfaceRefuted
+mod Widened
 mod Below
 mod Bases
 mod Marks

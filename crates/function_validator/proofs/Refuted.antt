@@ -7,7 +7,7 @@ use Rattle.error_functions.specs.declared.error.FunctionError.TheVariants as err
 use Rattle.error_functions.specs.declared.calls.CallError.{CallError}
 use Rattle.error_functions.specs.declared.calls.CallError.TheVariants as call_error
 use Rattle.function_interface.specs.Analysis.{Faults}
-use Rattle.function_interface.proofs.Refuted.{faults_refute_lem as by_interface}
+use Rattle.function_validator.proofs.InterfaceRefuted.{faults_refute_lem as by_interface}
 use Rattle.ir_flags.specs.Sets.{Has}
 use Rattle.ir_flags.specs.declared.settings.Capabilities.{Capabilities}
 use Rattle.ir_flags.specs.declared.settings.TheConstants.ValidationFlags.{EXPRESSIONS}

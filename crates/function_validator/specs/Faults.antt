@@ -6,7 +6,7 @@ use Rattle.error_functions.specs.declared.error.FunctionError.{FunctionError}
 use Rattle.error_functions.specs.declared.error.FunctionError.TheVariants as error
 use Rattle.function_interface.specs.Analysis.{Faults}
 use Rattle.function_interface.specs.Arities.{IsArityFault}
-use Rattle.function_interface.specs.Interfaces.{IsInterfaceFault}
+use Rattle.function_validator.specs.Interfaces.{IsInterfaceFault}
 use Rattle.ir_blocks.specs.Places.{Place}
 use Rattle.ir_flags.specs.Sets.{Has}
 use Rattle.ir_flags.specs.declared.settings.TheConstants.ValidationFlags.{EXPRESSIONS, BLOCKS}
