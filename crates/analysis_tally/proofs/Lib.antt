@@ -1,8 +1,6 @@
 pub mod Counting
 pub mod Effects
 pub mod Handles
-pub mod Listing
-pub mod Lookups
 pub mod Merging
 pub mod PairLemmas
 pub mod SumLemmas

@@ -4,15 +4,11 @@
 
 mod counts;
 mod expressions;
-mod list;
 mod operands;
 mod operations;
-mod pairs;
-mod places;
 mod tally;
 mod walk;
 
+pub use analysis_pairs::{PairList, Sampled};
 pub use counts::Counts;
-pub use list::PairList;
-pub use pairs::Sampled;
 pub use tally::{Context, Tally};

@@ -5,7 +5,7 @@ ghost use Rattle.ir_blocks.specs.View.{block_view};
 ghost use Rattle.analysis_tally.specs.Tallies.{known, tallied, nothing_tallied, whole_tally};
 
 use crate::counts::Counts;
-use crate::pairs::Sampled;
+use analysis_pairs::Sampled;
 use ir_arena::arena::Arena;
 use ir_arena::handle::Handle;
 use ir_blocks::Block;

@@ -7,7 +7,7 @@ use Rattle.ir_items.specs.Plain.{PlainFunction, PlainModule}
 use Rattle.spec_analysis.specs.Summaries.{Summary, IsJoined}
 use Rattle.module_info.specs.Infos.{summary_of, key_of}
 use Rattle.module_info.specs.declared.function_info.FunctionInfo.{FunctionInfo}
-use Rattle.analysis_tally.specs.Listed.{listed}
+use Rattle.analysis_pairs.specs.Listed.{listed}
 use Rattle.analysis_tally.specs.Tallied.{summary_in}
 use Rattle.analysis_tally.specs.Tallies.{tallied}
 use Rattle.real_lower.specs.Infos.{IsFunctionInfo}

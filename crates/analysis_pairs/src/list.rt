@@ -4,7 +4,7 @@ ghost use Rattle.std.specs.Prelude.{◌≡◌, ◌++◌, [], IfOk, OnOk};
 ghost use Rattle.std.specs.List.{list_any};
 ghost use Rattle.indexmap.specs.IndexSet.{insert_key};
 ghost use Rattle.analysis_forms.specs.Pairs.{pair_eq};
-ghost use Rattle.analysis_tally.specs.Listed.{listed};
+ghost use Rattle.analysis_pairs.specs.Listed.{listed};
 
 use analysis_forms::SamplingPair;
 use indexmap::IndexSet;
@@ -53,8 +53,8 @@ fn append<T: Copy + Drop>(values: &mut Vec<T>, others: &[T]) -> Result<(), Alloc
 }
 
 impl PairList {
-    // No pair.
-    pub(crate) fn new(alloc: Global) -> PairList
+    /// No pair.
+    pub fn new(alloc: Global) -> PairList
         ensures { listed result ≡ [] }
     {
         PairList {
@@ -63,9 +63,9 @@ impl PairList {
         }
     }
 
-    // One more pair, where it is not there. The error is out of memory.
+    /// Adds a pair, where it is not there. The error is out of memory.
     #[tactic(auto, using(crate::proofs::Listing::there, crate::proofs::Listing::first, crate::proofs::Listing::later))]
-    pub(crate) fn insert(&mut self, pair: SamplingPair) -> Result<(), AllocError>
+    pub fn insert(&mut self, pair: SamplingPair) -> Result<(), AllocError>
         ensures { OnOk result (listed self.new ≡ insert_key pair_eq (listed self.old) pair) }
     {
         if holds(&self.few, &pair) {

@@ -5,7 +5,7 @@ ghost use Rattle.ir_types.specs.ExpressionPlain.{expression_view};
 ghost use Rattle.ir_items.specs.GlobalView.{values_of};
 ghost use Rattle.spec_analysis.specs.Chains.{place, seen_through};
 ghost use Rattle.std.specs.Prelude.{map};
-ghost use Rattle.analysis_tally.specs.Tallies.{Paired, paired, with_pair, with_wrong, first_wrong, part_wrong, pair_one, passed_for, pass_up, pass_all_up};
+ghost use Rattle.analysis_pairs.specs.Pairings.{Paired, paired, with_pair, with_wrong, first_wrong, part_wrong, pair_one, passed_for, pass_up, pass_all_up};
 
 use crate::list::PairList;
 use crate::places::{Expressions, place};
@@ -23,11 +23,13 @@ pub struct Sampled {
     pub wrong: Option<Handle<key::Expression>>,
 }
 
-// What an image or a sampler stands for, and the expression that is wrong where it stands for nothing.
+/// What an image or a sampler stands for, and the expression that is wrong where it stands for nothing.
 #[derive(Clone, Copy)]
-pub(crate) struct Part {
-    pub(crate) means: Option<GlobalOrArgument>,
-    pub(crate) wrong: Option<Handle<key::Expression>>,
+pub struct Part {
+    /// What it stands for.
+    pub means: Option<GlobalOrArgument>,
+    /// The expression, if there is one.
+    pub wrong: Option<Handle<key::Expression>>,
 }
 
 // What stands for this in a callee, seen from the caller that passes these arguments.
@@ -58,8 +60,8 @@ fn seen(
 }
 
 impl Sampled {
-    // No pair.
-    pub(crate) fn new(alloc: Global) -> Sampled
+    /// No pair.
+    pub fn new(alloc: Global) -> Sampled
         ensures { paired result ≡ record { pairs = []; wrong = None } }
     {
         Sampled {
@@ -90,8 +92,9 @@ impl Sampled {
         }
     }
 
-    // An image and a sampler.
-    pub(crate) fn pair(&mut self, image: Part, sampler: Part) -> Result<(), AllocError>
+    /// Notes an image and a sampler: as a pair where both stand for something, and else the expression that is wrong. The error
+    /// is out of memory.
+    pub fn pair(&mut self, image: Part, sampler: Part) -> Result<(), AllocError>
         ensures { OnOk result (paired self.new ≡ pair_one image.wrong sampler.wrong image.means sampler.means (paired self.old)) }
     {
         match image.means {
@@ -125,8 +128,8 @@ impl Sampled {
         )
     }
 
-    // All pairs of a callee to which these arguments are passed.
-    pub(crate) fn pass_all_up(
+    /// Notes all pairs of a callee to which these arguments are passed, as the caller sees them. The error is out of memory.
+    pub fn pass_all_up(
         &mut self,
         expressions: &Expressions,
         arguments: &[Handle<key::Expression>],

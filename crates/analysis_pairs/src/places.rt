@@ -11,7 +11,8 @@ use ir_arena::arena::Arena;
 use ir_arena::handle::Handle;
 use ir_types::{Expression, key};
 
-pub(crate) type Expressions = Arena<Expression, key::Expression>;
+/// The expressions of a function.
+pub type Expressions = Arena<Expression, key::Expression>;
 
 // The expression at a handle, if there is one.
 #[tactic(auto, using(crate::proofs::Lookups::found, crate::proofs::Lookups::missing))]
@@ -56,12 +57,9 @@ fn means(expressions: &Expressions, expression: &Expression) -> Option<GlobalOrA
     }
 }
 
-// What the expression at a handle stands for: a global variable, where it is one or an access directly on one, or an
-// argument.
-pub(crate) fn place(
-    expressions: &Expressions,
-    handle: Handle<key::Expression>,
-) -> Option<GlobalOrArgument>
+/// What the expression at a handle stands for: a global variable, where it is one or an access directly on one, or an
+/// argument.
+pub fn place(expressions: &Expressions, handle: Handle<key::Expression>) -> Option<GlobalOrArgument>
     ensures { result ≡ place (map expression_view (values_of expressions.now)) handle }
 {
     match get(expressions, handle) {

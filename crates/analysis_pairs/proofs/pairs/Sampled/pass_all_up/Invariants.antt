@@ -1,8 +1,8 @@
 use Rattle.std.proofs.Common.{◌≡◌, drop, map}
 use Rattle.ir_types.specs.ExpressionPlain.{expression_view}
 use Rattle.ir_items.specs.GlobalView.{values_of}
-use Rattle.analysis_tally.specs.Tallies.{paired, pass_all_up}
-use Rattle.analysis_tally.proofs.pairs.Sampled.pass_all_up.Given as goal
+use Rattle.analysis_pairs.specs.Pairings.{paired, pass_all_up}
+use Rattle.analysis_pairs.proofs.pairs.Sampled.pass_all_up.Given as goal
 
 abbrev pub invariant-loop-pair : goal.invariant-loop-pair
 invariant-loop-pair l =
