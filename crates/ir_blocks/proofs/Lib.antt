@@ -4,5 +4,8 @@ pub mod TailLaws
 pub mod OneCompleted
 pub mod SpanLemmas
 pub mod SpanLaws
+pub mod InStepLaws
+pub mod PaddedLemmas
+pub mod KeptEquality
 pub mod SpanIterLemmas
 pub mod RoomLemmas

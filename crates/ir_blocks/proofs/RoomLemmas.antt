@@ -7,11 +7,11 @@ use Rattle.std.proofs.Math.ListN.{set}
 use Rattle.ir_arena.specs.declared.span.Span.{Span}
 use Rattle.ir_blocks.specs.Plain.{PlainStatement, emit, block, if_, switch, loop, break, continue, return, kill, operation, call, case}
 use Rattle.ir_blocks.specs.Shapes.{shape_of}
-use Rattle.ir_blocks.specs.Spans.{StatementSpans, spans, in_case}
+use Rattle.ir_blocks.specs.Spans.{StatementSpans, in_case}
 use Rattle.ir_blocks.specs.Tails.{goes_on, finished, finished_case, finished_cases}
 use Rattle.ir_blocks.specs.TailSpans.{finished_spans, finished_case_body, finished_case_spans}
 use Rattle.ir_blocks.specs.Room.{EndRoom, end_room, has_spare, own_room, statement_room, block_room, case_room, each_room, HasOwnRoom, HasRoom, HasRoomWithin, HasRoomInCase, HasRoomInCases}
-use Rattle.ir_blocks.specs.View.{within_of, cases_of, case_spans_of, case_view, case_block_spans, statement_view, block_view, statements_view, statement_spans, block_spans, statements_of}
+use Rattle.ir_blocks.specs.View.{spans_over, cases_of, case_spans_of, case_view, case_block_spans, statement_view, block_view, statements_view, statement_spans, block_spans, statements_of}
 use Rattle.ir_blocks.specs.declared.statements.Statement.{Statement, the_lemmas}
 use Rattle.ir_blocks.specs.declared.statements.Statement.TheViews.{roll-Block}
 use Rattle.ir_blocks.specs.declared.statements.Block.{Block}
@@ -46,10 +46,10 @@ same_looks f (v ∷ vs) (suc i) s t n e h = ap (λ z. f v ∷ z) (same_looks f v
 
 -- ---- blocks by their lists
 
-pub block_view-roll : (body : Vec Statement Global) (kept : Vec Span Global) → block_view (roll-Block (record { body = body; span_info = kept })) ≡ statements_view body.items
+pub block_view-roll : (body : Vec Statement Global) (kept : List Span) → block_view (roll-Block (record { body = body; span_info = kept })) ≡ statements_view body.items
 block_view-roll body kept = search (rules, the_lemmas)
 
-pub block_spans-roll : (body : Vec Statement Global) (kept : Vec Span Global) → block_spans (roll-Block (record { body = body; span_info = kept })) ≡ spans kept.items (within_of (map statement_spans body.items))
+pub block_spans-roll : (body : Vec Statement Global) (kept : List Span) → block_spans (roll-Block (record { body = body; span_info = kept })) ≡ spans_over kept (map statement_spans body.items)
 block_spans-roll body kept = search (rules, the_lemmas)
 
 pub block_room-lists : (b : Block) → block_room b ≡ end_room (own_room b) (map statement_room (statements_of b))
@@ -141,8 +141,7 @@ room_within own vs i s t n e on same room =
     let off : (statement_room t).on ≡ false = on_is t ∙ (ap (λ z. goes_on (shape_of z)) same ∙ on) in
     ap (end_room own) lists ∙ (room_at_end own (map statement_room (take i vs)) (statement_room t) ∙ (ap (λ z. if z then own else (statement_room t).parts) off ∙ room))
 
-pub block_room-roll : (body : Vec Statement Global) (kept : Vec Span Global)
-    → block_room (roll-Block (record { body = body; span_info = kept })) ≡ end_room (has_spare body && has_spare kept) (map statement_room body.items)
+pub block_room-roll : (body : Vec Statement Global) (kept : List Span) → block_room (roll-Block (record { body = body; span_info = kept })) ≡ end_room (has_spare body) (map statement_room body.items)
 block_room-roll body kept = search (rules, the_lemmas)
 
 -- what is known of the room where a return is added
@@ -194,7 +193,7 @@ one_more i = omega arith
 pub take_set : {A : Type 0} (vs : List A) (i : ℕ) (x : A) → i < length vs → take (i + 1) (set vs i x) ≡ take i vs ++ x ∷ []
 take_set vs i x n = ap (λ k. take k (set vs i x)) (one_more i) ∙ take_set_suc vs i x n
 
-take_next : {A : Type 0} (vs : List A) (i : ℕ) (x : A) → i < length vs → x ≡ get_or vs i x → take (i + 1) vs ≡ take i vs ++ x ∷ []
+pub take_next : {A : Type 0} (vs : List A) (i : ℕ) (x : A) → i < length vs → x ≡ get_or vs i x → take (i + 1) vs ≡ take i vs ++ x ∷ []
 take_next vs i x n e = ap (λ k. take k vs) (one_more i) ∙ take_suc vs i x n e
 
 -- those behind the first i are as they were

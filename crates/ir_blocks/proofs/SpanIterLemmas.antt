@@ -1,8 +1,8 @@
 -- Pairs of two lists.
-use Rattle.std.proofs.Common.{◌≡◌, List, [], ◌∷◌, Option, Some, None, length, refl, sym, ap, ◌∙◌}
+use Rattle.std.proofs.Common.{◌≡◌, List, [], ◌∷◌, Option, Some, None, length, refl, ap, ◌∙◌}
 use Rattle.std.specs.Borrow.{MutBor}
 use Rattle.std.proofs.lemmas.List.{nil_from_length}
-use Rattle.std.specs.Iterator.{YieldsFirst, YieldsFirstBy}
+use Rattle.std.specs.Iterator.{YieldsFirstBy}
 use Rattle.std.specs.Slice.Iter.{iter_mut_rest}
 use Rattle.std.specs.List.{zip}
 use Rattle.ir_arena.specs.declared.span.Span.{Span}
@@ -15,15 +15,10 @@ with_nothing [] = refl
 with_nothing (x ∷ xs) = refl
 
 -- where the second list has nothing there are no pairs
-pub no_pairs : {X Y : Type 0} (xs : List X) (ys : List Y) → ys ≡ [] → zip xs ys ≡ []
+no_pairs : {X Y : Type 0} (xs : List X) (ys : List Y) → ys ≡ [] → zip xs ys ≡ []
 no_pairs xs ys e = ap (zip xs) e ∙ with_nothing xs
 
 -- an iterator whose spans have ended
 pub ended : (old new : SpanIterMut) (r : Option (MutBor Statement × MutBor Span)) → r ≡ None → length (iter_mut_rest old.spans) ≡ 0 → length (iter_mut_rest new.spans) ≡ 0 → YieldsFirstBy with_span_to_change pairs_to_come old r new
 ended old new None e before after = (no_pairs (iter_mut_rest old.statements) (iter_mut_rest old.spans) (nil_from_length _ before), no_pairs (iter_mut_rest new.statements) (iter_mut_rest new.spans) (nil_from_length _ after))
 ended old new (Some x) e before after = cc
-
--- an iterator by value whose spans have ended
-pub ended_by_value : {X Y : Type 0} (xs : List X) (old new : List Y) (all : List (X × Y)) (r : Option (X × Y)) → zip xs old ≡ all → r ≡ None → old ≡ [] → new ≡ [] → YieldsFirst (λ i. i) all r (zip xs new)
-ended_by_value xs old new all None view e before after = (sym view ∙ no_pairs xs old before, no_pairs xs new after)
-ended_by_value xs old new all (Some x) view e before after = cc

@@ -1,9 +1,5 @@
 -- Spans by place: those of the completed body.
-use Rattle.std.proofs.Common.{◌+◌, ◌-◌, min, take, drop, ◌≡◌, ◌⊎◌, inl, inr, ℕ, zero, suc, Bool, true, false, List, [], ◌∷◌, ◌++◌, Option, Some, None, refl, sym, ap, subst, ◌∙◌, ◌↔◌, map, length}
-use Rattle.std.proofs.Math.Nat.{suc_inj}
-use Rattle.std.proofs.lemmas.List.{length-append, length-take, length-drop}
-use Rattle.std.specs.List.{All, remove_range, splice}
-use Rattle.std.proofs.lemmas.List.Elements.{All-nil, All-cons, All-head, All-tail, All-same, All-push, All-append, All-take, All-drop}
+use Rattle.std.proofs.Common.{◌≡◌, ◌⊎◌, inl, inr, ℕ, zero, suc, Bool, true, false, List, [], ◌∷◌, ◌++◌, Option, Some, None, refl, sym, ap, subst, ◌∙◌}
 use Rattle.ir_arena.specs.declared.span.Span.{Span}
 use Rattle.ir_arena.specs.Spans.{undefined_span}
 use Rattle.ir_blocks.specs.Plain.{PlainStatement, block, if_, switch, return, PlainBlock, stop, next, PlainCases, no_case, case}
@@ -12,11 +8,6 @@ use Rattle.ir_blocks.specs.Places.{Place, here, later, inside, condition, Stands
 use Rattle.ir_blocks.specs.Spans.{BlockSpans, spans, in_next, StatementSpans, no_block, in_block, in_sides, in_cases, in_loop, CaseSpans, no_more, in_case, no_spans, own_spans, within_spans, first_of, first_within, behind_first, case_spans, spans_in, span_at, InStep}
 use Rattle.ir_blocks.specs.Tails.{IsCompleted, Ends, IsTailPart, goes_on, IsOpenEnd, empty, behind_last, further, in_tail, completed}
 use Rattle.ir_blocks.specs.TailSpans.{SpansCompleted, ending_span, ending_within, cases_within, completed_spans, finished_spans, finished_case_spans}
-use Rattle.ir_blocks.specs.View.{block_of, within_of, statement_view, statement_spans, block_view, block_spans, statements_of, spans_of, IsInStep, AllInStep, InStepWithin}
-use Rattle.ir_blocks.specs.declared.statements.Statement.{Statement}
-use Rattle.ir_blocks.specs.declared.statements.Block.{Block}
-use Rattle.ir_blocks.proofs.TerminatorLemmas.{block_view-statements}
-use Rattle.ir_blocks.proofs.SpanLemmas.{block_spans-lists}
 use Rattle.ir_blocks.proofs.TailLaws.{added, kept, only, none_in_stop, is_completed}
 
 -- ---- spans in step with a body
@@ -200,92 +191,3 @@ completed_is b c e = subst (IsCompleted b) (sym e) (is_completed b)
 
 pub spans_completed_is : (b c : PlainBlock) (before after : BlockSpans) → c ≡ completed b → after ≡ completed_spans b before → InStep b before → SpansCompleted b c before after
 spans_completed_is b c before after e f h = subst (λ z. SpansCompleted b z before after) (sym e) (subst (SpansCompleted b (completed b) before) (sym f) (spans_completed b before h))
-
--- ---- in step, block by block
-
-before_rest : (x : Statement) (xs : List Statement) (y : Span) (own : List Span) → InStepWithin x → InStep (block_of (map statement_view xs)) (spans own (within_of (map statement_spans xs)))
-    → InStep (block_of (map statement_view (x ∷ xs))) (spans (y ∷ own) (within_of (map statement_spans (x ∷ xs))))
-before_rest x xs y own first rest = record { spanned = spanned; only = only_there }
-  where
-    spanned : (p : Place) (s : PlainStatement) → StandsAt (block_of (map statement_view (x ∷ xs))) p s → (z : Span) × (span_at p (spans (y ∷ own) (within_of (map statement_spans (x ∷ xs)))) ≡ Some z)
-    spanned here s e = (y, refl)
-    spanned (later p) s e = rest.spanned p s e
-    spanned (inside part p) s e = (first part).spanned p s e
-    spanned condition s e = let z = e in cc
-
-    only_there : (p : Place) (z : Span) → span_at p (spans (y ∷ own) (within_of (map statement_spans (x ∷ xs)))) ≡ Some z → (s : PlainStatement) × StandsAt (block_of (map statement_view (x ∷ xs))) p s
-    only_there here z e = (statement_view x, refl)
-    only_there (later p) z e = rest.only p z e
-    only_there (inside part p) z e = (first part).only p z e
-    only_there condition z e = cc
-
-lists_in_step : (xs : List Statement) (own : List Span) → length own ≡ length xs → All InStepWithin xs → InStep (block_of (map statement_view xs)) (spans own (within_of (map statement_spans xs)))
-lists_in_step [] [] e all = record { spanned = λ p s e. absurd (none_in_stop p s e); only = λ p x e. absurd (no_span p x e) }
-lists_in_step [] (y ∷ own) e all = cc
-lists_in_step (x ∷ xs) [] e all = cc
-lists_in_step (x ∷ xs) (y ∷ own) e all = before_rest x xs y own (All-head InStepWithin x xs all) (lists_in_step xs own (suc_inj e) (All-tail InStepWithin x xs all))
-
-in_step_lists : (xs : List Statement) (own : List Span) → InStep (block_of (map statement_view xs)) (spans own (within_of (map statement_spans xs))) → (length own ≡ length xs) × All InStepWithin xs
-in_step_lists [] [] h = (refl, All-nil InStepWithin)
-in_step_lists [] (y ∷ own) h = let f = (h.only here y refl).1 in cc
-in_step_lists (x ∷ xs) [] h = let f = (first_has h).1 in cc
-in_step_lists (x ∷ xs) (y ∷ own) h =
-    let k = in_step_lists xs own (in_rest h) in
-    (ap suc k.0, All-cons InStepWithin x xs (in_part h) k.1)
-
-pub in_step_throughout : (b : Block) → IsInStep b → All InStepWithin (statements_of b) → AllInStep b
-in_step_throughout b e all =
-    let h : InStep (block_of (map statement_view (statements_of b))) (spans (spans_of b) (within_of (map statement_spans (statements_of b)))) = lists_in_step (statements_of b) (spans_of b) e all in
-    let views : InStep (block_view b) (spans (spans_of b) (within_of (map statement_spans (statements_of b)))) = subst (λ v. InStep v (spans (spans_of b) (within_of (map statement_spans (statements_of b))))) (sym (block_view-statements b)) h in
-    subst (InStep (block_view b)) (sym (block_spans-lists b)) views
-
-pub in_step_each : (b : Block) → AllInStep b → IsInStep b × All InStepWithin (statements_of b)
-in_step_each b h =
-    let views : InStep (block_of (map statement_view (statements_of b))) (block_spans b) = subst (λ v. InStep v (block_spans b)) (block_view-statements b) h in
-    in_step_lists (statements_of b) (spans_of b) (subst (InStep (block_of (map statement_view (statements_of b)))) (block_spans-lists b) views)
-
-pub in_step_by_statements : (b : Block) → AllInStep b ↔ (IsInStep b × All InStepWithin (statements_of b))
-in_step_by_statements b = (in_step_each b, λ h. in_step_throughout b h.0 h.1)
-
--- a statement that is in step within, put behind a block that is in step
-pub in_step_behind : (old new : Block) (s : Statement) (x : Span) → statements_of new ≡ statements_of old ++ s ∷ [] → spans_of new ≡ spans_of old ++ x ∷ [] → AllInStep old → InStepWithin s → AllInStep new
-in_step_behind old new s x statements own h first =
-    let each = in_step_each old h in
-    let count : IsInStep new = ap length own ∙ (length-append (spans_of old) (x ∷ []) ∙ (ap (λ n. n + 1) each.0 ∙ (sym (length-append (statements_of old) (s ∷ [])) ∙ sym (ap length statements)))) in
-    in_step_throughout new count (All-same InStepWithin (statements_of new) _ statements (All-push InStepWithin (statements_of old) s each.1 first))
-
--- two blocks that are in step, one behind the other
-pub in_step_joined : (old other new : Block) → statements_of new ≡ statements_of old ++ statements_of other → spans_of new ≡ spans_of old ++ spans_of other → AllInStep old → AllInStep other → AllInStep new
-in_step_joined old other new statements own h k =
-    let left = in_step_each old h in
-    let right = in_step_each other k in
-    let count : IsInStep new = ap length own ∙ (length-append (spans_of old) (spans_of other) ∙ ((λ i. left.0 i + right.0 i) ∙ (sym (length-append (statements_of old) (statements_of other)) ∙ sym (ap length statements)))) in
-    in_step_throughout new count (All-same InStepWithin (statements_of new) _ statements (All-append InStepWithin (statements_of old) (statements_of other) left.1 right.1))
-
-count_without : {X Y : Type 0} (xs : List X) (ys : List Y) (i j : ℕ) → length xs ≡ length ys → length (take i xs ++ drop j xs) ≡ length (take i ys ++ drop j ys)
-count_without xs ys i j e =
-    length-append (take i xs) (drop j xs) ∙ ((λ k. length-take i xs k + length-drop j xs k) ∙ (ap (λ n. min i n + (n - j)) e ∙ (sym (λ k. length-take i ys k + length-drop j ys k) ∙ sym (length-append (take i ys) (drop j ys)))))
-
--- a block that is in step, without a run of it
-pub in_step_without : (old new : Block) (i j : ℕ) → statements_of new ≡ remove_range (statements_of old) i j → spans_of new ≡ remove_range (spans_of old) i j → AllInStep old → AllInStep new
-in_step_without old new i j statements own h =
-    let each = in_step_each old h in
-    let xs : List Statement = statements_of old in
-    let count : IsInStep new = ap length own ∙ (count_without (spans_of old) xs i j each.0 ∙ sym (ap length statements)) in
-    in_step_throughout new count (All-same InStepWithin (statements_of new) _ statements (All-append InStepWithin (take i xs) (drop j xs) (All-take InStepWithin i xs each.1) (All-drop InStepWithin j xs each.1)))
-
-length_spliced : {X : Type 0} (xs ys : List X) (i j : ℕ) → length (splice xs i j ys) ≡ min i (length xs) + (length ys + (length xs - j))
-length_spliced xs ys i j =
-    length-append (take i xs) (ys ++ drop j xs) ∙ (λ k. length-take i xs k + (length-append ys (drop j xs) ∙ ap (λ n. length ys + n) (length-drop j xs)) k)
-
--- a block that is in step, with another in the place of a run of it
-pub in_step_spliced : (old other new : Block) (i j : ℕ) → statements_of new ≡ splice (statements_of old) i j (statements_of other) → spans_of new ≡ splice (spans_of old) i j (spans_of other) → AllInStep old → AllInStep other → AllInStep new
-in_step_spliced old other new i j statements own h k =
-    let left = in_step_each old h in
-    let right = in_step_each other k in
-    let xs : List Statement = statements_of old in
-    let ys : List Statement = statements_of other in
-    let count : IsInStep new =
-    ap length own ∙ (length_spliced (spans_of old) (spans_of other) i j ∙ ((λ n. (min i (left.0 n)) + (right.0 n + (left.0 n - j))) ∙ (sym (length_spliced xs ys i j) ∙ sym (ap length statements)))) in
-    in_step_throughout new count (All-same InStepWithin (statements_of new) _ statements
-    (All-append InStepWithin (take i xs) (ys ++ drop j xs) (All-take InStepWithin i xs left.1) (All-append InStepWithin ys (drop j xs) right.1 (All-drop InStepWithin j xs left.1))))

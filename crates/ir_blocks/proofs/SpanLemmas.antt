@@ -1,19 +1,26 @@
 -- The spans of the completed body, as the code makes them.
-use Rattle.std.proofs.Common.{◌≡◌, List, [], ◌∷◌, ◌++◌, map, take, Bool, true, false, refl, sym, ap, ◌∙◌, rules}
-use Rattle.std.proofs.lemmas.List.{map-append, append-nil, append_assoc}
+use Rattle.std.proofs.Common.{◌≡◌, List, [], ◌∷◌, ◌++◌, map, take, length, Bool, true, false, refl, sym, ap, ◌∙◌, rules}
+use Rattle.std.proofs.lemmas.List.{map-append, length-map, append-nil, append_assoc}
 use Rattle.ir_arena.specs.declared.span.Span.{Span}
 use Rattle.ir_arena.specs.Spans.{undefined_span}
 use Rattle.ir_blocks.specs.Shapes.{shape_of}
 use Rattle.ir_blocks.specs.Spans.{BlockSpans, spans, InnerSpans, in_next, StatementSpans, no_block, tail_of}
+use Rattle.ir_blocks.specs.Padded.{padded}
 use Rattle.ir_blocks.specs.Tails.{goes_on}
 use Rattle.ir_blocks.specs.TailSpans.{ending_span, ending_within, with_first, completed_spans, finished_spans}
-use Rattle.ir_blocks.specs.View.{block_of, within_of, statement_view, block_view, statement_spans, block_spans, statements_of, spans_of}
+use Rattle.ir_blocks.specs.View.{block_of, within_of, spans_over, statement_view, block_view, statement_spans, block_spans, statements_of, spans_of}
 use Rattle.ir_blocks.specs.declared.statements.Statement.{Statement, the_lemmas}
-use Rattle.ir_blocks.specs.declared.statements.Block.{Block}
+use Rattle.ir_blocks.specs.declared.statements.Block.{Block, out-Block}
 use Rattle.ir_blocks.proofs.TerminatorLemmas.{block_view-statements}
 
+pub block_spans-over : (b : Block) → block_spans b ≡ spans_over (out-Block b).span_info (map statement_spans (statements_of b))
+block_spans-over b = search (rules, the_lemmas)
+
+pub spans_over-lists : (kept : List Span) (xs : List Statement) → spans_over kept (map statement_spans xs) ≡ spans (padded (length xs) kept) (within_of (map statement_spans xs))
+spans_over-lists kept xs = ap (λ n. spans (padded n kept) (within_of (map statement_spans xs))) (length-map xs statement_spans)
+
 pub block_spans-lists : (b : Block) → block_spans b ≡ spans (spans_of b) (within_of (map statement_spans (statements_of b)))
-block_spans-lists b = search (rules, the_lemmas)
+block_spans-lists b = block_spans-over b ∙ spans_over-lists (out-Block b).span_info (statements_of b)
 
 abbrev endings : Bool → List StatementSpans
 endings true = no_block ∷ []

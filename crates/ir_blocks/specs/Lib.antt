@@ -2,6 +2,7 @@ pub mod Plain
 pub mod Shapes
 pub mod Places
 pub mod Spans
+pub mod Padded
 pub mod View
 pub mod Tails
 pub mod TailSpans

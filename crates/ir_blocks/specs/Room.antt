@@ -39,7 +39,7 @@ abbrev pub has_spare : {A Z : Type 0} → Vec A Z → Bool
 has_spare v = nat_lt (vec_len v) (vec_capacity v)
 
 abbrev pub block_room_step : Block-F EndRoom Bool Bool → Bool
-block_room_step b = end_room (has_spare b.body && has_spare b.span_info) b.body.items
+block_room_step b = end_room (has_spare b.body) b.body.items
 
 abbrev pub case_room_step : SwitchCase-F EndRoom Bool Bool → Bool
 case_room_step c = c.fall_through || c.body
@@ -53,14 +53,14 @@ block_room = fold-Block EndRoom Bool Bool statement_room_step block_room_step ca
 abbrev pub case_room : SwitchCase → Bool
 case_room = fold-SwitchCase EndRoom Bool Bool statement_room_step block_room_step case_room_step
 
--- the block itself has room for one more statement and its span
+-- the block itself has room for one more statement
 abbrev pub own_room : Block → Bool
-own_room b = has_spare (out-Block b).body && has_spare (out-Block b).span_info
+own_room b = has_spare (out-Block b).body
 
 abbrev pub HasOwnRoom : Block → Type 0
 HasOwnRoom b = IsTrue (own_room b)
 
--- each block of the body to which a return is added has room for it and for its span
+-- each block of the body to which a return is added has room for it
 abbrev pub HasRoom : Block → Type 0
 HasRoom b = IsTrue (block_room b)
 

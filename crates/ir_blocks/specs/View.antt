@@ -1,11 +1,10 @@
 -- The plain data and the spans that blocks hold.
-use Rattle.std.specs.Prelude.{◌≡◌, ◌↔◌, ℕ, Bool, List, [], ◌∷◌, map, length, vec_capacity}
-use Rattle.std.specs.List.{All}
+use Rattle.std.specs.Prelude.{◌≡◌, ℕ, Bool, List, [], ◌∷◌, map, length, vec_capacity}
 use Rattle.ir_arena.specs.declared.span.Span.{Span}
 use Rattle.ir_kinds.specs.declared.values.SwitchValue.{SwitchValue}
 use Rattle.ir_blocks.specs.Plain.{control_barrier, memory_barrier, store, image_store, atomic, image_atomic, uniform_load, ray_query, ballot, collective, gather, cooperative_store, ray_pipeline, PlainStatement, emit, block, if_, switch, loop, break, continue, return, kill, operation, call, PlainBlock, stop, next, PlainCases, no_case, case}
-use Rattle.ir_blocks.specs.Shapes.{Part, shape_of, part_of}
-use Rattle.ir_blocks.specs.Spans.{BlockSpans, spans, InnerSpans, no_statement, in_next, StatementSpans, no_block, in_block, in_sides, in_cases, in_loop, CaseSpans, no_more, in_case, spans_in, InStep}
+use Rattle.ir_blocks.specs.Spans.{BlockSpans, spans, InnerSpans, no_statement, in_next, StatementSpans, no_block, in_block, in_sides, in_cases, in_loop, CaseSpans, no_more, in_case, InStep}
+use Rattle.ir_blocks.specs.Padded.{padded}
 use Rattle.ir_blocks.specs.declared.statements.Statement.{Statement}
 use Rattle.ir_blocks.specs.declared.statements.Statement.TheOpen.{Statement-F, Block-F, SwitchCase-F}
 use Rattle.ir_blocks.specs.declared.statements.Statement.TheFolds.{fold-Statement, fold-Block, fold-SwitchCase}
@@ -91,8 +90,12 @@ statement_spans_step (Statement-F.Switch selector cases) = in_cases (case_spans_
 statement_spans_step (Statement-F.Loop body continuing break_if) = in_loop body continuing
 statement_spans_step _ = no_block
 
+-- these kept spans, as those of a block with this inside its statements
+abbrev pub spans_over : List Span → List StatementSpans → BlockSpans
+spans_over kept within = spans (padded (length within) kept) (within_of within)
+
 abbrev pub block_spans_step : Block-F StatementSpans BlockSpans BlockSpans → BlockSpans
-block_spans_step b = spans b.span_info.items (within_of b.body.items)
+block_spans_step b = spans_over b.span_info b.body.items
 
 abbrev pub case_spans_step : SwitchCase-F StatementSpans BlockSpans BlockSpans → BlockSpans
 case_spans_step c = c.body
@@ -107,35 +110,21 @@ block_spans = fold-Block StatementSpans BlockSpans BlockSpans statement_spans_st
 abbrev pub case_block_spans : SwitchCase → BlockSpans
 case_block_spans = fold-SwitchCase StatementSpans BlockSpans BlockSpans statement_spans_step block_spans_step case_spans_step
 
--- the statements of a block, and their spans
+-- the statements of a block, and the span of each
 abbrev pub statements_of : Block → List Statement
 statements_of b = (out-Block b).body.items
 
 abbrev pub spans_of : Block → List Span
-spans_of b = (out-Block b).span_info.items
+spans_of b = padded (length (statements_of b)) (out-Block b).span_info
 
--- how many statements and how many spans a block holds before it has to grow
+-- how many statements a block holds before it has to grow
 abbrev pub room_for_statements : Block → ℕ
 room_for_statements b = vec_capacity (out-Block b).body
 
-abbrev pub room_for_spans : Block → ℕ
-room_for_spans b = vec_capacity (out-Block b).span_info
-
--- a block has as many spans as statements
-abbrev pub IsInStep : Block → Type 0
-IsInStep b = length (spans_of b) ≡ length (statements_of b)
-
--- a block is in step, and so is each block inside it
-abbrev pub AllInStep : Block → Type 0
-AllInStep b = InStep (block_view b) (block_spans b)
-
--- each block inside a statement is in step at every depth
-abbrev pub InStepWithin : Statement → Type 0
-InStepWithin s = (part : Part) → InStep (part_of (shape_of (statement_view s)) part) (spans_in (statement_spans s) part)
-
--- a block is in step at every depth exactly where it is in step itself and each block inside its statements is so
-abbrev pub InStepByStatements : Type 0
-InStepByStatements = (b : Block) → AllInStep b ↔ (IsInStep b × All InStepWithin (statements_of b))
+-- a block has as many spans as statements, and at every depth a span for each place where a statement stands, and for
+-- no other place
+abbrev pub AlwaysInStep : Type 0
+AlwaysInStep = (b : Block) → (length (spans_of b) ≡ length (statements_of b)) × InStep (block_view b) (block_spans b)
 
 -- no block lies inside the statement
 abbrev pub HoldsNoBlock : PlainStatement → Type 0

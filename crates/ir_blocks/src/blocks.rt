@@ -7,8 +7,9 @@ ghost use Rattle.std.specs.Borrow.{sem};
 ghost use Rattle.ir_blocks.specs.Lends.{LendsStatements};
 ghost use Rattle.ir_blocks.specs.Room.{HasOwnRoom};
 ghost use Rattle.ir_blocks.specs.SpanIters.{pairs_to_come};
-ghost use Rattle.ir_blocks.specs.View.{statements_of, spans_of, room_for_statements, room_for_spans, IsInStep, AllInStep, InStepWithin};
+ghost use Rattle.ir_blocks.specs.View.{statements_of, spans_of, room_for_statements};
 
+use crate::kept::KeptSpans;
 use crate::runs::{cut, move_behind, put_in};
 use crate::span_iter::{SpanIntoIter, SpanIter, SpanIterMut};
 use crate::statements::{Block, Statement};
@@ -16,6 +17,19 @@ use ir_arena::span::Span;
 use std::alloc::{AllocError, Global};
 use std::ops::RangeBounds;
 use std::slice;
+
+impl From<Vec<Statement>> for Block {
+    ghost use Rattle.std.specs.Prelude.{◌≡◌, length, replicate};
+    ghost use Rattle.ir_arena.specs.Spans.{undefined_span};
+    ghost use Rattle.ir_blocks.specs.View.{statements_of, spans_of};
+
+    ghost from_gives = { λ body block. (statements_of block ≡ body.items) × (spans_of block ≡ replicate (length body.items) undefined_span) };
+
+    /// A block of these statements, each with [`Span::UNDEFINED`].
+    fn from(body: Vec<Statement>) -> Self {
+        Block::from_vec(body)
+    }
+}
 
 impl Block {
     /// A block without statements.
@@ -25,31 +39,32 @@ impl Block {
     {
         Block {
             body: Vec::new(alloc),
-            span_info: Vec::new(alloc),
+            span_info: KeptSpans::new(),
         }
     }
 
-    /// A block of these statements, each with [`Span::UNDEFINED`] (also naga's `From<Vec<Statement>>`). The error is
-    /// out of memory for the spans.
-    pub fn from_vec(alloc: Global, body: Vec<Statement>) -> Result<Block, AllocError>
-        ensures statements { IfOk result (λ block. statements_of block ≡ body.items) }
-        ensures spans { IfOk result (λ block. spans_of block ≡ replicate (length body.items) undefined_span) }
-        ensures in_step { IfOk result (λ block. IsInStep block) }
+    /// A block of these statements, each with [`Span::UNDEFINED`].
+    #[tactic(auto, using(crate::proofs::PaddedLemmas::padded_none))]
+    pub fn from_vec(body: Vec<Statement>) -> Block
+        ensures statements { statements_of result ≡ body.items }
+        ensures spans { spans_of result ≡ replicate (length body.items) undefined_span }
     {
-        let span_info = Vec::from_elem(alloc, Span::UNDEFINED, body.len())?;
-        Ok(Block { body, span_info })
+        Block {
+            body,
+            span_info: KeptSpans::new(),
+        }
     }
 
-    /// A block without statements, with room for `count` of them. The error is out of memory.
+    /// A block without statements, with room for `count` of them; for their spans room is made once one is defined.
+    /// The error is out of memory.
     pub fn with_capacity(alloc: Global, count: usize) -> Result<Block, AllocError>
         ensures statements { IfOk result (λ block. statements_of block ≡ []) }
         ensures spans { IfOk result (λ block. spans_of block ≡ []) }
         ensures room { IfOk result (λ block. count ≤ room_for_statements block) }
-        ensures span_room { IfOk result (λ block. count ≤ room_for_spans block) }
     {
         Ok(Block {
             body: Vec::with_capacity(alloc, count)?,
-            span_info: Vec::with_capacity(alloc, count)?,
+            span_info: KeptSpans::new(),
         })
     }
 
@@ -74,26 +89,21 @@ impl Block {
         &self.body
     }
 
-    /// The statements' spans in order (the second half of naga's `span_iter`).
-    pub fn spans(&self) -> &[Span]
-        ensures { result.now ≡ spans_of self.now }
-    {
-        &self.span_info
-    }
-
     /// The statements in order, each with its span.
     pub fn span_iter(&self) -> SpanIter<'_>
         ensures { result ≡ zip (statements_of self.now) (spans_of self.now) }
     {
-        SpanIter::new(&self.body, &self.span_info)
+        SpanIter::new(&self.body, self.span_info.as_slice())
     }
 
-    /// The statements in order, each with its span, to be changed. No contract says what the block holds once they
-    /// were changed so; that of [`Block::as_mut_slice`] does.
-    pub fn span_iter_mut(&mut self) -> SpanIterMut<'_>
-        ensures { pairs_to_come result ≡ zip (statements_of self.old) (spans_of self.old) }
+    /// The statements in order, each with its span, to be changed. The error is out of memory for spans that were not
+    /// kept. No contract says what the block holds once they were changed so; that of [`Block::as_mut_slice`] does.
+    pub fn span_iter_mut(&mut self) -> Result<SpanIterMut<'_>, AllocError>
+        ensures { IfOk result (λ pairs. pairs_to_come pairs ≡ zip (statements_of self.old) (spans_of self.old)) }
     {
-        SpanIterMut::new(&mut self.body, &mut self.span_info)
+        let alloc = *self.body.allocator();
+        self.span_info.pad(alloc, self.body.len())?;
+        Ok(SpanIterMut::new(&mut self.body, self.span_info.as_mut_slice()))
     }
 
     /// The statements in order, each with its span, taken out of the block.
@@ -101,7 +111,8 @@ impl Block {
         ensures { result ≡ zip (statements_of self) (spans_of self) }
     {
         let Block { body, span_info } = self;
-        SpanIntoIter::new(body, span_info)
+        let alloc = *body.allocator();
+        SpanIntoIter::new(body, span_info.into_list(alloc))
     }
 
     /// The statements in order, to be changed (naga's `DerefMut` of a block). The spans stay.
@@ -113,20 +124,18 @@ impl Block {
     }
 
     /// Adds a statement at the end, with its span. The error is out of memory, and leaves the block as it was. There
-    /// is none where the block has room.
-    #[tactic(auto, using(crate::proofs::SpanLaws::in_step_behind))]
+    /// is none where the block has room and the span is [`Span::UNDEFINED`].
     pub fn push(&mut self, statement: Statement, span: Span) -> Result<(), AllocError>
         ensures statements { OnOk result (statements_of self.new ≡ statements_of self.old ++ statement ∷ []) }
         ensures spans { OnOk result (spans_of self.new ≡ spans_of self.old ++ span ∷ []) }
         ensures err_statements { OnErr result (statements_of self.new ≡ statements_of self.old) }
         ensures err_spans { OnErr result (spans_of self.new ≡ spans_of self.old) }
-        ensures in_step { IsInStep self.old → IsInStep self.new }
-        ensures all_in_step { AllInStep self.old → InStepWithin statement → AllInStep self.new }
-        ensures succeeds { HasOwnRoom self.old → IsOk result }
+        ensures succeeds { HasOwnRoom self.old → span ≡ undefined_span → IsOk result }
     {
-        self.span_info.reserve(1)?;
-        self.body.push(statement)?;
-        self.span_info.push_reserved(span);
+        let alloc = *self.body.allocator();
+        self.body.reserve(1)?;
+        self.span_info.push(alloc, self.body.len(), span)?;
+        self.body.push_reserved(statement);
         Ok(())
     }
 
@@ -137,8 +146,6 @@ impl Block {
         ensures spans { OnOk result (spans_of self.new ≡ spans_of self.old ++ map (λ e. e.1) (option_to_list item)) }
         ensures err_statements { OnErr result (statements_of self.new ≡ statements_of self.old) }
         ensures err_spans { OnErr result (spans_of self.new ≡ spans_of self.old) }
-        ensures in_step { IsInStep self.old → IsInStep self.new }
-        ensures all_in_step { AllInStep self.old → IfSome item (λ e. InStepWithin e.0) → AllInStep self.new }
     {
         match item {
             Some((statement, span)) => self.push(statement, span),
@@ -153,8 +160,6 @@ impl Block {
         ensures spans { OnOk result (spans_of self.new ≡ spans_of self.old ++ spans_of other) }
         ensures err_statements { OnErr result (statements_of self.new ≡ statements_of self.old) }
         ensures err_spans { OnErr result (spans_of self.new ≡ spans_of self.old) }
-        ensures in_step { IsInStep self.old → IsInStep other → IsInStep self.new }
-        ensures all_in_step { AllInStep self.old → AllInStep other → AllInStep self.new }
     {
         let mut other = other;
         self.append(&mut other)
@@ -162,7 +167,6 @@ impl Block {
 
     /// Moves the statements of another block to the end of this one, with their spans, and leaves the other empty.
     /// The error is out of memory, and leaves both as they were.
-    #[tactic(auto, using(crate::proofs::SpanLaws::in_step_joined))]
     pub fn append(&mut self, other: &mut Block) -> Result<(), AllocError>
         ensures statements { OnOk result (statements_of self.new ≡ statements_of self.old ++ statements_of other.old) }
         ensures spans { OnOk result (spans_of self.new ≡ spans_of self.old ++ spans_of other.old) }
@@ -172,36 +176,34 @@ impl Block {
         ensures err_spans { OnErr result (spans_of self.new ≡ spans_of self.old) }
         ensures err_rest { OnErr result (statements_of other.new ≡ statements_of other.old) }
         ensures err_rest_spans { OnErr result (spans_of other.new ≡ spans_of other.old) }
-        ensures in_step { IsInStep self.old → IsInStep other.old → IsInStep self.new }
-        ensures all_in_step { AllInStep self.old → AllInStep other.old → AllInStep self.new }
     {
-        self.span_info.reserve(other.span_info.len())?;
-        self.body.append(&mut other.body)?;
-        move_behind(&mut self.span_info, &mut other.span_info);
+        let alloc = *self.body.allocator();
+        let (count, more) = (self.body.len(), other.body.len());
+        self.body.reserve(more)?;
+        self.span_info
+            .append(alloc, count, &mut other.span_info, more)?;
+        move_behind(&mut self.body, &mut other.body);
         Ok(())
     }
 
     /// Takes the statements in `range` out, with their spans. It asks by contract for a range within the block's
     /// statements, where naga panics.
-    #[tactic(auto, using(crate::proofs::SpanLaws::in_step_without))]
+    #[tactic(auto, using(crate::proofs::PaddedLemmas::culled))]
     pub fn cull<R: RangeBounds<usize>>(&mut self, range: R)
         requires known { R.has_bounds range }
         requires start_le_end { start_index (R.start_bound range) ≤ end_index (R.end_bound range) (length (statements_of self.old)) }
         requires in_bounds { end_index (R.end_bound range) (length (statements_of self.old)) ≤ length (statements_of self.old) }
         ensures statements { statements_of self.new ≡ remove_range (statements_of self.old) (start_index (R.start_bound range)) (end_index (R.end_bound range) (length (statements_of self.old))) }
         ensures spans { spans_of self.new ≡ remove_range (spans_of self.old) (start_index (R.start_bound range)) (end_index (R.end_bound range) (length (statements_of self.old))) }
-        ensures in_step { IsInStep self.old → IsInStep self.new }
-        ensures all_in_step { AllInStep self.old → AllInStep self.new }
     {
         let range = slice::range(range, ..self.body.len());
         cut(&mut self.body, range.start, range.end);
-        cut(&mut self.span_info, range.start, range.end);
+        self.span_info.cut(range.start, range.end);
     }
 
     /// Puts the statements of another block in the place of those in `range`, with their spans. It asks by contract
     /// for a range within the block's statements, where naga panics. The error is out of memory, and leaves the block
     /// as it was; the other one is let go.
-    #[tactic(auto, using(crate::proofs::SpanLaws::in_step_spliced))]
     pub fn splice<R: RangeBounds<usize>>(
         &mut self,
         range: R,
@@ -214,15 +216,15 @@ impl Block {
         ensures spans { OnOk result (spans_of self.new ≡ splice (spans_of self.old) (start_index (R.start_bound range)) (end_index (R.end_bound range) (length (statements_of self.old))) (spans_of other)) }
         ensures err_statements { OnErr result (statements_of self.new ≡ statements_of self.old) }
         ensures err_spans { OnErr result (spans_of self.new ≡ spans_of self.old) }
-        ensures in_step { IsInStep self.old → IsInStep other → IsInStep self.new }
-        ensures all_in_step { AllInStep self.old → AllInStep other → AllInStep self.new }
     {
         let range = slice::range(range, ..self.body.len());
-        self.body.reserve(other.body.len())?;
-        self.span_info.reserve(other.span_info.len())?;
+        let alloc = *self.body.allocator();
         let Block { body, span_info } = other;
+        let (count, more) = (self.body.len(), body.len());
+        self.body.reserve(more)?;
+        self.span_info
+            .splice(alloc, count, range.start, range.end, span_info, more)?;
         put_in(&mut self.body, range.start, range.end, body);
-        put_in(&mut self.span_info, range.start, range.end, span_info);
         Ok(())
     }
 }

@@ -1,8 +1,9 @@
 // Laws of the items.
 ghost use Rattle.std.specs.Prelude.{◌≡◌};
+ghost use Rattle.ir_blocks.specs.Padded.{KeptEquality};
 ghost use Rattle.ir_blocks.specs.Tails.{CompletedByTails, CompletedOnce, OneCompleted};
 ghost use Rattle.ir_blocks.specs.TailSpans.{SpansCompletedByTails};
-ghost use Rattle.ir_blocks.specs.View.{InStepByStatements};
+ghost use Rattle.ir_blocks.specs.View.{AlwaysInStep};
 
 /// The completed body has a return at each open end of a tail block, keeps every statement in its place, and has no
 /// other.
@@ -10,15 +11,20 @@ pub fn completed_by_tails()
     ensures { CompletedByTails }
 {}
 
-/// A block is in step at every depth exactly where it has as many spans as statements and each block inside its
-/// statements is in step at every depth.
-pub fn in_step_by_statements()
-    ensures { InStepByStatements }
+/// A block has as many spans as statements, and so has each block inside it: spans are in step with their body at every
+/// depth.
+pub fn always_in_step()
+    ensures { AlwaysInStep }
 {}
 
-/// Where a body is in step with its spans at every depth, each statement of the completed body that stood keeps its
-/// span at its place, each return that was added has [`ir_arena::span::Span::UNDEFINED`], and the completed body is in
-/// step at every depth.
+/// `==` of blocks compares their spans as [`crate::Block::span_iter`] gives them, however many of them are kept.
+pub fn kept_equality()
+    ensures { KeptEquality }
+{}
+
+/// Each statement of the completed body that stood keeps its span at its place, each return that was added has
+/// [`ir_arena::span::Span::UNDEFINED`], and the spans are in step with the completed body at every depth. It asks for
+/// spans that are in step with the body, as those of a block always are.
 pub fn spans_completed_by_tails()
     ensures { SpansCompletedByTails }
 {}

@@ -3,6 +3,7 @@
 #![tactic(auto)]
 
 mod blocks;
+mod kept;
 pub mod laws;
 mod operations;
 mod returns;

@@ -6,7 +6,7 @@ ghost use Rattle.ir_arena.specs.Spans.{undefined_span};
 ghost use Rattle.ir_blocks.specs.Room.{HasOwnRoom, HasRoom, HasRoomWithin, HasRoomInCase, HasRoomInCases};
 ghost use Rattle.ir_blocks.specs.Tails.{IsCompleted, completed, finished, finished_cases, finished_case};
 ghost use Rattle.ir_blocks.specs.TailSpans.{SpansCompleted, completed_spans, finished_spans, finished_case_spans, finished_case_body};
-ghost use Rattle.ir_blocks.specs.View.{AllInStep, statement_view, block_view, case_view, cases_of, statement_spans, block_spans, case_block_spans, case_spans_of, statements_of, spans_of};
+ghost use Rattle.ir_blocks.specs.View.{statement_view, block_view, case_view, cases_of, statement_spans, block_spans, case_block_spans, case_spans_of, statements_of, spans_of};
 
 use crate::statements::{Block, Statement, SwitchCase};
 use crate::terminator::goes_on;
@@ -19,7 +19,7 @@ use std::alloc::{AllocError, Global};
 /// for every return before the first is put in. The blocks grow in their own allocator.
 pub fn ensure_block_returns(_alloc: Global, block: &mut Block) -> Result<(), AllocError>
     ensures ok { OnOk result (IsCompleted (block_view block.old) (block_view block.new)) }
-    ensures spans { OnOk result (AllInStep block.old → SpansCompleted (block_view block.old) (block_view block.new) (block_spans block.old) (block_spans block.new)) }
+    ensures spans { OnOk result (SpansCompleted (block_view block.old) (block_view block.new) (block_spans block.old) (block_spans block.new)) }
     ensures found { OnOk result (block_view block.new ≡ completed (block_view block.old)) }
     ensures found_spans { OnOk result (block_spans block.new ≡ completed_spans (block_view block.old) (block_spans block.old)) }
     ensures err { OnErr result (block_view block.new ≡ block_view block.old) }
@@ -30,8 +30,7 @@ pub fn ensure_block_returns(_alloc: Global, block: &mut Block) -> Result<(), All
     Ok(())
 }
 
-/// Makes room for a return and its span in each block of a body that wants one, and changes nothing else. The error is
-/// out of memory. It is the first half of [`ensure_block_returns`], for who completes several bodies or none.
+/// Makes room for a return in each block of a body that wants one, and changes nothing else. The error is out of memory. It is the first half of [`ensure_block_returns`], for who completes several bodies or none.
 #[cycle(reserves)]
 pub fn reserve_returns(block: &mut Block) -> Result<(), AllocError>
     ensures statements { block_view block.new ≡ block_view block.old }
@@ -48,13 +47,12 @@ pub fn reserve_returns(block: &mut Block) -> Result<(), AllocError>
     reserve_within(&mut block.body[len - 1])
 }
 
-// Makes room for one more statement and its span.
+// Makes room for one more statement.
 fn reserve_one(block: &mut Block) -> Result<(), AllocError>
     ensures statements { statements_of block.new ≡ statements_of block.old }
     ensures spans { spans_of block.new ≡ spans_of block.old }
     ensures room { OnOk result (HasOwnRoom block.new) }
 {
-    block.span_info.reserve(1)?;
     block.body.reserve(1)
 }
 

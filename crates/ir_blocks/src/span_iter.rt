@@ -1,12 +1,16 @@
 // Going over the statements of a block with their spans.
-ghost use Rattle.std.specs.Prelude.{◌≡◌};
+ghost use Rattle.std.specs.Prelude.{◌≡◌, length};
 ghost use Rattle.std.specs.List.{zip};
+ghost use Rattle.ir_blocks.specs.Padded.{first_kept, others_kept, padded};
 ghost use Rattle.ir_blocks.specs.SpanIters.{pairs_to_come};
 
 use crate::statements::Statement;
 use ir_arena::span::Span;
 use std::marker::Model;
 use std::{slice, vec};
+
+// What a statement has whose span is not kept.
+static UNDEFINED: Span = Span::UNDEFINED;
 
 /// The statements of a block in order, each with its span. In a contract it is the list of those that are still to
 /// come.
@@ -17,8 +21,9 @@ pub struct SpanIter<'a> {
 }
 
 impl<'a> Model for SpanIter<'a> {
-    ghost use Rattle.std.specs.Prelude.{List};
+    ghost use Rattle.std.specs.Prelude.{List, length};
     ghost use Rattle.std.specs.List.{zip};
+    ghost use Rattle.ir_blocks.specs.Padded.{padded};
     ghost use Rattle.ir_arena.specs.declared.span.Span.{Span};
     ghost use Rattle.ir_blocks.specs.declared.statements.Statement.{Statement};
     ghost use Rattle.ir_blocks.specs.contracts.statements.Statement as e;
@@ -28,15 +33,26 @@ impl<'a> Model for SpanIter<'a> {
 
     ghost coded = { Prim.hlevel (codes, e.the_row.coded) };
 
-    ghost view = { λ i. zip i.statements.now i.spans.now };
+    ghost view = { λ i. zip i.statements.now (padded (length i.statements.now) i.spans.now) };
 }
 
 impl<'a> SpanIter<'a> {
-    /// An iterator over `statements` and `spans`, as far as both reach.
+    /// An iterator over `statements`, with `spans` as far as these reach.
     pub(crate) fn new(statements: &'a [Statement], spans: &'a [Span]) -> Self
-        ensures { result ≡ zip statements.now spans.now }
+        ensures { result ≡ zip statements.now (padded (length statements.now) spans.now) }
     {
         SpanIter { statements, spans }
+    }
+}
+
+// The first of the spans that are kept, and those behind it.
+fn first_kept(spans: &[Span]) -> (&Span, &[Span])
+    ensures first { result.0.now ≡ first_kept spans.now }
+    ensures rest { result.1.now ≡ others_kept spans.now }
+{
+    match spans.split_first() {
+        Some((span, spans)) => (span, spans),
+        None => (&UNDEFINED, spans),
     }
 }
 
@@ -52,7 +68,7 @@ impl<'a> Iterator for SpanIter<'a> {
 
     fn next(&mut self) -> Option<(&'a Statement, &'a Span)> {
         let (statement, statements) = self.statements.split_first()?;
-        let (span, spans) = self.spans.split_first()?;
+        let (span, spans) = first_kept(self.spans);
         self.statements = statements;
         self.spans = spans;
         Some((statement, span))
@@ -104,8 +120,9 @@ pub struct SpanIntoIter {
 }
 
 impl Model for SpanIntoIter {
-    ghost use Rattle.std.specs.Prelude.{List};
+    ghost use Rattle.std.specs.Prelude.{List, length};
     ghost use Rattle.std.specs.List.{zip};
+    ghost use Rattle.ir_blocks.specs.Padded.{padded};
     ghost use Rattle.std.specs.Vec.Iter.{into_iter_items};
     ghost use Rattle.ir_arena.specs.declared.span.Span.{Span};
     ghost use Rattle.ir_blocks.specs.declared.statements.Statement.{Statement};
@@ -116,13 +133,13 @@ impl Model for SpanIntoIter {
 
     ghost coded = { Prim.hlevel (codes, e.the_row.coded) };
 
-    ghost view = { λ i. zip (into_iter_items i.statements) (into_iter_items i.spans) };
+    ghost view = { λ i. zip (into_iter_items i.statements) (padded (length (into_iter_items i.statements)) (into_iter_items i.spans)) };
 }
 
 impl SpanIntoIter {
-    /// An iterator over `statements` and `spans`, as far as both reach.
+    /// An iterator over `statements`, with `spans` as far as these reach.
     pub(crate) fn new(statements: Vec<Statement>, spans: Vec<Span>) -> Self
-        ensures { result ≡ zip statements.items spans.items }
+        ensures { result ≡ zip statements.items (padded (length statements.items) spans.items) }
     {
         SpanIntoIter {
             statements: statements.into_iter(),
@@ -141,7 +158,8 @@ impl Iterator for SpanIntoIter {
     ghost remaining = { item_count (λ i. i) };
 
     fn next(&mut self) -> Option<(Statement, Span)> {
-        let span = self.spans.next()?;
-        Some((self.statements.next()?, span))
+        let statement = self.statements.next()?;
+        let span = self.spans.next().unwrap_or(Span::UNDEFINED);
+        Some((statement, span))
     }
 }

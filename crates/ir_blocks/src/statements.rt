@@ -3,21 +3,21 @@ ghost use Rattle.std.specs.Prelude.{◌≡◌, map, IfOk};
 ghost use Rattle.ir_blocks.specs.View.{statement_view, block_view, case_view, statement_spans, block_spans, case_block_spans, HoldsNoBlock, IsAct, IsSharedAct};
 ghost use Rattle.ir_blocks.specs.Spans.{no_block};
 
+use crate::kept::KeptSpans;
 use crate::operations::{AtomicFunction, GatherMode, RayPipelineFunction, RayQueryFunction};
 use ir_arena::handle::Handle;
 use ir_arena::range::Range;
-use ir_arena::span::Span;
 use ir_flags::Barrier;
 use ir_kinds::{CollectiveOperation, SubgroupOperation, SwitchValue};
 use ir_types::{CooperativeData, key};
 use std::alloc::{AllocError, Global};
 
-/// Statements in order, each with its span (naga's `Block`).
+/// Statements in order, each with its span (naga's `Block`). Spans are kept only where one is defined.
 #[cycle(body)]
 #[derive(PartialEq, Debug, Drop)]
 pub struct Block {
     pub(crate) body: Vec<Statement>,
-    pub(crate) span_info: Vec<Span>,
+    pub(crate) span_info: KeptSpans,
 }
 
 /// A case of a switch (naga's `SwitchCase`).
@@ -194,7 +194,7 @@ impl Block {
         for statement in &self.body {
             body.push(statement.clone(alloc)?)?;
         }
-        let span_info = Vec::from_slice(alloc, &self.span_info)?;
+        let span_info = self.span_info.clone(alloc)?;
         Ok(Block { body, span_info })
     }
 }

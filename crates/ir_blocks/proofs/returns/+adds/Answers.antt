@@ -1,11 +1,13 @@
 use Rattle.std.proofs.Common.{◌≡◌, ◌+◌, ◌-◌, ◌<◌, ◌≤◌, take, length, IsOk, subst, true≢false, true, false, refl, sym, ap, ◌∙◌, arith}
+use Rattle.std.proofs.Math.ListN.{set}
 use Rattle.ir_blocks.specs.Shapes.{shape_of}
+use Rattle.ir_blocks.specs.Padded.{padded}
 use Rattle.ir_blocks.specs.Tails.{goes_on, finished_case}
 use Rattle.ir_blocks.specs.TailSpans.{finished_case_body}
 use Rattle.ir_blocks.specs.View.{cases_of, case_spans_of, statement_view, case_view, case_block_spans, statements_of, spans_of}
 use Rattle.ir_blocks.proofs.TerminatorLemmas.{block_view-statements, complete_stays, complete_adds}
-use Rattle.ir_blocks.proofs.SpanLemmas.{block_spans-lists, spans_stay, spans_added}
-use Rattle.ir_blocks.proofs.RoomLemmas.{at_end, set_end, same_at, block_view-roll, block_spans-roll, finished_on, finished_spans_on, on_ok_then, on_ok_both, own_known, within_last, room_here, unvisited_more, done_more, all_done, cases_finished, case_spans_finished}
+use Rattle.ir_blocks.proofs.SpanLemmas.{block_spans-lists, spans_over-lists, spans_stay, spans_added}
+use Rattle.ir_blocks.proofs.RoomLemmas.{at_end, set_end, length_set, same_at, block_view-roll, block_spans-roll, finished_on, finished_spans_on, on_ok_then, on_ok_both, own_known, within_last, room_here, unvisited_more, done_more, all_done, cases_finished, case_spans_finished}
 use Rattle.ir_blocks.proofs.returns.+adds.Goals as goal
 
 pub add_returns-returns-then-open-clause-statements : goal.add_returns-returns-then-open-clause-statements
@@ -56,9 +58,11 @@ add_returns-returns-clause-spans t c =
     let same : c.index_mut.result.now ≡ c.index.result.now = c.index_mut.ensures.value ∙ (same_at c.args.block.now.body.items (c.len-len.result - 1) _ _ at ∙ sym c.index.ensures) in
     let off : goes_on (shape_of (statement_view c.index_mut.result.now)) ≡ false = ap (λ z. goes_on (shape_of (statement_view z))) same ∙ (sym c.goes_on-open.ensures ∙ c.if-open.false) in
     let prefix = take (c.len-len.result - 1) c.args.block.now.body.items in
-    on_ok_then _ c.add_within.ensures.spans (λ end. block_spans-roll _ _ ∙ spans_stay c.args.block.now prefix prefix _ c.index_mut.result.now c.add_within.new.statement c.args.block.now.span_info.items
+    let changed = set c.args.block.now.body.items (c.len-len.result - 1) c.add_within.new.statement in
+    let kept = c.args.block.now.span_info in
+    on_ok_then _ c.add_within.ensures.spans (λ end. block_spans-roll _ _ ∙ (spans_over-lists kept changed ∙ spans_stay c.args.block.now prefix prefix _ c.index_mut.result.now c.add_within.new.statement (padded (length changed) kept)
     (at_end c.args.block.now.body.items (c.len-len.result - 1) c.index_mut.result.now last c.index_mut.ensures.value) refl end off
-    (set_end c.args.block.now.body.items (c.len-len.result - 1) c.add_within.new.statement last) refl)
+    (set_end c.args.block.now.body.items (c.len-len.result - 1) c.add_within.new.statement last) (ap (λ n. padded n kept) (length_set c.args.block.now.body.items (c.len-len.result - 1) c.add_within.new.statement))))
 
 pub add_to_cases-loop-index-preserved : goal.add_to_cases-loop-index-preserved
 add_to_cases-loop-index-preserved t c =

@@ -1,10 +1,9 @@
 use Rattle.std.proofs.Common.{◌≡◌, ◌+◌, ◌-◌, ◌<◌, length, false, sym, ap, ◌∙◌, arith}
 use Rattle.ir_blocks.specs.Shapes.{shape_of}
-use Rattle.ir_blocks.specs.Spans.{spans}
 use Rattle.ir_blocks.specs.Tails.{goes_on}
-use Rattle.ir_blocks.specs.View.{block_of, within_of, statement_view, statement_spans, case_view, case_block_spans}
+use Rattle.ir_blocks.specs.View.{block_of, spans_over, statement_view, statement_spans, case_view, case_block_spans}
 use Rattle.ir_blocks.proofs.TerminatorLemmas.{block_view-statements}
-use Rattle.ir_blocks.proofs.SpanLemmas.{block_spans-lists}
+use Rattle.ir_blocks.proofs.SpanLemmas.{block_spans-over}
 use Rattle.ir_blocks.proofs.RoomLemmas.{same_looks, same_at, block_view-roll, block_spans-roll, block_room-roll, on_ok_then, room_made, room_within, unvisited_more, room_more}
 use Rattle.ir_blocks.proofs.returns.+reserves.Goals as goal
 
@@ -19,7 +18,7 @@ reserve_returns-returns-clause-statements t c =
 
 pub reserve_returns-returns-clause-spans : goal.reserve_returns-returns-clause-spans
 reserve_returns-returns-clause-spans t c =
-    block_spans-roll _ _ ∙ (ap (λ z. spans c.args.block.now.span_info.items (within_of z)) (same_looks statement_spans _ _ _ _ (omega arith) c.index_mut.ensures.value c.reserve_within.ensures.spans) ∙ sym (block_spans-lists c.args.block.now))
+    block_spans-roll _ _ ∙ (ap (spans_over c.args.block.now.span_info) (same_looks statement_spans _ _ _ _ (omega arith) c.index_mut.ensures.value c.reserve_within.ensures.spans) ∙ sym (block_spans-over c.args.block.now))
 
 pub reserve_returns-returns-clause-room : goal.reserve_returns-returns-clause-room
 reserve_returns-returns-clause-room t c =

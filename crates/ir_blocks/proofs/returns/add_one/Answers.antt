@@ -1,3 +1,4 @@
+use Rattle.std.proofs.Common.{refl}
 use Rattle.ir_blocks.specs.View.{statement_view, statement_spans}
 use Rattle.ir_blocks.proofs.Behind.{seen_behind_if, return_view, return_spans}
 use Rattle.ir_blocks.proofs.returns.add_one.Goals as goal
@@ -12,4 +13,4 @@ pub returns-clause-spans : goal.returns-clause-spans
 returns-clause-spans c = c.push.ensures.spans
 
 pub returns-clause-succeeds : goal.returns-clause-succeeds
-returns-clause-succeeds c = c.push.ensures.succeeds
+returns-clause-succeeds c = λ room. c.push.ensures.succeeds room refl

@@ -1,6 +1,7 @@
 use Rattle.std.proofs.Common.{ap, ◌∙◌}
 use Rattle.ir_blocks.specs.Tails.{completed}
 use Rattle.ir_blocks.specs.TailSpans.{completed_spans}
+use Rattle.ir_blocks.proofs.InStepLaws.{always_in_step}
 use Rattle.ir_blocks.proofs.SpanLaws.{completed_is, spans_completed_is}
 use Rattle.ir_blocks.proofs.returns.ensure_block_returns.Goals as goal
 
@@ -11,4 +12,4 @@ pub returns-clause-spans : goal.returns-clause-spans
 returns-clause-spans c =
     let bodies = c.reserve_returns.ensures.statements in
     let kept = c.reserve_returns.ensures.spans in
-    spans_completed_is _ _ _ _ (c.put_returns.ensures.statements ∙ ap completed bodies) (c.put_returns.ensures.spans ∙ (λ i. completed_spans (bodies i) (kept i)))
+    spans_completed_is _ _ _ _ (c.put_returns.ensures.statements ∙ ap completed bodies) (c.put_returns.ensures.spans ∙ (λ i. completed_spans (bodies i) (kept i))) (always_in_step _).1

@@ -1,0 +1,249 @@
+// Spans of a block's statements, which are kept only where one is defined.
+ghost use Rattle.std.specs.Prelude.{◌≡◌, ◌≤◌, ◌+◌, ◌-◌, ◌++◌, ◌∷◌, [], length, take, IsOk, IfOk, OnOk, OnErr};
+ghost use Rattle.std.specs.List.{remove_range, splice};
+ghost use Rattle.ir_arena.specs.Spans.{undefined_span};
+ghost use Rattle.ir_blocks.specs.Padded.{padded, up_to_defined};
+
+use crate::runs::{cut, put_in};
+use ir_arena::span::Span;
+use std::alloc::{AllocError, Global};
+use std::marker::Model;
+
+/// The spans of a block's first statements. Those of all statements behind them are [`Span::UNDEFINED`], so that
+/// nothing is kept, and no memory taken, where no statement has a span. In a contract it is the list of those that are
+/// kept.
+#[derive(Debug, Drop)]
+pub(crate) struct KeptSpans {
+    list: Option<Box<Vec<Span>>>,
+}
+
+impl Model for KeptSpans {
+    ghost use Rattle.std.specs.Prelude.{List};
+    ghost use Rattle.ir_arena.specs.declared.span.Span.{Span};
+    ghost use Rattle.ir_blocks.specs.Padded.{listed_spans};
+
+    ghost Value = { List Span };
+
+    ghost view = { λ k. listed_spans k.list };
+}
+
+/// Two are equal where they are so up to the last span that is defined.
+impl PartialEq for KeptSpans {
+    ghost use Rattle.ir_blocks.specs.Padded.{same_kept, same_kept_per};
+
+    ghost eq = { same_kept };
+
+    ghost laws = { same_kept_per };
+
+    fn eq(&self, other: &Self) -> bool {
+        known(self.as_slice()) == known(other.as_slice())
+    }
+}
+
+// The spans up to the last one that is defined.
+fn known(spans: &[Span]) -> &[Span]
+    ensures { result.now ≡ up_to_defined spans.now }
+{
+    let mut count = spans.len();
+    while count > 0 {
+        if spans[count - 1].is_defined() {
+            return &spans[..count];
+        }
+        count -= 1;
+    }
+    &[]
+}
+
+impl KeptSpans {
+    /// None.
+    pub fn new() -> Self
+        ensures { result ≡ [] }
+    {
+        KeptSpans { list: None }
+    }
+
+    /// Those that are kept.
+    pub fn as_slice(&self) -> &[Span]
+        ensures { result.now ≡ self.now }
+    {
+        match &self.list {
+            Some(list) => list.as_slice(),
+            None => &[],
+        }
+    }
+
+    /// Those that are kept, to be changed.
+    pub fn as_mut_slice(&mut self) -> &mut [Span]
+        ensures { result.now ≡ self.old }
+    {
+        match &mut self.list {
+            Some(list) => list.as_mut_slice(),
+            None => &mut [],
+        }
+    }
+
+    /// Those that are kept, as a list.
+    pub fn into_list(self, alloc: Global) -> Vec<Span>
+        ensures { result.items ≡ self }
+    {
+        match self.list {
+            Some(list) => Box::into_inner(list),
+            None => Vec::new(alloc),
+        }
+    }
+
+    /// The same in memory of their own. The error is out of memory.
+    pub fn clone(&self, alloc: Global) -> Result<Self, AllocError>
+        ensures { IfOk result (λ copy. copy ≡ self.now) }
+    {
+        let mut copy = KeptSpans::new();
+        copy.extend(alloc, self.as_slice())?;
+        Ok(copy)
+    }
+
+    // Keeps these behind those that are kept. The error is out of memory, and leaves what is kept as it was.
+    fn extend(&mut self, alloc: Global, spans: &[Span]) -> Result<(), AllocError>
+        ensures ok { OnOk result (self.new ≡ self.old ++ spans.now) }
+        ensures err { OnErr result (self.new ≡ self.old) }
+    {
+        if spans.is_empty() {
+            return Ok(());
+        }
+        match &mut self.list {
+            Some(list) => list.extend_from_slice(spans),
+            None => {
+                let list = Vec::from_slice(alloc, spans)?;
+                self.list = Some(Box::new(alloc, list)?);
+                Ok(())
+            }
+        }
+    }
+
+    // Lets go of those behind the first `count`.
+    fn truncate(&mut self, count: usize)
+        ensures { self.new ≡ take count self.old }
+    {
+        if let Some(list) = &mut self.list {
+            list.truncate(count);
+        }
+    }
+
+    /// Keeps exactly `count`. The error is out of memory, and leaves what is kept as it was.
+    #[tactic(auto, using(crate::proofs::PaddedLemmas::resized, crate::proofs::PaddedLemmas::padded_none))]
+    pub fn pad(&mut self, alloc: Global, count: usize) -> Result<(), AllocError>
+        ensures ok { OnOk result (self.new ≡ padded count self.old) }
+        ensures err { OnErr result (self.new ≡ self.old) }
+    {
+        match &mut self.list {
+            Some(list) => list.resize(count, Span::UNDEFINED),
+            None => {
+                if count > 0 {
+                    let list = Vec::from_elem(alloc, Span::UNDEFINED, count)?;
+                    self.list = Some(Box::new(alloc, list)?);
+                }
+                Ok(())
+            }
+        }
+    }
+
+    /// Keeps one more span behind those of `count` statements. The error is out of memory, and leaves those as they
+    /// were. There is none where the span is undefined, which is not kept.
+    #[tactic(auto, using(crate::proofs::PaddedLemmas::pushed_undefined, crate::proofs::PaddedLemmas::pushed, crate::proofs::PaddedLemmas::refused))]
+    pub fn push(&mut self, alloc: Global, count: usize, span: Span) -> Result<(), AllocError>
+        ensures ok { OnOk result (padded (count + 1) self.new ≡ padded count self.old ++ span ∷ []) }
+        ensures err { OnErr result (padded count self.new ≡ padded count self.old) }
+        ensures succeeds { span ≡ undefined_span → IsOk result }
+    {
+        if !span.is_defined() {
+            self.truncate(count);
+            return Ok(());
+        }
+        self.pad(alloc, count)?;
+        self.extend(alloc, &[span])
+    }
+
+    /// Moves the spans of `more` other statements behind those of `count`. The error is out of memory, and leaves both
+    /// as they were.
+    #[tactic(auto, using(crate::proofs::PaddedLemmas::appended_nothing, crate::proofs::PaddedLemmas::appended, crate::proofs::PaddedLemmas::refused))]
+    pub fn append(
+        &mut self,
+        alloc: Global,
+        count: usize,
+        other: &mut KeptSpans,
+        more: usize,
+    ) -> Result<(), AllocError>
+        ensures ok { OnOk result (padded (count + more) self.new ≡ padded count self.old ++ padded more other.old) }
+        ensures err { OnErr result (padded count self.new ≡ padded count self.old) }
+        ensures rest { OnOk result (other.new ≡ []) }
+        ensures err_rest { OnErr result (other.new ≡ other.old) }
+    {
+        if other.as_slice().is_empty() {
+            self.truncate(count);
+            return Ok(());
+        }
+        self.pad(alloc, count)?;
+        self.extend(alloc, other.as_slice())?;
+        other.truncate(0);
+        Ok(())
+    }
+
+    /// Takes out the spans from `start` on, below `end`, as far as they are kept.
+    pub fn cut(&mut self, start: usize, end: usize)
+        requires { start ≤ end }
+        ensures { self.new ≡ remove_range self.old start end }
+    {
+        if let Some(list) = &mut self.list {
+            cut(list, start, end);
+        }
+    }
+
+    /// Puts the spans of `more` other statements in the place of those from `start` on, below `end`, of `count`. The
+    /// error is out of memory, and leaves those as they were; the others are let go.
+    #[tactic(auto, using(crate::proofs::PaddedLemmas::spliced_nothing, crate::proofs::PaddedLemmas::spliced, crate::proofs::PaddedLemmas::refused))]
+    pub fn splice(
+        &mut self,
+        alloc: Global,
+        count: usize,
+        start: usize,
+        end: usize,
+        other: KeptSpans,
+        more: usize,
+    ) -> Result<(), AllocError>
+        requires order { start ≤ end }
+        requires range { end ≤ count }
+        ensures ok { OnOk result (padded (start + more + (count - end)) self.new ≡ splice (padded count self.old) start end (padded more other)) }
+        ensures err { OnErr result (padded count self.new ≡ padded count self.old) }
+    {
+        if self.as_slice().is_empty() && other.as_slice().is_empty() {
+            return Ok(());
+        }
+        let mut other = other;
+        other.pad(alloc, more)?;
+        self.pad(alloc, count)?;
+        self.put_in(alloc, start, end, other)
+    }
+
+    // Puts others in the place of those from `start` on, below `end`. The error is out of memory, and leaves what is
+    // kept as it was.
+    fn put_in(
+        &mut self,
+        alloc: Global,
+        start: usize,
+        end: usize,
+        other: KeptSpans,
+    ) -> Result<(), AllocError>
+        requires { start ≤ end }
+        ensures ok { OnOk result (self.new ≡ splice self.old start end other) }
+        ensures err { OnErr result (self.new ≡ self.old) }
+    {
+        match &mut self.list {
+            Some(list) => {
+                let other = other.into_list(alloc);
+                list.reserve(other.len())?;
+                put_in(list, start, end, other);
+            }
+            None => self.list = other.list,
+        }
+        Ok(())
+    }
+}
