@@ -2,18 +2,28 @@
 use Rattle.std.proofs.Common.{◌≡◌, List, [], ◌∷◌, map, refl, sym, ap, subst, ◌∙◌}
 use Rattle.std.specs.List.{AllZip}
 use Rattle.ir_blocks.proofs.OneCompleted.{one_completed}
+use Rattle.ir_blocks.proofs.InStepLaws.{always_in_step}
 use Rattle.ir_blocks.proofs.SpanLaws.{spans_completed}
 use Rattle.ir_blocks.proofs.TailLaws.{is_completed}
+use Rattle.ir_blocks.specs.View.{block_view, block_spans}
 use Rattle.ir_arena.specs.Copies.{entry_of}
-use Rattle.ir_items.specs.Copies.{SpannedFunction, SpannedEntry, SpannedModule}
+use Rattle.ir_items.specs.Copies.{SpannedModule, spanned_function, spanned_entry, spanned_module}
 use Rattle.ir_items.specs.Plain.{PlainFunction, PlainEntry, PlainModule}
 use Rattle.ir_items.specs.Returned.{IsReturnedFunction, IsReturnedEntry, IsReturned, KeepsFunctionSpans, KeepsEntrySpans, KeepsSpansAt, KeepsModuleSpans, returned_function, returned_entry, returned_module, returned_function_spans, returned_entry_spans, returned_module_spans}
+use Rattle.ir_items.specs.declared.functions.Function.{Function}
+use Rattle.ir_items.specs.declared.entries.EntryPoint.{EntryPoint}
+use Rattle.ir_items.specs.declared.module.Module.{Module}
 
 -- ---- place by place
 
 each_related : {A B : Type 0} (R : A → B → Type 0) (f : A → B) → ((x : A) → R x (f x)) → (xs : List A) → AllZip R xs (map f xs)
 each_related R f one [] = tt
 each_related R f one (x ∷ xs) = (one x, each_related R f one xs)
+
+-- the same of what is seen of each
+each_seen : {A B C : Type 0} (view : A → B) (R : B → C → Type 0) (f : B → C) → ((x : A) → R (view x) (f (view x))) → (xs : List A) → AllZip R (map view xs) (map f (map view xs))
+each_seen view R f one [] = tt
+each_seen view R f one (x ∷ xs) = (one x, each_seen view R f one xs)
 
 each_is : {A B : Type 0} (R : A → B → Type 0) (f : A → B) → ((x : A) (y : B) → R x y → y ≡ f x) → (xs : List A) (ys : List B) → AllZip R xs ys → ys ≡ map f xs
 each_is R f one [] [] h = refl
@@ -55,18 +65,18 @@ one_returned m n h =
 
 -- ---- spans
 
-function_keeps : (f : SpannedFunction) → KeepsFunctionSpans f (returned_function_spans f)
-function_keeps f = record { body = λ h. spans_completed f.plain.body f.body h; rest = refl }
+function_keeps : (f : Function) → KeepsFunctionSpans (spanned_function f) (returned_function_spans (spanned_function f))
+function_keeps f = record { body = spans_completed (block_view f.body) (block_spans f.body) (always_in_step f.body).1; rest = refl }
 
-entry_keeps : (e : SpannedEntry) → KeepsEntrySpans e (returned_entry_spans e)
+entry_keeps : (e : EntryPoint) → KeepsEntrySpans (spanned_entry e) (returned_entry_spans (spanned_entry e))
 entry_keeps e = record { function = function_keeps e.function; rest = refl }
 
-module_keeps : (m : SpannedModule) → KeepsModuleSpans m (returned_module_spans m)
+module_keeps : (m : Module) → KeepsModuleSpans (spanned_module m) (returned_module_spans (spanned_module m))
 module_keeps m = record {
-  functions = each_related KeepsSpansAt (entry_of returned_function_spans) (λ f. (function_keeps f.0, refl)) m.functions;
-  entries = each_related KeepsEntrySpans returned_entry_spans entry_keeps m.entries;
+  functions = each_seen (entry_of spanned_function) KeepsSpansAt (entry_of returned_function_spans) (λ f. (function_keeps f.0, refl)) m.functions;
+  entries = each_seen spanned_entry KeepsEntrySpans returned_entry_spans entry_keeps m.entry_points.items;
   rest = refl;
 }
 
-pub keeps_module_spans : (m n : SpannedModule) → n ≡ returned_module_spans m → KeepsModuleSpans m n
-keeps_module_spans m n e = subst (KeepsModuleSpans m) (sym e) (module_keeps m)
+pub keeps_module_spans : (m : Module) (n : SpannedModule) → n ≡ returned_module_spans (spanned_module m) → KeepsModuleSpans (spanned_module m) n
+keeps_module_spans m n e = subst (KeepsModuleSpans (spanned_module m)) (sym e) (module_keeps m)

@@ -2,7 +2,6 @@
 use Rattle.std.specs.Prelude.{◌≡◌, List, map}
 use Rattle.std.specs.List.{All, AllZip}
 use Rattle.ir_arena.specs.declared.span.Span.{Span}
-use Rattle.ir_blocks.specs.Spans.{InStep}
 use Rattle.ir_blocks.specs.Tails.{IsCompleted, completed}
 use Rattle.ir_blocks.specs.TailSpans.{SpansCompleted, completed_spans}
 use Rattle.ir_blocks.specs.Room.{HasRoom}
@@ -31,9 +30,9 @@ pub record IsReturned (m n : PlainModule) : Type 0 where
 
 -- ---- with spans
 
--- The spans of a body that was in step with them are those of the completed body, and the function's others stay.
+-- The spans of the body are those of the completed body, and the function's others stay.
 pub record KeepsFunctionSpans (f g : SpannedFunction) : Type 0 where
-  pub body : InStep f.plain.body f.body → SpansCompleted f.plain.body g.plain.body f.body g.body
+  pub body : SpansCompleted f.plain.body g.plain.body f.body g.body
   pub rest : g ≡ record f { plain = g.plain; body = g.body }
 
 -- the same of the function of an entry point

@@ -2,7 +2,7 @@
 ghost use Rattle.ir_items.specs.Returned.{OneReturned, ReturnedByBodies};
 
 pub use ir_blocks::laws::{
-    completed_by_tails, completed_once, in_step_by_statements, one_completed,
+    always_in_step, completed_by_tails, completed_once, kept_equality, one_completed,
     spans_completed_by_tails,
 };
 

@@ -24,7 +24,7 @@ returns-clause-found c =
 
 pub returns-clause-spans : goal.returns-clause-spans
 returns-clause-spans c =
-    keeps_module_spans _ _ (returned_after c.args.self.now c.reserve_in_functions.new.functions c.put_into_functions.new.functions c.reserve_in_entries.new.entries c.put_into_entries.new.entries
+    keeps_module_spans c.args.self.now _ (returned_after c.args.self.now c.reserve_in_functions.new.functions c.put_into_functions.new.functions c.reserve_in_entries.new.entries c.put_into_entries.new.entries
     c.reserve_in_functions.ensures.same c.reserve_in_entries.ensures.same c.put_into_functions.ensures c.put_into_entries.ensures)
 
 pub returns-clause-ok : goal.returns-clause-ok
