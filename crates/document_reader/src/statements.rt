@@ -13,7 +13,6 @@ use crate::parts::ValueForm;
 use document_forms::{
     At, End, Form, MAX_DEPTH, Maybe, ReadError, Row, Truth, Wanted, read_at, read_tag, split_part,
 };
-use ir_arena::span::Span;
 use ir_blocks::{Block, Statement, SwitchCase};
 use ir_types::key;
 use serde_json::Value;
@@ -179,16 +178,16 @@ fn block(alloc: Global, value: &Value, depth: usize) -> Result<Block, ReadError>
     let Some(items) = value.as_array() else {
         return Err(ReadError::here(Wanted::List));
     };
-    let mut found = Block::with_capacity(alloc, items.len())?;
+    let mut found = Vec::with_capacity(alloc, items.len())?;
     let mut index = 0usize;
     for item in items {
         match statement(alloc, item, depth) {
-            Ok(next) => found.push(next, Span::UNDEFINED)?,
+            Ok(next) => found.push(next)?,
             Err(error) => return Err(error.at(index)),
         }
         index = index.saturating_add(1);
     }
-    Ok(found)
+    Ok(Block::from_vec(found))
 }
 
 // The same of the part of a statement at this index.

@@ -1,6 +1,6 @@
 use Rattle.std.proofs.Common.{◌≡◌, ◌+◌, ◌*◌, drop, map, ◌++◌, option_map}
 use Rattle.serde_json.specs.View.{items_view}
-use Rattle.ir_blocks.specs.View.{statement_view, case_view, statements_of}
+use Rattle.ir_blocks.specs.View.{statement_view, case_view}
 use Rattle.document_forms.specs.Decide.{each}
 use Rattle.document_reader.specs.Statements.{statement_at, case_with, block_at}
 use Rattle.document_reader.proofs.statements.+statements.Given as goal
@@ -38,7 +38,7 @@ decreases-statement_of l = 7 * l.depth + 6
 -- what was found so far, and what the rest gives, is what all of it gives
 abbrev pub invariant-block-loop-item : goal.invariant-block-loop-item
 invariant-block-loop-item l =
-    option_map (λ xs. map statement_view (statements_of l.found) ++ xs) (each (statement_at l.depth) (items_view (drop l.item-index l.item-items))) ≡ each (statement_at l.depth) (items_view l.item-items)
+    option_map (λ xs. map statement_view l.found.items ++ xs) (each (statement_at l.depth) (items_view (drop l.item-index l.item-items))) ≡ each (statement_at l.depth) (items_view l.item-items)
 
 abbrev pub invariant-switch_cases-loop-item : goal.invariant-switch_cases-loop-item
 invariant-switch_cases-loop-item l =
