@@ -4,8 +4,8 @@ use Rattle.ir_arena.specs.declared.span.Span.{Span}
 use Rattle.ir_blocks.specs.Plain.{PlainStatement, PlainBlock, stop}
 use Rattle.ir_blocks.specs.Shapes.{shape_of, Part, inner, accepting, rejecting, case_at, loop_body, loop_continuing, case_body, part_of}
 use Rattle.ir_blocks.specs.Places.{Place, here, later, inside, condition, StandsAt}
-use Rattle.ir_blocks.specs.Spans.{BlockSpans, spans, StatementSpans, no_spans, case_spans, spans_in, span_at, InStep}
-use Rattle.ir_blocks.specs.Padded.{first_kept, others_kept, padded}
+use Rattle.ir_blocks.specs.Spans.{BlockSpans, spans, StatementSpans, no_spans, tail_of, case_spans, spans_in, span_at, InStep}
+use Rattle.ir_blocks.specs.Padded.{first_kept, padded}
 use Rattle.ir_blocks.specs.View.{block_of, within_of, cases_of, case_spans_of, PlainCase, statement_step, block_step, case_step, statement_spans_step, block_spans_step, case_spans_step, spans_over, statement_view, block_view, case_view, statement_spans, block_spans, case_block_spans, statements_of, spans_of, AlwaysInStep}
 use Rattle.ir_blocks.specs.declared.statements.Statement.{Statement}
 use Rattle.ir_blocks.specs.declared.statements.Statement.TheOpen.{Statement-F, Block-F, SwitchCase-F}
@@ -56,7 +56,7 @@ lists_in_step : (es : List ((s : Statement) × InStepWithin s)) (kept : List Spa
     → InStep (block_of (map statement_view (map (λ e. e.0) es))) (spans_over kept (map statement_spans (map (λ e. e.0) es)))
 lists_in_step [] kept = nothing_in_step
 lists_in_step (e ∷ es) kept =
-    before_rest e.0 (map (λ e. e.0) es) (first_kept kept) (padded (length (map statement_spans (map (λ e. e.0) es))) (others_kept kept)) e.1 (lists_in_step es (others_kept kept))
+    before_rest e.0 (map (λ e. e.0) es) (first_kept kept) (padded (length (map statement_spans (map (λ e. e.0) es))) (tail_of kept)) e.1 (lists_in_step es (tail_of kept))
 
 -- ---- the parts of a statement
 

@@ -5,7 +5,9 @@ use Rattle.std.specs.Cmp.Lexicographic.{pointwise_decides}
 use Rattle.std.proofs.lemmas.Bool.{and_parts, and_from, eqb-true, eq-eqb}
 use Rattle.ir_arena.specs.declared.span.Span.{Span}
 use Rattle.ir_arena.specs.Spans.{undefined_span, span_from, is_defined_span}
-use Rattle.ir_blocks.specs.Padded.{first_kept, others_kept, padded, before_defined, up_to_defined, same_span, same_kept, KeptEquality}
+use Rattle.ir_arena.specs.Equality.{same_span}
+use Rattle.ir_blocks.specs.Padded.{first_kept, padded, before_defined, up_to_defined, same_kept, KeptEquality}
+use Rattle.ir_blocks.specs.Spans.{tail_of}
 use Rattle.ir_blocks.proofs.PaddedLemmas.{undefined_is}
 
 same_span_decides : (x y : Span) → Decides (same_span x y) (x ≡ y)
@@ -30,18 +32,18 @@ before_first x [] = by_test (is_defined_span x) refl
     by_test true e = refl
     by_test false e = sym (undefined_is x e)
 
-before_others : (x : Span) (kept : List Span) → others_kept (before_defined x kept) ≡ kept
-before_others x (y ∷ kept) = refl
-before_others x [] = by_test (is_defined_span x)
+before_tail : (x : Span) (kept : List Span) → tail_of (before_defined x kept) ≡ kept
+before_tail x (y ∷ kept) = refl
+before_tail x [] = by_test (is_defined_span x)
   where
-    by_test : (d : Bool) → others_kept (if d then x ∷ [] else []) ≡ []
+    by_test : (d : Bool) → tail_of (if d then x ∷ [] else []) ≡ []
     by_test true = refl
     by_test false = refl
 
 padded_known : (n : ℕ) (kept : List Span) → padded n (up_to_defined kept) ≡ padded n kept
 padded_known zero kept = refl
 padded_known (suc n) [] = refl
-padded_known (suc n) (x ∷ kept) = λ i. before_first x (up_to_defined kept) i ∷ (ap (padded n) (before_others x (up_to_defined kept)) ∙ padded_known n kept) i
+padded_known (suc n) (x ∷ kept) = λ i. before_first x (up_to_defined kept) i ∷ (ap (padded n) (before_tail x (up_to_defined kept)) ∙ padded_known n kept) i
 
 undefined_known : (n : ℕ) → up_to_defined (padded n []) ≡ []
 undefined_known zero = refl

@@ -5,7 +5,8 @@ use Rattle.std.proofs.lemmas.Bool.{and_parts, eqb-true}
 use Rattle.std.proofs.lemmas.List.{length-append, length-take, length-drop, append_assoc, nil_from_length}
 use Rattle.ir_arena.specs.declared.span.Span.{Span}
 use Rattle.ir_arena.specs.Spans.{undefined_span, span_from, is_defined_span}
-use Rattle.ir_blocks.specs.Padded.{first_kept, others_kept, padded, before_defined, up_to_defined}
+use Rattle.ir_blocks.specs.Padded.{first_kept, padded, before_defined, up_to_defined}
+use Rattle.ir_blocks.specs.Spans.{tail_of}
 use Rattle.ir_blocks.proofs.RoomLemmas.{take_next, same_at}
 
 -- what native numbers don't compute
@@ -26,7 +27,7 @@ no_rest e = omega arith
 
 pub length-padded : (n : ℕ) (kept : List Span) → length (padded n kept) ≡ n
 length-padded zero kept = refl
-length-padded (suc n) kept = ap suc (length-padded n (others_kept kept))
+length-padded (suc n) kept = ap suc (length-padded n (tail_of kept))
 
 pub padded_none : (n : ℕ) → padded n [] ≡ replicate n undefined_span
 padded_none zero = refl
@@ -42,7 +43,7 @@ padded_parts (suc n) (x ∷ kept) = ap (λ z. x ∷ z) (padded_parts n kept ∙ 
 pub padded_behind : (n m : ℕ) (kept more : List Span) → padded (n + m) (padded n kept ++ more) ≡ padded n kept ++ padded m more
 padded_behind zero m kept more = ap (λ k. padded k more) (no_sum m)
 padded_behind (suc n) m kept more =
-    ap (λ k. padded k (first_kept kept ∷ (padded n (others_kept kept) ++ more))) (next_sum n m) ∙ ap (λ z. first_kept kept ∷ z) (padded_behind n m (others_kept kept) more)
+    ap (λ k. padded k (first_kept kept ∷ (padded n (tail_of kept) ++ more))) (next_sum n m) ∙ ap (λ z. first_kept kept ∷ z) (padded_behind n m (tail_of kept) more)
 
 pub padded_cut : (n m : ℕ) (kept : List Span) → padded (n + m) (take n kept) ≡ padded n kept ++ padded m []
 padded_cut zero m [] = ap (λ k. padded k []) (no_sum m)
@@ -56,7 +57,7 @@ padded_cut (suc n) m (x ∷ kept) = ap (λ k. padded k (x ∷ take n kept)) (nex
 
 pub padded_again : (n : ℕ) (kept : List Span) → padded n (padded n kept) ≡ padded n kept
 padded_again zero kept = refl
-padded_again (suc n) kept = ap (λ z. first_kept kept ∷ z) (padded_again n (others_kept kept))
+padded_again (suc n) kept = ap (λ z. first_kept kept ∷ z) (padded_again n (tail_of kept))
 
 pub padded_whole : (n : ℕ) (xs : List Span) → length xs ≡ n → padded n xs ≡ xs
 padded_whole zero [] e = refl

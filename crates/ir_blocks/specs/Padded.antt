@@ -1,29 +1,27 @@
 -- Spans that are kept as far as one is defined, and stand for as many as are asked for.
-use Rattle.std.specs.Prelude.{◌≡◌, ◌≤◌, ◌↔◌, ℕ, zero, suc, Bool, IsTrue, List, [], ◌∷◌, length, Option, Some, None, Vec, Box, ◌&&◌, ◌==◌, if◌then◌else◌}
+use Rattle.std.specs.Prelude.{◌≡◌, ◌≤◌, ◌↔◌, ℕ, zero, suc, Bool, IsTrue, List, [], ◌∷◌, length, Option, Some, None, Vec, Box, if◌then◌else◌}
 use Rattle.std.specs.declared.alloc.Global.{Global}
 use Rattle.std.specs.Cmp.{IsPartialEquivalence, IsEquivalence, on_per, on_equiv, and_equiv, nat_eq_equiv, partial_equiv_from_equiv}
 use Rattle.std.specs.Cmp.Lexicographic.{pointwise, lists_per}
 use Rattle.ir_arena.specs.declared.span.Span.{Span}
+use Rattle.ir_arena.specs.Equality.{same_span}
 use Rattle.ir_arena.specs.Spans.{undefined_span, is_defined_span}
+use Rattle.ir_blocks.specs.Spans.{tail_of}
 
 -- the spans in a list that is there only where one is defined
 abbrev pub listed_spans : Option (Box (Vec Span Global) Global) → List Span
 listed_spans None = []
 listed_spans (Some list) = list.value.items
 
--- the first of the spans, and those behind it
+-- the first of the spans, undefined where none is kept
 abbrev pub first_kept : List Span → Span
 first_kept [] = undefined_span
 first_kept (x ∷ kept) = x
 
-abbrev pub others_kept : List Span → List Span
-others_kept [] = []
-others_kept (x ∷ kept) = kept
-
 -- so many spans: those that are kept, in order, and the undefined one in each place behind them
 abbrev pub padded : ℕ → List Span → List Span
 padded zero kept = []
-padded (suc n) kept = first_kept kept ∷ padded n (others_kept kept)
+padded (suc n) kept = first_kept kept ∷ padded n (tail_of kept)
 
 -- ---- equality
 
@@ -37,10 +35,6 @@ abbrev pub up_to_defined : List Span → List Span
 up_to_defined [] = []
 up_to_defined (x ∷ kept) = before_defined x (up_to_defined kept)
 
--- from the same byte on, and below the same byte
-abbrev pub same_span : Span → Span → Bool
-same_span x y = (x.start == y.start) && (x.end == y.end)
-
 same_span_equiv : IsEquivalence same_span
 same_span_equiv = and_equiv (on_equiv (λ s. s.start) nat_eq_equiv) (on_equiv (λ s. s.end) nat_eq_equiv)
 
@@ -51,6 +45,6 @@ same_kept xs ys = pointwise same_span (up_to_defined xs) (up_to_defined ys)
 pub same_kept_per : IsPartialEquivalence same_kept
 same_kept_per = on_per up_to_defined (lists_per (partial_equiv_from_equiv same_span_equiv))
 
--- kept spans of a block are equal exactly where all of its spans are
+-- kept spans of two blocks of n statements are equal exactly where all of their spans are
 abbrev pub KeptEquality : Type 0
 KeptEquality = (n : ℕ) (xs ys : List Span) → length xs ≤ n → length ys ≤ n → IsTrue (same_kept xs ys) ↔ (padded n xs ≡ padded n ys)

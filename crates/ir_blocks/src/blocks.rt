@@ -97,7 +97,8 @@ impl Block {
     }
 
     /// The statements in order, each with its span, to be changed. The error is out of memory for spans that were not
-    /// kept. No contract says what the block holds once they were changed so; that of [`Block::as_mut_slice`] does.
+    /// kept, and leaves the block as it was. No contract says what the block holds once they were changed so; that of
+    /// [`Block::as_mut_slice`] does.
     pub fn span_iter_mut(&mut self) -> Result<SpanIterMut<'_>, AllocError>
         ensures { IfOk result (λ pairs. pairs_to_come pairs ≡ zip (statements_of self.old) (spans_of self.old)) }
     {

@@ -1,7 +1,8 @@
 // Going over the statements of a block with their spans.
 ghost use Rattle.std.specs.Prelude.{◌≡◌, length};
 ghost use Rattle.std.specs.List.{zip};
-ghost use Rattle.ir_blocks.specs.Padded.{first_kept, others_kept, padded};
+ghost use Rattle.ir_blocks.specs.Padded.{first_kept, padded};
+ghost use Rattle.ir_blocks.specs.Spans.{tail_of};
 ghost use Rattle.ir_blocks.specs.SpanIters.{pairs_to_come};
 
 use crate::statements::Statement;
@@ -48,7 +49,7 @@ impl<'a> SpanIter<'a> {
 // The first of the spans that are kept, and those behind it.
 fn first_kept(spans: &[Span]) -> (&Span, &[Span])
     ensures first { result.0.now ≡ first_kept spans.now }
-    ensures rest { result.1.now ≡ others_kept spans.now }
+    ensures rest { result.1.now ≡ tail_of spans.now }
 {
     match spans.split_first() {
         Some((span, spans)) => (span, spans),
