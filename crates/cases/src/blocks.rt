@@ -1,4 +1,4 @@
-// The calls of a block of statements that compute from some places on, each with a span of its own.
+// The calls of a block of statements that compute from some places on, each with a span of its own or with none.
 ghost use Rattle.std.specs.Prelude.{◌≤◌, length};
 ghost use Rattle.ir_blocks.specs.View.{statements_of};
 
@@ -13,7 +13,11 @@ fn emit(place: u32) -> Statement {
     Statement::Emit(Range::new(place, 50))
 }
 
+// The span of the statement of this place, which the first has not.
 fn span(place: u32) -> Span {
+    if place == 0 {
+        return Span::UNDEFINED;
+    }
     Span::new(place, 90)
 }
 
@@ -54,7 +58,7 @@ fn seen(alloc: Global, block: &Block) -> Result<(usize, usize, Shown), AllocErro
     for (statement, span) in block.span_iter() {
         entries.push(shown(statement, *span))?;
     }
-    Ok((block.len(), block.spans().len(), entries))
+    Ok((block.len(), entries.len(), entries))
 }
 
 // Puts in the statements of these places by one call each, and then none.
@@ -79,7 +83,7 @@ fn made(answer: Result<(), AllocError>) -> Result<bool, AllocError> {
 fn append(alloc: Global, subject: &mut Block, places: &[Value]) -> Result<bool, AllocError> {
     let mut other = block(alloc, places)?;
     subject.append(&mut other)?;
-    Ok(other.is_empty() && other.spans().is_empty())
+    Ok(other.is_empty() && other.span_iter().next().is_none())
 }
 
 fn extend_block(alloc: Global, subject: &mut Block, places: &[Value]) -> Result<bool, AllocError> {
@@ -132,16 +136,16 @@ fn splice(alloc: Global, subject: &mut Block, call: &Value) -> Result<bool, Allo
 }
 
 // Makes the second place's statement a kill with another span, and answers whether there is one.
-fn change(subject: &mut Block) -> bool {
+fn change(subject: &mut Block) -> Result<bool, AllocError> {
     let mut is_changed = false;
-    for (statement, mark) in subject.span_iter_mut() {
+    for (statement, mark) in subject.span_iter_mut()? {
         if *statement == emit(2) {
             *statement = Statement::Kill;
             *mark = span(8);
             is_changed = true;
         }
     }
-    is_changed
+    Ok(is_changed)
 }
 
 // Makes all statements breaks, and answers whether they are.
@@ -163,7 +167,7 @@ fn called(alloc: Global, subject: &mut Block, call: &Value) -> Result<bool, Allo
         "extend_block" => extend_block(alloc, subject, list(call, 3)),
         "cull" => Ok(cull(subject, call)),
         "splice" => splice(alloc, subject, call),
-        "span_iter_mut" => Ok(change(subject)),
+        "span_iter_mut" => change(subject),
         "as_mut_slice" => Ok(change_all(subject)),
         _ => Ok(false),
     }
@@ -199,6 +203,6 @@ fn statements(alloc: Global, places: &[Value]) -> Result<Vec<Statement>, AllocEr
 /// What a block holds that is made of statements without spans.
 pub fn of_statements(alloc: Global, call: &Value) -> Result<String, AllocError> {
     let statements = statements(alloc, list(call, 1))?;
-    let subject = Block::from_vec(alloc, statements)?;
+    let subject = Block::from_vec(statements);
     told(alloc, seen(alloc, &subject))
 }

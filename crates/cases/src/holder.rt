@@ -65,7 +65,7 @@ impl Holder for Block {
     }
 
     fn tell_spans(&self, spans: &mut Vec<Span>) -> Result<(), AllocError> {
-        for span in self.spans() {
+        for (_, span) in self.span_iter() {
             spans.push(*span)?;
         }
         Ok(())

@@ -10,7 +10,7 @@ fn puts_in(alloc: Global, body: &mut Block, expected: &Block) -> Result<bool, Al
     ensure_block_returns(alloc, body)?;
     let once = *body == *expected;
     ensure_block_returns(alloc, body)?;
-    Ok(once && *body == *expected && body.spans().len() == body.len())
+    Ok(once && *body == *expected)
 }
 
 // Whether a copy of the body with returns put in is the expected one.

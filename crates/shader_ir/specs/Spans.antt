@@ -1,5 +1,7 @@
 -- The spans of bodies, of copies, and of what is emitted, and what it is to be completed with returns.
 pub use Rattle.ir_blocks.specs.Spans.{BlockSpans, spans, InnerSpans, no_statement, in_next, StatementSpans, no_block, in_block, in_sides, in_loop, CaseSpans, no_more, in_case, span_at, InStep}
+pub use Rattle.ir_blocks.specs.Padded.{padded, KeptEquality}
+pub use Rattle.ir_blocks.specs.View.{AlwaysInStep}
 pub use Rattle.ir_blocks.specs.TailSpans.{SpansCompleted, completed_spans, SpansCompletedByTails}
 pub use Rattle.ir_blocks.specs.Tails.{IsCompleted, completed, CompletedByTails, OneCompleted, CompletedOnce}
 pub use Rattle.ir_arena.specs.Copies.{entry_of}

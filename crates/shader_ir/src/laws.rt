@@ -4,7 +4,7 @@ pub use ir_arena::laws::{handle_laws, subsume_laws};
 pub use ir_emitter::laws::ranges_partition;
 pub use ir_flags::laws::{all_words, compute_like, within};
 pub use ir_items::laws::{
-    completed_by_tails, completed_once, in_step_by_statements, one_completed, one_returned,
+    always_in_step, completed_by_tails, completed_once, kept_equality, one_completed, one_returned,
     returned_by_bodies, spans_completed_by_tails,
 };
 pub use ir_kinds::laws::{scalar_constants, vector_constants};

@@ -169,35 +169,8 @@ fn room_refusals(alloc: Global) -> Result<usize, Fail> {
     Err(Fail::new("no step left enough memory"))
 }
 
-fn statements(alloc: Global) -> Result<Vec<Statement>, AllocError> {
-    let mut body = Vec::new(alloc);
-    for place in MANY {
-        body.push(emit(place))?;
-    }
-    Ok(body)
-}
-
-fn has_spans(alloc: Global, hog: &mut Hog, step: usize) -> Result<bool, Fail> {
-    let body = statements(alloc)?;
-    leave_of(alloc, hog, SPARE, step.saturating_mul(STEP))?;
-    let made = Block::from_vec(alloc, body);
-    hog.release();
-    Ok(made.is_ok())
-}
-
-fn span_refusals(alloc: Global) -> Result<usize, Fail> {
-    let mut hog = holding(alloc)?;
-    for step in 0..MOST_STEPS {
-        if has_spans(alloc, &mut hog, step)? {
-            return Ok(step);
-        }
-    }
-    Err(Fail::new("no step left enough memory"))
-}
-
 #[test]
 fn little_memory_for_new_blocks(rt: HostRuntime) -> Result<(), Fail> {
     refused_more_than(&rt, room_refusals(rt.alloc())?, 5);
-    refused_more_than(&rt, span_refusals(rt.alloc())?, 1);
     Ok(())
 }
