@@ -4,4 +4,3 @@ pub mod Laws
 pub mod Reached
 pub mod Sizes
 pub mod Slots
-pub mod Leaves

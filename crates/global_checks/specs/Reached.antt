@@ -2,7 +2,7 @@
 use Rattle.std.specs.Prelude.{◌<◌, ◌+◌, ◌*◌, ◌⊎◌, ℕ}
 use Rattle.std.specs.List.{Contains}
 use Rattle.global_checks.specs.Slots.{Meets}
-use Rattle.global_checks.specs.Leaves.{Leaf, leaves}
+use Rattle.spec_buffers.specs.Leaves.{Leaf, leaves}
 use Rattle.typing_layout.specs.Layout.{size}
 use Rattle.typing_layout.specs.Tree.{Tree, scalar, vector, matrix, cooperative_matrix, atomic, pointer, value_pointer, array, struct, image, sampler, acceleration_structure, ray_query, binding_array, Members, no_members, member}
 use Rattle.typing_forms.specs.Sizes.{counted}

@@ -1,5 +1,5 @@
-//! Whether a module may have a global variable, by its address space; and the slots of immediate data, and the leaves of a
-//! type: the scalars, vectors, matrices and atomics inside a value of it, each at its place.
+//! Whether a module may have a global variable, by its address space; the slots of immediate data, and which of them a value
+//! meets.
 #![tactic(auto)]
 
 mod error;
@@ -11,7 +11,6 @@ mod sizes;
 pub mod slot_laws;
 mod slots;
 mod spaces;
-pub mod worked;
 
 pub use error::GlobalVariableError;
 pub use globals::validate_global_var;
