@@ -1,0 +1,8 @@
+//! What lies inside the buffers of a module: its leaves, the scalars, vectors, matrices and atomics, each with its bytes.
+#![tactic(auto)]
+
+mod buffers;
+mod leaves;
+
+pub use buffers::buffer_leaves;
+pub use leaves::Leaf;
