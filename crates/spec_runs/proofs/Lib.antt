@@ -1,0 +1,6 @@
+pub mod Control
+pub mod Falls
+pub mod Invariance
+mod Nesting
+mod Reached
+pub mod Scopes

@@ -1,0 +1,10 @@
+pub mod Events
+pub mod Reached
+pub mod Scoping
+pub mod Machine
+pub mod Invariants
+pub mod FinalSwitches
+pub mod Ended
+pub mod Good
+pub mod Laws
+pub mod Worked

@@ -1,0 +1,29 @@
+//! Runs of entry points: what happens as one is run on any answers, and when that is good.
+//!
+//! The functions do nothing: their contracts are the laws, and examples worked out by hand.
+#![tactic(auto)]
+
+pub mod worked;
+
+ghost use Rattle.spec_runs.specs.Laws.{NestingCutsNoRun, ScopeSuffices, SkippedIsLawful};
+ghost use Rattle.spec_runs.specs.Reached.{AllAreReached};
+
+/// The machine's bound on nesting cuts no run: the steps alone do.
+pub fn nesting_cuts_no_run()
+    ensures { NestingCutsNoRun }
+{}
+
+/// An expression is found with its operands at any depth, and nothing else.
+pub fn all_are_reached()
+    ensures { AllAreReached }
+{}
+
+/// What the top level of a loop's body introduces is live behind it, or was skipped by a continue.
+pub fn skipped_is_lawful()
+    ensures { SkippedIsLawful }
+{}
+
+/// Where the scope of a function is in order, what has to be in scope where it is used is there, but for what a continue skips.
+pub fn scope_suffices()
+    ensures { ScopeSuffices }
+{}
