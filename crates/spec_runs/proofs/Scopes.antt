@@ -9,7 +9,7 @@ use Rattle.spec_statements.proofs.ScopeLaws.{none_held, scope_by_walk_lem}
 use Rattle.spec_statements.specs.Scope.{PreEmitted}
 use Rattle.spec_statements.specs.Tables.{introduced}
 use Rattle.spec_statements.specs.Visible.{top_level, visible}
-use Rattle.spec_runs.specs.Laws.{ScopeSuffices}
+use Rattle.spec_runs.specs.Laws.{SkippedIsLawful, ScopeSuffices}
 use Rattle.spec_runs.specs.Machine.{operands_of}
 use Rattle.spec_runs.specs.Scoping.{UsedOperands, Scoping, IsThere, AreThere, IsScoped, visible_by}
 
@@ -27,6 +27,9 @@ visible_is (inside loop_body p) outer (next s rest) = visible_is p outer (part_o
 visible_is (inside loop_continuing p) outer (next s rest) = visible_is p (outer ++ top_level (part_of (shape_of s) loop_body)) (part_of (shape_of s) loop_continuing)
 visible_is condition outer stop = refl
 visible_is condition outer (next s rest) = refl
+
+pub skipped_is_lawful : SkippedIsLawful
+skipped_is_lawful = record { leaves = λ b e held. held; first = λ s rest e held. held; skips = λ s rest e goes held. refl }
 
 pub scope_suffices : ScopeSuffices
 scope_suffices f ok = record {

@@ -1,0 +1,6 @@
+mod Accepted
+mod Chains
+mod Falls
+mod Lines
+pub mod Sound
+mod Texts
