@@ -1,0 +1,16 @@
+pub mod Shared
+pub mod Completed
+pub mod Heads
+pub mod Bodies
+pub mod Likeness
+pub mod Calls
+pub mod Reports
+pub mod Named
+pub mod Handles
+pub mod Typing
+pub mod Rules
+pub mod Modules
+pub mod Analysis
+pub mod Functions
+pub mod Entries
+pub mod Finding
