@@ -6,6 +6,7 @@ use Rattle.ports.specs.Source.{TakesAll}
 use Rattle.judgement.specs.Text.{text_of}
 use Rattle.judgement.specs.declared.finding.Finding.{Finding}
 use Rattle.judgement.specs.declared.finding.Finding.TheVariants.{Accepted, RefusedDocument, RefusedHandles, Refused}
+use Rattle.shader_check.proofs.Returns.{returns_dont_show_lem}
 use Rattle.shader_check.specs.Judgements.{IsJudgementOn}
 use Rattle.shader_check.specs.Theorem.{Judged, IsExpected, IsTold}
 use Rattle.shader_check.specs.Theorem.{verdict_of, IsExpectedFor}
@@ -47,6 +48,7 @@ expected_for old new given j t h = record {
   taken = t;
   expected = expected j.finding (string_bytes j.report) given h.finding h.told;
   expected_for_all = expected_for_all j.finding (string_bytes j.report) old new given t.consumed t.stopped h.finding h.told;
+  without_results = returns_dont_show_lem given (text_of j.finding ++ string_bytes j.report) (expected j.finding (string_bytes j.report) given h.finding h.told);
 }
 
 pub verdict_is : (f : Finding) (behind : List ℕ) → (verdict_of f ≡ verdict.Accepted) ↔ IsTrue (starts_with nat_eq (text_of f ++ behind) (codes "accepted"))

@@ -11,6 +11,7 @@ mod Assembled
 pub mod Kept
 pub mod ModuleLaws
 pub mod JudgedLaws
+pub mod Returns
 pub mod Expected
 pub mod Once
 pub mod SomeText

@@ -1,6 +1,6 @@
 -- The theorem of the program: what is found of bytes, the text that tells it with its report, and what a check reads, writes and answers.
 -- `check_document` and `outcome` are contracted over these words.
-use Rattle.std.specs.Prelude.{◌≡◌, ◌↔◌, ℕ, List, [], ◌++◌, Option, IfSome, IsTrue, Result, Ok, Err, codes, nat_eq}
+use Rattle.std.specs.Prelude.{◌≡◌, ◌↔◌, ℕ, List, [], ◌++◌, Bool, Option, IfSome, IsTrue, Result, Ok, Err, codes, nat_eq}
 use Rattle.std.specs.List.{starts_with}
 use Rattle.std.specs.Io.KnownBytes.{Appends}
 use Rattle.ports.specs.Calls.{Call}
@@ -16,6 +16,7 @@ use Rattle.judgement.specs.Steps.{IsFinding, IsPrepared}
 use Rattle.judgement.specs.Text.{text_of}
 use Rattle.judgement.specs.declared.finding.Finding.{Finding}
 use Rattle.judgement.specs.declared.finding.Finding.TheVariants as finding
+use Rattle.return_laws.specs.Like.{HasNoResult}
 use Rattle.spec_report.specs.Reports.{IsReport}
 use Rattle.shader_check.specs.declared.check.TheConstants.{MAX_TAKEN}
 use Rattle.shader_check.specs.declared.check.Verdict.{Verdict}
@@ -95,6 +96,29 @@ OneText = (bytes s t : List ℕ) → IsExpected bytes s → IsExpected bytes t �
 abbrev pub SomeText : Type 0
 SomeText = (bytes : List ℕ) → ¬ ((text : List ℕ) → ¬ IsExpected bytes text)
 
+-- ---- with missing returns put in and without
+
+-- the document, whose settings ask for missing returns or do not
+abbrev pub with_returns : PlainDocument → Bool → PlainDocument
+with_returns d returns = record d { settings = record d.settings { returns = returns } }
+
+-- The text says what is found of the document, and where it is accepted goes on with the report on it.
+pub record IsTextOn (d : PlainDocument) (text : List ℕ) : Type 0 where
+  pub finding : Finding
+  pub judged : JudgedDocument d finding
+  pub behind : List ℕ
+  pub told : IsToldOf d finding behind
+  pub text_is : text ≡ text_of finding ++ behind
+
+-- Where the bytes spell a document in which no function and no entry point has a result, the text is that on the document whether its
+-- settings ask for missing returns or not.
+abbrev pub IsTextWithoutResults : (bytes text : List ℕ) → Type 0
+IsTextWithoutResults bytes text = (d : PlainDocument) → Reads bytes d → HasNoResult d.content → (returns : Bool) → IsTextOn (with_returns d returns) text
+
+-- so it is for each text that is expected for some bytes
+abbrev pub ReturnsDontShow : Type 0
+ReturnsDontShow = (bytes text : List ℕ) → IsExpected bytes text → IsTextWithoutResults bytes text
+
 -- ---- what a check answers, and what it reads and writes
 
 -- what is answered for a finding
@@ -104,12 +128,14 @@ verdict_of finding.RefusedDocument = Refused
 verdict_of finding.RefusedHandles = Refused
 verdict_of (finding.Refused step index) = Refused
 
--- The text that is expected for what the reader gave, and for all that it had left where that is known.
+-- The text that is expected for what the reader gave, and for all that it had left where that is known; of a document without results
+-- it is the same with missing returns put in and without.
 pub record IsExpectedFor (old new : Option (List ℕ)) (text : List ℕ) : Type 0 where
   pub given : List ℕ
   pub taken : TakesAll old new MAX_TAKEN given
   pub expected : IsExpected given text
   pub expected_for_all : IfSome old (λ input. IsExpected input text)
+  pub without_results : IsTextWithoutResults given text
 
 -- The writer received the expected text and nothing else, and the verdict is what the text begins with.
 pub record Answers (left left' held held' : Option (List ℕ)) (verdict : Verdict) : Type 0 where

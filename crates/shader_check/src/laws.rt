@@ -1,5 +1,5 @@
 // Laws of the judgement over bytes.
-ghost use Rattle.shader_check.specs.Theorem.{OneText, SomeText};
+ghost use Rattle.shader_check.specs.Theorem.{OneText, SomeText, ReturnsDontShow};
 
 pub use document_reader::laws::{distinct_types, one_document};
 
@@ -12,4 +12,10 @@ pub fn one_text()
 #[tactic(auto, using(crate::proofs::SomeText::some_text_lem))]
 pub fn some_text()
     ensures { SomeText }
+{}
+
+/// The text that is expected for bytes which spell a document without results is the text on that document, whether its settings ask for
+/// missing returns or not.
+pub fn returns_dont_show()
+    ensures { ReturnsDontShow }
 {}
