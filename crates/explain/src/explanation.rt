@@ -1,14 +1,19 @@
 // What is told of a document.
-ghost use Rattle.std.specs.Prelude.{◌≡◌, IfOk};
+ghost use Rattle.std.specs.Prelude.{◌≡◌, ◌++◌, IfOk, string_bytes};
+ghost use Rattle.explain.specs.Explained.{finding_of};
+ghost use Rattle.judgement.specs.Text.{text_of};
+ghost use Rattle.explain.specs.Listed.{CanList, CanListIn, Follows, FollowsOn, ListsAsAsked, lines_of};
+ghost use Rattle.ir_items.specs.View.{module_view};
 ghost use Rattle.shader_check.specs.Examined.{finding_in};
 ghost use Rattle.shader_check.specs.Theorem.{Judged};
-ghost use Rattle.explain.specs.Explained.{finding_of};
 
 use crate::names::refused_name;
 use crate::place::Told;
 use document_forms::Place;
 use document_reader::{DocumentError, MAX_LEN, read_document};
 use ir_items::Module;
+use module_buffers::leaf_report;
+use module_info::ModuleInfo;
 use shader_check::{
     Examined, Finding, ModuleError, Named, ValidationError, examine_document, refused_by,
 };
@@ -20,18 +25,42 @@ use std::fmt::{self, Display};
 pub enum Explanation {
     /// The bytes spell no document. The error is not of memory.
     NoDocument(DocumentError),
-    /// No step fails.
-    Accepted,
+    /// No step fails: the lines of the buffers and their leaves, where they were asked for.
+    Accepted(String),
     /// A step fails: the name of the first item that fails it, and why it does.
     Refused(Option<String>, ValidationError),
 }
 
+// The lines of the buffers of a module and of their leaves, where they are asked for.
+fn lines(
+    alloc: Global,
+    leaves: bool,
+    module: &Module,
+    info: &ModuleInfo,
+) -> Result<String, AllocError>
+    requires can { CanList (module_view «module».now) info.now }
+    ensures { IfOk result (λ lines. ListsAsAsked leaves (module_view «module».now) (string_bytes lines)) }
+{
+    if leaves {
+        leaf_report(alloc, module, info)
+    } else {
+        Ok(String::new(alloc))
+    }
+}
+
 // What is told of what is found.
-fn told(alloc: Global, examined: Examined, module: &Module) -> Result<Explanation, AllocError>
-    ensures { IfOk result (λ e. finding_of e ≡ finding_in examined) }
+fn told(
+    alloc: Global,
+    leaves: bool,
+    examined: Examined,
+    module: &Module,
+) -> Result<Explanation, AllocError>
+    requires can { CanListIn (module_view «module».now) examined }
+    ensures finding { IfOk result (λ e. finding_of e ≡ finding_in examined) }
+    ensures lines { IfOk result (FollowsOn leaves (module_view «module».now)) }
 {
     match examined {
-        Examined::Accepted(_) => Ok(Explanation::Accepted),
+        Examined::Accepted(info) => Ok(Explanation::Accepted(lines(alloc, leaves, module, &info)?)),
         Examined::Refused(error) => {
             let name = refused_name(alloc, module, &error)?;
             Ok(Explanation::Refused(name, error))
@@ -39,14 +68,16 @@ fn told(alloc: Global, examined: Examined, module: &Module) -> Result<Explanatio
     }
 }
 
-/// What is told of the document that the bytes spell. The error says that there is no memory.
-pub fn explain(alloc: Global, bytes: &[u8]) -> Result<Explanation, AllocError>
-    ensures { IfOk result (λ e. Judged bytes.now (finding_of e)) }
+/// What is told of the document that the bytes spell, and with `leaves` the lines of the buffers of its module, where that is
+/// accepted, each with those of its leaves. The error says that there is no memory.
+pub fn explain(alloc: Global, leaves: bool, bytes: &[u8]) -> Result<Explanation, AllocError>
+    ensures finding { IfOk result (λ e. Judged bytes.now (finding_of e)) }
+    ensures lines { IfOk result (Follows leaves bytes.now) }
 {
     match read_document(alloc, bytes) {
         Ok(mut document) => {
             let examined = examine_document(alloc, &mut document)?;
-            told(alloc, examined, &document.module)
+            told(alloc, leaves, examined, &document.module)
         }
         Err(DocumentError::Memory) => Err(AllocError),
         Err(DocumentError::TooLong) => Ok(Explanation::NoDocument(DocumentError::TooLong)),
@@ -122,6 +153,31 @@ fn write_reason<W: fmt::Write>(f: &mut fmt::Formatter<W>, error: &ValidationErro
     }
 }
 
+impl Explanation {
+    /// What is found.
+    pub fn finding(&self) -> Finding
+        ensures { result ≡ finding_of self.now }
+    {
+        match self {
+            Explanation::NoDocument(_) => Finding::RefusedDocument,
+            Explanation::Accepted(_) => Finding::Accepted,
+            Explanation::Refused(_, error) => refused_by(error),
+        }
+    }
+
+    /// The line of what is found, and behind it the lines of buffers and leaves, where they were asked for. The error is out of
+    /// memory.
+    pub fn listing(&self, alloc: Global) -> Result<String, AllocError>
+        ensures { IfOk result (λ text. string_bytes text ≡ text_of (finding_of self.now) ++ lines_of self.now) }
+    {
+        let mut text = self.finding().text(alloc)?;
+        if let Explanation::Accepted(lines) = self {
+            text.push_str(lines)?;
+        }
+        Ok(text)
+    }
+}
+
 impl Display for Explanation {
     fn fmt<W: fmt::Write>(&self, f: &mut fmt::Formatter<W>) -> fmt::Result {
         match self {
@@ -129,7 +185,7 @@ impl Display for Explanation {
                 write!(f, "no document: ")?;
                 write_error(f, error)
             }
-            Explanation::Accepted => write!(f, "accepted"),
+            Explanation::Accepted(_) => write!(f, "accepted"),
             Explanation::Refused(name, error) => {
                 write_item(f, name, error)?;
                 write!(f, "{}: ", Named(error))?;

@@ -4,11 +4,13 @@ use Rattle.ir_items.specs.GlobalPlain.{PlainGlobal}
 use Rattle.ir_items.specs.Plain.{PlainModule}
 use Rattle.ir_types.specs.Plain.{PlainInner, PlainType}
 use Rattle.module_buffers.specs.declared.leaves.Leaf.{Leaf}
+use Rattle.module_info.specs.declared.info.ModuleInfo.{ModuleInfo}
 use Rattle.spec_buffers.specs.Laws.{buffer_type}
 use Rattle.spec_buffers.specs.Leaves.{Leaf as Place, leaves}
 use Rattle.typing_forms.specs.Resolutions.{inner_at}
 use Rattle.typing_forms.specs.Sizes.{type_size}
 use Rattle.typing_forms.specs.declared.sizes.TheConstants.{MAX_TYPE_SIZE}
+use Rattle.typing_layout.specs.Held.{AreLayouts}
 use Rattle.typing_layout.specs.Layout.{LayoutOK}
 use Rattle.typing_layout.specs.View.{type_tree}
 
@@ -37,3 +39,8 @@ pub record AreLeavesOf (m : PlainModule) (global : ℕ) (found : List Leaf) : Ty
   pub variable : PlainGlobal
   pub at : slice_get m.globals global ≡ Some variable
   pub are : found ≡ rows 0 (leaves 1 (buffer_type m.types variable))
+
+-- what is kept of a module has the layout of each of its types
+pub record AreLayoutsIn (m : PlainModule) (info : ModuleInfo) : Type 0 where
+  pub layouts : AreLayouts m.types info.layouter
+  pub all : length info.layouter ≡ length m.types

@@ -15,8 +15,11 @@ use ir_unique_arena::unique_arena::UniqueArena;
 use std::alloc::{AllocError, Global};
 use typing_forms::inner_of;
 
-// The type whose leaves count: of a binding array that of its elements.
-fn counted(types: &UniqueArena<IrType, key::IrType>, ty: Handle<key::IrType>) -> Handle<key::IrType>
+/// The type whose leaves count: of a binding array that of its elements.
+pub(crate) fn counted(
+    types: &UniqueArena<IrType, key::IrType>,
+    ty: Handle<key::IrType>,
+) -> Handle<key::IrType>
     ensures { result ≡ counted (types_view types.now) ty }
 {
     match inner_of(types, ty) {

@@ -44,8 +44,8 @@ fn add_leaf(
     Ok(())
 }
 
-// The alignment in bytes of a vector whose scalars take so many.
-fn vector_alignment(size: VectorSize, width: u8) -> u64
+/// The alignment in bytes of a vector whose scalars take so many.
+pub(crate) fn vector_alignment(size: VectorSize, width: u8) -> u64
     ensures { result ≡ vector_alignment size width }
 {
     match size {
@@ -54,8 +54,8 @@ fn vector_alignment(size: VectorSize, width: u8) -> u64
     }
 }
 
-// How many elements count: one where the length is not known.
-fn counted(size: ArraySize) -> u32
+/// How many elements count: one where the length is not known.
+pub(crate) fn counted(size: ArraySize) -> u32
     ensures { result ≡ counted size }
 {
     match size {

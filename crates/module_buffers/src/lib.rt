@@ -3,6 +3,10 @@
 
 mod buffers;
 mod leaves;
+mod lines;
+mod paths;
+mod report;
 
 pub use buffers::buffer_leaves;
 pub use leaves::Leaf;
+pub use report::leaf_report;

@@ -1,0 +1,74 @@
+-- The paths of leaves as text.
+use Rattle.std.specs.Prelude.{ℕ, List, [], ◌∷◌, ◌++◌, Bool, true, false, ◌||◌, ◌&&◌, not, ◌==◌, if◌then◌else◌, Option, Some, None, slice_get, codes, decimal}
+use Rattle.std.specs.Char.{is_ascii, is_ascii_digit, is_ascii_alphanumeric}
+use Rattle.ir_types.specs.Plain.{PlainMember, PlainInner, struct, plain, PlainType}
+use Rattle.ir_types.specs.declared.types.TypeInner.TheVariants as inner
+use Rattle.typing_forms.specs.Resolutions.{inner_at}
+
+-- ---- the steps of a path
+
+-- a letter, a digit, an underscore, or a byte of a character that is not ASCII
+abbrev pub is_word_byte : ℕ → Bool
+is_word_byte b = is_ascii_alphanumeric b || (b == 95) || not (is_ascii b)
+
+abbrev pub are_word_bytes : List ℕ → Bool
+are_word_bytes [] = true
+are_word_bytes (b ∷ bs) = is_word_byte b && are_word_bytes bs
+
+-- a name that is written as it is: of such bytes, the first of which is no digit
+abbrev pub is_word : List ℕ → Bool
+is_word [] = false
+is_word (b ∷ bs) = not (is_ascii_digit b) && are_word_bytes (b ∷ bs)
+
+-- how a member is called: by its name, where that is a word, and else by its number
+abbrev pub member_word : (name : Option (List ℕ)) → (number : ℕ) → List ℕ
+member_word None number = decimal number
+member_word (Some name) number = if is_word name then name else decimal number
+
+-- a dot behind what comes before, if anything does
+abbrev pub dot_behind : (before : List ℕ) → List ℕ
+dot_behind [] = []
+dot_behind (b ∷ bs) = codes "."
+
+-- a path with a step to a member behind it, and with a step to an element
+abbrev pub to_member : (before : List ℕ) → (name : Option (List ℕ)) → (number : ℕ) → List ℕ
+to_member before name number = before ++ dot_behind before ++ member_word name number
+
+abbrev pub to_element : (before : List ℕ) → (number : ℕ) → List ℕ
+to_element before number = before ++ (codes "[" ++ decimal number ++ codes "]")
+
+-- ---- along the types of a module
+
+-- what a value has inside: the members of a struct, the elements of an array, each of the type at a handle, or nothing with a path
+pub data Parts : Type 0 where
+  named : List PlainMember → Parts
+  numbered : (base : ℕ) → Parts
+  alone : Parts
+
+abbrev pub parts_by : PlainInner → Parts
+parts_by (struct ms span) = named ms
+parts_by (plain (inner.Array base size stride)) = numbered base
+parts_by (plain other) = alone
+
+abbrev pub parts_found : Option PlainInner → Parts
+parts_found (Some i) = parts_by i
+parts_found None = alone
+
+abbrev pub parts_at : List PlainType → (handle : ℕ) → Parts
+parts_at types handle = parts_found (inner_at types handle)
+
+-- to a member that is there, and what that has inside
+abbrev pub to_found : (before : List ℕ) → Option PlainMember → (number : ℕ) → List ℕ
+to_found before (Some m) number = to_member before m.name number
+to_found before None number = before
+
+abbrev pub parts_of_found : List PlainType → Option PlainMember → Parts
+parts_of_found types (Some m) = parts_at types m.ty
+parts_of_found types None = alone
+
+-- the path of these numbers of members and elements, behind a path to what has these parts
+abbrev pub path_along : List PlainType → (before : List ℕ) → Parts → (path : List ℕ) → List ℕ
+path_along types before parts [] = before
+path_along types before (named ms) (k ∷ ks) = path_along types (to_found before (slice_get ms k) k) (parts_of_found types (slice_get ms k)) ks
+path_along types before (numbered base) (k ∷ ks) = path_along types (to_element before k) (parts_at types base) ks
+path_along types before alone (k ∷ ks) = before
