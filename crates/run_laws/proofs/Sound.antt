@@ -1,5 +1,5 @@
 -- What is promised of a module that is accepted.
-use Rattle.std.proofs.Common.{◌≡◌, ◌∙◌, ◌⊎◌, inl, inr, ℕ, zero, suc, Bool, true, false, true≢false, IsTrue, List, [], ◌∷◌, Some, slice_get, refl, sym, subst}
+use Rattle.std.proofs.Common.{◌≡◌, ◌∙◌, ◌⊎◌, inl, inr, ℕ, zero, suc, Bool, true, false, true≢false, IsTrue, List, [], ◌∷◌, Some, length, slice_get, refl, sym, subst}
 use Rattle.std.specs.List.{AllZip}
 use Rattle.std.specs.Prelude.{slice_index_or}
 use Rattle.std.proofs.lemmas.Option.{slice_get_within}
@@ -14,11 +14,12 @@ use Rattle.spec_report.proofs.Named.{named_are_told}
 use Rattle.spec_report.specs.Lines.{is_own, is_used}
 use Rattle.spec_report.specs.Reports.{IsEntryReport, IsReport}
 use Rattle.spec_runs.specs.Events.{Event, entered, executed, introduced_expression, named, sampled, used, passed, returned, fell_off, escaped}
-use Rattle.spec_runs.specs.Good.{NamedOK, SampledOK}
+use Rattle.spec_runs.specs.Good.{DepthOK, NamedOK, SampledOK}
+use Rattle.spec_runs.specs.Laws.{OnEveryRun}
 use Rattle.spec_runs.specs.Scoping.{checked_operands}
 use Rattle.run_laws.specs.Accepted.{IsAcceptedEntry, HaveReturns}
 use Rattle.run_laws.specs.Lines.{NamedIsTold, SampledIsTold}
-use Rattle.run_laws.specs.Sound.{AreChecked, EntryIsSound, AcceptedIsSound}
+use Rattle.run_laws.specs.Sound.{AreChecked, EntryIsSound, AcceptedIsSound, FunctionsBoundDepth}
 use Rattle.run_laws.proofs.Accepted.{all_weaken, runs_nest, runs_pass_types, runs_use_live, runs_keep_stage, runs_never_escape}
 use Rattle.run_laws.proofs.Chains.{runs_name_reached, runs_sample_pairs}
 use Rattle.run_laws.proofs.Falls.{runs_fall_by_breaks}
@@ -107,3 +108,10 @@ accepted_is_sound returns s d m prepared found checked report is = record {
   buffers = λ number v at buffer. record { told = buffers_are_told m report is number v at buffer; leaves = (buffers_are_sound (module_settings s) m checked.layouts found.0 found.1 number v at buffer).leaves };
   entries = λ number e at. entry_is_sound returns s d m prepared found checked report is number e at;
 }
+
+pub functions_bound_depth : FunctionsBoundDepth
+functions_bound_depth m s found checked number e at =
+    let f = function_settings s in
+    let a : IsAcceptedEntry f m number = accepted_entry s m found checked number e at in
+    let same : a.entry.entry ≡ e = some_is (sym a.entry.at ∙ at) in
+    subst (λ x. OnEveryRun m x (DepthOK (length m.functions))) same (runs_nest f m number a checked_operands)

@@ -67,3 +67,11 @@ abbrev pub AcceptedIsSound : Type 0
 AcceptedIsSound =
     (returns : Bool) (s : PlainSettings) (d m : PlainModule) → IsPrepared returns d m → IsFinding s m Accepted → AreChecked s
     → (report : List ℕ) → IsReport m report → ModuleIsSound returns s m report
+
+-- If the module is accepted under these flags, no run of an entry point of it nests calls deeper than this.
+abbrev pub BoundsDepth : PlainModule → (most : ℕ) → Type 0
+BoundsDepth m most = (s : PlainSettings) → IsFinding s m Accepted → AreChecked s → (number : ℕ) (e : PlainEntry) → slice_get m.entries number ≡ Some e → OnEveryRun m e (DepthOK most)
+
+-- the number of its functions is such a bound
+abbrev pub FunctionsBoundDepth : Type 0
+FunctionsBoundDepth = (m : PlainModule) → BoundsDepth m (length m.functions)

@@ -5,7 +5,7 @@
 
 ghost use Rattle.run_laws.specs.Accepted.{RunsNest, RunsPassTypes, RunsUseLive, RunsNameReached, RunsSamplePairs, RunsKeepStage, RunsFallByBreaks, RunsNeverEscape};
 ghost use Rattle.run_laws.specs.Lines.{LinesStand, EntriesAreTold, BuffersAreTold};
-ghost use Rattle.run_laws.specs.Sound.{AcceptedIsSound};
+ghost use Rattle.run_laws.specs.Sound.{AcceptedIsSound, FunctionsBoundDepth};
 
 /// Calls are nested no deeper than there are functions.
 pub fn runs_nest()
@@ -65,4 +65,9 @@ pub fn buffers_are_told()
 /// What is promised of a module that is accepted, and of its report, where layouts, bodies and expressions are checked.
 pub fn accepted_is_sound()
     ensures { AcceptedIsSound }
+{}
+
+/// The number of functions of an accepted module bounds the depth of the calls of every run.
+pub fn functions_bound_depth()
+    ensures { FunctionsBoundDepth }
 {}

@@ -6,9 +6,10 @@ use Rattle.ports.specs.Source.{TakesAll}
 use Rattle.judgement.specs.Text.{text_of}
 use Rattle.judgement.specs.declared.finding.Finding.{Finding}
 use Rattle.judgement.specs.declared.finding.Finding.TheVariants.{Accepted, RefusedDocument, RefusedHandles, Refused}
+use Rattle.shader_check.proofs.Promises.{accepted_texts_are_sound_lem}
 use Rattle.shader_check.proofs.Returns.{returns_dont_show_lem}
 use Rattle.shader_check.specs.Judgements.{IsJudgementOn}
-use Rattle.shader_check.specs.Theorem.{Judged, IsExpected, IsTold}
+use Rattle.shader_check.specs.Theorem.{Judged, IsExpected, IsTold, SoundText}
 use Rattle.shader_check.specs.Theorem.{verdict_of, IsExpectedFor}
 use Rattle.shader_check.specs.declared.check.TheConstants.{MAX_TAKEN}
 use Rattle.shader_check.specs.declared.check.Verdict.TheVariants as verdict
@@ -29,7 +30,7 @@ told_longer (Refused step index) behind given rest long h = h
 
 module _ (f : Finding) (behind : List ℕ) where
   -- the text of a finding, with what is told behind its line
-  expected : (bytes : List ℕ) → Judged bytes f → IsTold bytes f behind → IsExpected bytes (text_of f ++ behind)
+  pub expected : (bytes : List ℕ) → Judged bytes f → IsTold bytes f behind → IsExpected bytes (text_of f ++ behind)
   expected bytes h t = record { finding = f; judged = h; behind = behind; told = t; text_is = refl }
 
   expected_for_all : (old new : Option (List ℕ)) (given : List ℕ) → Consumes old new given → IsAtEnd new ⊎ (length given ≡ MAX_TAKEN) → Judged given f → IsTold given f behind
@@ -56,3 +57,15 @@ verdict_is Accepted behind = (λ _. refl, λ _. refl)
 verdict_is RefusedDocument behind = (λ e. cc, λ e. cc)
 verdict_is RefusedHandles behind = (λ e. cc, λ e. cc)
 verdict_is (Refused step index) behind = (λ e. cc, λ e. cc)
+
+-- an answer that the document is accepted comes with all that is promised
+pub sound_answer : (old new : Option (List ℕ)) (given : List ℕ) (j : Judgement) (t : TakesAll old new MAX_TAKEN given) (h : IsJudgementOn given j) → verdict_of j.finding ≡ verdict.Accepted
+    → SoundText (expected_for old new given j t h).given (text_of j.finding ++ string_bytes j.report)
+unfolding expected_for
+sound_answer old new given j t h is =
+    accepted_texts_are_sound_lem given (text_of j.finding ++ string_bytes j.report) (expected j.finding (string_bytes j.report) given h.finding h.told) ((verdict_is j.finding (string_bytes j.report)).0 is)
+
+-- the same for bytes that calls of the reader gave
+pub sound_of : (given : List ℕ) (j : Judgement) → IsJudgementOn given j → verdict_of j.finding ≡ verdict.Accepted → SoundText given (text_of j.finding ++ string_bytes j.report)
+sound_of given j h is =
+    accepted_texts_are_sound_lem given (text_of j.finding ++ string_bytes j.report) (expected j.finding (string_bytes j.report) given h.finding h.told) ((verdict_is j.finding (string_bytes j.report)).0 is)

@@ -14,4 +14,5 @@ pub mod JudgedLaws
 pub mod Returns
 pub mod Expected
 pub mod Once
+pub mod Promises
 pub mod SomeText

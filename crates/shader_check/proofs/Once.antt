@@ -167,7 +167,7 @@ module _ (s : PlainSettings) (m : PlainModule) where
   finding_once (Refused t i) (Refused u j) x y = refused_once t u i j x y
 
 -- one module is judged for a document
-prepared_once : (returns : Bool) (m n k : PlainModule) → IsPrepared returns m n → IsPrepared returns m k → n ≡ k
+pub prepared_once : (returns : Bool) (m n k : PlainModule) → IsPrepared returns m n → IsPrepared returns m k → n ≡ k
 prepared_once true m n k x y = one_returned m n x ∙ sym (one_returned m k y)
 prepared_once false m n k x y = x ∙ sym y
 

@@ -17,6 +17,7 @@ use Rattle.judgement.specs.Text.{text_of}
 use Rattle.judgement.specs.declared.finding.Finding.{Finding}
 use Rattle.judgement.specs.declared.finding.Finding.TheVariants as finding
 use Rattle.return_laws.specs.Like.{HasNoResult}
+use Rattle.run_laws.specs.Sound.{AreChecked, ModuleIsSound}
 use Rattle.spec_report.specs.Reports.{IsReport}
 use Rattle.shader_check.specs.declared.check.TheConstants.{MAX_TAKEN}
 use Rattle.shader_check.specs.declared.check.Verdict.{Verdict}
@@ -119,6 +120,32 @@ IsTextWithoutResults bytes text = (d : PlainDocument) → Reads bytes d → HasN
 abbrev pub ReturnsDontShow : Type 0
 ReturnsDontShow = (bytes text : List ℕ) → IsExpected bytes text → IsTextWithoutResults bytes text
 
+-- ---- what is promised of a document that is accepted
+
+-- The bytes spell a document that is accepted, and the text is what it is promised to be.
+pub record SoundText (bytes text : List ℕ) : Type 0 where
+  -- The document,
+  pub document : PlainDocument
+  pub reads : Reads bytes document
+  -- whose module, with returns put in where its settings ask for them, is judged
+  pub judged : PlainModule
+  pub prepared : IsPrepared document.settings.returns document.content judged
+  -- and accepted.
+  pub accepted : IsFinding document.settings judged finding.Accepted
+  -- The text is `accepted` and the report on the module.
+  pub report : List ℕ
+  pub reports : IsReport judged report
+  pub text_is : text ≡ text_of finding.Accepted ++ report
+  -- Where layouts, bodies and expressions are checked, what lies in each buffer is in order, and every run of each entry point is good,
+  -- with what it names and samples told by lines of this report.
+  pub sound : AreChecked document.settings → ModuleIsSound document.settings.returns document.settings judged report
+  -- Where no function and no entry point has a result, the text is the same whether missing returns are put in or not.
+  pub without_results : HasNoResult document.content → (returns : Bool) → IsTextOn (with_returns document returns) text
+
+-- so it is for each text that is expected for some bytes, if it begins with `accepted`
+abbrev pub AcceptedTextsAreSound : Type 0
+AcceptedTextsAreSound = (bytes text : List ℕ) → IsExpected bytes text → IsTrue (starts_with nat_eq text (codes "accepted")) → SoundText bytes text
+
 -- ---- what a check answers, and what it reads and writes
 
 -- what is answered for a finding
@@ -137,12 +164,14 @@ pub record IsExpectedFor (old new : Option (List ℕ)) (text : List ℕ) : Type 
   pub expected_for_all : IfSome old (λ input. IsExpected input text)
   pub without_results : IsTextWithoutResults given text
 
--- The writer received the expected text and nothing else, and the verdict is what the text begins with.
+-- The writer received the expected text and nothing else, the verdict is what the text begins with, and where it is that the document
+-- is accepted all holds that is promised of it.
 pub record Answers (left left' held held' : Option (List ℕ)) (verdict : Verdict) : Type 0 where
   pub text : List ℕ
   pub expected : IsExpectedFor left left' text
   pub received : Appends held held' text
   pub verdict_is : (verdict ≡ Accepted) ↔ IsTrue (starts_with nat_eq text (codes "accepted"))
+  pub sound : verdict ≡ Accepted → SoundText expected.given text
 
 -- The writer received a prefix of the expected text and nothing else, and not all of it.
 pub record BreaksOff (left left' held held' : Option (List ℕ)) : Type 0 where
@@ -156,12 +185,14 @@ pub record IsExpectedForCalls {R : Type 0} (reads : R → R → Call → Type 0)
   pub read : ReadsAll reads reader reader' MAX_TAKEN MAX_CALLS given
   pub expected : IsExpected given text
 
--- Calls of the writer took the expected text whole, and the verdict is what the text begins with.
+-- Calls of the writer took the expected text whole, the verdict is what the text begins with, and where it is that the document is
+-- accepted all holds that is promised of it.
 pub record AnswersInCalls {R W : Type 0} (reads : R → R → Call → Type 0) (reader reader' : R) (writes : W → W → Call → Type 0) (writer writer' : W) (verdict : Verdict) : Type 0 where
   pub text : List ℕ
   pub expected : IsExpectedForCalls reads reader reader' text
   pub written : WritesAll writes writer writer' text
   pub verdict_is : (verdict ≡ Accepted) ↔ IsTrue (starts_with nat_eq text (codes "accepted"))
+  pub sound : verdict ≡ Accepted → SoundText expected.given text
 
 -- Calls of the writer took a prefix of the expected text, and the last of them nothing.
 pub record BreaksOffInCalls {R W : Type 0} (reads : R → R → Call → Type 0) (reader reader' : R) (writes : W → W → Call → Type 0) (writer writer' : W) : Type 0 where

@@ -3,7 +3,7 @@ use Rattle.std.specs.Prelude.{◌≡◌, [], Bool, List, length, map}
 use Rattle.module_info.specs.Infos.{summary_of}
 use Rattle.module_info.specs.declared.function_info.FunctionInfo.{FunctionInfo}
 use Rattle.shader_check.specs.Chains.{AreKept, IsFunctionFault}
-use Rattle.shader_check.specs.JudgedEntries.{AreEntryNotes, AreEntrySummaries, IsEntryRefusedAt, Note, note_of}
+use Rattle.shader_check.specs.JudgedEntries.{AreEntryNotes, AreEntrySummaries, IsEntryRefusedAt, note_of}
 use Rattle.shader_check.specs.declared.entries.InvalidEntryPoint.{InvalidEntryPoint}
 use Rattle.shader_check.specs.declared.error.ValidationError.{ValidationError}
 use Rattle.shader_check.specs.declared.error.ValidationError.TheVariants as error
@@ -11,7 +11,7 @@ use Rattle.ir_faults.specs.Faults.{error_of, spans_of}
 use Rattle.ir_faults.specs.declared.refusal.Refusal.{Refusal}
 use Rattle.ir_faults.specs.declared.refusal.Refusal.TheVariants as refusal
 use Rattle.ir_flags.specs.declared.stages.ShaderStages.{ShaderStages}
-use Rattle.ir_items.specs.Plain.{PlainEntry, PlainModule}
+use Rattle.ir_items.specs.Plain.{PlainModule}
 use Rattle.module_info.specs.declared.info.ModuleInfo.{ModuleInfo}
 use Rattle.module_types.specs.Validated.{AreAccepted}
 use Rattle.module_validator.specs.Faults.{IsModuleFault}

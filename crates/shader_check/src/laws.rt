@@ -1,7 +1,12 @@
-// Laws of the judgement over bytes.
-ghost use Rattle.shader_check.specs.Theorem.{OneText, SomeText, ReturnsDontShow};
+// Laws of the judgement over bytes, and what is asked of an accepted module.
+ghost use Rattle.std.specs.Prelude.{◌≡◌, length};
+ghost use Rattle.ir_items.specs.View.{module_view};
+ghost use Rattle.run_laws.specs.Sound.{BoundsDepth};
+ghost use Rattle.shader_check.specs.Theorem.{AcceptedTextsAreSound, OneText, SomeText, ReturnsDontShow};
 
 pub use document_reader::laws::{distinct_types, one_document};
+use ir_items::Module;
+pub use module_buffers::{Leaf, buffer_leaves};
 
 /// One text is expected for some bytes: every answer to the same bytes is the same.
 pub fn one_text()
@@ -19,3 +24,18 @@ pub fn some_text()
 pub fn returns_dont_show()
     ensures { ReturnsDontShow }
 {}
+
+/// Where the text that is expected for some bytes begins with `accepted`, all holds that is promised of an accepted document.
+pub fn accepted_texts_are_sound()
+    ensures { AcceptedTextsAreSound }
+{}
+
+/// How deep the calls of a run nest at most, the entry point's own body being at 0: as deep as the module has functions.
+///
+/// So it is for every module that all steps of the check accept with the flags for layouts, bodies and expressions.
+pub fn entry_depth_bound(module: &Module) -> usize
+    ensures value { result ≡ length (module_view «module».now).functions }
+    ensures bound { BoundsDepth (module_view «module».now) result }
+{
+    module.functions.len()
+}

@@ -1,0 +1,13 @@
+use Rattle.std.proofs.Common.{sym, subst, ◌∙◌}
+use Rattle.ir_items.specs.View.{function_view, module_view}
+use Rattle.run_laws.proofs.Sound.{functions_bound_depth}
+use Rattle.run_laws.specs.Sound.{BoundsDepth}
+use Rattle.shader_check.proofs.Promises.{many_values}
+use Rattle.shader_check.proofs.laws.entry_depth_bound.Goals as goal
+
+pub returns-clause-value : goal.returns-clause-value
+returns-clause-value c = c.len.ensures.value ∙ sym (many_values function_view c.args.module.now.functions)
+
+pub returns-clause-bound : goal.returns-clause-bound
+returns-clause-bound c =
+    subst (BoundsDepth (module_view c.args.module.now)) (sym (c.len.ensures.value ∙ sym (many_values function_view c.args.module.now.functions))) (functions_bound_depth (module_view c.args.module.now))
