@@ -1,1 +1,2 @@
+pub mod RunExamples
 pub mod Worked

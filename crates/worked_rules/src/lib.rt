@@ -3,6 +3,7 @@
 //! The functions do nothing: their contracts are the examples.
 #![tactic(auto)]
 
+pub mod runs;
 pub mod statements;
 
 ghost use Rattle.std.specs.Prelude.{◌≡◌, [], ◌∷◌, None, Some, true, false, codes, nat_eq};

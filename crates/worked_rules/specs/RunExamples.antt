@@ -1,0 +1,22 @@
+-- Small functions whose runs tell apart what a continue skips.
+use Rattle.std.specs.Prelude.{[], ◌∷◌, Some, None, true, List}
+use Rattle.ir_kinds.specs.declared.operators.UnaryOperator.TheVariants.{LogicalNot}
+use Rattle.ir_kinds.specs.declared.values.Literal.TheVariants.{Bool as Truth}
+use Rattle.ir_types.specs.ExpressionPlain.{PlainExpression, plain}
+use Rattle.ir_types.specs.declared.expressions.Expression.TheVariants as x
+use Rattle.ir_blocks.specs.Plain.{emit, if_, loop, continue, stop, next}
+use Rattle.ir_items.specs.Plain.{PlainFunction}
+use Rattle.spec_runs.specs.Worked.{of_body}
+
+-- a truth value, and twice its opposite
+abbrev pub truths : List PlainExpression
+truths = plain (x.Literal (Truth true)) ∷ plain (x.Unary LogicalNot 0) ∷ plain (x.Unary LogicalNot 0) ∷ []
+
+-- a loop that a continue may go on with before the last statement of its body; what stands behind the continue in its own block is
+-- never reached
+abbrev pub continuing : PlainFunction
+continuing = of_body None truths (next (loop (next (if_ 0 (next continue (next (emit 1 2) stop)) stop) (next (emit 2 3) stop)) stop (Some 2)) stop)
+
+-- a continue goes on with the inner loop, and skips nothing of the outer one's body
+abbrev pub nested : PlainFunction
+nested = of_body None truths (next (loop (next (loop (next continue stop) stop (Some 0)) (next (emit 1 2) stop)) stop (Some 1)) stop)
