@@ -4,7 +4,7 @@ use Rattle.ir_kinds.specs.declared.operators.UnaryOperator.TheVariants.{LogicalN
 use Rattle.ir_kinds.specs.declared.values.Literal.TheVariants.{Bool as Truth}
 use Rattle.ir_types.specs.ExpressionPlain.{PlainExpression, plain}
 use Rattle.ir_types.specs.declared.expressions.Expression.TheVariants as x
-use Rattle.ir_blocks.specs.Plain.{emit, if_, loop, continue, stop, next}
+use Rattle.ir_blocks.specs.Plain.{emit, if_, loop, continue, call, stop, next}
 use Rattle.ir_items.specs.Plain.{PlainFunction}
 use Rattle.spec_runs.specs.Worked.{of_body}
 
@@ -20,3 +20,7 @@ continuing = of_body None truths (next (loop (next (if_ 0 (next continue (next (
 -- a continue goes on with the inner loop, and skips nothing of the outer one's body
 abbrev pub nested : PlainFunction
 nested = of_body None truths (next (loop (next (loop (next continue stop) stop (Some 0)) (next (emit 1 2) stop)) stop (Some 1)) stop)
+
+-- it calls the first function, and what stands for the answer is live then
+abbrev pub answered : PlainFunction
+answered = of_body None (plain (x.CallResult 0) ∷ []) (next (call 0 [] (Some 0)) stop)

@@ -8,7 +8,7 @@ ghost use Rattle.spec_runs.specs.Good.{DepthOK, TypesOK, LiveOK, FallsOK, NoEsca
 ghost use Rattle.spec_runs.specs.Machine.{trace_of};
 ghost use Rattle.spec_runs.specs.Scoping.{checked_operands};
 ghost use Rattle.spec_runs.specs.Worked.{module_of, calling, skipping, breaking, using_too_early};
-ghost use Rattle.worked_rules.specs.RunExamples.{continuing, nested};
+ghost use Rattle.worked_rules.specs.RunExamples.{answered, continuing, nested};
 
 /// A continue skips what is left of its loop's body at the top level, in its own turn.
 pub fn skips()
@@ -23,6 +23,13 @@ pub fn skips()
         ≡ entered 0 ∷ executed nested here ∷ executed nested (inside loop_body here) ∷ executed nested (inside loop_body (inside loop_body here)) ∷ used nested [] [] 0
         ∷ executed nested (inside loop_body (later here)) ∷ introduced_expression nested 1 ∷ used nested (1 ∷ []) [] 1
         ∷ fell_off nested (Some (inside loop_body (later here))) ∷ [] }
+{}
+
+/// A function with a result that is left by a break out of its last switch falls off, and its caller goes on as if it had answered.
+pub fn falls_in_a_call()
+    ensures { trace_of checked_operands (module_of (breaking ∷ [])) answered (pos 7 ∷ []) 9
+        ≡ entered 0 ∷ executed answered here ∷ passed answered breaking [] ∷ entered 1 ∷ executed breaking here ∷ used breaking [] [] 0 ∷ executed breaking (inside (case_at 0) here)
+        ∷ fell_off breaking (Some (inside (case_at 0) here)) ∷ introduced_expression answered 0 ∷ fell_off answered (Some here) ∷ [] }
 {}
 
 /// Events that are not good, and good ones beside them.
