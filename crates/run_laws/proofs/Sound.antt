@@ -100,7 +100,7 @@ entry_is_sound returns s d m prepared found checked report is number e at =
       sampled = λ answers n. all_weaken _ _ (each_sampled m number own t.lines t.are) _ (runs_sample_pairs f m number a checked_operands answers n);
       stage = record { functions = a.entry.stages; are = a.entry.run; every = runs_keep_stage f m number a checked_operands };
       falls = λ put_in. runs_fall_by_breaks f m number a (prepared_have returns d m prepared put_in) checked_operands;
-      inside = runs_never_escape f m number a checked_operands;
+      contained = runs_never_escape f m number a checked_operands;
     })
 
 pub accepted_is_sound : AcceptedIsSound

@@ -43,7 +43,7 @@ pub record EntryIsSound (returns : Bool) (s : PlainSettings) (m : PlainModule) (
   -- where returns are put in, falls off a function with a result only by a break out of a final switch,
   pub falls : returns ≡ true → OnEveryRun m e FallsOK
   -- and never escapes.
-  pub inside : OnEveryRun m e NoEscape
+  pub contained : OnEveryRun m e NoEscape
 
 -- What is promised of a buffer: a line of the report tells its size and its alignment, and, unless some stride inside it is shorter
 -- than its element, what lies in it is aligned, apart and within that size.

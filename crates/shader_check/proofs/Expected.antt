@@ -9,7 +9,7 @@ use Rattle.judgement.specs.declared.finding.Finding.TheVariants.{Accepted, Refus
 use Rattle.shader_check.proofs.Promises.{accepted_texts_are_sound_lem}
 use Rattle.shader_check.proofs.Returns.{returns_dont_show_lem}
 use Rattle.shader_check.specs.Judgements.{IsJudgementOn}
-use Rattle.shader_check.specs.Theorem.{Judged, IsExpected, IsTold, SoundText}
+use Rattle.shader_check.specs.Theorem.{Judged, IsExpected, IsTold, IsTextWithoutResults, SoundText}
 use Rattle.shader_check.specs.Theorem.{verdict_of, IsExpectedFor}
 use Rattle.shader_check.specs.declared.check.TheConstants.{MAX_TAKEN}
 use Rattle.shader_check.specs.declared.check.Verdict.TheVariants as verdict
@@ -43,13 +43,17 @@ module _ (f : Finding) (behind : List ℕ) where
   expected_for_all (Some input) (Some rest) given c (inr e) h t =
       expected input (subst (λ z. Judged z f) (sym c) (judged_longer f given rest e h)) (subst (λ z. IsTold z f behind) (sym c) (told_longer f behind given rest e t))
 
+-- of a document without results the text is the same with missing returns put in and without
+pub without_results : (given : List ℕ) (j : Judgement) → IsJudgementOn given j → IsTextWithoutResults given (text_of j.finding ++ string_bytes j.report)
+without_results given j h = returns_dont_show_lem given (text_of j.finding ++ string_bytes j.report) (expected j.finding (string_bytes j.report) given h.finding h.told)
+
 pub expected_for : (old new : Option (List ℕ)) (given : List ℕ) (j : Judgement) → TakesAll old new MAX_TAKEN given → IsJudgementOn given j → IsExpectedFor old new (text_of j.finding ++ string_bytes j.report)
 expected_for old new given j t h = record {
   given = given;
   taken = t;
   expected = expected j.finding (string_bytes j.report) given h.finding h.told;
   expected_for_all = expected_for_all j.finding (string_bytes j.report) old new given t.consumed t.stopped h.finding h.told;
-  without_results = returns_dont_show_lem given (text_of j.finding ++ string_bytes j.report) (expected j.finding (string_bytes j.report) given h.finding h.told);
+  without_results = without_results given j h;
 }
 
 pub verdict_is : (f : Finding) (behind : List ℕ) → (verdict_of f ≡ verdict.Accepted) ↔ IsTrue (starts_with nat_eq (text_of f ++ behind) (codes "accepted"))

@@ -156,7 +156,8 @@ verdict_of finding.RefusedHandles = Refused
 verdict_of (finding.Refused step index) = Refused
 
 -- The text that is expected for what the reader gave, and for all that it had left where that is known; of a document without results
--- it is the same with missing returns put in and without.
+-- it is the same with missing returns put in and without. Where it is not known what the reader had left, this says so of some bytes,
+-- and only the clauses on calls say of which.
 pub record IsExpectedFor (old new : Option (List ℕ)) (text : List ℕ) : Type 0 where
   pub given : List ℕ
   pub taken : TakesAll old new MAX_TAKEN given
@@ -164,7 +165,7 @@ pub record IsExpectedFor (old new : Option (List ℕ)) (text : List ℕ) : Type 
   pub expected_for_all : IfSome old (λ input. IsExpected input text)
   pub without_results : IsTextWithoutResults given text
 
--- The writer received the expected text and nothing else, the verdict is what the text begins with, and where it is that the document
+-- The writer received the expected text and nothing else, where it is known what it holds; the verdict is what the text begins with, and where it is that the document
 -- is accepted all holds that is promised of it.
 pub record Answers (left left' held held' : Option (List ℕ)) (verdict : Verdict) : Type 0 where
   pub text : List ℕ
@@ -179,11 +180,13 @@ pub record BreaksOff (left left' held held' : Option (List ℕ)) : Type 0 where
   pub expected : IsExpectedFor left left' text
   pub received : AppendsFront held held' text
 
--- The text that is expected for the bytes that calls of the reader gave.
+-- The text that is expected for the bytes that calls of the reader gave; of a document without results it is the same with missing
+-- returns put in and without.
 pub record IsExpectedForCalls {R : Type 0} (reads : R → R → Call → Type 0) (reader reader' : R) (text : List ℕ) : Type 0 where
   pub given : List ℕ
   pub read : ReadsAll reads reader reader' MAX_TAKEN MAX_CALLS given
   pub expected : IsExpected given text
+  pub without_results : IsTextWithoutResults given text
 
 -- Calls of the writer took the expected text whole, the verdict is what the text begins with, and where it is that the document is
 -- accepted all holds that is promised of it.

@@ -20,8 +20,8 @@ abbrev pub AreApart : Leaf → Leaf → Type 0
 AreApart a b = (a.first + a.length ≤ b.first) ⊎ (b.first + b.length ≤ a.first)
 
 -- However many elements an array without a length has, each leaf begins at a multiple of its alignment, which divides that of the
--- type, so that a leaf is aligned in memory wherever the value is; and no two leaves share a byte. Where such an array has one
--- element, all leaves lie within the size of the type.
+-- type, so that a leaf is aligned in memory where the value begins at a multiple of the type's alignment; and no two leaves share a
+-- byte. Where such an array has one element, all leaves lie within the size of the type.
 pub record LeavesOK (t : Tree) : Type 0 where
   pub aligned : (held : ℕ) → All (λ l. l.alignment ∣ l.first) (leaves held t)
   pub fitting : (held : ℕ) → All (λ l. l.alignment ∣ alignment t) (leaves held t)

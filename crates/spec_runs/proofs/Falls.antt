@@ -63,8 +63,8 @@ module _ (u : UsedOperands) (frame : Frame) where
   good_introduces : (es : List ℕ) (now : Configuration) → Good now → Good (introduces u frame es now)
   good_introduces [] now g = g
   good_introduces (e ∷ es) now g =
-      let first : Configuration = uses frame (operands_of u (slice_get frame.function.expressions e)) now in
-      good_introduces es (introduces_one u frame e now) (happen_good (introduced_expression frame.function e ∷ mentions frame (e ∷ [])) first (good_uses frame (operands_of u (slice_get frame.function.expressions e)) now g) (tt, any_mentions frame (e ∷ [])))
+      let begun : Configuration = happen (introduced_expression frame.function e ∷ mentions frame (e ∷ [])) now in
+      good_introduces es (introduces_one u frame e now) (good_uses frame (operands_of u (slice_get frame.function.expressions e)) begun (happen_good _ now g (tt, any_mentions frame (e ∷ []))))
 
   introduces_last : (es : List ℕ) (now : Configuration) → (introduces u frame es now).last ≡ now.last
   introduces_last [] now = refl

@@ -13,7 +13,7 @@ use Rattle.spec_handles.specs.Statements.{statement_operands}
 use Rattle.spec_statements.specs.Tables.{introduced, introduced_at}
 use Rattle.spec_statements.specs.Visible.{top_level}
 use Rattle.spec_statements.proofs.ScopeLaws.{none_held}
-use Rattle.spec_runs.specs.Events.{Event, executed, used, passed, returned, fell_off}
+use Rattle.spec_runs.specs.Events.{Event, executed, introduced_expression, used, passed, returned, fell_off}
 use Rattle.spec_runs.specs.Reached.{reached_from}
 use Rattle.spec_runs.specs.Scoping.{UsedOperands, Scoping, IsLawful, AreThere, visible_by, holds_continue_in, holds_continue, holds_continue_in_cases}
 use Rattle.spec_runs.specs.Machine.{Frame, Configuration, Completion, normal, by_break, by_continue, by_return, halted, Outcome, completes, happen, step, answered, mentioned_at, mentions, uses, operands_of, begins, introduces_one, introduces, leave_scope, sequence, Loop, Task, in_block, in_loop, Evaluation, side, is_value, is_default, Cases, either_cases, from_first, unless_none, chosen, fall, eval_cases, at_switch, leave_switch, next_turn, stay_or_leave, eval_condition, after_continuing, eval_continuing, after_body, eval_turn, callee_frame, enters, leave_call, eval_call, eval_statement, eval_task, eval, finish, entry_frame, initial}
@@ -218,11 +218,11 @@ module _ (u : UsedOperands) (g : Scoping) (lawful : IsLawful g) (m : PlainModule
     good_introduces : (s : PlainStatement) (q : Place) (scope : List ℕ) (c : Control) → Safe g f q (statement s) scope c → (before es : List ℕ) → introduced s ≡ before ++ es → (now : Configuration) → Covers (scope ++ before) now → Good now → AreIntroduced s scope es now
     good_introduces s q scope c a before [] is now v h = record { good = h; there = subst (λ xs. Covers (scope ++ xs) now) (sym (is ∙ append_nothing before)) v }
     good_introduces s q scope c a before (e ∷ es) is now v h =
-        let uses_first : Configuration = uses frame (operands_of u (slice_get f.expressions e)) now in
-        let good_first : Good uses_first = good_happen _ now h (good_used (operands_of u (slice_get f.expressions e)) now.live now.skipped
-        (λ o held. keeps.uses_of_introduced frame fine q s a.stands before e es is now.live now.skipped (subst (λ xs. AreThere g f now.live now.skipped (xs ++ before)) (sym a.scoped) v) o held)) in
         let brought : Contains (introduced s) e = subst (λ xs. Contains xs e) (sym is) (Contains-append_right before (e ∷ es) e (first_held e es)) in
-        let good_one : Good (introduces_one u frame e now) = good_happen _ uses_first good_first (keeps.introduces frame fine q e (subst (λ x. Contains (introduced_at x) e) (sym a.stands) brought), good_mentions (e ∷ [])) in
+        let begun : Configuration = happen (introduced_expression f e ∷ mentions frame (e ∷ [])) now in
+        let good_begun : Good begun = good_happen _ now h (keeps.introduces frame fine q e (subst (λ x. Contains (introduced_at x) e) (sym a.stands) brought), good_mentions (e ∷ [])) in
+        let good_one : Good (introduces_one u frame e now) = good_happen _ begun good_begun (good_used (operands_of u (slice_get f.expressions e)) now.live now.skipped
+        (λ o held. keeps.uses_of_introduced frame fine q s a.stands before e es is now.live now.skipped (subst (λ xs. AreThere g f now.live now.skipped (xs ++ before)) (sym a.scoped) v) o held)) in
         let next_is : introduced s ≡ (before ++ (e ∷ [])) ++ es = is ∙ sym (append_assoc before (e ∷ []) es) in
         let there : Covers (scope ++ (before ++ (e ∷ []))) (introduces_one u frame e now) = subst (λ xs. Covers xs (introduces_one u frame e now)) (append_assoc scope before (e ∷ [])) (cover_live (scope ++ before) e now v) in
         let more = good_introduces s q scope c a (before ++ (e ∷ [])) es next_is (introduces_one u frame e now) there good_one in

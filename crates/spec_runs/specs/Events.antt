@@ -3,7 +3,7 @@ use Rattle.std.specs.Prelude.{ℕ, List, Option}
 use Rattle.ir_blocks.specs.Places.{Place}
 use Rattle.ir_items.specs.Plain.{PlainFunction}
 
--- What has to do with a function tells which one: a function of the module, or that of the entry point.
+-- An event that concerns a function has it: a function of the module, or that of the entry point.
 pub data Event : Type 0 where
   -- a function is entered, so deep, the entry point's at 0
   entered : (depth : ℕ) → Event
@@ -23,5 +23,5 @@ pub data Event : Type 0 where
   returned : PlainFunction → (value : Option ℕ) → Event
   -- a function's body ends normally, where the last statement that it executed itself stands there
   fell_off : PlainFunction → (last : Option Place) → Event
-  -- a break, a continue or a return leaves a continuing part, or a break or a continue the body of a function
+  -- a break, a continue or a return leaves a continuing part, or a break or a continue leaves the body of a function
   escaped : Event

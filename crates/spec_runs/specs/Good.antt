@@ -42,7 +42,7 @@ TypesOK m _ = Unit {0}
 
 -- ---- operands
 
--- an operand that is used may be used there
+-- An operand that is used may be used there, by what counts as being there; a stricter scope leaves out what a continue skipped.
 abbrev pub UsesOK : Scoping → Event → Type 0
 UsesOK g (used f live skipped e) = IsThere g f live skipped e
 UsesOK g _ = Unit {0}
@@ -66,8 +66,8 @@ SampledOK m f _ = Unit {0}
 
 -- ---- stages
 
--- A statement stands where one is executed, an expression where one is introduced, and the stage may run it, where these stages
--- have operations of subgroups, and these may run the functions of the module.
+-- What is executed or introduced is there, and the stage may run it. `subgroups` are the stages that have operations of subgroups, and
+-- `functions` has, for each function of the module, the stages that may run it; `stage` is a set of one.
 abbrev pub StagesOK : (subgroups : ShaderStages) → (functions : List ShaderStages) → (stage : ℕ) → Event → Type 0
 StagesOK subgroups functions stage (executed f p) = (s : PlainStatement) × StandsAt f.body p s × Has (statement_stages subgroups functions s).0 stage
 StagesOK subgroups functions stage (introduced_expression f e) = IsSomeAnd (slice_get f.expressions e) (λ x. Has (stages_of functions x).0 stage)

@@ -39,7 +39,7 @@ pub record Configuration : Type 0 where
   pub steps : ℕ
   pub events : List Event
 
--- How a part of a run completes. A continue tells what the statements that it left out of its block would have introduced.
+-- How a part of a run completes. A continue tells what the part's own statements that it left out would have introduced.
 pub data Completion : Type 0 where
   normal : Completion
   by_break : Completion
@@ -119,11 +119,11 @@ abbrev pub begins : UsedOperands → Frame → Place → PlainStatement → Conf
 begins u frame p s now =
     uses frame (u.at_spot (statement s)) (happen (executed frame.function p ∷ mentions frame (statement_operands s)) (record now { last = Some p }))
 
--- an expression is introduced, and live from then on
+-- an expression is introduced: it and its operands mention global variables, these operands are used, and it is live from then on
 abbrev pub introduces_one : UsedOperands → Frame → ℕ → Configuration → Configuration
 introduces_one u frame e now =
-    let used_first = uses frame (operands_of u (slice_get frame.function.expressions e)) now in
-    record (happen (introduced_expression frame.function e ∷ mentions frame (e ∷ [])) used_first) { live = now.live ++ (e ∷ []) }
+    let begun = happen (introduced_expression frame.function e ∷ mentions frame (e ∷ [])) now in
+    record (uses frame (operands_of u (slice_get frame.function.expressions e)) begun) { live = now.live ++ (e ∷ []) }
 
 -- so are these, one after the other
 abbrev pub introduces : UsedOperands → Frame → List ℕ → Configuration → Configuration

@@ -63,7 +63,7 @@ visible_by level outer (inside part p) (next s rest) = visible_by level (enterin
 visible_by level outer condition stop = outer
 visible_by level outer condition (next s rest) = at_condition_by level outer s
 
--- What a function uses is always in scope, or in scope where it is used. For an expression that is introduced what the same
+-- What a function uses is of a kind that is always in scope, or in scope where it is used. For an expression that is introduced what the same
 -- statement has introduced before it counts too.
 pub record IsScoped (u : UsedOperands) (g : Scoping) (f : PlainFunction) : Type 0 where
   pub at_spots : (p : Place) (o : ℕ) → Contains (u.at_spot (spot_at p f.body)) o → PreEmitted f o ⊎ Contains (visible_by g.level [] p f.body) o

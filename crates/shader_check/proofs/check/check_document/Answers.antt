@@ -1,6 +1,6 @@
 use Rattle.std.proofs.Common.{◌++◌, string_bytes}
 use Rattle.judgement.specs.Text.{text_of}
-use Rattle.shader_check.proofs.Expected.{expected, expected_for, verdict_is, sound_answer, sound_of}
+use Rattle.shader_check.proofs.Expected.{expected, expected_for, without_results, verdict_is, sound_answer, sound_of}
 use Rattle.shader_check.proofs.check.check_document.Goals as goal
 
 pub returns-in_err-write_text-clause-write_prefix : goal.returns-in_err-write_text-clause-write_prefix
@@ -32,6 +32,7 @@ returns-clause-ok_calls g c =
         given = c.in_ok-bytes.bytes.items;
         read = c.in_ok-bytes.ensures.ok_calls;
         expected = expected c.in_ok-judgement.judgement.finding (string_bytes c.in_ok-judgement.judgement.report) c.in_ok-bytes.bytes.items judged.finding judged.told;
+        without_results = without_results c.in_ok-bytes.bytes.items c.in_ok-judgement.judgement judged;
       };
       written = rw (← c.in_ok-text.ensures) (rw (← c.as_bytes.ensures.value) c.in_ok-write_text.ensures.ok_calls);
       verdict_is = rw c.verdict_of.ensures (verdict_is c.in_ok-judgement.judgement.finding (string_bytes c.in_ok-judgement.judgement.report));
