@@ -38,3 +38,17 @@ returns-clause-ok_calls g c =
       verdict_is = rw c.verdict_of.ensures (verdict_is c.in_ok-judgement.judgement.finding (string_bytes c.in_ok-judgement.judgement.report));
       sound = rw c.verdict_of.ensures (sound_of c.in_ok-bytes.bytes.items _ judged);
     }
+
+pub returns-in_err-write_text-clause-write_calls : goal.returns-in_err-write_text-clause-write_calls
+returns-in_err-write_text-clause-write_calls g c = λ _.
+    let judged = c.in_ok-judgement.ensures in
+    record {
+      text = text_of c.in_ok-judgement.judgement.finding ++ string_bytes c.in_ok-judgement.judgement.report;
+      expected = record {
+        given = c.in_ok-bytes.bytes.items;
+        read = c.in_ok-bytes.ensures.ok_calls;
+        expected = expected c.in_ok-judgement.judgement.finding (string_bytes c.in_ok-judgement.judgement.report) c.in_ok-bytes.bytes.items judged.finding judged.told;
+        without_results = without_results c.in_ok-bytes.bytes.items c.in_ok-judgement.judgement judged;
+      };
+      written = rw (← c.in_ok-text.ensures) (rw (← c.as_bytes.ensures.value) c.in_err-write_text.ensures.err_calls);
+    }
