@@ -55,8 +55,8 @@ known_padded zero (x ∷ kept) p = absurd (omega (arith, p))
 known_padded (suc n) (x ∷ kept) p = ap (before_defined x) (known_padded n kept (omega (arith, p)))
 
 pub kept_equality : KeptEquality
-kept_equality n xs ys p q =
+kept_equality n xs ys =
     let decides = same_kept_decides xs ys in (
       λ e. sym (padded_known n xs) ∙ (ap (padded n) (decides.0 e) ∙ padded_known n ys),
-      λ e. decides.1 (sym (known_padded n xs p) ∙ (ap up_to_defined e ∙ known_padded n ys q)),
+      λ p q e. decides.1 (sym (known_padded n xs p) ∙ (ap up_to_defined e ∙ known_padded n ys q)),
     )

@@ -1,5 +1,5 @@
 -- Spans that are kept as far as one is defined, and stand for as many as are asked for.
-use Rattle.std.specs.Prelude.{◌≡◌, ◌≤◌, ◌↔◌, ℕ, zero, suc, Bool, IsTrue, List, [], ◌∷◌, length, Option, Some, None, Vec, Box, if◌then◌else◌}
+use Rattle.std.specs.Prelude.{◌≡◌, ◌≤◌, ℕ, zero, suc, Bool, IsTrue, List, [], ◌∷◌, length, Option, Some, None, Vec, Box, if◌then◌else◌}
 use Rattle.std.specs.declared.alloc.Global.{Global}
 use Rattle.std.specs.Cmp.{IsPartialEquivalence, IsEquivalence, on_per, on_equiv, and_equiv, nat_eq_equiv, partial_equiv_from_equiv}
 use Rattle.std.specs.Cmp.Lexicographic.{pointwise, lists_per}
@@ -45,6 +45,7 @@ same_kept xs ys = pointwise same_span (up_to_defined xs) (up_to_defined ys)
 pub same_kept_per : IsPartialEquivalence same_kept
 same_kept_per = on_per up_to_defined (lists_per (partial_equiv_from_equiv same_span_equiv))
 
--- kept spans of two blocks of n statements are equal exactly where all of their spans are
+-- where the kept spans of two blocks of n statements are equal, all of their spans are; and the other way round, where
+-- neither keeps more than n
 abbrev pub KeptEquality : Type 0
-KeptEquality = (n : ℕ) (xs ys : List Span) → length xs ≤ n → length ys ≤ n → IsTrue (same_kept xs ys) ↔ (padded n xs ≡ padded n ys)
+KeptEquality = (n : ℕ) (xs ys : List Span) → (IsTrue (same_kept xs ys) → padded n xs ≡ padded n ys) × (length xs ≤ n → length ys ≤ n → padded n xs ≡ padded n ys → IsTrue (same_kept xs ys))

@@ -17,7 +17,8 @@ pub fn always_in_step()
     ensures { AlwaysInStep }
 {}
 
-/// `==` of blocks compares their spans as [`crate::Block::span_iter`] gives them, however many of them are kept.
+/// Where what `==` compares of the spans of two blocks is equal, so are all of their spans, as
+/// [`crate::Block::span_iter`] gives them; and the other way round, where neither keeps more than it has statements.
 pub fn kept_equality()
     ensures { KeptEquality }
 {}
