@@ -26,6 +26,7 @@ BOOL, U32, F32 = ([None, ["Scalar", word]] for word in ("bool", "u32", "f32"))
 TRUTHS = [["Literal", "bool", True], ["Unary", "LogicalNot", 0], ["Unary", "LogicalNot", 1]]
 ANSWERING = [None, [], [0, None], [], [["Literal", "u32", 0]], [["Return", 0]], None]
 DEFAULT = ["Default"]
+STRICT = [*SIX, "strict-scope"]
 RAY = [U32, F32, [None, ["Vector", 3, "f32"]],
        ["RayDesc", ["Struct", [["flags", 0, None, 0], ["cull_mask", 0, None, 4], ["tmin", 1, None, 8], ["tmax", 1, None, 12],
                                ["origin", 2, None, 16], ["dir", 2, None, 32]], 48]],
@@ -118,6 +119,9 @@ ROWS = [
     row("call that answers", "accepted", CALLED, types=[U32]),
     row("call that answers, blocks alone", "function 1 InvalidCall 0 ResultAlreadyPopulated 0", CALLED, types=[U32],
         flags=["BLOCKS"]),
+    row("strict scope, a ballot that names another kind", "function 0 StrictResultMismatch 1", [f(TRUTHS, [["SubgroupBallot", 1, None]])],
+        flags=STRICT, capabilities=["SUBGROUP"], subgroups=((), ("BALLOT",))),
+    row("strict scope, an operand that is not emitted", "function 0 Expression 1 NotInScope", [f(TRUTHS, [["Emit", 2, 3]])], flags=STRICT),
     row("answer of no call", "function 1 UnvisitedExpression 0", [ANSWERING, f([["CallResult", 0]], [])], types=[U32]),
     row("answer of two calls", "function 1 InvalidCall 0 ResultAlreadyPopulated 0",
         [ANSWERING, f([["CallResult", 0]], [["Block", [["Call", 0, [], 0]]], ["Block", [["Call", 0, [], 0]]]])], types=[U32]),

@@ -36,7 +36,7 @@ pub record CallAt (spot : Spot) (function : ℕ) : Type 0 where
 no_callee : {A : Type 0} (g : ℕ) → None ≡ Some g → A
 no_callee g is = let x = is in absurd (cc)
 
-call_at : (spot : Spot) (g : ℕ) → callee_at spot ≡ Some g → CallAt spot g
+pub call_at : (spot : Spot) (g : ℕ) → callee_at spot ≡ Some g → CallAt spot g
 call_at nothing g is = no_callee g is
 call_at (loop_condition break_if) g is = no_callee g is
 call_at (statement (emit first end)) g is = no_callee g is
@@ -59,7 +59,7 @@ answers_at (statement s) e is = (s, refl, is)
 at_answers : (spot : Spot) (e : ℕ) (s : PlainStatement) → spot ≡ statement s → answer_of s ≡ Some e → answer_at spot ≡ Some e
 at_answers spot e s is by = ap answer_at is ∙ by
 
-given_one : (o : Option ℕ) (e : ℕ) → Contains (option_to_list o) e → o ≡ Some e
+pub given_one : (o : Option ℕ) (e : ℕ) → Contains (option_to_list o) e → o ≡ Some e
 given_one None e held = absurd (omega (arith, held.1))
 given_one (Some x) e held = All-contains (λ y. Some x ≡ Some y) (x ∷ []) e (All-cons (λ y. Some x ≡ Some y) x [] refl (All-nil (λ y. Some x ≡ Some y))) held
 

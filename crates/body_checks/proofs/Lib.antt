@@ -1,8 +1,8 @@
-mod Lists
-mod Tables
+pub mod Lists
+pub mod Tables
 mod Walks
 mod Conversions
-mod FaultLaws
+pub mod FaultLaws
 pub mod Refuted
 mod ControlPlaces
 pub mod ControlRefuted

@@ -124,10 +124,10 @@ ahead_first f old all = record {
   below = λ e h. inl h;
 }
 
-head_held : (h : ℕ) (rest : List ℕ) → Contains (h ∷ rest) h
+pub head_held : (h : ℕ) (rest : List ℕ) → Contains (h ∷ rest) h
 head_held h rest = Contains-append_left (h ∷ []) rest h (0, omega arith, refl)
 
-only : (h e : ℕ) → Contains (h ∷ []) e → h ≡ e
+pub only : (h e : ℕ) → Contains (h ∷ []) e → h ≡ e
 only h e held = All-contains (λ x. h ≡ x) (h ∷ []) e (All-cons (λ x. h ≡ x) h [] refl (All-nil (λ x. h ≡ x))) held
 
 pub ahead_more : (f : PlainFunction) (old now next all : List ℕ) (range : ℕ × ℕ) (h : ℕ) (rest : List ℕ) → Ahead f old now all (handles_between range) → handles_between range ≡ h ∷ rest

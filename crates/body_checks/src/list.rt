@@ -64,8 +64,8 @@ fn make_room(places: &mut Vec<usize>, index: usize) -> Result<(), AllocError>
 }
 
 impl ExpressionList {
-    // No expression, of so many. The error is out of memory.
-    pub(crate) fn new(alloc: Global, count: usize) -> Result<ExpressionList, AllocError>
+    /// No expression, of so many. The error is out of memory.
+    pub fn new(alloc: Global, count: usize) -> Result<ExpressionList, AllocError>
         ensures { IfOk result (λ l. l ≡ []) }
     {
         let places = vec![in alloc; 0usize; count]?;
@@ -75,8 +75,8 @@ impl ExpressionList {
         })
     }
 
-    // How many there are.
-    pub(crate) fn len(&self) -> usize
+    /// How many there are.
+    pub fn len(&self) -> usize
         ensures { result ≡ length self.now }
     {
         self.list.len()
@@ -90,8 +90,8 @@ impl ExpressionList {
         place > 0 && is_at(&self.list, place - 1, handle)
     }
 
-    // Adds an expression, and answers whether it was none of them. The error is out of memory.
-    pub(crate) fn insert(&mut self, handle: Handle<key::Expression>) -> Result<bool, AllocError>
+    /// Adds an expression, and answers whether it was none of them. The error is out of memory.
+    pub fn insert(&mut self, handle: Handle<key::Expression>) -> Result<bool, AllocError>
         ensures { IfOk result (IsAdded self.old self.new handle) }
     {
         if self.contains(handle) {
@@ -103,8 +103,8 @@ impl ExpressionList {
         Ok(true)
     }
 
-    // Lets go all but the first so many.
-    pub(crate) fn cut(&mut self, count: usize)
+    /// Lets go all but the first so many.
+    pub fn cut(&mut self, count: usize)
         ensures { self.new ≡ take count self.old }
     {
         self.list.truncate(count);

@@ -55,8 +55,8 @@ pub fn is_known(
     is_held(scope, handle) || is_always_known(function, handle)
 }
 
-// The first of these that is not in scope.
-fn first_unknown(
+/// The first of these that is there and not in scope.
+pub fn first_unknown(
     function: &Function,
     scope: &ExpressionList,
     slots: &[Option<Handle<key::Expression>>],
@@ -109,7 +109,8 @@ fn compared(
     }
 }
 
-fn gather_index(mode: GatherMode) -> Option<Handle<key::Expression>>
+/// The index that a gather is made by, if it is made by one.
+pub fn gather_index(mode: GatherMode) -> Option<Handle<key::Expression>>
     ensures { result ≡ gather_index mode }
 {
     match mode {
@@ -123,8 +124,8 @@ fn gather_index(mode: GatherMode) -> Option<Handle<key::Expression>>
     }
 }
 
-// The first operand of what is done with a ray query that is not in scope.
-fn unknown_in_query(
+/// The first operand of what is done with a ray query that is not in scope.
+pub fn unknown_in_query(
     function: &Function,
     scope: &ExpressionList,
     fun: RayQueryFunction,
@@ -149,8 +150,8 @@ fn unknown_in_query(
     }
 }
 
-// The same of what a pipeline of ray tracing is asked for.
-fn unknown_in_pipeline(
+/// The same of what a pipeline of ray tracing is asked for.
+pub fn unknown_in_pipeline(
     function: &Function,
     scope: &ExpressionList,
     fun: RayPipelineFunction,

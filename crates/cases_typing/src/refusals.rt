@@ -204,7 +204,8 @@ fn tell_subject(alloc: Global, told: &mut String, error: &FunctionError) -> Resu
         | FunctionError::InvalidCooperativeStoreTarget(handle)
         | FunctionError::InvalidCooperativeDataPointer(handle)
         | FunctionError::EmitResult(handle)
-        | FunctionError::UnvisitedExpression(handle) => tell_at(alloc, told, *handle),
+        | FunctionError::UnvisitedExpression(handle)
+        | FunctionError::StrictResultMismatch(handle) => tell_at(alloc, told, *handle),
         _ => Ok(()),
     }
 }

@@ -44,7 +44,7 @@ fn told_by_name(alloc: Global, error: &ValidationError) -> Result<String, AllocE
 /// its settings ask for them.
 pub fn functions_told(alloc: Global, document: &mut Document) -> Result<String, AllocError> {
     match examine_document(alloc, document)? {
-        Examined::Accepted(_) => String::from_str(alloc, "accepted"),
+        Examined::Accepted { .. } => String::from_str(alloc, "accepted"),
         Examined::Refused(error) => told_in_words(alloc, &error),
     }
 }
@@ -53,7 +53,7 @@ pub fn functions_told(alloc: Global, document: &mut Document) -> Result<String, 
 /// them.
 pub fn refusals_told(alloc: Global, document: &mut Document) -> Result<String, AllocError> {
     match examine_document(alloc, document)? {
-        Examined::Accepted(_) => String::from_str(alloc, "accepted"),
+        Examined::Accepted { .. } => String::from_str(alloc, "accepted"),
         Examined::Refused(error) => told_by_name(alloc, &error),
     }
 }

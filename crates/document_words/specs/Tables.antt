@@ -456,7 +456,7 @@ entry_stages =
     (codes "Miss", stages_of.Miss) ∷
     []
 
--- ---- sets: each word beside the set of its one bit, as the set's own table of words has it
+-- ---- sets: each word beside the set of its one bit, as the set's own table of words has it (but for the checks)
 
 -- what may be done with a storage buffer or a storage texture
 abbrev pub storage_access : List (List ℕ × StorageAccess)
@@ -470,9 +470,17 @@ barriers = map (λ row. (row.0, record { 0 = row.1 })) bits.barrier
 abbrev pub memory_decorations : List (List ℕ × MemoryDecorations)
 memory_decorations = map (λ row. (row.0, record { 0 = row.1 })) bits.memory_decorations
 
--- the checks
+-- the checks: the six by the names of their bits, and the seventh by a word of the document's own
 abbrev pub flags : List (List ℕ × ValidationFlags)
-flags = map (λ row. (row.0, record { 0 = row.1 })) bits.validation_flags
+flags =
+    (codes "EXPRESSIONS", record { 0 = 1 }) ∷
+    (codes "BLOCKS", record { 0 = 2 }) ∷
+    (codes "CONTROL_FLOW_UNIFORMITY", record { 0 = 4 }) ∷
+    (codes "STRUCT_LAYOUTS", record { 0 = 8 }) ∷
+    (codes "CONSTANTS", record { 0 = 16 }) ∷
+    (codes "BINDINGS", record { 0 = 32 }) ∷
+    (codes "strict-scope", record { 0 = 64 }) ∷
+    []
 
 -- the capabilities
 abbrev pub capabilities : List (List ℕ × Capabilities)

@@ -6,7 +6,7 @@ ghost use Rattle.document_words.specs.Unions.{flag_union, capability_union, stag
 use crate::words::{SetWord, Word};
 use ir_flags::{Capabilities, ShaderStages, SubgroupOperationSet, ValidationFlags};
 
-static FLAGS: [(&str, ValidationFlags); 6] = [
+static FLAGS: [(&str, ValidationFlags); 7] = [
     ("EXPRESSIONS", ValidationFlags::EXPRESSIONS),
     ("BLOCKS", ValidationFlags::BLOCKS),
     (
@@ -16,6 +16,7 @@ static FLAGS: [(&str, ValidationFlags); 6] = [
     ("STRUCT_LAYOUTS", ValidationFlags::STRUCT_LAYOUTS),
     ("CONSTANTS", ValidationFlags::CONSTANTS),
     ("BINDINGS", ValidationFlags::BINDINGS),
+    ("strict-scope", ValidationFlags::STRICT_SCOPE),
 ];
 
 impl Word for ValidationFlags {

@@ -178,4 +178,7 @@ pub enum FunctionError {
     MismatchedPayloadType(Handle<key::IrType>, Handle<key::IrType>),
     /// The payload of a ray is no global variable.
     PayloadPointerNotGlobal,
+    /// What stands for the answer of a `Proceed` or of a ballot is of another kind. It is asked under
+    /// `STRICT_SCOPE` alone, and naga has no such error.
+    StrictResultMismatch(Handle<key::Expression>),
 }

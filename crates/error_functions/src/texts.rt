@@ -86,6 +86,7 @@ impl FunctionError {
             }
             FunctionError::MismatchedPayloadType(..) => "the payloads of rays differ",
             FunctionError::PayloadPointerNotGlobal => "the payload of a ray is no global variable",
+            FunctionError::StrictResultMismatch(_) => "it is no answer of this statement",
         }
     }
 
@@ -114,6 +115,7 @@ impl FunctionError {
             | FunctionError::InvalidCooperativeStoreTarget(handle)
             | FunctionError::InvalidCooperativeDataPointer(handle)
             | FunctionError::EmitResult(handle)
+            | FunctionError::StrictResultMismatch(handle)
             | FunctionError::UnvisitedExpression(handle)
             | FunctionError::InvalidMeshFunctionCall(handle)
             | FunctionError::ConflictingMeshOutputTypes(handle, _)

@@ -24,16 +24,16 @@ told_if bytes d f (Err a) reads h is = tt
 
 -- an accepted module's buffers can be listed
 pub can_list : (d : PlainDocument) (m : PlainModule) (x : Examined) → IsExaminedDocument d m x → CanListIn m x
-can_list d m (examined.Accepted info) h = record {
-  handles = h.examined.ok.handles;
-  laid = (h.examined.ok.steps layout).each;
-  layouts = record { layouts = h.examined.layouts; all = h.examined.laid };
+can_list d m (examined.Accepted strict info) h = record {
+  handles = h.examined.0.ok.handles;
+  laid = (h.examined.0.ok.steps layout).each;
+  layouts = record { layouts = h.examined.0.layouts; all = h.examined.0.laid };
 }
 can_list d m (examined.Refused e) h = tt
 
 pub listed_if : (asked : Bool) (bytes : List ℕ) (d : PlainDocument) (m : PlainModule) (r : Result Explanation AllocError) → Reads bytes d → IsPrepared d.settings.returns d.content m → IfOk r (FollowsOn asked m)
     → IfOk r (Follows asked bytes)
 listed_if asked bytes d m (Ok (NoDocument error)) reads prepared h = tt
-listed_if asked bytes d m (Ok (Accepted lines)) reads prepared h = record { document = d; reads = reads; judged = m; prepared = prepared; are = h }
+listed_if asked bytes d m (Ok (Accepted strict lines)) reads prepared h = record { document = d; reads = reads; judged = m; prepared = prepared; are = h }
 listed_if asked bytes d m (Ok (Refused name error)) reads prepared h = tt
 listed_if asked bytes d m (Err a) reads prepared h = tt

@@ -8,5 +8,5 @@ use Rattle.explain.specs.declared.explanation.Explanation.TheVariants.{NoDocumen
 -- the finding that is explained
 abbrev pub finding_of : Explanation → Finding
 finding_of (NoDocument error) = findings.RefusedDocument
-finding_of (Accepted lines) = findings.Accepted
+finding_of (Accepted strict lines) = findings.Accepted strict
 finding_of (Refused name error) = refused_by error

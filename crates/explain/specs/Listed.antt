@@ -20,7 +20,7 @@ pub record CanList (m : PlainModule) (info : ModuleInfo) : Type 0 where
   pub layouts : AreLayoutsIn m info
 
 abbrev pub CanListIn : PlainModule → Examined → Type 0
-CanListIn m (examined.Accepted info) = CanList m info
+CanListIn m (examined.Accepted strict info) = CanList m info
 CanListIn m (examined.Refused e) = Unit {0}
 
 -- the lines that are told of a module: those of its buffers and their leaves, where they are asked for, and else none
@@ -31,12 +31,12 @@ ListsAsAsked false m lines = lines ≡ []
 -- the lines that an explanation has behind what is found
 abbrev pub lines_of : Explanation → List ℕ
 lines_of (NoDocument error) = []
-lines_of (Accepted lines) = string_bytes lines
+lines_of (Accepted strict lines) = string_bytes lines
 lines_of (Refused name error) = []
 
 abbrev pub FollowsOn : (asked : Bool) → PlainModule → Explanation → Type 0
 FollowsOn asked m (NoDocument error) = Unit {0}
-FollowsOn asked m (Accepted lines) = ListsAsAsked asked m (string_bytes lines)
+FollowsOn asked m (Accepted strict lines) = ListsAsAsked asked m (string_bytes lines)
 FollowsOn asked m (Refused name error) = Unit {0}
 
 -- They are told of the module of the document that the bytes spell, with returns put in where its settings ask for them.
@@ -49,5 +49,5 @@ pub record AreListed (asked : Bool) (bytes lines : List ℕ) : Type 0 where
 
 abbrev pub Follows : (asked : Bool) → (bytes : List ℕ) → Explanation → Type 0
 Follows asked bytes (NoDocument error) = Unit {0}
-Follows asked bytes (Accepted lines) = AreListed asked bytes (string_bytes lines)
+Follows asked bytes (Accepted strict lines) = AreListed asked bytes (string_bytes lines)
 Follows asked bytes (Refused name error) = Unit {0}

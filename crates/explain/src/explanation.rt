@@ -25,8 +25,13 @@ use std::fmt::{self, Display};
 pub enum Explanation {
     /// The bytes spell no document. The error is not of memory.
     NoDocument(DocumentError),
-    /// No step fails: the lines of the buffers and their leaves, where they were asked for.
-    Accepted(String),
+    /// No step fails.
+    Accepted {
+        /// Scope was checked strictly.
+        strict: bool,
+        /// The lines of the buffers and their leaves, where they were asked for.
+        lines: String,
+    },
     /// A step fails: the name of the first item that fails it, and why it does.
     Refused(Option<String>, ValidationError),
 }
@@ -60,7 +65,10 @@ fn told(
     ensures lines { IfOk result (FollowsOn leaves (module_view «module».now)) }
 {
     match examined {
-        Examined::Accepted(info) => Ok(Explanation::Accepted(lines(alloc, leaves, module, &info)?)),
+        Examined::Accepted { strict, info } => Ok(Explanation::Accepted {
+            strict,
+            lines: lines(alloc, leaves, module, &info)?,
+        }),
         Examined::Refused(error) => {
             let name = refused_name(alloc, module, &error)?;
             Ok(Explanation::Refused(name, error))
@@ -127,7 +135,7 @@ fn write_item<W: fmt::Write>(
         ),
         (Finding::Refused(step, index), None) => write!(f, "refused {step} {index}: "),
         (Finding::RefusedHandles, _) => write!(f, "refused handles: "),
-        (Finding::Accepted | Finding::RefusedDocument, _) => Ok(()),
+        (Finding::Accepted { .. } | Finding::RefusedDocument, _) => Ok(()),
     }
 }
 
@@ -160,7 +168,7 @@ impl Explanation {
     {
         match self {
             Explanation::NoDocument(_) => Finding::RefusedDocument,
-            Explanation::Accepted(_) => Finding::Accepted,
+            Explanation::Accepted { strict, .. } => Finding::Accepted { strict: *strict },
             Explanation::Refused(_, error) => refused_by(error),
         }
     }
@@ -171,7 +179,7 @@ impl Explanation {
         ensures { IfOk result (λ text. string_bytes text ≡ text_of (finding_of self.now) ++ lines_of self.now) }
     {
         let mut text = self.finding().text(alloc)?;
-        if let Explanation::Accepted(lines) = self {
+        if let Explanation::Accepted { lines, .. } = self {
             text.push_str(lines)?;
         }
         Ok(text)
@@ -185,7 +193,8 @@ impl Display for Explanation {
                 write!(f, "no document: ")?;
                 write_error(f, error)
             }
-            Explanation::Accepted(_) => write!(f, "accepted"),
+            Explanation::Accepted { strict: false, .. } => write!(f, "accepted"),
+            Explanation::Accepted { strict: true, .. } => write!(f, "accepted strict"),
             Explanation::Refused(name, error) => {
                 write_item(f, name, error)?;
                 write!(f, "{}: ", Named(error))?;

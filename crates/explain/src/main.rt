@@ -49,7 +49,7 @@ fn tell(rt: &HostRuntime, leaves: bool, explanation: &Explanation) -> ExitCode {
 
 fn status(explanation: &Explanation) -> u8 {
     match explanation {
-        Explanation::Accepted(_) => 0,
+        Explanation::Accepted { .. } => 0,
         Explanation::NoDocument(_) | Explanation::Refused(..) => 1,
     }
 }

@@ -78,6 +78,7 @@ asked_blocks s c callees stages answered held asked met all run = record {
     control = met.control;
     answered = record { once = met.once; asked = met.asked; each = all };
     payloads = met.payloads.payloads;
+    strict = met.strict;
   };
   run = λ stage. (
     (λ h. (((run stage).0 h).known, λ a. ((run stage).0 h).each)),

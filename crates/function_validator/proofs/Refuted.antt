@@ -20,6 +20,7 @@ use Rattle.spec_statements.specs.BlockContext.{BlockContext}
 use Rattle.spec_statements.specs.Functions.{Reading, FunctionSettings, AreFormsBy, BodyOK, FunctionOK, block_context}
 use Rattle.spec_statements.specs.Interfaces.{InterfaceOK}
 use Rattle.statement_validator.proofs.Refuted.{faults_refute_lem as by_statement}
+use Rattle.strict_checks.proofs.Refuted.{strict_faults_refute_lem as by_strict}
 use Rattle.typing_forms.specs.declared.form.Form.{Form}
 use Rattle.typing_conditions.proofs.OrderLaws.{wrong_refutes}
 use Rattle.typing_conditions.specs.Tests.{fault_at}
@@ -57,7 +58,8 @@ body_refuted : (s : FunctionSettings) (c : BlockContext) (e : FunctionError) →
 body_refuted s c e (inl control) ok = by_control c.f.body e control ok.control
 body_refuted s c e (inr (inl scope)) ok = by_scope s.flags c.f e scope ok.scope ok.answered.once ok.answered.asked
 body_refuted s c e (inr (inr (inl rule))) ok = (by_statement c e).body rule ok.statements
-body_refuted s c e (inr (inr (inr payloads))) ok = (by_ray c e).payloads s.held payloads ok.payloads
+body_refuted s c e (inr (inr (inr (inl payloads)))) ok = (by_ray c e).payloads s.held payloads ok.payloads
+body_refuted s c e (inr (inr (inr (inr strict)))) ok = by_strict c.f e strict.1 (ok.strict strict.0)
 
 abbrev pub AnalysisRefutes : Reading → Faults → Type 0
 AnalysisRefutes R F = (flags : ValidationFlags) (e : FunctionError) → F.IsAnalysisFault flags e → R.IsAnalysed flags → ⊥

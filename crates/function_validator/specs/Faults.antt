@@ -9,7 +9,7 @@ use Rattle.function_interface.specs.Arities.{IsArityFault}
 use Rattle.function_validator.specs.Interfaces.{IsInterfaceFault}
 use Rattle.ir_blocks.specs.Places.{Place}
 use Rattle.ir_flags.specs.Sets.{Has}
-use Rattle.ir_flags.specs.declared.settings.TheConstants.ValidationFlags.{EXPRESSIONS, BLOCKS}
+use Rattle.ir_flags.specs.declared.settings.TheConstants.ValidationFlags.{EXPRESSIONS, BLOCKS, STRICT_SCOPE}
 use Rattle.ir_items.specs.Plain.{PlainFunction, PlainModule}
 use Rattle.operation_checks.specs.Payloads.{IsPayloadsFault}
 use Rattle.body_checks.specs.Faults.{IsScopeFault}
@@ -19,6 +19,7 @@ use Rattle.spec_statements.specs.Functions.{Reading, FunctionSettings, AreFormsB
 use Rattle.spec_statements.specs.Interfaces.{InterfaceOK}
 use Rattle.spec_statements.specs.Results.{AnswersBy, StandsForAnswer}
 use Rattle.statement_validator.specs.Faults.{IsBodyFault}
+use Rattle.strict_checks.specs.Faults.{IsStrictFault}
 use Rattle.typing_forms.specs.declared.form.Form.{Form}
 
 -- ---- expressions
@@ -39,9 +40,9 @@ AllAccepted reading s c = Has s.flags.0 EXPRESSIONS.0 → (e : ℕ) → e < leng
 
 -- ---- the body
 
--- how statements leave their blocks, what is in scope, what they answer by, their rules, or the payloads of rays
+-- how statements leave their blocks, what is in scope, what they answer by, their rules, the payloads of rays, or strict scope where it is asked for
 abbrev pub IsFaultOfBody : FunctionSettings → BlockContext → FunctionError → Type 0
-IsFaultOfBody s c e = IsControlFault c.f.body e ⊎ (IsScopeFault s.flags c.f e ⊎ (IsBodyFault c e ⊎ IsPayloadsFault c.m c.f s.held e))
+IsFaultOfBody s c e = IsControlFault c.f.body e ⊎ (IsScopeFault s.flags c.f e ⊎ (IsBodyFault c e ⊎ (IsPayloadsFault c.m c.f s.held e ⊎ (Has s.flags.0 STRICT_SCOPE.0 × IsStrictFault c.f e))))
 
 -- what stands for an answer is answered by no statement
 pub record IsNotAnswered (f : PlainFunction) (e : ℕ) : Type 0 where

@@ -6,7 +6,7 @@ use Rattle.ir_blocks.specs.Control.{ControlOK}
 use Rattle.ir_blocks.specs.Places.{Place, StandsAt}
 use Rattle.ir_blocks.specs.Plain.{PlainStatement}
 use Rattle.ir_flags.specs.Sets.{Has}
-use Rattle.ir_flags.specs.declared.settings.TheConstants.ValidationFlags.{EXPRESSIONS, BLOCKS}
+use Rattle.ir_flags.specs.declared.settings.TheConstants.ValidationFlags.{EXPRESSIONS, BLOCKS, STRICT_SCOPE}
 use Rattle.ir_flags.specs.declared.stages.ShaderStages.{ShaderStages}
 use Rattle.operation_checks.specs.Payloads.{AreOfOneType}
 use Rattle.spec_statements.specs.ExpressionStages.{all_stages}
@@ -19,6 +19,7 @@ use Rattle.spec_statements.specs.Results.{AnswersBy, StandsForAnswer}
 use Rattle.spec_statements.specs.Scope.{ScopeOK}
 use Rattle.spec_statements.specs.Stages.{statement_stages}
 use Rattle.spec_statements.specs.Statements.{StatementOK}
+use Rattle.spec_statements.specs.Strict.{StrictOK}
 
 -- ---- expressions
 
@@ -44,6 +45,7 @@ pub record IsBodyMet (s : FunctionSettings) (c : BlockContext) (answered : List 
   pub by : (e : ℕ) → Contains answered e ↔ ((p : Place) × AnswersBy c.f.body p e)
   pub statements : (p : Place) (u : PlainStatement) → StandsAt c.f.body p u → StatementOK c u
   pub payloads : AreOfOneType c.m c.f s.held held
+  pub strict : Has s.flags.0 STRICT_SCOPE.0 → StrictOK c.f
 
 -- each that stands for an answer is answered by a statement
 abbrev pub AllAnswer : BlockContext → Type 0

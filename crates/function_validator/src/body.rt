@@ -1,25 +1,35 @@
 //! The checks of a function's body.
 
-ghost use Rattle.std.specs.Prelude.{MatchResult};
+ghost use Rattle.std.specs.Prelude.{IfErr, MatchResult, OnOk};
 ghost use Rattle.function_validator.specs.Faults.{IsFaultOfBody};
 ghost use Rattle.function_validator.specs.Judged.{IsBodyMet};
 ghost use Rattle.function_validator.specs.Settings.{settings_view};
 ghost use Rattle.function_interface.specs.Analysis.{IsRefusedFor};
+ghost use Rattle.ir_flags.specs.Sets.{Has};
+ghost use Rattle.ir_flags.specs.declared.settings.TheConstants.ValidationFlags.{STRICT_SCOPE};
+ghost use Rattle.ir_items.specs.View.{function_view};
 ghost use Rattle.ir_walks.specs.Bases.{BasesPrecede};
 ghost use Rattle.spec_handles.specs.Conditions.{AritiesMatch};
+ghost use Rattle.spec_statements.specs.Scope.{ScopeOK};
+ghost use Rattle.spec_statements.specs.Strict.{StrictOK};
 ghost use Rattle.statement_checks.specs.View.{context_view, IsKnown};
+ghost use Rattle.strict_checks.specs.Faults.{IsStrictFault};
 
 use crate::settings::FunctionSettings;
+use bitflags::Flags;
 use body_checks::{ExpressionList, check_control, check_scope};
 use error_functions::FunctionError;
 use ir_arena::handle::Handle;
 use ir_faults::refusal::Refusal;
 use ir_faults::with_span::WithSpan;
+use ir_flags::ValidationFlags;
+use ir_items::Function;
 use ir_types::key;
 use operation_checks::payload_of;
 use statement_checks::BlockContext;
 use statement_validator::validate_statements;
 use std::alloc::Global;
+use strict_checks::check_strict;
 
 /// What is found of a body.
 #[derive(Drop)]
@@ -28,6 +38,22 @@ pub(crate) struct BodyFound {
     pub answered: ExpressionList,
     /// The type of the payloads of all functions so far, if one has any.
     pub held: Option<Handle<key::IrType>>,
+}
+
+// Whether strict scope is as it should be, where it is asked for. It goes over a body whose scope is in order.
+fn check_strictly(
+    alloc: Global,
+    flags: ValidationFlags,
+    function: &Function,
+) -> Result<(), Refusal<FunctionError>>
+    ensures strict { OnOk result (Has flags.0 STRICT_SCOPE.0 → StrictOK (function_view function.now)) }
+    ensures fault { ScopeOK (function_view function.now) → IfErr result (IsRefusedFor (λ e. Has flags.0 STRICT_SCOPE.0 × IsStrictFault (function_view function.now) e)) }
+{
+    if flags.contains(ValidationFlags::STRICT_SCOPE) {
+        check_strict(alloc, function)
+    } else {
+        Ok(())
+    }
 }
 
 /// Whether all that is asked of the body of the context's function is met, but that each expression that stands for an answer is
@@ -52,6 +78,10 @@ pub(crate) fn check_body(
         Ok(answered) => answered,
         Err(refusal) => return Err(refusal),
     };
+    match check_strictly(alloc, settings.flags, context.function) {
+        Ok(()) => {}
+        Err(refusal) => return Err(refusal),
+    }
     match validate_statements(alloc, context) {
         Ok(()) => {}
         Err(refusal) => return Err(refusal),

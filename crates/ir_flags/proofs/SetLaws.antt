@@ -68,7 +68,7 @@ pub all_subgroup_operations : known_bits subgroup_operations ≡ 2 ^ 7 - 1
 unfolding known_from
 all_subgroup_operations = refl
 
-pub all_validation_flags : known_bits validation_flags ≡ 2 ^ 6 - 1
+pub all_validation_flags : known_bits validation_flags ≡ 2 ^ 7 - 1
 unfolding known_from
 all_validation_flags = refl
 

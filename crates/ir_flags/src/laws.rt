@@ -21,7 +21,7 @@ pub fn all_words()
     ensures memory_decorations { known_bits memory_decorations ≡ 2 ^ 2 - 1 }
     ensures shader_stages { known_bits shader_stages ≡ 2 ^ 9 - 1 }
     ensures subgroup_operations { known_bits subgroup_operations ≡ 2 ^ 7 - 1 }
-    ensures validation_flags { known_bits validation_flags ≡ 2 ^ 6 - 1 }
+    ensures validation_flags { known_bits validation_flags ≡ 2 ^ 7 - 1 }
     ensures capabilities { known_bits capabilities ≡ 2 ^ 38 - 1 }
 {}
 

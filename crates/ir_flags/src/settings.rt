@@ -28,6 +28,8 @@ bitflag_items! {
         const CONSTANTS = 16;
         /// Bindings and varyings.
         const BINDINGS = 32;
+        /// Every operand is in scope where it is used (a check of this library's own).
+        const STRICT_SCOPE = 64;
     }
 }
 
@@ -183,11 +185,10 @@ impl Flags for Capabilities {
 }
 
 impl Default for ValidationFlags {
-    /// All six checks.
-    #[tactic(auto, using(crate::proofs::SetLaws::all_validation_flags))]
+    /// naga's six checks: all but [`ValidationFlags::STRICT_SCOPE`].
     fn default() -> Self
         ensures { result.0 ≡ 2 ^ 6 - 1 }
     {
-        <ValidationFlags as Flags>::all()
+        ValidationFlags(63)
     }
 }

@@ -1,5 +1,8 @@
 -- The steps of the judgement over a module, and what is found by them.
-use Rattle.std.specs.Prelude.{◌≡◌, Bool, true, false, None}
+use Rattle.std.specs.Prelude.{◌≡◌, ◌↔◌, Bool, true, false, IsTrue, None}
+use Rattle.ir_flags.specs.Sets.{Has}
+use Rattle.ir_flags.specs.declared.settings.ValidationFlags.{ValidationFlags}
+use Rattle.ir_flags.specs.declared.settings.TheConstants.ValidationFlags.{BLOCKS, STRICT_SCOPE}
 use Rattle.ir_flags.specs.Settings.{PlainSettings}
 use Rattle.ir_items.specs.Plain.{PlainModule}
 use Rattle.ir_items.specs.Returned.{IsReturned}
@@ -39,11 +42,16 @@ abbrev pub IsPrepared : (returns : Bool) → PlainModule → PlainModule → Typ
 IsPrepared true m n = IsReturned m n
 IsPrepared false m n = n ≡ m
 
+-- Scope is checked strictly where the flags ask for it and for the checks of bodies, under which it acts.
+abbrev pub IsScopeStrict : ValidationFlags → Type 0
+IsScopeStrict flags = Has flags.0 BLOCKS.0 × Has flags.0 STRICT_SCOPE.0
+
 -- What is found of the module that is judged, under the settings: the first step that fails, and the least index that
 -- fails it. Global variables come after all steps up to overrides, then functions, and then
 -- entry points.
 abbrev pub IsFinding : PlainSettings → PlainModule → Finding → Type 0
-IsFinding s m Accepted = ModuleOK (module_settings s) m × GlobalsOK s.flags s.capabilities m × FunctionsOK (function_settings s) m × EntriesOK (function_settings s) m
+IsFinding s m (Accepted strict) =
+    ModuleOK (module_settings s) m × GlobalsOK s.flags s.capabilities m × FunctionsOK (function_settings s) m × EntriesOK (function_settings s) m × (IsTrue strict ↔ IsScopeStrict s.flags)
 IsFinding s m RefusedDocument = ⊥
 IsFinding s m RefusedHandles = ¬ HandlesOK m
 IsFinding s m (Refused Layout i) = IsFirstFailing (module_settings s) m step.layout i

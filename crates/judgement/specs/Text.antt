@@ -1,5 +1,5 @@
 -- The text of a verdict.
-use Rattle.std.specs.Prelude.{ℕ, List, ◌++◌, codes, decimal}
+use Rattle.std.specs.Prelude.{ℕ, Bool, true, false, List, ◌++◌, codes, decimal}
 use Rattle.judgement.specs.declared.finding.Step.{Step}
 use Rattle.judgement.specs.declared.finding.Step.TheVariants.{Layout, «Type», Typing, Expression, Constant, Override, Global, Function, Entry}
 use Rattle.judgement.specs.declared.finding.Finding.{Finding}
@@ -17,7 +17,8 @@ step_word Function = codes "function"
 step_word Entry = codes "entry"
 
 abbrev pub text_of : Finding → List ℕ
-text_of Accepted = codes "accepted\n"
+text_of (Accepted false) = codes "accepted\n"
+text_of (Accepted true) = codes "accepted strict\n"
 text_of RefusedDocument = codes "refused document\n"
 text_of RefusedHandles = codes "refused handles\n"
 text_of (Refused step index) = codes "refused " ++ step_word step ++ codes " " ++ decimal index ++ codes "\n"

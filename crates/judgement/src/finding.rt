@@ -53,7 +53,10 @@ impl Display for Step {
 #[derive(Clone, Copy, Debug, PartialEq, Eq)]
 pub enum Finding {
     /// No step fails.
-    Accepted,
+    Accepted {
+        /// Scope was checked strictly: `STRICT_SCOPE` is among the flags, and so is `BLOCKS`, which it acts under.
+        strict: bool,
+    },
     /// The bytes spell no document.
     RefusedDocument,
     /// Some handle names nothing, or something that does not come before what depends on it.
@@ -70,7 +73,8 @@ impl Finding {
         ensures { IfOk result (λ text. string_bytes text ≡ text_of self) }
     {
         match self {
-            Finding::Accepted => String::from_str(alloc, "accepted\n"),
+            Finding::Accepted { strict: false } => String::from_str(alloc, "accepted\n"),
+            Finding::Accepted { strict: true } => String::from_str(alloc, "accepted strict\n"),
             Finding::RefusedDocument => String::from_str(alloc, "refused document\n"),
             Finding::RefusedHandles => String::from_str(alloc, "refused handles\n"),
             Finding::Refused(step, index) => format!(in alloc; "refused {step} {index}\n"),

@@ -18,8 +18,8 @@ use Rattle.return_laws.proofs.Reports.{report_moves}
 
 -- whether the settings ask for returns is seen only in which module is judged
 finding_moves : (m n : PlainModule) → LikeModule m n → (s : PlainSettings) (returns : Bool) (f : Finding) → IsFinding s m f → IsFinding (record s { returns = returns }) n f
-finding_moves m n l s returns Accepted h =
-    (module_move m n l (module_settings s) h.0, globals_move m n l s.flags s.capabilities h.1, functions_move l (function_settings s) h.2, entries_move l (function_settings s) h.3)
+finding_moves m n l s returns (Accepted strict) h =
+    (module_move m n l (module_settings s) h.0, globals_move m n l s.flags s.capabilities h.1, functions_move l (function_settings s) h.2, entries_move l (function_settings s) h.3, h.4)
 finding_moves m n l s returns RefusedDocument h = h
 finding_moves m n l s returns RefusedHandles h = λ ok. h (handles_move n m (module_back l) ok)
 finding_moves m n l s returns (Refused Layout i) h = first_move m n l (module_settings s) step.layout i h

@@ -22,6 +22,7 @@ use Rattle.spec_entries.specs.Modules.{reading_with}
 use Rattle.return_laws.specs.Alike.{Carried, kept, extra}
 use Rattle.return_laws.specs.Like.{LikeFunction, LikeModule}
 use Rattle.return_laws.proofs.Analysis.{analysed_moves}
+use Rattle.return_laws.proofs.Strict.{strict_moves}
 use Rattle.return_laws.proofs.Bodies.{is_same, carry, scope_moves, control_moves, answered_moves, payload_moves}
 use Rattle.return_laws.proofs.Heads.{by_head, stages_head, ok_by_head}
 use Rattle.return_laws.proofs.Likeness.{function_back, module_back, over_like}
@@ -91,6 +92,7 @@ module _ {m n : PlainModule} {f g : PlainFunction} (l : LikeModule m n) (k : Lik
       as_before = λ type before x. h.payloads.as_before type before (payload_like (module_back module_like) (function_back function_like) type x);
       one = λ type second x y. h.payloads.one type second (payload_like (module_back module_like) (function_back function_like) type x) (payload_like (module_back module_like) (function_back function_like) second y);
     };
+    strict = λ asked. strict_moves f g.body k.body (h.strict asked);
   }
 
   pub function_moves : (stages : List ShaderStages) → FunctionOK (reading_with stages m f) s m f → FunctionOK (reading_with stages n g) s n g

@@ -18,6 +18,7 @@ use Rattle.spec_statements.specs.Results.{answer_of}
 use Rattle.spec_statements.specs.Shapes.{shaped_of}
 use Rattle.spec_statements.specs.Stages.{statement_stages}
 use Rattle.spec_statements.specs.Statements.{StatementOK}
+use Rattle.spec_statements.specs.Strict.{statement_needed}
 use Rattle.spec_statements.specs.Switches.{case_values, falls_at_end, CasesOK}
 use Rattle.spec_statements.specs.Tables.{statement_checked, introduced}
 use Rattle.return_laws.proofs.Shared.{some_and}
@@ -53,6 +54,10 @@ callee_head s = refl
 pub checked_head : (s : PlainStatement) → statement_checked (head_of s) ≡ statement_checked s
 checked_head (block b) = refl
 checked_head s = refl
+
+pub needed_head : (s : PlainStatement) → statement_needed (head_of s) ≡ statement_needed s
+needed_head (block b) = refl
+needed_head s = refl
 
 pub introduced_head : (s : PlainStatement) → introduced (head_of s) ≡ introduced s
 introduced_head (block b) = refl

@@ -2,6 +2,7 @@ pub mod Shared
 pub mod Completed
 pub mod Heads
 pub mod Bodies
+pub mod Strict
 pub mod Likeness
 pub mod Calls
 pub mod Reports

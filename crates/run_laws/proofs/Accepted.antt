@@ -5,6 +5,7 @@ use Rattle.std.specs.List.{AllByRecursion, range_with_len}
 use Rattle.std.proofs.lemmas.List.Elements.{Contains-append_left, Contains-append_right, Contains-append_cases, Contains-push}
 use Rattle.std.proofs.lemmas.Option.{slice_get_within, slice_get_cases, slice_get-get_or, unwrap_or-slice_get}
 use Rattle.ir_flags.specs.Sets.{Has}
+use Rattle.ir_flags.specs.declared.settings.TheConstants.ValidationFlags.{STRICT_SCOPE}
 use Rattle.ir_flags.specs.declared.stages.ShaderStages.{ShaderStages}
 use Rattle.ir_blocks.specs.Control.{ControlOK}
 use Rattle.ir_arena.specs.Handles.{handles_between}
@@ -33,12 +34,16 @@ use Rattle.spec_functions.specs.Functions.{reading_over, settings_with}
 use Rattle.spec_varyings.specs.Contexts.{stage_set}
 use Rattle.spec_entries.specs.Modules.{reading_with, entry_settings}
 use Rattle.spec_runs.specs.Events.{Event, entered, executed, introduced_expression, named, sampled, used, passed, returned, fell_off, escaped}
-use Rattle.spec_runs.specs.Good.{ArgumentsOK, ValueOK, DepthOK, TypesOK, UsesOK, LiveOK, StagesOK, NoEscape}
+use Rattle.spec_runs.specs.Good.{ArgumentsOK, ValueOK, DepthOK, TypesOK, UsesOK, LiveOK, SurelyLiveOK, StagesOK, NoEscape}
 use Rattle.spec_runs.specs.Invariants.{IsInvariant}
-use Rattle.spec_runs.specs.Scoping.{UsedOperands, checked_operands, Scoping, with_skipped, IsLawful, IsScoped}
-use Rattle.run_laws.specs.Accepted.{IsAcceptedEntry, RunsNest, RunsPassTypes, RunsUseLive, RunsKeepStage, RunsNeverEscape}
+use Rattle.spec_runs.specs.Scoping.{UsedOperands, checked_operands, all_operands, Scoping, with_skipped, without_skipped, IsLawful, IsScoped}
+use Rattle.spec_runs.specs.Laws.{AnswersNameNothing}
+use Rattle.spec_statements.specs.Strict.{StrictOK}
+use Rattle.run_laws.proofs.AnswerKinds.{answers_name_nothing}
+use Rattle.run_laws.specs.Accepted.{IsAcceptedEntry, RunsNest, RunsPassTypes, RunsUseLive, StrictRunsUseLive, RunsKeepStage, RunsNeverEscape}
 use Rattle.spec_runs.specs.Machine.{Frame, stands_for, pair_of, mentioned_at, callee_frame, entry_frame, trace}
 use Rattle.spec_runs.proofs.Invariance.{invariants_hold}
+use Rattle.spec_runs.proofs.Strict.{strict_is_lawful, strict_suffices}
 use Rattle.spec_runs.proofs.Scopes.{skipped_is_lawful, scope_suffices, known, introduced_known}
 
 some_is : {A : Type 0} {x y : A} → Some x ≡ Some y → x ≡ y
@@ -109,9 +114,15 @@ module _ (m : PlainModule) (f : PlainFunction) (handles : HandlesInRange m f) (p
 
 -- ---- what the rules of functions give at the places of a body
 
+-- The strict scope is as it should be, and what stands for answers has no operands.
+pub record IsStrict (f : PlainFunction) : Type 0 where
+  pub scope : StrictOK f
+  pub answers : AnswersNameNothing f
+
 -- In a function at index k, where a stage may run what these may run.
-pub record Fits (m : PlainModule) (subgroups : ShaderStages) (stages : List ShaderStages) (stage : ℕ) (k : ℕ) (f : PlainFunction) : Type 0 where
+pub record Fits (strictly : Type 0) (m : PlainModule) (subgroups : ShaderStages) (stages : List ShaderStages) (stage : ℕ) (k : ℕ) (f : PlainFunction) : Type 0 where
   pub scope : ScopeOK f
+  pub strict : strictly → IsStrict f
   pub control : ControlOK f.body
   pub below : (p : Place) (function : ℕ) (arguments : List ℕ) (result : Option ℕ) → StandsAt f.body p (call function arguments result) → function < k
   pub passes : (p : Place) (function : ℕ) (arguments : List ℕ) (result : Option ℕ) (callee : PlainFunction) → StandsAt f.body p (call function arguments result) → slice_get m.functions function ≡ Some callee → ArgumentsOK m f callee arguments
@@ -151,9 +162,10 @@ module _ (s : FunctionSettings) (m : PlainModule) (f : PlainFunction) (forms : L
       → ((p : Place) (function : ℕ) (arguments : List ℕ) (result : Option ℕ) → StandsAt f.body p (call function arguments result) → function < k)
       → ((p : Place) (u : PlainStatement) → StandsAt f.body p u → Has (statement_stages subgroups stages u).0 stage)
       → ((e : ℕ) (own : ShaderStages) → e < length f.expressions → IsRunBy stages f.expressions e own → Has own.0 stage)
-      → Fits m subgroups stages stage k f
+      → Fits (Has s.flags.0 STRICT_SCOPE.0) m subgroups stages stage k f
   fits_in subgroups stages stage k below statements expressions = record {
     scope = body.scope;
+    strict = λ asked. record { scope = body.strict asked; answers = answers_name_nothing (block_context s m f forms) body.statements (body.strict asked) };
     control = body.control;
     below = below;
     passes = passes_types;
@@ -177,7 +189,7 @@ module _ (s : FunctionSettings) (m : PlainModule) (number : ℕ) (a : IsAccepted
   stage = (stage_set a.entry.entry.stage).0
 
   abbrev pub FitsAt : ℕ → PlainFunction → Type 0
-  FitsAt = Fits m s.subgroup_stages stages stage
+  FitsAt = Fits (Has s.flags.0 STRICT_SCOPE.0) m s.subgroup_stages stages stage
 
   function_fits : (index : ℕ) (f : PlainFunction) → slice_get m.functions index ≡ Some f → AllowsStage (reading_with stages m f) s stages f stage → FitsAt index f
   function_fits index f at allows =
@@ -367,6 +379,24 @@ runs_pass_types s m number a u answers n = all_weaken _ _ (each_typed s m number
 pub runs_use_live : RunsUseLive
 runs_use_live s m number a answers n =
     all_weaken _ _ each_live _ (uses_hold s m number a checked_operands with_skipped (λ f index fits. scope_suffices f fits.scope) skipped_is_lawful answers n)
+
+each_surely_live : (x : Event) → UsesOK without_skipped x → SurelyLiveOK x
+each_surely_live (entered depth) h = tt
+each_surely_live (executed f p) h = tt
+each_surely_live (introduced_expression f e) h = tt
+each_surely_live (named g) h = tt
+each_surely_live (sampled image sampler) h = tt
+each_surely_live (used f live skipped o) h = ⊎_elim (λ pre. inl pre) (λ k. inr (⊎_elim (λ l. l) (λ n. absurd (cc (n.0))) k)) h
+each_surely_live (passed caller callee arguments) h = tt
+each_surely_live (returned f value) h = tt
+each_surely_live (fell_off f last) h = tt
+each_surely_live escaped h = tt
+
+pub strict_runs_use_live : StrictRunsUseLive
+strict_runs_use_live s m number a strict = (
+  λ answers n. all_weaken _ _ each_surely_live _ (uses_hold s m number a all_operands without_skipped (λ f index fits. (strict_suffices f (fits.strict strict).scope (fits.strict strict).answers).0) strict_is_lawful answers n),
+  λ answers n. all_weaken _ _ each_surely_live _ (uses_hold s m number a checked_operands without_skipped (λ f index fits. (strict_suffices f (fits.strict strict).scope (fits.strict strict).answers).1) strict_is_lawful answers n),
+)
 
 pub runs_keep_stage : RunsKeepStage
 runs_keep_stage s m number a u answers n = all_weaken _ _ (each_stage s m number a) _ (all_hold s m number a u answers n)

@@ -20,7 +20,7 @@ use Rattle.spec_runs.specs.Scoping.{checked_operands}
 use Rattle.run_laws.specs.Accepted.{IsAcceptedEntry, HaveReturns}
 use Rattle.run_laws.specs.Lines.{NamedIsTold, SampledIsTold}
 use Rattle.run_laws.specs.Sound.{AreChecked, EntryIsSound, AcceptedIsSound, FunctionsBoundDepth}
-use Rattle.run_laws.proofs.Accepted.{all_weaken, runs_nest, runs_pass_types, runs_use_live, runs_keep_stage, runs_never_escape}
+use Rattle.run_laws.proofs.Accepted.{all_weaken, runs_nest, runs_pass_types, runs_use_live, strict_runs_use_live, runs_keep_stage, runs_never_escape}
 use Rattle.run_laws.proofs.Chains.{runs_name_reached, runs_sample_pairs}
 use Rattle.run_laws.proofs.Falls.{runs_fall_by_breaks}
 use Rattle.run_laws.proofs.Lines.{global_told, pair_told, entries_are_told, buffers_are_told}
@@ -79,14 +79,14 @@ module _ (m : PlainModule) (number : ℕ) (e : PlainEntry) (lines : List ℕ) (r
 
 -- ---- accepted entry points and modules
 
-pub accepted_entry : (s : PlainSettings) (m : PlainModule) → IsFinding s m Accepted → AreChecked s → (number : ℕ) (e : PlainEntry) → slice_get m.entries number ≡ Some e → IsAcceptedEntry (function_settings s) m number
-accepted_entry s m found checked number e at =
+pub accepted_entry : (s : PlainSettings) (m : PlainModule) (strict : Bool) → IsFinding s m (Accepted strict) → AreChecked s → (number : ℕ) (e : PlainEntry) → slice_get m.entries number ≡ Some e → IsAcceptedEntry (function_settings s) m number
+accepted_entry s m strict found checked number e at =
     record { handles = found.0.handles; functions = found.2; entry = found.3 number (slice_get_within m.entries number e at); blocks = checked.blocks; expressions = checked.expressions }
 
-entry_is_sound : (returns : Bool) (s : PlainSettings) (d m : PlainModule) → IsPrepared returns d m → IsFinding s m Accepted → AreChecked s → (report : List ℕ) → IsReport m report → (number : ℕ) (e : PlainEntry) → slice_get m.entries number ≡ Some e → EntryIsSound returns s m report number e
-entry_is_sound returns s d m prepared found checked report is number e at =
+entry_is_sound : (returns : Bool) (s : PlainSettings) (d m : PlainModule) (strict : Bool) → IsPrepared returns d m → IsFinding s m (Accepted strict) → AreChecked s → (report : List ℕ) → IsReport m report → (number : ℕ) (e : PlainEntry) → slice_get m.entries number ≡ Some e → EntryIsSound returns s m report number e
+entry_is_sound returns s d m strict prepared found checked report is number e at =
     let f = function_settings s in
-    let a : IsAcceptedEntry f m number = accepted_entry s m found checked number e at in
+    let a : IsAcceptedEntry f m number = accepted_entry s m strict found checked number e at in
     let same : a.entry.entry ≡ e = some_is (sym a.entry.at ∙ at) in
     subst (EntryIsSound returns s m report number) same
     (let own = a.entry.entry in
@@ -95,6 +95,8 @@ entry_is_sound returns s d m prepared found checked report is number e at =
       depth = runs_nest f m number a checked_operands;
       types = runs_pass_types f m number a checked_operands;
       live = runs_use_live f m number a;
+      all_live = λ asked. (strict_runs_use_live f m number a asked.1).0;
+      surely_live = λ asked. (strict_runs_use_live f m number a asked.1).1;
       told = t;
       named = λ answers n. all_weaken _ _ (each_named m number own t.lines t.are) _ (runs_name_reached f m number a checked_operands answers n);
       sampled = λ answers n. all_weaken _ _ (each_sampled m number own t.lines t.are) _ (runs_sample_pairs f m number a checked_operands answers n);
@@ -104,14 +106,14 @@ entry_is_sound returns s d m prepared found checked report is number e at =
     })
 
 pub accepted_is_sound : AcceptedIsSound
-accepted_is_sound returns s d m prepared found checked report is = record {
+accepted_is_sound returns s d m strict prepared found checked report is = record {
   buffers = λ number v at buffer. record { told = buffers_are_told m report is number v at buffer; leaves = (buffers_are_sound (module_settings s) m checked.layouts found.0 found.1 number v at buffer).leaves };
-  entries = λ number e at. entry_is_sound returns s d m prepared found checked report is number e at;
+  entries = λ number e at. entry_is_sound returns s d m strict prepared found checked report is number e at;
 }
 
 pub functions_bound_depth : FunctionsBoundDepth
-functions_bound_depth m s found checked number e at =
+functions_bound_depth m s strict found checked number e at =
     let f = function_settings s in
-    let a : IsAcceptedEntry f m number = accepted_entry s m found checked number e at in
+    let a : IsAcceptedEntry f m number = accepted_entry s m strict found checked number e at in
     let same : a.entry.entry ≡ e = some_is (sym a.entry.at ∙ at) in
     subst (λ x. OnEveryRun m x (DepthOK (length m.functions))) same (runs_nest f m number a checked_operands)

@@ -1,7 +1,7 @@
 -- What is known of the runs of an entry point that is accepted.
 use Rattle.std.specs.Prelude.{◌≡◌, ℕ, length, Some, slice_get}
 use Rattle.ir_flags.specs.Sets.{Has}
-use Rattle.ir_flags.specs.declared.settings.TheConstants.ValidationFlags.{BLOCKS, EXPRESSIONS}
+use Rattle.ir_flags.specs.declared.settings.TheConstants.ValidationFlags.{BLOCKS, EXPRESSIONS, STRICT_SCOPE}
 use Rattle.ir_blocks.specs.Plain.{PlainBlock}
 use Rattle.ir_blocks.specs.Tails.{IsCompleted}
 use Rattle.ir_items.specs.Plain.{PlainFunction, PlainEntry, PlainModule}
@@ -10,9 +10,9 @@ use Rattle.spec_functions.specs.Functions.{FunctionsOK}
 use Rattle.spec_handles.specs.InOrder.{HandlesOK}
 use Rattle.spec_statements.specs.Functions.{FunctionSettings}
 use Rattle.spec_varyings.specs.Contexts.{stage_set}
-use Rattle.spec_runs.specs.Good.{DepthOK, TypesOK, LiveOK, NamedOK, SampledOK, StagesOK, FallsOK, NoEscape}
+use Rattle.spec_runs.specs.Good.{DepthOK, TypesOK, LiveOK, SurelyLiveOK, NamedOK, SampledOK, StagesOK, FallsOK, NoEscape}
 use Rattle.spec_runs.specs.Laws.{OnEveryRun, OnEveryRunOf}
-use Rattle.spec_runs.specs.Scoping.{UsedOperands}
+use Rattle.spec_runs.specs.Scoping.{UsedOperands, all_operands}
 
 -- The entry point with a number is accepted, with the functions of its module, where bodies and expressions are checked.
 pub record IsAcceptedEntry (s : FunctionSettings) (m : PlainModule) (number : ℕ) : Type 0 where
@@ -33,6 +33,13 @@ RunsPassTypes = (s : FunctionSettings) (m : PlainModule) (number : ℕ) (a : IsA
 -- what has to be in scope is live where it is used, apart from what a continue skipped
 abbrev pub RunsUseLive : Type 0
 RunsUseLive = (s : FunctionSettings) (m : PlainModule) (number : ℕ) (a : IsAcceptedEntry s m number) → OnEveryRun m a.entry.entry LiveOK
+
+-- where strict scope is asked for, every operand of what is executed, of loops' conditions and of what is introduced is live where it is
+-- used, and so are those that have to be in scope without that check, whatever a continue skips
+abbrev pub StrictRunsUseLive : Type 0
+StrictRunsUseLive =
+    (s : FunctionSettings) (m : PlainModule) (number : ℕ) (a : IsAcceptedEntry s m number) → Has s.flags.0 STRICT_SCOPE.0
+    → OnEveryRunOf all_operands m a.entry.entry SurelyLiveOK × OnEveryRun m a.entry.entry SurelyLiveOK
 
 -- the global variables that are named are those that something reached from the entry point names
 abbrev pub RunsNameReached : Type 0

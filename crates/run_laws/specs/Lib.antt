@@ -1,3 +1,4 @@
 pub mod Accepted
 pub mod Lines
+pub mod Local
 pub mod Sound

@@ -6,7 +6,7 @@ use Rattle.ir_flags.specs.declared.settings.TheConstants.ValidationFlags.{BLOCKS
 use Rattle.ir_flags.specs.declared.stages.ShaderStages.{ShaderStages}
 use Rattle.ir_items.specs.GlobalPlain.{PlainGlobal}
 use Rattle.ir_items.specs.Plain.{PlainEntry, PlainModule}
-use Rattle.judgement.specs.Steps.{IsPrepared, IsFinding, function_settings}
+use Rattle.judgement.specs.Steps.{IsPrepared, IsFinding, IsScopeStrict, function_settings}
 use Rattle.judgement.specs.declared.finding.Finding.TheVariants.{Accepted}
 use Rattle.spec_buffers.specs.Laws.{buffer_type}
 use Rattle.spec_buffers.specs.Sound.{StrideOK, LeavesOK}
@@ -15,8 +15,9 @@ use Rattle.spec_report.specs.Lines.{is_buffer}
 use Rattle.spec_report.specs.Reports.{IsReport}
 use Rattle.spec_varyings.specs.Contexts.{stage_set}
 use Rattle.typing_layout.specs.Parts.{Everywhere}
-use Rattle.spec_runs.specs.Good.{DepthOK, TypesOK, LiveOK, StagesOK, FallsOK, NoEscape}
-use Rattle.spec_runs.specs.Laws.{OnEveryRun}
+use Rattle.spec_runs.specs.Good.{DepthOK, TypesOK, LiveOK, SurelyLiveOK, StagesOK, FallsOK, NoEscape}
+use Rattle.spec_runs.specs.Laws.{OnEveryRun, OnEveryRunOf}
+use Rattle.spec_runs.specs.Scoping.{all_operands}
 use Rattle.run_laws.specs.Lines.{EntryIsTold, BufferIsTold, NamedIsTold, SampledIsTold}
 
 -- The stages that may run the functions of the module, each with its callees; and with these nothing is executed or introduced
@@ -34,6 +35,10 @@ pub record EntryIsSound (returns : Bool) (s : PlainSettings) (m : PlainModule) (
   pub types : OnEveryRun m e (TypesOK m)
   -- uses only operands that are live, apart from those that a continue skipped,
   pub live : OnEveryRun m e LiveOK
+  -- and where scope is checked strictly, uses only operands that are live, those of expressions that it introduces among them, whatever a
+  -- continue skipped,
+  pub all_live : IsScopeStrict s.flags → OnEveryRunOf all_operands m e SurelyLiveOK
+  pub surely_live : IsScopeStrict s.flags → OnEveryRun m e SurelyLiveOK
   -- names and samples only what the entry point's lines in the report tell,
   pub told : EntryIsTold m report number e
   pub named : OnEveryRun m e (NamedIsTold told.lines)
@@ -65,12 +70,12 @@ pub record AreChecked (s : PlainSettings) : Type 0 where
 -- A module that is judged, d with returns put in first where that is asked, is sound where it is accepted under these flags.
 abbrev pub AcceptedIsSound : Type 0
 AcceptedIsSound =
-    (returns : Bool) (s : PlainSettings) (d m : PlainModule) → IsPrepared returns d m → IsFinding s m Accepted → AreChecked s
+    (returns : Bool) (s : PlainSettings) (d m : PlainModule) (strict : Bool) → IsPrepared returns d m → IsFinding s m (Accepted strict) → AreChecked s
     → (report : List ℕ) → IsReport m report → ModuleIsSound returns s m report
 
 -- If the module is accepted under these flags, no run of an entry point of it nests calls deeper than this.
 abbrev pub BoundsDepth : PlainModule → (most : ℕ) → Type 0
-BoundsDepth m most = (s : PlainSettings) → IsFinding s m Accepted → AreChecked s → (number : ℕ) (e : PlainEntry) → slice_get m.entries number ≡ Some e → OnEveryRun m e (DepthOK most)
+BoundsDepth m most = (s : PlainSettings) (strict : Bool) → IsFinding s m (Accepted strict) → AreChecked s → (number : ℕ) (e : PlainEntry) → slice_get m.entries number ≡ Some e → OnEveryRun m e (DepthOK most)
 
 -- the number of its functions is such a bound
 abbrev pub FunctionsBoundDepth : Type 0

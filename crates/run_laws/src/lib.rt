@@ -3,8 +3,9 @@
 //! The functions do nothing: their contracts are the laws.
 #![tactic(auto)]
 
-ghost use Rattle.run_laws.specs.Accepted.{RunsNest, RunsPassTypes, RunsUseLive, RunsNameReached, RunsSamplePairs, RunsKeepStage, RunsFallByBreaks, RunsNeverEscape};
+ghost use Rattle.run_laws.specs.Accepted.{RunsNest, RunsPassTypes, RunsUseLive, StrictRunsUseLive, RunsNameReached, RunsSamplePairs, RunsKeepStage, RunsFallByBreaks, RunsNeverEscape};
 ghost use Rattle.run_laws.specs.Lines.{LinesStand, EntriesAreTold, BuffersAreTold};
+ghost use Rattle.run_laws.specs.Local.{ReportsAreLocal};
 ghost use Rattle.run_laws.specs.Sound.{AcceptedIsSound, FunctionsBoundDepth};
 
 /// Calls are nested no deeper than there are functions.
@@ -20,6 +21,11 @@ pub fn runs_pass_types()
 /// What has to be in scope is live where it is used, or always in scope, or skipped by a continue.
 pub fn runs_use_live()
     ensures { RunsUseLive }
+{}
+
+/// Where strict scope is asked for, every operand is live where it is used, or always in scope, whatever a continue skips.
+pub fn strict_runs_use_live()
+    ensures { StrictRunsUseLive }
 {}
 
 /// What is named is named by something reached from the entry point.
@@ -60,6 +66,12 @@ pub fn entries_are_told()
 /// The line of each buffer stands in the report.
 pub fn buffers_are_told()
     ensures { BuffersAreTold }
+{}
+
+/// The report tells of an entry point by the same lines as that on each module which differs only in functions that it doesn't
+/// reach.
+pub fn reports_are_local()
+    ensures { ReportsAreLocal }
 {}
 
 /// What is promised of a module that is accepted, and of its report, where layouts, bodies and expressions are checked.

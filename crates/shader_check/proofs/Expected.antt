@@ -1,5 +1,5 @@
 -- What is expected for the bytes that were taken is expected for all of them.
-use Rattle.std.proofs.Common.{◌≡◌, ◌↔◌, ◌⊎◌, inl, inr, ℕ, List, ◌++◌, length, length-append, append-nil, Option, Some, None, IfSome, IsTrue, codes, nat_eq, string_bytes, refl, sym, ap, subst, ◌∙◌, arith}
+use Rattle.std.proofs.Common.{◌≡◌, ◌↔◌, ◌⊎◌, inl, inr, ℕ, true, false, List, ◌++◌, length, length-append, append-nil, Option, Some, None, IfSome, IsTrue, codes, nat_eq, string_bytes, refl, sym, ap, subst, ◌∙◌, arith}
 use Rattle.std.specs.List.{starts_with}
 use Rattle.std.specs.Io.KnownBytes.{Consumes, IsAtEnd}
 use Rattle.ports.specs.Source.{TakesAll}
@@ -17,13 +17,13 @@ use Rattle.shader_check.specs.declared.told.Judgement.{Judgement}
 
 -- too many bytes spell no document, however they go on
 judged_longer : (f : Finding) (given rest : List ℕ) → length given ≡ MAX_TAKEN → Judged given f → Judged (given ++ rest) f
-judged_longer Accepted given rest long h = absurd (let s = h.reads.short in omega arith)
+judged_longer (Accepted strict) given rest long h = absurd (let s = h.reads.short in omega arith)
 judged_longer RefusedDocument given rest long h = λ d r. let s = r.short in omega (arith, length-append given rest)
 judged_longer RefusedHandles given rest long h = absurd (let s = h.reads.short in omega arith)
 judged_longer (Refused step index) given rest long h = absurd (let s = h.reads.short in omega arith)
 
 told_longer : (f : Finding) (behind given rest : List ℕ) → length given ≡ MAX_TAKEN → IsTold given f behind → IsTold (given ++ rest) f behind
-told_longer Accepted behind given rest long h = absurd (let s = h.reads.short in omega arith)
+told_longer (Accepted strict) behind given rest long h = absurd (let s = h.reads.short in omega arith)
 told_longer RefusedDocument behind given rest long h = h
 told_longer RefusedHandles behind given rest long h = h
 told_longer (Refused step index) behind given rest long h = h
@@ -57,7 +57,8 @@ expected_for old new given j t h = record {
 }
 
 pub verdict_is : (f : Finding) (behind : List ℕ) → (verdict_of f ≡ verdict.Accepted) ↔ IsTrue (starts_with nat_eq (text_of f ++ behind) (codes "accepted"))
-verdict_is Accepted behind = (λ _. refl, λ _. refl)
+verdict_is (Accepted false) behind = (λ _. refl, λ _. refl)
+verdict_is (Accepted true) behind = (λ _. refl, λ _. refl)
 verdict_is RefusedDocument behind = (λ e. cc, λ e. cc)
 verdict_is RefusedHandles behind = (λ e. cc, λ e. cc)
 verdict_is (Refused step index) behind = (λ e. cc, λ e. cc)

@@ -22,7 +22,7 @@ use Rattle.shader_check.specs.declared.told.Judgement.{Judgement}
 
 pub found_in : (d : PlainDocument) (m : PlainModule) (f : Finding) → IsPrepared d.settings.returns d.content m → IsFinding d.settings m f → JudgedDocument d f
 found_in d m RefusedDocument p h = h
-found_in d m Accepted p h = record { judged = m; prepared = p; finding = h }
+found_in d m (Accepted strict) p h = record { judged = m; prepared = p; finding = h }
 found_in d m RefusedHandles p h = record { judged = m; prepared = p; finding = h }
 found_in d m (Refused step index) p h = record { judged = m; prepared = p; finding = h }
 
@@ -38,7 +38,7 @@ judged_document d m x h = found_in d m (finding_in x) h.prepared (found_of d.set
 -- ---- what is told
 
 pub kept_in : (d : PlainDocument) (m : PlainModule) (x : Examined) → IsExaminedDocument d m x → IsKeptIn m x
-kept_in d m (examined.Accepted info) h = reported (function_settings d.settings) m info h.examined
+kept_in d m (examined.Accepted strict info) h = reported (function_settings d.settings) m info h.examined.0
 kept_in d m (examined.Refused e) h = tt
 
 early_told : (d : PlainDocument) (m : PlainModule) (e : ModuleError) (behind : List ℕ) → IsToldIn m (refused_early e) behind → IsToldOf d (refused_early e) behind
@@ -57,7 +57,7 @@ refused_told d m (error.EntryPoint e) behind t = t
 
 -- what is told of its module is told of the document
 told_of : (d : PlainDocument) (m : PlainModule) (x : Examined) (behind : List ℕ) → IsExaminedDocument d m x → IsToldIn m (finding_in x) behind → IsToldOf d (finding_in x) behind
-told_of d m (examined.Accepted info) behind h t = record { judged = m; prepared = h.prepared; is = t }
+told_of d m (examined.Accepted strict info) behind h t = record { judged = m; prepared = h.prepared; is = t }
 told_of d m (examined.Refused e) behind h t = refused_told d m e behind t
 
 pub judgement_of : (d : PlainDocument) (m : PlainModule) (x : Examined) (j : Judgement) → IsExaminedDocument d m x → j.finding ≡ finding_in x → IsToldIn m (finding_in x) (string_bytes j.report) → IsJudgementOf d j
@@ -68,7 +68,7 @@ judgement_of d m x j h is t = record {
 
 pub judged : (bytes : List ℕ) (d : PlainDocument) (f : Finding) → Reads bytes d → JudgedDocument d f → Judged bytes f
 judged bytes d RefusedDocument r h = absurd h
-judged bytes d Accepted r h = record { document = d; reads = r; found = h }
+judged bytes d (Accepted strict) r h = record { document = d; reads = r; found = h }
 judged bytes d RefusedHandles r h = record { document = d; reads = r; found = h }
 judged bytes d (Refused step index) r h = record { document = d; reads = r; found = h }
 
@@ -77,7 +77,7 @@ judged_if bytes d (Ok f) reads h = judged bytes d f reads h
 judged_if bytes d (Err a) reads h = tt
 
 told_on : (bytes : List ℕ) (d : PlainDocument) (f : Finding) (behind : List ℕ) → Reads bytes d → IsToldOf d f behind → IsTold bytes f behind
-told_on bytes d Accepted behind r t = record { document = d; reads = r; reports = t }
+told_on bytes d (Accepted strict) behind r t = record { document = d; reads = r; reports = t }
 told_on bytes d RefusedDocument behind r t = t
 told_on bytes d RefusedHandles behind r t = t
 told_on bytes d (Refused step index) behind r t = t

@@ -46,5 +46,5 @@ refused_is s m (validation.EntryPoint e) x = (x.0, x.1, x.2, x.3.first)
 
 -- what is found of a module with its error is found without it
 pub found_of : (s : PlainSettings) (m : PlainModule) (x : Examined) → IsExamined s m x → IsFinding s m (finding_in x)
-found_of s m (examined.Accepted info) h = (h.ok, h.globals, h.functions.accepted, h.entries.accepted)
+found_of s m (examined.Accepted strict info) h = (h.0.ok, h.0.globals, h.0.functions.accepted, h.0.entries.accepted, h.1)
 found_of s m (examined.Refused e) h = refused_is s m e h

@@ -1,12 +1,12 @@
 -- One text is expected for some bytes.
-use Rattle.std.proofs.Common.{◌≡◌, inl, inr, ℕ, ◌<◌, Bool, true, false, List, ◌++◌, refl, sym, ap, subst, ◌∙◌, arith}
+use Rattle.std.proofs.Common.{◌≡◌, ◌↔◌, IsTrue, inl, inr, ℕ, ◌<◌, Bool, true, false, List, ◌++◌, refl, sym, ap, subst, ◌∙◌, arith}
 use Rattle.std.proofs.lemmas.Bool.{cases_lt}
 use Rattle.ir_flags.specs.Settings.{PlainSettings}
 use Rattle.ir_items.specs.Plain.{PlainModule}
 use Rattle.ir_items.proofs.Returned.{one_returned}
 use Rattle.document_reader.specs.Plain.{PlainDocument}
 use Rattle.document_reader.proofs.Seam.{one_document_lem}
-use Rattle.judgement.specs.Steps.{IsFinding, IsPrepared, module_settings, function_settings}
+use Rattle.judgement.specs.Steps.{IsFinding, IsPrepared, IsScopeStrict, module_settings, function_settings}
 use Rattle.judgement.specs.Text.{text_of}
 use Rattle.judgement.specs.declared.finding.Step.{Step}
 use Rattle.judgement.specs.declared.finding.Step.TheVariants.{Layout, «Type», Typing, Expression, Constant, Override, Global, Function, Entry}
@@ -25,6 +25,13 @@ use Rattle.spec_modules.specs.Steps.{ModuleStep, IsFirstFailing, ModuleOK}
 use Rattle.spec_report.proofs.OneReport.{one_report}
 use Rattle.spec_report.specs.Reports.{IsReport}
 use Rattle.shader_check.specs.Theorem.{Finds, FindsIn, Judged, OneText, IsReportOn, IsTold}
+
+-- two truths that say the same are one
+same_truth : (a b : Bool) (P : Type 0) → IsTrue a ↔ P → IsTrue b ↔ P → a ≡ b
+same_truth true true P x y = refl
+same_truth true false P x y = absurd (let z = y.1 (x.0 refl) in cc)
+same_truth false true P x y = absurd (let z = x.1 (y.0 refl) in cc)
+same_truth false false P x y = refl
 
 -- the first that is not such is one
 first_once : (OK : ℕ → Type 0) (i j : ℕ) → ((k : ℕ) → k < i → OK k) → ¬ OK i → ((k : ℕ) → k < j → OK k) → ¬ OK j → i ≡ j
@@ -112,11 +119,11 @@ module _ (s : PlainSettings) (m : PlainModule) where
   no_entry : (i : ℕ) → EntriesOK (function_settings s) m → entries.IsFirstFailing (function_settings s) m i → ⊥
   no_entry i all first = first.fails (all i first.within)
 
-  not_accepted : (o : Family) (i : ℕ) → IsFinding s m Accepted → IsFailing o i → ⊥
-  not_accepted (up_to_overrides k) i x y = none_fails (module_settings s) m k i y x.0
-  not_accepted at_variables i x y = no_variable i x.1 y.1
-  not_accepted at_functions i x y = no_function i x.2 y.2
-  not_accepted at_entries i x y = no_entry i x.3 y.3
+  not_accepted : (o : Family) (i : ℕ) (strict : Bool) → IsFinding s m (Accepted strict) → IsFailing o i → ⊥
+  not_accepted (up_to_overrides k) i strict x y = none_fails (module_settings s) m k i y x.0
+  not_accepted at_variables i strict x y = no_variable i x.1 y.1
+  not_accepted at_functions i strict x y = no_function i x.2 y.2
+  not_accepted at_entries i strict x y = no_entry i x.3 y.3
 
   variable_once : (i j : ℕ) → globals.IsFirstFailing s.flags s.capabilities m i → globals.IsFirstFailing s.flags s.capabilities m j → i ≡ j
   variable_once i j f g = first_once (GlobalOK s.flags s.capabilities m) i j f.before f.fails g.before g.fails
@@ -156,13 +163,13 @@ module _ (s : PlainSettings) (m : PlainModule) where
   finding_once : (f g : Finding) → IsFinding s m f → IsFinding s m g → f ≡ g
   finding_once RefusedDocument g x y = absurd x
   finding_once f RefusedDocument x y = absurd y
-  finding_once Accepted Accepted x y = refl
-  finding_once Accepted RefusedHandles x y = absurd (y x.0.handles)
-  finding_once Accepted (Refused t j) x y = absurd (not_accepted (step_in t) j x (as_failing t j y))
-  finding_once RefusedHandles Accepted x y = absurd (x y.0.handles)
+  finding_once (Accepted strict) (Accepted other) x y = ap Accepted (same_truth strict other (IsScopeStrict s.flags) x.4 y.4)
+  finding_once (Accepted strict) RefusedHandles x y = absurd (y x.0.handles)
+  finding_once (Accepted strict) (Refused t j) x y = absurd (not_accepted (step_in t) j strict x (as_failing t j y))
+  finding_once RefusedHandles (Accepted strict) x y = absurd (x y.0.handles)
   finding_once RefusedHandles RefusedHandles x y = refl
   finding_once RefusedHandles (Refused t j) x y = absurd (x (in_order (step_in t) j (as_failing t j y)))
-  finding_once (Refused t i) Accepted x y = absurd (not_accepted (step_in t) i y (as_failing t i x))
+  finding_once (Refused t i) (Accepted strict) x y = absurd (not_accepted (step_in t) i strict y (as_failing t i x))
   finding_once (Refused t i) RefusedHandles x y = absurd (y (in_order (step_in t) i (as_failing t i x)))
   finding_once (Refused t i) (Refused u j) x y = refused_once t u i j x y
 
@@ -183,19 +190,19 @@ finds_once bytes f g x y =
 
 judged_once : (bytes : List ℕ) (f g : Finding) → Judged bytes f → Judged bytes g → f ≡ g
 judged_once bytes RefusedDocument RefusedDocument x y = refl
-judged_once bytes RefusedDocument Accepted x y = absurd (x y.document y.reads)
+judged_once bytes RefusedDocument (Accepted strict) x y = absurd (x y.document y.reads)
 judged_once bytes RefusedDocument RefusedHandles x y = absurd (x y.document y.reads)
 judged_once bytes RefusedDocument (Refused t j) x y = absurd (x y.document y.reads)
-judged_once bytes Accepted RefusedDocument x y = absurd (y x.document x.reads)
-judged_once bytes Accepted Accepted x y = refl
-judged_once bytes Accepted RefusedHandles x y = finds_once bytes Accepted RefusedHandles x y
-judged_once bytes Accepted (Refused t j) x y = finds_once bytes Accepted (Refused t j) x y
+judged_once bytes (Accepted strict) RefusedDocument x y = absurd (y x.document x.reads)
+judged_once bytes (Accepted strict) (Accepted other) x y = finds_once bytes (Accepted strict) (Accepted other) x y
+judged_once bytes (Accepted strict) RefusedHandles x y = finds_once bytes (Accepted strict) RefusedHandles x y
+judged_once bytes (Accepted strict) (Refused t j) x y = finds_once bytes (Accepted strict) (Refused t j) x y
 judged_once bytes RefusedHandles RefusedDocument x y = absurd (y x.document x.reads)
-judged_once bytes RefusedHandles Accepted x y = finds_once bytes RefusedHandles Accepted x y
+judged_once bytes RefusedHandles (Accepted strict) x y = finds_once bytes RefusedHandles (Accepted strict) x y
 judged_once bytes RefusedHandles RefusedHandles x y = refl
 judged_once bytes RefusedHandles (Refused t j) x y = finds_once bytes RefusedHandles (Refused t j) x y
 judged_once bytes (Refused s i) RefusedDocument x y = absurd (y x.document x.reads)
-judged_once bytes (Refused s i) Accepted x y = finds_once bytes (Refused s i) Accepted x y
+judged_once bytes (Refused s i) (Accepted strict) x y = finds_once bytes (Refused s i) (Accepted strict) x y
 judged_once bytes (Refused s i) RefusedHandles x y = finds_once bytes (Refused s i) RefusedHandles x y
 judged_once bytes (Refused s i) (Refused t j) x y = finds_once bytes (Refused s i) (Refused t j) x y
 
@@ -207,7 +214,7 @@ report_once d a b x y =
     one_report x.judged a b x.is (subst (λ m. IsReport m b) (sym same) y.is)
 
 told_once : (bytes : List ℕ) (f : Finding) (a b : List ℕ) → IsTold bytes f a → IsTold bytes f b → a ≡ b
-told_once bytes Accepted a b x y =
+told_once bytes (Accepted strict) a b x y =
     let same = one_document_lem bytes x.document y.document x.reads y.reads in
     report_once x.document a b x.reports (subst (λ d. IsReportOn d b) (sym same) y.reports)
 told_once bytes RefusedDocument a b x y = x ∙ sym y

@@ -1,5 +1,5 @@
 -- What is promised of a document that is accepted holds of the text that is expected for its bytes.
-use Rattle.std.proofs.Common.{◌≡◌, ℕ, suc, List, [], ◌∷◌, ◌++◌, map, length, IsTrue, codes, nat_eq, refl, ap, subst}
+use Rattle.std.proofs.Common.{◌≡◌, ℕ, suc, Bool, List, [], ◌∷◌, ◌++◌, map, length, IsTrue, codes, nat_eq, refl, ap, subst}
 use Rattle.std.specs.List.{starts_with}
 use Rattle.ir_arena.specs.declared.span.Span.{Span}
 use Rattle.ir_items.specs.GlobalView.{values_of}
@@ -7,6 +7,7 @@ use Rattle.document_reader.proofs.Seam.{one_document_lem}
 use Rattle.judgement.specs.Text.{text_of}
 use Rattle.judgement.specs.declared.finding.Finding.{Finding}
 use Rattle.judgement.specs.declared.finding.Finding.TheVariants.{Accepted, RefusedDocument, RefusedHandles, Refused}
+use Rattle.run_laws.proofs.Local.{reports_are_local}
 use Rattle.run_laws.proofs.Sound.{accepted_is_sound}
 use Rattle.spec_report.specs.Reports.{IsReport}
 use Rattle.shader_check.proofs.Once.{prepared_once}
@@ -20,8 +21,8 @@ many_values view (e ∷ es) = ap suc (many_values view es)
 
 module _ (bytes text : List ℕ) (expected : IsExpected bytes text) where
   -- the module that is found accepted is the one that is reported on
-  accepted_text : (behind : List ℕ) → Finds bytes Accepted → IsReportFor bytes behind → text ≡ text_of Accepted ++ behind → SoundText bytes text
-  accepted_text behind finds told is =
+  accepted_text : (strict : Bool) (behind : List ℕ) → Finds bytes (Accepted strict) → IsReportFor bytes behind → text ≡ text_of (Accepted strict) ++ behind → SoundText bytes text
+  accepted_text strict behind finds told is =
       let d = finds.document in
       let m = finds.found.judged in
       let on : IsReportOn d behind = subst (λ x. IsReportOn x behind) (one_document_lem bytes told.document d told.reads finds.reads) told.reports in
@@ -31,17 +32,19 @@ module _ (bytes text : List ℕ) (expected : IsExpected bytes text) where
         reads = finds.reads;
         judged = m;
         prepared = finds.found.prepared;
+        strict = strict;
         accepted = finds.found.finding;
         report = behind;
         reports = reports;
         text_is = is;
-        sound = λ checked. accepted_is_sound d.settings.returns d.settings d.content m finds.found.prepared finds.found.finding checked behind reports;
+        sound = λ checked. accepted_is_sound d.settings.returns d.settings d.content m strict finds.found.prepared finds.found.finding checked behind reports;
+        local = λ number e at. reports_are_local m behind reports number e at;
         without_results = λ none returns. returns_dont_show_lem bytes text expected d finds.reads none returns;
       }
 
   -- only the text of an accepted document begins so
   by_finding : (f : Finding) (behind : List ℕ) → Judged bytes f → IsTold bytes f behind → text ≡ text_of f ++ behind → IsTrue (starts_with nat_eq (text_of f ++ behind) (codes "accepted")) → SoundText bytes text
-  by_finding Accepted behind judged told is begins = accepted_text behind judged told is
+  by_finding (Accepted strict) behind judged told is begins = accepted_text strict behind judged told is
   by_finding RefusedDocument behind judged told is begins = absurd (cc (begins))
   by_finding RefusedHandles behind judged told is begins = absurd (cc (begins))
   by_finding (Refused step index) behind judged told is begins = absurd (cc (begins))

@@ -43,13 +43,13 @@ module _ (d : PlainDocument) (none : HasNoResult d.content) (returns : Bool) whe
     found_in f h = found_too f (subst (λ x. FindsIn x f) (one_document_lem bytes h.document d h.reads reads) h.found)
 
     judged_too : (f : Finding) → Judged bytes f → JudgedDocument (with_returns d returns) f
-    judged_too Accepted h = found_in Accepted h
+    judged_too (Accepted strict) h = found_in (Accepted strict) h
     judged_too RefusedDocument h = h d reads
     judged_too RefusedHandles h = found_in RefusedHandles h
     judged_too (Refused step index) h = found_in (Refused step index) h
 
     told_too : (f : Finding) (behind : List ℕ) → IsTold bytes f behind → IsToldOf (with_returns d returns) f behind
-    told_too Accepted behind h = report_too behind (subst (λ x. IsReportOn x behind) (one_document_lem bytes h.document d h.reads reads) h.reports)
+    told_too (Accepted strict) behind h = report_too behind (subst (λ x. IsReportOn x behind) (one_document_lem bytes h.document d h.reads reads) h.reports)
     told_too RefusedDocument behind h = h
     told_too RefusedHandles behind h = h
     told_too (Refused step index) behind h = h

@@ -1,6 +1,11 @@
 -- There are no bytes for which no text is expected.
-use Rattle.std.proofs.Common.{◌⊎◌, inl, inr, ℕ, List, [], ◌++◌, Bool, true, false, length, refl, subst}
+use Rattle.std.proofs.Common.{◌≡◌, ◌↔◌, ◌⊎◌, IsTrue, nat_eq, inl, inr, ℕ, List, [], ◌++◌, Bool, true, false, length, refl, subst}
+use Rattle.std.specs.Int.RustNames.{bit_and}
+use Rattle.std.proofs.lemmas.Bool.{eqb-true, eq-eqb}
+use Rattle.ir_flags.specs.Sets.{Has}
 use Rattle.ir_flags.specs.Settings.{PlainSettings}
+use Rattle.ir_flags.specs.declared.settings.ValidationFlags.{ValidationFlags}
+use Rattle.ir_flags.specs.declared.settings.TheConstants.ValidationFlags.{BLOCKS, STRICT_SCOPE}
 use Rattle.ir_items.specs.Plain.{PlainModule}
 use Rattle.ir_items.specs.Returned.{returned_module}
 use Rattle.ir_items.proofs.Returned.{returned_by_bodies}
@@ -11,13 +16,13 @@ use Rattle.document_reader.proofs.Candidates.{IsCandidate, candidate}
 use Rattle.spec_handles.specs.InOrder.{HandlesOK}
 use Rattle.spec_modules.proofs.Reached.{reach_first, reach, all_passed}
 use Rattle.spec_modules.specs.Steps.{ModuleStep, layout, type, typing, expression, constant, override, item_count, StepOK, StepPasses, IsReached, IsFirstFailing, ModuleOK}
-use Rattle.judgement.specs.Steps.{IsFinding, IsPrepared, module_settings, function_settings}
+use Rattle.judgement.specs.Steps.{IsFinding, IsPrepared, IsScopeStrict, module_settings, function_settings}
 use Rattle.judgement.specs.Text.{text_of}
 use Rattle.judgement.specs.declared.finding.Step.TheVariants.{Layout, «Type», Typing, Expression, Constant, Override, Global, Function, Entry}
 use Rattle.judgement.specs.declared.finding.Finding.{Finding}
 use Rattle.judgement.specs.declared.finding.Finding.TheVariants.{Accepted, RefusedDocument, RefusedHandles, Refused}
 use Rattle.shader_check.specs.Theorem.{Judged, IsTold, SomeText}
-use Rattle.spec_entries.specs.Modules.{EntryAtOK}
+use Rattle.spec_entries.specs.Modules.{EntryAtOK, EntriesOK}
 use Rattle.spec_functions.specs.Functions.{FunctionAtOK, FunctionsOK}
 use Rattle.spec_globals.specs.Globals.{GlobalOK, GlobalsOK}
 use Rattle.spec_report.proofs.SomeReport.{some_report_for}
@@ -27,12 +32,30 @@ use Rattle.shader_check.proofs.JudgedLaws.{found_in, judged}
 
 -- ---- of a module
 
+-- whether a set has some bits can be told
+has_told : (set flags : ℕ) → (b : Bool) × (IsTrue b ↔ Has set flags)
+has_told set flags = (nat_eq (bit_and set flags) flags, (λ h. eqb-true (bit_and set flags) flags h, λ h. eq-eqb (bit_and set flags) flags h))
+
+both_told : (a b : Bool) (P Q : Type 0) → IsTrue a ↔ P → IsTrue b ↔ Q → (c : Bool) × (IsTrue c ↔ (P × Q))
+both_told true true P Q x y = (true, (λ h. (x.0 refl, y.0 refl), λ h. refl))
+both_told true false P Q x y = (false, (λ h. absurd (cc (h)), λ h. y.1 h.1))
+both_told false b P Q x y = (false, (λ h. absurd (cc (h)), λ h. x.1 h.0))
+
+strict_told : (flags : ValidationFlags) → (b : Bool) × (IsTrue b ↔ IsScopeStrict flags)
+strict_told flags =
+    let blocks = has_told flags.0 BLOCKS.0 in
+    let strict = has_told flags.0 STRICT_SCOPE.0 in
+    both_told blocks.0 strict.0 (Has flags.0 BLOCKS.0) (Has flags.0 STRICT_SCOPE.0) blocks.1 strict.1
+
 abbrev SomeFinding : PlainSettings → PlainModule → Type 0
 SomeFinding s m = (f : Finding) × IsFinding s m f
 
 module _ (s : PlainSettings) (m : PlainModule) where
+  accepted_told : ModuleOK (module_settings s) m → GlobalsOK s.flags s.capabilities m → FunctionsOK (function_settings s) m → EntriesOK (function_settings s) m → SomeFinding s m
+  accepted_told ok variables functions all = let strict = strict_told s.flags in (Accepted strict.0, (ok, variables, functions, all, strict.1))
+
   entries_told : ModuleOK (module_settings s) m → GlobalsOK s.flags s.capabilities m → FunctionsOK (function_settings s) m → Sought (EntryAtOK (function_settings s) m) (length m.entries) → SomeFinding s m
-  entries_told ok variables functions (inl all) = (Accepted, (ok, variables, functions, all))
+  entries_told ok variables functions (inl all) = accepted_told ok variables functions all
   entries_told ok variables functions (inr found) =
       let f = found.1 in
       (Refused Entry found.0, (ok, variables, functions, record { within = f.within; before = f.before; fails = f.fails }))
@@ -153,11 +176,11 @@ some_judged bytes =
 abbrev SomeTold : List ℕ → Finding → Type 0
 SomeTold bytes f = (behind : List ℕ) × IsTold bytes f behind
 
-report_told : (bytes : List ℕ) (h : Judged bytes Accepted) → (text : List ℕ) × IsReport h.found.judged text → SomeTold bytes Accepted
-report_told bytes h text = (text.0, record { document = h.document; reads = h.reads; reports = record { judged = h.found.judged; prepared = h.found.prepared; is = text.1 } })
+report_told : (bytes : List ℕ) (strict : Bool) (h : Judged bytes (Accepted strict)) → (text : List ℕ) × IsReport h.found.judged text → SomeTold bytes (Accepted strict)
+report_told bytes strict h text = (text.0, record { document = h.document; reads = h.reads; reports = record { judged = h.found.judged; prepared = h.found.prepared; is = text.1 } })
 
 some_told : (bytes : List ℕ) (f : Finding) → Judged bytes f → Holds (SomeTold bytes f)
-some_told bytes Accepted h = then (some_report_for h.found.judged h.found.finding.0.handles) (λ text. surely (report_told bytes h text))
+some_told bytes (Accepted strict) h = then (some_report_for h.found.judged h.found.finding.0.handles) (λ text. surely (report_told bytes strict h text))
 some_told bytes RefusedDocument h = surely ([], refl)
 some_told bytes RefusedHandles h = surely ([], refl)
 some_told bytes (Refused step index) h = surely ([], refl)

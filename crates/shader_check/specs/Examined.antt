@@ -1,5 +1,5 @@
 -- What is found of a document, with the error where its module is refused.
-use Rattle.std.specs.Prelude.{◌≡◌, ℕ, List, [], false}
+use Rattle.std.specs.Prelude.{◌≡◌, ◌↔◌, ℕ, List, [], false, IsTrue}
 use Rattle.document_reader.specs.Plain.{PlainDocument}
 use Rattle.error_functions.specs.declared.const_expressions.ConstExpressionError.{ConstExpressionError}
 use Rattle.error_functions.specs.declared.const_expressions.ConstExpressionError.TheVariants as constant
@@ -8,7 +8,7 @@ use Rattle.shader_check.specs.declared.error.ValidationError.{ValidationError}
 use Rattle.shader_check.specs.declared.error.ValidationError.TheVariants as error
 use Rattle.ir_flags.specs.Settings.{PlainSettings}
 use Rattle.ir_items.specs.Plain.{PlainModule}
-use Rattle.judgement.specs.Steps.{IsPrepared, function_settings}
+use Rattle.judgement.specs.Steps.{IsPrepared, IsScopeStrict, function_settings}
 use Rattle.judgement.specs.declared.finding.Finding.{Finding}
 use Rattle.judgement.specs.declared.finding.Finding.TheVariants.{Accepted, RefusedDocument, RefusedHandles, Refused}
 use Rattle.judgement.specs.declared.finding.Step.{Step}
@@ -47,12 +47,12 @@ refused_by (error.EntryPoint e) = Refused Entry e.index
 
 -- what is found, without the error
 abbrev pub finding_in : Examined → Finding
-finding_in (examined.Accepted info) = Accepted
+finding_in (examined.Accepted strict info) = Accepted strict
 finding_in (examined.Refused e) = refused_by e
 
--- The module is accepted, and this is kept of it; or this is wrong with it: what the error tells.
+-- The module is accepted, and this is kept of it, where scope was checked strictly or was not; or this is wrong with it: what the error tells.
 abbrev pub IsExamined : PlainSettings → PlainModule → Examined → Type 0
-IsExamined s m (examined.Accepted info) = IsValidated (function_settings s) false m info
+IsExamined s m (examined.Accepted strict info) = IsValidated (function_settings s) false m info × (IsTrue strict ↔ IsScopeStrict s.flags)
 IsExamined s m (examined.Refused e) = IsValidationFault (function_settings s) false m e
 
 -- This is found of m, the document's module with returns put in where its settings ask for them.
@@ -62,12 +62,12 @@ pub record IsExaminedDocument (d : PlainDocument) (m : PlainModule) (x : Examine
 
 -- what is kept of a module is enough for the report on it
 abbrev pub IsKeptIn : PlainModule → Examined → Type 0
-IsKeptIn m (examined.Accepted info) = IsReported m info
+IsKeptIn m (examined.Accepted strict info) = IsReported m info
 IsKeptIn m (examined.Refused e) = Unit {0}
 
 -- what is told of a module behind the line of what is found: nothing, but the report where it is accepted
 abbrev pub IsToldIn : PlainModule → Finding → (behind : List ℕ) → Type 0
-IsToldIn m Accepted behind = IsReport m behind
+IsToldIn m (Accepted strict) behind = IsReport m behind
 IsToldIn m RefusedDocument behind = behind ≡ []
 IsToldIn m RefusedHandles behind = behind ≡ []
 IsToldIn m (Refused step index) behind = behind ≡ []

@@ -1,6 +1,6 @@
 -- The theorem of the program: what is found of bytes, the text that tells it with its report, and what a check reads, writes and answers.
 -- `check_document` and `outcome` are contracted over these words.
-use Rattle.std.specs.Prelude.{◌≡◌, ◌↔◌, ℕ, List, [], ◌++◌, Bool, Option, IfSome, IsTrue, Result, Ok, Err, codes, nat_eq}
+use Rattle.std.specs.Prelude.{◌≡◌, ◌↔◌, ℕ, List, [], ◌++◌, Bool, Option, Some, IfSome, IsTrue, Result, Ok, Err, codes, nat_eq, slice_get}
 use Rattle.std.specs.List.{starts_with}
 use Rattle.std.specs.Io.KnownBytes.{Appends}
 use Rattle.ports.specs.Calls.{Call}
@@ -9,7 +9,7 @@ use Rattle.ports.specs.Sink.{AppendsFront, WritesAll, WritingFails}
 use Rattle.ports.specs.declared.source.TheConstants.{MAX_CALLS}
 use Rattle.ports.specs.declared.source.TakeError.{TakeError}
 use Rattle.ports.specs.declared.source.TakeError.TheVariants as take
-use Rattle.ir_items.specs.Plain.{PlainModule}
+use Rattle.ir_items.specs.Plain.{PlainEntry, PlainModule}
 use Rattle.document_reader.specs.Plain.{PlainDocument}
 use Rattle.document_reader.specs.Form.{Reads}
 use Rattle.judgement.specs.Steps.{IsFinding, IsPrepared}
@@ -17,6 +17,7 @@ use Rattle.judgement.specs.Text.{text_of}
 use Rattle.judgement.specs.declared.finding.Finding.{Finding}
 use Rattle.judgement.specs.declared.finding.Finding.TheVariants as finding
 use Rattle.return_laws.specs.Like.{HasNoResult}
+use Rattle.run_laws.specs.Local.{EntryIsLocal}
 use Rattle.run_laws.specs.Sound.{AreChecked, ModuleIsSound}
 use Rattle.spec_report.specs.Reports.{IsReport}
 use Rattle.shader_check.specs.declared.check.TheConstants.{MAX_TAKEN}
@@ -42,14 +43,14 @@ pub record Finds (bytes : List ℕ) (f : Finding) : Type 0 where
 -- what the judgement is over a document
 abbrev pub JudgedDocument : PlainDocument → Finding → Type 0
 JudgedDocument d finding.RefusedDocument = ⊥
-JudgedDocument d finding.Accepted = FindsIn d finding.Accepted
+JudgedDocument d (finding.Accepted strict) = FindsIn d (finding.Accepted strict)
 JudgedDocument d finding.RefusedHandles = FindsIn d finding.RefusedHandles
 JudgedDocument d (finding.Refused step index) = FindsIn d (finding.Refused step index)
 
 -- what the judgement is over these bytes
 abbrev pub Judged : List ℕ → Finding → Type 0
 Judged bytes finding.RefusedDocument = (d : PlainDocument) → ¬ Reads bytes d
-Judged bytes finding.Accepted = Finds bytes finding.Accepted
+Judged bytes (finding.Accepted strict) = Finds bytes (finding.Accepted strict)
 Judged bytes finding.RefusedHandles = Finds bytes finding.RefusedHandles
 Judged bytes (finding.Refused step index) = Finds bytes (finding.Refused step index)
 
@@ -63,7 +64,7 @@ pub record IsReportOn (d : PlainDocument) (report : List ℕ) : Type 0 where
 
 -- what is told of a document behind the line of what is found: nothing, but the report where it is accepted
 abbrev pub IsToldOf : PlainDocument → Finding → (behind : List ℕ) → Type 0
-IsToldOf d finding.Accepted behind = IsReportOn d behind
+IsToldOf d (finding.Accepted strict) behind = IsReportOn d behind
 IsToldOf d finding.RefusedDocument behind = behind ≡ []
 IsToldOf d finding.RefusedHandles behind = behind ≡ []
 IsToldOf d (finding.Refused step index) behind = behind ≡ []
@@ -76,7 +77,7 @@ pub record IsReportFor (bytes report : List ℕ) : Type 0 where
 
 -- what is told of bytes behind the line of what is found
 abbrev pub IsTold : List ℕ → Finding → (behind : List ℕ) → Type 0
-IsTold bytes finding.Accepted behind = IsReportFor bytes behind
+IsTold bytes (finding.Accepted strict) behind = IsReportFor bytes behind
 IsTold bytes finding.RefusedDocument behind = behind ≡ []
 IsTold bytes finding.RefusedHandles behind = behind ≡ []
 IsTold bytes (finding.Refused step index) behind = behind ≡ []
@@ -130,15 +131,18 @@ pub record SoundText (bytes text : List ℕ) : Type 0 where
   -- whose module, with returns put in where its settings ask for them, is judged
   pub judged : PlainModule
   pub prepared : IsPrepared document.settings.returns document.content judged
-  -- and accepted.
-  pub accepted : IsFinding document.settings judged finding.Accepted
-  -- The text is `accepted` and the report on the module.
+  -- and accepted, its scope checked strictly or not.
+  pub strict : Bool
+  pub accepted : IsFinding document.settings judged (finding.Accepted strict)
+  -- The text is `accepted` or `accepted strict`, and the report on the module.
   pub report : List ℕ
   pub reports : IsReport judged report
-  pub text_is : text ≡ text_of finding.Accepted ++ report
+  pub text_is : text ≡ text_of (finding.Accepted strict) ++ report
   -- Where layouts, bodies and expressions are checked, what lies in each buffer is in order, and every run of each entry point is good,
   -- with what it names and samples told by lines of this report.
   pub sound : AreChecked document.settings → ModuleIsSound document.settings.returns document.settings judged report
+  -- The lines of an entry point are those in the report on every module that differs only in functions which it doesn't reach.
+  pub local : (number : ℕ) (e : PlainEntry) → slice_get judged.entries number ≡ Some e → EntryIsLocal judged report number e
   -- Where no function and no entry point has a result, the text is the same whether missing returns are put in or not.
   pub without_results : HasNoResult document.content → (returns : Bool) → IsTextOn (with_returns document returns) text
 
@@ -150,7 +154,7 @@ AcceptedTextsAreSound = (bytes text : List ℕ) → IsExpected bytes text → Is
 
 -- what is answered for a finding
 abbrev pub verdict_of : Finding → Verdict
-verdict_of finding.Accepted = Accepted
+verdict_of (finding.Accepted strict) = Accepted
 verdict_of finding.RefusedDocument = Refused
 verdict_of finding.RefusedHandles = Refused
 verdict_of (finding.Refused step index) = Refused

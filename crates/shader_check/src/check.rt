@@ -79,7 +79,7 @@ fn verdict_of(finding: Finding) -> Verdict
     ensures { result ≡ verdict_of finding }
 {
     match finding {
-        Finding::Accepted => Verdict::Accepted,
+        Finding::Accepted { .. } => Verdict::Accepted,
         Finding::RefusedDocument => Verdict::Refused,
         Finding::RefusedHandles => Verdict::Refused,
         Finding::Refused(_, _) => Verdict::Refused,

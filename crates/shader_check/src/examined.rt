@@ -11,8 +11,13 @@ use module_validator::ModuleError;
 /// What is found of a document, with the error where its module is refused.
 #[derive(Drop)]
 pub enum Examined {
-    /// No step fails; this is kept of its module.
-    Accepted(ModuleInfo),
+    /// No step fails.
+    Accepted {
+        /// Scope was checked strictly.
+        strict: bool,
+        /// What is kept of the module.
+        info: ModuleInfo,
+    },
     /// A step fails: this is wrong with its module.
     Refused(ValidationError),
 }
@@ -69,7 +74,7 @@ impl Examined {
         ensures { result ≡ finding_in self.now }
     {
         match self {
-            Examined::Accepted(_) => Finding::Accepted,
+            Examined::Accepted { strict, .. } => Finding::Accepted { strict: *strict },
             Examined::Refused(error) => refused_by(error),
         }
     }

@@ -1,9 +1,9 @@
 // The judgement over bytes.
-ghost use Rattle.std.specs.Prelude.{◌≡◌, [], IfOk, OnOk, string_bytes};
+ghost use Rattle.std.specs.Prelude.{◌≡◌, ◌↔◌, [], IfOk, IsTrue, OnOk, string_bytes};
 ghost use Rattle.ir_items.specs.View.{module_view};
 ghost use Rattle.document_reader.specs.View.{document_view, settings_view as document_settings};
 ghost use Rattle.shader_check.specs.Settings.{settings_in};
-ghost use Rattle.judgement.specs.Steps.{IsPrepared, function_settings};
+ghost use Rattle.judgement.specs.Steps.{IsPrepared, IsScopeStrict, function_settings};
 ghost use Rattle.judgement.specs.declared.finding.Finding.TheVariants.{RefusedDocument};
 ghost use Rattle.shader_check.specs.Examined.{finding_in, IsExamined, IsExaminedDocument, IsKeptIn, IsToldIn};
 ghost use Rattle.shader_check.specs.Judgements.{IsJudgementOf, IsJudgementOn};
@@ -11,8 +11,10 @@ ghost use Rattle.shader_check.specs.Judgements.{IsJudgementOf, IsJudgementOn};
 use crate::examined::Examined;
 use crate::told::Judgement;
 use crate::validator::Validator;
+use bitflags::Flags;
 use document_reader::{Document, DocumentError, Settings, take_document};
 use ir_faults::refusal::Refusal;
+use ir_flags::ValidationFlags;
 use ir_items::Module;
 use judgement::Finding;
 use module_info::ModuleInfo;
@@ -31,6 +33,13 @@ fn validator_for(alloc: Global, settings: &Settings) -> Validator<RealLower>
     validator
 }
 
+// Whether scope is checked strictly.
+fn is_strict(flags: ValidationFlags) -> bool
+    ensures { IsTrue result ↔ IsScopeStrict flags }
+{
+    flags.contains(ValidationFlags::BLOCKS) && flags.contains(ValidationFlags::STRICT_SCOPE)
+}
+
 // What is found of a module.
 fn examine_module(
     alloc: Global,
@@ -41,7 +50,10 @@ fn examine_module(
 {
     let mut validator = validator_for(alloc, settings);
     match validator.validate(module) {
-        Ok(info) => Ok(Examined::Accepted(info)),
+        Ok(info) => Ok(Examined::Accepted {
+            strict: is_strict(settings.flags),
+            info,
+        }),
         Err(Refusal::Memory(error)) => Err(error),
         Err(Refusal::Fault(fault)) => Ok(Examined::Refused(fault.into_inner())),
     }
@@ -73,7 +85,7 @@ fn report_on(alloc: Global, module: &Module, examined: &Examined) -> Result<Stri
     ensures { IfOk result (λ report. IsToldIn (module_view «module».now) (finding_in examined.now) (string_bytes report)) }
 {
     match examined {
-        Examined::Accepted(info) => report(alloc, module, info),
+        Examined::Accepted { info, .. } => report(alloc, module, info),
         Examined::Refused(_) => Ok(String::new(alloc)),
     }
 }

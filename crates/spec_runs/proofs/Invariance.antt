@@ -15,7 +15,8 @@ use Rattle.spec_statements.specs.Visible.{top_level}
 use Rattle.spec_statements.proofs.ScopeLaws.{none_held}
 use Rattle.spec_runs.specs.Events.{Event, executed, introduced_expression, used, passed, returned, fell_off}
 use Rattle.spec_runs.specs.Reached.{reached_from}
-use Rattle.spec_runs.specs.Scoping.{UsedOperands, Scoping, IsLawful, AreThere, visible_by, holds_continue_in, holds_continue, holds_continue_in_cases}
+use Rattle.spec_statements.specs.SureLevel.{visible_by, holds_continue_in, holds_continue, holds_continue_in_cases}
+use Rattle.spec_runs.specs.Scoping.{UsedOperands, Scoping, IsLawful, AreThere}
 use Rattle.spec_runs.specs.Machine.{Frame, Configuration, Completion, normal, by_break, by_continue, by_return, halted, Outcome, completes, happen, step, answered, mentioned_at, mentions, uses, operands_of, begins, introduces_one, introduces, leave_scope, sequence, Loop, Task, in_block, in_loop, Evaluation, side, is_value, is_default, Cases, either_cases, from_first, unless_none, chosen, fall, eval_cases, at_switch, leave_switch, next_turn, stay_or_leave, eval_condition, after_continuing, eval_continuing, after_body, eval_turn, callee_frame, enters, leave_call, eval_call, eval_statement, eval_task, eval, finish, entry_frame, initial}
 use Rattle.spec_runs.specs.Invariants.{IsInvariant, InvariantsHold}
 use Rattle.spec_runs.proofs.Control.{Control, control_of, enter, control_at, allows, may_allowed}

@@ -4,3 +4,4 @@ pub mod Invariance
 mod Nesting
 mod Reached
 pub mod Scopes
+pub mod Strict

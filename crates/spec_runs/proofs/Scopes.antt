@@ -8,10 +8,11 @@ use Rattle.ir_items.specs.Plain.{PlainFunction}
 use Rattle.spec_statements.proofs.ScopeLaws.{none_held, scope_by_walk_lem}
 use Rattle.spec_statements.specs.Scope.{PreEmitted}
 use Rattle.spec_statements.specs.Tables.{introduced}
+use Rattle.spec_statements.specs.SureLevel.{visible_by}
 use Rattle.spec_statements.specs.Visible.{top_level, visible}
 use Rattle.spec_runs.specs.Laws.{SkippedIsLawful, ScopeSuffices}
 use Rattle.spec_runs.specs.Machine.{operands_of}
-use Rattle.spec_runs.specs.Scoping.{UsedOperands, Scoping, IsThere, AreThere, IsScoped, visible_by}
+use Rattle.spec_runs.specs.Scoping.{UsedOperands, Scoping, IsThere, AreThere, IsScoped}
 
 -- where the top level leaves all that it introduces, what is visible is what a walk carries
 visible_is : (p : Place) (outer : List ℕ) (b : PlainBlock) → visible outer p b ≡ visible_by top_level outer p b

@@ -52,6 +52,11 @@ abbrev pub LiveOK : Event → Type 0
 LiveOK (used f live skipped e) = PreEmitted f e ⊎ (Contains live e ⊎ Contains skipped e)
 LiveOK _ = Unit {0}
 
+-- it is always in scope or live, and none that a continue skipped is used
+abbrev pub SurelyLiveOK : Event → Type 0
+SurelyLiveOK (used f live skipped e) = PreEmitted f e ⊎ Contains live e
+SurelyLiveOK _ = Unit {0}
+
 -- ---- global variables
 
 -- a global variable that is named is one of the module, and something reached from the function where the run begins names it

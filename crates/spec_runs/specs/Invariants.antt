@@ -9,7 +9,8 @@ use Rattle.spec_statements.specs.Scope.{Introduces}
 use Rattle.spec_statements.specs.Tables.{introduced}
 use Rattle.spec_runs.specs.Events.{Event, entered, executed, introduced_expression, used, passed, returned, fell_off}
 use Rattle.spec_runs.specs.Machine.{Frame, mentioned_at, operands_of, callee_frame, entry_frame, trace_of}
-use Rattle.spec_runs.specs.Scoping.{UsedOperands, Scoping, IsLawful, AreThere, visible_by}
+use Rattle.spec_statements.specs.SureLevel.{visible_by}
+use Rattle.spec_runs.specs.Scoping.{UsedOperands, Scoping, IsLawful, AreThere}
 
 -- In each frame that is fine the statements leave their blocks as they may, P holds of the events that may arise there, and the
 -- frames of calls are fine again. A use may arise where all that is in scope at its place is there, and an expression's uses as it

@@ -1,11 +1,13 @@
 -- What a run uses, and what counts as being there for a use.
-use Rattle.std.specs.Prelude.{◌≡◌, ◌⊎◌, ℕ, Bool, true, false, IsTrue, ◌||◌, List, [], ◌∷◌, ◌++◌, Some, Contains, slice_get}
+use Rattle.std.specs.Prelude.{◌≡◌, ◌⊎◌, ℕ, Bool, true, false, IsTrue, List, [], ◌∷◌, ◌++◌, Some, Contains, slice_get}
 use Rattle.ir_types.specs.ExpressionPlain.{PlainExpression}
-use Rattle.ir_blocks.specs.Places.{Place, here, later, inside, condition, Spot, spot_at, StandsAt}
-use Rattle.ir_blocks.specs.Plain.{PlainStatement, emit, block, if_, switch, loop, break, continue, return, kill, operation, call, PlainBlock, stop, next, PlainCases, no_case, case}
-use Rattle.ir_blocks.specs.Shapes.{Part, inner, accepting, rejecting, case_at, loop_body, loop_continuing, shape_of, part_of}
+use Rattle.ir_blocks.specs.Places.{Place, Spot, spot_at, StandsAt}
+use Rattle.ir_blocks.specs.Plain.{PlainStatement, PlainBlock, next}
 use Rattle.ir_items.specs.Plain.{PlainFunction}
 use Rattle.spec_statements.specs.Scope.{PreEmitted}
+use Rattle.spec_handles.specs.Expressions.{expression_operands}
+use Rattle.spec_statements.specs.Strict.{needed_at}
+use Rattle.spec_statements.specs.SureLevel.{visible_by, holds_continue, sure_level}
 use Rattle.spec_statements.specs.Tables.{checked_at, introduced}
 use Rattle.spec_statements.specs.Visible.{top_level}
 
@@ -20,6 +22,10 @@ pub record UsedOperands : Type 0 where
 abbrev pub checked_operands : UsedOperands
 checked_operands = record { at_spot = checked_at; at_introduction = λ x. [] }
 
+-- all operands, those of expressions that are introduced among them
+abbrev pub all_operands : UsedOperands
+all_operands = record { at_spot = needed_at; at_introduction = expression_operands }
+
 -- ---- what is there for a use
 
 -- What the top level of a loop's body leaves to its continuing part and its condition, and whether what a continue skipped may
@@ -32,6 +38,10 @@ pub record Scoping : Type 0 where
 abbrev pub with_skipped : Scoping
 with_skipped = record { level = top_level; excuses = true }
 
+-- the top level leaves what no continue may skip, and what is skipped may not be used
+abbrev pub without_skipped : Scoping
+without_skipped = record { level = sure_level; excuses = false }
+
 -- the expression may be used where these are live and these skipped
 abbrev pub IsThere : Scoping → PlainFunction → (live skipped : List ℕ) → (expression : ℕ) → Type 0
 IsThere g f live skipped e = PreEmitted f e ⊎ (Contains live e ⊎ (IsTrue g.excuses × Contains skipped e))
@@ -42,27 +52,6 @@ pub record AreThere (g : Scoping) (f : PlainFunction) (live skipped expressions 
 
 -- ---- what is in scope at a place
 
-abbrev pub entering_by : (level : PlainBlock → List ℕ) → List ℕ → PlainStatement → Part → List ℕ
-entering_by level outer s inner = outer
-entering_by level outer s accepting = outer
-entering_by level outer s rejecting = outer
-entering_by level outer s (case_at k) = outer
-entering_by level outer s loop_body = outer
-entering_by level outer s loop_continuing = outer ++ level (part_of (shape_of s) loop_body)
-
-abbrev pub at_condition_by : (level : PlainBlock → List ℕ) → List ℕ → PlainStatement → List ℕ
-at_condition_by level outer s = (outer ++ level (part_of (shape_of s) loop_body)) ++ top_level (part_of (shape_of s) loop_continuing)
-
--- what is in scope at a place of a body, where `outer` is as the body begins, and the top level of a loop's body leaves `level`
-abbrev pub visible_by : (level : PlainBlock → List ℕ) → (outer : List ℕ) → Place → PlainBlock → List ℕ
-visible_by level outer here body = outer
-visible_by level outer (later p) stop = outer
-visible_by level outer (later p) (next s rest) = visible_by level (outer ++ introduced s) p rest
-visible_by level outer (inside part p) stop = outer
-visible_by level outer (inside part p) (next s rest) = visible_by level (entering_by level outer s part) p (part_of (shape_of s) part)
-visible_by level outer condition stop = outer
-visible_by level outer condition (next s rest) = at_condition_by level outer s
-
 -- What a function uses is of a kind that is always in scope, or in scope where it is used. For an expression that is introduced what the same
 -- statement has introduced before it counts too.
 pub record IsScoped (u : UsedOperands) (g : Scoping) (f : PlainFunction) : Type 0 where
@@ -70,30 +59,7 @@ pub record IsScoped (u : UsedOperands) (g : Scoping) (f : PlainFunction) : Type 
   pub at_introductions : (p : Place) (s : PlainStatement) → StandsAt f.body p s → (before : List ℕ) (e : ℕ) (after : List ℕ) → introduced s ≡ before ++ (e ∷ after)
       → (x : PlainExpression) → slice_get f.expressions e ≡ Some x → (o : ℕ) → Contains (u.at_introduction x) o → PreEmitted f o ⊎ Contains (visible_by g.level [] p f.body ++ before) o
 
--- ---- continues
-
--- a continue of the loop around stands in the block, in the statement, or in one of the cases
-abbrev mutual
-  pub holds_continue_in : PlainBlock → Bool
-  holds_continue_in stop = false
-  holds_continue_in (next s rest) = holds_continue s || holds_continue_in rest
-
-  pub holds_continue : PlainStatement → Bool
-  holds_continue (emit first end) = false
-  holds_continue (block b) = holds_continue_in b
-  holds_continue (if_ test accept reject) = holds_continue_in accept || holds_continue_in reject
-  holds_continue (switch selector cases) = holds_continue_in_cases cases
-  holds_continue (loop body continuing break_if) = false
-  holds_continue break = false
-  holds_continue continue = true
-  holds_continue (return value) = false
-  holds_continue kill = false
-  holds_continue (operation a) = false
-  holds_continue (call function arguments result) = false
-
-  pub holds_continue_in_cases : PlainCases → Bool
-  holds_continue_in_cases no_case = false
-  holds_continue_in_cases (case value body falls rest) = holds_continue_in body || holds_continue_in_cases rest
+-- ---- which levels are lawful
 
 -- What the top level leaves is among what it introduces; and behind a statement that may go on with the loop, and so skip what
 -- stands there, it leaves something only where what is skipped may be used.

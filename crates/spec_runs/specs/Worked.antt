@@ -1,5 +1,5 @@
 -- Small functions whose runs are worked out by hand.
-use Rattle.std.specs.Prelude.{true, false, List, [], ◌∷◌, Option, Some, None}
+use Rattle.std.specs.Prelude.{ℕ, true, false, List, [], ◌∷◌, Option, Some, None}
 use Rattle.ir_kinds.specs.declared.operators.UnaryOperator.TheVariants.{LogicalNot}
 use Rattle.ir_kinds.specs.declared.values.Literal.TheVariants.{Bool as Truth, U32 as Unsigned}
 use Rattle.ir_kinds.specs.declared.values.SwitchValue.TheVariants.{Default, U32 as Number}
@@ -36,6 +36,10 @@ module_of functions = record {
 -- a loop that a continue may leave before what its condition uses is emitted
 abbrev pub skipping : PlainFunction
 skipping = of_body None (plain (x.Literal (Truth true)) ∷ plain (x.Unary LogicalNot 0) ∷ []) (next (loop (next (if_ 0 (next continue stop) stop) (next (emit 1 2) stop)) stop (Some 1)) stop)
+
+-- a function that emits its expressions from this one on, each of which negates the one before it
+abbrev pub emitting : ℕ → PlainFunction
+emitting first = of_body None (plain (x.Literal (Truth true)) ∷ plain (x.Unary LogicalNot 0) ∷ plain (x.Unary LogicalNot 1) ∷ []) (next (emit first 3) stop)
 
 -- a function with a result whose last switch is left by a break
 abbrev pub breaking : PlainFunction

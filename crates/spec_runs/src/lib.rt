@@ -5,7 +5,7 @@
 
 pub mod worked;
 
-ghost use Rattle.spec_runs.specs.Laws.{NestingCutsNoRun, ScopeSuffices, SkippedIsLawful};
+ghost use Rattle.spec_runs.specs.Laws.{NestingCutsNoRun, ScopeSuffices, SkippedIsLawful, StrictIsLawful, StrictSuffices};
 ghost use Rattle.spec_runs.specs.Reached.{AllAreReached};
 
 /// The machine's bound on nesting cuts no run: the steps alone do.
@@ -26,4 +26,14 @@ pub fn skipped_is_lawful()
 /// Where the scope of a function is in order, what has to be in scope where it is used is there, but for what a continue skips.
 pub fn scope_suffices()
     ensures { ScopeSuffices }
+{}
+
+/// What the top level of a loop's body introduces before a continue may skip it is live behind the body.
+pub fn strict_is_lawful()
+    ensures { StrictIsLawful }
+{}
+
+/// Where the strict scope of a function is in order, every operand is there where it is used, whatever a continue skips.
+pub fn strict_suffices()
+    ensures { StrictSuffices }
 {}

@@ -4,8 +4,8 @@ ghost use Rattle.ir_blocks.specs.Places.{here, later, inside};
 ghost use Rattle.ir_blocks.specs.Shapes.{loop_body, loop_continuing, accepting, case_at};
 ghost use Rattle.spec_runs.specs.Events.{entered, executed, introduced_expression, named, sampled, used, passed, returned, fell_off, escaped};
 ghost use Rattle.spec_runs.specs.Machine.{trace_of};
-ghost use Rattle.spec_runs.specs.Scoping.{checked_operands};
-ghost use Rattle.spec_runs.specs.Worked.{calling, module_of, skipping, breaking, falling, sampling, handing_on, passing, escaping, using_too_early};
+ghost use Rattle.spec_runs.specs.Scoping.{all_operands, checked_operands};
+ghost use Rattle.spec_runs.specs.Worked.{calling, module_of, skipping, emitting, breaking, falling, sampling, handing_on, passing, escaping, using_too_early};
 
 /// A run that uses what a continue skipped.
 pub fn skipped_use()
@@ -21,6 +21,29 @@ pub fn live_use()
         ≡ entered 0 ∷ executed skipping here ∷ executed skipping (inside loop_body here) ∷ used skipping [] [] 0
         ∷ executed skipping (inside loop_body (later here)) ∷ introduced_expression skipping 1 ∷ used skipping (1 ∷ []) [] 1
         ∷ fell_off skipping (Some (inside loop_body (later here))) ∷ [] }
+{}
+
+/// The first run where all operands are told: it uses what is skipped and not live.
+pub fn skipped_use_of_all()
+    ensures { trace_of all_operands (module_of (skipping ∷ [])) calling (pos 1 ∷ pos 1 ∷ []) 9
+        ≡ entered 0 ∷ executed calling here ∷ passed calling skipping [] ∷ entered 1 ∷ executed skipping here ∷ executed skipping (inside loop_body here) ∷ used skipping [] [] 0
+        ∷ executed skipping (inside loop_body (inside accepting here)) ∷ used skipping [] (1 ∷ []) 1
+        ∷ fell_off skipping (Some (inside loop_body (inside accepting here))) ∷ fell_off calling (Some here) ∷ [] }
+{}
+
+/// A run where all operands are told, of a function that emits an expression and not its operand: it uses what is not live. The
+/// rules accept it where strict scope is not asked for.
+pub fn operand_not_emitted()
+    ensures { trace_of all_operands (module_of (emitting 2 ∷ [])) calling [] 9
+        ≡ entered 0 ∷ executed calling here ∷ passed calling (emitting 2) [] ∷ entered 1 ∷ executed (emitting 2) here ∷ introduced_expression (emitting 2) 2 ∷ used (emitting 2) [] [] 1
+        ∷ fell_off (emitting 2) (Some here) ∷ fell_off calling (Some here) ∷ [] }
+{}
+
+/// The same where the operand stands before it in the range: it is live by then.
+pub fn operand_in_the_range()
+    ensures { trace_of all_operands (module_of (emitting 1 ∷ [])) calling [] 9
+        ≡ entered 0 ∷ executed calling here ∷ passed calling (emitting 1) [] ∷ entered 1 ∷ executed (emitting 1) here ∷ introduced_expression (emitting 1) 1 ∷ used (emitting 1) [] [] 0
+        ∷ introduced_expression (emitting 1) 2 ∷ used (emitting 1) (1 ∷ []) [] 1 ∷ fell_off (emitting 1) (Some here) ∷ fell_off calling (Some here) ∷ [] }
 {}
 
 /// A run that falls off a function with a result by a break.

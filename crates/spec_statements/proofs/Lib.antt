@@ -1,4 +1,5 @@
 pub mod ScopeLaws
+pub mod StrictLaws
 pub mod AnswerLaws
 pub mod Capable
 pub mod Forms

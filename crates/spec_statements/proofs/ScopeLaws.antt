@@ -32,13 +32,13 @@ outer_visible condition (next s rest) outer e held =
     Contains-append_left _ (top_level (part_of (shape_of s) loop_continuing)) e (Contains-append_left outer _ e held)
 
 -- what stands at the top level of a body, by places and as a list
-top_held : {q : Place} → IsTop q → (body : PlainBlock) (e : ℕ) → Introduces body q e → Contains (top_level body) e
+pub top_held : {q : Place} → IsTop q → (body : PlainBlock) (e : ℕ) → Introduces body q e → Contains (top_level body) e
 top_held top_here stop e brought = none_held e brought
 top_held top_here (next s rest) e brought = Contains-append_left (introduced s) _ e brought
 top_held (top_later t) stop e brought = none_held e brought
 top_held (top_later t) (next s rest) e brought = Contains-append_right (introduced s) _ e (top_held t rest e brought)
 
-held_top : (body : PlainBlock) (e : ℕ) → Contains (top_level body) e → (q : Place) × IsTop q × Introduces body q e
+pub held_top : (body : PlainBlock) (e : ℕ) → Contains (top_level body) e → (q : Place) × IsTop q × Introduces body q e
 held_top stop e held = none_held e held
 held_top (next s rest) e held =
     ⊎_elim (λ own. (here, top_here, own)) (λ more. let t = held_top rest e more in (later t.0, top_later t.1, t.2)) (Contains-append_cases (introduced s) (top_level rest) e held)

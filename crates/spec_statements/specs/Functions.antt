@@ -6,7 +6,7 @@ use Rattle.ir_blocks.specs.Plain.{PlainStatement}
 use Rattle.ir_flags.specs.Sets.{Has}
 use Rattle.ir_flags.specs.declared.settings.Capabilities.{Capabilities}
 use Rattle.ir_flags.specs.declared.settings.ValidationFlags.{ValidationFlags}
-use Rattle.ir_flags.specs.declared.settings.TheConstants.ValidationFlags.{EXPRESSIONS, BLOCKS}
+use Rattle.ir_flags.specs.declared.settings.TheConstants.ValidationFlags.{EXPRESSIONS, BLOCKS, STRICT_SCOPE}
 use Rattle.ir_flags.specs.declared.stages.ShaderStages.{ShaderStages}
 use Rattle.ir_flags.specs.declared.stages.SubgroupOperationSet.{SubgroupOperationSet}
 use Rattle.ir_items.specs.Plain.{PlainFunction, PlainModule}
@@ -19,6 +19,7 @@ use Rattle.spec_statements.specs.Results.{AnsweredOnce}
 use Rattle.spec_statements.specs.Scope.{ScopeOK}
 use Rattle.spec_statements.specs.Stages.{statement_stages}
 use Rattle.spec_statements.specs.Statements.{StatementOK}
+use Rattle.spec_statements.specs.Strict.{StrictOK}
 
 -- What a lower layer says of a function: the forms of the types of its expressions, whether its analysis finds no fault under
 -- some flags, which of its expressions are accepted where their types have these forms and shaders may use this, and which
@@ -50,13 +51,14 @@ abbrev pub block_context : FunctionSettings → PlainModule → PlainFunction �
 block_context s m f forms = record { capabilities = s.capabilities; operations = s.operations; m = m; f = f; forms = forms }
 
 -- What is asked of a body: each statement meets its rule where it stands, uses what is in scope, leaves its block as it may,
--- and answers and payloads are as they should be.
+-- and answers and payloads are as they should be; and under STRICT_SCOPE its scope is strict.
 pub record BodyOK (s : FunctionSettings) (c : BlockContext) : Type 0 where
   pub statements : (p : Place) (u : PlainStatement) → StandsAt c.f.body p u → StatementOK c u
   pub scope : ScopeOK c.f
   pub control : ControlOK c.f.body
   pub answered : AnsweredOnce s.flags c.f
   pub payloads : PayloadsOK c.m c.f s.held
+  pub strict : Has s.flags.0 STRICT_SCOPE.0 → StrictOK c.f
 
 -- The arity of calls, what the analysis asks, the variables, the arguments and the result are asked under every set of flags;
 -- the rules of expressions under EXPRESSIONS and those of the body under BLOCKS.

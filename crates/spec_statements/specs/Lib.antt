@@ -18,6 +18,8 @@ pub mod Statements
 pub mod StorageImages
 pub mod Stores
 pub mod Subgroups
+pub mod Strict
+pub mod SureLevel
 pub mod Switches
 pub mod Tables
 pub mod UniformLoads

@@ -124,10 +124,10 @@ fn print_changes(rt: &HostRuntime) -> io::Result<()> {
     println!(rt;
         "bits {:?} {:?}",
         uses::from_known(63),
-        uses::from_known(64)
+        uses::from_known(128)
     )?;
-    println!(rt; "kept {}", ValidationFlags::from_bits_retain(64).bits())?;
-    println!(rt; "cut {}", ValidationFlags::from_bits_truncate(66).bits())?;
+    println!(rt; "kept {}", ValidationFlags::from_bits_retain(128).bits())?;
+    println!(rt; "cut {}", ValidationFlags::from_bits_truncate(130).bits())?;
     println!(rt; "mesh {}", uses::can_mesh(Capabilities::MESH_SHADER))?;
     println!(rt; "mesh {}", uses::can_mesh(Capabilities::all()))
 }

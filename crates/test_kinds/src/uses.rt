@@ -52,7 +52,7 @@ pub fn is_fragment(stages: ShaderStages) -> bool
 }
 
 pub fn every_check() -> ValidationFlags
-    ensures { result.0 ≡ 63 }
+    ensures { result.0 ≡ 127 }
 {
     ValidationFlags::all()
 }
@@ -70,7 +70,7 @@ pub fn drop_blocks(checks: &mut ValidationFlags)
 }
 
 pub fn from_known(bits: u8) -> Option<ValidationFlags>
-    ensures known { IsSome result ↔ IsWithin bits 63 }
+    ensures known { IsSome result ↔ IsWithin bits 127 }
     ensures value { IfSome result (λ f. f.0 ≡ bits) }
 {
     ValidationFlags::from_bits(bits)

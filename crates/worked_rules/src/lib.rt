@@ -22,7 +22,8 @@ ghost use Rattle.judgement.specs.declared.finding.Step.TheVariants.{«Type», Fu
 
 /// The line of each finding.
 pub fn lines()
-    ensures accepted { text_of Accepted ≡ codes "accepted\n" }
+    ensures accepted { text_of (Accepted false) ≡ codes "accepted\n" }
+    ensures accepted_strict { text_of (Accepted true) ≡ codes "accepted strict\n" }
     ensures document { text_of RefusedDocument ≡ codes "refused document\n" }
     ensures handles { text_of RefusedHandles ≡ codes "refused handles\n" }
     ensures first_type { text_of (Refused «Type» 0) ≡ codes "refused type 0\n" }

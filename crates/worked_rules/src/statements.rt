@@ -2,6 +2,7 @@
 //!
 //! The functions do nothing: their contracts are the examples.
 ghost use Rattle.std.specs.Prelude.{[], ◌∷◌, None, Some, true, false, pos};
+ghost use Rattle.ir_blocks.specs.Places.{here, condition};
 ghost use Rattle.ir_blocks.specs.Plain.{emit, block, if_, switch, loop, continue, call, stop, no_case, case};
 ghost use Rattle.ir_flags.specs.declared.memory.TheConstants.Barrier.{WORK_GROUP, SUB_GROUP};
 ghost use Rattle.ir_kinds.specs.Scalars.{boolean, floating, signed, unsigned};
@@ -14,6 +15,7 @@ ghost use Rattle.spec_statements.specs.Emits.{EmitOK};
 ghost use Rattle.spec_statements.specs.Results.{AnsweredOnce};
 ghost use Rattle.spec_statements.specs.Returns.{ReturnOK};
 ghost use Rattle.spec_statements.specs.Scope.{ScopeOK};
+ghost use Rattle.spec_statements.specs.Strict.{InStrictScope};
 ghost use Rattle.spec_statements.specs.Stores.{StoreOK};
 ghost use Rattle.spec_statements.specs.Subgroups.{BallotOK};
 ghost use Rattle.spec_statements.specs.Switches.{SwitchOK};
@@ -32,6 +34,15 @@ pub fn scope()
     ensures condition_from_the_continuing_part { ScopeOK (over_truths (one (loop stop (one (emit 1 2)) (Some 1)))) }
     ensures emitted_in_both_parts { ¬ ScopeOK (over_truths (one (loop (one (emit 1 2)) (one (emit 1 2)) None))) }
     ensures used_behind_its_loop { ¬ ScopeOK (over_truths (two (loop (one (emit 1 2)) stop (Some 1)) (use_of 1))) }
+{}
+
+/// What is in strict scope where: behind a continue nothing is for a loop's condition, in front of one and behind that of a loop
+/// inside it is; and an operand that nothing emits is not, where the expression is emitted that has it.
+pub fn strict_scope()
+    ensures behind_a_continue { ¬ InStrictScope (over_truths (one (loop (two (if_ 0 (one continue) stop) (emit 1 2)) stop (Some 1)))) condition 1 }
+    ensures before_a_continue { InStrictScope (over_truths (one (loop (two (emit 1 2) (if_ 0 (one continue) stop)) stop (Some 1)))) condition 1 }
+    ensures behind_a_loop_inside { InStrictScope (over_truths (one (loop (two (loop (one continue) stop None) (emit 1 2)) stop (Some 1)))) condition 1 }
+    ensures operand_not_emitted { ¬ InStrictScope (over_truths (one (emit 2 3))) here 1 }
 {}
 
 /// What stands for the answers of calls. The flags are all six, and that of blocks alone.

@@ -8,7 +8,10 @@ use Rattle.spec_statements.specs.Functions.{FunctionSettings}
 use Rattle.shader_check.proofs.judge.examine_module.Goals as goal
 
 pub returns-in-Ok : goal.returns-in-Ok
-returns-in-Ok c = subst (λ (z : FunctionSettings). IsValidated z false (module_view c.args.«module».now) c.in-Ok.info) c.validator_for-validator.ensures c.in-Ok.ensures.judged
+returns-in-Ok c = (
+  subst (λ (z : FunctionSettings). IsValidated z false (module_view c.args.«module».now) c.in-Ok.info) c.validator_for-validator.ensures c.in-Ok.ensures.judged,
+  c.is_strict.ensures,
+)
 
 pub returns : goal.returns
 returns c =

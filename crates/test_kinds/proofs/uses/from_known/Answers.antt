@@ -8,5 +8,5 @@ pub returns-clause-known : goal.returns-clause-known
 returns-clause-known c =
     let P : ℕ → Type 0 = λ n. IsSome c.from_bits.result ↔ (bit_and c.args.bits n ≡ c.args.bits) in
     let k = subst P all_validation_flags (c.from_bits.ensures.known tt) in
-    let turned = and_comm 63 c.args.bits in
+    let turned = and_comm 127 c.args.bits in
     (λ s. turned ∙ k.0 s, λ e. k.1 (sym turned ∙ e))

@@ -1,0 +1,6 @@
+pub mod Errors
+pub mod Places
+pub mod Ranges
+pub mod Refuted
+pub mod Statements
+pub mod Walks

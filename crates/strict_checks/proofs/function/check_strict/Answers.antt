@@ -1,0 +1,16 @@
+use Rattle.std.proofs.Common.{subst}
+use Rattle.ir_items.specs.View.{function_view}
+use Rattle.strict_checks.proofs.Errors.{if_fault_then}
+use Rattle.strict_checks.proofs.Places.{strict_met, told_in_body}
+use Rattle.strict_checks.specs.Faults.{IsStrictFault}
+use Rattle.strict_checks.specs.Walked.{AllMeet, FaultIn}
+use Rattle.strict_checks.proofs.function.check_strict.Goals as goal
+
+pub returns-in-Ok-clause-strict : goal.returns-in-Ok-clause-strict
+returns-in-Ok-clause-strict c =
+    let f = function_view c.args.function.now in strict_met f (subst (λ xs. AllMeet f xs f.body) c.in_ok-sure.ensures c.in-Ok.ensures.meet)
+
+pub returns-clause-fault : goal.returns-clause-fault
+returns-clause-fault c = λ scope.
+    let f = function_view c.args.function.now in
+    c.refused.ensures f (if_fault_then c.in-Err.error (λ e. FaultIn f e _ f.body) (IsStrictFault f) (λ e. told_in_body f scope e _ c.in_ok-sure.ensures) c.in-Err.ensures.fault)

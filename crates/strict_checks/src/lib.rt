@@ -1,0 +1,16 @@
+//! Strict scope, which no other validator asks for: every operand of a statement, of a loop's condition and of an expression that
+//! is emitted is in scope where it is used, what a continue may skip doesn't count behind the loop's body, and what stands for
+//! the answer of a `Proceed` or of a ballot is of its own kind.
+#![tactic(auto)]
+
+mod answers;
+mod error;
+mod expressions;
+mod function;
+mod introducing;
+pub mod laws;
+mod operands;
+mod statement;
+mod walk;
+
+pub use function::check_strict;
