@@ -1,3 +1,2 @@
-pub mod Noted
 pub mod Copied
-pub mod Holding
+pub mod Distinct

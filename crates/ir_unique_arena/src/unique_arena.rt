@@ -1,17 +1,17 @@
 //! The arena that holds no two equal values.
 
-ghost use Rattle.std.specs.Prelude.{◌≡◌, ◌<◌, ◌≤◌, ◌++◌, ◌↔◌, Some, false, [], ◌∷◌, length, map, IsTrue, IsOk, IfOk, IfErr, IfSome, OnOk, OnErr};
-ghost use Rattle.ir_arena.specs.Arenas.{value_at, span_at, with_value, has_equal, found_at, place_of, with_entry, IsDistinctBy};
+ghost use Rattle.std.specs.Prelude.{◌≡◌, ◌<◌, ◌≤◌, ◌++◌, ◌↔◌, Some, true, false, [], ◌∷◌, length, map, IsTrue, IsOk, IfOk, IfErr, IfSome, IfNone, OnOk, OnErr};
+ghost use Rattle.ir_arena.specs.Arenas.{value_of_entry, span_of_entry, value_at, span_at, with_value, has_equal, found_at, place_of, with_entry, IsDistinctBy};
 ghost use Rattle.ir_arena.specs.Copies.{ComparesByView, entry_of};
 ghost use Rattle.ir_arena.specs.Handles.{handles_from, entries_from};
 
-use crate::places::{Places, find_from, hash_of, note_from};
+use crate::drain::UniqueArenaDrain;
+use crate::keyed::KeyedState;
+use indexmap::IndexSet;
 use ir_arena::copied::Copied;
-use ir_arena::drain::Drain;
 use ir_arena::handle::{BadHandle, Handle, Kind};
 use ir_arena::iter::Iter;
 use ir_arena::span::Span;
-use ir_arena::spanned::Spanned;
 use std::alloc::{AllocError, Global};
 use std::hash::Hash;
 use std::marker::{Model, PhantomData};
@@ -24,28 +24,28 @@ use std::ops::Index;
 /// In a contract it is the list of the pairs of a value and its span. An arena holds at most
 /// 4294967295 values.
 ///
+/// Its values lie in an `IndexSet`, their spans in a list beside it. Hashers know the key that
+/// the arena was made with.
+///
 /// Its handles are of type `Handle<K>`, as those of [`ir_arena::arena::Arena`] are.
 #[derive(Drop)]
 #[derive_where(Debug; T)]
 pub struct UniqueArena<T: Eq + Hash, K = T> {
-    entries: Spanned<T>,
-    // where the values stand, by their hashes; of those from `known` on not all are noted
-    places: Places,
-    known: usize,
+    values: IndexSet<T, KeyedState>,
+    spans: Vec<Span>,
     key: PhantomData<K>,
 }
 
 impl<T: Eq + Hash, K> Model for UniqueArena<T, K> {
-    ghost use Rattle.std.specs.Prelude.{List, ◌≤◌, length, map};
+    ghost use Rattle.std.specs.Prelude.{List, ◌≡◌, ◌≤◌, length};
+    ghost use Rattle.std.specs.List.{zip};
     ghost use Rattle.ir_arena.specs.declared.span.Span.{Span};
-    ghost use Rattle.ir_arena.specs.Arenas.{IsDistinctBy, value_of_entry};
-    ghost use Rattle.ir_unique_arena.specs.Places.{AreNoted};
 
     ghost Value = { List (T × Span) };
 
-    ghost view = { λ a. a.entries };
+    ghost view = { λ a. zip a.values.keys a.spans.items };
 
-    ghost invariant = { λ a. IsDistinctBy T.eq a.entries × (length a.entries ≤ 4294967295) × (a.known ≤ length a.entries) × AreNoted T.hash_input a.places (map value_of_entry a.entries) a.known };
+    ghost invariant = { λ a. (length a.spans.items ≡ length a.values.keys) × (length a.values.keys ≤ 4294967295) };
 }
 
 /// Two arenas are equal where they have as many values, and each is equal to the other's at its place and has the same
@@ -58,7 +58,7 @@ impl<T: Eq + Hash, K> PartialEq for UniqueArena<T, K> {
     ghost laws = { same_entries_per T.PartialEq.laws };
 
     fn eq(&self, other: &Self) -> bool {
-        self.entries == other.entries
+        self.values.as_slice() == other.values.as_slice() && self.spans == other.spans
     }
 }
 
@@ -69,14 +69,21 @@ impl<T: Eq + Hash, K> Eq for UniqueArena<T, K> {
 }
 
 impl<T: Eq + Hash, K> UniqueArena<T, K> {
-    /// An empty arena, which allocates nothing.
+    /// An empty arena, which allocates nothing. Its hashers have a key that all know; for values
+    /// that a stranger may choose take [`UniqueArena::with_hasher`].
     pub fn new(alloc: Global) -> Self
         ensures { result ≡ [] }
     {
+        UniqueArena::with_hasher(alloc, KeyedState::with_keys(0, 0))
+    }
+
+    /// An empty arena, which allocates nothing, whose hashers know this key.
+    pub fn with_hasher(alloc: Global, hash_builder: KeyedState) -> Self
+        ensures { result ≡ [] }
+    {
         UniqueArena {
-            entries: Spanned::new(alloc),
-            places: Places::new(alloc),
-            known: 0,
+            values: IndexSet::with_hasher(alloc, hash_builder),
+            spans: Vec::new(alloc),
             key: PhantomData,
         }
     }
@@ -93,10 +100,10 @@ impl<T: Eq + Hash, K> UniqueArena<T, K> {
         requires { ComparesByView T.view T.eq }
         ensures { IfOk result (λ copy. map (entry_of T.view) copy ≡ map (entry_of T.view) self.now) }
     {
-        let mut copy = UniqueArena::new(alloc);
-        let values = self.entries.values();
-        let spans = self.entries.spans();
-        for place in 0..values.len() {
+        let mut copy = UniqueArena::with_hasher(alloc, *self.values.hasher());
+        let values = self.values();
+        let spans = self.spans();
+        for place in 0..self.len() {
             copy.insert(values[place].copied(alloc)?, spans[place])?;
         }
         Ok(copy)
@@ -108,7 +115,7 @@ impl<T: Eq + Hash, K> UniqueArena<T, K> {
         ensures in_range { length self.now ≤ 4294967295 }
         ensures distinct { IsDistinctBy T.eq self.now }
     {
-        self.entries.len()
+        self.values.len()
     }
 
     /// Whether there is no value.
@@ -122,19 +129,34 @@ impl<T: Eq + Hash, K> UniqueArena<T, K> {
     pub fn iter(&self) -> Iter<'_, T, K>
         ensures { result ≡ handles_from 0 self.now }
     {
-        Iter::new(self.entries.values())
+        Iter::new(self.values())
+    }
+
+    // The values in order.
+    fn values(&self) -> &[T]
+        ensures values { result.now ≡ map value_of_entry self.now }
+        ensures len { length result.now ≡ length self.now }
+        ensures few { length result.now ≤ 4294967295 }
+    {
+        self.values.as_slice()
+    }
+
+    // Their spans.
+    fn spans(&self) -> &[Span]
+        ensures spans { result.now ≡ map span_of_entry self.now }
+        ensures len { length result.now ≡ length self.now }
+    {
+        self.spans.as_slice()
     }
 
     // The place of the value that is equal to `value`.
     fn find(&self, value: &T) -> Option<usize>
         ensures value { result ≡ found_at T.eq self.now value.now }
         ensures in_range { IfSome result (λ place. (place < length self.now) × (place < 4294967295)) }
+        ensures present { IfSome result (λ place. (has_equal T.eq self.now value.now ≡ true) × (place_of T.eq self.now value.now ≡ place)) }
+        ensures absent { IfNone result ((has_equal T.eq self.now value.now ≡ false) × (place_of T.eq self.now value.now ≡ length self.now)) }
     {
-        let values = self.entries.values();
-        match self.places.find(hash_of(value), values, value) {
-            Some(place) => Some(place),
-            None => find_from(values, self.known, value),
-        }
+        self.values.get_index_of(value)
     }
 
     /// The handle of the value that is equal to `value`. Where there is none, adds `value` at the
@@ -160,38 +182,48 @@ impl<T: Eq + Hash, K> UniqueArena<T, K> {
         match self.find(&value) {
             Some(place) => Ok(Handle::at(place)),
             None => {
-                let place = self.entries.len();
+                let place = self.len();
                 if place >= 4294967295 {
                     return Err(AllocError);
                 }
-                self.entries.push(value, span)?;
-                self.known = note_from(&mut self.places, self.entries.values(), self.known);
+                self.push(value, span)?;
                 Ok(Handle::at(place))
             }
         }
     }
 
+    // Adds a value at the end that is equal to none.
+    fn push(&mut self, value: T, span: Span) -> Result<(), AllocError>
+    where
+        T: Drop,
+        requires absent { has_equal T.eq self.old value ≡ false }
+        requires few { length self.old < 4294967295 }
+        ensures ok { OnOk result (self.new ≡ self.old ++ (value, span) ∷ []) }
+        ensures err { OnErr result (self.new ≡ self.old) }
+    {
+        self.spans.reserve(1)?;
+        self.values.insert(value)?;
+        self.spans.push_reserved(span);
+        Ok(())
+    }
+
     /// Puts `new` in the place of the value at `old`, whose span it takes.
-    pub fn replace(&mut self, old: Handle<K>, new: T)
+    ///
+    /// # Errors
+    ///
+    /// `AllocError` where there is no memory for one more value: `new` goes last before the value at
+    /// `old` gives its place to it. The arena then stays as it was.
+    pub fn replace(&mut self, old: Handle<K>, new: T) -> Result<(), AllocError>
     where
         T: Drop,
         requires contained { old < length self.old }
         requires absent { has_equal T.eq self.old new ≡ false }
-        ensures { self.new ≡ with_value self.old old new }
+        ensures ok { OnOk result (self.new ≡ with_value self.old old new) }
+        ensures err { OnErr result (self.new ≡ self.old) }
     {
-        let place = old.index();
-        let hash = hash_of(&new);
-        self.places
-            .forget(hash_of(self.entries.value(place)), place as u32);
-        self.entries.replace(place, new);
-        match self.places.note(hash, place as u32) {
-            Ok(()) => {}
-            Err(_) => {
-                // until the next insert notes them, all values are looked at
-                self.places.clear();
-                self.known = 0;
-            }
-        }
+        self.values.insert(new)?;
+        self.values.swap_remove_index(old.index());
+        Ok(())
     }
 
     /// The handle of the value that is equal to `value`, if there is one.
@@ -218,20 +250,24 @@ impl<T: Eq + Hash, K> UniqueArena<T, K> {
         ensures bad { IfErr result (λ e. (e.index ≡ handle) × (e.kind.now ≡ K.word)) }
     {
         let index = handle.index();
-        if index >= self.entries.len() {
+        if index >= self.len() {
             return Err(BadHandle {
                 kind: K::word(),
                 index,
             });
         }
-        Ok(self.entries.value(index))
+        Ok(&self.values()[index])
     }
 
     /// The span of the value at `handle`, or [`Span::UNDEFINED`] where the arena has no such place.
     pub fn get_span(&self, handle: Handle<K>) -> Span
         ensures { result ≡ span_at self.now handle }
     {
-        self.entries.span(handle.index())
+        let place = handle.index();
+        if place < self.len() {
+            return self.spans()[place];
+        }
+        Span::UNDEFINED
     }
 
     /// Tests that the arena has the place of `handle`.
@@ -246,7 +282,7 @@ impl<T: Eq + Hash, K> UniqueArena<T, K> {
         ensures bad { IfErr result (λ e. (e.index ≡ handle) × (e.kind.now ≡ K.word)) }
     {
         let index = handle.index();
-        if index < self.entries.len() {
+        if index < self.len() {
             Ok(())
         } else {
             Err(BadHandle {
@@ -262,9 +298,8 @@ impl<T: Eq + Hash, K> UniqueArena<T, K> {
         T: Drop,
         ensures { self.new ≡ [] }
     {
-        self.entries.clear();
-        self.places.clear();
-        self.known = 0;
+        self.values.clear();
+        self.spans.clear();
     }
 
     /// Takes all values into an arena of their own, and leaves this one empty. Their handles stay.
@@ -272,23 +307,19 @@ impl<T: Eq + Hash, K> UniqueArena<T, K> {
         ensures taken { result ≡ self.old }
         ensures emptied { self.new ≡ [] }
     {
-        let alloc = self.entries.allocator();
-        UniqueArena {
-            entries: self.entries.take(),
-            places: self.places.take(alloc),
-            known: mem::replace(&mut self.known, 0),
-            key: PhantomData,
-        }
+        let empty = UniqueArena::with_hasher(*self.spans.allocator(), *self.values.hasher());
+        mem::replace(self, empty)
     }
 
     /// Takes all values out, and leaves the arena empty.
-    pub fn drain_all(&mut self) -> Drain<T, K>
+    pub fn drain_all(&mut self) -> UniqueArenaDrain<T, K>
+    where
+        T: Drop,
         ensures taken { result ≡ entries_from 0 self.old }
         ensures emptied { self.new ≡ [] }
     {
-        self.places.clear();
-        self.known = 0;
-        Drain::new(self.entries.take())
+        let UniqueArena { values, spans, .. } = self.take();
+        UniqueArenaDrain::new(values, spans)
     }
 }
 
@@ -304,6 +335,6 @@ impl<T: Eq + Hash, K> Index<Handle<K>> for UniqueArena<T, K> {
         requires { handle < length self.now }
         ensures { Some result.now ≡ value_at self.now handle }
     {
-        self.entries.value(handle.index())
+        &self.values()[handle.index()]
     }
 }

@@ -70,7 +70,7 @@ fn replaced<T: Item, K>(
     match arena.get(&new) {
         Some(_) => Ok(false),
         None => {
-            arena.replace(Handle::at(old), new);
+            arena.replace(Handle::at(old), new)?;
             Ok(true)
         }
     }

@@ -1,4 +1,6 @@
-// Calls of arenas that ask for no memory, and one of a list that is refused it.
+// Calls of arenas that ask for no memory, and some that are refused it.
+ghost use Rattle.std.specs.Prelude.{◌<◌, length};
+
 use crate::growing::{Tag, numbers};
 use crate::same::{leaving, same};
 use ir_arena::arena::Arena;
@@ -51,15 +53,47 @@ fn drained(alloc: Global) -> Result<usize, Fail> {
     Ok(count)
 }
 
-// Whether a value that replaces another is found in its place when all are taken.
+// Whether a value that replaces another is found in its place when all are taken, where the arena has room for it.
 fn is_replaced(alloc: Global) -> Result<bool, Fail> {
     let mut unique: UniqueArena<u32> = UniqueArena::new(alloc);
     let first = unique.insert(7, Span::new(1, 2))?;
     let hog = leaving(alloc, 0)?;
-    unique.replace(first, 8);
+    let replaced = unique.replace(first, 8);
     let rest = unique.take();
     drop(hog);
-    Ok(rest.get(&8) == Some(first))
+    Ok(replaced.is_ok() && rest.get(&8) == Some(first))
+}
+
+// As many numbers from 0 on as a set takes into its first table.
+fn full(alloc: Global) -> Result<UniqueArena<u32>, AllocError> {
+    let mut unique = UniqueArena::new(alloc);
+    for value in 0..9u32 {
+        unique.insert(value, Span::new(value, 5000))?;
+    }
+    Ok(unique)
+}
+
+// Puts 9 in the place of a value, and answers whether that was done.
+#[tactic(auto, using(ir_arena::proofs::Found::passes_nowhere))]
+fn put_nine(unique: &mut UniqueArena<u32>, old: Handle<u32>) -> bool
+    requires { old < length unique.old }
+{
+    match unique.get(&9) {
+        Some(_) => false,
+        None => unique.replace(old, 9).is_ok(),
+    }
+}
+
+// Whether a full arena refuses to replace a value where there is no memory, and holds all that it held then.
+fn replacing_is_refused(alloc: Global) -> Result<bool, Fail> {
+    let mut unique = full(alloc)?;
+    let Some(first) = unique.get(&0) else {
+        return Ok(false);
+    };
+    let hog = leaving(alloc, 0)?;
+    let replaced = put_nine(&mut unique, first);
+    drop(hog);
+    Ok(!replaced && unique == full(alloc)? && unique.get(&9).is_none())
 }
 
 #[test]
@@ -68,5 +102,6 @@ fn calls_without_memory(rt: HostRuntime) -> Result<(), Fail> {
     same(&rt, retained(rt.alloc())?, 2);
     same(&rt, drained(rt.alloc())?, 2);
     same(&rt, is_replaced(rt.alloc())?, true);
+    same(&rt, replacing_is_refused(rt.alloc())?, true);
     Ok(())
 }
