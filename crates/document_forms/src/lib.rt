@@ -20,7 +20,7 @@ pub use grow::Grow;
 pub use limits::{
     MAX_DEPTH, MAX_HANDLE, MAX_I16, MAX_I32, MAX_I64, MAX_U8, MAX_U16, MAX_U32, MAX_U64,
 };
-pub use lists::{Each, InArena, read_all, take_all};
+pub use lists::{Each, InArena, read_all, take_all, take_into};
 pub use numbers::{At, I16, I32, I64, Side, Size, U8, U16, U32, U64, signed, unsigned};
 pub use row::{
     End, InArray, Row, TakeRow, Then, read_items, read_row, split_part, take_part, take_row,

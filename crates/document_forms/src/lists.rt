@@ -1,7 +1,7 @@
 // Lists of items, in whatever takes them.
 ghost use Rattle.std.specs.Prelude.{◌≡◌, ◌≢◌, List, [], ◌∷◌, ◌++◌, Some, map, IfOk, IfErr, OnOk};
-ghost use Rattle.serde_json.specs.View.{view as data_of};
-ghost use Rattle.document_forms.specs.Decide.{all_of};
+ghost use Rattle.serde_json.specs.View.{view as data_of, items_view};
+ghost use Rattle.document_forms.specs.Decide.{each, all_of};
 ghost use Rattle.document_forms.specs.Forms.{a_list};
 ghost use Rattle.document_forms.specs.Refusals.{NoneTaken};
 ghost use Rattle.document_forms.specs.declared.error.ReadError.TheVariants.{Memory};
@@ -51,7 +51,33 @@ pub fn take_all<F: Take, C: Grow<F>>(alloc: Global, value: Value) -> Result<C, R
     let Value::Array(items) = value else {
         return Err(ReadError::here(Wanted::List));
     };
-    let mut found = C::with_room(alloc, items.len())?;
+    let empty = C::with_room(alloc, items.len())?;
+    take_items::<F, C>(alloc, items, empty)
+}
+
+/// The same into what was made for them, and has no item yet.
+pub fn take_into<F: Take, C: Grow<F>>(alloc: Global, value: Value, empty: C) -> Result<C, ReadError>
+    requires { C.items empty ≡ [] }
+    ensures found { IfOk result (λ c. Some (map F.view (C.items c)) ≡ all_of F.form.find (data_of value)) }
+    ensures refused { IfErr result (λ e. e ≢ Memory → NoneTaken C.refuses F.view (all_of F.form.find (data_of value))) }
+{
+    let Value::Array(items) = value else {
+        return Err(ReadError::here(Wanted::List));
+    };
+    take_items::<F, C>(alloc, items, empty)
+}
+
+// The items of an array, each let go of once it is read, in what has none yet.
+fn take_items<F: Take, C: Grow<F>>(
+    alloc: Global,
+    items: Vec<Value>,
+    empty: C,
+) -> Result<C, ReadError>
+    requires { C.items empty ≡ [] }
+    ensures found { IfOk result (λ c. Some (map F.view (C.items c)) ≡ each F.form.find (items_view items.items)) }
+    ensures refused { IfErr result (λ e. e ≢ Memory → NoneTaken C.refuses F.view (each F.form.find (items_view items.items))) }
+{
+    let mut found = empty;
     let mut index = 0usize;
     for item in items {
         let next = take_at::<F>(alloc, item, index)?;

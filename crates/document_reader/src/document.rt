@@ -18,12 +18,13 @@ use crate::model::{Document, Settings};
 use crate::{EntryForm, FunctionForm};
 use document_forms::{
     At, Each, Form, InArena, InArray, Maybe, ReadError, SetOf, TakeRow, Truth, Wanted, Whole,
-    take_all, take_part,
+    take_into, take_part,
 };
 use expression_forms::ExpressionForm;
 use ir_flags::{Capabilities, ShaderStages, SubgroupOperationSet, ValidationFlags};
 use ir_items::Module;
 use ir_types::{IrType, key};
+use ir_unique_arena::keyed::KeyedState;
 use ir_unique_arena::unique_arena::UniqueArena;
 use item_forms::{ConstantForm, FilterForm, GlobalForm, OverrideForm, SpecialForm, TypeForm};
 use serde_json::Value;
@@ -89,24 +90,26 @@ fn read_types(
     alloc: Global,
     value: Value,
     index: usize,
+    key: KeyedState,
 ) -> Result<UniqueArena<IrType, key::IrType>, ReadError>
     ensures found { IfOk result (λ a. Some (map type_view (values_of a)) ≡ all_of a_type.find (data_of value)) }
     ensures refused { IfErr result (λ e. e ≢ Memory → (ts : List PlainType) → all_of a_type.find (data_of value) ≡ Some ts → ¬ AreDistinct ts) }
 {
-    match take_all::<TypeForm, UniqueArena<IrType, key::IrType>>(alloc, value) {
+    let empty = UniqueArena::with_hasher(alloc, key);
+    match take_into::<TypeForm, UniqueArena<IrType, key::IrType>>(alloc, value, empty) {
         Ok(types) => Ok(types),
         Err(e) => Err(e.at(index)),
     }
 }
 
 // The module that these parts of a document are written for.
-fn read_module(alloc: Global, parts: &mut [Value]) -> Result<Module, ReadError>
+fn read_module(alloc: Global, parts: &mut [Value], key: KeyedState) -> Result<Module, ReadError>
     ensures found { IfOk result (λ m. Some (module_view m) ≡ content_in (items_view parts.old)) }
     ensures distinct { IfOk result (λ m. AreDistinct (module_view m).types) }
     ensures refused { IfErr result (λ e. e ≢ Memory → (m : PlainModule) → content_in (items_view parts.old) ≡ Some m → ¬ AreDistinct m.types) }
 {
     let (first, rest) = take_part(parts, TYPES)?;
-    let types = read_types(alloc, first, TYPES)?;
+    let types = read_types(alloc, first, TYPES, key)?;
     distinct_types(&types);
     let (
         special_types,
@@ -133,8 +136,8 @@ fn read_module(alloc: Global, parts: &mut [Value]) -> Result<Module, ReadError>
 }
 
 /// The document that the value is written for. Each part of the value is let go of once it is read, so that both never
-/// take their memory whole.
-pub fn read_value(alloc: Global, value: Value) -> Result<Document, ReadError>
+/// take their memory whole. Hashers of its types know the key.
+pub fn read_value(alloc: Global, value: Value, key: KeyedState) -> Result<Document, ReadError>
     ensures found { IfOk result (λ d. Some (document_view d) ≡ document_in (data_of value)) }
     ensures distinct { IfOk result (λ d. AreDistinct (document_view d).content.types) }
     ensures refused { IfErr result (λ e. e ≢ Memory → (d : PlainDocument) → document_in (data_of value) ≡ Some d → ¬ AreDistinct d.content.types) }
@@ -150,7 +153,7 @@ pub fn read_value(alloc: Global, value: Value) -> Result<Document, ReadError>
         alloc, parts, 3,
     )?;
     let (returns, parts) = take_first::<Truth>(alloc, parts, 4)?;
-    let module = read_module(alloc, parts)?;
+    let module = read_module(alloc, parts, key)?;
     let settings = Settings {
         flags,
         capabilities,

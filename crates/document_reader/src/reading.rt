@@ -11,6 +11,7 @@ ghost use Rattle.document_reader.specs.declared.error.DocumentError.TheVariants.
 use crate::document::read_value;
 use crate::error::DocumentError;
 use crate::model::Document;
+use ir_unique_arena::keyed::KeyedState;
 use serde_json::Value;
 use std::alloc::Global;
 
@@ -45,7 +46,7 @@ pub fn read_document(alloc: Global, bytes: &[u8]) -> Result<Document, DocumentEr
     ensures refused { IfErr result (λ e. e ≢ Memory → (d : PlainDocument) → ¬ Reads bytes.now d) }
 {
     match value_of(alloc, bytes) {
-        Ok(value) => Ok(read_value(alloc, value)?),
+        Ok(value) => Ok(read_value(alloc, value, KeyedState::of_bytes(bytes))?),
         Err(error) => Err(error),
     }
 }
@@ -58,9 +59,10 @@ pub fn take_document(alloc: Global, bytes: Vec<u8>) -> Result<Document, Document
     ensures refused { IfErr result (λ e. e ≢ Memory → (d : PlainDocument) → ¬ Reads bytes.items d) }
 {
     let read = value_of(alloc, bytes.as_slice());
+    let key = KeyedState::of_bytes(bytes.as_slice());
     drop(bytes);
     match read {
-        Ok(value) => Ok(read_value(alloc, value)?),
+        Ok(value) => Ok(read_value(alloc, value, key)?),
         Err(error) => Err(error),
     }
 }
