@@ -95,7 +95,11 @@ fn read_types(
     ensures found { IfOk result (λ a. Some (map type_view (values_of a)) ≡ all_of a_type.find (data_of value)) }
     ensures refused { IfErr result (λ e. e ≢ Memory → (ts : List PlainType) → all_of a_type.find (data_of value) ≡ Some ts → ¬ AreDistinct ts) }
 {
-    let empty = UniqueArena::with_hasher(alloc, key);
+    let room = match value.as_array() {
+        Some(items) => items.len(),
+        None => 0,
+    };
+    let empty = UniqueArena::with_capacity_and_hasher(alloc, room, key)?;
     match take_into::<TypeForm, UniqueArena<IrType, key::IrType>>(alloc, value, empty) {
         Ok(types) => Ok(types),
         Err(e) => Err(e.at(index)),

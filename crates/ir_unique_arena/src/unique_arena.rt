@@ -88,6 +88,27 @@ impl<T: Eq + Hash, K> UniqueArena<T, K> {
         }
     }
 
+    /// The same with room for so many values.
+    ///
+    /// # Errors
+    ///
+    /// `AllocError` where there is no memory.
+    pub fn with_capacity_and_hasher(
+        alloc: Global,
+        count: usize,
+        hash_builder: KeyedState,
+    ) -> Result<Self, AllocError>
+    where
+        T: Drop,
+        ensures { IfOk result (λ arena. arena ≡ []) }
+    {
+        Ok(UniqueArena {
+            values: IndexSet::with_capacity_and_hasher(alloc, count, hash_builder)?,
+            spans: Vec::with_capacity(alloc, count)?,
+            key: PhantomData,
+        })
+    }
+
     /// An arena that holds the same, each value with its span. It asks that values which hold the same
     /// compare the same, so that the copies of unequal values are unequal.
     ///
