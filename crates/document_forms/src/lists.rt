@@ -61,10 +61,10 @@ pub fn take_into<F: Take, C: Grow<F>>(alloc: Global, value: Value, empty: C) -> 
     ensures found { IfOk result (λ c. Some (map F.view (C.items c)) ≡ all_of F.form.find (data_of value)) }
     ensures refused { IfErr result (λ e. e ≢ Memory → NoneTaken C.refuses F.view (all_of F.form.find (data_of value))) }
 {
-    let Value::Array(items) = value else {
+    let Value::Array(written) = value else {
         return Err(ReadError::here(Wanted::List));
     };
-    take_items::<F, C>(alloc, items, empty)
+    take_items::<F, C>(alloc, written, empty)
 }
 
 // The items of an array, each let go of once it is read, in what has none yet.
