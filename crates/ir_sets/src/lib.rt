@@ -6,5 +6,6 @@
 //! [`handle_vec::HandleVec`] the list of its values.
 #![tactic(auto)]
 
+pub mod bits;
 pub mod handle_set;
 pub mod handle_vec;

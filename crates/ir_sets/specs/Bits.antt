@@ -1,0 +1,56 @@
+-- Sets of numbers as bits of words: the bit of a number n stands in word n / 64, at place n % 64.
+use Rattle.std.specs.Prelude.{◌≡◌, ℕ, ◌+◌, ◌-◌, ◌*◌, ◌/◌, ◌%◌, ◌^◌, ◌<◌, ◌≤◌, Bool, true, false, ◌&&◌, List, [], ◌∷◌, length, nat_eq, nat_le, nat_lt, slice_index}
+use Rattle.std.specs.Int.{bit_at}
+use Rattle.std.specs.List.{filter, range_with_len}
+use Rattle.std.specs.Ordering.{nat_cmp}
+use Rattle.std.specs.FinSet as set
+
+-- whether the words have the bit of a number
+unfoldable pub has_bit : List ℕ → ℕ → Bool
+has_bit words n = nat_eq (bit_at (slice_index words (n / 64)) (n % 64)) 1
+
+-- of so many numbers from n on, those that the words have the bit of, in ascending order
+abbrev pub bits_from : List ℕ → ℕ → ℕ → List ℕ
+bits_from words n count = filter (has_bit words) (range_with_len n count)
+
+-- all numbers that the words have the bit of, in ascending order
+abbrev pub bits_of : List ℕ → List ℕ
+bits_of words = bits_from words 0 (64 * length words)
+
+-- their set
+unfoldable pub members : List ℕ → set.FinSet nat_cmp
+members words = set.from_list (bits_of words)
+
+-- whether n is one of the numbers from one on, below another
+abbrev pub is_between : ℕ → ℕ → ℕ → Bool
+is_between from end n = nat_le from n && nat_lt n end
+
+-- the words have no bit of the numbers from one on, below another
+abbrev pub NoneBetween : List ℕ → ℕ → ℕ → Type 0
+NoneBetween words from end = (n : ℕ) → from ≤ n → n < end → has_bit words n ≡ false
+
+-- n is the first number from one on, below another, that the words have the bit of
+pub record IsFirst (words : List ℕ) (from end n : ℕ) : Type 0 where
+  pub reached : from ≤ n
+  pub within : n < end
+  pub set : has_bit words n ≡ true
+  pub before : NoneBetween words from n
+
+-- n is the greatest number that the words have the bit of
+pub record IsGreatest (words : List ℕ) (n : ℕ) : Type 0 where
+  pub set : has_bit words n ≡ true
+  pub last : (q : ℕ) → has_bit words q ≡ true → q ≤ n
+
+-- the last word is not 0
+abbrev pub IsTrimmed : List ℕ → Type 0
+IsTrimmed words = 0 < length words → 0 < slice_index words (length words - 1)
+
+-- no more words than handles have bits for
+abbrev pub IsShort : List ℕ → Type 0
+IsShort words = length words ≤ 67108864
+
+-- what the words of a set of handles are like
+pub record AreWords (words : List ℕ) : Type 0 where
+  pub trimmed : IsTrimmed words
+  pub short : IsShort words
+  pub indexes : (n : ℕ) → has_bit words n ≡ true → n < 4294967295

@@ -1,0 +1,98 @@
+//! Sets of numbers as bits of words of 64: the bit of a number stands in the word `number / 64`.
+
+ghost use Rattle.std.specs.Prelude.{◌≡◌, ◌*◌, ◌^◌, ◌<◌, ◌≤◌, ◌&&◌, ◌||◌, ◌-◌, ℕ, length, slice_index, nat_eq, not, IfNone, IfSome, OnOk, OnErr};
+ghost use Rattle.std.specs.Int.{bit_at, from_bool};
+ghost use Rattle.ir_sets.specs.Bits.{has_bit, bits_of, is_between, NoneBetween, IsFirst, IsGreatest, IsTrimmed, IsShort};
+
+use std::alloc::AllocError;
+
+/// Whether a number is one of them.
+pub fn contains(words: &[u64], number: usize) -> bool
+    ensures { result ≡ has_bit words.now number }
+{
+    match words.get(number / 64) {
+        Some(word) => (*word >> (number % 64)) & 1 == 1,
+        None => false,
+    }
+}
+
+/// Makes room for the numbers below `end`, and changes none of them.
+///
+/// # Errors
+///
+/// `AllocError` where there is no memory. The words then stay as they were.
+pub fn reserve(words: &mut Vec<u64>, end: usize) -> Result<(), AllocError>
+    ensures room { OnOk result (end ≤ 64 * length words.new.items) }
+    ensures bits { (n : ℕ) → has_bit words.new.items n ≡ has_bit words.old.items n }
+    ensures longer { length words.old.items ≤ length words.new.items }
+    ensures err { OnErr result (words.new.items ≡ words.old.items) }
+{
+    let count = end.div_ceil(64);
+    if words.len() < count {
+        words.resize(count, 0)?;
+    }
+    Ok(())
+}
+
+/// Adds a number that there is room for.
+pub fn insert(words: &mut [u64], number: usize)
+    requires { number < 64 * length words.old }
+    ensures len { length words.new ≡ length words.old }
+    ensures bits { (n : ℕ) → has_bit words.new n ≡ (nat_eq n number || has_bit words.old n) }
+{
+    words[number / 64] |= 1 << (number % 64);
+}
+
+/// Takes a number out, if it is one of them.
+pub fn remove(words: &mut [u64], number: usize)
+    ensures len { length words.new ≡ length words.old }
+    ensures bits { (n : ℕ) → has_bit words.new n ≡ (not (nat_eq n number) && has_bit words.old n) }
+{
+    if number / 64 < words.len() {
+        words[number / 64] &= !(1 << (number % 64));
+    }
+}
+
+/// The first number from one on, below another, if there is one. The time is that of the words between the two.
+pub fn first_between(words: &[u64], from: usize, end: usize) -> Option<usize>
+    requires { end ≤ 2 ^ 32 }
+    ensures none { IfNone result (NoneBetween words.now from end) }
+    ensures some { IfSome result (λ n. IsFirst words.now from end n) }
+{
+    let mut place = from;
+    while place < end {
+        let Some(word) = words.get(place / 64) else {
+            return None;
+        };
+        let rest = *word >> (place % 64);
+        if rest != 0 {
+            let first = place + rest.trailing_zeros() as usize;
+            return if first < end { Some(first) } else { None };
+        }
+        place = (place / 64 + 1) * 64;
+    }
+    None
+}
+
+/// How many numbers there are, by counting them word by word.
+pub fn count(words: &[u64]) -> usize
+    requires { IsShort words.now }
+    ensures { result ≡ length (bits_of words.now) }
+{
+    let mut total = 0;
+    for word in words {
+        total += word.count_ones() as usize;
+    }
+    total
+}
+
+/// The greatest number of words of which the last is not 0, or `None` where there is no word.
+pub fn greatest(words: &[u64]) -> Option<usize>
+    requires trimmed { IsTrimmed words.now }
+    requires short { IsShort words.now }
+    ensures none { IfNone result (length words.now ≡ 0) }
+    ensures some { IfSome result (λ n. IsGreatest words.now n) }
+{
+    let (last, before) = words.split_last()?;
+    Some(before.len() * 64 + last.ilog2() as usize)
+}
