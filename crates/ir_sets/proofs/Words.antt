@@ -1,5 +1,5 @@
 -- Bits of words.
-use Rattle.std.proofs.Common.{◌≡◌, ◌≢◌, ℕ, zero, suc, ◌+◌, ◌-◌, ◌*◌, ◌/◌, ◌%◌, ◌^◌, ◌<◌, ◌≤◌, Bool, true, false, not, cond, ◌&&◌, ◌||◌, List, [], ◌∷◌, ◌++◌, length, get_or, take, drop, set, replicate, filter, nat_eq, count_ones, true≢false, bit_and, bit_or, refl, sym, ap, subst, inl, inr, ◌∙◌, arith, w64, pow_pos, pow-suc}
+use Rattle.std.proofs.Common.{◌≡◌, ◌≢◌, ℕ, zero, suc, ◌+◌, ◌-◌, ◌*◌, ◌/◌, ◌%◌, ◌^◌, ◌<◌, ◌≤◌, Bool, true, false, not, cond, ◌&&◌, ◌||◌, List, [], ◌∷◌, ◌++◌, length, get_or, take, drop, set, replicate, filter, nat_eq, count_ones, true≢false, bit_and, bit_or, refl, sym, ap, subst, inl, inr, ◌∙◌, arith, w64, pow_pos, pow-suc, pow-add, pow_mono, mod-eq_of_lt}
 use Rattle.std.specs.Int.{bit_at, bit_not}
 use Rattle.std.specs.Int.Count.{ones_step, ones-le}
 use Rattle.std.specs.List.{range_with_len}
@@ -9,8 +9,9 @@ use Rattle.std.proofs.lemmas.List.Elements.{filter-append}
 use Rattle.std.proofs.lemmas.List.FromFn.{length-range_with_len}
 use Rattle.std.proofs.lemmas.List.Filters.{length-filter_both}
 use Rattle.std.proofs.lemmas.Nat.{shr-shr, le-div, div_below, shr_below}
-use Rattle.std.proofs.lemmas.Nat.Bits.{bit_at-zero, bit_at-suc, bit_at_lowest, shr_and_one, bit_at_above, bit_at_set_same, bit_at_set_other, bit_at_clear_same, bit_at_clear_other}
-use Rattle.ir_sets.specs.Bits.{has_bit, bits_from, bits_of, NoneBetween, IsFirst, IsGreatest}
+use Rattle.std.proofs.Math.Pow.{high_ones}
+use Rattle.std.proofs.lemmas.Nat.Bits.{bit_at-zero, bit_at-suc, bit_at_lowest, shr_and_one, bit_at_above, bit_at_set_same, bit_at_set_other, bit_at_clear_same, bit_at_clear_other, bit_at_or, bit_at_and, bit_at_not, bit_at-lt, bit_at_mask_inside, bit_at_mask_below, bit_at_mask_above, ones_shr}
+use Rattle.ir_sets.specs.Bits.{has_bit, AreAdded, AreTaken, bits_from, bits_of, NoneBetween, IsFirst, IsGreatest}
 
 -- ---- one bit
 
@@ -92,6 +93,95 @@ longer words count n =
             | inr past ↦ get_or_past (replicate count 0) (n / 64 - length words) 0 (omega (arith, length-replicate {A = ℕ} count 0))
           ] ∙ sym (get_or_past words (n / 64) 0 out)
     ])
+
+-- ---- the bits between two places
+
+mask_fits : (low high : ℕ) → high ≤ 64 → 2 ^ high - 2 ^ low < 2 ^ 64
+mask_fits low high most = let whole : 2 ^ high ≤ 2 ^ 64 = pow_mono most in omega (arith, pow_pos low, pow_pos high)
+
+-- the mask of a part of a word
+pub mask_is : (low high : ℕ) → low < high → high ≤ 64 → (2 ^ 64 - 1) / 2 ^ (64 - (high - low)) * 2 ^ low % 2 ^ 64 ≡ 2 ^ high - 2 ^ low
+mask_is low high less most =
+    let count : ℕ = high - low in
+    let short : (2 ^ 64 - 1) / 2 ^ (64 - count) ≡ 2 ^ (64 - (64 - count)) - 1 = ones_shr 64 (64 - count) (omega arith) in
+    let back : 64 - (64 - count) ≡ count = omega arith in
+    let up : count + low ≡ high = omega arith in
+    let is : (2 ^ count - 1) * 2 ^ low ≡ 2 ^ high - 2 ^ low = sym (high_ones count low) ∙ ap (λ k. 2 ^ k - 2 ^ low) up in
+    ap (λ x. x * 2 ^ low % 2 ^ 64) (short ∙ ap (λ k. 2 ^ k - 1) back) ∙ ap (λ x. x % 2 ^ 64) is ∙ mod-eq_of_lt (mask_fits low high most)
+
+outside : (low high i : ℕ) → (low ≤ i → i < high → ⊥) → bit_at (2 ^ high - 2 ^ low) i ≡ 0
+outside low high i out =
+    elim (cases_lt i low) [
+      | inl early ↦ bit_at_mask_below low high i early
+      | inr reached ↦ elim (cases_lt i high) [ inl within ↦ absurd (out reached within) | inr late ↦ bit_at_mask_above low high i late ]
+    ]
+
+module _ (words : List ℕ) (place next : ℕ) (before : place < next) (within : next ≤ (place / 64 + 1) * 64) (inside : place / 64 < length words) where
+  -- a word of which the bits from one place on, below another, are changed alone
+  changed : (word : ℕ) (bit : Bool)
+      → ((i : ℕ) → i < 64 → place % 64 ≤ i → i < next - place / 64 * 64 → nat_eq (bit_at word i) 1 ≡ bit)
+      → ((i : ℕ) → i < 64 → (place % 64 ≤ i → i < next - place / 64 * 64 → ⊥) → bit_at word i ≡ bit_at (get_or words (place / 64) 0) i)
+      → ((n : ℕ) → place ≤ n → n < next → has_bit (set words (place / 64) word) n ≡ bit)
+      × ((n : ℕ) → (place ≤ n → n < next → ⊥) → has_bit (set words (place / 64) word) n ≡ has_bit words n)
+  unfolding has_bit
+  changed word bit inner outer =
+      let here : (n : ℕ) → n / 64 ≡ place / 64 → get_or (set words (place / 64) word) (n / 64) 0 ≡ word =
+          λ n is. rw is (get_or-set_same words (place / 64) word 0 inside) in (
+        λ n reached low.
+            let is : n / 64 ≡ place / 64 = omega arith in
+            rw (here n is) (inner (n % 64) (omega arith) (omega arith) (omega arith)),
+        λ n out.
+            elim (cases_eq (n / 64) (place / 64)) [
+              | inl is ↦
+                  rw (here n is, outer (n % 64) (omega arith) (λ reached low. out (omega arith) (omega arith)), is) refl
+              | inr far ↦ rw (get_or-set_other words (place / 64) (n / 64) word 0 far) refl
+            ],
+      )
+
+  pub added_part : (mask : ℕ) → mask ≡ 2 ^ (next - place / 64 * 64) - 2 ^ (place % 64) → AreAdded words (set words (place / 64) (bit_or (get_or words (place / 64) 0) mask)) place next
+  added_part mask is =
+      let w : ℕ = get_or words (place / 64) 0 in
+      let parts = changed (bit_or w mask) true
+      (λ i low from to.
+          let one : bit_at mask i ≡ 1 = rw is (bit_at_mask_inside (place % 64) (next - place / 64 * 64) i from to) in
+          ap (λ b. nat_eq b 1) (let e : bit_at (bit_or w mask) i ≡ 1 = omega (arith, bit_at_or w mask i, bit_at-lt w i) in e))
+      (λ i low out.
+          let none : bit_at mask i ≡ 0 = rw is (outside (place % 64) (next - place / 64 * 64) i out) in
+          omega (arith, bit_at_or w mask i)) in
+      record { within = parts.0; others = parts.1 }
+
+  pub taken_part : (mask : ℕ) → mask ≡ 2 ^ (next - place / 64 * 64) - 2 ^ (place % 64) → AreTaken words (set words (place / 64) (bit_and (get_or words (place / 64) 0) (2 ^ 64 - 1 - mask))) place next
+  taken_part mask is =
+      let w : ℕ = get_or words (place / 64) 0 in
+      let fits : mask < 2 ^ 64 = rw is (mask_fits (place % 64) (next - place / 64 * 64) (omega arith)) in
+      let parts = changed (bit_and w (2 ^ 64 - 1 - mask)) false
+      (λ i low from to.
+          let one : bit_at mask i ≡ 1 = rw is (bit_at_mask_inside (place % 64) (next - place / 64 * 64) i from to) in
+          ap (λ b. nat_eq b 1) (let e : bit_at (bit_and w (2 ^ 64 - 1 - mask)) i ≡ 0 = omega (arith, bit_at_and w (2 ^ 64 - 1 - mask) i, bit_at_not w64 mask i fits low) in e))
+      (λ i low out.
+          let none : bit_at mask i ≡ 0 = rw is (outside (place % 64) (next - place / 64 * 64) i out) in
+          omega (arith, bit_at_and w (2 ^ 64 - 1 - mask) i, bit_at_not w64 mask i fits low, bit_at-lt w i)) in
+      record { within = parts.0; others = parts.1 }
+
+pub added_more : (old now new : List ℕ) (from place next : ℕ) → from ≤ place → place ≤ next → AreAdded old now from place → AreAdded now new place next → AreAdded old new from next
+added_more old now new from place next reached before early late =
+    record {
+      within = λ n low high. elim (cases_lt n place) [
+        | inl first ↦ late.others n (λ l h. absurd (omega arith)) ∙ early.within n low first
+        | inr second ↦ late.within n second high
+      ];
+      others = λ n out. late.others n (λ l h. out (omega arith) h) ∙ early.others n (λ l h. out l (omega arith));
+    }
+
+pub taken_more : (old now new : List ℕ) (from place next : ℕ) → from ≤ place → place ≤ next → AreTaken old now from place → AreTaken now new place next → AreTaken old new from next
+taken_more old now new from place next reached before early late =
+    record {
+      within = λ n low high. elim (cases_lt n place) [
+        | inl first ↦ late.others n (λ l h. absurd (omega arith)) ∙ early.within n low first
+        | inr second ↦ late.within n second high
+      ];
+      others = λ n out. late.others n (λ l h. out (omega arith) h) ∙ early.others n (λ l h. out l (omega arith));
+    }
 
 -- ---- the first bit from a place on
 

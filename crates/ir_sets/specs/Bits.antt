@@ -21,9 +21,15 @@ bits_of words = bits_from words 0 (64 * length words)
 unfoldable pub members : List ℕ → set.FinSet nat_cmp
 members words = set.from_list (bits_of words)
 
--- whether n is one of the numbers from one on, below another
-abbrev pub is_between : ℕ → ℕ → ℕ → Bool
-is_between from end n = nat_le from n && nat_lt n end
+-- the new words have the bits of the numbers from one on, below another, and of all others what the old ones have
+pub record AreAdded (old new : List ℕ) (from end : ℕ) : Type 0 where
+  pub within : (n : ℕ) → from ≤ n → n < end → has_bit new n ≡ true
+  pub others : (n : ℕ) → (from ≤ n → n < end → ⊥) → has_bit new n ≡ has_bit old n
+
+-- the new words have no bit of the numbers from one on, below another, and of all others what the old ones have
+pub record AreTaken (old new : List ℕ) (from end : ℕ) : Type 0 where
+  pub within : (n : ℕ) → from ≤ n → n < end → has_bit new n ≡ false
+  pub others : (n : ℕ) → (from ≤ n → n < end → ⊥) → has_bit new n ≡ has_bit old n
 
 -- the words have no bit of the numbers from one on, below another
 abbrev pub NoneBetween : List ℕ → ℕ → ℕ → Type 0

@@ -2,7 +2,7 @@
 
 ghost use Rattle.std.specs.Prelude.{◌≡◌, ◌*◌, ◌^◌, ◌<◌, ◌≤◌, ◌&&◌, ◌||◌, ◌-◌, ℕ, length, slice_index, nat_eq, not, IfNone, IfSome, OnOk, OnErr};
 ghost use Rattle.std.specs.Int.{bit_at, from_bool};
-ghost use Rattle.ir_sets.specs.Bits.{has_bit, bits_of, is_between, NoneBetween, IsFirst, IsGreatest, IsTrimmed, IsShort};
+ghost use Rattle.ir_sets.specs.Bits.{has_bit, bits_of, AreAdded, AreTaken, NoneBetween, IsFirst, IsGreatest, IsTrimmed, IsShort};
 
 use std::alloc::AllocError;
 
@@ -50,6 +50,47 @@ pub fn remove(words: &mut [u64], number: usize)
 {
     if number / 64 < words.len() {
         words[number / 64] &= !(1 << (number % 64));
+    }
+}
+
+// The word that has the bits from `low` on, below `high`.
+fn ones_between(low: usize, high: usize) -> u64
+    requires ordered { low < high }
+    requires within { high ≤ 64 }
+    ensures { result ≡ 2 ^ high - 2 ^ low }
+{
+    (u64::MAX >> (64 - (high - low))) << low
+}
+
+/// Adds the numbers from one on, below another, for which there is room. The time is that of the words between the two.
+pub fn insert_between(words: &mut [u64], from: usize, end: usize)
+    requires room { end ≤ 64 * length words.old }
+    requires small { end ≤ 2 ^ 32 }
+    ensures len { length words.new ≡ length words.old }
+    ensures added { AreAdded words.old words.new from end }
+{
+    let mut place = from;
+    while place < end {
+        let index = place / 64;
+        let next = end.min((index + 1) * 64);
+        words[index] |= ones_between(place % 64, next - index * 64);
+        place = next;
+    }
+}
+
+/// Takes the numbers from one on, below another, out. The time is that of the words between the two.
+pub fn remove_between(words: &mut [u64], from: usize, end: usize)
+    requires room { end ≤ 64 * length words.old }
+    requires small { end ≤ 2 ^ 32 }
+    ensures len { length words.new ≡ length words.old }
+    ensures taken { AreTaken words.old words.new from end }
+{
+    let mut place = from;
+    while place < end {
+        let index = place / 64;
+        let next = end.min((index + 1) * 64);
+        words[index] &= !ones_between(place % 64, next - index * 64);
+        place = next;
     }
 }
 
