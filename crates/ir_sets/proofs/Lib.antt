@@ -1,3 +1,2 @@
 pub mod Members
-pub mod Rising
 pub mod Words

@@ -1,17 +1,17 @@
 -- Bits of words.
-use Rattle.std.proofs.Common.{◌≡◌, ◌≢◌, ℕ, zero, suc, ◌+◌, ◌-◌, ◌*◌, ◌/◌, ◌%◌, ◌^◌, ◌<◌, ◌≤◌, Bool, true, false, not, cond, ◌&&◌, ◌||◌, List, [], ◌∷◌, ◌++◌, length, get_or, take, drop, set, replicate, filter, nat_eq, count_ones, true≢false, bit_and, bit_or, refl, sym, ap, subst, inl, inr, ◌∙◌, arith, w64, pow_pos, pow-suc, pow-add, pow_mono, mod-eq_of_lt}
-use Rattle.std.specs.Int.{bit_at, bit_not}
+use Rattle.std.proofs.Common.{◌≡◌, ℕ, zero, suc, ◌+◌, ◌-◌, ◌*◌, ◌/◌, ◌%◌, ◌^◌, ◌<◌, ◌≤◌, Bool, true, false, not, ◌&&◌, ◌||◌, List, [], ◌∷◌, ◌++◌, length, get_or, take, set, replicate, filter, nat_eq, count_ones, true≢false, bit_and, bit_or, refl, sym, ap, inl, inr, ◌∙◌, arith, w64, pow_pos, pow-suc, pow_mono, mod-eq_of_lt}
+use Rattle.std.specs.Int.{bit_at, trailing_zeros}
 use Rattle.std.specs.Int.Count.{ones_step, ones-le}
 use Rattle.std.specs.List.{range_with_len}
 use Rattle.std.proofs.lemmas.Bool.{cases_eq, cases_lt, eq-eqb, ne_eqb}
-use Rattle.std.proofs.lemmas.List.{get_or_past, get_or_append_left, get_or-append_right, get_or-replicate, get_or-set_same, get_or-set_other, get_or_at, length-append, length-replicate}
+use Rattle.std.proofs.lemmas.List.{get_or_past, get_or_append_left, get_or-append_right, get_or-replicate, get_or-set_same, get_or-set_other, get_or_at, get_or-take, length-take, length-take-le, length-append, length-replicate}
 use Rattle.std.proofs.lemmas.List.Elements.{filter-append}
 use Rattle.std.proofs.lemmas.List.FromFn.{length-range_with_len}
 use Rattle.std.proofs.lemmas.List.Filters.{length-filter_both}
 use Rattle.std.proofs.lemmas.Nat.{shr-shr, le-div, div_below, shr_below}
 use Rattle.std.proofs.Math.Pow.{high_ones}
-use Rattle.std.proofs.lemmas.Nat.Bits.{bit_at-zero, bit_at-suc, bit_at_lowest, shr_and_one, bit_at_above, bit_at_set_same, bit_at_set_other, bit_at_clear_same, bit_at_clear_other, bit_at_or, bit_at_and, bit_at_not, bit_at-lt, bit_at_mask_inside, bit_at_mask_below, bit_at_mask_above, ones_shr}
-use Rattle.ir_sets.specs.Bits.{has_bit, AreAdded, AreTaken, bits_from, bits_of, NoneBetween, IsFirst, IsGreatest}
+use Rattle.std.proofs.lemmas.Nat.Bits.{bit_at-zero, bit_at-suc, bit_at_lowest, shr_and_one, bit_at_above, bit_at_set_same, bit_at_set_other, bit_at_clear_same, bit_at_clear_other, bit_at_or, bit_at_and, bit_at_not, bit_at-lt, bit_at_mask_inside, bit_at_mask_below, bit_at_mask_above, bit_at-trailing_zeros, ones_shr}
+use Rattle.ir_sets.specs.Bits.{has_bit, AreAdded, AreTaken, bits_from, NoneBetween, IsFirst, IsGreatest, IsTrimmed}
 
 -- ---- one bit
 
@@ -126,7 +126,7 @@ module _ (words : List ℕ) (place next : ℕ) (before : place < next) (within :
   unfolding has_bit
   changed word bit inner outer =
       let here : (n : ℕ) → n / 64 ≡ place / 64 → get_or (set words (place / 64) word) (n / 64) 0 ≡ word =
-          λ n is. rw is (get_or-set_same words (place / 64) word 0 inside) in (
+      λ n is. rw is (get_or-set_same words (place / 64) word 0 inside) in (
         λ n reached low.
             let is : n / 64 ≡ place / 64 = omega arith in
             rw (here n is) (inner (n % 64) (omega arith) (omega arith) (omega arith)),
@@ -143,11 +143,11 @@ module _ (words : List ℕ) (place next : ℕ) (before : place < next) (within :
       let w : ℕ = get_or words (place / 64) 0 in
       let parts = changed (bit_or w mask) true
       (λ i low from to.
-          let one : bit_at mask i ≡ 1 = rw is (bit_at_mask_inside (place % 64) (next - place / 64 * 64) i from to) in
-          ap (λ b. nat_eq b 1) (let e : bit_at (bit_or w mask) i ≡ 1 = omega (arith, bit_at_or w mask i, bit_at-lt w i) in e))
+      let one : bit_at mask i ≡ 1 = rw is (bit_at_mask_inside (place % 64) (next - place / 64 * 64) i from to) in
+      ap (λ b. nat_eq b 1) (let e : bit_at (bit_or w mask) i ≡ 1 = omega (arith, bit_at_or w mask i, bit_at-lt w i) in e))
       (λ i low out.
-          let none : bit_at mask i ≡ 0 = rw is (outside (place % 64) (next - place / 64 * 64) i out) in
-          omega (arith, bit_at_or w mask i)) in
+      let none : bit_at mask i ≡ 0 = rw is (outside (place % 64) (next - place / 64 * 64) i out) in
+      omega (arith, bit_at_or w mask i)) in
       record { within = parts.0; others = parts.1 }
 
   pub taken_part : (mask : ℕ) → mask ≡ 2 ^ (next - place / 64 * 64) - 2 ^ (place % 64) → AreTaken words (set words (place / 64) (bit_and (get_or words (place / 64) 0) (2 ^ 64 - 1 - mask))) place next
@@ -156,11 +156,11 @@ module _ (words : List ℕ) (place next : ℕ) (before : place < next) (within :
       let fits : mask < 2 ^ 64 = rw is (mask_fits (place % 64) (next - place / 64 * 64) (omega arith)) in
       let parts = changed (bit_and w (2 ^ 64 - 1 - mask)) false
       (λ i low from to.
-          let one : bit_at mask i ≡ 1 = rw is (bit_at_mask_inside (place % 64) (next - place / 64 * 64) i from to) in
-          ap (λ b. nat_eq b 1) (let e : bit_at (bit_and w (2 ^ 64 - 1 - mask)) i ≡ 0 = omega (arith, bit_at_and w (2 ^ 64 - 1 - mask) i, bit_at_not w64 mask i fits low) in e))
+      let one : bit_at mask i ≡ 1 = rw is (bit_at_mask_inside (place % 64) (next - place / 64 * 64) i from to) in
+      ap (λ b. nat_eq b 1) (let e : bit_at (bit_and w (2 ^ 64 - 1 - mask)) i ≡ 0 = omega (arith, bit_at_and w (2 ^ 64 - 1 - mask) i, bit_at_not w64 mask i fits low) in e))
       (λ i low out.
-          let none : bit_at mask i ≡ 0 = rw is (outside (place % 64) (next - place / 64 * 64) i out) in
-          omega (arith, bit_at_and w (2 ^ 64 - 1 - mask) i, bit_at_not w64 mask i fits low, bit_at-lt w i)) in
+      let none : bit_at mask i ≡ 0 = rw is (outside (place % 64) (next - place / 64 * 64) i out) in
+      omega (arith, bit_at_and w (2 ^ 64 - 1 - mask) i, bit_at_not w64 mask i fits low, bit_at-lt w i)) in
       record { within = parts.0; others = parts.1 }
 
 pub added_more : (old now new : List ℕ) (from place next : ℕ) → from ≤ place → place ≤ next → AreAdded old now from place → AreAdded now new place next → AreAdded old new from next
@@ -207,14 +207,14 @@ module _ (words : List ℕ) (place word : ℕ) (is : word ≡ get_or words (plac
   first_left t lowest =
       let rest : ℕ = word / 2 ^ (place % 64) in
       let low : place % 64 + t < 64 =
-          elim (cases_lt (place % 64 + t) 64) [
-            | inl low ↦ low
-            | inr high ↦
-                let up : 64 - place % 64 + place % 64 ≡ 64 = omega arith in
-                let small : rest < 2 ^ (64 - place % 64) = shr_below word (64 - place % 64) (place % 64) (rw up fits) in
-                let none : bit_at rest t ≡ 0 = bit_at_above rest (64 - place % 64) t small (omega arith) in
-                absurd (omega (arith, none, lowest.1))
-          ] in
+      elim (cases_lt (place % 64 + t) 64) [
+        | inl low ↦ low
+        | inr high ↦
+            let up : 64 - place % 64 + place % 64 ≡ 64 = omega arith in
+            let small : rest < 2 ^ (64 - place % 64) = shr_below word (64 - place % 64) (place % 64) (rw up fits) in
+            let none : bit_at rest t ≡ 0 = bit_at_above rest (64 - place % 64) t small (omega arith) in
+            absurd (omega (arith, none, lowest.1))
+      ] in
       record {
         set = ahead t low ∙ ap (λ b. nat_eq b 1) lowest.1;
         before = λ n reached within.
@@ -265,7 +265,7 @@ module _ (before : List ℕ) (last high : ℕ) (least : 2 ^ high ≤ last) (most
 
 -- ---- how many
 
-range_split : (a n m : ℕ) → range_with_len a (n + m) ≡ range_with_len a n ++ range_with_len (a + n) m
+pub range_split : (a n m : ℕ) → range_with_len a (n + m) ≡ range_with_len a n ++ range_with_len (a + n) m
 range_split a zero m = let none : zero + m ≡ m = omega arith in let same : a + zero ≡ a = omega arith in rw (none, same) refl
 range_split a (suc n) m =
     let more : suc n + m ≡ suc (n + m) = omega arith in
@@ -278,8 +278,8 @@ ones_of zero word from p small tells = omega (arith, ones-le 0 word small)
 ones_of (suc k) word from p small tells =
     let first : p from ≡ nat_eq (word % 2) 1 = ap p (let e : from ≡ from + 0 = omega arith in e) ∙ tells 0 (omega arith) ∙ ap (λ b. nat_eq b 1) (bit_at_lowest word) in
     let rest : length (filter p (range_with_len (from + 1) k)) ≡ count_ones (word / 2) =
-        ones_of k (word / 2) (from + 1) p (omega (arith, pow-suc 2 k))
-        (λ t low. ap p (let e : from + 1 + t ≡ from + suc t = omega arith in e) ∙ tells (suc t) (omega arith) ∙ ap (λ b. nat_eq b 1) (bit_at-suc word t)) in
+    ones_of k (word / 2) (from + 1) p (omega (arith, pow-suc 2 k))
+    (λ t low. ap p (let e : from + 1 + t ≡ from + suc t = omega arith in e) ∙ tells (suc t) (omega arith) ∙ ap (λ b. nat_eq b 1) (bit_at-suc word t)) in
     elim (cases_eq (word % 2) 1) [
       | inl odd ↦ rw (first, eq-eqb (word % 2) 1 odd) (omega (arith, rest, ones_step word))
       | inr even ↦ rw (first, ne_eqb (word % 2) 1 even) (omega (arith, rest, ones_step word))
@@ -290,9 +290,9 @@ unfolding has_bit
 of_word words i word k whole is small =
     ones_of k word (k * i) (has_bit words) small
     (λ t low.
-        let at : (k * i + t) / 64 ≡ i = rw whole (omega arith) in
-        let place : (k * i + t) % 64 ≡ t = rw whole (omega arith) in
-        rw (at, place, ← is) refl)
+    let at : (k * i + t) / 64 ≡ i = rw whole (omega arith) in
+    let place : (k * i + t) % 64 ≡ t = rw whole (omega arith) in
+    rw (at, place, ← is) refl)
 
 more_words : (words : List ℕ) (i word k : ℕ) → k ≡ 64 → word ≡ get_or words i 0 → word < 2 ^ k → length (bits_from words 0 (k * (i + 1))) ≡ length (bits_from words 0 (k * i)) + count_ones word
 more_words words i word k whole is small =
@@ -313,3 +313,72 @@ kept_at_most p xs = omega (arith, length-filter_both p (λ x. not (p x)) (λ x. 
 
 pub count_most : (words : List ℕ) (from count : ℕ) → length (bits_from words from count) ≤ count
 count_most words from count = omega (arith, kept_at_most (has_bit words) (range_with_len from count), length-range_with_len from count)
+
+-- ---- the words up to the last that is not 0
+
+pub front_bits : (words : List ℕ) (count : ℕ) → ((k : ℕ) → count ≤ k → get_or words k 0 ≡ 0) → (n : ℕ) → has_bit (take count words) n ≡ has_bit words n
+front_bits words count zeros n =
+    same_word (take count words) words n
+    (elim (cases_lt (n / 64) count) [
+      | inl inside ↦ get_or-take count words (n / 64) 0 inside
+      | inr out ↦ get_or_past (take count words) (n / 64) 0 (omega (arith, length-take count words)) ∙ sym (zeros (n / 64) out)
+    ])
+
+-- a word that is not 0 has a bit
+some_bit : (words : List ℕ) (i : ℕ) → 0 < get_or words i 0 → get_or words i 0 < 2 ^ 64 → (n : ℕ) × (n / 64 ≡ i) × (has_bit words n ≡ true)
+unfolding has_bit
+some_bit words i some small =
+    let lowest = bit_at-trailing_zeros w64 (get_or words i 0) some small in
+    let place : ℕ = trailing_zeros w64 (get_or words i 0) in
+    let low : place < 64 = lowest.0 in
+    let at : (64 * i + place) / 64 ≡ i = omega arith in
+    let bit : (64 * i + place) % 64 ≡ place = omega arith in
+    (64 * i + place, at, rw (at, bit) (ap (λ b. nat_eq b 1) lowest.1))
+
+pub front_trimmed : (words new : List ℕ) (count : ℕ) → new ≡ take count words → count ≤ length words → (0 < count → get_or words (count - 1) 0 ≡ 0 → ⊥)
+    → ((k : ℕ) (d : ℕ) → k < length new → get_or new k d < 2 ^ 64) → IsTrimmed new
+front_trimmed words new count front within some small long =
+    let is : length new ≡ count = ap length front ∙ length-take-le count words within in
+    let more : 0 < count = omega arith in
+    let not_zero : get_or words (count - 1) 0 ≡ 0 → ⊥ = some more in
+    let same : get_or new (count - 1) 0 ≡ get_or words (count - 1) 0 = rw front (get_or-take count words (count - 1) 0 (omega arith)) in
+    let found = some_bit new (count - 1) (omega arith) (small (count - 1) 0 (omega arith)) in
+    (found.0, omega (arith, found.1), found.2)
+
+pub last_some : (words before : List ℕ) (last : ℕ) → words ≡ before ++ last ∷ [] → IsTrimmed words → 0 < last
+unfolding has_bit
+last_some words before last is trimmed =
+    let long : length words ≡ length before + 1 = ap length is ∙ length-append before (last ∷ []) in
+    let found = trimmed (omega arith) in
+    let at : found.0 / 64 ≡ length before = omega (arith, found.1) in
+    let word : get_or words (found.0 / 64) 0 ≡ last = rw (at, is) (get_or_at before last [] 0 (length before) refl) in
+    elim (cases_eq last 0) [
+      | inl none ↦ absurd (true≢false (sym found.2 ∙ ap (λ w. nat_eq (bit_at w (found.0 % 64)) 1) (word ∙ none) ∙ ap (λ b. nat_eq b 1) (bit_at-zero (found.0 % 64))))
+      | inr some ↦ omega arith
+    ]
+
+-- ---- in order, from a place on
+
+none_kept : (p : ℕ → Bool) (from count : ℕ) → ((n : ℕ) → from ≤ n → n < from + count → p n ≡ false) → filter p (range_with_len from count) ≡ []
+none_kept p from zero none = refl
+none_kept p from (suc count) none = rw (none from (omega arith) (omega arith)) (none_kept p (from + 1) count (λ n reached within. none n (omega arith) (omega arith)))
+
+first_kept : (p : ℕ → Bool) (from skipped rest : ℕ) → ((n : ℕ) → from ≤ n → n < from + skipped → p n ≡ false) → p (from + skipped) ≡ true
+    → filter p (range_with_len from (skipped + suc rest)) ≡ (from + skipped) ∷ filter p (range_with_len (from + skipped + 1) rest)
+first_kept p from skipped rest none one =
+    ap (filter p) (range_split from skipped (suc rest)) ∙ filter-append p (range_with_len from skipped) (range_with_len (from + skipped) (suc rest))
+    ∙ ap (λ l. l ++ filter p (range_with_len (from + skipped) (suc rest))) (none_kept p from skipped none)
+    ∙ rw one refl
+
+pub none_to_come : (words : List ℕ) (from end : ℕ) → NoneBetween words from end → bits_from words from (end - from) ≡ []
+none_to_come words from end none = none_kept (has_bit words) from (end - from) (λ n reached within. none n reached (omega arith))
+
+pub first_to_come : (words : List ℕ) (from end n : ℕ) → IsFirst words from end n → bits_from words from (end - from) ≡ n ∷ bits_from words (n + 1) (end - (n + 1))
+first_to_come words from end n first =
+    let reached : from ≤ n = first.reached in
+    let within : n < end = first.within in
+    let count : end - from ≡ (n - from) + suc (end - (n + 1)) = omega arith in
+    let at : from + (n - from) ≡ n = omega arith in
+    ap (bits_from words from) count
+    ∙ first_kept (has_bit words) from (n - from) (end - (n + 1)) (λ q low high. first.before q low (omega arith)) (rw at first.set)
+    ∙ ap (λ m. m ∷ bits_from words (m + 1) (end - (n + 1))) at

@@ -1,5 +1,5 @@
 -- Sets of numbers as bits of words: the bit of a number n stands in word n / 64, at place n % 64.
-use Rattle.std.specs.Prelude.{◌≡◌, ℕ, ◌+◌, ◌-◌, ◌*◌, ◌/◌, ◌%◌, ◌^◌, ◌<◌, ◌≤◌, Bool, true, false, ◌&&◌, List, [], ◌∷◌, length, nat_eq, nat_le, nat_lt, slice_index}
+use Rattle.std.specs.Prelude.{◌≡◌, ℕ, ◌+◌, ◌*◌, ◌/◌, ◌%◌, ◌<◌, ◌≤◌, Bool, true, false, List, length, nat_eq, slice_index}
 use Rattle.std.specs.Int.{bit_at}
 use Rattle.std.specs.List.{filter, range_with_len}
 use Rattle.std.specs.Ordering.{nat_cmp}
@@ -47,16 +47,20 @@ pub record IsGreatest (words : List ℕ) (n : ℕ) : Type 0 where
   pub set : has_bit words n ≡ true
   pub last : (q : ℕ) → has_bit words q ≡ true → q ≤ n
 
--- the last word is not 0
+-- the last word is not 0: it has the bit of some number
 abbrev pub IsTrimmed : List ℕ → Type 0
-IsTrimmed words = 0 < length words → 0 < slice_index words (length words - 1)
+IsTrimmed words = 0 < length words → (n : ℕ) × (n / 64 + 1 ≡ length words) × (has_bit words n ≡ true)
 
 -- no more words than handles have bits for
 abbrev pub IsShort : List ℕ → Type 0
 IsShort words = length words ≤ 67108864
 
+-- each number that the words have the bit of is one that a handle can have
+pub record AreShown (words : List ℕ) : Type 0 where
+  pub short : IsShort words
+  pub indexes : (n : ℕ) → has_bit words n ≡ true → n < 4294967295
+
 -- what the words of a set of handles are like
 pub record AreWords (words : List ℕ) : Type 0 where
   pub trimmed : IsTrimmed words
-  pub short : IsShort words
-  pub indexes : (n : ℕ) → has_bit words n ≡ true → n < 4294967295
+  pub shown : AreShown words

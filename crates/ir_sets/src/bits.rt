@@ -1,7 +1,7 @@
 //! Sets of numbers as bits of words of 64: the bit of a number stands in the word `number / 64`.
 
-ghost use Rattle.std.specs.Prelude.{◌≡◌, ◌*◌, ◌^◌, ◌<◌, ◌≤◌, ◌&&◌, ◌||◌, ◌-◌, ℕ, length, slice_index, nat_eq, not, IfNone, IfSome, OnOk, OnErr};
-ghost use Rattle.std.specs.Int.{bit_at, from_bool};
+ghost use Rattle.std.specs.Prelude.{◌≡◌, ◌*◌, ◌^◌, ◌<◌, ◌≤◌, ◌&&◌, ◌||◌, ◌-◌, ℕ, length, max, nat_eq, not, IfNone, IfSome, OnOk, OnErr};
+ghost use Rattle.std.specs.Int.{div_ceil};
 ghost use Rattle.ir_sets.specs.Bits.{has_bit, bits_of, AreAdded, AreTaken, NoneBetween, IsFirst, IsGreatest, IsTrimmed, IsShort};
 
 use std::alloc::AllocError;
@@ -23,8 +23,8 @@ pub fn contains(words: &[u64], number: usize) -> bool
 /// `AllocError` where there is no memory. The words then stay as they were.
 pub fn reserve(words: &mut Vec<u64>, end: usize) -> Result<(), AllocError>
     ensures room { OnOk result (end ≤ 64 * length words.new.items) }
+    ensures len { OnOk result (length words.new.items ≡ max (length words.old.items) (div_ceil end 64)) }
     ensures bits { (n : ℕ) → has_bit words.new.items n ≡ has_bit words.old.items n }
-    ensures longer { length words.old.items ≤ length words.new.items }
     ensures err { OnErr result (words.new.items ≡ words.old.items) }
 {
     let count = end.div_ceil(64);
@@ -115,8 +115,8 @@ pub fn first_between(words: &[u64], from: usize, end: usize) -> Option<usize>
     None
 }
 
-/// How many numbers there are, by counting them word by word.
-pub fn count(words: &[u64]) -> usize
+// How many numbers there are.
+pub(crate) fn count(words: &[u64]) -> usize
     requires { IsShort words.now }
     ensures { result ≡ length (bits_of words.now) }
 {
@@ -127,8 +127,8 @@ pub fn count(words: &[u64]) -> usize
     total
 }
 
-/// The greatest number of words of which the last is not 0, or `None` where there is no word.
-pub fn greatest(words: &[u64]) -> Option<usize>
+// The greatest number of words of which the last is not 0.
+pub(crate) fn greatest(words: &[u64]) -> Option<usize>
     requires trimmed { IsTrimmed words.now }
     requires short { IsShort words.now }
     ensures none { IfNone result (length words.now ≡ 0) }
@@ -136,4 +136,17 @@ pub fn greatest(words: &[u64]) -> Option<usize>
 {
     let (last, before) = words.split_last()?;
     Some(before.len() * 64 + last.ilog2() as usize)
+}
+
+// Lets go of the words behind the last one that is not 0.
+pub(crate) fn trim(words: &mut Vec<u64>)
+    ensures shorter { length words.new.items ≤ length words.old.items }
+    ensures trimmed { IsTrimmed words.new.items }
+    ensures bits { (n : ℕ) → has_bit words.new.items n ≡ has_bit words.old.items n }
+{
+    let mut count = words.len();
+    while count > 0 && words[count - 1] == 0 {
+        count -= 1;
+    }
+    words.truncate(count);
 }

@@ -1,9 +1,11 @@
 //! Sets of the handles of an arena.
 
-ghost use Rattle.std.specs.Prelude.{◌≡◌, ℕ, ◌<◌, ◌≤◌, ◌↔◌, [], length, not, IsTrue, IsNone, IfNone, IfSome, IfOk, IfErr, OnOk, OnErr};
+ghost use Rattle.std.specs.Prelude.{◌≡◌, ℕ, ◌*◌, ◌-◌, ◌<◌, ◌≤◌, ◌↔◌, [], length, not, IsTrue, IsNone, IfNone, IfSome, IfOk, OnOk, OnErr};
 ghost use Rattle.std.specs.FinSet as set;
-ghost use Rattle.ir_sets.specs.Places.{IsRising, AreIndexes, StandsAt, FitsAt, ListsMembers};
+ghost use Rattle.ir_sets.specs.Bits.{bits_of, AreShown};
+ghost use Rattle.ir_sets.specs.Places.{ListsMembers};
 
+use crate::bits;
 use ir_arena::arena::Arena;
 use ir_arena::handle::Handle;
 use ir_arena::range::Range;
@@ -39,14 +41,15 @@ impl<T: Eq + Hash, K> ArenaType<K> for UniqueArena<T, K> {
     }
 }
 
-/// A set of handles. In a contract it is the set of their places.
+/// A set of handles: a bit for each, in words of 64 up to that of the greatest one. In a contract it is the set of their
+/// places.
 ///
 /// Naga's set remembers how many handles the arena has that it was made for; here
 /// [`HandleSet::all_possible`] is handed the arena.
 #[derive(Drop)]
 #[derive_where(Debug)]
 pub struct HandleSet<K> {
-    places: Vec<u32>,
+    words: Vec<u64>,
     as_keys: PhantomData<K>,
 }
 
@@ -54,20 +57,20 @@ impl<K> Model for HandleSet<K> {
     ghost use Rattle.std.specs.Ordering.{nat_cmp};
     ghost use Rattle.std.specs.FinSet as set;
     ghost use Rattle.std.specs.Coded.{coded_ℕ};
-    ghost use Rattle.ir_sets.specs.Places.{IsRising, AreIndexes};
+    ghost use Rattle.ir_sets.specs.Bits.{members, AreWords};
 
     ghost Value = { set.FinSet nat_cmp };
 
     ghost coded = { set.code coded_ℕ };
 
-    ghost view = { λ s. set.from_list s.places.items };
+    ghost view = { λ s. members s.words.items };
 
-    ghost invariant = { λ s. IsRising s.places.items × AreIndexes s.places.items };
+    ghost invariant = { λ s. AreWords s.words.items };
 }
 
 impl<K> HandleSet<K> {
-    /// A set with no handle, for those of `arena`. It allocates nothing: its room grows with its
-    /// members, where naga makes room for each handle of the arena at once.
+    /// A set with no handle, for those of `arena`. It allocates nothing: its room grows with its greatest
+    /// member, where naga makes room for each handle of the arena at once.
     pub fn for_arena<A: ArenaType<K>>(alloc: Global, _arena: &A) -> Self
         ensures { result ≡ set.empty }
     {
@@ -86,30 +89,30 @@ impl<K> HandleSet<K> {
         ensures { result ≡ set.empty }
     {
         HandleSet {
-            places: Vec::new(alloc),
+            words: Vec::new(alloc),
             as_keys: PhantomData,
         }
     }
 
-    /// The number of handles.
+    /// The number of handles. They are counted word by word, in a time that grows with the greatest handle.
     pub fn len(&self) -> usize
         ensures { result ≡ set.len self.now }
     {
-        self.places.len()
+        bits::count(&self.words)
     }
 
     /// Whether there is no handle.
     pub fn is_empty(&self) -> bool
         ensures { IsTrue result ↔ (self.now ≡ set.empty) }
     {
-        self.places.is_empty()
+        bits::greatest(&self.words).is_none()
     }
 
     /// Whether `handle` is a member.
     pub fn contains(&self, handle: Handle<K>) -> bool
         ensures { result ≡ set.contains self.now handle }
     {
-        find(self.places.as_slice(), handle.index() as u32).is_ok()
+        bits::contains(&self.words, handle.index())
     }
 
     /// Makes `handle` a member, and answers whether it was none before.
@@ -123,29 +126,28 @@ impl<K> HandleSet<K> {
         ensures err { OnErr result (self.new ≡ self.old) }
         ensures err_absent { OnErr result (IsTrue (not (set.contains self.old handle))) }
     {
-        let place = handle.index() as u32;
-        match find(self.places.as_slice(), place) {
-            Ok(_) => Ok(false),
-            Err(at) => {
-                self.places.insert(at, place)?;
-                Ok(true)
-            }
+        let place = handle.index();
+        if bits::contains(&self.words, place) {
+            return Ok(false);
         }
+        bits::reserve(&mut self.words, place + 1)?;
+        bits::insert(&mut self.words, place);
+        Ok(true)
     }
 
-    /// Takes `handle` out, and answers whether it was a member.
+    /// Takes `handle` out, and answers whether it was a member. Where it was the greatest, the words behind the next one go,
+    /// each of which an earlier [`HandleSet::insert`] has added.
     pub fn remove(&mut self, handle: Handle<K>) -> bool
         ensures removed { result ≡ set.contains self.old handle }
         ensures members { self.new ≡ set.remove self.old handle }
     {
-        let place = handle.index() as u32;
-        match find(self.places.as_slice(), place) {
-            Ok(at) => {
-                self.places.remove(at);
-                true
-            }
-            Err(_) => false,
+        let place = handle.index();
+        if !bits::contains(&self.words, place) {
+            return false;
         }
+        bits::remove(&mut self.words, place);
+        bits::trim(&mut self.words);
+        true
     }
 
     /// Takes the greatest handle out, or answers `None` where there is none.
@@ -156,17 +158,17 @@ impl<K> HandleSet<K> {
         ensures rest { IfSome result (λ h. self.new ≡ set.remove self.old h) }
         ensures none { IfNone result (self.new ≡ self.old) }
     {
-        let Some(place) = self.places.pop() else {
-            return None;
-        };
-        Some(Handle::at(place as usize))
+        let place = bits::greatest(&self.words)?;
+        bits::remove(&mut self.words, place);
+        bits::trim(&mut self.words);
+        Some(Handle::at(place))
     }
 
     /// Takes all handles out. The set keeps its memory.
     pub fn clear(&mut self)
         ensures { self.new ≡ set.empty }
     {
-        self.places.clear();
+        self.words.clear();
     }
 
     /// Takes all handles out, so that those of `arena` can be put in. The set keeps its memory.
@@ -180,46 +182,40 @@ impl<K> HandleSet<K> {
     pub fn iter(&self) -> Iter<'_, K>
         ensures { ListsMembers self.now result }
     {
-        Iter::new(self.places.as_slice())
+        Iter::new(&self.words)
     }
-}
-
-// Where `place` stands among the rising places, or where it would.
-fn find(places: &[u32], place: u32) -> Result<usize, usize>
-    requires { IsRising places.now }
-    ensures stands { IfOk result (StandsAt places.now place) }
-    ensures absent { IfErr result (FitsAt places.now place) }
-{
-    places.binary_search(&place)
 }
 
 /// The handles of a set in ascending order. In a contract it is the list of the places of those that
 /// are still to come.
 #[derive(Drop)]
 pub struct Iter<'a, K> {
-    places: &'a [u32],
+    words: &'a [u64],
+    // from which place on they are still to come
+    next: usize,
     as_keys: PhantomData<K>,
 }
 
 impl<'a, K> Model for Iter<'a, K> {
-    ghost use Rattle.std.specs.Prelude.{ℕ, List};
-    ghost use Rattle.ir_sets.specs.Places.{AreIndexes};
+    ghost use Rattle.std.specs.Prelude.{ℕ, ◌*◌, ◌-◌, List, length};
+    ghost use Rattle.ir_sets.specs.Bits.{bits_from, AreShown};
 
     ghost Value = { List ℕ };
 
-    ghost view = { λ i. i.places.now };
+    ghost view = { λ i. bits_from i.words.now i.next (64 * length i.words.now - i.next) };
 
-    ghost invariant = { λ i. AreIndexes i.places.now };
+    ghost invariant = { λ i. AreShown i.words.now };
 }
 
 impl<'a, K> Iter<'a, K> {
-    // An iterator over handles of these places.
-    fn new(places: &'a [u32]) -> Self
-        requires { AreIndexes places.now }
-        ensures { result ≡ places.now }
+    // An iterator over all handles of these words.
+    fn new(words: &'a [u64]) -> Self
+        requires { AreShown words.now }
+        ensures { result ≡ bits_of words.now }
     {
         Iter {
-            places,
+            words,
+            next: 0,
             as_keys: PhantomData,
         }
     }
@@ -235,9 +231,8 @@ impl<'a, K> Iterator for Iter<'a, K> {
     ghost remaining = { item_count (λ i. i) };
 
     fn next(&mut self) -> Option<Handle<K>> {
-        let (first, rest) = self.places.split_first()?;
-        let handle = Handle::at(*first as usize);
-        self.places = rest;
-        Some(handle)
+        let place = bits::first_between(self.words, self.next, 64 * self.words.len())?;
+        self.next = place + 1;
+        Some(Handle::at(place))
     }
 }

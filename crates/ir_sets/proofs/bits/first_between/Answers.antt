@@ -1,8 +1,8 @@
-use Rattle.std.proofs.Common.{◌+◌, ◌*◌, ◌/◌, ◌%◌, ◌^◌, ◌<◌, ◌≤◌, arith, rules, w64}
+use Rattle.std.proofs.Common.{◌+◌, ◌*◌, ◌/◌, ◌%◌, ◌^◌, ◌<◌, arith, rules, w64}
 use Rattle.std.proofs.lemmas.Nat.{shr_le}
 use Rattle.std.proofs.lemmas.Nat.Bits.{bit_at-trailing_zeros}
 use Rattle.std.specs.Int.{trailing_zeros}
-use Rattle.ir_sets.proofs.Words.{none_left, first_left, none_more, none_past, FirstLeft}
+use Rattle.ir_sets.proofs.Words.{none_left, first_left, none_more, none_past}
 use Rattle.ir_sets.proofs.bits.first_between.Goals as goal
 
 pub returns-in_default-clause-none : goal.returns-in_default-clause-none

@@ -1,4 +1,4 @@
-use Rattle.std.proofs.Common.{◌-◌, ◌*◌, ◌/◌, ◌%◌, ◌+◌, ◌<◌, ◌≤◌, set, get_or, length, bit_or, bit_and, arith, length-set, ◌∙◌}
+use Rattle.std.proofs.Common.{◌/◌, ◌<◌, arith, length-set, ◌∙◌}
 use Rattle.ir_sets.proofs.Words.{added_part, added_more}
 use Rattle.ir_sets.proofs.bits.insert_between.Goals as goal
 

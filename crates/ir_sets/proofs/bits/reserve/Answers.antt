@@ -1,5 +1,4 @@
-use Rattle.std.proofs.Common.{◌-◌, ap, ◌∙◌, arith, length, replicate, ◌++◌, take_all}
-use Rattle.ir_sets.specs.Bits.{has_bit}
+use Rattle.std.proofs.Common.{◌-◌, arith, take_all}
 use Rattle.ir_sets.proofs.Words.{longer}
 use Rattle.ir_sets.proofs.bits.reserve.Goals as goal
 

@@ -1,34 +1,49 @@
-use Rattle.std.proofs.Common.{refl}
-use Rattle.ir_sets.proofs.Rising.{IsRising-insert, AreIndexes-insert}
-use Rattle.ir_sets.proofs.Members.{stands_contains, stands_insert, fits_contains, inserted, OnErr-always}
+use Rattle.std.proofs.Common.{◌≡◌, true, false, length, refl, ap, ◌∙◌, nat_eq, ◌||◌}
+use Rattle.std.proofs.lemmas.List.{with_items_is}
+use Rattle.ir_sets.specs.Bits.{has_bit}
+use Rattle.ir_sets.proofs.Members.{contains-members, inserted_members, already_member, OnErr-always, words_with}
 use Rattle.ir_sets.proofs.handle_set.HandleSet.insert.Goals as goal
 
-pub returns-in-Ok-clause-added : goal.returns-in-Ok-clause-added
-returns-in-Ok-clause-added g c =
-    let s = rw c.as_slice.ensures.value at c.in-Ok.ensures.stands in
-    rw (← c.self.view_is, ← c.index-place.ensures.value, stands_contains c.self.inside.places.items c.index-place.result c.in-Ok.field-0 s) refl
+pub returns-then-contains-clause-added : goal.returns-then-contains-clause-added
+returns-then-contains-clause-added g c =
+    let is = contains-members c.self.inside.words.items c.index-place.result in
+    let one : has_bit c.self.inside.words.items c.index-place.result ≡ true = cc (c.if-contains.ensures, c.deref.ensures.value) in
+    rw (← c.self.view_is, ← c.index-place.ensures.value, is, one) refl
 
-pub returns-in-Ok-clause-ok : goal.returns-in-Ok-clause-ok
-returns-in-Ok-clause-ok g c =
-    let s = rw c.as_slice.ensures.value at c.in-Ok.ensures.stands in
-    rw (← c.self.view_is, ← c.index-place.ensures.value) (stands_insert c.self.inside.places.items c.index-place.result c.in-Ok.field-0 s)
+pub returns-then-contains-clause-ok : goal.returns-then-contains-clause-ok
+returns-then-contains-clause-ok g c =
+    let one : has_bit c.self.inside.words.items c.index-place.result ≡ true = cc (c.if-contains.ensures, c.deref.ensures.value) in
+    rw (← c.self.view_is, ← c.index-place.ensures.value) (already_member c.self.inside.words.items c.index-place.result one)
 
-pub invariant_of-self-in-Err : goal.invariant_of-self-in-Err
-invariant_of-self-in-Err g c =
-    let f = rw c.as_slice.ensures.value at c.in-Err.ensures.absent in
-    rw c.in_ok-insert-in-Err.ensures.items
-    (IsRising-insert c.self.inside.places.items c.index-place.result c.in-Err.at c.self.invariant.0 f, AreIndexes-insert c.self.inside.places.items c.index-place.result c.in-Err.at c.self.invariant.1 c.index-place.ensures.in_range)
+pub returns-in_err-reserve-clause-err_absent : goal.returns-in_err-reserve-clause-err_absent
+returns-in_err-reserve-clause-err_absent g c =
+    let is = contains-members c.self.inside.words.items c.index-place.result in
+    let none : has_bit c.self.inside.words.items c.index-place.result ≡ false = cc (c.if-contains.ensures, c.deref.ensures.value) in
+    rw (← c.self.view_is, ← c.index-place.ensures.value, is, none) (OnErr-always c.from_residual.result refl)
 
-pub returns-in_ok-insert-in-Err-clause-added : goal.returns-in_ok-insert-in-Err-clause-added
-returns-in_ok-insert-in-Err-clause-added g c =
-    let f = rw c.as_slice.ensures.value at c.in-Err.ensures.absent in
-    rw (← c.self.view_is, ← c.index-place.ensures.value, fits_contains c.self.inside.places.items c.index-place.result c.in-Err.at f) refl
+pub returns-clause-added : goal.returns-clause-added
+returns-clause-added g c =
+    let is = contains-members c.self.inside.words.items c.index-place.result in
+    let none : has_bit c.self.inside.words.items c.index-place.result ≡ false = cc (c.if-contains.ensures, c.deref.ensures.value) in
+    rw (← c.self.view_is, ← c.index-place.ensures.value, is, none) refl
 
-pub returns-in_ok-insert-in-Err-clause-ok : goal.returns-in_ok-insert-in-Err-clause-ok
-returns-in_ok-insert-in-Err-clause-ok g c =
-    rw (← c.self.view_is, ← c.index-place.ensures.value, c.in_ok-insert-in-Err.ensures.items) (inserted c.self.inside.places.items c.index-place.result c.in-Err.at)
+pub returns-clause-ok : goal.returns-clause-ok
+returns-clause-ok g c =
+    let old = c.self.inside.words.items in
+    let new = c.insert.new.words in
+    let n = c.index-place.result in
+    let items = with_items_is c.reserve.new.words new (c.insert.ensures.len ∙ c.deref_mut.ensures.len) in
+    rw (← c.self.view_is, ← c.index-place.ensures.value, items)
+    (inserted_members old new n
+    (λ q. c.insert.ensures.bits q ∙ ap (λ words. nat_eq q n || has_bit words q) c.deref_mut.ensures.value ∙ ap (λ b. nat_eq q n || b) (c.in_ok-reserve.ensures.bits q)))
 
-pub returns-in_err-insert-in-Err-clause-err_absent : goal.returns-in_err-insert-in-Err-clause-err_absent
-returns-in_err-insert-in-Err-clause-err_absent g c =
-    let f = rw c.as_slice.ensures.value at c.in-Err.ensures.absent in
-    rw (← c.self.view_is, ← c.index-place.ensures.value, fits_contains c.self.inside.places.items c.index-place.result c.in-Err.at f) (OnErr-always c.from_residual.result refl)
+pub invariant_of-self-2 : goal.invariant_of-self-2
+invariant_of-self-2 g c =
+    let old = c.self.inside.words.items in
+    let new = c.insert.new.words in
+    let n = c.index-place.result in
+    let items = with_items_is c.reserve.new.words new (c.insert.ensures.len ∙ c.deref_mut.ensures.len) in
+    rw items
+    (words_with old new n c.self.invariant c.index-place.ensures.in_range
+    (c.insert.ensures.len ∙ ap length c.deref_mut.ensures.value ∙ c.in_ok-reserve.ensures.len)
+    (λ q. c.insert.ensures.bits q ∙ ap (λ words. nat_eq q n || has_bit words q) c.deref_mut.ensures.value ∙ ap (λ b. nat_eq q n || b) (c.in_ok-reserve.ensures.bits q)))
