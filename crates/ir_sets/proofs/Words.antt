@@ -11,7 +11,7 @@ use Rattle.std.proofs.lemmas.List.Filters.{length-filter_both}
 use Rattle.std.proofs.lemmas.Nat.{shr-shr, le-div, div_below, shr_below}
 use Rattle.std.proofs.Math.Pow.{high_ones}
 use Rattle.std.proofs.lemmas.Nat.Bits.{bit_at-zero, bit_at-suc, bit_at_lowest, shr_and_one, bit_at_above, bit_at_set_same, bit_at_set_other, bit_at_clear_same, bit_at_clear_other, bit_at_or, bit_at_and, bit_at_not, bit_at-lt, bit_at_mask_inside, bit_at_mask_below, bit_at_mask_above, bit_at-trailing_zeros, ones_shr}
-use Rattle.ir_sets.specs.Bits.{has_bit, AreAdded, AreTaken, bits_from, NoneBetween, IsFirst, IsGreatest, IsTrimmed}
+use Rattle.ir_sets.specs.Bits.{has_bit, Becomes, bits_from, NoneBetween, IsFirst, IsGreatest, IsTrimmed}
 
 -- ---- one bit
 
@@ -138,7 +138,7 @@ module _ (words : List ℕ) (place next : ℕ) (before : place < next) (within :
             ],
       )
 
-  pub added_part : (mask : ℕ) → mask ≡ 2 ^ (next - place / 64 * 64) - 2 ^ (place % 64) → AreAdded words (set words (place / 64) (bit_or (get_or words (place / 64) 0) mask)) place next
+  pub added_part : (mask : ℕ) → mask ≡ 2 ^ (next - place / 64 * 64) - 2 ^ (place % 64) → Becomes true (has_bit words) (has_bit (set words (place / 64) (bit_or (get_or words (place / 64) 0) mask))) place next
   added_part mask is =
       let w : ℕ = get_or words (place / 64) 0 in
       let parts = changed (bit_or w mask) true
@@ -150,7 +150,7 @@ module _ (words : List ℕ) (place next : ℕ) (before : place < next) (within :
       omega (arith, bit_at_or w mask i)) in
       record { within = parts.0; others = parts.1 }
 
-  pub taken_part : (mask : ℕ) → mask ≡ 2 ^ (next - place / 64 * 64) - 2 ^ (place % 64) → AreTaken words (set words (place / 64) (bit_and (get_or words (place / 64) 0) (2 ^ 64 - 1 - mask))) place next
+  pub taken_part : (mask : ℕ) → mask ≡ 2 ^ (next - place / 64 * 64) - 2 ^ (place % 64) → Becomes false (has_bit words) (has_bit (set words (place / 64) (bit_and (get_or words (place / 64) 0) (2 ^ 64 - 1 - mask)))) place next
   taken_part mask is =
       let w : ℕ = get_or words (place / 64) 0 in
       let fits : mask < 2 ^ 64 = rw is (mask_fits (place % 64) (next - place / 64 * 64) (omega arith)) in
@@ -163,25 +163,28 @@ module _ (words : List ℕ) (place next : ℕ) (before : place < next) (within :
       omega (arith, bit_at_and w (2 ^ 64 - 1 - mask) i, bit_at_not w64 mask i fits low, bit_at-lt w i)) in
       record { within = parts.0; others = parts.1 }
 
-pub added_more : (old now new : List ℕ) (from place next : ℕ) → from ≤ place → place ≤ next → AreAdded old now from place → AreAdded now new place next → AreAdded old new from next
-added_more old now new from place next reached before early late =
-    record {
-      within = λ n low high. elim (cases_lt n place) [
-        | inl first ↦ late.others n (λ l h. absurd (omega arith)) ∙ early.within n low first
-        | inr second ↦ late.within n second high
-      ];
-      others = λ n out. late.others n (λ l h. out (omega arith) h) ∙ early.others n (λ l h. out l (omega arith));
-    }
+module _ (value : Bool) (old now new : ℕ → Bool) (from place next : ℕ) (reached : from ≤ place) (before : place ≤ next) where
+  -- one range, and then the one behind it
+  pub becomes_more : Becomes value old now from place → Becomes value now new place next → Becomes value old new from next
+  becomes_more early late =
+      record {
+        within = λ n low high. elim (cases_lt n place) [
+          | inl first ↦ late.others n (λ l h. absurd (omega arith)) ∙ early.within n low first
+          | inr second ↦ late.within n second high
+        ];
+        others = λ n out. late.others n (λ l h. out (omega arith) h) ∙ early.others n (λ l h. out l (omega arith));
+      }
 
-pub taken_more : (old now new : List ℕ) (from place next : ℕ) → from ≤ place → place ≤ next → AreTaken old now from place → AreTaken now new place next → AreTaken old new from next
-taken_more old now new from place next reached before early late =
-    record {
-      within = λ n low high. elim (cases_lt n place) [
-        | inl first ↦ late.others n (λ l h. absurd (omega arith)) ∙ early.within n low first
-        | inr second ↦ late.within n second high
-      ];
-      others = λ n out. late.others n (λ l h. out (omega arith) h) ∙ early.others n (λ l h. out l (omega arith));
-    }
+  -- one range, and then the one before it
+  pub becomes_before : Becomes value old now place next → Becomes value now new from place → Becomes value old new from next
+  becomes_before late early =
+      record {
+        within = λ n low high. elim (cases_lt n place) [
+          | inl first ↦ early.within n low first
+          | inr second ↦ early.others n (λ l h. absurd (omega arith)) ∙ late.within n second high
+        ];
+        others = λ n out. early.others n (λ l h. out l (omega arith)) ∙ late.others n (λ l h. out (omega arith) h);
+      }
 
 -- ---- the first bit from a place on
 
@@ -194,14 +197,14 @@ module _ (words : List ℕ) (place word : ℕ) (is : word ≡ get_or words (plac
       let at : (place + t) % 64 ≡ place % 64 + t = omega arith in
       rw (same, at, ← is) (ap (λ b. nat_eq b 1) (sym (ap (λ x. x % 2) (shr-shr word (place % 64) t))))
 
-  pub none_left : word / 2 ^ (place % 64) ≡ 0 → NoneBetween words place ((place / 64 + 1) * 64)
+  pub none_left : word / 2 ^ (place % 64) ≡ 0 → NoneBetween (has_bit words) place ((place / 64 + 1) * 64)
   none_left rest n reached within =
       let sum : place + (n - place) ≡ n = omega arith in
       rw (← sum) (ahead (n - place) (omega arith) ∙ ap (λ x. nat_eq (bit_at x (n - place)) 1) rest ∙ ap (λ b. nat_eq b 1) (bit_at-zero (n - place)))
 
   pub record FirstLeft (t : ℕ) : Type 0 where
     pub set : has_bit words (place + t) ≡ true
-    pub before : NoneBetween words place (place + t)
+    pub before : NoneBetween (has_bit words) place (place + t)
 
   pub first_left : (t : ℕ) → (t < 64) × (bit_at (word / 2 ^ (place % 64)) t ≡ 1) × ((i : ℕ) → i < t → bit_at (word / 2 ^ (place % 64)) i ≡ 0) → FirstLeft t
   first_left t lowest =
@@ -222,11 +225,11 @@ module _ (words : List ℕ) (place word : ℕ) (is : word ≡ get_or words (plac
             rw (← sum) (ahead (n - place) (omega arith) ∙ ap (λ b. nat_eq b 1) (lowest.2 (n - place) (omega arith)));
       }
 
-pub none_more : (words : List ℕ) (from middle end : ℕ) → NoneBetween words from middle → NoneBetween words middle end → NoneBetween words from end
-none_more words from middle end early late n reached within =
+pub none_more : (test : ℕ → Bool) (from middle end : ℕ) → NoneBetween test from middle → NoneBetween test middle end → NoneBetween test from end
+none_more test from middle end early late n reached within =
     elim (cases_lt n middle) [ inl before ↦ early n reached before | inr after ↦ late n after within ]
 
-pub none_past : (words : List ℕ) (place end : ℕ) → length words ≤ place / 64 → NoneBetween words place end
+pub none_past : (words : List ℕ) (place end : ℕ) → length words ≤ place / 64 → NoneBetween (has_bit words) place end
 none_past words place end out n reached within = no_word words n (omega arith)
 
 -- ---- the greatest
@@ -370,15 +373,15 @@ first_kept p from skipped rest none one =
     ∙ ap (λ l. l ++ filter p (range_with_len (from + skipped) (suc rest))) (none_kept p from skipped none)
     ∙ rw one refl
 
-pub none_to_come : (words : List ℕ) (from end : ℕ) → NoneBetween words from end → bits_from words from (end - from) ≡ []
+pub none_to_come : (words : List ℕ) (from end : ℕ) → NoneBetween (has_bit words) from end → bits_from words from (end - from) ≡ []
 none_to_come words from end none = none_kept (has_bit words) from (end - from) (λ n reached within. none n reached (omega arith))
 
-pub first_to_come : (words : List ℕ) (from end n : ℕ) → IsFirst words from end n → bits_from words from (end - from) ≡ n ∷ bits_from words (n + 1) (end - (n + 1))
+pub first_to_come : (words : List ℕ) (from end n : ℕ) → IsFirst (has_bit words) from end n → bits_from words from (end - from) ≡ n ∷ bits_from words (n + 1) (end - (n + 1))
 first_to_come words from end n first =
     let reached : from ≤ n = first.reached in
     let within : n < end = first.within in
     let count : end - from ≡ (n - from) + suc (end - (n + 1)) = omega arith in
     let at : from + (n - from) ≡ n = omega arith in
     ap (bits_from words from) count
-    ∙ first_kept (has_bit words) from (n - from) (end - (n + 1)) (λ q low high. first.before q low (omega arith)) (rw at first.set)
+    ∙ first_kept (has_bit words) from (n - from) (end - (n + 1)) (λ q low high. first.before q low (omega arith)) (rw at first.passes)
     ∙ ap (λ m. m ∷ bits_from words (m + 1) (end - (n + 1))) at

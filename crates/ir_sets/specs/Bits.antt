@@ -21,26 +21,25 @@ bits_of words = bits_from words 0 (64 * length words)
 unfoldable pub members : List ℕ → set.FinSet nat_cmp
 members words = set.from_list (bits_of words)
 
--- the new words have the bits of the numbers from one on, below another, and of all others what the old ones have
-pub record AreAdded (old new : List ℕ) (from end : ℕ) : Type 0 where
-  pub within : (n : ℕ) → from ≤ n → n < end → has_bit new n ≡ true
-  pub others : (n : ℕ) → (from ≤ n → n < end → ⊥) → has_bit new n ≡ has_bit old n
+-- the new test says this of the numbers from one on, below another, and of all others what the old one says
+pub record Becomes (value : Bool) (old new : ℕ → Bool) (from end : ℕ) : Type 0 where
+  pub within : (n : ℕ) → from ≤ n → n < end → new n ≡ value
+  pub others : (n : ℕ) → (from ≤ n → n < end → ⊥) → new n ≡ old n
 
--- the new words have no bit of the numbers from one on, below another, and of all others what the old ones have
-pub record AreTaken (old new : List ℕ) (from end : ℕ) : Type 0 where
-  pub within : (n : ℕ) → from ≤ n → n < end → has_bit new n ≡ false
-  pub others : (n : ℕ) → (from ≤ n → n < end → ⊥) → has_bit new n ≡ has_bit old n
+-- no number from one on, below another, passes
+abbrev pub NoneBetween : (ℕ → Bool) → ℕ → ℕ → Type 0
+NoneBetween test from end = (n : ℕ) → from ≤ n → n < end → test n ≡ false
 
--- the words have no bit of the numbers from one on, below another
-abbrev pub NoneBetween : List ℕ → ℕ → ℕ → Type 0
-NoneBetween words from end = (n : ℕ) → from ≤ n → n < end → has_bit words n ≡ false
+-- one of them does
+abbrev pub SomeBetween : (ℕ → Bool) → ℕ → ℕ → Type 0
+SomeBetween test from end = (n : ℕ) × (from ≤ n) × (n < end) × (test n ≡ true)
 
--- n is the first number from one on, below another, that the words have the bit of
-pub record IsFirst (words : List ℕ) (from end n : ℕ) : Type 0 where
+-- n is the first of them that does
+pub record IsFirst (test : ℕ → Bool) (from end n : ℕ) : Type 0 where
   pub reached : from ≤ n
   pub within : n < end
-  pub set : has_bit words n ≡ true
-  pub before : NoneBetween words from n
+  pub passes : test n ≡ true
+  pub before : NoneBetween test from n
 
 -- n is the greatest number that the words have the bit of
 pub record IsGreatest (words : List ℕ) (n : ℕ) : Type 0 where

@@ -1,8 +1,8 @@
 //! Sets of numbers as bits of words of 64: the bit of a number stands in the word `number / 64`.
 
-ghost use Rattle.std.specs.Prelude.{◌≡◌, ◌*◌, ◌^◌, ◌<◌, ◌≤◌, ◌&&◌, ◌||◌, ◌-◌, ℕ, length, max, nat_eq, not, IfNone, IfSome, OnOk, OnErr};
+ghost use Rattle.std.specs.Prelude.{◌≡◌, ◌*◌, ◌^◌, ◌<◌, ◌≤◌, ◌&&◌, ◌||◌, ◌-◌, ℕ, true, false, length, max, nat_eq, not, IfNone, IfSome, OnOk, OnErr};
 ghost use Rattle.std.specs.Int.{div_ceil};
-ghost use Rattle.ir_sets.specs.Bits.{has_bit, bits_of, AreAdded, AreTaken, NoneBetween, IsFirst, IsGreatest, IsTrimmed, IsShort};
+ghost use Rattle.ir_sets.specs.Bits.{has_bit, bits_of, Becomes, NoneBetween, IsFirst, IsGreatest, IsTrimmed, IsShort};
 
 use std::alloc::AllocError;
 
@@ -67,7 +67,7 @@ pub fn insert_between(words: &mut [u64], from: usize, end: usize)
     requires room { end ≤ 64 * length words.old }
     requires small { end ≤ 2 ^ 32 }
     ensures len { length words.new ≡ length words.old }
-    ensures added { AreAdded words.old words.new from end }
+    ensures added { Becomes true (has_bit words.old) (has_bit words.new) from end }
 {
     let mut place = from;
     while place < end {
@@ -83,7 +83,7 @@ pub fn remove_between(words: &mut [u64], from: usize, end: usize)
     requires room { end ≤ 64 * length words.old }
     requires small { end ≤ 2 ^ 32 }
     ensures len { length words.new ≡ length words.old }
-    ensures taken { AreTaken words.old words.new from end }
+    ensures taken { Becomes false (has_bit words.old) (has_bit words.new) from end }
 {
     let mut place = from;
     while place < end {
@@ -97,8 +97,8 @@ pub fn remove_between(words: &mut [u64], from: usize, end: usize)
 /// The first number from one on, below another, if there is one. The time is that of the words between the two.
 pub fn first_between(words: &[u64], from: usize, end: usize) -> Option<usize>
     requires { end ≤ 2 ^ 32 }
-    ensures none { IfNone result (NoneBetween words.now from end) }
-    ensures some { IfSome result (λ n. IsFirst words.now from end n) }
+    ensures none { IfNone result (NoneBetween (has_bit words.now) from end) }
+    ensures some { IfSome result (λ n. IsFirst (has_bit words.now) from end n) }
 {
     let mut place = from;
     while place < end {
