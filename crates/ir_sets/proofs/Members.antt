@@ -68,14 +68,17 @@ and_true : (b : Bool) → (b && true) ≡ b
 and_true true = refl
 and_true false = refl
 
+pub contains_kept : (p : ℕ → Bool) (count q : ℕ) → (count ≤ q → p q ≡ false) → set.contains (set.from_list {R = nat_cmp} (filter p (range_with_len 0 count))) q ≡ p q
+contains_kept p count q out =
+    contains-from_list_nat (filter p (range_with_len 0 count)) q ∙ has_filtered p 0 count q
+    ∙ elim (cases_lt q count) [
+      | inl inside ↦ rw (counted 0 count q (omega arith) (omega arith)) (and_true (p q))
+      | inr past ↦ rw (out past) refl
+    ]
+
 pub contains-members : (words : List ℕ) (q : ℕ) → set.contains (members words) q ≡ has_bit words q
 unfolding members
-contains-members words q =
-    contains-from_list_nat (bits_of words) q ∙ has_filtered (has_bit words) 0 (64 * length words) q
-    ∙ elim (cases_lt q (64 * length words)) [
-      | inl inside ↦ rw (counted 0 (64 * length words) q (omega arith) (omega arith)) (and_true (has_bit words q))
-      | inr out ↦ rw (no_word words q (omega arith)) refl
-    ]
+contains-members words q = contains_kept (has_bit words) (64 * length words) q (λ out. no_word words q (omega arith))
 
 pub same_members : (xs ys : List ℕ) → ((q : ℕ) → has_bit xs q ≡ has_bit ys q) → members xs ≡ members ys
 same_members xs ys same =

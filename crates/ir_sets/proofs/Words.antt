@@ -328,7 +328,7 @@ front_bits words count zeros n =
     ])
 
 -- a word that is not 0 has a bit
-some_bit : (words : List ℕ) (i : ℕ) → 0 < get_or words i 0 → get_or words i 0 < 2 ^ 64 → (n : ℕ) × (n / 64 ≡ i) × (has_bit words n ≡ true)
+pub some_bit : (words : List ℕ) (i : ℕ) → 0 < get_or words i 0 → get_or words i 0 < 2 ^ 64 → (n : ℕ) × (n / 64 ≡ i) × (has_bit words n ≡ true)
 unfolding has_bit
 some_bit words i some small =
     let lowest = bit_at-trailing_zeros w64 (get_or words i 0) some small in

@@ -24,6 +24,7 @@ pub fn contains(words: &[u64], number: usize) -> bool
 pub fn reserve(words: &mut Vec<u64>, end: usize) -> Result<(), AllocError>
     ensures room { OnOk result (end ≤ 64 * length words.new.items) }
     ensures len { OnOk result (length words.new.items ≡ max (length words.old.items) (div_ceil end 64)) }
+    ensures longer { length words.old.items ≤ length words.new.items }
     ensures bits { (n : ℕ) → has_bit words.new.items n ≡ has_bit words.old.items n }
     ensures err { OnErr result (words.new.items ≡ words.old.items) }
 {

@@ -9,3 +9,4 @@
 pub mod bits;
 pub mod handle_set;
 pub mod handle_vec;
+pub mod range_set;

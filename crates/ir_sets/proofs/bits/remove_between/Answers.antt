@@ -1,4 +1,4 @@
-use Rattle.std.proofs.Common.{true, false, ◌/◌, ◌<◌, arith, length-set, ◌∙◌}
+use Rattle.std.proofs.Common.{false, ◌/◌, ◌<◌, arith, length-set, ◌∙◌}
 use Rattle.ir_sets.proofs.Words.{taken_part, becomes_more}
 use Rattle.ir_sets.specs.Bits.{has_bit}
 use Rattle.ir_sets.proofs.bits.remove_between.Goals as goal
