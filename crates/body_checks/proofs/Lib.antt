@@ -1,4 +1,6 @@
 pub mod Lists
+mod Ranges
+mod Firsts
 pub mod Tables
 mod Walks
 mod Conversions

@@ -1,15 +1,13 @@
--- Lists of expressions beside their places.
-use Rattle.std.proofs.Common.{◌≡◌, ◌≢◌, ℕ, zero, suc, ◌+◌, ◌<◌, ◌⊎◌, inl, inr, List, [], ◌∷◌, ◌++◌, Some, Contains, length, take, slice_get, slice_set, get_or, Bool, true, false, ◌||◌, nat_eq, IsTrue, true≢false, refl, sym, ap, ◌∙◌, subst}
+-- Whether an expression is one of a list.
+use Rattle.std.proofs.Common.{◌≡◌, ℕ, zero, suc, List, [], ◌∷◌, Some, Contains, slice_get, Bool, true, false, ◌||◌, nat_eq, IsTrue, true≢false, refl, sym, ap, ◌∙◌, subst}
 use Rattle.std.proofs.lemmas.Bool.{eqb-true, eq-eqb, or_right}
 use Rattle.std.proofs.lemmas.List.Elements.{Contains-append_right}
-use Rattle.std.proofs.lemmas.List.{get_or-set_same, get_or-set_other}
 use Rattle.std.proofs.lemmas.Option.{slice_get_within, slice_get-get_or, get_or_from_slice_get}
 use Rattle.ir_types.specs.ExpressionPlain.{expression_view, always_in_scope}
 use Rattle.ir_types.specs.declared.expressions.Expression.{Expression}
 use Rattle.ir_types.specs.declared.expressions.Expression.TheVariants.{Compose}
 use Rattle.spec_statements.specs.Scope.{is_pre_emitted}
 use Rattle.body_checks.specs.Carried.{holds}
-use Rattle.body_checks.specs.Lists.{AreFound}
 
 pub same_pre : (e : Expression) → always_in_scope e ≡ is_pre_emitted (expression_view e)
 same_pre (Compose type components) = refl
@@ -20,38 +18,6 @@ contains_at list k e at = (k, slice_get_within list k e at, get_or_from_slice_ge
 
 pub at_contains : (list : List ℕ) (e : ℕ) → Contains list e → (k : ℕ) × (slice_get list k ≡ Some e)
 at_contains list e held = (held.0, slice_get-get_or list held.0 e held.1 ∙ ap Some held.2)
-
--- ---- the last ones are let go
-
-taken : (n : ℕ) (xs : List ℕ) (k e : ℕ) → slice_get (take n xs) k ≡ Some e → slice_get xs k ≡ Some e
-taken zero xs k e at = let x = at in cc
-taken (suc n) [] k e at = at
-taken (suc n) (x ∷ xs) zero e at = at
-taken (suc n) (x ∷ xs) (suc k) e at = taken n xs k e at
-
-pub found_cut : (n : ℕ) (list places : List ℕ) → AreFound list places → AreFound (take n list) places
-found_cut n list places found k e at = found k e (taken n list k e at)
-
--- ---- one more
-
-behind : (list : List ℕ) (e k x : ℕ) → slice_get (list ++ e ∷ []) k ≡ Some x → (slice_get list k ≡ Some x) ⊎ ((k ≡ length list) × (x ≡ e))
-behind [] e zero x at = inr (refl, let h = at in cc)
-behind [] e (suc k) x at = let h = at in absurd (cc)
-behind (y ∷ ys) e zero x at = inl at
-behind (y ∷ ys) e (suc k) x at = elim (behind ys e k x at) [ inl there ↦ inl there | inr last ↦ inr (ap suc last.0, last.1) ]
-
-pub found_more : (list places : List ℕ) (e n : ℕ) → AreFound list places → ¬ Contains list e → e < length places → n ≡ length list + 1 → AreFound (list ++ e ∷ []) (slice_set places e n)
-found_more list places e n found fresh long is k x at = elim (behind list e k x at) [
-  | inl there ↦
-      let other : x ≢ e = (λ same. fresh (contains_at list k e (there ∙ ap Some same))) in
-      get_or-set_other places e x n 0 other ∙ found k x there
-  | inr last ↦
-      subst (λ y. get_or (slice_set places e n) y 0 ≡ k + 1) (sym last.1) (get_or-set_same places e n 0 long ∙ (is ∙ ap (λ m. m + 1) (sym last.0)))
-]
-
--- what is kept may be read from a longer list
-pub found_kept : (list before after : List ℕ) → ((e : ℕ) → get_or after e 0 ≡ get_or before e 0) → AreFound list before → AreFound list after
-found_kept list before after same found k e at = same e ∙ found k e at
 
 -- ---- whether one is there
 

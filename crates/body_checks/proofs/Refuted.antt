@@ -1,23 +1,23 @@
 -- Each fault of scope refutes a part of what is asked.
-use Rattle.std.proofs.Common.{◌≡◌, ℕ, List, ◌⊎◌, inl, inr, Option, Some, None, Contains, slice_get, option_to_list, refl, sym, ap, ◌∙◌, subst}
+use Rattle.std.proofs.Common.{ℕ, List, inl, inr, Option, Some, Contains, option_to_list, refl, sym, subst}
 use Rattle.error_functions.specs.declared.error.FunctionError.{FunctionError}
 use Rattle.error_functions.specs.declared.error.FunctionError.TheVariants as error
 use Rattle.error_functions.specs.declared.atomics.AtomicError.{AtomicError}
 use Rattle.error_functions.specs.declared.atomics.AtomicError.TheVariants as atomic_error
 use Rattle.error_functions.specs.declared.calls.CallError.{CallError}
 use Rattle.error_functions.specs.declared.calls.CallError.TheVariants as call_error
-use Rattle.ir_blocks.specs.Places.{Place, StandsAt, spot_at}
+use Rattle.ir_blocks.specs.Places.{Place, StandsAt}
 use Rattle.ir_blocks.specs.Plain.{call}
 use Rattle.ir_flags.specs.Sets.{Has}
 use Rattle.ir_flags.specs.declared.settings.ValidationFlags.{ValidationFlags}
 use Rattle.ir_flags.specs.declared.settings.TheConstants.ValidationFlags.{EXPRESSIONS}
 use Rattle.ir_items.specs.Plain.{PlainFunction}
 use Rattle.body_checks.proofs.Lists.{contains_at}
-use Rattle.body_checks.specs.Faults.{IsUsedEarly, IsBroughtAgain, IsPopulated, IsBadCall, IsCallErrorAt, IsAtomicErrorIn, IsScopeFault}
+use Rattle.body_checks.specs.Faults.{IsPopulated, IsCallErrorAt, IsAtomicErrorIn, IsScopeFault}
 use Rattle.body_checks.specs.Laws.{FaultsRefute}
 use Rattle.spec_statements.specs.Answered.{EachOnce}
 use Rattle.spec_statements.specs.Results.{AnswersBy}
-use Rattle.spec_statements.specs.Scope.{InScope, ScopeOK}
+use Rattle.spec_statements.specs.Scope.{ScopeOK}
 use Rattle.spec_statements.specs.Tables.{checked_at, introduced_at}
 
 module _ (flags : ValidationFlags) (f : PlainFunction) (scope : ScopeOK f) (once : EachOnce f.body) (asked : (p : Place) (x : ℕ) → AnswersBy f.body p x → Has flags.0 EXPRESSIONS.0) where

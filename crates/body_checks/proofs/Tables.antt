@@ -85,44 +85,7 @@ pub is_brought : (f : PlainFunction) (old new : List ℕ) (e : ℕ) (b : Bool) �
 is_brought f old new e true h is = h
 is_brought f old new e false h is = absurd (true≢false (sym is))
 
--- ---- a range that comes into scope one by one
-
-all_above : (n a b : ℕ) → b ≤ a → All (λ x. b ≤ x) (range_with_len a n)
-all_above zero a b le = All-nil (λ x. b ≤ x)
-all_above (suc n) a b le = All-cons (λ x. b ≤ x) a (range_with_len (a + 1) n) le (all_above n (a + 1) b (omega (arith, le)))
-
-abbrev first_of : ℕ → List ℕ → ℕ
-first_of x [] = x
-first_of x (y ∷ ys) = y
-
-abbrev rest_of : List ℕ → List ℕ
-rest_of [] = []
-rest_of (x ∷ xs) = xs
-
-rising : (n a h : ℕ) (rest : List ℕ) → range_with_len a n ≡ h ∷ rest → (x : ℕ) → Contains rest x → h < x
-rising zero a h rest e x held = let y = e in absurd (cc)
-rising (suc n) a h rest e x held =
-    let head : a ≡ h = ap (first_of a) e in
-    let tail : range_with_len (a + 1) n ≡ rest = ap rest_of e in
-    let above : a + 1 ≤ x = All-contains (λ y. a + 1 ≤ y) (range_with_len (a + 1) n) x (all_above n (a + 1) (a + 1) (omega arith)) (subst (λ ys. Contains ys x) (sym tail) held) in
-    omega (arith, head, above)
-
--- what has come into scope, and what is still to come
-pub record Ahead (f : PlainFunction) (old now all rest : List ℕ) : Type 0 where
-  pub grown : now ++ rest ≡ old ++ all
-  pub fresh : All (λ e. ¬ Known f old e) rest → All (λ e. ¬ Known f old e) all
-  pub among : (e : ℕ) → Contains rest e → Contains all e
-  pub kept : (e : ℕ) → Contains old e → Contains now e
-  pub below : (e : ℕ) → Contains now e → Contains old e ⊎ ((x : ℕ) → Contains rest x → e < x)
-
-pub ahead_first : (f : PlainFunction) (old all : List ℕ) → Ahead f old old all all
-ahead_first f old all = record {
-  grown = refl;
-  fresh = λ h. h;
-  among = λ e h. h;
-  kept = λ e h. h;
-  below = λ e h. inl h;
-}
+-- ---- the first of a list
 
 pub head_held : (h : ℕ) (rest : List ℕ) → Contains (h ∷ rest) h
 head_held h rest = Contains-append_left (h ∷ []) rest h (0, omega arith, refl)
@@ -130,47 +93,13 @@ head_held h rest = Contains-append_left (h ∷ []) rest h (0, omega arith, refl)
 pub only : (h e : ℕ) → Contains (h ∷ []) e → h ≡ e
 only h e held = All-contains (λ x. h ≡ x) (h ∷ []) e (All-cons (λ x. h ≡ x) h [] refl (All-nil (λ x. h ≡ x))) held
 
-pub ahead_more : (f : PlainFunction) (old now next all : List ℕ) (range : ℕ × ℕ) (h : ℕ) (rest : List ℕ) → Ahead f old now all (handles_between range) → handles_between range ≡ h ∷ rest
-    → (next ≡ now ++ h ∷ []) × ¬ Known f now h → Ahead f old next all rest
-ahead_more f old now next all range h rest a is one =
-    let was : Ahead f old now all (h ∷ rest) = subst (Ahead f old now all) is a in
-    let unknown : ¬ Known f old h = (λ known. one.1 (elim known [ inl pre ↦ inl pre | inr held ↦ inr (was.kept h held) ])) in
-    let in_next : (e : ℕ) → Contains now e → Contains next e = (λ e held. subst (λ xs. Contains xs e) (sym one.0) (Contains-append_left now (h ∷ []) e held)) in
-    record {
-      grown = ap (λ xs. xs ++ rest) one.0 ∙ (append_assoc now (h ∷ []) rest ∙ was.grown);
-      fresh = λ more. was.fresh (All-cons (λ e. ¬ Known f old e) h rest unknown more);
-      among = λ e held. was.among e (Contains-append_right (h ∷ []) rest e held);
-      kept = λ e held. in_next e (was.kept e held);
-      below = λ e held. elim (Contains-append_cases now (h ∷ []) e (subst (λ xs. Contains xs e) one.0 held)) [
-        | inl before ↦ elim (was.below e before) [
-          | inl held_before ↦ inl held_before
-          | inr less ↦ inr (λ x later. less x (Contains-append_right (h ∷ []) rest x later))
-        ]
-        | inr last ↦ inr (λ x later. subst (λ y. y < x) (only h e last) (rising (range.1 - range.0) range.0 h rest is x later))
-      ];
-    }
-
-pub ahead_known : (f : PlainFunction) (old now all rest : List ℕ) (h : ℕ) (more : List ℕ) → Ahead f old now all rest → rest ≡ h ∷ more → Known f now h → Contains all h × Known f old h
-ahead_known f old now all rest h more a is known =
-    let first : Contains rest h = subst (λ xs. Contains xs h) (sym is) (head_held h more) in (
-      a.among h first,
-      elim known [
-        | inl pre ↦ inl pre
-        | inr held ↦ elim (a.below h held) [ inl before ↦ inr before | inr less ↦ (let lt = less h first in absurd (omega (arith, lt))) ]
-      ],
-    )
-
-pub ahead_last : (f : PlainFunction) (old now all rest : List ℕ) → Ahead f old now all rest → rest ≡ [] → (now ≡ old ++ all) × All (λ e. ¬ Known f old e) all
-ahead_last f old now all rest a is =
-    let done : Ahead f old now all [] = subst (Ahead f old now all) is a in (sym (append-nil now) ∙ done.grown, done.fresh (All-nil (λ e. ¬ Known f old e)))
-
 -- ---- what is in scope, as a test
 
-pre_true : (o : Option PlainExpression) → pre_known o ≡ true → IsSomeAnd o (λ x. is_pre_emitted x ≡ true)
+pub pre_true : (o : Option PlainExpression) → pre_known o ≡ true → IsSomeAnd o (λ x. is_pre_emitted x ≡ true)
 pre_true None h = absurd (true≢false (sym h))
 pre_true (Some x) h = h
 
-true_pre : (o : Option PlainExpression) → IsSomeAnd o (λ x. is_pre_emitted x ≡ true) → pre_known o ≡ true
+pub true_pre : (o : Option PlainExpression) → IsSomeAnd o (λ x. is_pre_emitted x ≡ true) → pre_known o ≡ true
 true_pre None h = absurd h
 true_pre (Some x) h = h
 

@@ -1,3 +1,4 @@
+pub mod Always
 pub mod Lists
 pub mod Carried
 pub mod Faults

@@ -14,6 +14,7 @@ ghost use Rattle.spec_statements.specs.Answered.{EachOnce};
 ghost use Rattle.spec_statements.specs.Results.{AnswersBy};
 ghost use Rattle.spec_statements.specs.Scope.{ScopeOK};
 
+use crate::always::{Outline, next_always};
 use crate::error::ScopeError;
 use crate::list::ExpressionList;
 use crate::statement::Carried;
@@ -111,8 +112,13 @@ pub fn check_scope(
     ensures fault { IfErr result (IsScopeRefusal flags (function_view function.now)) }
 {
     let asked = asks_answers(flags);
+    let always = next_always(alloc, function)?;
+    let outline = Outline {
+        function,
+        always: &always,
+    };
     let mut carried = beginning(alloc, function.expressions.len())?;
-    match check_block(function, asked, &mut carried, &function.body) {
+    match check_block(&outline, asked, &mut carried, &function.body) {
         Ok(()) => {
             let Carried { answered, scope: _ } = carried;
             Ok(answered)

@@ -8,6 +8,7 @@
 //! Whether the values of the cases of a switch differ, one is the default, and the last case doesn't fall through.
 #![tactic(auto)]
 
+mod always;
 mod answers;
 mod bringing;
 mod cases;

@@ -25,9 +25,9 @@ fn is_pre_emitted(expression: &Expression) -> bool
     expression.needs_pre_emit()
 }
 
-// The same of the expression at a handle.
+/// The same of the expression at a handle.
 #[tactic(auto, using(ir_references::proofs::Entries::entries))]
-fn is_always_known(function: &Function, handle: Handle<key::Expression>) -> bool
+pub fn is_always_known(function: &Function, handle: Handle<key::Expression>) -> bool
     ensures { result ≡ pre_known (slice_get (function_view function.now).expressions handle) }
 {
     match function.expressions.try_get(handle) {

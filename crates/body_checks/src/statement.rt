@@ -9,6 +9,7 @@ ghost use Rattle.spec_handles.specs.Statements.{statement_callee};
 ghost use Rattle.spec_statements.specs.Results.{answer_of};
 ghost use Rattle.spec_statements.specs.Tables.{checked_at, introduced, statement_checked};
 
+use crate::always::Outline;
 use crate::answers::note_answer;
 use crate::bringing::bring;
 use crate::error::ScopeError;
@@ -137,17 +138,17 @@ pub fn check_condition(
 /// What a statement that holds no others uses, brings into scope and answers by.
 #[tactic(auto, using(crate::proofs::Tables::noted, crate::proofs::Tables::fine))]
 pub fn check_own(
-    function: &Function,
+    outline: &Outline<'_>,
     asked: bool,
     carried: &mut Carried,
     statement: &Statement,
 ) -> Result<(), ScopeError>
-    ensures fine { OnOk result (Fine (function_view function.now) asked (spot (statement_view statement.now)) carried.old.scope carried.old.answered) }
+    ensures fine { OnOk result (Fine (function_view outline.now.function.now) asked (spot (statement_view statement.now)) carried.old.scope carried.old.answered) }
     ensures scope { OnOk result (carried.new.scope ≡ carried.old.scope ++ introduced (statement_view statement.now)) }
     ensures answered { OnOk result (carried.new.answered ≡ carried.old.answered ++ option_to_list (answer_of (statement_view statement.now))) }
-    ensures fault { IfErr result (λ r. IfFault r (IsFaultHere (function_view function.now) asked (spot (statement_view statement.now)) carried.old.scope carried.old.answered)) }
+    ensures fault { IfErr result (λ r. IfFault r (IsFaultHere (function_view outline.now.function.now) asked (spot (statement_view statement.now)) carried.old.scope carried.old.answered)) }
 {
-    check_used(function, asked, carried, statement)?;
-    bring(function, &mut carried.scope, statement)?;
+    check_used(outline.function, asked, carried, statement)?;
+    bring(outline, &mut carried.scope, statement)?;
     note_answer(asked, &mut carried.answered, statement)
 }

@@ -8,26 +8,27 @@ ghost use Rattle.spec_statements.specs.Answered.{answered_in, answered_at, answe
 ghost use Rattle.spec_statements.specs.Tables.{introduced};
 ghost use Rattle.spec_statements.specs.Visible.{top_level};
 
+use crate::always::Outline;
 use crate::error::ScopeError;
 use crate::statement::{Carried, check_condition, check_own, check_used};
-use ir_items::{Block, Function, Statement, SwitchCase};
+use ir_items::{Block, Statement, SwitchCase};
 
 /// Whether the statements of a block, and those inside them, use what is in scope, bring what is not, and answer once. What the
 /// block's own statements bring stays in scope.
 #[cycle(walk)]
 pub fn check_block(
-    function: &Function,
+    outline: &Outline<'_>,
     asked: bool,
     carried: &mut Carried,
     block: &Block,
 ) -> Result<(), ScopeError>
-    ensures fine { OnOk result (AllFine (function_view function.now) asked carried.old.scope carried.old.answered (block_view block.now)) }
+    ensures fine { OnOk result (AllFine (function_view outline.now.function.now) asked carried.old.scope carried.old.answered (block_view block.now)) }
     ensures scope { OnOk result (carried.new.scope ≡ carried.old.scope ++ top_level (block_view block.now)) }
     ensures answered { OnOk result (carried.new.answered ≡ carried.old.answered ++ answered_in (block_view block.now)) }
-    ensures fault { IfErr result (λ r. IfFault r (λ e. FaultIn (function_view function.now) asked e carried.old.scope carried.old.answered (block_view block.now))) }
+    ensures fault { IfErr result (λ r. IfFault r (λ e. FaultIn (function_view outline.now.function.now) asked e carried.old.scope carried.old.answered (block_view block.now))) }
 {
     for statement in block.as_slice() {
-        check_statement(function, asked, carried, statement)?;
+        check_statement(outline, asked, carried, statement)?;
     }
     Ok(())
 }
@@ -35,18 +36,18 @@ pub fn check_block(
 // The same of a block behind whose end nothing of it is in scope.
 #[cycle(walk)]
 fn check_inner(
-    function: &Function,
+    outline: &Outline<'_>,
     asked: bool,
     carried: &mut Carried,
     block: &Block,
 ) -> Result<(), ScopeError>
-    ensures fine { OnOk result (AllFine (function_view function.now) asked carried.old.scope carried.old.answered (block_view block.now)) }
+    ensures fine { OnOk result (AllFine (function_view outline.now.function.now) asked carried.old.scope carried.old.answered (block_view block.now)) }
     ensures scope { OnOk result (carried.new.scope ≡ carried.old.scope) }
     ensures answered { OnOk result (carried.new.answered ≡ carried.old.answered ++ answered_in (block_view block.now)) }
-    ensures fault { IfErr result (λ r. IfFault r (λ e. FaultIn (function_view function.now) asked e carried.old.scope carried.old.answered (block_view block.now))) }
+    ensures fault { IfErr result (λ r. IfFault r (λ e. FaultIn (function_view outline.now.function.now) asked e carried.old.scope carried.old.answered (block_view block.now))) }
 {
     let count = carried.scope.len();
-    check_block(function, asked, carried, block)?;
+    check_block(outline, asked, carried, block)?;
     carried.scope.cut(count);
     Ok(())
 }
@@ -54,18 +55,18 @@ fn check_inner(
 // The same of the cases of a switch, one after another.
 #[cycle(walk)]
 fn check_cases(
-    function: &Function,
+    outline: &Outline<'_>,
     asked: bool,
     carried: &mut Carried,
     cases: &[SwitchCase],
 ) -> Result<(), ScopeError>
-    ensures fine { OnOk result (FineInCases (function_view function.now) asked carried.old.scope carried.old.answered (cases_of (map case_view cases.now))) }
+    ensures fine { OnOk result (FineInCases (function_view outline.now.function.now) asked carried.old.scope carried.old.answered (cases_of (map case_view cases.now))) }
     ensures scope { OnOk result (carried.new.scope ≡ carried.old.scope) }
     ensures answered { OnOk result (carried.new.answered ≡ carried.old.answered ++ answered_in_cases (cases_of (map case_view cases.now))) }
-    ensures fault { IfErr result (λ r. IfFault r (λ e. FaultInCases (function_view function.now) asked e carried.old.scope carried.old.answered (cases_of (map case_view cases.now)))) }
+    ensures fault { IfErr result (λ r. IfFault r (λ e. FaultInCases (function_view outline.now.function.now) asked e carried.old.scope carried.old.answered (cases_of (map case_view cases.now)))) }
 {
     for case in cases {
-        check_inner(function, asked, carried, &case.body)?;
+        check_inner(outline, asked, carried, &case.body)?;
     }
     Ok(())
 }
@@ -73,26 +74,26 @@ fn check_cases(
 // The same of a statement and of what stands inside it. What it brings itself stays in scope.
 #[cycle(walk)]
 fn check_statement(
-    function: &Function,
+    outline: &Outline<'_>,
     asked: bool,
     carried: &mut Carried,
     statement: &Statement,
 ) -> Result<(), ScopeError>
-    ensures fine { OnOk result (FineWithin (function_view function.now) asked carried.old.scope carried.old.answered (statement_view statement.now)) }
+    ensures fine { OnOk result (FineWithin (function_view outline.now.function.now) asked carried.old.scope carried.old.answered (statement_view statement.now)) }
     ensures scope { OnOk result (carried.new.scope ≡ carried.old.scope ++ introduced (statement_view statement.now)) }
     ensures answered { OnOk result (carried.new.answered ≡ carried.old.answered ++ answered_at (statement_view statement.now)) }
-    ensures fault { IfErr result (λ r. IfFault r (λ e. FaultWithin (function_view function.now) asked e carried.old.scope carried.old.answered (statement_view statement.now))) }
+    ensures fault { IfErr result (λ r. IfFault r (λ e. FaultWithin (function_view outline.now.function.now) asked e carried.old.scope carried.old.answered (statement_view statement.now))) }
 {
     match statement {
-        Statement::Block(block) => check_inner(function, asked, carried, block),
+        Statement::Block(block) => check_inner(outline, asked, carried, block),
         Statement::If { accept, reject, .. } => {
-            check_used(function, asked, carried, statement)?;
-            check_inner(function, asked, carried, accept)?;
-            check_inner(function, asked, carried, reject)
+            check_used(outline.function, asked, carried, statement)?;
+            check_inner(outline, asked, carried, accept)?;
+            check_inner(outline, asked, carried, reject)
         }
         Statement::Switch { cases, .. } => {
-            check_used(function, asked, carried, statement)?;
-            check_cases(function, asked, carried, cases)
+            check_used(outline.function, asked, carried, statement)?;
+            check_cases(outline, asked, carried, cases)
         }
         Statement::Loop {
             body,
@@ -100,9 +101,9 @@ fn check_statement(
             break_if,
         } => {
             let count = carried.scope.len();
-            check_block(function, asked, carried, body)?;
-            check_block(function, asked, carried, continuing)?;
-            check_condition(function, asked, carried, *break_if)?;
+            check_block(outline, asked, carried, body)?;
+            check_block(outline, asked, carried, continuing)?;
+            check_condition(outline.function, asked, carried, *break_if)?;
             carried.scope.cut(count);
             Ok(())
         }
@@ -124,6 +125,6 @@ fn check_statement(
         | Statement::SubgroupCollectiveOperation { .. }
         | Statement::SubgroupGather { .. }
         | Statement::CooperativeStore { .. }
-        | Statement::RayPipelineFunction(_) => { check_own(function, asked, carried, statement) }
+        | Statement::RayPipelineFunction(_) => { check_own(outline, asked, carried, statement) }
     }
 }

@@ -26,6 +26,7 @@ use ir_faults::refusal::Refusal;
 use ir_items::{Function, Module};
 use ir_types::key;
 use statement_checks::BlockContext;
+use statement_validator::next_answers;
 use std::alloc::Global;
 use typing_layout::ExpressionKindTracker;
 
@@ -67,6 +68,10 @@ fn judge<L: Lower>(
         Ok(kinds) => kinds,
         Err(error) => return Err(Refusal::Memory(error)),
     };
+    let answers = match next_answers(alloc, function) {
+        Ok(answers) => answers,
+        Err(error) => return Err(Refusal::Memory(error)),
+    };
     let context = BlockContext {
         capabilities: settings.capabilities,
         operations: settings.operations,
@@ -74,6 +79,7 @@ fn judge<L: Lower>(
         function,
         forms: &forms,
         kinds: &kinds,
+        answers: &answers,
     };
     match check_parts(lower, alloc, settings, &context, callees) {
         Ok(met) => Ok(met),

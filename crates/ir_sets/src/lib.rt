@@ -9,4 +9,5 @@
 pub mod bits;
 pub mod handle_set;
 pub mod handle_vec;
+pub mod next;
 pub mod range_set;

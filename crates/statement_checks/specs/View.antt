@@ -2,6 +2,7 @@
 use Rattle.ir_items.specs.View.{function_view, module_view}
 use Rattle.spec_statements.specs.BlockContext.{BlockContext as PlainContext}
 use Rattle.statement_checks.specs.declared.context.BlockContext.{BlockContext}
+use Rattle.statement_checks.specs.Emits.{AreAnswers}
 use Rattle.typing_layout.specs.Constness.{AreKinds}
 
 abbrev pub context_view : BlockContext → PlainContext
@@ -13,6 +14,7 @@ context_view c = record {
   forms = c.forms.now;
 }
 
--- the kinds are those of all expressions
-abbrev pub IsKnown : BlockContext → Type 0
-IsKnown c = AreKinds (context_view c).f.expressions c.kinds.now
+-- the kinds are those of all expressions, and the answers the next ones among them
+pub record IsKnown (c : BlockContext) : Type 0 where
+  pub kinds : AreKinds (context_view c).f.expressions c.kinds.now
+  pub answers : AreAnswers (context_view c).f.expressions c.answers.now

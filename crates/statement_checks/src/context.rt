@@ -7,12 +7,15 @@ ghost use Rattle.ir_items.specs.View.{function_view};
 ghost use Rattle.ir_types.specs.ExpressionPlain.{expression_view};
 ghost use Rattle.ir_types.specs.Plain.{inner_view, type_view};
 ghost use Rattle.spec_statements.specs.BlockContext.{BlockContext as PlainContext, form_at};
+ghost use Rattle.statement_checks.specs.Emits.{IsAnswerOf};
 ghost use Rattle.typing_forms.specs.Forms.{form_of_type};
 ghost use Rattle.typing_forms.specs.Resolutions.{inner_at};
 ghost use Rattle.typing_layout.specs.Constness.{IsOfKind};
 ghost use Rattle.typing_layout.specs.declared.constness.ExpressionKind.TheVariants.{Const};
 
+use crate::emits::answer_of;
 use ir_arena::handle::Handle;
+use ir_arena::range::Range;
 use ir_flags::{Capabilities, SubgroupOperationSet};
 use ir_items::{Block, Function, FunctionResult, GlobalVariable, Module};
 use ir_types::{Expression, IrType, TypeInner, key};
@@ -26,7 +29,7 @@ pub trait StatementContext {
     /// What it holds.
     ghost seen: { Self → PlainContext };
 
-    /// When the values of expressions are known is told of all of them.
+    /// What is found of all expressions once is that of these: when their values are known, and which stand for answers.
     ghost known: { Self → Type 0 };
 
     /// What shaders may use beyond the common part.
@@ -74,6 +77,12 @@ pub trait StatementContext {
         requires { known self.now }
         ensures { IsTrue result ↔ IsOfKind (seen self.now).f.expressions handle Const };
 
+    /// The first expression of a range that stands for the answer of a statement, if there is one. That takes the same time for
+    /// any range.
+    fn answer_of(&self, range: Range<key::Expression>) -> Option<Handle<key::Expression>>
+        requires { known self.now }
+        ensures { IsAnswerOf (seen self.now).f.expressions range result };
+
     /// The type of a variable of the function, if there is one at the handle.
     fn local_type(&self, handle: Handle<key::LocalVariable>) -> Option<Handle<key::IrType>>
         ensures { result ≡ option_map (λ v. v.ty) (slice_get (seen self.now).f.locals handle) };
@@ -102,6 +111,8 @@ pub struct BlockContext<'a> {
     pub forms: &'a [Form],
     /// When the value of each of them is known.
     pub kinds: &'a ExpressionKindTracker,
+    /// For each of them the first from it on that stands for the answer of a statement.
+    pub answers: &'a [u32],
 }
 
 impl<'a> StatementContext for BlockContext<'a> {
@@ -168,6 +179,10 @@ impl<'a> StatementContext for BlockContext<'a> {
 
     fn is_const(&self, handle: Handle<key::Expression>) -> bool {
         handle.index() < self.function.expressions.len() && self.kinds.is_const(handle)
+    }
+
+    fn answer_of(&self, range: Range<key::Expression>) -> Option<Handle<key::Expression>> {
+        answer_of(self.answers, range)
     }
 
     #[tactic(auto, using(crate::proofs::Lookups::found, crate::proofs::Lookups::missing))]

@@ -2,6 +2,7 @@
 //! `statement_checks`, `operation_checks` and `atomic_checks`.
 #![tactic(auto)]
 
+mod answers;
 mod body;
 mod error;
 pub mod laws;
@@ -10,5 +11,6 @@ mod statement;
 pub mod switch_laws;
 mod switches;
 
+pub use answers::next_answers;
 pub use body::validate_statements;
 pub use switches::check_switch;

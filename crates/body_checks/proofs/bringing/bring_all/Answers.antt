@@ -10,4 +10,4 @@ use Rattle.body_checks.proofs.bringing.bring_all.Goals as goal
 pub returns-in-Some : goal.returns-in-Some
 returns-in-Some c =
     let is : Some (emitted_view c.in-Some.range) ≡ statement_range (statement_view c.args.statement.now) = search rules in
-    subst (λ xs. IfOk c.bring_range.result (AreBrought (function_view c.args.function.now) c.args.scope.now c.bring_range.new.scope xs)) (emitted (statement_view c.args.statement.now) c.in-Some.range is) c.bring_range.ensures
+    subst (λ xs. IfOk c.bring_range.result (AreBrought (function_view c.args.outline.now.function.now) c.args.scope.now c.bring_range.new.scope xs)) (emitted (statement_view c.args.statement.now) c.in-Some.range is) c.bring_range.ensures

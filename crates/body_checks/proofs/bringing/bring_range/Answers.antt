@@ -1,19 +1,21 @@
-use Rattle.std.proofs.Common.{rules, ◌≡◌, true, false}
+use Rattle.std.proofs.Common.{rules, ◌≡◌, true, false, inl}
 use Rattle.ir_arena.specs.Handles.{handles_between}
 use Rattle.ir_items.specs.View.{function_view}
-use Rattle.body_checks.proofs.Tables.{ahead_known, ahead_more, is_brought, was_known}
+use Rattle.body_checks.proofs.Firsts.{known_found, known_stays, all_brought, none_brought}
 use Rattle.body_checks.proofs.bringing.bring_range.Goals as goal
 
-pub returns-then-not-branch : goal.returns-then-not-branch
-returns-then-not-branch c =
-    let f = function_view c.args.function.now in
-    let there : c.in_ok-bring_one.field-0 ≡ false = search rules in
-    ahead_known f c.args.scope.now c.loop-handle.scope (handles_between c.args.range) (handles_between c.loop-handle.handle-iterator) c.in-Some.handle (handles_between c.next.new.self) c.loop-handle.invariant c.in-Some.ensures.steps
-    (was_known f c.loop-handle.scope c.bring_one.new.scope c.in-Some.handle c.in_ok-bring_one.field-0 c.in_ok-bring_one.ensures there)
+pub returns-then-has_always : goal.returns-then-has_always
+returns-then-has_always c =
+    let there = c.if-has_always.ensures in
+    known_found (function_view c.args.outline.now.function.now) c.args.scope.now (handles_between c.args.range) c.first_known.result c.first_known.ensures.none c.first_known.ensures.some (there.0, there.1, inl there.2)
 
-pub loop-handle-preserved : goal.loop-handle-preserved
-loop-handle-preserved c =
-    let f = function_view c.args.function.now in
-    let brought : c.in_ok-bring_one.field-0 ≡ true = search rules in
-    ahead_more f c.args.scope.now c.loop-handle.scope c.bring_one.new.scope (handles_between c.args.range) c.loop-handle.handle-iterator c.in-Some.handle (handles_between c.next.new.self) c.loop-handle.invariant c.in-Some.ensures.steps
-    (is_brought f c.loop-handle.scope c.bring_one.new.scope c.in-Some.handle c.in_ok-bring_one.field-0 c.in_ok-bring_one.ensures brought)
+pub returns-then-branch : goal.returns-then-branch
+returns-then-branch c =
+    let added : c.in_ok-insert_range.field-0 ≡ true = search rules in
+    all_brought (function_view c.args.outline.now.function.now) c.args.scope.now c.insert_range.new.self (handles_between c.args.range) c.in_ok-insert_range.field-0 c.in_ok-insert_range.ensures added c.if-has_always.ensures
+
+pub returns : goal.returns
+returns c =
+    let added : c.in_ok-insert_range.field-0 ≡ false = search rules in
+    let none = none_brought c.args.scope.now c.insert_range.new.self (handles_between c.args.range) c.in_ok-insert_range.field-0 c.in_ok-insert_range.ensures added in
+    known_stays (function_view c.args.outline.now.function.now) c.args.scope.now c.insert_range.new.self (handles_between c.args.range) c.first_known-2.result none.0 c.first_known-2.ensures.none c.first_known-2.ensures.some none.1

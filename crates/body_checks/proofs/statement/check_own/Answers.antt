@@ -1,4 +1,4 @@
-use Rattle.std.proofs.Common.{rules, ◌≡◌, ℕ, Bool, List}
+use Rattle.std.proofs.Common.{rules, ℕ, Bool, List}
 use Rattle.std.proofs.lemmas.Result.{IfErr-weaker}
 use Rattle.ir_blocks.specs.Places.{statement as spot}
 use Rattle.ir_blocks.specs.View.{statement_view}
@@ -10,7 +10,7 @@ use Rattle.body_checks.proofs.statement.check_own.Goals as goal
 
 pub returns-in_err-bring-clause-fault : goal.returns-in_err-bring-clause-fault
 returns-in_err-bring-clause-fault c =
-    let f = function_view c.args.function.now in
+    let f = function_view c.args.outline.now.function.now in
     let s = statement_view c.args.statement.now in
     let carried = c.args.carried.now in
     let told : IfFault c.in_err-bring.field-0.0 (IsFaultHere f c.args.asked (spot s) carried.scope carried.answered) =
@@ -20,7 +20,7 @@ returns-in_err-bring-clause-fault c =
 
 pub returns-clause-fault : goal.returns-clause-fault
 returns-clause-fault c =
-    let f = function_view c.args.function.now in
+    let f = function_view c.args.outline.now.function.now in
     let s = statement_view c.args.statement.now in
     let carried = c.args.carried.now in
     IfErr-weaker c.note_answer.result (λ r. IfFault r (λ e. (g : PlainFunction) (scope : List ℕ) → IsFaultHere g c.args.asked (spot s) scope carried.answered e)) _

@@ -1,4 +1,4 @@
-use Rattle.std.proofs.Common.{rules, ◌≡◌, ◌++◌, map}
+use Rattle.std.proofs.Common.{rules, ◌≡◌, map}
 use Rattle.ir_blocks.specs.declared.statements.Statement.{the_lemmas}
 use Rattle.std.proofs.lemmas.Result.{IfErr-weaker, on_ok_weaker}
 use Rattle.error_functions.specs.declared.error.FunctionError.{FunctionError}
@@ -16,7 +16,7 @@ check_statement-returns-in_ok-check_inner-in-If-clause-fine t c =
     let s = statement_view c.args.statement.now in
     let is : s ≡ if_ c.in-If.condition (block_view c.in-If.accept) (block_view c.in-If.reject) = search (rules, the_lemmas) in
     on_ok_weaker c.check_inner-in-If-2.result
-    (λ second. if_fine (function_view c.args.function.now) c.args.asked c.args.carried.now.scope c.args.carried.now.answered _ _ s c.in-If.condition (block_view c.in-If.accept) (block_view c.in-If.reject) is
+    (λ second. if_fine (function_view c.args.outline.now.function.now) c.args.asked c.args.carried.now.scope c.args.carried.now.answered _ _ s c.in-If.condition (block_view c.in-If.accept) (block_view c.in-If.reject) is
     c.in_ok-check_used-in-If.ensures.used c.in_ok-check_inner-in-If.ensures.fine c.in_ok-check_inner-in-If.ensures.scope c.in_ok-check_inner-in-If.ensures.answered second)
     c.check_inner-in-If-2.ensures.fine
 
@@ -33,7 +33,7 @@ check_statement-returns-in_ok-check_used-in-Switch-clause-fine t c =
     let s = statement_view c.args.statement.now in
     let is : s ≡ switch c.in-Switch.selector (cases_of (map case_view c.deref.result.now)) = search (rules, the_lemmas) in
     on_ok_weaker c.check_cases.result
-    (λ each. switch_fine (function_view c.args.function.now) c.args.asked c.args.carried.now.scope c.args.carried.now.answered s c.in-Switch.selector _ is c.in_ok-check_used-in-Switch.ensures.used each)
+    (λ each. switch_fine (function_view c.args.outline.now.function.now) c.args.asked c.args.carried.now.scope c.args.carried.now.answered s c.in-Switch.selector _ is c.in_ok-check_used-in-Switch.ensures.used each)
     c.check_cases.ensures.fine
 
 pub check_statement-returns-in_ok-check_condition-in-Loop-clause-scope : goal.check_statement-returns-in_ok-check_condition-in-Loop-clause-scope
@@ -50,7 +50,7 @@ check_statement-returns-in_ok-check_condition-in-Loop-clause-answered t c =
 
 pub check_statement-returns-in_err-check_used-in-If-clause-fault : goal.check_statement-returns-in_err-check_used-in-If-clause-fault
 check_statement-returns-in_err-check_used-in-If-clause-fault t c =
-    let f = function_view c.args.function.now in
+    let f = function_view c.args.outline.now.function.now in
     let carried = c.args.carried.now in
     let s = statement_view c.args.statement.now in
     let is : s ≡ if_ c.in-If.condition (block_view c.in-If.accept) (block_view c.in-If.reject) = search (rules, the_lemmas) in
@@ -60,7 +60,7 @@ check_statement-returns-in_err-check_used-in-If-clause-fault t c =
 
 pub check_statement-returns-in_err-check_condition-in-Loop-clause-fault : goal.check_statement-returns-in_err-check_condition-in-Loop-clause-fault
 check_statement-returns-in_err-check_condition-in-Loop-clause-fault t c =
-    let f = function_view c.args.function.now in
+    let f = function_view c.args.outline.now.function.now in
     let carried = c.args.carried.now in
     let s = statement_view c.args.statement.now in
     let is : s ≡ loop (block_view c.in-Loop.body) (block_view c.in-Loop.continuing) c.in-Loop.break_if = search (rules, the_lemmas) in
@@ -72,7 +72,7 @@ check_statement-returns-in_err-check_condition-in-Loop-clause-fault t c =
 
 pub check_statement-returns-in-Emit-clause-fault : goal.check_statement-returns-in-Emit-clause-fault
 check_statement-returns-in-Emit-clause-fault t c =
-    let f = function_view c.args.function.now in
+    let f = function_view c.args.outline.now.function.now in
     let carried = c.args.carried.now in
     let s = statement_view c.args.statement.now in
     let at : (e : FunctionError) → IsFaultHere f c.args.asked (statement s) carried.scope carried.answered e → FaultWithin f c.args.asked e carried.scope carried.answered s = search (rules, the_lemmas) in

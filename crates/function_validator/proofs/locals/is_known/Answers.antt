@@ -9,7 +9,7 @@ use Rattle.function_validator.proofs.locals.is_known.Goals as goal
 pub returns-then-index-len : goal.returns-then-index-len
 returns-then-index-len c =
     let is = c.is_const_or_override.ensures in
-    let known = known_early (context_view c.args.context.now).f.expressions c.args.context.now.kinds.now c.args.handle c.requires in
+    let known = known_early (context_view c.args.context.now).f.expressions c.args.context.now.kinds.now c.args.handle c.requires.kinds in
     (λ t. known.0 (is.0 t), λ k. is.1 (known.1 k))
 
 pub returns-else-index-len : goal.returns-else-index-len

@@ -8,7 +8,7 @@ use Rattle.statement_checks.proofs.context.BlockContextStatementContext.is_const
 pub returns-then-index-len : goal.returns-then-index-len
 returns-then-index-len c =
     let is = c.is_const.ensures in
-    let known = constant_at (context_view c.args.self.now).f.expressions c.args.self.now.kinds.now c.args.handle c.requires in
+    let known = constant_at (context_view c.args.self.now).f.expressions c.args.self.now.kinds.now c.args.handle c.requires.kinds in
     (λ t. known.0 (is.0 t), λ k. is.1 (known.1 k))
 
 pub returns-else-index-len : goal.returns-else-index-len
