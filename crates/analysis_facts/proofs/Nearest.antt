@@ -1,5 +1,5 @@
 -- Steps of the search for the nearest filter.
-use Rattle.std.proofs.Common.{◌≡◌, inl, inr, ℕ, zero, suc, ◌+◌, ◌<◌, ◌≤◌, List, [], ◌∷◌, Option, Some, None, length, slice_get, map, option_map, refl, sym, ap, ◌∙◌, subst, arith}
+use Rattle.std.proofs.Common.{◌≡◌, ◌⊎◌, ◌++◌, inl, inr, ℕ, zero, suc, ◌+◌, ◌<◌, ◌≤◌, List, [], ◌∷◌, Option, Some, None, length, slice_get, map, option_map, refl, sym, ap, ◌∙◌, subst, arith}
 use Rattle.std.specs.Option.{option_and_then}
 use Rattle.std.proofs.lemmas.Option.{slice_get-map}
 use Rattle.ir_arena.specs.Arenas.{value_at}
@@ -9,7 +9,9 @@ use Rattle.ir_kinds.specs.declared.diagnostics.Severity.{Severity}
 use Rattle.ir_kinds.specs.declared.diagnostics.StandardFilterableTriggeringRule.{StandardFilterableTriggeringRule}
 use Rattle.ir_items.specs.GlobalPlain.{PlainNode, standard}
 use Rattle.ir_walks.specs.Filters.{ParentsPrecede}
+use Rattle.ir_kinds.specs.declared.diagnostics.StandardFilterableTriggeringRule.TheVariants.{DerivativeUniformity}
 use Rattle.spec_bodies.specs.Severity.{IsTrail, IsFirst, IsNearest}
+use Rattle.analysis_facts.specs.Nearest.{AreNearest}
 
 -- the plain item at a handle
 pub plain_at : {T P : Type 0} → (view : T → P) (entries : List (T × Span)) (handle : ℕ) (item : T)
@@ -56,3 +58,29 @@ found nodes precede handle node rule e h =
 pub passed : (nodes : List PlainNode) (handle : ℕ) (node : PlainNode) (rule : StandardFilterableTriggeringRule) (s : Option Severity)
     → slice_get nodes handle ≡ Some node → (¬ (node.rule ≡ standard rule)) → IsNearest nodes node.parent rule s → IsNearest nodes (Some handle) rule s
 passed nodes handle node rule s e other behind = (node ∷ behind.0, (e, behind.1), inr (other, behind.2))
+
+-- the severity at a node is its own, or that of the nodes behind it
+pub own_or_behind : (nodes : List PlainNode) → ParentsPrecede nodes → (handle : ℕ) (node : PlainNode) (behind s : Option Severity) → slice_get nodes handle ≡ Some node → IsNearest nodes node.parent DerivativeUniformity behind
+    → (node.rule ≡ standard DerivativeUniformity) × (s ≡ Some node.severity) ⊎ (¬ (node.rule ≡ standard DerivativeUniformity)) × (s ≡ behind) → IsNearest nodes (Some handle) DerivativeUniformity s
+own_or_behind nodes precede handle node behind s e at (inl own) =
+    subst (IsNearest nodes (Some handle) DerivativeUniformity) (sym own.1) (found nodes precede handle node DerivativeUniformity e own.0)
+own_or_behind nodes precede handle node behind s e at (inr other) =
+    subst (IsNearest nodes (Some handle) DerivativeUniformity) (sym other.1) (passed nodes handle node DerivativeUniformity behind e other.0 at)
+
+-- what stands in a list behind which one more stands
+last_or_before : {X : Type 0} (xs : List X) (x y : X) (k : ℕ) → slice_get (xs ++ x ∷ []) k ≡ Some y → (slice_get xs k ≡ Some y) ⊎ ((k ≡ length xs) × (x ≡ y))
+last_or_before [] x y zero e = inr (refl, cc (e))
+last_or_before [] x y (suc k) e = absurd (cc (e))
+last_or_before (z ∷ xs) x y zero e = inl e
+last_or_before (z ∷ xs) x y (suc k) e = elim (last_or_before xs x y k e) [ inl l ↦ inl l | inr r ↦ inr (ap suc r.0, r.1) ]
+
+-- one more node of which the severity is known
+pub one_more : (nodes : List PlainNode) (known : List (Option Severity)) (o : Option Severity) → AreNearest nodes known → IsNearest nodes (Some (length known)) DerivativeUniformity o → AreNearest nodes (known ++ o ∷ [])
+one_more nodes known o are is = λ handle found at. elim (last_or_before known o found handle at) [
+  | inl before ↦ are handle found before
+  | inr last ↦ subst (λ k. IsNearest nodes (Some k) DerivativeUniformity found) (sym last.0) (subst (IsNearest nodes (Some (length known)) DerivativeUniformity) last.1 is)
+]
+
+-- of no node anything is known
+pub nothing_known : (nodes : List PlainNode) → AreNearest nodes []
+nothing_known nodes = λ handle found at. absurd (cc (at))

@@ -1,4 +1,5 @@
 pub mod Facts
+pub mod Nearest
 pub mod Told
 pub mod Asking
 pub mod Uniform

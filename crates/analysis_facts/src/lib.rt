@@ -16,7 +16,7 @@ mod sources;
 mod uniformities;
 mod walk;
 
-pub use analysis_fault::uniformity_fault;
+pub use analysis_fault::{uniformity_fault, uniformity_fault_by};
 pub use facts::{Facts, facts_of};
 pub use fault::{NonUniform, find_fault};
-pub use severity::derivative_severity;
+pub use severity::{derivative_severity, derivative_severity_by, severities_of};

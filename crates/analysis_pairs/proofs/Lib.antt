@@ -1,2 +1,4 @@
+pub mod Joining
 pub mod Listing
 pub mod Lookups
+pub mod Marked

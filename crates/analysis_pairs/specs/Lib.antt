@@ -1,2 +1,4 @@
+pub mod Fronts
 pub mod Listed
 pub mod Pairings
+pub mod Passed

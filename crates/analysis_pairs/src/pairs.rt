@@ -1,17 +1,20 @@
 //! Pairs of images and samplers.
 
-ghost use Rattle.std.specs.Prelude.{◌≡◌, Some, IfOk, OnOk, None, [], slice_get};
+ghost use Rattle.std.specs.Prelude.{◌≡◌, ℕ, Some, IfOk, IsTrue, OnOk, None, [], slice_get, true};
 ghost use Rattle.ir_types.specs.ExpressionPlain.{expression_view};
 ghost use Rattle.ir_items.specs.GlobalView.{values_of};
+ghost use Rattle.module_info.specs.Marks.{EachOnce};
 ghost use Rattle.spec_analysis.specs.Chains.{place, seen_through};
 ghost use Rattle.std.specs.Prelude.{map};
 ghost use Rattle.analysis_pairs.specs.Pairings.{Paired, paired, with_pair, with_wrong, first_wrong, part_wrong, pair_one, passed_for, pass_up, pass_all_up};
+ghost use Rattle.analysis_pairs.specs.Passed.{PassesOn, PassesAllOn};
 
 use crate::list::PairList;
 use crate::places::{Expressions, place};
 use analysis_forms::{GlobalOrArgument, SamplingPair};
 use ir_arena::handle::Handle;
 use ir_types::key;
+use module_info::SampledPairs;
 use std::alloc::{AllocError, Global};
 
 /// The pairs, each once.
@@ -56,6 +59,78 @@ fn seen(
                 wrong: None,
             },
         },
+    }
+}
+
+// Whether what is passed for an argument is the caller's argument of the same number.
+fn passes_on(
+    expressions: &Expressions,
+    arguments: &[Handle<key::Expression>],
+    number: usize,
+) -> bool
+    ensures { IsTrue result → PassesOn (place (map expression_view (values_of expressions.now))) arguments.now number }
+{
+    match arguments.get(number) {
+        Some(argument) => match place(expressions, *argument) {
+            Some(part) => match part {
+                GlobalOrArgument::Argument(own) => own as usize == number,
+                GlobalOrArgument::Global(_) => false,
+            },
+            None => false,
+        },
+        None => false,
+    }
+}
+
+// The same of an argument, where it is marked.
+fn passes_if_marked(
+    expressions: &Expressions,
+    arguments: &[Handle<key::Expression>],
+    marks: &[bool],
+    number: usize,
+) -> bool
+    ensures { IsTrue result → slice_get marks.now number ≡ Some true → PassesOn (place (map expression_view (values_of expressions.now))) arguments.now number }
+{
+    match marks.get(number) {
+        Some(marked) => {
+            if *marked {
+                passes_on(expressions, arguments, number)
+            } else {
+                true
+            }
+        }
+        None => true,
+    }
+}
+
+// The same of all arguments that are marked.
+fn passes_marked_on(
+    expressions: &Expressions,
+    arguments: &[Handle<key::Expression>],
+    marks: &[bool],
+) -> bool
+    ensures { IsTrue result → (n : ℕ) → slice_get marks.now n ≡ Some true → PassesOn (place (map expression_view (values_of expressions.now))) arguments.now n }
+{
+    for number in 0..marks.len() {
+        if !passes_if_marked(expressions, arguments, marks, number) {
+            return false;
+        }
+    }
+    true
+}
+
+// Whether each of a table of pairs of a callee is the same pair in the caller.
+fn passes_all_on(
+    expressions: &Expressions,
+    arguments: &[Handle<key::Expression>],
+    callee: &SampledPairs,
+) -> bool
+    ensures once { IsTrue result → EachOnce callee.now.items }
+    ensures same { IsTrue result → PassesAllOn (place (map expression_view (values_of expressions.now))) arguments.now callee.now.items }
+{
+    match callee.marks() {
+        Some(marks) => passes_marked_on(expressions, arguments, marks),
+        None => false,
     }
 }
 
@@ -141,5 +216,27 @@ impl Sampled {
             self.pass_up(expressions, arguments, *pair)?;
         }
         Ok(())
+    }
+
+    /// The same for what is kept of the callee. Where each of a table of pairs is the same pair in the caller, and the caller has
+    /// no other, it shares the table, and nothing is copied. The error is out of memory.
+    pub fn join(
+        &mut self,
+        expressions: &Expressions,
+        arguments: &[Handle<key::Expression>],
+        callee: &SampledPairs,
+    ) -> Result<(), AllocError>
+        ensures { OnOk result (paired self.new ≡ pass_all_up (map expression_view (values_of expressions.now)) arguments.now callee.now.items (paired self.old)) }
+    {
+        if passes_all_on(expressions, arguments, callee) {
+            if self.pairs.is_empty() {
+                self.pairs = PairList::shared(self.pairs.allocator(), callee.share()?);
+                return Ok(());
+            }
+            if self.pairs.begins_with(callee.as_slice()) {
+                return Ok(());
+            }
+        }
+        self.pass_all_up(expressions, arguments, callee.as_slice())
     }
 }

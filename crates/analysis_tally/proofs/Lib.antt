@@ -3,6 +3,8 @@ pub mod Effects
 pub mod Handles
 pub mod Merging
 pub mod PairLemmas
+pub mod PartLemmas
+pub mod PassedLemmas
 pub mod SumLemmas
 pub mod TallyLaws
 pub mod UseLemmas

@@ -15,17 +15,17 @@ use Rattle.spec_analysis.proofs.Members.{among-left, among-right, among-cases}
 use Rattle.analysis_tally.specs.Tallies.{Paired, with_pair, with_wrong, first_wrong, part_wrong, pair_one, passed_for, pass_up, pass_all_up}
 use Rattle.std.proofs.lemmas.Bool.{eqb-true, eq-eqb}
 
-some_is : {X : Type 0} {x y : X} → Some x ≡ Some y → x ≡ y
+pub some_is : {X : Type 0} {x y : X} → Some x ≡ Some y → x ≡ y
 some_is e = cc (e)
 
-none_some : {X : Type 0} {A : Type 0} {x : X} → None ≡ Some x → A
+pub none_some : {X : Type 0} {A : Type 0} {x : X} → None ≡ Some x → A
 none_some e = absurd (cc (e))
 
-both : (x y : Bool) → (x && y) ≡ true → (x ≡ true) × (y ≡ true)
+pub both : (x y : Bool) → (x && y) ≡ true → (x ≡ true) × (y ≡ true)
 both true y e = (refl, e)
 both false y e = absurd (true≢false (sym e))
 
-part_same : (a b : GlobalOrArgument) → each.TheImpl.ghosts.eq a b ≡ true → a ≡ b
+pub part_same : (a b : GlobalOrArgument) → each.TheImpl.ghosts.eq a b ≡ true → a ≡ b
 part_same (Global x) (Global y) e = ap Global (eqb-true x y (both (eqb x y) true e).0)
 part_same (Argument x) (Argument y) e = ap Argument (eqb-true x y e)
 part_same (Global x) (Argument y) e = absurd (true≢false (sym e))

@@ -1,2 +1,4 @@
+pub mod Joined
+pub mod Parts
 pub mod Tallied
 pub mod Tallies

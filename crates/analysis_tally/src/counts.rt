@@ -71,6 +71,11 @@ impl Counts {
         Ok(Counts { counts, uses })
     }
 
+    // What the lists take memory from.
+    pub(crate) fn allocator(&self) -> Global {
+        *self.counts.allocator()
+    }
+
     // One operand, which makes this use of the global variable that it starts at.
     pub(crate) fn take(
         &mut self,

@@ -6,6 +6,7 @@ mod counts;
 mod expressions;
 mod operands;
 mod operations;
+mod passed;
 mod tally;
 mod walk;
 

@@ -1,1 +1,4 @@
+pub mod IndexLemmas
+pub mod KeyLemmas
+pub mod MarkLemmas
 pub mod UseBits

@@ -4,24 +4,13 @@ use Rattle.std.specs.Int.{bit_at}
 use Rattle.overload_tables.specs.Laws.{IsAmong}
 use Rattle.ir_flags.specs.Sets.{Has}
 use Rattle.analysis_forms.specs.declared.global_use.GlobalUse.{GlobalUse}
-use Rattle.analysis_forms.specs.declared.sampling.GlobalOrArgument.{GlobalOrArgument}
-use Rattle.analysis_forms.specs.declared.sampling.GlobalOrArgument.TheVariants.{Global, Argument}
-use Rattle.analysis_forms.specs.Pairs.{SamplingPair}
-use Rattle.analysis_forms.specs.declared.sampling.SamplingKey.{SamplingKey}
 use Rattle.spec_analysis.specs.Summaries.{Summary, no_use}
+pub use Rattle.module_info.specs.Keys.{key_of_parts, key_of}
 use Rattle.module_info.specs.declared.function_info.FunctionInfo.{FunctionInfo}
 
 -- what it tells to the callers of the function
 abbrev pub summary_of : FunctionInfo → Summary
 summary_of info = record { uses = info.uses.items; pairs = info.sampling.items; may_kill = info.may_kill }
-
--- the two global variables of a pair, where it is one of global variables
-abbrev pub key_of_parts : GlobalOrArgument → GlobalOrArgument → List SamplingKey
-key_of_parts (Global image) (Global sampler) = record { image = image; sampler = sampler } ∷ []
-key_of_parts _ _ = []
-
-abbrev pub key_of : SamplingPair → List SamplingKey
-key_of p = key_of_parts p.0 p.1
 
 -- ---- uses
 

@@ -1,1 +1,4 @@
+pub mod Held
 pub mod Infos
+pub mod Keys
+pub mod Marks

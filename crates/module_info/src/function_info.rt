@@ -6,8 +6,9 @@ ghost use Rattle.ir_flags.specs.Words.{shader_stages};
 ghost use Rattle.module_info.specs.Infos.{summary_of, NotesUse, Dominates};
 ghost use Rattle.spec_analysis.specs.Summaries.{HasUseBit};
 
+use crate::sampled::{SampledKeys, SampledPairs};
 use crate::uses::{dominates, mark_all};
-use analysis_forms::{ExpressionInfo, GlobalUse, SamplingKey, SamplingPair};
+use analysis_forms::{ExpressionInfo, GlobalUse, SamplingPair};
 use bitflags::Flags;
 use ir_arena::handle::Handle;
 use ir_flags::ShaderStages;
@@ -24,12 +25,12 @@ pub struct FunctionInfo {
     /// Whether it may end the fragment, itself or by a function that it calls.
     pub may_kill: bool,
     /// The pairs of two global variables among [`FunctionInfo::pairs`], in the same order.
-    pub sampling_set: Vec<SamplingKey>,
+    pub sampling_set: SampledKeys,
     /// Whether its result is one with two blend sources: `false`, until [`FunctionInfo::note`] says so.
     pub dual_source_blending: bool,
     uses: Vec<GlobalUse>,
     expressions: Vec<ExpressionInfo>,
-    sampling: Vec<SamplingPair>,
+    sampling: SampledPairs,
 }
 
 /// The parts of a [`FunctionInfo`] that an analysis finds.
@@ -42,9 +43,9 @@ pub struct FunctionParts {
     /// What is known of each expression.
     pub expressions: Vec<ExpressionInfo>,
     /// The pairs.
-    pub sampling: Vec<SamplingPair>,
+    pub sampling: SampledPairs,
     /// Those of two global variables.
-    pub sampling_set: Vec<SamplingKey>,
+    pub sampling_set: SampledKeys,
 }
 
 impl FunctionInfo {
@@ -100,6 +101,13 @@ impl FunctionInfo {
     /// The images and samplers that it samples, itself or by a function that it calls, each pair once.
     pub fn pairs(&self) -> &[SamplingPair]
         ensures { result.now ≡ (summary_of self.now).pairs }
+    {
+        self.sampling.as_slice()
+    }
+
+    /// The same, as they are shared.
+    pub fn sampled(&self) -> &SampledPairs
+        ensures { result.now ≡ self.now.sampling }
     {
         &self.sampling
     }

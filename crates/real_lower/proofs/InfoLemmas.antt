@@ -4,9 +4,6 @@ use Rattle.std.specs.Prelude.{slice_index_or}
 use Rattle.std.proofs.lemmas.Option.{slice_get_within, slice_get-get_or}
 use Rattle.analysis_facts.specs.Facts.{AreUniformities}
 use Rattle.analysis_forms.specs.declared.expression_info.ExpressionInfo.{ExpressionInfo}
-use Rattle.analysis_forms.specs.declared.sampling.GlobalOrArgument.{GlobalOrArgument}
-use Rattle.analysis_forms.specs.declared.sampling.GlobalOrArgument.TheVariants.{Global, Argument}
-use Rattle.module_info.specs.Infos.{key_of_parts}
 use Rattle.analysis_forms.specs.declared.uniformity.Uniformity.{Uniformity}
 use Rattle.analysis_tally.specs.Tallied.{IsTally}
 use Rattle.analysis_tally.specs.Tallies.{Tallied}
@@ -15,7 +12,7 @@ use Rattle.spec_analysis.specs.Summaries.{Summary}
 use Rattle.spec_analysis.specs.Values.{AreStarts}
 use Rattle.spec_expressions.specs.Context.{inside}
 use Rattle.real_lower.specs.Infos.{IsExpressionInfo, AreExpressionInfos}
-use Rattle.real_lower.specs.Kept.{unknown, info_at, infos_from, global_of, key_by}
+use Rattle.real_lower.specs.Kept.{unknown, info_at, infos_from}
 use Rattle.typing_expressions.specs.Types.{AreTypes}
 use Rattle.typing_forms.specs.declared.resolution.TypeResolution.{TypeResolution}
 
@@ -65,11 +62,3 @@ module _ (uniformities : List Uniformity) (counts : List ℕ) (globals : List (O
           let same : 0 + e ≡ e = omega arith in
           subst (IsExpressionInfo m f e) (sym (p.is ∙ ap (λ q. info_at uniformities counts globals q p.ty) same)) (info_is e p.ty p.there);
     }
-
--- ---- pairs
-
-pub key_is : (image sampler : GlobalOrArgument) → key_of_parts image sampler ≡ key_by (global_of image) (global_of sampler)
-key_is (Global image) (Global sampler) = refl
-key_is (Global image) (Argument number) = refl
-key_is (Argument number) (Global sampler) = refl
-key_is (Argument number) (Argument other) = refl

@@ -1,9 +1,6 @@
 -- What is put together of each expression.
-use Rattle.std.specs.Prelude.{ℕ, ◌+◌, List, [], ◌∷◌, Option, Some, None, slice_index_or}
+use Rattle.std.specs.Prelude.{ℕ, ◌+◌, List, [], ◌∷◌, Option, None, slice_index_or}
 use Rattle.analysis_forms.specs.declared.expression_info.ExpressionInfo.{ExpressionInfo}
-use Rattle.analysis_forms.specs.declared.sampling.GlobalOrArgument.{GlobalOrArgument}
-use Rattle.analysis_forms.specs.declared.sampling.GlobalOrArgument.TheVariants.{Global, Argument}
-use Rattle.analysis_forms.specs.declared.sampling.SamplingKey.{SamplingKey}
 use Rattle.analysis_forms.specs.declared.uniformity.Uniformity.{Uniformity}
 use Rattle.spec_analysis.specs.Values.{known_at}
 use Rattle.typing_forms.specs.declared.resolution.TypeResolution.{TypeResolution}
@@ -25,15 +22,3 @@ info_at uniformities counts globals e ty = record {
 abbrev pub infos_from : List Uniformity → (counts : List ℕ) → (globals : List (Option ℕ)) → ℕ → List TypeResolution → List ExpressionInfo
 infos_from uniformities counts globals e [] = []
 infos_from uniformities counts globals e (ty ∷ rest) = info_at uniformities counts globals e ty ∷ infos_from uniformities counts globals (e + 1) rest
-
--- ---- pairs
-
--- the global variable that an image or a sampler is, if it is one
-abbrev pub global_of : GlobalOrArgument → Option ℕ
-global_of (Global g) = Some g
-global_of (Argument number) = None
-
--- the key of two of them
-abbrev pub key_by : Option ℕ → Option ℕ → List SamplingKey
-key_by (Some image) (Some sampler) = record { image = image; sampler = sampler } ∷ []
-key_by _ _ = []

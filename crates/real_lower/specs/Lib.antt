@@ -4,5 +4,6 @@ pub mod Laws
 pub mod Processed
 pub mod Faults
 pub mod Infos
+pub mod Severities
 pub mod Kept
 pub mod Summarized

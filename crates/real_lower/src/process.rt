@@ -7,6 +7,7 @@ ghost use Rattle.ir_items.specs.View.{function_view, module_view};
 ghost use Rattle.ir_flags.specs.declared.settings.ValidationFlags.{ValidationFlags};
 ghost use Rattle.ir_walks.specs.Filters.{ParentsPrecede};
 ghost use Rattle.analysis_facts.specs.Facts.{AreUniformities};
+ghost use Rattle.analysis_facts.specs.Nearest.{AreNearest};
 ghost use Rattle.module_info.specs.Infos.{summary_of};
 ghost use Rattle.analysis_facts.specs.Faults.{FunctionFault};
 ghost use Rattle.spec_analysis.specs.Summaries.{Summary, IsSummary, CalleesKnown, AgreeOnCallees};
@@ -16,7 +17,7 @@ ghost use Rattle.real_lower.specs.Faults.{IsSummaryFault};
 ghost use Rattle.real_lower.specs.Processed.{IsAnalysisFault, IsAnalysisRefusal, IsProcessed};
 
 use crate::{SummaryError, summarize};
-use analysis_facts::uniformity_fault;
+use analysis_facts::uniformity_fault_by;
 use analysis_forms::Uniformity;
 use error_functions::{ExpressionError, FunctionError};
 use ir_arena::handle::Handle;
@@ -24,6 +25,7 @@ use ir_faults::refusal::Refusal;
 use ir_faults::with_span::WithSpan;
 use ir_flags::ValidationFlags;
 use ir_items::{Function, Module};
+use ir_kinds::Severity;
 use ir_types::key;
 use module_info::FunctionInfo;
 use std::alloc::Global;
@@ -61,16 +63,18 @@ fn refused(alloc: Global, error: SummaryError) -> Refusal<FunctionError>
 fn check_uniformity(
     alloc: Global,
     flags: ValidationFlags,
+    known: &[Option<Severity>],
     module: &Module,
     function: &Function,
     uniformities: &[Uniformity],
 ) -> Result<(), Refusal<FunctionError>>
     requires uniformities { AreUniformities (module_view «module».now) (function_view function.now) uniformities.now }
     requires parents { ParentsPrecede (module_view «module».now).filters }
+    requires known { AreNearest (module_view «module».now).filters known.now }
     ensures clear { OnOk result ((x : Asked) → FunctionFault flags (module_view «module».now) (function_view function.now) x → ⊥) }
     ensures fault { IfErr result (λ r. (summaries : List Summary) → IsAnalysisRefusal flags (module_view «module».now) (function_view function.now) summaries r) }
 {
-    match uniformity_fault(alloc, flags, module, function, uniformities) {
+    match uniformity_fault_by(alloc, flags, known, module, function, uniformities) {
         Ok(None) => Ok(()),
         Ok(Some(fault)) => Err(Refusal::Fault(WithSpan::new(alloc, fault.into_error()))),
         Err(error) => Err(Refusal::Memory(error)),
@@ -108,11 +112,34 @@ pub fn process_function(
     ensures chains { CalleesKnown (module_view «module».now) (function_view function.now) (map summary_of infos.now)
         → IfOk result (λ info. IsSummary (module_view «module».now) (function_view function.now) (summary_of info)) }
 {
+    process_by(alloc, &[], module, function, infos, flags)
+}
+
+/// The same, where `known` is known of the module's diagnostic filters ([`analysis_facts::severities_of`]), so that they are not
+/// gone through.
+pub(crate) fn process_by(
+    alloc: Global,
+    known: &[Option<Severity>],
+    module: &Module,
+    function: &Function,
+    infos: &[FunctionInfo],
+    flags: ValidationFlags,
+) -> Result<FunctionInfo, Refusal<FunctionError>>
+    requires handles { HandlesInRange (module_view «module».now) (function_view function.now) }
+    requires precede { OperandsPrecede (function_view function.now).expressions }
+    requires parents { ParentsPrecede (module_view «module».now).filters }
+    requires known { AreNearest (module_view «module».now).filters known.now }
+    ensures exact { IsProcessed flags (module_view «module».now) (function_view function.now) (map summary_of infos.now) result }
+    ensures callees_alone { (others : List Summary) → AgreeOnCallees (function_view function.now) (map summary_of infos.now) others
+        → IsProcessed flags (module_view «module».now) (function_view function.now) others result }
+    ensures chains { CalleesKnown (module_view «module».now) (function_view function.now) (map summary_of infos.now)
+        → IfOk result (λ info. IsSummary (module_view «module».now) (function_view function.now) (summary_of info)) }
+{
     let found = match summarize(alloc, function, module, infos) {
         Ok(found) => found,
         Err(error) => return Err(refused(alloc, error)),
     };
-    match check_uniformity(alloc, flags, module, function, &found.uniformities) {
+    match check_uniformity(alloc, flags, known, module, function, &found.uniformities) {
         Ok(()) => {}
         Err(refusal) => return Err(refusal),
     }

@@ -1,9 +1,13 @@
 //! The layer beneath the rules of functions.
 
-ghost use Rattle.std.specs.Prelude.{◌≡◌};
+ghost use Rattle.std.specs.Prelude.{◌≡◌, IfOk, None, length};
+ghost use Rattle.ir_items.specs.View.{module_view};
+ghost use Rattle.ir_walks.specs.Filters.{ParentsPrecede};
+ghost use Rattle.real_lower.specs.Severities.{AreKnown, severities_in};
 
-use crate::process_function;
+use crate::process::process_by;
 use crate::stages::stages_by;
+use analysis_facts::severities_of;
 use analysis_forms::{GlobalUse, SamplingPair};
 use error_functions::{ExpressionError, FunctionError};
 use expression_validator::validate_expression;
@@ -12,26 +16,61 @@ use ir_arena::handle::Handle;
 use ir_faults::refusal::Refusal;
 use ir_flags::{ShaderStages, ValidationFlags};
 use ir_items::{Function, Module};
+use ir_kinds::Severity;
 use ir_types::key;
 use module_info::{FunctionInfo, ModuleInfo};
 use statement_checks::{BlockContext, CheckContext};
-use std::alloc::Global;
+use std::alloc::{AllocError, Global};
 use type_infos::TypeInfo;
 use typing_forms::TypeResolution;
 
 /// What is kept of a module, and with it the typing of its expressions, the analysis of its functions and the checks of their
-/// expressions.
+/// expressions. It may know how severe faults of derivatives are at each node of the module's diagnostic filters; where it
+/// doesn't, they are gone through for each function.
 #[derive(Drop)]
 pub struct RealLower {
     info: ModuleInfo,
+    severities: Option<Vec<Option<Severity>>>,
 }
 
 impl RealLower {
     /// The layer for the module of which this is kept.
     pub fn new(info: ModuleInfo) -> RealLower
-        ensures { result.info ≡ info }
+        ensures info { result.info ≡ info }
+        ensures severities { result.severities ≡ None }
     {
-        RealLower { info }
+        RealLower {
+            info,
+            severities: None,
+        }
+    }
+
+    /// The same, where the severities at the nodes of the module's diagnostic filters are found, once for all functions. Asks
+    /// that the parent of each comes before it. The error is out of memory.
+    pub fn with_severities(
+        alloc: Global,
+        info: ModuleInfo,
+        module: &Module,
+    ) -> Result<RealLower, AllocError>
+        requires { ParentsPrecede (module_view «module».now).filters }
+        ensures info { IfOk result (λ lower. lower.info ≡ info) }
+        ensures severities { IfOk result (λ lower. AreKnown (module_view «module».now) lower.severities) }
+        ensures many { IfOk result (λ lower. length (severities_in lower.severities) ≡ length «module».now.diagnostic_filters) }
+    {
+        let severities = severities_of(alloc, module)?;
+        Ok(RealLower {
+            info,
+            severities: Some(severities),
+        })
+    }
+
+    fn severities(&self) -> &[Option<Severity>]
+        ensures { result.now ≡ severities_in self.now.severities }
+    {
+        match &self.severities {
+            Some(severities) => severities,
+            None => &[],
+        }
     }
 
     /// What is kept of the module.
@@ -54,11 +93,12 @@ impl Lower for RealLower {
 
     ghost use Rattle.module_info.specs.Infos.{summary_of};
     ghost use Rattle.real_lower.specs.Made.{IsMadeOf, types_of};
+    ghost use Rattle.real_lower.specs.Severities.{AreKnown};
     ghost use Rattle.real_lower.specs.Readings.{reading_of, faults_of};
     ghost use Rattle.real_lower.specs.Laws.{one_form_by, one_run_by, expression_refuted_by};
     ghost use Rattle.spec_expressions.specs.Typing.{HasGlobalType};
 
-    ghost is_for = { λ l m. IsMadeOf m l.info };
+    ghost is_for = { λ l m. IsMadeOf m l.info × AreKnown m l.severities };
 
     ghost reading = { λ _ q. reading_of q };
 
@@ -98,7 +138,7 @@ impl Lower for RealLower {
         callees: &[FunctionInfo],
         flags: ValidationFlags,
     ) -> Result<FunctionInfo, Refusal<FunctionError>> {
-        process_function(alloc, module, function, callees, flags)
+        process_by(alloc, self.severities(), module, function, callees, flags)
     }
 
     fn resolution<'a>(
@@ -152,9 +192,9 @@ impl Lower for RealLower {
         info.note(stages, uses, dual_source_blending);
     }
 
-    ghost told_of_all = { λ l m made. made.told };
+    ghost told_of_all = { λ l m made. made.0.told };
 
-    ghost global_typed = { λ l m made. made.typed.each };
+    ghost global_typed = { λ l m made. made.0.typed.each };
 
     ghost one_form = { λ _ q e s t a b. one_form_by q e s t a b };
 

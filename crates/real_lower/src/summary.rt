@@ -14,7 +14,7 @@ ghost use Rattle.real_lower.specs.Infos.{IsFunctionInfo};
 ghost use Rattle.real_lower.specs.Summarized.{IsSummarized};
 ghost use Rattle.typing_expressions.specs.Types.{ItemsNamed, AreTypes, IsFirstUntyped};
 
-use crate::infos::{expression_infos, keys_of};
+use crate::infos::expression_infos;
 use analysis_facts::facts_of;
 use analysis_forms::Uniformity;
 use analysis_tally::{Context, Counts, Sampled, Tally};
@@ -175,7 +175,7 @@ impl Summarized {
         let Counts { counts, uses } = counts;
         let Sampled { pairs, wrong: _ } = sampled;
         let sampling = pairs.into_pairs()?;
-        let sampling_set = keys_of(alloc, &sampling)?;
+        let sampling_set = sampling.keys(alloc)?;
         let expressions = expression_infos(alloc, types, &uniformities, &counts, &globals)?;
         Ok(FunctionInfo::of_parts(FunctionParts {
             may_kill,

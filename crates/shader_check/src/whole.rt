@@ -9,7 +9,9 @@ ghost use Rattle.module_types.specs.Validated.{AreAccepted};
 ghost use Rattle.module_validator.specs.Faults.{IsModuleFault};
 ghost use Rattle.module_validator.specs.Refusals.{IsVariableFault};
 ghost use Rattle.module_validator.specs.Told.{IsInfoOf};
+ghost use Rattle.ir_walks.specs.Filters.{ParentsPrecede};
 ghost use Rattle.real_lower.specs.Made.{IsMadeOf};
+ghost use Rattle.real_lower.specs.Severities.{AreKnown};
 ghost use Rattle.spec_expressions.specs.Context.{outside};
 ghost use Rattle.spec_globals.specs.Globals.{GlobalsOK};
 ghost use Rattle.spec_handles.specs.InOrder.{HandlesOK};
@@ -27,7 +29,7 @@ use module_info::ModuleInfo;
 use module_validator::{InvalidGlobalVariable, ModuleError, ModuleValidator, validate_globals};
 use real_lower::RealLower;
 use spec_modules::ModuleSettings;
-use std::alloc::Global;
+use std::alloc::{AllocError, Global};
 
 // ---- refusals of steps
 
@@ -129,12 +131,19 @@ fn judge_variables(
     )
 }
 
-// One that judges as another does, over what is kept of a module.
-fn over(validator: &Validator<RealLower>, info: ModuleInfo) -> Validator<RealLower>
-    ensures settings { settings_in result ≡ settings_in validator.now }
-    ensures info { result.lower.info ≡ info }
+// One that judges as another does, over what is kept of a module and the severities at the nodes of its diagnostic filters. The
+// error is out of memory.
+fn over(
+    validator: &Validator<RealLower>,
+    info: ModuleInfo,
+    module: &Module,
+) -> Result<Validator<RealLower>, AllocError>
+    requires { ParentsPrecede (module_view «module».now).filters }
+    ensures settings { IfOk result (λ own. settings_in own ≡ settings_in validator.now) }
+    ensures info { IfOk result (λ own. own.lower.info ≡ info) }
+    ensures severities { IfOk result (λ own. AreKnown (module_view «module».now) own.lower.severities) }
 {
-    let lower = RealLower::new(info);
+    let lower = RealLower::with_severities(validator.alloc, info, module)?;
     let mut own = Validator::new(
         validator.alloc,
         lower,
@@ -143,7 +152,7 @@ fn over(validator: &Validator<RealLower>, info: ModuleInfo) -> Validator<RealLow
     );
     own.subgroup_stages(validator.stages);
     own.subgroup_operations(validator.operations);
-    own
+    Ok(own)
 }
 
 // The steps of functions and of entry points, over what is kept of their module.
@@ -152,6 +161,7 @@ fn judge_behind(
     module: &Module,
 ) -> Result<ModuleInfo, Refusal<ValidationError>>
     requires made { IsMadeOf (module_view «module».now) own.lower.info }
+    requires known { AreKnown (module_view «module».now) own.lower.severities }
     ensures { MatchResult result
         (IsKeptWith (settings_in own) (module_view «module».now) own.lower.info)
         (IsRefusedWith (IsFaultBehind (settings_in own) (module_view «module».now))) }
@@ -189,7 +199,11 @@ fn judge(
         Ok(()) => {}
         Err(refusal) => return Err(global_refusal(alloc, refusal)),
     }
-    match judge_behind(over(validator, info), module) {
+    let own = match over(validator, info, module) {
+        Ok(own) => own,
+        Err(error) => return Err(Refusal::Memory(error)),
+    };
+    match judge_behind(own, module) {
         Ok(info) => Ok(info),
         Err(refusal) => Err(refusal),
     }

@@ -5,16 +5,23 @@ use Rattle.shader_check.specs.Validated.{IsFaultBehind, IsKeptWith, IsRefusedWit
 use Rattle.shader_check.specs.declared.error.ValidationError.TheVariants as error
 use Rattle.ir_items.specs.View.{module_view}
 use Rattle.module_info.specs.declared.info.ModuleInfo.{ModuleInfo}
+use Rattle.module_handles.proofs.Whole.{order_gives_conditions}
 use Rattle.module_validator.specs.Faults.{IsModuleFault}
 use Rattle.module_validator.specs.Refusals.{IsVariableFault}
 use Rattle.real_lower.specs.Made.{IsMadeOf}
 use Rattle.spec_statements.specs.Functions.{FunctionSettings}
 use Rattle.shader_check.proofs.whole.judge.Goals as goal
 
+pub over-requires : goal.over-requires
+over-requires c = (order_gives_conditions (module_view c.args.«module».now) c.in-Ok.ensures.accepted.handles).filters
+
 pub judge_behind-requires : goal.judge_behind-requires
 judge_behind-requires c =
     let m = module_view c.args.«module».now in
-    record { made = subst (IsMadeOf m) (sym c.over.ensures.info) (made_of (settings_in c.args.validator.now) c.args.resolved m c.in-Ok.info c.in-Ok.ensures.accepted c.in-Ok.ensures.told) }
+    record {
+      made = subst (IsMadeOf m) (sym c.in-Ok-over.ensures.info) (made_of (settings_in c.args.validator.now) c.args.resolved m c.in-Ok.info c.in-Ok.ensures.accepted c.in-Ok.ensures.told);
+      known = c.in-Ok-over.ensures.severities;
+    }
 
 pub returns-in-Err : goal.returns-in-Err
 returns-in-Err c =
@@ -34,8 +41,8 @@ returns-in-Ok-judge_behind c =
     let s = settings_in c.args.validator.now in
     let m = module_view c.args.«module».now in
     let info = c.in-Ok-judge_behind.info in
-    let over = subst (λ (z : FunctionSettings). IsKeptWith z m c.over.result.lower.info info) c.over.ensures.settings c.in-Ok-judge_behind.ensures in
-    validated s c.args.resolved m c.in-Ok.ensures.accepted c.in-Ok-judge_variables.ensures.accepted c.in-Ok.info info c.in-Ok.ensures.told (subst (λ (i : ModuleInfo). IsKeptWith s m i info) c.over.ensures.info over)
+    let over = subst (λ (z : FunctionSettings). IsKeptWith z m c.in-Ok-over.own.lower.info info) c.in-Ok-over.ensures.settings c.in-Ok-judge_behind.ensures in
+    validated s c.args.resolved m c.in-Ok.ensures.accepted c.in-Ok-judge_variables.ensures.accepted c.in-Ok.info info c.in-Ok.ensures.told (subst (λ (i : ModuleInfo). IsKeptWith s m i info) c.in-Ok-over.ensures.info over)
 
 pub returns-in-Err-judge_behind : goal.returns-in-Err-judge_behind
 returns-in-Err-judge_behind c =
@@ -43,4 +50,4 @@ returns-in-Err-judge_behind c =
     let m = module_view c.args.«module».now in
     let refusal = c.in-Err-judge_behind.refusal in
     widened (IsFaultBehind s m) (IsValidationFault s c.args.resolved m) (fault_behind s c.args.resolved m c.in-Ok.ensures.accepted c.in-Ok-judge_variables.ensures.accepted) refusal
-    (subst (λ (z : FunctionSettings). IsRefusedWith (IsFaultBehind z m) refusal) c.over.ensures.settings c.in-Err-judge_behind.ensures)
+    (subst (λ (z : FunctionSettings). IsRefusedWith (IsFaultBehind z m) refusal) c.in-Ok-over.ensures.settings c.in-Err-judge_behind.ensures)

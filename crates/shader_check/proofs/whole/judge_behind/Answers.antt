@@ -16,6 +16,12 @@ use Rattle.real_lower.specs.Readings.{reading_of, faults_of}
 use Rattle.spec_analysis.specs.Summaries.{AreSummaries}
 use Rattle.shader_check.proofs.whole.judge_behind.Goals as goal
 
+pub judge_all-requires-clause-made : goal.judge_all-requires-clause-made
+judge_all-requires-clause-made c = (c.requires.made, c.requires.known)
+
+pub judge_entries-requires-clause-made : goal.judge_entries-requires-clause-made
+judge_entries-requires-clause-made c = (c.requires.made, c.requires.known)
+
 pub judge_all-requires-clause-handles : goal.judge_all-requires-clause-handles
 judge_all-requires-clause-handles c = c.requires.made.handles
 

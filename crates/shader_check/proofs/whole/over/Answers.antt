@@ -1,5 +1,7 @@
-use Rattle.std.proofs.Common.{◌∙◌, ap, false, None}
+use Rattle.std.proofs.Common.{◌≡◌, ◌∙◌, sym, ap, subst, false, None}
 use Rattle.shader_check.specs.Settings.{settings_for}
+use Rattle.ir_items.specs.View.{module_view}
+use Rattle.real_lower.specs.Severities.{AreKnown}
 use Rattle.real_lower.specs.declared.real.RealLower.{RealLower}
 use Rattle.shader_check.proofs.whole.over.Goals as goal
 
@@ -15,4 +17,11 @@ returns-clause-info c =
     let made = c.new-own.ensures in
     let first = c.subgroup_stages.ensures in
     let second = c.subgroup_operations.ensures in
-    ap (λ (l : RealLower). l.info) (second.lower ∙ (first.lower ∙ made.lower)) ∙ c.new-lower.ensures
+    ap (λ (l : RealLower). l.info) (second.lower ∙ (first.lower ∙ made.lower)) ∙ c.in_ok-lower.ensures.info
+
+pub returns-clause-severities : goal.returns-clause-severities
+returns-clause-severities c =
+    let made = c.new-own.ensures in
+    let first = c.subgroup_stages.ensures in
+    let second = c.subgroup_operations.ensures in
+    subst (λ (l : RealLower). AreKnown (module_view c.args.«module».now) l.severities) (sym (second.lower ∙ (first.lower ∙ made.lower))) c.in_ok-lower.ensures.severities

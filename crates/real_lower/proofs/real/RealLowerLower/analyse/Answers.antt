@@ -6,10 +6,10 @@ use Rattle.real_lower.proofs.real.RealLowerLower.analyse.Goals as goal
 
 pub returns-clause-kept : goal.returns-clause-kept
 returns-clause-kept c = λ others agree.
-    kept_by c.args.flags (module_view c.args.«module».now) (function_view c.args.function.now) others (map (λ (i : FunctionInfo). i.available_stages) c.args.callees.now) c.process_function.result
-    c.requires.made.handles c.requires.handles (c.process_function.ensures.callees_alone others agree)
+    kept_by c.args.flags (module_view c.args.«module».now) (function_view c.args.function.now) others (map (λ (i : FunctionInfo). i.available_stages) c.args.callees.now) c.process_by.result
+    c.requires.made.0.handles c.requires.handles (c.process_by.ensures.callees_alone others agree)
 
 pub returns-clause-fault : goal.returns-clause-fault
 returns-clause-fault c = λ others agree.
-    fault_by c.args.flags (module_view c.args.«module».now) (function_view c.args.function.now) others (map (λ (i : FunctionInfo). i.available_stages) c.args.callees.now) c.process_function.result
-    (c.process_function.ensures.callees_alone others agree)
+    fault_by c.args.flags (module_view c.args.«module».now) (function_view c.args.function.now) others (map (λ (i : FunctionInfo). i.available_stages) c.args.callees.now) c.process_by.result
+    (c.process_by.ensures.callees_alone others agree)

@@ -10,6 +10,6 @@ returns c = λ m f summaries is.
     let s = c.args.self in
     kept_is m f summaries s is c.of_parts.result c.of_parts.ensures.uses (ap (λ v. v.items) c.of_parts.ensures.sampling ∙ c.in_ok-sampling.ensures) c.of_parts.ensures.may_kill
     (ap (λ v. v.items) c.of_parts.ensures.expressions ∙ c.in_ok-expressions.ensures
-    ∙ (λ i. infos_from (c.deref-2.ensures.value i) (c.deref-3.ensures.value i) (c.deref-4.ensures.value i) 0 s.types.items))
-    (ap (λ v. v.items) c.of_parts.ensures.sampling_set ∙ c.in_ok-sampling_set.ensures ∙ ap (flat_map key_of) (c.deref.ensures.value ∙ c.in_ok-sampling.ensures))
+    ∙ (λ i. infos_from (c.deref.ensures.value i) (c.deref-2.ensures.value i) (c.deref-3.ensures.value i) 0 s.types.items))
+    (ap (λ v. v.items) c.of_parts.ensures.sampling_set ∙ c.in_ok-sampling_set.ensures ∙ ap (flat_map key_of) c.in_ok-sampling.ensures)
     c.of_parts.ensures.stages c.of_parts.ensures.blending

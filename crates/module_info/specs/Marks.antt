@@ -1,0 +1,36 @@
+-- The arguments among pairs, and pairs of which each is there once.
+use Rattle.std.specs.Prelude.{◌≡◌, ℕ, zero, suc, Bool, true, false, List, [], ◌∷◌, ◌++◌, fold, if◌then◌else◌}
+use Rattle.std.specs.List.{list_any}
+use Rattle.analysis_forms.specs.declared.sampling.GlobalOrArgument.{GlobalOrArgument}
+use Rattle.analysis_forms.specs.declared.sampling.GlobalOrArgument.TheVariants.{Global, Argument}
+use Rattle.analysis_forms.specs.Pairs.{SamplingPair, pair_eq}
+
+-- the pairs with one more, where it is not there
+abbrev pub with_pair : List SamplingPair → SamplingPair → List SamplingPair
+with_pair pairs p = if list_any (pair_eq p) pairs then pairs else pairs ++ p ∷ []
+
+-- each pair is there once: put into an empty list one after the other, where it is not there, all are kept
+abbrev pub EachOnce : List SamplingPair → Type 0
+EachOnce pairs = fold with_pair [] pairs ≡ pairs
+
+-- the keys have what is equal to a value exactly where the values do
+abbrev pub Indexes : {T : Type 0} → (T → T → Bool) → (keys values : List T) → Type 0
+Indexes {T} eq keys values = (value : T) → list_any (eq value) keys ≡ list_any (eq value) values
+
+-- the marks where that of a place is set, up to which all are there then
+abbrev pub marked_at : List Bool → ℕ → List Bool
+marked_at [] zero = true ∷ []
+marked_at [] (suc place) = false ∷ marked_at [] place
+marked_at (mark ∷ marks) zero = true ∷ marks
+marked_at (mark ∷ marks) (suc place) = mark ∷ marked_at marks place
+
+abbrev pub marked_part : List Bool → GlobalOrArgument → List Bool
+marked_part marks (Global g) = marks
+marked_part marks (Argument number) = marked_at marks number
+
+abbrev pub marked_pair : List Bool → SamplingPair → List Bool
+marked_pair marks p = marked_part (marked_part marks p.0) p.1
+
+-- for each argument whether it is among these pairs, up to the last that is
+abbrev pub marks_of : List SamplingPair → List Bool
+marks_of pairs = fold marked_pair [] pairs
