@@ -119,12 +119,7 @@ fn join_table(
     ensures pairs { OnOk result (paired sampled.new ≡ pass_all_up (known context.now).expressions arguments.now pairs.now.items (paired sampled.old)) }
     ensures joined { OnOk result (AreJoined (known context.now) joined.new.keys (paired sampled.new).pairs) }
 {
-    let parts = parts_of(
-        *joined.allocator(),
-        context.expressions,
-        marks,
-        arguments,
-    )?;
+    let parts = parts_of(*joined.allocator(), context.expressions, marks, arguments)?;
     let settled = is_settled(sampled, marks, &parts);
     let fresh = joined.insert(Passed { callee, parts })?;
     if !fresh {

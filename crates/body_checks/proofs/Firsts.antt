@@ -22,9 +22,9 @@ pub none_of_range : (P : ℕ → Type 0) (range : ℕ × ℕ) → ((e : ℕ) →
 none_of_range P range none =
     All-from_get_or (λ e. ¬ P e) (handles_between range) 0
     (λ k inside held.
-        let at : k < range.1 - range.0 = omega (arith, inside, length-between range) in
-        let is = get_or-range_with_len range.0 (range.1 - range.0) k 0 at in
-        none (get_or (range_with_len range.0 (range.1 - range.0)) k 0) (omega (arith, is)) (omega (arith, is)) held)
+    let at : k < range.1 - range.0 = omega (arith, inside, length-between range) in
+    let is = get_or-range_with_len range.0 (range.1 - range.0) k 0 at in
+    none (get_or (range_with_len range.0 (range.1 - range.0)) k 0) (omega (arith, is)) (omega (arith, is)) held)
 
 -- ---- what is in scope everywhere
 
@@ -39,11 +39,11 @@ module _ (f : PlainFunction) (next : List ℕ) (are : AreAlways f next) (range :
   none_always none =
       none_of_range (PreEmitted f) range
       (λ e reached low pre.
-          let yes_ : always_in f e ≡ true = true_pre (slice_get f.expressions e) pre in
-          elim (cases_lt e (length next)) [
-            | inl inside ↦ true≢false (sym yes_ ∙ none e reached (omega arith))
-            | inr past ↦ true≢false (sym yes_ ∙ always_past f e (omega (arith, are.len)))
-          ])
+      let yes_ : always_in f e ≡ true = true_pre (slice_get f.expressions e) pre in
+      elim (cases_lt e (length next)) [
+        | inl inside ↦ true≢false (sym yes_ ∙ none e reached (omega arith))
+        | inr past ↦ true≢false (sym yes_ ∙ always_past f e (omega (arith, are.len)))
+      ])
 
   pub always_told : (r : Option ℕ) (b : Bool) → is_some r ≡ b
       → IfNone r ((test : ℕ → Bool) → AreNext test (length next) next → NoneBetween test range.0 (min range.1 (length next)))

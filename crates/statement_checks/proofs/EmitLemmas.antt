@@ -56,13 +56,13 @@ module _ (es : List PlainExpression) (next : List ℕ) (are : AreAnswers es next
   none_answers none =
       All-from_get_or (λ e. IfSome (slice_get es e) IsEmittable) (handles_between range) 0
       (λ k inside.
-          let at : k < range.1 - range.0 = omega (arith, inside, length-range_with_len range.0 (range.1 - range.0)) in
-          let is = get_or-range_with_len range.0 (range.1 - range.0) k 0 at in
-          let e : ℕ = get_or (handles_between range) k 0 in
-          elim (cases_lt e (length next)) [
-            | inl there ↦ emittable (slice_get es e) (none e (omega (arith, is)) (omega (arith, is)))
-            | inr past ↦ emittable (slice_get es e) (ap is_answer_there (slice_get_past es e (omega (arith, are.len))))
-          ])
+      let at : k < range.1 - range.0 = omega (arith, inside, length-range_with_len range.0 (range.1 - range.0)) in
+      let is = get_or-range_with_len range.0 (range.1 - range.0) k 0 at in
+      let e : ℕ = get_or (handles_between range) k 0 in
+      elim (cases_lt e (length next)) [
+        | inl there ↦ emittable (slice_get es e) (none e (omega (arith, is)) (omega (arith, is)))
+        | inr past ↦ emittable (slice_get es e) (ap is_answer_there (slice_get_past es e (omega (arith, are.len))))
+      ])
 
   pub answer_is : (found : Option ℕ) → IfNone found ((test : ℕ → Bool) → AreNext test (length next) next → NoneBetween test range.0 (min range.1 (length next)))
       → IfSome found (λ n. (test : ℕ → Bool) → AreNext test (length next) next → IsFirst test range.0 (min range.1 (length next)) n) → IsAnswerOf es range found
