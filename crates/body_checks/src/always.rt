@@ -40,6 +40,7 @@ pub(crate) fn next_always(alloc: Global, function: &Function) -> Result<Vec<u32>
 }
 
 /// A function, and what is found once for all of its body.
+#[derive(Drop)]
 pub struct Outline<'a> {
     /// The function.
     pub function: &'a Function,
