@@ -44,6 +44,7 @@ pub fn answer(alloc: Global, call: &Value) -> Result<String, AllocError> {
             streams::writer_fails(alloc, Row::of(call), step, bad(word)),
         ),
         "past_the_limit" => limits::past_the_limit(alloc, number(call, 1) as usize),
+        "named_types" => limits::named_types(alloc, number(call, 1), number(call, 2)),
         "interrupted_for_ever" => limits::interrupted_for_ever(alloc),
         "outcome" => told(alloc, outcome(&answer_of(text(call, 1)))),
         _ => no_call(alloc),

@@ -38,6 +38,7 @@ impl Answers for Calls {
             | "reader_calls"
             | "writer"
             | "past_the_limit"
+            | "named_types"
             | "interrupted_for_ever"
             | "outcome" => checks::answer(alloc, call),
             _ => items::answer(alloc, call),
