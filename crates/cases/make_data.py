@@ -1,8 +1,8 @@
 #!/usr/bin/env python3
 """Writes the data files of this crate, one case a line.
 
-    make_data.py                            examples.json, from the folder examples at the top, the files of rows, and
-                                            format.json, from the examples and the words of docs/FORMAT.md
+    make_data.py                            examples.json, from the folder examples at the top, the files of rows, among them
+                                            malformed.json, and format.json, from the examples and the words of docs/FORMAT.md
     make_data.py --check                    says which of these would change, and writes nothing
     make_data.py --corpus NAME CASES [OUT]  NAME.json, from a file that has one case a line, or from a folder that has each
                                             as a .json and a .txt, in the folder OUT, or else data
@@ -23,6 +23,7 @@ from pathlib import Path
 
 sys.dont_write_bytecode = True
 import format_cases
+import malformed_cases
 
 HERE = Path(__file__).resolve().parent
 DATA = HERE / "data"
@@ -760,7 +761,8 @@ def main(words):
         sys.exit(__doc__)
     status = 0
     for name, lines in [("examples.json", documents_of(EXAMPLES)), ("rows-first.json", map(case, rows())),
-                        ("rows-control.json", map(case, control_rows())), ("format.json", format_cases.cases())]:
+                        ("rows-control.json", map(case, control_rows())), ("format.json", format_cases.cases()),
+                        ("malformed.json", map(case, malformed_cases.rows()))]:
         text, file = listed(lines), DATA / name
         if not words:
             file.write_text(text)

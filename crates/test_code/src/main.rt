@@ -26,6 +26,8 @@ mod returns;
 #[cfg(test)]
 mod same;
 #[cfg(test)]
+mod validators;
+#[cfg(test)]
 mod walks;
 
 fn main() {}
