@@ -1,5 +1,5 @@
 -- Expressions that stand for answers, and those of a range.
-use Rattle.std.proofs.Common.{◌≡◌, ℕ, zero, suc, ◌+◌, ◌-◌, ◌<◌, ◌≤◌, min, Bool, true, false, List, [], ◌∷◌, All, Option, None, Some, IfNone, IfSome, MatchOption, length, slice_get, get_or, refl, sym, ap, subst, inl, inr, true≢false, ◌∙◌, arith}
+use Rattle.std.proofs.Common.{◌≡◌, ℕ, zero, suc, ◌+◌, ◌-◌, ◌<◌, ◌≤◌, min, Bool, true, false, List, Option, None, Some, IfNone, IfSome, length, slice_get, get_or, sym, ap, subst, inl, inr, true≢false, arith}
 use Rattle.std.specs.List.{range_with_len}
 use Rattle.std.proofs.lemmas.Bool.{cases_eq, cases_lt}
 use Rattle.std.proofs.lemmas.List.Elements.{All-from_get_or}
@@ -13,7 +13,7 @@ use Rattle.ir_types.specs.declared.expressions.Expression.{Expression}
 use Rattle.ir_types.specs.declared.expressions.Expression.TheVariants as x
 use Rattle.overload_tables.specs.Laws.{IsAmong}
 use Rattle.spec_statements.specs.Emits.{EmitOK, IsComputedHere, IsEmittable}
-use Rattle.statement_checks.specs.Emits.{is_answer_itself, is_answer, is_answer_there, is_answer_at, AreAnswers, IsAnswerOf}
+use Rattle.statement_checks.specs.Emits.{is_answer_itself, is_answer_there, is_answer_at, AreAnswers, IsAnswerOf}
 
 computed_here : (e : Expression) → is_answer_itself e ≡ false → IsComputedHere e
 computed_here (x.CallResult function) no_ = absurd (true≢false no_)
@@ -72,3 +72,17 @@ module _ (es : List PlainExpression) (next : List ℕ) (are : AreAnswers es next
       let reached : range.0 ≤ n = first.reached in
       let low : n < min range.1 (length next) = first.within in
       (among_range range.0 (range.1 - range.0) n reached (omega arith), not_emittable (slice_get es n) first.passes)
+
+abbrev NoneOf : (next : List ℕ) (first end : ℕ) → Option ℕ → Type 0
+NoneOf next first end found = IfNone found ((test : ℕ → Bool) → AreNext test (length next) next → NoneBetween test first (min end (length next)))
+
+abbrev FirstOf : (next : List ℕ) (first end : ℕ) → Option ℕ → Type 0
+FirstOf next first end found = IfSome found (λ n. (test : ℕ → Bool) → AreNext test (length next) next → IsFirst test first (min end (length next)) n)
+
+-- the same where the ends of the range are told apart
+pub answer_between : (es : List PlainExpression) (next : List ℕ) → AreAnswers es next → (range : ℕ × ℕ) (first end : ℕ) (found : Option ℕ) → first ≡ range.0 → end ≡ range.1
+    → NoneOf next first end found → FirstOf next first end found → IsAnswerOf es range found
+answer_between es next are range first end found begins ends none some =
+    answer_is es next are range found
+    (subst (λ f. NoneOf next f range.1 found) begins (subst (λ e. NoneOf next first e found) ends none))
+    (subst (λ f. FirstOf next f range.1 found) begins (subst (λ e. FirstOf next first e found) ends some))
