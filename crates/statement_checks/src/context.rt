@@ -3,16 +3,18 @@
 ghost use Rattle.std.specs.Prelude.{◌≡◌, ◌↔◌, IsTrue, map, option_map, slice_get};
 ghost use Rattle.ir_blocks.specs.View.{block_view};
 ghost use Rattle.ir_items.specs.GlobalView.{global_view, values_of};
-ghost use Rattle.ir_items.specs.View.{function_view};
+ghost use Rattle.ir_items.specs.View.{function_view, module_view};
 ghost use Rattle.ir_types.specs.ExpressionPlain.{expression_view};
 ghost use Rattle.ir_types.specs.Plain.{inner_view, type_view};
 ghost use Rattle.spec_statements.specs.BlockContext.{BlockContext as PlainContext, form_at};
+ghost use Rattle.statement_checks.specs.Descriptors.{AreDescriptors, IsDescriptorAt};
 ghost use Rattle.statement_checks.specs.Emits.{IsAnswerOf};
 ghost use Rattle.typing_forms.specs.Forms.{form_of_type};
 ghost use Rattle.typing_forms.specs.Resolutions.{inner_at};
 ghost use Rattle.typing_layout.specs.Constness.{IsOfKind};
 ghost use Rattle.typing_layout.specs.declared.constness.ExpressionKind.TheVariants.{Const};
 
+use crate::descriptors::is_descriptor;
 use crate::emits::answer_of;
 use ir_arena::handle::Handle;
 use ir_arena::range::Range;
@@ -68,6 +70,10 @@ pub trait StatementContext {
     fn ray_descriptor(&self) -> Option<Handle<key::IrType>>
         ensures { result ≡ (seen self.now).m.special.ray_desc };
 
+    /// Whether a type of the module is made of the same as its type of rays, if it has one.
+    fn is_descriptor(&self, ty: Handle<key::IrType>) -> bool
+        ensures { IsTrue result ↔ IsDescriptorAt (seen self.now).m.types (seen self.now).m.special.ray_desc ty };
+
     /// An expression of the function, if there is one at the handle.
     fn expression_at(&self, handle: Handle<key::Expression>) -> Option<&Expression>
         ensures { option_map (λ found. expression_view found.now) result ≡ slice_get (seen self.now).f.expressions handle };
@@ -113,6 +119,10 @@ pub struct BlockContext<'a> {
     pub kinds: &'a ExpressionKindTracker,
     /// For each of them the first from it on that stands for the answer of a statement.
     pub answers: &'a [u32],
+    /// Of each type of the module, whether it is made of the same as its type of rays; those that have no mark here are compared
+    /// with it.
+    pub descriptors: &'a [bool],
+    ghost marked: { AreDescriptors (module_view «module».now).types (module_view «module».now).special.ray_desc descriptors.now },
 }
 
 impl<'a> StatementContext for BlockContext<'a> {
@@ -167,6 +177,13 @@ impl<'a> StatementContext for BlockContext<'a> {
 
     fn ray_descriptor(&self) -> Option<Handle<key::IrType>> {
         self.module.special_types.ray_desc
+    }
+
+    fn is_descriptor(&self, ty: Handle<key::IrType>) -> bool {
+        match self.descriptors.get(ty.index()) {
+            Some(marked) => *marked,
+            None => is_descriptor(&self.module.types, self.module.special_types.ray_desc, ty),
+        }
     }
 
     #[tactic(auto, using(crate::proofs::Lookups::found, crate::proofs::Lookups::missing))]
