@@ -33,7 +33,8 @@ pub(crate) const fn structure_of(of: Form) -> Option<bool>
 
 // Whether a type is made as the module's type of rays, which is this.
 fn is_made_as<C: StatementContext>(context: &C, declared: Handle<key::IrType>, of: &Form) -> bool
-    requires { (C.seen context.now).m.special.ray_desc ≡ Some declared }
+    requires known { C.known context.now }
+    requires declared { (C.seen context.now).m.special.ray_desc ≡ Some declared }
     ensures { IsTrue result ↔ IsMadeAs (C.seen context.now).m.types declared of.now }
 {
     match *of {
@@ -57,6 +58,7 @@ fn is_made_as<C: StatementContext>(context: &C, declared: Handle<key::IrType>, o
 
 /// Whether a type is made as that of what describes a ray.
 pub(crate) fn is_ray_descriptor<C: StatementContext>(context: &C, of: &Form) -> bool
+    requires { C.known context.now }
     ensures { IsTrue result ↔ IsRayDescriptor (C.seen context.now) of.now }
 {
     match context.ray_descriptor() {

@@ -3,11 +3,11 @@
 ghost use Rattle.std.specs.Prelude.{◌≡◌, ◌↔◌, IsTrue, map, option_map, slice_get};
 ghost use Rattle.ir_blocks.specs.View.{block_view};
 ghost use Rattle.ir_items.specs.GlobalView.{global_view, values_of};
-ghost use Rattle.ir_items.specs.View.{function_view, module_view};
+ghost use Rattle.ir_items.specs.View.{function_view};
 ghost use Rattle.ir_types.specs.ExpressionPlain.{expression_view};
 ghost use Rattle.ir_types.specs.Plain.{inner_view, type_view};
 ghost use Rattle.spec_statements.specs.BlockContext.{BlockContext as PlainContext, form_at};
-ghost use Rattle.statement_checks.specs.Descriptors.{AreDescriptors, IsDescriptorAt};
+ghost use Rattle.statement_checks.specs.Descriptors.{IsDescriptorAt};
 ghost use Rattle.statement_checks.specs.Emits.{IsAnswerOf};
 ghost use Rattle.typing_forms.specs.Forms.{form_of_type};
 ghost use Rattle.typing_forms.specs.Resolutions.{inner_at};
@@ -31,7 +31,8 @@ pub trait StatementContext {
     /// What it holds.
     ghost seen: { Self → PlainContext };
 
-    /// What is found of all expressions once is that of these: when their values are known, and which stand for answers.
+    /// What is found once is that of these: of all expressions when their values are known, and which stand for answers; of all
+    /// types which are made as the module's type of rays.
     ghost known: { Self → Type 0 };
 
     /// What shaders may use beyond the common part.
@@ -72,6 +73,7 @@ pub trait StatementContext {
 
     /// Whether a type of the module is made of the same as its type of rays, if it has one.
     fn is_descriptor(&self, ty: Handle<key::IrType>) -> bool
+        requires { known self.now }
         ensures { IsTrue result ↔ IsDescriptorAt (seen self.now).m.types (seen self.now).m.special.ray_desc ty };
 
     /// An expression of the function, if there is one at the handle.
@@ -122,7 +124,6 @@ pub struct BlockContext<'a> {
     /// Of each type of the module, whether it is made of the same as its type of rays; those that have no mark here are compared
     /// with it.
     pub descriptors: &'a [bool],
-    ghost marked: { AreDescriptors (module_view «module».now).types (module_view «module».now).special.ray_desc descriptors.now },
 }
 
 impl<'a> StatementContext for BlockContext<'a> {

@@ -1,6 +1,6 @@
 //! Which types of a module are made as its type of rays is.
 
-ghost use Rattle.std.specs.Prelude.{◌≡◌, ◌↔◌, IfOk, IsTrue};
+ghost use Rattle.std.specs.Prelude.{◌≡◌, ◌↔◌, IfOk, IsTrue, Some};
 ghost use Rattle.ir_types.specs.Plain.{inner_view};
 ghost use Rattle.statement_checks.specs.Descriptors.{AreDescriptors, IsDescriptorAt};
 ghost use Rattle.typing_forms.specs.Resolutions.{inner_at, types_view};
@@ -50,8 +50,24 @@ pub(crate) fn is_descriptor(
     }
 }
 
-/// Of each type of a module, whether it is made as the declared one, if one is. What is compared for each is no more than it is
-/// made of. The error is out of memory.
+// Of each type of a module, whether it is made as the one at a handle. The error is out of memory.
+fn marks_of(
+    alloc: Global,
+    types: &UniqueArena<IrType, key::IrType>,
+    declared: Handle<key::IrType>,
+) -> Result<Vec<bool>, AllocError>
+    ensures { IfOk result (λ marks. AreDescriptors (types_view types.now) (Some declared) marks.items) }
+{
+    let count = types.len();
+    let mut marks = Vec::with_capacity(alloc, count)?;
+    for index in 0..count {
+        marks.push(are_made_same_at(types, Handle::at(index), declared))?;
+    }
+    Ok(marks)
+}
+
+/// Of each type of a module, whether it is made as the declared one; of none, where none is declared. No more is compared than
+/// each is made of. The error is out of memory.
 pub fn descriptors_of(
     alloc: Global,
     types: &UniqueArena<IrType, key::IrType>,
@@ -59,10 +75,8 @@ pub fn descriptors_of(
 ) -> Result<Vec<bool>, AllocError>
     ensures { IfOk result (λ marks. AreDescriptors (types_view types.now) declared marks.items) }
 {
-    let count = types.len();
-    let mut marks = Vec::with_capacity(alloc, count)?;
-    for index in 0..count {
-        marks.push(is_descriptor(types, declared, Handle::at(index)))?;
+    match declared {
+        Some(declared) => marks_of(alloc, types, declared),
+        None => Ok(Vec::new(alloc)),
     }
-    Ok(marks)
 }
