@@ -15,10 +15,11 @@ ghost use Rattle.spec_analysis.specs.Chains.{HasUse};
 ghost use Rattle.spec_analysis.specs.Summaries.{CalleesKnown};
 ghost use Rattle.spec_handles.specs.Conditions.{HandlesInRange, OperandsPrecede};
 ghost use Rattle.spec_varyings.specs.Contexts.{stage_set};
+ghost use Rattle.statement_checks.specs.Descriptors.{AreDescriptors};
 
 use crate::connect::connect;
 use crate::settings::FunctionSettings;
-use crate::validate::{Validated, validate_function};
+use crate::validate::{Validated, validate_function_with};
 use bitflags::Flags;
 use entry_checks::{EntryPointError, check_payload, check_stage, stage_set};
 use error_functions::FunctionError;
@@ -64,7 +65,7 @@ fn allows_stage<L: Lower>(lower: &L, info: &L::Info, stage: ShaderStage) -> bool
 }
 
 /// Whether a module may have an entry point, and what is kept of it (naga's `validate_entry_point`); that an earlier one of the
-/// stage has its name is asked elsewhere. `callees` has what [`validate_function`] answered for the functions of the module, in
+/// stage has its name is asked elsewhere. `callees` has what [`validate_function`](crate::validate_function) answered for the functions of the module, in
 /// order, where stages and uses may have been noted since. Its function is judged as an entry point's, whatever the settings say.
 ///
 /// Asks that the layer was made for the module, and that its handles are in order, as in a module that `validate_module_handles`
@@ -99,12 +100,54 @@ pub fn validate_entry_point<L: Lower>(
         (λ v. IsEntryValidated (L.reading lower.now q) q.stages s m e (L.summary lower.now v.info) (L.noted lower.now v.info) (L.blending lower.now v.info) v.held)
         (IsRefusedFor (IsRefusedAs (L.reading lower.now q) (L.faults lower.now q) q.stages (HasUse m e.function) s m e)) }
 {
+    validate_entry_point_with(lower, alloc, settings, module, entry, callees, &[])
+}
+
+/// The same, where `descriptors` has marks of the types that are made as the module's type of rays is, found once for all its
+/// entry points (`descriptors_of` of `statement_checks`).
+///
+/// # Errors
+///
+/// Those of [`validate_entry_point`].
+pub fn validate_entry_point_with<L: Lower>(
+    lower: &L,
+    alloc: Global,
+    settings: &FunctionSettings,
+    module: &Module,
+    entry: &EntryPoint,
+    callees: &[L::Info],
+    descriptors: &[bool],
+) -> Result<Validated<L::Info>, Refusal<EntryPointError>>
+    requires made { L.is_for lower.now (module_view «module».now) }
+    requires handles { HandlesInRange (module_view «module».now) (entry_view entry.now).function }
+    requires precede { OperandsPrecede (entry_view entry.now).function.expressions }
+    requires parents { ParentsPrecede (module_view «module».now).filters }
+    requires marked { AreDescriptors (module_view «module».now).types (module_view «module».now).special.ray_desc descriptors.now }
+    requires payload { IfSome entry.now.task_payload (λ g. g < length (module_view «module».now).globals) }
+    requires output { IfSome entry.now.mesh_info (λ (i : MeshStageInfo). i.output_variable < length (module_view «module».now).globals) }
+    requires known { CalleesKnown (module_view «module».now) (entry_view entry.now).function (map (L.summary lower.now) callees.now) }
+    ensures { let m = module_view «module».now in
+        let e = entry_view entry.now in
+        let q = question m e.function (map (L.summary lower.now) callees.now) (map (L.noted lower.now) callees.now) in
+        let s = own_settings settings.now in
+        MatchResult result
+        (λ v. IsEntryValidated (L.reading lower.now q) q.stages s m e (L.summary lower.now v.info) (L.noted lower.now v.info) (L.blending lower.now v.info) v.held)
+        (IsRefusedFor (IsRefusedAs (L.reading lower.now q) (L.faults lower.now q) q.stages (HasUse m e.function) s m e)) }
+{
     match check_stage(settings.capabilities, entry) {
         Ok(()) => {}
         Err(error) => return Err(Refusal::Fault(WithSpan::new(alloc, error))),
     }
     let own = own_settings(settings);
-    let validated = match validate_function(lower, alloc, &own, module, &entry.function, callees) {
+    let validated = match validate_function_with(
+        lower,
+        alloc,
+        &own,
+        module,
+        &entry.function,
+        callees,
+        descriptors,
+    ) {
         Ok(validated) => validated,
         Err(refusal) => return Err(told_of_function(alloc, refusal)),
     };

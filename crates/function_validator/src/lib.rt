@@ -26,10 +26,10 @@ mod uses;
 mod validate;
 
 pub use arguments::check_arguments;
-pub use entry::validate_entry_point;
+pub use entry::{validate_entry_point, validate_entry_point_with};
 pub use interface::check_interface;
 pub use locals::{check_local, check_locals};
 pub use names::SeenNames;
 pub use results::check_result;
 pub use settings::FunctionSettings;
-pub use validate::{Validated, validate_function};
+pub use validate::{Validated, validate_function, validate_function_with};

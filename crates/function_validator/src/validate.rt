@@ -14,6 +14,7 @@ ghost use Rattle.spec_statements.specs.ExpressionStages.{all_stages};
 ghost use Rattle.spec_handles.specs.Conditions.{AritiesMatch, HandlesInRange, OperandsPrecede};
 ghost use Rattle.spec_statements.specs.Functions.{FunctionOK, AllowsStage, block_context};
 ghost use Rattle.spec_statements.specs.Payloads.{IsHeldAfter};
+ghost use Rattle.statement_checks.specs.Descriptors.{AreDescriptors};
 ghost use Rattle.typing_operands.specs.Answers.{form_given};
 
 use crate::forms::forms_of;
@@ -48,11 +49,13 @@ fn judge<L: Lower>(
     function: &Function,
     callees: &[L::Info],
     info: &L::Info,
+    descriptors: &[bool],
 ) -> Result<Met, Refusal<FunctionError>>
     requires made { L.is_for lower.now (module_view «module».now) }
     requires precede { OperandsPrecede (function_view function.now).expressions }
     requires arities { AritiesMatch (module_view «module».now) (function_view function.now) }
     requires many { length (function_view function.now).expressions ≡ length (L.types lower.now info.now) }
+    requires marked { AreDescriptors (module_view «module».now).types (module_view «module».now).special.ray_desc descriptors.now }
     ensures { let q = question (module_view «module».now) (function_view function.now) (map (L.summary lower.now) callees.now) (map (L.noted lower.now) callees.now) in
         let c = block_context (settings_view settings.now) q.m q.f (map (form_given q.m.types) (L.types lower.now info.now)) in
         MatchResult result
@@ -80,6 +83,7 @@ fn judge<L: Lower>(
         forms: &forms,
         kinds: &kinds,
         answers: &answers,
+        descriptors,
     };
     match check_parts(lower, alloc, settings, &context, callees) {
         Ok(met) => Ok(met),
@@ -146,11 +150,58 @@ pub fn validate_function<L: Lower>(
     ensures unblended { IfOk result (λ v. L.blending lower.now v.info ≡ false) }
     ensures held { IfOk result (λ v. IsHeldAfter settings.now.flags (module_view «module».now) (function_view function.now) settings.now.held v.held) }
 {
+    validate_function_with(lower, alloc, settings, module, function, callees, &[])
+}
+
+/// The same, where `descriptors` has marks of the types that are made as the module's type of rays is, found once for all its
+/// functions (`descriptors_of` of `statement_checks`).
+///
+/// # Errors
+///
+/// Those of [`validate_function`].
+pub fn validate_function_with<L: Lower>(
+    lower: &L,
+    alloc: Global,
+    settings: &FunctionSettings,
+    module: &Module,
+    function: &Function,
+    callees: &[L::Info],
+    descriptors: &[bool],
+) -> Result<Validated<L::Info>, Refusal<FunctionError>>
+    requires made { L.is_for lower.now (module_view «module».now) }
+    requires handles { HandlesInRange (module_view «module».now) (function_view function.now) }
+    requires precede { OperandsPrecede (function_view function.now).expressions }
+    requires parents { ParentsPrecede (module_view «module».now).filters }
+    requires marked { AreDescriptors (module_view «module».now).types (module_view «module».now).special.ray_desc descriptors.now }
+    ensures accepted { let q = question (module_view «module».now) (function_view function.now) (map (L.summary lower.now) callees.now) (map (L.noted lower.now) callees.now) in
+        OnOk result (FunctionOK (L.reading lower.now q) (settings_view settings.now) q.m q.f) }
+    ensures refused { let q = question (module_view «module».now) (function_view function.now) (map (L.summary lower.now) callees.now) (map (L.noted lower.now) callees.now) in
+        IfErr result (IsRefusedFor (λ _. FunctionOK (L.reading lower.now q) (settings_view settings.now) q.m q.f → ⊥)) }
+    ensures fault { let q = question (module_view «module».now) (function_view function.now) (map (L.summary lower.now) callees.now) (map (L.noted lower.now) callees.now) in
+        IfErr result (IsRefusedFor (IsFunctionFault (L.reading lower.now q) (L.faults lower.now q) (settings_view settings.now) q.m q.f)) }
+    ensures stages { let q = question (module_view «module».now) (function_view function.now) (map (L.summary lower.now) callees.now) (map (L.noted lower.now) callees.now) in
+        IfOk result (λ v. (stage : ℕ) → Has (L.noted lower.now v.info).0 stage ↔ (Has all_stages.0 stage × AllowsStage (L.reading lower.now q) (settings_view settings.now) q.stages q.f stage)) }
+    ensures joined { IfOk result (λ v. IsJoined (length (module_view «module».now).globals) (function_view function.now) (map (L.summary lower.now) callees.now) (L.summary lower.now v.info)) }
+    ensures chains { CalleesKnown (module_view «module».now) (function_view function.now) (map (L.summary lower.now) callees.now)
+        → IfOk result (λ v. IsSummary (module_view «module».now) (function_view function.now) (L.summary lower.now v.info)) }
+    ensures globals { IfOk result (λ v. length (L.summary lower.now v.info).uses ≡ length (module_view «module».now).globals) }
+    ensures unblended { IfOk result (λ v. L.blending lower.now v.info ≡ false) }
+    ensures held { IfOk result (λ v. IsHeldAfter settings.now.flags (module_view «module».now) (function_view function.now) settings.now.held v.held) }
+{
     let info = match analyse_function(lower, alloc, module, function, callees, settings.flags) {
         Ok(info) => info,
         Err(refusal) => return Err(refusal),
     };
-    match judge(lower, alloc, settings, module, function, callees, &info) {
+    match judge(
+        lower,
+        alloc,
+        settings,
+        module,
+        function,
+        callees,
+        &info,
+        descriptors,
+    ) {
         Ok(met) => Ok(noted(lower, info, met)),
         Err(refusal) => Err(refusal),
     }

@@ -66,6 +66,7 @@ fn check_trace<C: StatementContext>(
     descriptor: Handle<key::Expression>,
     payload: Handle<key::Expression>,
 ) -> Result<(), FunctionError>
+    requires { C.known context.now }
     ensures { MatchResult result
         (λ _. TraceOK (C.seen context.now) structure descriptor payload)
         (IsTraceFault (C.seen context.now) structure descriptor payload) }
@@ -96,6 +97,7 @@ pub fn check_ray_pipeline<C: StatementContext>(
     context: &C,
     fun: RayPipelineFunction,
 ) -> Result<(), FunctionError>
+    requires { C.known context.now }
     ensures { MatchResult result
         (λ _. RayPipelineOK (C.seen context.now) fun)
         (IsRayPipelineFault (C.seen context.now) fun) }

@@ -73,6 +73,7 @@ fn check_start<C: StatementContext>(
     structure: Handle<key::Expression>,
     descriptor: Handle<key::Expression>,
 ) -> Result<(), FunctionError>
+    requires { C.known context.now }
     ensures { MatchResult result
         (λ _. StepOK (C.seen context.now) vertices (Initialize structure descriptor))
         (IsStartFault (C.seen context.now) query vertices structure descriptor) }
@@ -111,6 +112,7 @@ fn check_step<C: StatementContext>(
     vertices: bool,
     fun: &RayQueryFunction,
 ) -> Result<(), FunctionError>
+    requires { C.known context.now }
     ensures { MatchResult result
         (λ _. StepOK (C.seen context.now) vertices fun.now)
         (IsStepFault (C.seen context.now) query vertices fun.now) }
@@ -147,6 +149,7 @@ pub fn check_ray_query<C: StatementContext>(
     query: Handle<key::Expression>,
     fun: RayQueryFunction,
 ) -> Result<(), FunctionError>
+    requires { C.known context.now }
     ensures { MatchResult result
         (λ _. RayQueryOK (C.seen context.now) query fun)
         (IsRayQueryFault (C.seen context.now) query fun) }

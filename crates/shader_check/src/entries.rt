@@ -10,12 +10,13 @@ ghost use Rattle.spec_analysis.specs.Summaries.{AreSummaries};
 ghost use Rattle.spec_entries.specs.Held.{IsHeldBeforeEntry};
 ghost use Rattle.spec_entries.specs.Modules.{IsConflict};
 ghost use Rattle.spec_handles.specs.InOrder.{HandlesOK};
+ghost use Rattle.statement_checks.specs.Descriptors.{AreDescriptors};
 
 use crate::functions::Judged;
 use crate::validator::Validator;
 use entry_checks::EntryPointError;
 use function_interface::Lower;
-use function_validator::{FunctionSettings, SeenNames, Validated, validate_entry_point};
+use function_validator::{FunctionSettings, SeenNames, Validated, validate_entry_point_with};
 use ir_arena::handle::Handle;
 use ir_faults::refusal::Refusal;
 use ir_faults::with_span::WithSpan;
@@ -89,10 +90,12 @@ fn judge_next<L: Lower>(
     callees: &[L::Info],
     kept: &[L::Info],
     held: Option<Handle<key::IrType>>,
+    descriptors: &[bool],
 ) -> Result<Validated<L::Info>, Refusal<InvalidEntryPoint>>
     requires made { L.is_for validator.now.lower (module_view «module».now) }
     requires handles { HandlesOK (module_view «module».now) }
     requires within { index < length (module_view «module».now).entries }
+    requires marked { AreDescriptors (module_view «module».now).types (module_view «module».now).special.ray_desc descriptors.now }
     requires many { length callees.now ≡ length (module_view «module».now).functions }
     requires known { AreSummaries (module_view «module».now) (map (L.summary validator.now.lower) callees.now) }
     requires apart { (e : PlainEntry) → slice_get (module_view «module».now).entries index ≡ Some e → ¬ IsConflict (module_view «module».now) index e }
@@ -113,28 +116,32 @@ fn judge_next<L: Lower>(
         held,
     };
     let alloc = validator.alloc;
-    match validate_entry_point(
+    match validate_entry_point_with(
         &validator.lower,
         alloc,
         &settings,
         module,
         &module.entry_points[index],
         callees,
+        descriptors,
     ) {
         Ok(validated) => Ok(validated),
         Err(refusal) => Err(refusal_at(alloc, index, refusal)),
     }
 }
 
-// What is kept of all entry points of a module, where this is kept of its functions and this type of payloads is held after them.
+// What is kept of all entry points of a module, where this is kept of its functions, this type of payloads is held after them and
+// the types are marked that are made as its type of rays is.
 pub(crate) fn judge_entries<L: Lower>(
     validator: &Validator<L>,
     module: &Module,
     callees: &[L::Info],
     held: Option<Handle<key::IrType>>,
+    descriptors: &[bool],
 ) -> Result<Judged<L::Info>, Refusal<InvalidEntryPoint>>
     requires made { L.is_for validator.now.lower (module_view «module».now) }
     requires handles { HandlesOK (module_view «module».now) }
+    requires marked { AreDescriptors (module_view «module».now).types (module_view «module».now).special.ray_desc descriptors.now }
     requires many { length callees.now ≡ length (module_view «module».now).functions }
     requires known { AreSummaries (module_view «module».now) (map (L.summary validator.now.lower) callees.now) }
     requires before { IsHeldBeforeEntry validator.now.flags (module_view «module».now) 0 held }
@@ -154,7 +161,7 @@ pub(crate) fn judge_entries<L: Lower>(
             Ok(()) => {}
             Err(refusal) => return Err(refusal),
         }
-        match judge_next(validator, module, index, callees, &infos, held) {
+        match judge_next(validator, module, index, callees, &infos, held, descriptors) {
             Ok(validated) => {
                 infos.push(validated.info)?;
                 held = validated.held;

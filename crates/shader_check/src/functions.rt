@@ -5,11 +5,12 @@ ghost use Rattle.shader_check.specs.Judged.{AreJudged, IsToldAt, IsRefusal};
 ghost use Rattle.shader_check.specs.Settings.{settings_for};
 ghost use Rattle.ir_items.specs.View.{module_view};
 ghost use Rattle.spec_handles.specs.InOrder.{HandlesOK};
+ghost use Rattle.statement_checks.specs.Descriptors.{AreDescriptors};
 
 use crate::validator::Validator;
 use error_functions::FunctionError;
 use function_interface::Lower;
-use function_validator::{FunctionSettings, Validated, validate_function};
+use function_validator::{FunctionSettings, Validated, validate_function_with};
 use ir_arena::handle::Handle;
 use ir_faults::refusal::Refusal;
 use ir_faults::with_span::WithSpan;
@@ -62,10 +63,12 @@ fn judge_next<L: Lower>(
     handle: Handle<key::Function>,
     infos: &[L::Info],
     held: Option<Handle<key::IrType>>,
+    descriptors: &[bool],
 ) -> Result<Validated<L::Info>, Refusal<InvalidFunction>>
     requires made { L.is_for validator.now.lower (module_view «module».now) }
     requires handles { HandlesOK (module_view «module».now) }
     requires within { handle < length (module_view «module».now).functions }
+    requires marked { AreDescriptors (module_view «module».now).types (module_view «module».now).special.ray_desc descriptors.now }
     requires before { AreJudged (L.reading validator.now.lower) (settings_for validator.now.flags validator.now.capabilities validator.now.operations validator.now.stages false None) (module_view «module».now) handle (map (L.summary validator.now.lower) infos.now) (map (L.noted validator.now.lower) infos.now) held }
     ensures { let s = settings_for validator.now.flags validator.now.capabilities validator.now.operations validator.now.stages false None in
         MatchResult result
@@ -82,26 +85,30 @@ fn judge_next<L: Lower>(
         held,
     };
     let alloc = validator.alloc;
-    match validate_function(
+    match validate_function_with(
         &validator.lower,
         alloc,
         &settings,
         module,
         &module.functions[handle],
         infos,
+        descriptors,
     ) {
         Ok(validated) => Ok(validated),
         Err(refusal) => Err(refusal_at(alloc, handle, refusal)),
     }
 }
 
-// What is kept of all functions of a module, where no payloads are held before them.
+// What is kept of all functions of a module, where no payloads are held before them and the types are marked that are made as its
+// type of rays is.
 pub(crate) fn judge_all<L: Lower>(
     validator: &Validator<L>,
     module: &Module,
+    descriptors: &[bool],
 ) -> Result<Judged<L::Info>, Refusal<InvalidFunction>>
     requires made { L.is_for validator.now.lower (module_view «module».now) }
     requires handles { HandlesOK (module_view «module».now) }
+    requires marked { AreDescriptors (module_view «module».now).types (module_view «module».now).special.ray_desc descriptors.now }
     ensures { let s = settings_for validator.now.flags validator.now.capabilities validator.now.operations validator.now.stages false None in
         MatchResult result
         (λ j. AreJudged (L.reading validator.now.lower) s (module_view «module».now) (length (module_view «module».now).functions) (map (L.summary validator.now.lower) j.infos.items) (map (L.noted validator.now.lower) j.infos.items) j.held)
@@ -111,7 +118,14 @@ pub(crate) fn judge_all<L: Lower>(
     let mut infos = Vec::with_capacity(validator.alloc, count)?;
     let mut held = None;
     for index in 0..count {
-        match judge_next(validator, module, Handle::at(index), &infos, held) {
+        match judge_next(
+            validator,
+            module,
+            Handle::at(index),
+            &infos,
+            held,
+            descriptors,
+        ) {
             Ok(validated) => {
                 infos.push(validated.info)?;
                 held = validated.held;

@@ -33,6 +33,7 @@ use ir_faults::refusal::Refusal;
 use ir_flags::{Capabilities, ShaderStages, SubgroupOperationSet, ValidationFlags};
 use ir_items::{EntryPoint, Function, Module};
 use ir_types::key;
+use statement_checks::descriptors_of;
 use std::alloc::Global;
 
 /// What judges the functions of a module, one after the other (naga's `Validator`, as far as it speaks of functions). It keeps
@@ -250,7 +251,9 @@ impl<L: Lower> Validator<L> {
         ensures operations { self.new.operations ≡ self.old.operations }
     {
         self.reset();
-        match judge_all(self, module) {
+        let declared = module.special_types.ray_desc;
+        let descriptors = descriptors_of(self.alloc, &module.types, declared)?;
+        match judge_all(self, module, &descriptors) {
             Ok(judged) => {
                 self.held = judged.held;
                 Ok(judged.infos)

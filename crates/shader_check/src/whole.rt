@@ -29,6 +29,7 @@ use module_info::ModuleInfo;
 use module_validator::{InvalidGlobalVariable, ModuleError, ModuleValidator, validate_globals};
 use real_lower::RealLower;
 use spec_modules::ModuleSettings;
+use statement_checks::descriptors_of;
 use std::alloc::{AllocError, Global};
 
 // ---- refusals of steps
@@ -167,11 +168,16 @@ fn judge_behind(
         (IsRefusedWith (IsFaultBehind (settings_in own) (module_view «module».now))) }
 {
     let alloc = own.alloc;
-    let functions = match judge_all(&own, module) {
+    let declared = module.special_types.ray_desc;
+    let descriptors = match descriptors_of(alloc, &module.types, declared) {
+        Ok(descriptors) => descriptors,
+        Err(error) => return Err(Refusal::Memory(error)),
+    };
+    let functions = match judge_all(&own, module, &descriptors) {
         Ok(functions) => functions,
         Err(refusal) => return Err(function_refusal(alloc, refusal)),
     };
-    match judge_entries(&own, module, &functions.infos, functions.held) {
+    match judge_entries(&own, module, &functions.infos, functions.held, &descriptors) {
         Ok(entries) => {
             let info = own.lower.into_info().with_functions(functions.infos);
             Ok(info.with_entry_points(entries.infos))

@@ -1,3 +1,4 @@
+pub mod DescriptorLemmas
 pub mod EmitLemmas
 pub mod CallLemmas
 pub mod Refuted

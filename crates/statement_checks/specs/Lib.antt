@@ -3,6 +3,7 @@ pub mod Barriers
 pub mod Calls
 pub mod Conditions
 pub mod CooperativeStores
+pub mod Descriptors
 pub mod Emits
 pub mod Returns
 pub mod Stores

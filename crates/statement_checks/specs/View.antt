@@ -2,6 +2,7 @@
 use Rattle.ir_items.specs.View.{function_view, module_view}
 use Rattle.spec_statements.specs.BlockContext.{BlockContext as PlainContext}
 use Rattle.statement_checks.specs.declared.context.BlockContext.{BlockContext}
+use Rattle.statement_checks.specs.Descriptors.{AreDescriptors}
 use Rattle.statement_checks.specs.Emits.{AreAnswers}
 use Rattle.typing_layout.specs.Constness.{AreKinds}
 
@@ -14,7 +15,8 @@ context_view c = record {
   forms = c.forms.now;
 }
 
--- the kinds are those of all expressions, and the answers the next ones among them
+-- the kinds are those of all expressions, the answers the next ones among them, and the descriptors are marked among the types
 pub record IsKnown (c : BlockContext) : Type 0 where
   pub kinds : AreKinds (context_view c).f.expressions c.kinds.now
   pub answers : AreAnswers (context_view c).f.expressions c.answers.now
+  pub descriptors : AreDescriptors (context_view c).m.types (context_view c).m.special.ray_desc c.descriptors.now

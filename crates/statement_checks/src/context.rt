@@ -7,12 +7,14 @@ ghost use Rattle.ir_items.specs.View.{function_view};
 ghost use Rattle.ir_types.specs.ExpressionPlain.{expression_view};
 ghost use Rattle.ir_types.specs.Plain.{inner_view, type_view};
 ghost use Rattle.spec_statements.specs.BlockContext.{BlockContext as PlainContext, form_at};
+ghost use Rattle.statement_checks.specs.Descriptors.{IsDescriptorAt};
 ghost use Rattle.statement_checks.specs.Emits.{IsAnswerOf};
 ghost use Rattle.typing_forms.specs.Forms.{form_of_type};
 ghost use Rattle.typing_forms.specs.Resolutions.{inner_at};
 ghost use Rattle.typing_layout.specs.Constness.{IsOfKind};
 ghost use Rattle.typing_layout.specs.declared.constness.ExpressionKind.TheVariants.{Const};
 
+use crate::descriptors::is_descriptor;
 use crate::emits::answer_of;
 use ir_arena::handle::Handle;
 use ir_arena::range::Range;
@@ -29,7 +31,8 @@ pub trait StatementContext {
     /// What it holds.
     ghost seen: { Self → PlainContext };
 
-    /// What is found of all expressions once is that of these: when their values are known, and which stand for answers.
+    /// What is found once is that of these: of all expressions when their values are known, and which stand for answers; of all
+    /// types which are made as the module's type of rays.
     ghost known: { Self → Type 0 };
 
     /// What shaders may use beyond the common part.
@@ -67,6 +70,11 @@ pub trait StatementContext {
     /// The module's type of rays, if it has one.
     fn ray_descriptor(&self) -> Option<Handle<key::IrType>>
         ensures { result ≡ (seen self.now).m.special.ray_desc };
+
+    /// Whether a type of the module is made of the same as its type of rays, if it has one.
+    fn is_descriptor(&self, ty: Handle<key::IrType>) -> bool
+        requires { known self.now }
+        ensures { IsTrue result ↔ IsDescriptorAt (seen self.now).m.types (seen self.now).m.special.ray_desc ty };
 
     /// An expression of the function, if there is one at the handle.
     fn expression_at(&self, handle: Handle<key::Expression>) -> Option<&Expression>
@@ -113,6 +121,9 @@ pub struct BlockContext<'a> {
     pub kinds: &'a ExpressionKindTracker,
     /// For each of them the first from it on that stands for the answer of a statement.
     pub answers: &'a [u32],
+    /// Of each type of the module, whether it is made of the same as its type of rays; those that have no mark here are compared
+    /// with it.
+    pub descriptors: &'a [bool],
 }
 
 impl<'a> StatementContext for BlockContext<'a> {
@@ -167,6 +178,13 @@ impl<'a> StatementContext for BlockContext<'a> {
 
     fn ray_descriptor(&self) -> Option<Handle<key::IrType>> {
         self.module.special_types.ray_desc
+    }
+
+    fn is_descriptor(&self, ty: Handle<key::IrType>) -> bool {
+        match self.descriptors.get(ty.index()) {
+            Some(marked) => *marked,
+            None => is_descriptor(&self.module.types, self.module.special_types.ray_desc, ty),
+        }
     }
 
     #[tactic(auto, using(crate::proofs::Lookups::found, crate::proofs::Lookups::missing))]

@@ -8,31 +8,31 @@ use Rattle.ir_items.specs.View.{entry_view, module_view}
 use Rattle.module_handles.proofs.Whole.{order_gives_conditions}
 use Rattle.shader_check.proofs.entries.judge_next.Goals as goal
 
-pub validate_entry_point-requires-clause-handles : goal.validate_entry_point-requires-clause-handles
-validate_entry_point-requires-clause-handles g c =
+pub validate_entry_point_with-requires-clause-handles : goal.validate_entry_point_with-requires-clause-handles
+validate_entry_point_with-requires-clause-handles g c =
     let m = c.args.«module».now in
     (entry_conditions (module_view m) c.requires.handles c.args.index (entry_view c.index.result.now) (item_there entry_view m.entry_points.items c.args.index c.requires.within c.index.result.now c.index.ensures)).in_range
 
-pub validate_entry_point-requires-clause-precede : goal.validate_entry_point-requires-clause-precede
-validate_entry_point-requires-clause-precede g c =
+pub validate_entry_point_with-requires-clause-precede : goal.validate_entry_point_with-requires-clause-precede
+validate_entry_point_with-requires-clause-precede g c =
     let m = c.args.«module».now in
     (entry_conditions (module_view m) c.requires.handles c.args.index (entry_view c.index.result.now) (item_there entry_view m.entry_points.items c.args.index c.requires.within c.index.result.now c.index.ensures)).operands
 
-pub validate_entry_point-requires-clause-parents : goal.validate_entry_point-requires-clause-parents
-validate_entry_point-requires-clause-parents g c = (order_gives_conditions (module_view c.args.«module».now) c.requires.handles).filters
+pub validate_entry_point_with-requires-clause-parents : goal.validate_entry_point_with-requires-clause-parents
+validate_entry_point_with-requires-clause-parents g c = (order_gives_conditions (module_view c.args.«module».now) c.requires.handles).filters
 
-pub validate_entry_point-requires-clause-payload : goal.validate_entry_point-requires-clause-payload
-validate_entry_point-requires-clause-payload g c =
+pub validate_entry_point_with-requires-clause-payload : goal.validate_entry_point_with-requires-clause-payload
+validate_entry_point_with-requires-clause-payload g c =
     let m = c.args.«module».now in
     payload_there (module_view m) c.requires.handles c.args.index (entry_view c.index.result.now) (item_there entry_view m.entry_points.items c.args.index c.requires.within c.index.result.now c.index.ensures)
 
-pub validate_entry_point-requires-clause-output : goal.validate_entry_point-requires-clause-output
-validate_entry_point-requires-clause-output g c =
+pub validate_entry_point_with-requires-clause-output : goal.validate_entry_point_with-requires-clause-output
+validate_entry_point_with-requires-clause-output g c =
     let m = c.args.«module».now in
     output_there (module_view m) c.requires.handles c.args.index (entry_view c.index.result.now) (item_there entry_view m.entry_points.items c.args.index c.requires.within c.index.result.now c.index.ensures)
 
-pub validate_entry_point-requires-clause-known : goal.validate_entry_point-requires-clause-known
-validate_entry_point-requires-clause-known g c =
+pub validate_entry_point_with-requires-clause-known : goal.validate_entry_point_with-requires-clause-known
+validate_entry_point_with-requires-clause-known g c =
     let m = c.args.«module».now in
     let summary = g.L.Lower.summary c.args.validator.now.lower in
     entry_known (module_view m) c.requires.handles c.args.index (entry_view c.index.result.now) (item_there entry_view m.entry_points.items c.args.index c.requires.within c.index.result.now c.index.ensures)

@@ -6,18 +6,18 @@ use Rattle.ir_items.specs.View.{function_view, module_view}
 use Rattle.module_handles.proofs.Whole.{order_gives_conditions}
 use Rattle.shader_check.proofs.functions.judge_next.Goals as goal
 
-pub validate_function-requires-clause-handles : goal.validate_function-requires-clause-handles
-validate_function-requires-clause-handles g c =
+pub validate_function_with-requires-clause-handles : goal.validate_function_with-requires-clause-handles
+validate_function_with-requires-clause-handles g c =
     let m = c.args.«module».now in
     (conditions_at (module_view m) c.requires.handles c.args.handle (function_view c.index.result.now) (view_there m.functions c.args.handle c.index.result.now c.index.ensures function_view)).in_range
 
-pub validate_function-requires-clause-precede : goal.validate_function-requires-clause-precede
-validate_function-requires-clause-precede g c =
+pub validate_function_with-requires-clause-precede : goal.validate_function_with-requires-clause-precede
+validate_function_with-requires-clause-precede g c =
     let m = c.args.«module».now in
     (conditions_at (module_view m) c.requires.handles c.args.handle (function_view c.index.result.now) (view_there m.functions c.args.handle c.index.result.now c.index.ensures function_view)).operands
 
-pub validate_function-requires-clause-parents : goal.validate_function-requires-clause-parents
-validate_function-requires-clause-parents g c = (order_gives_conditions (module_view c.args.«module».now) c.requires.handles).filters
+pub validate_function_with-requires-clause-parents : goal.validate_function_with-requires-clause-parents
+validate_function_with-requires-clause-parents g c = (order_gives_conditions (module_view c.args.«module».now) c.requires.handles).filters
 
 pub returns-in-Ok : goal.returns-in-Ok
 returns-in-Ok g c =

@@ -14,7 +14,7 @@ use Rattle.spec_entries.specs.Uses.{EntryUses}
 use Rattle.spec_statements.specs.ExpressionStages.{all_stages}
 use Rattle.spec_statements.specs.Functions.{AllowsStage, FunctionOK, FunctionSettings}
 use Rattle.spec_statements.specs.Payloads.{IsHeldAfter}
-use Rattle.function_validator.proofs.entry.validate_entry_point.Goals as goal
+use Rattle.function_validator.proofs.entry.validate_entry_point_with.Goals as goal
 
 pub returns-in-Err : goal.returns-in-Err
 returns-in-Err g c =
@@ -26,8 +26,8 @@ returns-in-Err g c =
     let s = own_settings c.args.settings.now in
     subst (IsRefusedAs (g.L.Lower.reading l q) (g.L.Lower.faults l q) stages (HasUse m e.function) s m e) (sym c.new.ensures.error) (by_stage (g.L.Lower.reading l q) (g.L.Lower.faults l q) stages s m e c.in-Err.error c.in-Err.ensures)
 
-pub returns-in-Err-validate_function : goal.returns-in-Err-validate_function
-returns-in-Err-validate_function g c =
+pub returns-in-Err-validate_function_with : goal.returns-in-Err-validate_function_with
+returns-in-Err-validate_function_with g c =
     let l = c.args.lower.now in
     let m = module_view c.args.«module».now in
     let e = entry_view c.args.entry.now in
@@ -36,10 +36,10 @@ returns-in-Err-validate_function g c =
     let s = own_settings c.args.settings.now in
     let R = g.L.Lower.reading l q in
     let F = g.L.Lower.faults l q in
-    let r = c.in-Err-validate_function.refusal in
+    let r = c.in-Err-validate_function_with.refusal in
     by_function R F stages s m e r c.told_of_function.result c.told_of_function.ensures
-    (subst (λ (z : FunctionSettings). IsFunctionRefusedFor (λ y. FunctionOK R z m e.function → ⊥) r) c.own_settings-own.ensures c.in-Err-validate_function.ensures.refused)
-    (subst (λ (z : FunctionSettings). IsFunctionRefusedFor (IsFunctionFault R F z m e.function) r) c.own_settings-own.ensures c.in-Err-validate_function.ensures.fault)
+    (subst (λ (z : FunctionSettings). IsFunctionRefusedFor (λ y. FunctionOK R z m e.function → ⊥) r) c.own_settings-own.ensures c.in-Err-validate_function_with.ensures.refused)
+    (subst (λ (z : FunctionSettings). IsFunctionRefusedFor (IsFunctionFault R F z m e.function) r) c.own_settings-own.ensures c.in-Err-validate_function_with.ensures.fault)
 
 pub returns-in-Err-check_payload : goal.returns-in-Err-check_payload
 returns-in-Err-check_payload g c =
@@ -61,8 +61,8 @@ returns-then-not-allows_stage g c =
     let q = question m e.function (map (g.L.Lower.summary l) c.args.callees.now) stages in
     let s = own_settings c.args.settings.now in
     let R = g.L.Lower.reading l q in
-    let v = c.in-Ok-validate_function.validated in
-    let exact = λ (stage : ℕ). subst (λ (z : FunctionSettings). Has (g.L.Lower.noted l v.info).0 stage ↔ (Has all_stages.0 stage × AllowsStage R z stages e.function stage)) c.own_settings-own.ensures (c.in-Ok-validate_function.ensures.stages stage) in
+    let v = c.in-Ok-validate_function_with.validated in
+    let exact = λ (stage : ℕ). subst (λ (z : FunctionSettings). Has (g.L.Lower.noted l v.info).0 stage ↔ (Has all_stages.0 stage × AllowsStage R z stages e.function stage)) c.own_settings-own.ensures (c.in-Ok-validate_function_with.ensures.stages stage) in
     subst (IsRefusedAs R (g.L.Lower.faults l q) stages (HasUse m e.function) s m e) (sym c.new-then-not-allows_stage.ensures.error)
     (by_runs R (g.L.Lower.faults l q) stages s m e (g.L.Lower.noted l v.info) exact (λ has. true≢false (sym (c.allows_stage.ensures.1 has) ∙ c.if-not-allows_stage.true)))
 
@@ -76,9 +76,9 @@ returns-in-Ok-connect g c =
     let s = own_settings c.args.settings.now in
     let R = g.L.Lower.reading l q in
     let F = g.L.Lower.faults l q in
-    let v = c.in-Ok-validate_function.validated in
+    let v = c.in-Ok-validate_function_with.validated in
     let same = c.own_settings-own.ensures in
-    let known = c.in-Ok-validate_function.ensures in
+    let known = c.in-Ok-validate_function_with.ensures in
     let before = g.L.Lower.summary l v.info in
     let is = known.chains c.requires.known in
     let exact = λ (stage : ℕ). subst (λ (z : FunctionSettings). Has (g.L.Lower.noted l v.info).0 stage ↔ (Has all_stages.0 stage × AllowsStage R z stages e.function stage)) same (known.stages stage) in
@@ -105,7 +105,7 @@ returns-in-Err-connect g c =
     let s = own_settings c.args.settings.now in
     let R = g.L.Lower.reading l q in
     let F = g.L.Lower.faults l q in
-    let v = c.in-Ok-validate_function.validated in
+    let v = c.in-Ok-validate_function_with.validated in
     let before = g.L.Lower.summary l v.info in
     refused_as (IsUnconnected s.flags s.capabilities m e (EntryUses e (HasUseBit before.uses))) (IsRefusedAs R F stages (HasUse m e.function) s m e)
-    (λ x u. by_connections R F stages s m e before (c.in-Ok-validate_function.ensures.chains c.requires.known) x u) c.in-Err-connect.refusal c.in-Err-connect.ensures.judged
+    (λ x u. by_connections R F stages s m e before (c.in-Ok-validate_function_with.ensures.chains c.requires.known) x u) c.in-Err-connect.refusal c.in-Err-connect.ensures.judged
