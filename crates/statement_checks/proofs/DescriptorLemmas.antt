@@ -1,5 +1,5 @@
 -- What is marked, one type behind another.
-use Rattle.std.proofs.Common.{◌≡◌, ◌↔◌, ◌<◌, ◌+◌, zero, suc, ℕ, Bool, IsTrue, List, [], ◌∷◌, ◌++◌, Option, None, Some, length, slice_get, ap, sym, subst, ◌∙◌}
+use Rattle.std.proofs.Common.{◌≡◌, ◌↔◌, ◌+◌, zero, suc, ℕ, Bool, IsTrue, List, [], ◌∷◌, ◌++◌, Option, None, Some, length, slice_get, ap, sym, subst, ◌∙◌}
 use Rattle.std.proofs.lemmas.List.{length-append}
 use Rattle.ir_types.specs.Plain.{PlainType}
 use Rattle.statement_checks.specs.Descriptors.{AreDescriptors, IsDescriptorAt}
