@@ -1,5 +1,5 @@
 -- Expressions that stand for answers, and those of a range.
-use Rattle.std.proofs.Common.{◌≡◌, ℕ, zero, suc, ◌+◌, ◌-◌, ◌<◌, ◌≤◌, min, Bool, true, false, List, [], ◌∷◌, All, Option, None, Some, IfNone, IfSome, MatchOption, length, slice_get, get_or, refl, sym, ap, subst, inl, inr, true≢false, ◌∙◌, arith}
+use Rattle.std.proofs.Common.{◌≡◌, ℕ, zero, suc, ◌+◌, ◌-◌, ◌<◌, ◌≤◌, min, Bool, true, false, List, Option, None, Some, IfNone, IfSome, length, slice_get, get_or, sym, ap, subst, inl, inr, true≢false, arith}
 use Rattle.std.specs.List.{range_with_len}
 use Rattle.std.proofs.lemmas.Bool.{cases_eq, cases_lt}
 use Rattle.std.proofs.lemmas.List.Elements.{All-from_get_or}
@@ -13,7 +13,7 @@ use Rattle.ir_types.specs.declared.expressions.Expression.{Expression}
 use Rattle.ir_types.specs.declared.expressions.Expression.TheVariants as x
 use Rattle.overload_tables.specs.Laws.{IsAmong}
 use Rattle.spec_statements.specs.Emits.{EmitOK, IsComputedHere, IsEmittable}
-use Rattle.statement_checks.specs.Emits.{is_answer_itself, is_answer, is_answer_there, is_answer_at, AreAnswers, IsAnswerOf}
+use Rattle.statement_checks.specs.Emits.{is_answer_itself, is_answer_there, is_answer_at, AreAnswers, IsAnswerOf}
 
 computed_here : (e : Expression) → is_answer_itself e ≡ false → IsComputedHere e
 computed_here (x.CallResult function) no_ = absurd (true≢false no_)
