@@ -1,5 +1,5 @@
 -- A range that comes into scope, and the first of it that is there.
-use Rattle.std.proofs.Common.{◌≡◌, ℕ, ◌+◌, ◌-◌, ◌<◌, ◌≤◌, min, Bool, true, false, List, ◌++◌, All, Contains, Option, None, Some, IfNone, IfSome, is_some, length, slice_get, get_or, inl, inr, true≢false, sym, ap, ◌∙◌, subst, arith}
+use Rattle.std.proofs.Common.{◌≡◌, ℕ, ◌-◌, ◌<◌, ◌≤◌, min, Bool, true, false, List, All, Contains, Option, None, Some, IfNone, IfSome, is_some, length, slice_get, get_or, inl, inr, true≢false, sym, ap, ◌∙◌, subst, arith}
 use Rattle.std.specs.Bool.{MatchBool}
 use Rattle.std.specs.List.{range_with_len}
 use Rattle.std.proofs.lemmas.Bool.{cases_lt}

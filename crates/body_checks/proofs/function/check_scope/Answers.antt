@@ -20,8 +20,8 @@ pub returns-in-Ok-clause-answered : goal.returns-in-Ok-clause-answered
 returns-in-Ok-clause-answered c =
     all_answers (function_view c.args.function.now) c.asks_answers-asked.result _ _ c.in_ok-carried.ensures.scope c.in_ok-carried.ensures.answered c.in-Ok.ensures.fine _ c.in-Ok.ensures.answered
 
-pub returns-in-Err-clause-fault : goal.returns-in-Err-clause-fault
-returns-in-Err-clause-fault c =
+pub returns-clause-fault : goal.returns-clause-fault
+returns-clause-fault c =
     let f = function_view c.args.function.now in
     c.refused.ensures c.args.flags f
     (if_fault_then c.in-Err.error _ (IsScopeFault c.args.flags f)
