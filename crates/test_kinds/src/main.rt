@@ -1,5 +1,5 @@
-//! Calls each public function of the plain types and of the sets of words, asks the overload sets of all functions of
-//! numbers what data/overloads.json asks, and prints the answers.
+//! Calls each public function of the plain types and of the sets of words, hashes under keys, asks the overload sets of all
+//! functions of numbers what data/overloads.json asks, and prints the answers.
 //!
 //! With the word `json` it only reads standard input as JSON, and with `sets` it only makes an overload set for each byte
 //! of it, both to measure by; without one it does that too, in the end.
@@ -7,6 +7,7 @@
 
 mod asked;
 mod data_words;
+mod hashes;
 mod json_alone;
 mod literals;
 mod overload_alone;
@@ -26,6 +27,7 @@ fn run_all(rt: &HostRuntime) -> Result<()> {
     scalars::run(rt)?;
     words::run(rt)?;
     sets::run(rt)?;
+    hashes::run(rt)?;
     overloads::every_call(rt)?;
     asked::run(rt)?;
     overload_alone::run(rt)?;

@@ -1,0 +1,28 @@
+// Hashers that know a key. What is due was computed by a SipHash-1-3 written apart, which gives the values that are published
+// with that function.
+use anyhow::Result;
+use ir_unique_arena::keyed::KeyedState;
+use std::hash::{BuildHasher, Hasher};
+
+// The hash of bytes under a key.
+fn hashed(state: &KeyedState, bytes: &[u8]) -> u64 {
+    let mut hasher = state.build_hasher();
+    hasher.write(bytes);
+    hasher.finish()
+}
+
+fn tell(rt: &HostRuntime, what: &str, state: &KeyedState) -> Result<()> {
+    println!(rt;
+        "hashed under {what} {} {}",
+        hashed(state, b""),
+        hashed(state, b"x")
+    )?;
+    Ok(())
+}
+
+/// Hashes under keys of two numbers and of bytes.
+pub fn run(rt: &HostRuntime) -> Result<()> {
+    tell(rt, "1 and 2", &KeyedState::with_keys(1, 2))?;
+    tell(rt, "no bytes", &KeyedState::of_bytes(b""))?;
+    tell(rt, "three bytes", &KeyedState::of_bytes(b"abc"))
+}
