@@ -74,12 +74,23 @@ last_or_before [] x y (suc k) e = absurd (cc (e))
 last_or_before (z ∷ xs) x y zero e = inl e
 last_or_before (z ∷ xs) x y (suc k) e = elim (last_or_before xs x y k e) [ inl l ↦ inl l | inr r ↦ inr (ap suc r.0, r.1) ]
 
--- one more node of which the severity is known
-pub one_more : (nodes : List PlainNode) (known : List (Option Severity)) (o : Option Severity) → AreNearest nodes known → IsNearest nodes (Some (length known)) DerivativeUniformity o → AreNearest nodes (known ++ o ∷ [])
-one_more nodes known o are is = λ handle found at. elim (last_or_before known o found handle at) [
+one_longer : (known : List (Option Severity)) (o : Option Severity) → length (known ++ o ∷ []) ≡ length known + 1
+one_longer [] o = refl
+one_longer (k ∷ known) o = let e = one_longer known o in omega (arith, e)
+
+behind_all : (nodes : List PlainNode) (known : List (Option Severity)) (o : Option Severity) → AreNearest nodes known → IsNearest nodes (Some (length known)) DerivativeUniformity o → AreNearest nodes (known ++ o ∷ [])
+behind_all nodes known o are is = λ handle found at. elim (last_or_before known o found handle at) [
   | inl before ↦ are handle found before
   | inr last ↦ subst (λ k. IsNearest nodes (Some k) DerivativeUniformity found) (sym last.0) (subst (IsNearest nodes (Some (length known)) DerivativeUniformity) last.1 is)
 ]
+
+-- one more node of which the severity is known
+pub one_more : (nodes : List PlainNode) (known : List (Option Severity)) (o : Option Severity) (more : List (Option Severity)) (place : ℕ) → more ≡ known ++ o ∷ [] → length known ≡ place → AreNearest nodes known
+    → IsNearest nodes (Some place) DerivativeUniformity o → (length more ≡ place + 1) × AreNearest nodes more
+one_more nodes known o more place pushed many are is = (
+  ap length pushed ∙ (one_longer known o ∙ ap (λ n. n + 1) many),
+  subst (AreNearest nodes) (sym pushed) (behind_all nodes known o are (subst (λ k. IsNearest nodes (Some k) DerivativeUniformity o) (sym many) is)),
+)
 
 -- of no node anything is known
 pub nothing_known : (nodes : List PlainNode) → AreNearest nodes []

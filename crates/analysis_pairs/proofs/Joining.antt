@@ -12,6 +12,7 @@ use Rattle.spec_analysis.specs.Chains.{place, seen_through}
 use Rattle.analysis_pairs.specs.Fronts.{BeginsWith}
 use Rattle.analysis_pairs.specs.Pairings.{Paired, pair_one, passed_for, pass_up, pass_all_up}
 use Rattle.analysis_pairs.specs.Passed.{PassesOn, PassesAllOn}
+use Rattle.analysis_pairs.proofs.Equal.{pair_same, pair_self}
 use Rattle.analysis_pairs.proofs.Marked.{HasArgument, is_marked}
 
 -- ---- lists
@@ -48,6 +49,13 @@ module _ {T : Type 0} (eq : T → T → Bool) where
   begins_longer [] more (o ∷ others) begins = elim begins [ ]
   begins_longer (v ∷ vals) more (o ∷ others) begins = (begins.0, begins_longer vals more others begins.1)
 
+  -- two halves that begin with two lists, of which the first is as long
+  pub begins_both : (front behind few more : List T) → length front ≡ length few → BeginsWith eq front few → BeginsWith eq behind more → BeginsWith eq (front ++ behind) (few ++ more)
+  begins_both [] behind [] more same first rest = rest
+  begins_both (v ∷ front) behind [] more same first rest = absurd (omega (arith, same))
+  begins_both [] behind (o ∷ few) more same first rest = elim first [ ]
+  begins_both (v ∷ front) behind (o ∷ few) more same first rest = (first.0, begins_both front behind few more (omega (arith, same)) first.1 rest)
+
   insert_append : (ks xs ys : List T) → insert_all eq ks (xs ++ ys) ≡ insert_all eq (insert_all eq ks xs) ys
   insert_append ks [] ys = refl
   insert_append ks (x ∷ xs) ys = insert_append (insert_key eq ks x) xs ys
@@ -62,6 +70,25 @@ module _ {T : Type 0} (eq : T → T → Bool) where
 -- one more pair leaves each there once
 pub once_more : (pairs : List SamplingPair) (p : SamplingPair) (added : List SamplingPair) → EachOnce pairs → added ≡ insert_key pair_eq pairs p → EachOnce added
 once_more pairs p added once is = subst EachOnce (sym is) (once_insert pair_eq pairs p once)
+
+-- ---- pairs that begin with others
+
+-- what begins so is these, and a rest
+front_is : (pairs front : List SamplingPair) → BeginsWith pair_eq pairs front → (rest : List SamplingPair) × (pairs ≡ front ++ rest)
+front_is pairs [] begins = (pairs, refl)
+front_is [] (p ∷ front) begins = elim begins [ ]
+front_is (q ∷ pairs) (p ∷ front) begins = let r = front_is pairs front begins.1 in (r.0, λ i. sym (pair_same p q begins.0) i ∷ r.1 i)
+
+begins_self : (pairs : List SamplingPair) → BeginsWith pair_eq pairs pairs
+begins_self [] = tt
+begins_self (p ∷ pairs) = (pair_self p, begins_self pairs)
+
+-- all that begin with those that are there give all
+front_joined : (front rest : List SamplingPair) → EachOnce front → EachOnce (front ++ rest) → insert_all pair_eq front (front ++ rest) ≡ front ++ rest
+front_joined front rest own all =
+    insert_append pair_eq front front rest
+    ∙ ap (λ z. insert_all pair_eq z rest) (all_there pair_eq front front (begins_there pair_eq front front (begins_self front)) ∙ sym own)
+    ∙ (sym (insert_append pair_eq [] front rest) ∙ all)
 
 -- ---- what is passed on
 
@@ -86,9 +113,11 @@ module _ (expressions : List PlainExpression) (arguments : List ℕ) where
       ap (pass_all_up expressions arguments pairs) (λ i. pair_one (passed_for arguments p.0) (passed_for arguments p.1) (here.0 i) (here.1 i) t)
       ∙ as_they_are pairs (record { pairs = insert_key pair_eq t.pairs p; wrong = t.wrong }) (λ q among. same q (inr among))
 
-  pub shared_is : (pairs : List SamplingPair) (t s : Paired) → PassesAllOn (place expressions) arguments pairs → EachOnce pairs → t.pairs ≡ [] → s.pairs ≡ pairs → s.wrong ≡ t.wrong → s ≡ pass_all_up expressions arguments pairs t
-  shared_is pairs t s same once none are wrong =
-      let all : insert_all pair_eq t.pairs pairs ≡ pairs = ap (λ z. insert_all pair_eq z pairs) none ∙ once in
+  pub shared_is : (pairs : List SamplingPair) (t s : Paired) → PassesAllOn (place expressions) arguments pairs → EachOnce pairs → EachOnce t.pairs → BeginsWith pair_eq pairs t.pairs → s.pairs ≡ pairs → s.wrong ≡ t.wrong
+      → s ≡ pass_all_up expressions arguments pairs t
+  shared_is pairs t s same once own begins are wrong =
+      let front = front_is pairs t.pairs begins in
+      let all : insert_all pair_eq t.pairs pairs ≡ pairs = ap (insert_all pair_eq t.pairs) front.1 ∙ front_joined t.pairs front.0 own (subst EachOnce front.1 once) ∙ sym front.1 in
       (λ i. record { pairs = (are ∙ sym all) i; wrong = wrong i }) ∙ sym (as_they_are pairs t same)
 
   pub there_is : (pairs : List SamplingPair) (t : Paired) → PassesAllOn (place expressions) arguments pairs → BeginsWith pair_eq t.pairs pairs → t ≡ pass_all_up expressions arguments pairs t

@@ -86,11 +86,16 @@ impl PairList {
         *self.more.allocator()
     }
 
-    // Whether there is no pair.
-    pub(crate) fn is_empty(&self) -> bool
-        ensures { IsTrue result → listed self.now ≡ [] }
+    // Whether these begin with all pairs of the list.
+    pub(crate) fn is_front_of(&self, pairs: &[SamplingPair]) -> bool
+        ensures { IsTrue result → BeginsWith pair_eq pairs.now (listed self.now) }
     {
-        self.few.is_empty() && self.more.is_empty()
+        let few = self.few.as_slice();
+        if pairs.len() < few.len() {
+            return false;
+        }
+        let (front, behind) = pairs.split_at(few.len());
+        begins_with(front, few) && begins_with(behind, self.more.as_slice())
     }
 
     // Whether the list begins with these, as far as it is one that another function has.

@@ -218,8 +218,8 @@ impl Sampled {
         Ok(())
     }
 
-    /// The same for what is kept of the callee. Where each of a table of pairs is the same pair in the caller, and the caller has
-    /// no other, it shares the table, and nothing is copied. The error is out of memory.
+    /// The same for what is kept of the callee. Where each of a table of pairs is the same pair in the caller, and those that the
+    /// caller has are the first of them, it shares the table, and nothing is copied. The error is out of memory.
     pub fn join(
         &mut self,
         expressions: &Expressions,
@@ -229,7 +229,7 @@ impl Sampled {
         ensures { OnOk result (paired self.new ≡ pass_all_up (map expression_view (values_of expressions.now)) arguments.now callee.now.items (paired self.old)) }
     {
         if passes_all_on(expressions, arguments, callee) {
-            if self.pairs.is_empty() {
+            if self.pairs.is_front_of(callee.as_slice()) {
                 self.pairs = PairList::shared(self.pairs.allocator(), callee.share()?);
                 return Ok(());
             }

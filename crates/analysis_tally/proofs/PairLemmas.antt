@@ -1,38 +1,24 @@
 -- The pairs after all effects, and the expressions that are wrong.
-use Rattle.std.proofs.Common.{◌≡◌, ◌⊎◌, ℕ, Option, Some, None, Bool, true, false, true≢false, ◌&&◌, ◌||◌, IsTrue, List, [], ◌∷◌, ◌++◌, refl, sym, ap, ◌∙◌, subst, inl, inr, ⊎_elim, slice_get}
-use Rattle.std.specs.Prelude.{◌↔◌, if◌then◌else◌, eqb}
+use Rattle.std.proofs.Common.{◌≡◌, ◌⊎◌, ℕ, Option, Some, None, Bool, true, false, true≢false, ◌||◌, IsTrue, List, [], ◌∷◌, ◌++◌, refl, sym, ap, ◌∙◌, subst, inl, inr, ⊎_elim, slice_get}
+use Rattle.std.specs.Prelude.{◌↔◌, if◌then◌else◌}
 use Rattle.std.specs.List.{list_any}
 use Rattle.indexmap.specs.IndexSet.{insert_key}
 use Rattle.overload_tables.specs.Laws.{IsAmong}
 use Rattle.ir_types.specs.ExpressionPlain.{PlainExpression}
 use Rattle.analysis_forms.specs.declared.sampling.GlobalOrArgument.{GlobalOrArgument}
 use Rattle.analysis_forms.specs.declared.sampling.GlobalOrArgument.TheVariants.{Global, Argument}
-use Rattle.analysis_forms.specs.contracts.sampling.GlobalOrArgumentPartialEq as each
 use Rattle.analysis_forms.specs.Pairs.{SamplingPair, pair_eq}
+use Rattle.analysis_pairs.proofs.Equal.{pair_same}
 use Rattle.spec_analysis.specs.Chains.{place, seen_through, argument_means}
 use Rattle.spec_analysis.specs.Summaries.{ComesUp, IsWrongArgument}
 use Rattle.spec_analysis.proofs.Members.{among-left, among-right, among-cases}
 use Rattle.analysis_tally.specs.Tallies.{Paired, with_pair, with_wrong, first_wrong, part_wrong, pair_one, passed_for, pass_up, pass_all_up}
-use Rattle.std.proofs.lemmas.Bool.{eqb-true, eq-eqb}
 
 pub some_is : {X : Type 0} {x y : X} → Some x ≡ Some y → x ≡ y
 some_is e = cc (e)
 
 pub none_some : {X : Type 0} {A : Type 0} {x : X} → None ≡ Some x → A
 none_some e = absurd (cc (e))
-
-pub both : (x y : Bool) → (x && y) ≡ true → (x ≡ true) × (y ≡ true)
-both true y e = (refl, e)
-both false y e = absurd (true≢false (sym e))
-
-pub part_same : (a b : GlobalOrArgument) → each.TheImpl.ghosts.eq a b ≡ true → a ≡ b
-part_same (Global x) (Global y) e = ap Global (eqb-true x y (both (eqb x y) true e).0)
-part_same (Argument x) (Argument y) e = ap Argument (eqb-true x y e)
-part_same (Global x) (Argument y) e = absurd (true≢false (sym e))
-part_same (Argument x) (Global y) e = absurd (true≢false (sym e))
-
-pair_same : (p q : SamplingPair) → pair_eq p q ≡ true → p ≡ q
-pair_same p q e = let h = both (each.TheImpl.ghosts.eq p.0 q.0) (each.TheImpl.ghosts.eq p.1 q.1) e in λ i. (part_same p.0 q.0 h.0 i, part_same p.1 q.1 h.1 i)
 
 -- ---- one pair more
 

@@ -4,13 +4,14 @@ use Rattle.std.specs.Prelude.{if◌then◌else◌, eqb}
 use Rattle.std.specs.Cmp.Lexicographic.{pointwise}
 use Rattle.std.specs.List.{list_any}
 use Rattle.std.specs.Option.{option_eq}
-use Rattle.std.proofs.lemmas.Bool.{eqb-true, eq-eqb}
+use Rattle.std.proofs.lemmas.Bool.{eqb-true}
 use Rattle.indexmap.specs.IndexSet.{insert_key}
 use Rattle.overload_tables.specs.Laws.{IsAmong}
 use Rattle.ir_types.specs.ExpressionPlain.{PlainExpression}
 use Rattle.analysis_forms.specs.declared.sampling.GlobalOrArgument.{GlobalOrArgument}
 use Rattle.analysis_forms.specs.declared.sampling.GlobalOrArgument.TheVariants.{Global, Argument}
 use Rattle.analysis_forms.specs.Pairs.{SamplingPair, pair_eq}
+use Rattle.analysis_pairs.proofs.Equal.{both, part_same, pair_self}
 use Rattle.analysis_pairs.proofs.Marked.{is_marked}
 use Rattle.module_info.specs.Marks.{marks_of}
 use Rattle.spec_analysis.specs.Chains.{place, seen_through, argument_means}
@@ -22,7 +23,7 @@ use Rattle.analysis_tally.specs.Tallies.{Known, Paired, with_pair, with_wrong, f
 use Rattle.analysis_tally.specs.declared.passed.Passed.{Passed}
 use Rattle.analysis_forms.specs.contracts.sampling.GlobalOrArgumentPartialEq as each
 use Rattle.analysis_tally.specs.contracts.passed.PassedPartialEq as impl
-use Rattle.analysis_tally.proofs.PairLemmas.{part_same, some_is, none_some, both}
+use Rattle.analysis_tally.proofs.PairLemmas.{some_is, none_some}
 use Rattle.analysis_tally.proofs.PartLemmas.{same_means, part_means}
 
 abbrev HasPair : SamplingPair → List SamplingPair → Type 0
@@ -45,13 +46,6 @@ any_append p (x ∷ xs) ys e = by (pair_eq p x) refl
     by : (b : Bool) → pair_eq p x ≡ b → HasPair p (x ∷ (xs ++ ys))
     by true is = or_left (pair_eq p x) (list_any (pair_eq p) (xs ++ ys)) is
     by false is = or_right (pair_eq p x) (list_any (pair_eq p) (xs ++ ys)) (any_append p xs ys (ap (λ b. b || list_any (pair_eq p) xs) (sym is) ∙ e))
-
-part_self : (a : GlobalOrArgument) → each.TheImpl.ghosts.eq a a ≡ true
-part_self (Global g) = ap (λ b. b && true) (eq-eqb g g refl)
-part_self (Argument n) = eq-eqb n n refl
-
-pair_self : (p : SamplingPair) → pair_eq p p ≡ true
-pair_self p = λ i. part_self p.0 i && part_self p.1 i
 
 last_has : (xs : List SamplingPair) (p : SamplingPair) → HasPair p (xs ++ p ∷ [])
 last_has [] p = or_left (pair_eq p p) false (pair_self p)

@@ -6,5 +6,5 @@ use Rattle.analysis_facts.proofs.severity.nearest_at.Goals as goal
 
 pub returns : goal.returns
 returns c =
-    let at = plain_at node_view c.args.filters.now c.args.handle c.index.result.now c.index.ensures in
-    own_or_behind (nodes_of c.args.filters.now) c.requires.precede c.args.handle (node_view c.index.result.now) c.nearest_by.result c.own_or.result at c.nearest_by.ensures c.own_or.ensures
+    let at = plain_at node_view c.args.filters.now c.args.handle c.index-node.result.now c.index-node.ensures in
+    own_or_behind (nodes_of c.args.filters.now) c.requires.precede c.args.handle (node_view c.index-node.result.now) c.nearest_by.result c.own_or.result at c.nearest_by.ensures c.own_or.ensures
