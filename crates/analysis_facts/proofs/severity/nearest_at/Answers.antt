@@ -1,4 +1,3 @@
-use Rattle.std.proofs.Common.{Option, None}
 use Rattle.ir_items.specs.GlobalView.{node_view}
 use Rattle.ir_walks.specs.Filters.{nodes_of}
 use Rattle.analysis_facts.proofs.Nearest.{plain_at, own_or_behind}

@@ -1,4 +1,4 @@
-use Rattle.std.proofs.Common.{◌≡◌, ◌+◌, [], ◌∷◌, ◌++◌, Some, length, subst}
+use Rattle.std.proofs.Common.{Some, subst}
 use Rattle.ir_kinds.specs.declared.diagnostics.StandardFilterableTriggeringRule.TheVariants.{DerivativeUniformity}
 use Rattle.ir_walks.specs.Filters.{nodes_of}
 use Rattle.spec_bodies.specs.Severity.{IsNearest}
