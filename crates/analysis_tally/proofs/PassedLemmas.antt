@@ -41,11 +41,11 @@ or_right false c e = e
 
 any_append : (p : SamplingPair) (xs ys : List SamplingPair) → HasPair p xs → HasPair p (xs ++ ys)
 any_append p [] ys e = absurd (true≢false (sym e))
-any_append p (x ∷ xs) ys e = by (pair_eq p x) refl
+any_append p (x ∷ xs) ys e = by (pair_eq p x) refl (λ h. any_append p xs ys h)
   where
-    by : (b : Bool) → pair_eq p x ≡ b → HasPair p (x ∷ (xs ++ ys))
-    by true is = or_left (pair_eq p x) (list_any (pair_eq p) (xs ++ ys)) is
-    by false is = or_right (pair_eq p x) (list_any (pair_eq p) (xs ++ ys)) (any_append p xs ys (ap (λ b. b || list_any (pair_eq p) xs) (sym is) ∙ e))
+    by : (b : Bool) → pair_eq p x ≡ b → (HasPair p xs → HasPair p (xs ++ ys)) → HasPair p (x ∷ (xs ++ ys))
+    by true is more = or_left (pair_eq p x) (list_any (pair_eq p) (xs ++ ys)) is
+    by false is more = or_right (pair_eq p x) (list_any (pair_eq p) (xs ++ ys)) (more (ap (λ b. b || list_any (pair_eq p) xs) (sym is) ∙ e))
 
 last_has : (xs : List SamplingPair) (p : SamplingPair) → HasPair p (xs ++ p ∷ [])
 last_has [] p = or_left (pair_eq p p) false (pair_self p)
@@ -164,7 +164,7 @@ same_lists [] (y ∷ ys) e = absurd (true≢false (sym e))
 same_lists (x ∷ xs) [] e = absurd (true≢false (sym e))
 same_lists (x ∷ xs) (y ∷ ys) e = let h = both (option_eq each.TheImpl.ghosts.eq x y) (pointwise (option_eq each.TheImpl.ghosts.eq) xs ys) e in λ i. same_parts x y h.0 i ∷ same_lists xs ys h.1 i
 
-abbrev passed_eq : Passed → Passed → Bool
+abbrev pub passed_eq : Passed → Passed → Bool
 passed_eq = impl.TheImpl.ghosts.eq
 
 -- they are of one callee and have the same parts
@@ -182,11 +182,11 @@ Held p joined = (q : Passed) × IsAmong q joined × IsSame p q
 
 held : (p : Passed) (joined : List Passed) → list_any (passed_eq p) joined ≡ true → Held p joined
 held p [] e = absurd (true≢false (sym e))
-held p (q ∷ joined) e = by (passed_eq p q) refl
+held p (q ∷ joined) e = by (passed_eq p q) refl (λ h. held p joined h)
   where
-    by : (b : Bool) → passed_eq p q ≡ b → Held p (q ∷ joined)
-    by true is = (q, inl refl, same_passed p q is)
-    by false is = let r = held p joined (ap (λ b. b || list_any (passed_eq p) joined) (sym is) ∙ e) in (r.0, inr r.1, r.2)
+    by : (b : Bool) → passed_eq p q ≡ b → (list_any (passed_eq p) joined ≡ true → Held p joined) → Held p (q ∷ joined)
+    by true is rest = (q, inl refl, same_passed p q is)
+    by false is rest = let r = rest (ap (λ b. b || list_any (passed_eq p) joined) (sym is) ∙ e) in (r.0, inr r.1, r.2)
 
 among_kept : (b : Bool) (joined : List Passed) (p q : Passed) → IsAmong q (if b then joined else joined ++ p ∷ []) → IsAmong q joined ⊎ (p ≡ q)
 among_kept true joined p q among = inl among
@@ -239,5 +239,5 @@ few_joined k joined arguments pairs t are = λ q among s found others same r in_
 
 -- it was there
 pub was_there : (fresh there : Bool) → fresh ≡ not there → fresh ≡ false → there ≡ true
-was_there fresh true is no = refl
-was_there fresh false is no = absurd (true≢false (sym is ∙ no))
+was_there fresh true is old = refl
+was_there fresh false is old = absurd (true≢false (sym is ∙ old))
