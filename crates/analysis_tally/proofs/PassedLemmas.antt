@@ -1,10 +1,11 @@
 -- A callee that was joined for the same before adds nothing, and one that is joined is there.
-use Rattle.std.proofs.Common.{◌≡◌, ◌⊎◌, ℕ, Option, Some, None, Bool, true, false, true≢false, ◌&&◌, ◌||◌, not, List, [], ◌∷◌, ◌++◌, refl, sym, ap, ◌∙◌, subst, inl, inr, slice_get}
+use Rattle.std.proofs.Common.{◌≡◌, ◌⊎◌, ℕ, ◌<◌, ◌≤◌, length, get_or, map, option_map, Option, Some, None, Bool, true, false, true≢false, ◌&&◌, ◌||◌, not, List, [], ◌∷◌, ◌++◌, refl, sym, ap, ◌∙◌, subst, inl, inr, slice_get}
 use Rattle.std.specs.Prelude.{if◌then◌else◌, eqb}
 use Rattle.std.specs.Cmp.Lexicographic.{pointwise}
 use Rattle.std.specs.List.{list_any}
 use Rattle.std.specs.Option.{option_eq}
 use Rattle.std.proofs.lemmas.Bool.{eqb-true}
+use Rattle.std.proofs.lemmas.Option.{slice_get-map, slice_get-get_or, slice_get_past}
 use Rattle.indexmap.specs.IndexSet.{insert_key}
 use Rattle.overload_tables.specs.Laws.{IsAmong}
 use Rattle.ir_types.specs.ExpressionPlain.{PlainExpression}
@@ -13,7 +14,9 @@ use Rattle.analysis_forms.specs.declared.sampling.GlobalOrArgument.TheVariants.{
 use Rattle.analysis_forms.specs.Pairs.{SamplingPair, pair_eq}
 use Rattle.analysis_pairs.proofs.Equal.{both, part_same, pair_self}
 use Rattle.analysis_pairs.proofs.Marked.{is_marked}
+use Rattle.module_info.specs.Infos.{summary_of}
 use Rattle.module_info.specs.Marks.{marks_of}
+use Rattle.module_info.specs.declared.function_info.FunctionInfo.{FunctionInfo}
 use Rattle.spec_analysis.specs.Chains.{place, seen_through, argument_means}
 use Rattle.spec_analysis.specs.Summaries.{Summary}
 use Rattle.spec_analysis.proofs.Members.{among-cases}
@@ -241,3 +244,12 @@ few_joined k joined arguments pairs t are = λ q among s found others same r in_
 pub was_there : (fresh there : Bool) → fresh ≡ not there → fresh ≡ false → there ≡ true
 was_there fresh true is old = refl
 was_there fresh false is old = absurd (true≢false (sym is ∙ old))
+
+-- ---- what is kept of a callee
+
+pub callee_there : (infos : List FunctionInfo) (callee place : ℕ) (info : FunctionInfo) → place < length infos → info ≡ get_or infos place info → place ≡ callee → slice_get (map summary_of infos) callee ≡ Some (summary_of info)
+callee_there infos callee place info lt at is =
+    ap (slice_get (map summary_of infos)) (sym is) ∙ (slice_get-map summary_of infos place ∙ ap (option_map summary_of) (slice_get-get_or infos place info lt ∙ ap Some (sym at)))
+
+pub callee_missing : (infos : List FunctionInfo) (callee place : ℕ) → length infos ≤ place → place ≡ callee → slice_get (map summary_of infos) callee ≡ None
+callee_missing infos callee place le is = ap (slice_get (map summary_of infos)) (sym is) ∙ (slice_get-map summary_of infos place ∙ ap (option_map summary_of) (slice_get_past infos place le))
