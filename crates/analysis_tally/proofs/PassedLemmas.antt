@@ -1,10 +1,11 @@
 -- A callee that was joined for the same before adds nothing, and one that is joined is there.
-use Rattle.std.proofs.Common.{◌≡◌, ◌⊎◌, ℕ, Option, Some, None, Bool, true, false, true≢false, ◌&&◌, ◌||◌, not, List, [], ◌∷◌, ◌++◌, refl, sym, ap, ◌∙◌, subst, inl, inr, slice_get}
+use Rattle.std.proofs.Common.{◌≡◌, ◌⊎◌, ℕ, ◌<◌, ◌≤◌, length, get_or, map, option_map, Option, Some, None, Bool, true, false, true≢false, ◌&&◌, ◌||◌, not, List, [], ◌∷◌, ◌++◌, refl, sym, ap, ◌∙◌, subst, inl, inr, slice_get}
 use Rattle.std.specs.Prelude.{if◌then◌else◌, eqb}
 use Rattle.std.specs.Cmp.Lexicographic.{pointwise}
 use Rattle.std.specs.List.{list_any}
 use Rattle.std.specs.Option.{option_eq}
 use Rattle.std.proofs.lemmas.Bool.{eqb-true}
+use Rattle.std.proofs.lemmas.Option.{slice_get-map, slice_get-get_or, slice_get_past}
 use Rattle.indexmap.specs.IndexSet.{insert_key}
 use Rattle.overload_tables.specs.Laws.{IsAmong}
 use Rattle.ir_types.specs.ExpressionPlain.{PlainExpression}
@@ -13,7 +14,9 @@ use Rattle.analysis_forms.specs.declared.sampling.GlobalOrArgument.TheVariants.{
 use Rattle.analysis_forms.specs.Pairs.{SamplingPair, pair_eq}
 use Rattle.analysis_pairs.proofs.Equal.{both, part_same, pair_self}
 use Rattle.analysis_pairs.proofs.Marked.{is_marked}
+use Rattle.module_info.specs.Infos.{summary_of}
 use Rattle.module_info.specs.Marks.{marks_of}
+use Rattle.module_info.specs.declared.function_info.FunctionInfo.{FunctionInfo}
 use Rattle.spec_analysis.specs.Chains.{place, seen_through, argument_means}
 use Rattle.spec_analysis.specs.Summaries.{Summary}
 use Rattle.spec_analysis.proofs.Members.{among-cases}
@@ -41,11 +44,11 @@ or_right false c e = e
 
 any_append : (p : SamplingPair) (xs ys : List SamplingPair) → HasPair p xs → HasPair p (xs ++ ys)
 any_append p [] ys e = absurd (true≢false (sym e))
-any_append p (x ∷ xs) ys e = by (pair_eq p x) refl
+any_append p (x ∷ xs) ys e = by (pair_eq p x) refl (λ h. any_append p xs ys h)
   where
-    by : (b : Bool) → pair_eq p x ≡ b → HasPair p (x ∷ (xs ++ ys))
-    by true is = or_left (pair_eq p x) (list_any (pair_eq p) (xs ++ ys)) is
-    by false is = or_right (pair_eq p x) (list_any (pair_eq p) (xs ++ ys)) (any_append p xs ys (ap (λ b. b || list_any (pair_eq p) xs) (sym is) ∙ e))
+    by : (b : Bool) → pair_eq p x ≡ b → (HasPair p xs → HasPair p (xs ++ ys)) → HasPair p (x ∷ (xs ++ ys))
+    by true is more = or_left (pair_eq p x) (list_any (pair_eq p) (xs ++ ys)) is
+    by false is more = or_right (pair_eq p x) (list_any (pair_eq p) (xs ++ ys)) (more (ap (λ b. b || list_any (pair_eq p) xs) (sym is) ∙ e))
 
 last_has : (xs : List SamplingPair) (p : SamplingPair) → HasPair p (xs ++ p ∷ [])
 last_has [] p = or_left (pair_eq p p) false (pair_self p)
@@ -164,7 +167,7 @@ same_lists [] (y ∷ ys) e = absurd (true≢false (sym e))
 same_lists (x ∷ xs) [] e = absurd (true≢false (sym e))
 same_lists (x ∷ xs) (y ∷ ys) e = let h = both (option_eq each.TheImpl.ghosts.eq x y) (pointwise (option_eq each.TheImpl.ghosts.eq) xs ys) e in λ i. same_parts x y h.0 i ∷ same_lists xs ys h.1 i
 
-abbrev passed_eq : Passed → Passed → Bool
+abbrev pub passed_eq : Passed → Passed → Bool
 passed_eq = impl.TheImpl.ghosts.eq
 
 -- they are of one callee and have the same parts
@@ -182,11 +185,11 @@ Held p joined = (q : Passed) × IsAmong q joined × IsSame p q
 
 held : (p : Passed) (joined : List Passed) → list_any (passed_eq p) joined ≡ true → Held p joined
 held p [] e = absurd (true≢false (sym e))
-held p (q ∷ joined) e = by (passed_eq p q) refl
+held p (q ∷ joined) e = by (passed_eq p q) refl (λ h. held p joined h)
   where
-    by : (b : Bool) → passed_eq p q ≡ b → Held p (q ∷ joined)
-    by true is = (q, inl refl, same_passed p q is)
-    by false is = let r = held p joined (ap (λ b. b || list_any (passed_eq p) joined) (sym is) ∙ e) in (r.0, inr r.1, r.2)
+    by : (b : Bool) → passed_eq p q ≡ b → (list_any (passed_eq p) joined ≡ true → Held p joined) → Held p (q ∷ joined)
+    by true is rest = (q, inl refl, same_passed p q is)
+    by false is rest = let r = rest (ap (λ b. b || list_any (passed_eq p) joined) (sym is) ∙ e) in (r.0, inr r.1, r.2)
 
 among_kept : (b : Bool) (joined : List Passed) (p q : Passed) → IsAmong q (if b then joined else joined ++ p ∷ []) → IsAmong q joined ⊎ (p ≡ q)
 among_kept true joined p q among = inl among
@@ -239,5 +242,14 @@ few_joined k joined arguments pairs t are = λ q among s found others same r in_
 
 -- it was there
 pub was_there : (fresh there : Bool) → fresh ≡ not there → fresh ≡ false → there ≡ true
-was_there fresh true is no = refl
-was_there fresh false is no = absurd (true≢false (sym is ∙ no))
+was_there fresh true is old = refl
+was_there fresh false is old = absurd (true≢false (sym is ∙ old))
+
+-- ---- what is kept of a callee
+
+pub callee_there : (infos : List FunctionInfo) (callee place : ℕ) (info : FunctionInfo) → place < length infos → info ≡ get_or infos place info → place ≡ callee → slice_get (map summary_of infos) callee ≡ Some (summary_of info)
+callee_there infos callee place info lt at is =
+    ap (slice_get (map summary_of infos)) (sym is) ∙ (slice_get-map summary_of infos place ∙ ap (option_map summary_of) (slice_get-get_or infos place info lt ∙ ap Some (sym at)))
+
+pub callee_missing : (infos : List FunctionInfo) (callee place : ℕ) → length infos ≤ place → place ≡ callee → slice_get (map summary_of infos) callee ≡ None
+callee_missing infos callee place le is = ap (slice_get (map summary_of infos)) (sym is) ∙ (slice_get-map summary_of infos place ∙ ap (option_map summary_of) (slice_get_past infos place le))

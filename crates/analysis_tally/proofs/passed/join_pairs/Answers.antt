@@ -4,9 +4,9 @@ use Rattle.analysis_tally.specs.Tallies.{Paired, known, paired, pass_all_up}
 use Rattle.analysis_tally.proofs.PassedLemmas.{few_joined}
 use Rattle.analysis_tally.proofs.passed.join_pairs.Goals as goal
 
-pub returns-in-None-clause-joined : goal.returns-in-None-clause-joined
-returns-in-None-clause-joined c =
+pub returns-in_ok-pass_all_up-in-None-clause-joined : goal.returns-in_ok-pass_all_up-in-None-clause-joined
+returns-in_ok-pass_all_up-in-None-clause-joined c =
     let k = known c.args.context.now in
     let t = paired c.args.sampled.now in
-    let done : paired c.pass_all_up.new.self ≡ pass_all_up k.expressions c.args.arguments.now c.args.pairs.now.items t = c.in_ok-pass_all_up.ensures ∙ ap (λ ps. pass_all_up k.expressions c.args.arguments.now ps t) c.as_slice.ensures in
+    let done : paired c.pass_all_up.new.self ≡ pass_all_up k.expressions c.args.arguments.now c.args.pairs.now.items t = c.in_ok-pass_all_up-in-None.ensures ∙ ap (λ ps. pass_all_up k.expressions c.args.arguments.now ps t) c.as_slice.ensures in
     subst (λ (z : Paired). AreJoined k c.args.joined.now.keys z.pairs) (sym done) (few_joined k c.args.joined.now.keys c.args.arguments.now c.args.pairs.now.items t c.requires.joined)
