@@ -29,19 +29,19 @@ pub judge_entries-requires-clause-handles : goal.judge_entries-requires-clause-h
 judge_entries-requires-clause-handles c = c.requires.made.handles
 
 pub judge_entries-requires-clause-many : goal.judge_entries-requires-clause-many
-judge_entries-requires-clause-many c = ap length c.deref.ensures.value ∙ (sym (length-map c.in-Ok.functions.infos.items summary_of) ∙ c.in-Ok.ensures.many)
+judge_entries-requires-clause-many c = ap length c.deref.ensures.value ∙ (sym (length-map c.in-Ok-judge_all.functions.infos.items summary_of) ∙ c.in-Ok-judge_all.ensures.many)
 
 pub judge_entries-requires-clause-known : goal.judge_entries-requires-clause-known
-judge_entries-requires-clause-known c = subst (λ (xs : List FunctionInfo). AreSummaries (module_view c.args.«module».now) (map summary_of xs)) (sym c.deref.ensures.value) c.in-Ok.ensures.known
+judge_entries-requires-clause-known c = subst (λ (xs : List FunctionInfo). AreSummaries (module_view c.args.«module».now) (map summary_of xs)) (sym c.deref.ensures.value) c.in-Ok-judge_all.ensures.known
 
 pub judge_entries-requires-clause-before : goal.judge_entries-requires-clause-before
-judge_entries-requires-clause-before c = held_behind_functions c.args.own.flags (module_view c.args.«module».now) c.in-Ok.functions.held c.in-Ok.ensures.payloads
+judge_entries-requires-clause-before c = held_behind_functions c.args.own.flags (module_view c.args.«module».now) c.in-Ok-judge_all.functions.held c.in-Ok-judge_all.ensures.payloads
 
-pub returns-in-Err : goal.returns-in-Err
-returns-in-Err c =
+pub returns-in-Err-judge_all : goal.returns-in-Err-judge_all
+returns-in-Err-judge_all c =
     let s = settings_in c.args.own in
     let m = module_view c.args.«module».now in
-    told_by error.Function (IsFunctionFault s m) (IsFaultBehind s m) (λ x h. h) c.in-Err.refusal c.function_refusal.result c.function_refusal.ensures (refused_by s m c.in-Err.refusal c.in-Err.ensures)
+    told_by error.Function (IsFunctionFault s m) (IsFaultBehind s m) (λ x h. h) c.in-Err-judge_all.refusal c.function_refusal.result c.function_refusal.ensures (refused_by s m c.in-Err-judge_all.refusal c.in-Err-judge_all.ensures)
 
 pub returns-in-Ok-judge_entries : goal.returns-in-Ok-judge_entries
 returns-in-Ok-judge_entries c =
@@ -49,7 +49,7 @@ returns-in-Ok-judge_entries c =
     let m = module_view c.args.«module».now in
     let stages = λ (i : FunctionInfo). i.available_stages in
     let note = note_of stages (λ (i : FunctionInfo). i.dual_source_blending) in
-    let functions = c.in-Ok.functions.infos.items in
+    let functions = c.in-Ok-judge_all.functions.infos.items in
     let entries = c.in-Ok-judge_entries.entries in
     let judged = subst (λ (xs : List FunctionInfo). AreEntriesJudged reading_of s m (map summary_of xs) (map stages xs) (length m.entries) (map summary_of entries.infos.items) (map note entries.infos.items) entries.held) c.deref.ensures.value c.in-Ok-judge_entries.ensures in
     let with = c.with_entry_points.ensures in
@@ -57,13 +57,13 @@ returns-in-Ok-judge_entries c =
     let given = c.into_info.ensures in
     let info = c.with_entry_points.result in
     record {
-      functions = subst (λ v. AreKept s m (map summary_of v.items)) (sym (with.functions ∙ own.functions)) (kept s m (map summary_of functions) (map stages functions) c.in-Ok.functions.held c.in-Ok.ensures);
+      functions = subst (λ v. AreKept s m (map summary_of v.items)) (sym (with.functions ∙ own.functions)) (kept s m (map summary_of functions) (map stages functions) c.in-Ok-judge_all.functions.held c.in-Ok-judge_all.ensures);
       entries = subst (λ v. AreEntriesKept s m (map summary_of v.items)) (sym with.entry_points)
-          (entries_kept s m c.requires.made.handles (map summary_of functions) (map stages functions) c.in-Ok.functions.held c.in-Ok.ensures (map summary_of entries.infos.items) (map note entries.infos.items) entries.held judged);
+          (entries_kept s m c.requires.made.handles (map summary_of functions) (map stages functions) c.in-Ok-judge_all.functions.held c.in-Ok-judge_all.ensures (map summary_of entries.infos.items) (map note entries.infos.items) entries.held judged);
       noted = subst (λ v. AreNoted s m v.items info.entry_points.items) (sym (with.functions ∙ own.functions)) (subst (λ v. AreNoted s m functions v.items) (sym with.entry_points) (record {
-        run = run_so s m c.requires.made.handles (map summary_of functions) (map stages functions) c.in-Ok.functions.held c.in-Ok.ensures;
+        run = run_so s m c.requires.made.handles (map summary_of functions) (map stages functions) c.in-Ok-judge_all.functions.held c.in-Ok-judge_all.ensures;
         counted = sym (length-map entries.infos.items summary_of) ∙ judged.many;
-        entries_noted = entries_noted s m c.requires.made.handles (map summary_of functions) (map stages functions) c.in-Ok.functions.held c.in-Ok.ensures (map summary_of entries.infos.items) (map note entries.infos.items) entries.held judged;
+        entries_noted = entries_noted s m c.requires.made.handles (map summary_of functions) (map stages functions) c.in-Ok-judge_all.functions.held c.in-Ok-judge_all.ensures (map summary_of entries.infos.items) (map note entries.infos.items) entries.held judged;
       }));
       types = with.types ∙ (own.types ∙ ap (λ (i : ModuleInfo). i.types) given);
       layouts = with.layouts ∙ (own.layouts ∙ ap (λ (i : ModuleInfo). i.layouter) given);
@@ -75,7 +75,7 @@ returns-in-Err-judge_entries c =
     let s = settings_in c.args.own in
     let m = module_view c.args.«module».now in
     let stages = λ (i : FunctionInfo). i.available_stages in
-    let functions = c.in-Ok.functions.infos.items in
+    let functions = c.in-Ok-judge_all.functions.infos.items in
     let refused = subst (λ (xs : List FunctionInfo). IsEntryRefusal reading_of faults_of s m (map summary_of xs) (map stages xs) c.in-Err-judge_entries.refusal) c.deref.ensures.value c.in-Err-judge_entries.ensures in
-    told_by error.EntryPoint (IsEntryFault s m) (IsFaultBehind s m) (λ x h. ((kept s m (map summary_of functions) (map stages functions) c.in-Ok.functions.held c.in-Ok.ensures).accepted, h)) c.in-Err-judge_entries.refusal c.entry_refusal.result c.entry_refusal.ensures
-    (entry_refused s m c.requires.made.handles (map summary_of functions) (map stages functions) c.in-Ok.functions.held c.in-Ok.ensures c.in-Err-judge_entries.refusal refused)
+    told_by error.EntryPoint (IsEntryFault s m) (IsFaultBehind s m) (λ x h. ((kept s m (map summary_of functions) (map stages functions) c.in-Ok-judge_all.functions.held c.in-Ok-judge_all.ensures).accepted, h)) c.in-Err-judge_entries.refusal c.entry_refusal.result c.entry_refusal.ensures
+    (entry_refused s m c.requires.made.handles (map summary_of functions) (map stages functions) c.in-Ok-judge_all.functions.held c.in-Ok-judge_all.ensures c.in-Err-judge_entries.refusal refused)
