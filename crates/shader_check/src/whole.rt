@@ -173,11 +173,12 @@ fn judge_behind(
         Ok(descriptors) => descriptors,
         Err(error) => return Err(Refusal::Memory(error)),
     };
-    let functions = match judge_all(&own, module, &descriptors) {
+    let marks = descriptors.as_slice();
+    let functions = match judge_all(&own, module, marks) {
         Ok(functions) => functions,
         Err(refusal) => return Err(function_refusal(alloc, refusal)),
     };
-    match judge_entries(&own, module, &functions.infos, functions.held, &descriptors) {
+    match judge_entries(&own, module, &functions.infos, functions.held, marks) {
         Ok(entries) => {
             let info = own.lower.into_info().with_functions(functions.infos);
             Ok(info.with_entry_points(entries.infos))
