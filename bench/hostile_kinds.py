@@ -395,11 +395,21 @@ def images_and_a_sampler(count):
     return [resource([0, at], 0) for at in range(count)] + [resource([1, 0], 1)]
 
 
-@kind
+def chain_over(images, functions):
+    return document(types=[IMAGE, SAMPLER, VEC2], globals=images_and_a_sampler(images),
+                    functions=[pairs_of_globals(images)] + [function(body=[call(at)]) for at in range(functions)])
+
+
+@held
 def chain_over_pairs(n):
-    """A chain of functions over one that samples many images."""
-    return document(types=[IMAGE, SAMPLER, VEC2], globals=images_and_a_sampler(n),
-                    functions=[pairs_of_globals(n)] + [function(body=[call(at)]) for at in range(8 * n)])
+    """A chain of functions over one that samples many images: each function tells its use of each image."""
+    return chain_over(n, 8 * n)
+
+
+@kind
+def chain_over_forty_pairs(n):
+    """A chain of functions over one that samples forty images."""
+    return chain_over(40, n)
 
 
 @kind
