@@ -148,22 +148,27 @@ impl Growing for Inserted {
     }
 }
 
-// It begins with 2000.
+// It begins with 2.
 #[derive(Drop)]
 struct Members(HandleSet<Tag>);
 
+// A handle in a word of its own.
+fn apart(value: u32) -> Handle<Tag> {
+    Handle::at(64 * value.min(MOST_CALLS) as usize + 64)
+}
+
 impl Growing for Members {
     fn grow(&mut self, value: u32) -> Result<(), AllocError> {
-        self.0.insert(Handle::at(value.min(1000) as usize))?;
+        self.0.insert(apart(value))?;
         Ok(())
     }
 
     fn answers(&mut self) -> bool {
-        self.0.insert(Handle::at(2000)) == Ok(false) && self.0.remove(Handle::at(2000))
+        self.0.insert(Handle::at(2)) == Ok(false) && self.0.remove(Handle::at(2))
     }
 
     fn holds(&mut self, more: u32) -> bool {
-        self.0.len() == more as usize && self.0.iter().count() == more as usize
+        self.0.len() == more as usize && !self.0.contains(apart(more))
     }
 }
 
@@ -175,7 +180,7 @@ fn unique(alloc: Global) -> Result<UniqueArena<u32>, AllocError> {
 
 fn set_of_one(alloc: Global) -> Result<HandleSet<Tag>, AllocError> {
     let mut set = HandleSet::new(alloc);
-    set.insert(Handle::at(2000))?;
+    set.insert(Handle::at(2))?;
     Ok(set)
 }
 
