@@ -25,7 +25,7 @@ import hostile_kinds
 TOP = Path(__file__).resolve().parent.parent
 CHECK = TOP / "crates/checker/out/checker"
 READER = TOP / "crates/test_kinds/out/test_kinds"
-WHOLE = (1 << 24) - (1 << 16)
+WHOLE = (1 << 24) - (1 << 19)
 MOST_GROWTH = 4.6
 MOST_TIMES = 10
 MOST_MEMORY = 64

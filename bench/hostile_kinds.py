@@ -112,8 +112,8 @@ def wide_struct(n):
 
 @kind
 def wide_struct_of_wide_structs(n):
-    """Buffers of both kinds of a struct of structs of a thousand members."""
-    return document(types=[U32, struct([0] * 1000), struct([1] * n, 4000)],
+    """Buffers of both kinds of a struct of structs of a hundred members."""
+    return document(types=[U32, struct([0] * 100), struct([1] * n, 400)],
                     globals=[buffer(0, 2), buffer(1, 2, uniform=True)])
 
 
