@@ -26,8 +26,6 @@ mod returns;
 #[cfg(test)]
 mod same;
 #[cfg(test)]
-mod validators;
-#[cfg(test)]
 mod walks;
 
 fn main() {}
