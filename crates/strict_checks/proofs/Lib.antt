@@ -1,4 +1,5 @@
 pub mod Errors
+pub mod LiveLemmas
 pub mod Places
 pub mod Ranges
 pub mod Refuted

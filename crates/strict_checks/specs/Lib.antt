@@ -1,4 +1,5 @@
 pub mod Faults
 pub mod Laws
+pub mod Live
 pub mod Tables
 pub mod Walked

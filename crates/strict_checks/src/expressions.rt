@@ -1,30 +1,41 @@
 //! The operands of expressions.
 
-ghost use Rattle.std.specs.Prelude.{◌≡◌, slice_get};
+ghost use Rattle.std.specs.Prelude.{◌≡◌, ◌++◌, OnOk, slice_get};
 ghost use Rattle.ir_types.specs.ExpressionPlain.{expression_view};
 ghost use Rattle.ir_items.specs.View.{function_view};
-ghost use Rattle.body_checks.specs.Carried.{known, first_lacking};
-ghost use Rattle.spec_handles.specs.Expressions.{expression_operands, level_first, level_second, query_level};
+ghost use Rattle.spec_handles.specs.Expressions.{expression_operands, given, level_first, level_second, query_level};
 ghost use Rattle.strict_checks.specs.Tables.{operands_given};
 
-use body_checks::{ExpressionList, first_unknown, is_known};
 use ir_arena::handle::Handle;
 use ir_items::{Expression, Function, ImageQuery, SampleLevel, key};
+use std::alloc::AllocError;
 
-// The first of these that is not in scope.
-fn first_of(
-    function: &Function,
-    sure: &ExpressionList,
+// Adds these to a list.
+fn add_all(
+    list: &mut Vec<Handle<key::Expression>>,
     handles: &[Handle<key::Expression>],
-) -> Option<Handle<key::Expression>>
-    ensures { result ≡ first_lacking (known (function_view function.now) sure.now) handles.now }
+) -> Result<(), AllocError>
+    ensures { OnOk result (list.new.items ≡ list.old.items ++ handles.now) }
 {
     for handle in handles {
-        if !is_known(function, sure, *handle) {
-            return Some(*handle);
+        list.push(*handle)?;
+    }
+    Ok(())
+}
+
+// Adds those of these that are there.
+fn add_slots(
+    list: &mut Vec<Handle<key::Expression>>,
+    slots: &[Option<Handle<key::Expression>>],
+) -> Result<(), AllocError>
+    ensures { OnOk result (list.new.items ≡ list.old.items ++ given slots.now) }
+{
+    for slot in slots {
+        if let Some(handle) = slot {
+            list.push(*handle)?;
         }
     }
-    None
+    Ok(())
 }
 
 fn level_first(level: SampleLevel) -> Option<Handle<key::Expression>>
@@ -57,13 +68,12 @@ fn query_level(query: ImageQuery) -> Option<Handle<key::Expression>>
     }
 }
 
-// The first operand of an expression that is not in scope.
-fn unknown_in(
-    function: &Function,
-    sure: &ExpressionList,
+// Adds the operands of an expression.
+fn add_operands(
+    list: &mut Vec<Handle<key::Expression>>,
     expression: &Expression,
-) -> Option<Handle<key::Expression>>
-    ensures { result ≡ first_lacking (known (function_view function.now) sure.now) (expression_operands (expression_view expression.now)) }
+) -> Result<(), AllocError>
+    ensures { OnOk result (list.new.items ≡ list.old.items ++ expression_operands (expression_view expression.now)) }
 {
     match expression {
         Expression::Literal(_)
@@ -78,13 +88,13 @@ fn unknown_in(
         | Expression::WorkGroupUniformLoadResult { .. }
         | Expression::RayQueryProceedResult
         | Expression::SubgroupBallotResult
-        | Expression::SubgroupOperationResult { .. } => None,
-        Expression::Compose { components, .. } => first_of(function, sure, components.as_slice()),
-        Expression::Access { base, index } => first_of(function, sure, &[*base, *index]),
-        Expression::AccessIndex { base, .. } => first_of(function, sure, &[*base]),
-        Expression::Splat { value, .. } => first_of(function, sure, &[*value]),
-        Expression::Swizzle { vector, .. } => first_of(function, sure, &[*vector]),
-        Expression::Load { pointer } => first_of(function, sure, &[*pointer]),
+        | Expression::SubgroupOperationResult { .. } => Ok(()),
+        Expression::Compose { components, .. } => add_all(list, components.as_slice()),
+        Expression::Access { base, index } => add_all(list, &[*base, *index]),
+        Expression::AccessIndex { base, .. } => add_all(list, &[*base]),
+        Expression::Splat { value, .. } => add_all(list, &[*value]),
+        Expression::Swizzle { vector, .. } => add_all(list, &[*vector]),
+        Expression::Load { pointer } => add_all(list, &[*pointer]),
         Expression::ImageSample {
             image,
             sampler,
@@ -97,9 +107,8 @@ fn unknown_in(
         } => {
             let first = level_first(*level);
             let second = level_second(*level);
-            first_unknown(
-                function,
-                sure,
+            add_slots(
+                list,
                 &[
                     Some(*image),
                     Some(*sampler),
@@ -118,9 +127,8 @@ fn unknown_in(
             array_index,
             sample,
             level,
-        } => first_unknown(
-            function,
-            sure,
+        } => add_slots(
+            list,
             &[
                 Some(*image),
                 Some(*coordinate),
@@ -131,48 +139,45 @@ fn unknown_in(
         ),
         Expression::ImageQuery { image, query } => {
             let level = query_level(*query);
-            first_unknown(function, sure, &[Some(*image), level])
+            add_slots(list, &[Some(*image), level])
         }
         Expression::Unary { expr, .. }
         | Expression::Derivative { expr, .. }
-        | Expression::As { expr, .. } => first_of(function, sure, &[*expr]),
-        Expression::Binary { left, right, .. } => first_of(function, sure, &[*left, *right]),
+        | Expression::As { expr, .. } => add_all(list, &[*expr]),
+        Expression::Binary { left, right, .. } => add_all(list, &[*left, *right]),
         Expression::Select {
             condition,
             accept,
             reject,
-        } => first_of(function, sure, &[*condition, *accept, *reject]),
-        Expression::Relational { argument, .. } => first_of(function, sure, &[*argument]),
+        } => add_all(list, &[*condition, *accept, *reject]),
+        Expression::Relational { argument, .. } => add_all(list, &[*argument]),
         Expression::Math {
             arg,
             arg1,
             arg2,
             arg3,
             ..
-        } => first_unknown(function, sure, &[Some(*arg), *arg1, *arg2, *arg3]),
-        Expression::ArrayLength(array) => first_of(function, sure, &[*array]),
+        } => add_slots(list, &[Some(*arg), *arg1, *arg2, *arg3]),
+        Expression::ArrayLength(array) => add_all(list, &[*array]),
         Expression::RayQueryVertexPositions { query, .. }
-        | Expression::RayQueryGetIntersection { query, .. } => first_of(function, sure, &[*query]),
-        Expression::CooperativeLoad { block, .. } => first_of(
-            function,
-            sure,
-            &[block.pointer, block.stride],
-        ),
-        Expression::CooperativeMultiplyAdd { a, b, c } => first_of(function, sure, &[*a, *b, *c]),
+        | Expression::RayQueryGetIntersection { query, .. } => add_all(list, &[*query]),
+        Expression::CooperativeLoad { block, .. } => add_all(list, &[block.pointer, block.stride]),
+        Expression::CooperativeMultiplyAdd { a, b, c } => add_all(list, &[*a, *b, *c]),
     }
 }
 
-/// The first operand of the expression at a handle that is not in scope.
+/// Puts the operands of the expression at a handle into a list, in order, in place of what is there. The error is out of memory.
 #[tactic(auto, using(ir_references::proofs::Entries::entries))]
-pub fn unknown_operand_of(
+pub fn list_operands(
+    list: &mut Vec<Handle<key::Expression>>,
     function: &Function,
-    sure: &ExpressionList,
     handle: Handle<key::Expression>,
-) -> Option<Handle<key::Expression>>
-    ensures { result ≡ first_lacking (known (function_view function.now) sure.now) (operands_given (slice_get (function_view function.now).expressions handle)) }
+) -> Result<(), AllocError>
+    ensures { OnOk result (list.new.items ≡ operands_given (slice_get (function_view function.now).expressions handle)) }
 {
+    list.clear();
     match function.expressions.try_get(handle) {
-        Ok(expression) => unknown_in(function, sure, expression),
-        Err(_) => None,
+        Ok(expression) => add_operands(list, expression),
+        Err(_) => Ok(()),
     }
 }

@@ -9,6 +9,7 @@ ghost use Rattle.strict_checks.specs.Faults.{IsStrictFault, IsStrictRefusal};
 ghost use Rattle.strict_checks.specs.Walked.{IfFault};
 
 use crate::error::StrictError;
+use crate::pairs::begin;
 use crate::walk::check_block;
 use body_checks::ExpressionList;
 use error_functions::{CallError, ExpressionError, FunctionError};
@@ -53,8 +54,9 @@ pub fn check_strict(alloc: Global, function: &Function) -> Result<(), Refusal<Fu
     ensures strict { OnOk result (StrictOK (function_view function.now)) }
     ensures fault { ScopeOK (function_view function.now) → IfErr result (IsStrictRefusal (function_view function.now)) }
 {
+    let mut live = begin(alloc, function)?;
     let mut sure = ExpressionList::new(alloc, function.expressions.len())?;
-    match check_block(function, &mut sure, &function.body) {
+    match check_block(function, &mut sure, &mut live, &function.body) {
         Ok(_) => Ok(()),
         Err(error) => Err(refused(alloc, error)),
     }

@@ -9,7 +9,10 @@ mod expressions;
 mod function;
 mod introducing;
 pub mod laws;
+mod live;
+mod long;
 mod operands;
+mod pairs;
 mod statement;
 mod walk;
 

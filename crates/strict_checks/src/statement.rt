@@ -8,11 +8,13 @@ ghost use Rattle.body_checks.specs.Carried.{IsArgumentError, Known};
 ghost use Rattle.spec_handles.specs.Statements.{statement_callee};
 ghost use Rattle.spec_statements.specs.Strict.{statement_needed, needed_at};
 ghost use Rattle.spec_statements.specs.Tables.{introduced};
+ghost use Rattle.strict_checks.specs.Live.{Follows};
 ghost use Rattle.strict_checks.specs.Walked.{IfFault, IsFaultHere, Meets};
 
 use crate::answers::check_answer;
 use crate::error::StrictError;
 use crate::introducing::introduce;
+use crate::live::LiveOperands;
 use crate::operands::unknown_operand;
 use body_checks::{ExpressionList, is_known, unknown_place};
 use ir_arena::handle::Handle;
@@ -130,13 +132,16 @@ pub fn check_condition(
 pub fn check_own(
     function: &Function,
     sure: &mut ExpressionList,
+    live: &mut LiveOperands,
     statement: &Statement,
 ) -> Result<(), StrictError>
+    requires { Follows (function_view function.now) live.old sure.old }
     ensures meets { OnOk result (Meets (function_view function.now) (statement_view statement.now) sure.old) }
     ensures scope { OnOk result (sure.new ≡ sure.old ++ introduced (statement_view statement.now)) }
+    ensures live { OnOk result (Follows (function_view function.now) live.new sure.new) }
     ensures fault { IfErr result (λ r. IfFault r (IsFaultHere (function_view function.now) (spot (statement_view statement.now)) sure.old)) }
 {
     check_needed(function, sure, statement)?;
     check_answer(function, statement)?;
-    introduce(function, sure, statement)
+    introduce(function, sure, live, statement)
 }

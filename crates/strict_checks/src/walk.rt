@@ -2,23 +2,27 @@
 
 ghost use Rattle.std.specs.Prelude.{◌≡◌, ◌++◌, ◌||◌, if◌then◌else◌, IfErr, IfOk, OnOk, None, Some, map};
 ghost use Rattle.ir_blocks.specs.View.{statement_view, block_view, case_view, cases_of};
+ghost use Rattle.ir_items.specs.Plain.{PlainFunction};
 ghost use Rattle.ir_items.specs.View.{function_view};
 ghost use Rattle.spec_statements.specs.SureLevel.{holds_continue, holds_continue_in, holds_continue_in_cases};
 ghost use Rattle.spec_statements.specs.Tables.{introduced};
 ghost use Rattle.spec_statements.specs.Visible.{top_level};
+ghost use Rattle.strict_checks.specs.Live.{Follows};
 ghost use Rattle.strict_checks.specs.Walked.{IfFault, AllMeet, MeetWithin, MeetInCases, FaultIn, FaultWithin, FaultInCases, left_in, first_left, cut_to};
 
 use crate::error::StrictError;
+use crate::live::{LiveOperands, cut};
 use crate::statement::{check_condition, check_needed, check_own};
 use body_checks::ExpressionList;
 use ir_items::{Block, Function, Statement, SwitchCase};
 
 // Where more than what is left has come into scope, lets it go.
-fn cut_behind(sure: &mut ExpressionList, left: Option<usize>)
-    ensures { sure.new ≡ cut_to left sure.old }
+fn cut_behind(live: &mut LiveOperands, sure: &mut ExpressionList, left: Option<usize>)
+    ensures cut { sure.new ≡ cut_to left sure.old }
+    ensures live { (f : PlainFunction) → Follows f live.old sure.old → Follows f live.new sure.new }
 {
     if let Some(count) = left {
-        sure.cut(count);
+        cut(live, sure, count);
     }
 }
 
@@ -45,16 +49,19 @@ fn either(first: bool, second: bool) -> bool
 pub fn check_block(
     function: &Function,
     sure: &mut ExpressionList,
+    live: &mut LiveOperands,
     block: &Block,
 ) -> Result<Option<usize>, StrictError>
+    requires { Follows (function_view function.now) live.old sure.old }
     ensures meet { OnOk result (AllMeet (function_view function.now) sure.old (block_view block.now)) }
     ensures scope { OnOk result (sure.new ≡ sure.old ++ top_level (block_view block.now)) }
     ensures left { IfOk result (λ left. left ≡ left_in sure.old (block_view block.now)) }
+    ensures live { OnOk result (Follows (function_view function.now) live.new sure.new) }
     ensures fault { IfErr result (λ r. IfFault r (λ e. FaultIn (function_view function.now) e sure.old (block_view block.now))) }
 {
     let mut left = None;
     for statement in block.as_slice() {
-        let continues = check_statement(function, sure, statement)?;
+        let continues = check_statement(function, sure, live, statement)?;
         left = left_behind(left, continues, sure.len());
     }
     Ok(left)
@@ -65,16 +72,19 @@ pub fn check_block(
 fn check_inner(
     function: &Function,
     sure: &mut ExpressionList,
+    live: &mut LiveOperands,
     block: &Block,
 ) -> Result<bool, StrictError>
+    requires { Follows (function_view function.now) live.old sure.old }
     ensures meet { OnOk result (AllMeet (function_view function.now) sure.old (block_view block.now)) }
     ensures scope { OnOk result (sure.new ≡ sure.old) }
     ensures continues { IfOk result (λ b. b ≡ holds_continue_in (block_view block.now)) }
+    ensures live { OnOk result (Follows (function_view function.now) live.new sure.new) }
     ensures fault { IfErr result (λ r. IfFault r (λ e. FaultIn (function_view function.now) e sure.old (block_view block.now))) }
 {
     let count = sure.len();
-    let left = check_block(function, sure, block)?;
-    sure.cut(count);
+    let left = check_block(function, sure, live, block)?;
+    cut(live, sure, count);
     Ok(left.is_some())
 }
 
@@ -83,16 +93,19 @@ fn check_inner(
 fn check_cases(
     function: &Function,
     sure: &mut ExpressionList,
+    live: &mut LiveOperands,
     cases: &[SwitchCase],
 ) -> Result<bool, StrictError>
+    requires { Follows (function_view function.now) live.old sure.old }
     ensures meet { OnOk result (MeetInCases (function_view function.now) sure.old (cases_of (map case_view cases.now))) }
     ensures scope { OnOk result (sure.new ≡ sure.old) }
     ensures continues { IfOk result (λ b. b ≡ holds_continue_in_cases (cases_of (map case_view cases.now))) }
+    ensures live { OnOk result (Follows (function_view function.now) live.new sure.new) }
     ensures fault { IfErr result (λ r. IfFault r (λ e. FaultInCases (function_view function.now) e sure.old (cases_of (map case_view cases.now)))) }
 {
     let mut continues = false;
     for case in cases {
-        continues = either(continues, check_inner(function, sure, &case.body)?);
+        continues = either(continues, check_inner(function, sure, live, &case.body)?);
     }
     Ok(continues)
 }
@@ -102,24 +115,27 @@ fn check_cases(
 fn check_statement(
     function: &Function,
     sure: &mut ExpressionList,
+    live: &mut LiveOperands,
     statement: &Statement,
 ) -> Result<bool, StrictError>
+    requires { Follows (function_view function.now) live.old sure.old }
     ensures meet { OnOk result (MeetWithin (function_view function.now) sure.old (statement_view statement.now)) }
     ensures scope { OnOk result (sure.new ≡ sure.old ++ introduced (statement_view statement.now)) }
     ensures continues { IfOk result (λ b. b ≡ holds_continue (statement_view statement.now)) }
+    ensures live { OnOk result (Follows (function_view function.now) live.new sure.new) }
     ensures fault { IfErr result (λ r. IfFault r (λ e. FaultWithin (function_view function.now) e sure.old (statement_view statement.now))) }
 {
     match statement {
-        Statement::Block(block) => check_inner(function, sure, block),
+        Statement::Block(block) => check_inner(function, sure, live, block),
         Statement::If { accept, reject, .. } => {
             check_needed(function, sure, statement)?;
-            let accepting = check_inner(function, sure, accept)?;
-            let rejecting = check_inner(function, sure, reject)?;
+            let accepting = check_inner(function, sure, live, accept)?;
+            let rejecting = check_inner(function, sure, live, reject)?;
             Ok(either(accepting, rejecting))
         }
         Statement::Switch { cases, .. } => {
             check_needed(function, sure, statement)?;
-            check_cases(function, sure, cases)
+            check_cases(function, sure, live, cases)
         }
         Statement::Loop {
             body,
@@ -127,15 +143,15 @@ fn check_statement(
             break_if,
         } => {
             let count = sure.len();
-            let left = check_block(function, sure, body)?;
-            cut_behind(sure, left);
-            check_block(function, sure, continuing)?;
+            let left = check_block(function, sure, live, body)?;
+            cut_behind(live, sure, left);
+            check_block(function, sure, live, continuing)?;
             check_condition(function, sure, *break_if)?;
-            sure.cut(count);
+            cut(live, sure, count);
             Ok(false)
         }
         Statement::Continue => {
-            check_own(function, sure, statement)?;
+            check_own(function, sure, live, statement)?;
             Ok(true)
         }
         Statement::Emit(_)
@@ -156,7 +172,7 @@ fn check_statement(
         | Statement::SubgroupGather { .. }
         | Statement::CooperativeStore { .. }
         | Statement::RayPipelineFunction(_) => {
-            check_own(function, sure, statement)?;
+            check_own(function, sure, live, statement)?;
             Ok(false)
         }
     }

@@ -1,8 +1,9 @@
-use Rattle.std.proofs.Common.{subst}
+use Rattle.std.proofs.Common.{subst, sym}
 use Rattle.ir_items.specs.View.{function_view}
 use Rattle.strict_checks.proofs.Errors.{if_fault_then}
 use Rattle.strict_checks.proofs.Places.{strict_met, told_in_body}
 use Rattle.strict_checks.specs.Faults.{IsStrictFault}
+use Rattle.strict_checks.specs.Live.{Follows}
 use Rattle.strict_checks.specs.Walked.{AllMeet, FaultIn}
 use Rattle.strict_checks.proofs.function.check_strict.Goals as goal
 
@@ -14,3 +15,6 @@ pub returns-clause-fault : goal.returns-clause-fault
 returns-clause-fault c = λ scope.
     let f = function_view c.args.function.now in
     c.refused.ensures f (if_fault_then c.in-Err.error (λ e. FaultIn f e _ f.body) (IsStrictFault f) (λ e. told_in_body f scope e _ c.in_ok-sure.ensures) c.in-Err.ensures.fault)
+
+pub check_block-requires : goal.check_block-requires
+check_block-requires c = subst (Follows (function_view c.args.function.now) c.in_ok-live.live) (sym c.in_ok-sure.ensures) c.in_ok-live.ensures

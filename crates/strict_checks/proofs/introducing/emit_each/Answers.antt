@@ -5,7 +5,7 @@ use Rattle.ir_items.specs.Plain.{PlainFunction}
 use Rattle.strict_checks.proofs.Errors.{if_fault_then}
 use Rattle.strict_checks.proofs.Ranges.{only_again, range_fault}
 use Rattle.strict_checks.specs.Walked.{IfFault, IsFaultOfNew}
-use Rattle.strict_checks.proofs.introducing.emit_range.Goals as goal
+use Rattle.strict_checks.proofs.introducing.emit_each.Goals as goal
 
 pub returns-in_err-add-clause-fault : goal.returns-in_err-add-clause-fault
 returns-in_err-add-clause-fault c =

@@ -1,7 +1,7 @@
 use Rattle.std.proofs.Common.{◌≡◌, drop}
 use Rattle.ir_items.specs.View.{function_view}
 use Rattle.body_checks.specs.Carried.{known, first_lacking}
-use Rattle.strict_checks.proofs.expressions.first_of.Given as goal
+use Rattle.strict_checks.proofs.introducing.first_of.Given as goal
 
 -- the first of the rest is the first of all
 abbrev pub invariant-loop-handle : goal.invariant-loop-handle

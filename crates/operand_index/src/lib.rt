@@ -1,0 +1,6 @@
+//! Which of the numbers that are needed by others are there.
+#![tactic(auto)]
+
+pub mod index;
+pub mod pairs;
+pub mod runs;

@@ -1,0 +1,80 @@
+//! How much a body emits.
+
+use ir_arena::range::Range;
+use ir_items::{Block, Function, Statement, SwitchCase, key};
+
+// How often an expression may be emitted before the operands of all of them are put into an index.
+const OFTEN: usize = 8;
+
+// How many expressions there are in a range.
+fn range_len(range: &Range<key::Expression>) -> usize {
+    let bounds = range.index_range();
+    bounds.end.saturating_sub(bounds.start) as usize
+}
+
+// How many expressions the cases of a switch emit.
+#[cycle(emitted)]
+fn emitted_in_cases(cases: &[SwitchCase]) -> usize {
+    let mut total: usize = 0;
+    for case in cases {
+        total = total.saturating_add(emitted_in(&case.body));
+    }
+    total
+}
+
+// How many a statement emits, with what stands inside it.
+#[cycle(emitted)]
+fn emitted_at(statement: &Statement) -> usize {
+    match statement {
+        Statement::Emit(range) => range_len(range),
+        Statement::Block(block) => emitted_in(block),
+        Statement::If { accept, reject, .. } => {
+            let first = emitted_in(accept);
+            first.saturating_add(emitted_in(reject))
+        }
+        Statement::Switch { cases, .. } => emitted_in_cases(cases),
+        Statement::Loop {
+            body,
+            continuing,
+            ..
+        } => {
+            let first = emitted_in(body);
+            first.saturating_add(emitted_in(continuing))
+        }
+        Statement::Break
+        | Statement::Continue
+        | Statement::Return { .. }
+        | Statement::Kill
+        | Statement::Call { .. }
+        | Statement::ControlBarrier(_)
+        | Statement::MemoryBarrier(_)
+        | Statement::Store { .. }
+        | Statement::ImageStore { .. }
+        | Statement::Atomic { .. }
+        | Statement::ImageAtomic { .. }
+        | Statement::WorkGroupUniformLoad { .. }
+        | Statement::RayQuery { .. }
+        | Statement::SubgroupBallot { .. }
+        | Statement::SubgroupCollectiveOperation { .. }
+        | Statement::SubgroupGather { .. }
+        | Statement::CooperativeStore { .. }
+        | Statement::RayPipelineFunction(_) => 0,
+    }
+}
+
+// How many the statements of a block emit.
+#[cycle(emitted)]
+fn emitted_in(block: &Block) -> usize {
+    let mut total: usize = 0;
+    for statement in block.as_slice() {
+        total = total.saturating_add(emitted_at(statement));
+    }
+    total
+}
+
+/// Whether a function's body emits more than the function has expressions, many times over. Nothing is asked of the answer: it
+/// only says which way is the shorter one.
+pub fn emits_often(function: &Function) -> bool {
+    let emitted = emitted_in(&function.body);
+    emitted / OFTEN > function.expressions.len()
+}
