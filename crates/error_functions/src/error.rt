@@ -125,7 +125,7 @@ pub enum FunctionError {
     InvalidAccelerationStructure(Handle<key::Expression>),
     /// The ray query gives the vertices of a hit, and the acceleration structure doesn't: the structure, and the query.
     MissingAccelerationStructureVertexReturn(Handle<key::Expression>, Handle<key::Expression>),
-    /// The ray query doesn't give the vertices of a hit.
+    /// The ray query doesn't give the vertices of a hit. No call answers it.
     MissingRayQueryVertexReturn(Handle<key::Expression>),
     /// What should describe a ray doesn't.
     InvalidRayDescriptor(Handle<key::Expression>),

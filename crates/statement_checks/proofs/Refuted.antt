@@ -1,5 +1,5 @@
 -- A statement with a fault does not meet its rule.
-use Rattle.std.proofs.Common.{◌≡◌, ℕ, List, [], ◌∷◌, Option, Some, All, IfSome, inl, inr, slice_get, refl, sym, subst, ◌∙◌}
+use Rattle.std.proofs.Common.{◌≡◌, ℕ, List, [], ◌∷◌, Option, Some, None, All, IfSome, inl, inr, slice_get, refl, sym, subst, ◌∙◌}
 use Rattle.std.proofs.lemmas.List.Elements.{All-head, All-tail}
 use Rattle.error_functions.specs.declared.error.FunctionError.{FunctionError}
 use Rattle.error_functions.specs.declared.error.FunctionError.TheVariants as error
@@ -11,19 +11,21 @@ use Rattle.ir_types.specs.declared.expressions.CooperativeData.{CooperativeData}
 use Rattle.ir_arena.specs.Handles.{handles_between}
 use Rattle.ir_flags.specs.declared.memory.Barrier.{Barrier}
 use Rattle.ir_items.specs.Plain.{PlainFunction}
+use Rattle.ir_kinds.specs.declared.scalars.Scalar.{Scalar}
 use Rattle.overload_tables.specs.Laws.{IsAmong}
 use Rattle.spec_statements.specs.Barriers.{BarrierOK}
 use Rattle.spec_statements.specs.BlockContext.{BlockContext, form_at}
 use Rattle.spec_statements.specs.Calls.{CallOK, CallResultOK}
 use Rattle.spec_statements.specs.Conditions.{ConditionOK}
-use Rattle.spec_statements.specs.CooperativeStores.{CooperativeStoreOK}
+use Rattle.spec_expressions.specs.CooperativeMatrices.{pointed_scalar}
+use Rattle.spec_statements.specs.CooperativeStores.{CooperativeStoreOK, matrix_scalar}
 use Rattle.spec_statements.specs.Emits.{EmitOK, IsEmittable}
 use Rattle.spec_statements.specs.Returns.{ReturnOK}
 use Rattle.spec_statements.specs.Stores.{StoreOK, BeginsAt, itself, through, IsVariableAt}
 use Rattle.statement_checks.specs.Barriers.{IsBarrierFault}
 use Rattle.statement_checks.specs.Calls.{IsCallError, IsCallFault}
 use Rattle.statement_checks.specs.Conditions.{IsConditionFault}
-use Rattle.statement_checks.specs.CooperativeStores.{IsCooperativeFault}
+use Rattle.statement_checks.specs.CooperativeStores.{IsCooperativeFault, IsOtherScalar}
 use Rattle.statement_checks.specs.Emits.{IsEmitFault}
 use Rattle.statement_checks.specs.Laws.{FaultsRefute}
 use Rattle.statement_checks.specs.Returns.{IsReturnFault}
@@ -40,9 +42,13 @@ condition_refuted : (c : BlockContext) (h : ℕ) (e : FunctionError) → IsCondi
 condition_refuted c h (error.InvalidIfType x) fault ok = fault.1 ok
 condition_refuted c h _ fault ok = fault
 
+no_other : (wanted found : Option Scalar) (s : Scalar) → wanted ≡ Some s → found ≡ Some s → IsOtherScalar wanted found → ⊥
+no_other (Some t) found s is found_is other = other (found_is ∙ sym is)
+no_other None found s is found_is other = other
+
 cooperative_refuted : (c : BlockContext) (h : ℕ) (place : CooperativeData) (e : FunctionError) → IsCooperativeFault c h place e → CooperativeStoreOK c h place → ⊥
 cooperative_refuted c h place (error.InvalidCooperativeStoreTarget x) fault ok = let none = fault.1 in let some = ok.matrix in cc
-cooperative_refuted c h place (error.InvalidCooperativeDataPointer x) fault ok = fault.1 (ok.fits ∙ sym ok.matrix)
+cooperative_refuted c h place (error.InvalidCooperativeDataPointer x) fault ok = no_other (matrix_scalar (form_at c h)) (pointed_scalar c.m.types (form_at c place.pointer)) ok.scalar ok.matrix ok.fits fault.1
 cooperative_refuted c h place (error.InvalidStorePointer x) fault ok = fault.1 ok.writable
 cooperative_refuted c h place _ fault ok = fault
 
