@@ -10,6 +10,7 @@ ghost use Rattle.function_interface.specs.Told.{AreTold};
 ghost use Rattle.ir_flags.specs.declared.settings.Capabilities.{Capabilities};
 ghost use Rattle.ir_flags.specs.declared.settings.ValidationFlags.{ValidationFlags};
 ghost use Rattle.ir_flags.specs.declared.stages.ShaderStages.{ShaderStages};
+ghost use Rattle.ir_items.specs.GlobalPlain.{PlainGlobal};
 ghost use Rattle.ir_items.specs.Plain.{PlainModule};
 ghost use Rattle.ir_items.specs.View.{function_view, module_view};
 ghost use Rattle.ir_walks.specs.Filters.{ParentsPrecede};
@@ -173,6 +174,12 @@ pub trait Lower {
 
     /// The types of global expressions are as it says.
     ghost global_typed: { (l : Self) (m : PlainModule) → is_for l m → (e : ℕ) (r : TypeResolution) → slice_get (global_types l) e ≡ Some r → has_global_form l m e (form_given m.types r) };
+
+    /// A global expression that a variable of its module is initialized with has a type.
+    ghost initializers_typed: { (l : Self) (m : PlainModule) → is_for l m → (g : ℕ) (v : PlainGlobal) (e : ℕ) → slice_get m.globals g ≡ Some v → v.init ≡ Some e → e < length (global_types l) };
+
+    /// The type of a global expression has one form.
+    ghost one_global_form: { (l : Self) (m : PlainModule) (e : ℕ) (s t : Form) → has_global_form l m e s → has_global_form l m e t → s ≡ t };
 
     /// The type of an expression has one form.
     ghost one_form: { (l : Self) (q : Question) (e : ℕ) (s t : Form) → (reading l q).HasForm e s → (reading l q).HasForm e t → s ≡ t };

@@ -1,7 +1,7 @@
 -- The elements of a binding array come before it.
-use Rattle.std.proofs.Common.{◌≡◌, ◌<◌, ℕ, List, [], ◌∷◌, Option, Some, None, length, refl, subst, arith}
+use Rattle.std.proofs.Common.{◌≡◌, ◌<◌, ℕ, List, [], Option, Some, length, refl, subst, arith}
 use Rattle.std.proofs.lemmas.List.Elements.{All-head}
-use Rattle.ir_types.specs.Plain.{PlainInner, struct, plain, PlainType}
+use Rattle.ir_types.specs.Plain.{PlainInner, plain, PlainType}
 use Rattle.ir_types.specs.declared.types.TypeInner.TheVariants as inner
 use Rattle.spec_globals.specs.Spaces.{array_base}
 use Rattle.typing_forms.specs.Order.{TypesGoBack}

@@ -1,5 +1,5 @@
 -- What a variable begins as.
-use Rattle.std.proofs.Common.{◌≡◌, ◌↔◌, ◌⊎◌, inl, inr, ◌<◌, ℕ, List, Bool, true, false, length, get_or, Option, Some, IsTrue, refl, sym, subst, ◌∙◌, slice_get}
+use Rattle.std.proofs.Common.{not, ◌≡◌, ◌↔◌, ◌⊎◌, inl, inr, ◌<◌, ℕ, List, Bool, true, false, length, get_or, Some, IsTrue, refl, sym, subst, slice_get}
 use Rattle.std.proofs.lemmas.Option.{slice_get-get_or}
 use Rattle.ir_items.specs.Plain.{PlainModule}
 use Rattle.module_constants.specs.Known.{AreTyped}
@@ -18,7 +18,7 @@ abbrev Tests : List ExpressionKind → ℕ → Bool → Type 0
 Tests kinds init b = IsTrue b ↔ ((slice_get kinds init ≡ Some Const) ⊎ (slice_get kinds init ≡ Some Override))
 
 module _ (m : PlainModule) (kinds : List ExpressionKind) (are : AreKinds m.global_expressions kinds) (init : ℕ) (b : Bool) (test : Tests kinds init b) where
-  pub known : b ≡ true → IsKnownByOverrides m init
+  known : b ≡ true → IsKnownByOverrides m init
   known is = elim (test.0 is) [
     | inl e ↦ inl (are.each init Const e)
     | inr e ↦ inr (are.each init Override e)
@@ -33,15 +33,24 @@ module _ (m : PlainModule) (kinds : List ExpressionKind) (are : AreKinds m.globa
   unknown_at Override at is h = let t = test.1 (inr at) in cc
   unknown_at Runtime at is h = not_both h (are.each init Runtime at)
 
-  pub unknown : (other : ExpressionKind) → init < length kinds → b ≡ false → IsKnownByOverrides m init → ⊥
+  unknown : (other : ExpressionKind) → init < length kinds → b ≡ false → IsKnownByOverrides m init → ⊥
   unknown other lt is h = unknown_at (get_or kinds init other) (slice_get-get_or kinds init other lt) is h
+
+  by_test : (other : ExpressionKind) → init < length kinds → (t : Bool) → b ≡ t → IsKnownByOverrides m init → b ≡ true
+  by_test other lt true is h = is
+  by_test other lt false is h = absurd (unknown other lt is h)
+
+  -- the tracker's answer is whether the value is known once overrides are resolved
+  pub known_by : (other : ExpressionKind) → init < length kinds → IsTrue b ↔ IsKnownByOverrides m init
+  known_by other lt = (known, λ h. by_test other lt b refl h)
 
 module _ (m : PlainModule) (forms : List Form) (are : AreTyped m forms) (init k : ℕ) (other : Form) (lt : init < length forms) (index : k ≡ init) where
   pub typed_at : HasGlobalType m init (get_or forms k other)
   typed_at = subst (λ n. HasGlobalType m init (get_or forms n other)) (sym index) (are.each init (get_or forms init other) (slice_get-get_or forms init other lt))
 
-  pub typed_as : (t : Form) → get_or forms k other ≡ t → HasGlobalType m init t
-  typed_as t e = subst (HasGlobalType m init) e typed_at
+pub one_form : (m : PlainModule) (e : ℕ) (s t : Form) → HasGlobalType m e s → HasGlobalType m e t → s ≡ t
+one_form m e s t = one_type (outside m) m.global_expressions e s t
 
-  pub not_typed_as : (t : Form) → (get_or forms k other ≡ t → ⊥) → HasGlobalType m init t → ⊥
-  not_typed_as t differ h = differ (one_type (outside m) m.global_expressions init (get_or forms k other) t typed_at h)
+pub is_and_is_not : (b : Bool) → b ≡ true → not b ≡ true → ⊥
+is_and_is_not true is opposite = let x = opposite in cc
+is_and_is_not false is opposite = let x = is in cc

@@ -5,7 +5,7 @@ use Rattle.ir_types.specs.Plain.{PlainType}
 use Rattle.typing_layout.specs.Buffers.{IsStorage, IsUniform, StorageAt, UniformAt, uniform_alignment, free_behind}
 use Rattle.typing_layout.specs.Flags.{HasFlag, AllHave, HostShareable}
 use Rattle.typing_layout.specs.Immediates.{FitsImmediates, ImmediateAt, scalar_of}
-use Rattle.typing_layout.specs.Parts.{Part, before, listed, Everywhere, EverywhereIn, Somewhere, SomewhereIn}
+use Rattle.typing_layout.specs.Parts.{Part, Everywhere, EverywhereIn, Somewhere, SomewhereIn}
 use Rattle.typing_layout.specs.Layout.{alignment}
 use Rattle.typing_layout.specs.Tree.{Tree, scalar, vector, matrix, cooperative_matrix, atomic, pointer, value_pointer, array, struct, image, sampler, acceleration_structure, ray_query, binding_array, Members, no_members, member}
 use Rattle.typing_layout.specs.View.{type_tree}

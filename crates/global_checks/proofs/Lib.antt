@@ -1,8 +1,8 @@
 mod Arrays
 mod Needs
-mod Begins
+pub mod Begins
 mod Lies
-mod Whole
+pub mod Whole
 mod Broken
 pub mod Refuted
 pub mod Along

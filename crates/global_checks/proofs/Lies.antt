@@ -1,6 +1,6 @@
 -- What spaces ask of layouts.
-use Rattle.std.proofs.Common.{◌≡◌, ◌≢◌, ◌∙◌, inl, inr, ◌⊎◌, ℕ, Option, Some, Result, Ok, Err, MatchResult, IsOk, IsTrue, Bool, true, refl, sym, subst}
-use Rattle.global_checks.specs.Faults.{counted_inner, counted_tree, IsLayoutFault, IsWrong}
+use Rattle.std.proofs.Common.{◌≡◌, ◌≢◌, ◌∙◌, inl, inr, ℕ, Some, Result, Ok, Err, MatchResult, IsOk, IsTrue, refl, sym, subst}
+use Rattle.global_checks.specs.Faults.{counted_inner, counted_tree, IsLayoutFault, IsWrongBy}
 use Rattle.global_checks.specs.declared.error.GlobalVariableError.{GlobalVariableError}
 use Rattle.global_checks.specs.declared.error.GlobalVariableError.TheVariants as error
 use Rattle.ir_flags.specs.Sets.{Has}
@@ -11,21 +11,20 @@ use Rattle.ir_flags.specs.declared.settings.ValidationFlags.{ValidationFlags}
 use Rattle.ir_flags.specs.declared.settings.TheConstants.ValidationFlags.{STRUCT_LAYOUTS}
 use Rattle.ir_items.specs.GlobalPlain.{PlainGlobal}
 use Rattle.ir_items.specs.Plain.{PlainModule}
-use Rattle.ir_kinds.specs.declared.spaces.AddressSpace.{AddressSpace}
 use Rattle.ir_kinds.specs.declared.spaces.AddressSpace.TheVariants.{Uniform, Storage, Immediate, TaskPayload}
-use Rattle.ir_types.specs.Plain.{PlainInner, PlainType}
+use Rattle.ir_types.specs.Plain.{PlainInner}
 use Rattle.global_checks.proofs.SizeLemmas.{size_found}
 use Rattle.typing_layout.specs.Buffers.{IsStorage, IsUniform, uniform_alignment}
 use Rattle.typing_layout.specs.Immediates.{FitsImmediates}
 use Rattle.spec_globals.specs.Spaces.{LiesIn, counted, is_storage}
 use Rattle.typing_layout.specs.Layout.{alignment}
-use Rattle.typing_layout.specs.Tree.{Tree}
 use Rattle.type_infos.specs.BufferFaults.{BreaksStorage, BreaksUniform, IsBroken, IsUnfit}
 use Rattle.type_infos.specs.Infos.{HasInfo}
 use Rattle.type_infos.specs.declared.error.Disalignment.{Disalignment}
 use Rattle.type_infos.specs.declared.error.ImmediateError.{ImmediateError}
 use Rattle.type_infos.specs.declared.info.TypeInfo.{TypeInfo}
 use Rattle.typing_forms.specs.Sizes.{type_size}
+use Rattle.typing_forms.specs.declared.form.Form.{Form}
 
 laid : (P : ℕ → Type 0) (Q : ℕ × Disalignment → Type 0) (l : Result ℕ (ℕ × Disalignment)) → MatchResult l P Q → IsOk l → (a : ℕ) × P a
 laid P Q (Ok a) m is = (a, m)
@@ -34,12 +33,12 @@ laid P Q (Err e) m is = let n = is in cc
 not_laid : (P : ℕ → Type 0) (Q : ℕ × Disalignment → Type 0) (l : Result ℕ (ℕ × Disalignment)) (e : ℕ × Disalignment) → l ≡ Err e → MatchResult l P Q → Q e
 not_laid P Q l e is m = subst (λ r. MatchResult r P Q) is m
 
-module _ (flags : ValidationFlags) (capabilities : Capabilities) (m : PlainModule) (v : PlainGlobal) (info : TypeInfo) (told : HasInfo m.types (counted_tree m v) info) where
+module _ (HasForm : (expression : ℕ) → Form → Type 0) (flags : ValidationFlags) (capabilities : Capabilities) (m : PlainModule) (v : PlainGlobal) (info : TypeInfo) (told : HasInfo m.types (counted_tree m v) info) where
   abbrev Lies : Type 0
   Lies = LiesIn flags v.space (counted_inner m v) (counted_tree m v)
 
   abbrev Wrong : GlobalVariableError → Type 0
-  Wrong = IsWrong flags capabilities m v
+  Wrong = IsWrongBy HasForm flags capabilities m v
 
   stored : (access : StorageAccess) → v.space ≡ Storage access → access ≢ STORE → (Has flags.0 STRUCT_LAYOUTS.0 → IsStorage (counted_tree m v)) → Lies
   stored access is differs laid = subst (λ s. LiesIn flags s (counted_inner m v) (counted_tree m v)) (sym is) (laid, differs)

@@ -1,5 +1,5 @@
 -- What a space asks of types, flag by flag.
-use Rattle.std.proofs.Common.{◌≡◌, ◌↔◌, ℕ, List, Bool, true, false, ◌==◌, IsTrue, Option, Some, None, IfSome, bit_and, refl, sym, subst, ◌∙◌}
+use Rattle.std.proofs.Common.{◌≡◌, ℕ, ◌==◌, IsTrue, Option, Some, None, IfSome, bit_and, refl, sym, subst, ◌∙◌}
 use Rattle.std.proofs.lemmas.Bool.Decides.{Decides-eqb}
 use Rattle.std.specs.Int.Bits.{and_zero_r}
 use Rattle.ir_flags.proofs.SetLaws.{within-over, union-within}
@@ -8,7 +8,7 @@ use Rattle.ir_flags.specs.declared.settings.Capabilities.{Capabilities}
 use Rattle.ir_kinds.specs.declared.spaces.AddressSpace.{AddressSpace}
 use Rattle.ir_kinds.specs.declared.spaces.AddressSpace.TheVariants.{Function, Private, WorkGroup, Uniform, Storage, Handle, Immediate, TaskPayload, RayPayload, IncomingRayPayload}
 use Rattle.global_checks.specs.Faults.{required_bits}
-use Rattle.typing_layout.specs.Flags.{TypeFlag, bit, among, HasFlag, Data, Sized, Copy, IoShareable, HostShareable, CreationResolved, Argument, Constructible}
+use Rattle.typing_layout.specs.Flags.{TypeFlag, bit, among, Data, Sized, Copy, IoShareable, HostShareable, CreationResolved, Argument, Constructible}
 use Rattle.spec_globals.specs.Spaces.{required, HasAll}
 use Rattle.typing_layout.specs.Tree.{Tree}
 use Rattle.type_infos.specs.Infos.{AreFlags}

@@ -1,7 +1,7 @@
 -- A fault of a global variable refutes it.
 use Rattle.std.proofs.Common.{◌≡◌, ◌∙◌, inl, inr, ℕ, Option, Some, None, IfSome, IsTrue, refl, sym, subst}
 use Rattle.global_checks.proofs.Broken.{storage_refuted, uniform_refuted, unfit_refuted}
-use Rattle.global_checks.specs.Faults.{IsArrayOf, IsBeginFault, IsGlobalFault, IsWrong, counted_inner, counted_tree}
+use Rattle.global_checks.specs.Faults.{IsArrayOf, IsWrong, counted_inner, counted_tree}
 use Rattle.global_checks.specs.Laws.{FaultRefutes}
 use Rattle.global_checks.specs.declared.error.GlobalVariableError.{GlobalVariableError}
 use Rattle.global_checks.specs.declared.error.GlobalVariableError.TheVariants as error
@@ -15,7 +15,7 @@ use Rattle.ir_kinds.specs.declared.spaces.AddressSpace.{AddressSpace}
 use Rattle.ir_kinds.specs.declared.spaces.AddressSpace.TheVariants.{Storage}
 use Rattle.ir_types.specs.Plain.{PlainInner}
 use Rattle.typing_layout.specs.Buffers.{IsStorage}
-use Rattle.spec_globals.specs.Globals.{BeginsOK, VariableOK, GlobalOK}
+use Rattle.spec_globals.specs.Globals.{BeginsOK, VariableOK}
 use Rattle.spec_globals.specs.Spaces.{array_capability, space_capability, BindingArrayOK, LiesIn, is_storage}
 use Rattle.typing_layout.specs.Tree.{Tree}
 use Rattle.typing_forms.specs.Resolutions.{inner_at}

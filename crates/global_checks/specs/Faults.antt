@@ -26,6 +26,7 @@ use Rattle.type_infos.specs.BufferFaults.{BreaksStorage, BreaksUniform, IsBroken
 use Rattle.type_infos.specs.Infos.{AreFlags}
 use Rattle.type_infos.specs.declared.error.Disalignment.{Disalignment}
 use Rattle.typing_forms.specs.Forms.{form_of_type}
+use Rattle.typing_forms.specs.declared.form.Form.{Form}
 use Rattle.typing_forms.specs.Resolutions.{inner_at}
 
 -- it is a binding array of this type
@@ -82,33 +83,39 @@ IsDecorationFault capabilities space decorations error.CoherentNotSupported = Ha
 IsDecorationFault capabilities space decorations error.VolatileNotSupported = Has decorations.0 VOLATILE.0 × ¬ Has capabilities.0 MEMORY_DECORATION_VOLATILE.0
 IsDecorationFault capabilities space decorations _ = ⊥
 
-abbrev pub IsBeginFault : PlainModule → AddressSpace → (type init : ℕ) → GlobalVariableError → Type 0
-IsBeginFault m space type init error.InitializerExprType = ¬ IsKnownByOverrides m init
-IsBeginFault m space type init error.InitializerType = ¬ HasGlobalType m init (form_of_type m.types type)
-IsBeginFault m space type init (error.InitializerNotAllowed s) = (s ≡ space) × (space ≢ Private)
-IsBeginFault m space type init _ = ⊥
+-- by a typing of global expressions
+abbrev pub IsBeginFault : (HasForm : (expression : ℕ) → Form → Type 0) → PlainModule → AddressSpace → (type init : ℕ) → GlobalVariableError → Type 0
+IsBeginFault HasForm m space type init error.InitializerExprType = ¬ IsKnownByOverrides m init
+IsBeginFault HasForm m space type init error.InitializerType = ¬ HasForm init (form_of_type m.types type)
+IsBeginFault HasForm m space type init (error.InitializerNotAllowed s) = (s ≡ space) × (space ≢ Private)
+IsBeginFault HasForm m space type init _ = ⊥
 
 -- ---- of a variable
 
-abbrev pub IsWrong : ValidationFlags → Capabilities → PlainModule → PlainGlobal → GlobalVariableError → Type 0
-IsWrong flags capabilities m v (error.InvalidUsage s) = (s ≡ v.space) × ((v.space ≡ Function) ⊎ IsUnboundArray m v)
-IsWrong flags capabilities m v (error.InvalidType s) = (s ≡ v.space) × (v.space ≡ Handle) × ¬ IsTrue (is_handle (counted_inner m v))
-IsWrong flags capabilities m v (error.InvalidBindingArray base) = (v.space ≡ Handle) × IsArrayOf m.types v.ty base × (array_capability Handle (inner_at m.types base) ≡ None)
-IsWrong flags capabilities m v (error.MissingTypeFlags asked seen) = (asked.0 ≡ required_bits v.space) × AreFlags seen (counted_tree m v) × ¬ HasAll (required v.space) (counted_tree m v)
-IsWrong flags capabilities m v (error.UnsupportedCapability c) = Needs m v c × ¬ Has capabilities.0 c.0
-IsWrong flags capabilities m v error.InvalidBinding = Has flags.0 BINDINGS.0 × ¬ (IsTrue (is_resource v.space) ↔ IsSome v.binding)
-IsWrong flags capabilities m v (error.Alignment s type d) =
+-- by a typing of global expressions
+abbrev pub IsWrongBy : (HasForm : (expression : ℕ) → Form → Type 0) → ValidationFlags → Capabilities → PlainModule → PlainGlobal → GlobalVariableError → Type 0
+IsWrongBy HasForm flags capabilities m v (error.InvalidUsage s) = (s ≡ v.space) × ((v.space ≡ Function) ⊎ IsUnboundArray m v)
+IsWrongBy HasForm flags capabilities m v (error.InvalidType s) = (s ≡ v.space) × (v.space ≡ Handle) × ¬ IsTrue (is_handle (counted_inner m v))
+IsWrongBy HasForm flags capabilities m v (error.InvalidBindingArray base) = (v.space ≡ Handle) × IsArrayOf m.types v.ty base × (array_capability Handle (inner_at m.types base) ≡ None)
+IsWrongBy HasForm flags capabilities m v (error.MissingTypeFlags asked seen) = (asked.0 ≡ required_bits v.space) × AreFlags seen (counted_tree m v) × ¬ HasAll (required v.space) (counted_tree m v)
+IsWrongBy HasForm flags capabilities m v (error.UnsupportedCapability c) = Needs m v c × ¬ Has capabilities.0 c.0
+IsWrongBy HasForm flags capabilities m v error.InvalidBinding = Has flags.0 BINDINGS.0 × ¬ (IsTrue (is_resource v.space) ↔ IsSome v.binding)
+IsWrongBy HasForm flags capabilities m v (error.Alignment s type d) =
     (s ≡ v.space) × Has flags.0 STRUCT_LAYOUTS.0
     × ((IsTrue (is_storage v.space) × IsBroken BreaksStorage m.types (counted_tree m v) (type, d)) ⊎ ((v.space ≡ Uniform) × IsBroken BreaksUniform m.types (counted_tree m v) (type, d)))
-IsWrong flags capabilities m v error.InitializerExprType = (e : ℕ) × (v.init ≡ Some e) × IsBeginFault m v.space v.ty e error.InitializerExprType
-IsWrong flags capabilities m v error.InitializerType = (e : ℕ) × (v.init ≡ Some e) × IsBeginFault m v.space v.ty e error.InitializerType
-IsWrong flags capabilities m v (error.InitializerNotAllowed s) = (e : ℕ) × (v.init ≡ Some e) × IsBeginFault m v.space v.ty e (error.InitializerNotAllowed s)
-IsWrong flags capabilities m v error.StorageAddressSpaceWriteOnlyNotSupported = v.space ≡ Storage STORE
-IsWrong flags capabilities m v (error.InvalidImmediateType e) = (v.space ≡ Immediate) × IsUnfit (counted_tree m v) e
-IsWrong flags capabilities m v error.ZeroSizedTaskPayload = (v.space ≡ TaskPayload) × (size (counted_tree m v) ≡ 0)
-IsWrong flags capabilities m v error.InvalidMemoryDecorationsAddressSpace = IsDecorationFault capabilities v.space v.decorations error.InvalidMemoryDecorationsAddressSpace
-IsWrong flags capabilities m v error.CoherentNotSupported = IsDecorationFault capabilities v.space v.decorations error.CoherentNotSupported
-IsWrong flags capabilities m v error.VolatileNotSupported = IsDecorationFault capabilities v.space v.decorations error.VolatileNotSupported
+IsWrongBy HasForm flags capabilities m v error.InitializerExprType = (e : ℕ) × (v.init ≡ Some e) × IsBeginFault HasForm m v.space v.ty e error.InitializerExprType
+IsWrongBy HasForm flags capabilities m v error.InitializerType = (e : ℕ) × (v.init ≡ Some e) × IsBeginFault HasForm m v.space v.ty e error.InitializerType
+IsWrongBy HasForm flags capabilities m v (error.InitializerNotAllowed s) = (e : ℕ) × (v.init ≡ Some e) × IsBeginFault HasForm m v.space v.ty e (error.InitializerNotAllowed s)
+IsWrongBy HasForm flags capabilities m v error.StorageAddressSpaceWriteOnlyNotSupported = v.space ≡ Storage STORE
+IsWrongBy HasForm flags capabilities m v (error.InvalidImmediateType e) = (v.space ≡ Immediate) × IsUnfit (counted_tree m v) e
+IsWrongBy HasForm flags capabilities m v error.ZeroSizedTaskPayload = (v.space ≡ TaskPayload) × (size (counted_tree m v) ≡ 0)
+IsWrongBy HasForm flags capabilities m v error.InvalidMemoryDecorationsAddressSpace = IsDecorationFault capabilities v.space v.decorations error.InvalidMemoryDecorationsAddressSpace
+IsWrongBy HasForm flags capabilities m v error.CoherentNotSupported = IsDecorationFault capabilities v.space v.decorations error.CoherentNotSupported
+IsWrongBy HasForm flags capabilities m v error.VolatileNotSupported = IsDecorationFault capabilities v.space v.decorations error.VolatileNotSupported
+
+-- by the types of global expressions
+abbrev pub IsWrong : ValidationFlags → Capabilities → PlainModule → PlainGlobal → GlobalVariableError → Type 0
+IsWrong flags capabilities m = IsWrongBy (HasGlobalType m) flags capabilities m
 
 -- The global variable at a handle has the fault.
 pub record IsGlobalFault (flags : ValidationFlags) (capabilities : Capabilities) (m : PlainModule) (handle : ℕ) (e : GlobalVariableError) : Type 0 where

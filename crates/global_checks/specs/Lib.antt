@@ -1,5 +1,7 @@
 pub mod Faults
 pub mod There
+pub mod Contexts
+pub mod Initializers
 pub mod Laws
 pub mod Reached
 pub mod Sizes

@@ -1,20 +1,23 @@
 //! Global variables.
 
-ghost use Rattle.std.specs.Prelude.{◌≡◌, ◌≢◌, ◌↔◌, ◌<◌, IfSome, IsOk, IsSome, IsTrue, MatchResult, length};
-ghost use Rattle.global_checks.specs.Faults.{IsArrayRefusal, counted_inner, counted_tree, IsLayoutFault, IsDecorationFault, IsBeginFault, IsWrong, IsGlobalFault};
+ghost use Rattle.std.specs.Prelude.{◌≡◌, ◌≢◌, ◌↔◌, ◌<◌, ℕ, IfSome, IsOk, IsSome, IsTrue, MatchResult, Option, Some, length};
+ghost use Rattle.global_checks.specs.Contexts.{HasInfos, module_of};
+ghost use Rattle.global_checks.specs.Faults.{IsArrayRefusal, counted_inner, counted_tree, IsLayoutFault, IsDecorationFault, IsBeginFault, IsWrongBy};
+ghost use Rattle.global_checks.specs.Initializers.{HasFormOf, IsInitializer};
+ghost use Rattle.global_checks.specs.declared.context.Initializer.{Initializer};
 ghost use Rattle.global_checks.specs.declared.error.GlobalVariableError.TheVariants.{InvalidBinding, ZeroSizedTaskPayload};
-ghost use Rattle.global_checks.specs.There.{IsPlaced, IsThere};
+ghost use Rattle.global_checks.specs.There.{IsPlaced};
 ghost use Rattle.ir_flags.specs.Sets.{Has};
 ghost use Rattle.ir_flags.specs.declared.settings.TheConstants.ValidationFlags.{BINDINGS, STRUCT_LAYOUTS};
 ghost use Rattle.ir_items.specs.GlobalView.{global_view};
-ghost use Rattle.module_constants.specs.Known.{IsKnown, module_in};
-ghost use Rattle.spec_globals.specs.Globals.{BeginsOK, DecorationsOK, VariableOK, GlobalOK};
+ghost use Rattle.spec_globals.specs.Globals.{BeginsBy, DecorationsOK, VariableBy};
 ghost use Rattle.spec_globals.specs.Spaces.{counted, ArraysOK, space_capability, LiesIn, required, HasAll, is_resource};
 ghost use Rattle.ir_types.specs.Plain.{inner_view};
 ghost use Rattle.typing_forms.specs.Order.{TypesGoBack};
 ghost use Rattle.typing_forms.specs.Resolutions.{inner_at};
 ghost use Rattle.typing_forms.specs.Sizes.{type_size};
 
+use crate::context::{Initializer, VariableContext};
 use crate::error::GlobalVariableError;
 use crate::handles::{array_base, is_handle};
 use crate::spaces::{array_capability, is_resource, is_storage, required, space_capability};
@@ -24,15 +27,14 @@ use ir_flags::{Capabilities, MemoryDecorations, StorageAccess, ValidationFlags};
 use ir_items::GlobalVariable;
 use ir_kinds::AddressSpace;
 use ir_types::{TypeInner, key};
-use module_constants::GlobalContext;
 use type_infos::LayoutCompatibility;
 use typing_forms::laws::form_equality;
 use typing_forms::{TypeInnerExt, form_of_type};
 
 // What a type is made of.
-fn inner_of<'a>(context: &GlobalContext<'a>, ty: Handle<key::IrType>) -> &'a TypeInner
-    requires { ty < length (module_in context.now).types }
-    ensures { inner_at (module_in context.now).types ty ≡ Some (inner_view result.now) }
+fn inner_of<'a>(context: &VariableContext<'a>, ty: Handle<key::IrType>) -> &'a TypeInner
+    requires { ty < length (module_of context.now).types }
+    ensures { inner_at (module_of context.now).types ty ≡ Some (inner_view result.now) }
 {
     &context.module.types[ty].inner
 }
@@ -62,14 +64,14 @@ fn no_array(
 
 // The type whose rules count: of a binding array that of its elements, where there may be one.
 fn check_arrays(
-    context: &GlobalContext<'_>,
+    context: &VariableContext<'_>,
     variable: &GlobalVariable,
 ) -> Result<Handle<key::IrType>, GlobalVariableError>
-    requires back { TypesGoBack (module_in context.now).types }
-    requires placed { IsPlaced (module_in context.now) (global_view variable.now) }
-    ensures { (flags : ValidationFlags) → MatchResult result
-        (λ ty. (ty ≡ counted (module_in context.now).types variable.now.ty) × ArraysOK context.now.capabilities variable.now.space (module_in context.now).types variable.now.ty)
-        (IsWrong flags context.now.capabilities (module_in context.now) (global_view variable.now)) }
+    requires back { TypesGoBack (module_of context.now).types }
+    requires placed { IsPlaced (module_of context.now) (global_view variable.now) }
+    ensures { (given : Option Initializer) (flags : ValidationFlags) → MatchResult result
+        (λ ty. (ty ≡ counted (module_of context.now).types variable.now.ty) × ArraysOK context.now.capabilities variable.now.space (module_of context.now).types variable.now.ty)
+        (IsWrongBy (HasFormOf given) flags context.now.capabilities (module_of context.now) (global_view variable.now)) }
 {
     let Some(base) = array_base(inner_of(context, variable.ty)) else {
         return Ok(variable.ty);
@@ -115,16 +117,16 @@ fn check_bytes(inner: &TypeInner) -> Result<(), GlobalVariableError>
 // Whether a variable of the type that counts lies in its space.
 fn check_lies(
     flags: ValidationFlags,
-    context: &GlobalContext<'_>,
+    context: &VariableContext<'_>,
     variable: &GlobalVariable,
     ty: Handle<key::IrType>,
 ) -> Result<(), GlobalVariableError>
-    requires known { IsKnown context.now }
-    requires counts { ty ≡ counted (module_in context.now).types variable.now.ty }
-    requires within { ty < length (module_in context.now).types }
-    ensures { MatchResult result
-        (λ _. LiesIn flags variable.now.space (counted_inner (module_in context.now) (global_view variable.now)) (counted_tree (module_in context.now) (global_view variable.now)))
-        (IsWrong flags context.now.capabilities (module_in context.now) (global_view variable.now)) }
+    requires known { HasInfos context.now }
+    requires counts { ty ≡ counted (module_of context.now).types variable.now.ty }
+    requires within { ty < length (module_of context.now).types }
+    ensures { (given : Option Initializer) → MatchResult result
+        (λ _. LiesIn flags variable.now.space (counted_inner (module_of context.now) (global_view variable.now)) (counted_tree (module_of context.now) (global_view variable.now)))
+        (IsWrongBy (HasFormOf given) flags context.now.capabilities (module_of context.now) (global_view variable.now)) }
 {
     let space = variable.space;
     let inner = inner_of(context, ty);
@@ -154,17 +156,17 @@ fn check_lies(
 
 // Whether the capability that a variable of the type needs is there, and the type may be used for what the space asks.
 fn check_needs(
-    context: &GlobalContext<'_>,
+    context: &VariableContext<'_>,
     variable: &GlobalVariable,
     ty: Handle<key::IrType>,
 ) -> Result<(), GlobalVariableError>
-    requires known { IsKnown context.now }
-    requires counts { ty ≡ counted (module_in context.now).types variable.now.ty }
-    requires within { ty < length (module_in context.now).types }
-    ensures { (flags : ValidationFlags) → MatchResult result
-        (λ _. IfSome (space_capability variable.now.space (counted_inner (module_in context.now) (global_view variable.now))) (λ c. Has context.now.capabilities.0 c.0)
-        × HasAll (required variable.now.space) (counted_tree (module_in context.now) (global_view variable.now)))
-        (IsWrong flags context.now.capabilities (module_in context.now) (global_view variable.now)) }
+    requires known { HasInfos context.now }
+    requires counts { ty ≡ counted (module_of context.now).types variable.now.ty }
+    requires within { ty < length (module_of context.now).types }
+    ensures { (given : Option Initializer) (flags : ValidationFlags) → MatchResult result
+        (λ _. IfSome (space_capability variable.now.space (counted_inner (module_of context.now) (global_view variable.now))) (λ c. Has context.now.capabilities.0 c.0)
+        × HasAll (required variable.now.space) (counted_tree (module_of context.now) (global_view variable.now)))
+        (IsWrongBy (HasFormOf given) flags context.now.capabilities (module_of context.now) (global_view variable.now)) }
 {
     let inner = inner_of(context, ty);
     if let Some(capability) = space_capability(variable.space, inner) {
@@ -224,46 +226,53 @@ fn check_decorations(
     Ok(())
 }
 
-// Whether a variable may begin as this.
+// Whether a variable may be initialized so.
 fn check_begin(
-    context: &GlobalContext<'_>,
+    context: &VariableContext<'_>,
     space: AddressSpace,
     ty: Handle<key::IrType>,
-    init: Handle<key::Expression>,
+    initializer: Initializer,
 ) -> Result<(), GlobalVariableError>
-    requires known { IsKnown context.now }
-    requires within { init < length (module_in context.now).global_expressions }
-    ensures { MatchResult result
-        (λ _. BeginsOK (module_in context.now) space ty init)
-        (IsBeginFault (module_in context.now) space ty init) }
+    requires within { ty < length (module_of context.now).types }
+    ensures { (init : ℕ) → IsInitializer (module_of context.now) (Some init) (Some initializer) → MatchResult result
+        (λ _. BeginsBy (HasFormOf (Some initializer)) (module_of context.now) space ty init)
+        (IsBeginFault (HasFormOf (Some initializer)) (module_of context.now) space ty init) }
 {
     if space != AddressSpace::Private {
         return Err(GlobalVariableError::InitializerNotAllowed(space));
     }
-    if !context.kinds.is_const_or_override(init) {
+    if !initializer.is_known {
         return Err(GlobalVariableError::InitializerExprType);
     }
-    if !form_equality(
-        context.forms[init.index()],
-        form_of_type(&context.module.types, ty),
-    ) {
+    if !form_equality(initializer.form, form_of_type(&context.module.types, ty)) {
         return Err(GlobalVariableError::InitializerType);
     }
     Ok(())
 }
 
-// Whether a module may have a variable.
-fn check_variable(
+/// Whether a module may have a global variable, of whose initializer this is known (naga's `validate_global_var`, over any
+/// typing of global expressions).
+///
+/// Requires that the variable's type and its initializer are in the module, and that types are made of earlier ones, as in a
+/// module whose handles are in order; that the infos are those of the module's types; and that there is an `initializer` where
+/// the variable has one.
+///
+/// # Errors
+///
+/// A fault of the variable: each is reported only where it is there. Of several faults it is one.
+pub fn validate_variable(
     flags: ValidationFlags,
-    context: &GlobalContext<'_>,
+    context: &VariableContext<'_>,
     variable: &GlobalVariable,
+    initializer: Option<Initializer>,
 ) -> Result<(), GlobalVariableError>
-    requires known { IsKnown context.now }
-    requires back { TypesGoBack (module_in context.now).types }
-    requires placed { IsPlaced (module_in context.now) (global_view variable.now) }
+    requires known { HasInfos context.now }
+    requires back { TypesGoBack (module_of context.now).types }
+    requires placed { IsPlaced (module_of context.now) (global_view variable.now) }
+    requires initialized { IsInitializer (module_of context.now) variable.now.init initializer }
     ensures { MatchResult result
-        (λ _. VariableOK flags context.now.capabilities (module_in context.now) (global_view variable.now))
-        (IsWrong flags context.now.capabilities (module_in context.now) (global_view variable.now)) }
+        (λ _. VariableBy (HasFormOf initializer) flags context.now.capabilities (module_of context.now) (global_view variable.now))
+        (IsWrongBy (HasFormOf initializer) flags context.now.capabilities (module_of context.now) (global_view variable.now)) }
 {
     let ty = match check_arrays(context, variable) {
         Ok(ty) => ty,
@@ -286,31 +295,8 @@ fn check_variable(
         Ok(()) => {}
         Err(error) => return Err(error),
     }
-    match variable.init {
-        Some(init) => check_begin(context, variable.space, variable.ty, init),
+    match initializer {
+        Some(initializer) => check_begin(context, variable.space, variable.ty, initializer),
         None => Ok(()),
     }
-}
-
-/// Whether a module may have a global variable, of which types and global expressions are known (naga's `validate_global_var`).
-///
-/// Asks that the variable is there with its type and what it begins as, and that types are made of earlier ones, as in a module
-/// whose handles are in order.
-///
-/// # Errors
-///
-/// A fault of the variable: each is answered only where it stands. Where several stand, it is one of them.
-pub fn validate_global_var(
-    flags: ValidationFlags,
-    context: &GlobalContext<'_>,
-    global: Handle<key::GlobalVariable>,
-) -> Result<(), GlobalVariableError>
-    requires known { IsKnown context.now }
-    requires there { IsThere (module_in context.now) global }
-    ensures { MatchResult result
-        (λ _. GlobalOK flags context.now.capabilities (module_in context.now) global)
-        (IsGlobalFault flags context.now.capabilities (module_in context.now) global) }
-{
-    let variable = &context.module.global_variables[global];
-    check_variable(flags, context, variable)
 }

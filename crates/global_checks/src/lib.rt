@@ -2,9 +2,11 @@
 //! meets.
 #![tactic(auto)]
 
+mod context;
 mod error;
 mod globals;
 mod handles;
+mod known;
 pub mod laws;
 mod leaves;
 mod sizes;
@@ -12,6 +14,8 @@ pub mod slot_laws;
 mod slots;
 mod spaces;
 
+pub use context::{Initializer, VariableContext};
 pub use error::GlobalVariableError;
-pub use globals::validate_global_var;
+pub use globals::validate_variable;
+pub use known::validate_global_var;
 pub use slots::ImmediateSlots;

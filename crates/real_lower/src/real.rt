@@ -95,7 +95,7 @@ impl Lower for RealLower {
     ghost use Rattle.real_lower.specs.Made.{IsMadeOf, types_of};
     ghost use Rattle.real_lower.specs.Severities.{AreKnown};
     ghost use Rattle.real_lower.specs.Readings.{reading_of, faults_of};
-    ghost use Rattle.real_lower.specs.Laws.{one_form_by, one_run_by, expression_refuted_by};
+    ghost use Rattle.real_lower.specs.Laws.{one_form_by, one_global_form_by, one_run_by, expression_refuted_by, initializer_typed_by};
     ghost use Rattle.spec_expressions.specs.Typing.{HasGlobalType};
 
     ghost is_for = { λ l m. IsMadeOf m l.info × AreKnown m l.severities };
@@ -195,6 +195,10 @@ impl Lower for RealLower {
     ghost told_of_all = { λ l m made. made.0.told };
 
     ghost global_typed = { λ l m made. made.0.typed.each };
+
+    ghost initializers_typed = { λ l m made g v e at is. initializer_typed_by m l.info.const_expression_types.items made.0.handles made.0.typed.len g v e at is };
+
+    ghost one_global_form = { λ _ m e s t a b. one_global_form_by m e s t a b };
 
     ghost one_form = { λ _ q e s t a b. one_form_by q e s t a b };
 

@@ -1,11 +1,12 @@
 -- The laws of a lower layer, of this one.
-use Rattle.std.specs.Prelude.{◌≡◌, ℕ, IsTrue, List, Some}
+use Rattle.std.specs.Prelude.{◌≡◌, ℕ, IsTrue, List, [], Some}
 use Rattle.error_functions.specs.declared.expressions.ExpressionError.{ExpressionError}
 use Rattle.error_functions.specs.declared.error.FunctionError.{FunctionError}
 use Rattle.function_interface.specs.Question.{Question}
 use Rattle.ir_flags.specs.declared.stages.ShaderStages.{ShaderStages}
+use Rattle.ir_items.specs.GlobalPlain.{PlainGlobal}
 use Rattle.ir_items.specs.Plain.{PlainFunction, PlainModule}
-use Rattle.std.proofs.Common.{slice_get, refl, sym, ◌∙◌, true≢false}
+use Rattle.std.proofs.Common.{slice_get, refl, sym, ap, ◌∙◌, true≢false}
 use Rattle.tiny_lower.specs.Readings.{IsGiven, IsRunBy, IsTypeFault, untyped, IsUnfit, fits_at}
 use Rattle.tiny_lower.specs.Typing.{HasForm, IsUntyped}
 use Rattle.typing_forms.specs.declared.form.Form.{Form}
@@ -29,3 +30,10 @@ unfit_refutes_by f forms e x unfit ok = true≢false (sym ok ∙ unfit.1)
 
 pub given_by : (m : PlainModule) (types : List TypeResolution) (e : ℕ) (r : TypeResolution) → slice_get types e ≡ Some r → IsGiven m types e (form_given m.types r)
 given_by m types e r at = record { type = r; given = at; form = refl }
+
+pub one_global_form_by : (m : PlainModule) (types : List TypeResolution) (e : ℕ) (s t : Form) → IsGiven m types e s → IsGiven m types e t → s ≡ t
+one_global_form_by m types e s t a b = a.form ∙ ap (form_given m.types) (some_is (sym a.given ∙ b.given)) ∙ sym b.form
+
+-- there is no variable, and so none with an initializer
+pub no_initializer : {P : Type 0} (m : PlainModule) → m.globals ≡ [] → (g : ℕ) (v : PlainGlobal) → slice_get m.globals g ≡ Some v → P
+no_initializer m none g v at = let e = ap (λ (vs : List PlainGlobal). slice_get vs g) (sym none) ∙ at in cc

@@ -54,7 +54,7 @@ impl Lower for TinyLower {
     type Info = TinyInfo;
 
     ghost use Rattle.tiny_lower.specs.Ends.{noted_of, summary_of};
-    ghost use Rattle.tiny_lower.specs.Laws.{fault_refutes_by, given_by, one_form_by, one_run_by, unfit_refutes_by};
+    ghost use Rattle.tiny_lower.specs.Laws.{fault_refutes_by, given_by, no_initializer, one_form_by, one_global_form_by, one_run_by, unfit_refutes_by};
     ghost use Rattle.tiny_lower.specs.Readings.{IsGiven, IsMadeOf, faults_of, reading_of};
 
     ghost is_for = { λ l m. IsMadeOf m l.infos.items };
@@ -163,6 +163,10 @@ impl Lower for TinyLower {
     ghost told_of_all = { λ l m made. made.told };
 
     ghost global_typed = { λ l m _ e r at. given_by m l.globals.items e r at };
+
+    ghost initializers_typed = { λ l m made g v e at is. no_initializer m made.no_globals g v at };
+
+    ghost one_global_form = { λ l m e s t a b. one_global_form_by m l.globals.items e s t a b };
 
     ghost one_form = { λ _ q e s t a b. one_form_by q e s t a b };
 
