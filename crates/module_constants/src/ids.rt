@@ -1,6 +1,6 @@
 //! The ids that overrides have.
 
-ghost use Rattle.std.specs.Prelude.{◌≡◌, ◌<◌, ◌↔◌, ℕ, IsTrue, OnOk, IfOk, length, slice_index_or};
+ghost use Rattle.std.specs.Prelude.{◌≡◌, ◌<◌, ◌↔◌, ℕ, IsTrue, OnErr, OnOk, IfOk, length, slice_index_or};
 ghost use Rattle.std.specs.Int.{bit_at};
 ghost use Rattle.module_constants.specs.Ids.{IsNoted, IsSeen};
 
@@ -24,7 +24,7 @@ fn has_bit(word: u64, bit: u16) -> bool
 fn make_room(words: &mut Vec<u64>, place: usize) -> Result<(), AllocError>
     requires { place < 1024 }
     ensures long { OnOk result (place < length words.new.items) }
-    ensures kept { OnOk result ((q : ℕ) → slice_index_or words.new.items q 0 ≡ slice_index_or words.old.items q 0) }
+    ensures kept { (q : ℕ) → slice_index_or words.new.items q 0 ≡ slice_index_or words.old.items q 0 }
 {
     for _ in words.len()..place + 1 {
         words.push(0)?;
@@ -42,9 +42,10 @@ impl OverrideIds {
         }
     }
 
-    /// Notes an id, and answers whether it was none of them. The error is out of memory.
+    /// Notes an id, and answers whether it was none of them. The error is out of memory, and leaves the same ids.
     pub fn insert(&mut self, id: u16) -> Result<bool, AllocError>
-        ensures { IfOk result (IsNoted self.old self.new id) }
+        ensures noted { IfOk result (IsNoted self.old self.new id) }
+        ensures err { OnErr result ((other : ℕ) → IsSeen self.new other ↔ IsSeen self.old other) }
     {
         let place = usize::from(id / 64);
         let bit = id % 64;
