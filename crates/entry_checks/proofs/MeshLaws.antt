@@ -1,15 +1,24 @@
 -- What a variable implies is one thing.
-use Rattle.std.proofs.Common.{◌≡◌, inl, inr, ℕ, List, [], ◌∷◌, Option, Some, None, refl, sym, ap, subst, ◌∙◌}
+use Rattle.std.proofs.Common.{◌≡◌, inl, inr, ℕ, List, [], ◌∷◌, Option, Some, None, slice_get, refl, sym, ap, subst, ◌∙◌}
+use Rattle.std.specs.Prelude.{option_and_then}
+use Rattle.entry_checks.specs.Faults.{IsRefusedFor}
+use Rattle.entry_checks.specs.Interfaces.{ArePartsAt}
 use Rattle.entry_checks.specs.MeshFaults.{AreSame, HasBadField, HasBadPrimitives, IsImpliedFault, IsSaidFault}
+use Rattle.entry_checks.specs.MeshFields.{HasFields}
 use Rattle.entry_checks.specs.declared.error.EntryPointError.{EntryPointError}
 use Rattle.entry_checks.specs.declared.error.EntryPointError.TheVariants as error
+use Rattle.entry_checks.specs.declared.meshes.Fields.{Fields}
+use Rattle.ir_faults.specs.Faults.{error_of}
+use Rattle.ir_faults.specs.declared.refusal.Refusal.{Refusal}
+use Rattle.ir_faults.specs.declared.refusal.Refusal.TheVariants as refusal
+use Rattle.ir_items.specs.GlobalPlain.{PlainGlobal}
 use Rattle.ir_items.specs.Plain.{PlainModule}
 use Rattle.ir_items.specs.declared.entries.MeshStageInfo.{MeshStageInfo}
 use Rattle.ir_kinds.specs.declared.stages.MeshOutputTopology.{MeshOutputTopology}
 use Rattle.ir_kinds.specs.declared.stages.MeshOutputTopology.TheVariants.{Triangles}
 use Rattle.ir_types.specs.Plain.{PlainMember, PlainType}
 use Rattle.ir_types.specs.declared.types.ArraySize.{ArraySize}
-use Rattle.spec_entries.specs.Members.{topologies_at, types_bound}
+use Rattle.spec_entries.specs.Members.{members_at, topologies_at, types_bound}
 use Rattle.spec_entries.specs.Meshes.{AreParts, FieldsOK, HasParts, HoldsMost, Implies, IsCount, IsSaid, SaidBy, most, variable_members, without_overrides}
 use Rattle.spec_entries.specs.declared.parts.MeshPart.{MeshPart}
 use Rattle.spec_entries.specs.declared.parts.MeshPart.TheVariants.{VertexCount, Vertices, PrimitiveCount, Primitives}
@@ -195,3 +204,24 @@ module _ (m : PlainModule) (said : MeshStageInfo) where
   said_refuted error.BadMeshOutputVariableField fault s = bad_field fault s
   said_refuted error.InvalidMeshPrimitiveOutputType fault s = bad_primitives fault s
   said_refuted _ fault s = absurd fault
+
+-- ---- parts of a variable, by its type
+
+module _ (m : PlainModule) (variable : ℕ) (v : PlainGlobal) (at : slice_get m.globals variable ≡ Some v) where
+  members_by : variable_members m variable ≡ members_at m.types v.ty
+  members_by = ap (option_and_then (λ (g : PlainGlobal). members_at m.types g.ty)) at
+
+  pub variable_parts : (t : MeshParts) → ArePartsAt m.types v.ty t → HasParts m variable t
+  variable_parts t a = record { members = a.members; struct = members_by ∙ a.struct; parts = a.parts }
+
+  pub no_parts : ((t : MeshParts) → ArePartsAt m.types v.ty t → ⊥) → (t : MeshParts) → HasParts m variable t → ⊥
+  no_parts none t a = none t (record { members = a.members; struct = sym members_by ∙ a.struct; parts = a.parts })
+
+pub bad_primitives_by : (m : PlainModule) (variable : ℕ) (f : Fields) → HasFields m variable f → ((topology : MeshOutputTopology) → topologies_at m.types f.primitives.element ≡ topology ∷ [] → ⊥) → HasBadPrimitives m variable
+bad_primitives_by m variable f h bad =
+    bad_primitives_of m variable h.parts.members h.types f.vertices.element f.vertices.most f.primitives.element f.primitives.most f.vertices.by f.primitives.by h.parts.struct h.parts.parts
+    (h.vertex_count, h.primitive_count, h.vertices, h.primitives) bad
+
+pub said_refused : (m : PlainModule) (said : MeshStageInfo) (x : Refusal EntryPointError) → IsRefusedFor (IsImpliedFault m said.output_variable) x → IsRefusedFor (IsSaidFault m said) x
+said_refused m said (refusal.Memory a) h = tt
+said_refused m said (refusal.Fault f) h = said_fault m said (error_of f) h

@@ -5,7 +5,12 @@ use Rattle.ir_items.specs.Plain.{PlainEntry, PlainModule}
 use Rattle.ir_items.specs.View.{entry_view, module_view}
 use Rattle.spec_varyings.specs.Contexts.{VaryingContext, context_of}
 use Rattle.spec_varyings.specs.declared.varyings.Direction.{Direction}
+use Rattle.spec_varyings.specs.declared.varyings.Direction.TheVariants.{Input}
 use Rattle.type_checks.specs.Known.{AreInfos}
+use Rattle.entry_checks.specs.Interfaces.{AreInterfacesKnown}
+use Rattle.entry_checks.specs.declared.known.KnownInterfaces.{KnownInterfaces}
+use Rattle.varying_checks.specs.Known.{AreKnown}
+use Rattle.varying_checks.specs.declared.known.KnownTypes.{KnownTypes}
 
 abbrev pub module_in : EntryContext → PlainModule
 module_in c = module_view c.«module».now
@@ -21,3 +26,11 @@ varying_context c direction = context_of c.flags c.capabilities (module_in c) (e
 pub record IsKnown (c : EntryContext) : Type 0 where
   pub told : AreInfos (module_in c).types c.infos.now
   pub many : length c.infos.now ≡ length (module_in c).types
+
+-- what is known of types is so of those of the module, whatever entry point it is and whichever way varyings go
+abbrev pub AreKnownIn : EntryContext → KnownTypes → Type 0
+AreKnownIn c known = AreKnown (varying_context c Input) known
+
+-- what is known of interfaces is so of those of the module's entry points
+abbrev pub AreSharedIn : EntryContext → KnownInterfaces → Type 0
+AreSharedIn c known = AreInterfacesKnown c.flags c.capabilities (module_in c).types known

@@ -1,7 +1,9 @@
 pub mod Bindings
+pub mod Interfaces
 pub mod Contexts
 pub mod Faults
 pub mod MeshFaults
+pub mod MeshFields
 pub mod VaryingFaults
 pub mod OutputFaults
 pub mod ConnectionFaults

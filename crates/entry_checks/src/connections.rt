@@ -1,8 +1,8 @@
 //! What connects an entry point with other stages and with hosts.
 
-ghost use Rattle.std.specs.Prelude.{◌≡◌, ◌<◌, ◌↔◌, IfSome, IsTrue, MatchResult, length};
+ghost use Rattle.std.specs.Prelude.{◌≡◌, ◌<◌, ◌↔◌, IfSome, IsTrue, MatchResult, OnOk, length};
 ghost use Rattle.entry_checks.specs.ConnectionFaults.{IsConnectionFault};
-ghost use Rattle.entry_checks.specs.Contexts.{IsKnown, entry_in, module_in};
+ghost use Rattle.entry_checks.specs.Contexts.{AreSharedIn, IsKnown, entry_in, module_in};
 ghost use Rattle.entry_checks.specs.Faults.{IsRefusedFor, IsVariablesFault};
 ghost use Rattle.ir_items.specs.View.{entry_view, module_view};
 ghost use Rattle.ir_items.specs.declared.entries.MeshStageInfo.{MeshStageInfo};
@@ -14,6 +14,7 @@ ghost use Rattle.spec_varyings.specs.Varyings.{HasBlendSources, result_varyings}
 use crate::bindings::check_bindings;
 use crate::context::EntryContext;
 use crate::error::EntryPointError;
+use crate::known::KnownInterfaces;
 use crate::outputs::check_mesh;
 use crate::variables::{check_each, check_immediates};
 use crate::varyings::{check_arguments, check_result};
@@ -78,11 +79,38 @@ pub fn check_connections(
         (λ blended. ConnectionsOK context.now.flags context.now.capabilities m e (HasUseBit uses.now) × (IsTrue blended ↔ HasBlendSources (result_varyings m.types e.function.result)))
         (IsRefusedFor (IsConnectionFault context.now.flags context.now.capabilities m e (HasUseBit uses.now))) }
 {
-    match check_arguments(alloc, context) {
+    let mut known = KnownInterfaces::new(alloc);
+    check_connections_with(alloc, context, uses, &mut known)
+}
+
+/// The same, where `known` has what was found for entry points of the module before, with the same flags and capabilities; what is
+/// found besides is noted.
+///
+/// # Errors
+///
+/// Those of [`check_connections`].
+pub fn check_connections_with(
+    alloc: Global,
+    context: &EntryContext<'_>,
+    uses: &[GlobalUse],
+    known: &mut KnownInterfaces,
+) -> Result<bool, Refusal<EntryPointError>>
+    requires told { IsKnown context.now }
+    requires known { AreSharedIn context.now known.old }
+    requires many { length uses.now ≡ length (module_in context.now).globals }
+    requires output { IfSome (entry_in context.now).mesh (λ (i : MeshStageInfo). i.output_variable < length (module_in context.now).globals) }
+    ensures known { OnOk result (AreSharedIn context.now known.new) }
+    ensures judged { let m = module_in context.now in
+        let e = entry_in context.now in
+        MatchResult result
+        (λ blended. ConnectionsOK context.now.flags context.now.capabilities m e (HasUseBit uses.now) × (IsTrue blended ↔ HasBlendSources (result_varyings m.types e.function.result)))
+        (IsRefusedFor (IsConnectionFault context.now.flags context.now.capabilities m e (HasUseBit uses.now))) }
+{
+    match check_arguments(alloc, context, &mut known.varyings) {
         Ok(()) => {}
         Err(refusal) => return Err(refusal),
     }
-    let blended = match check_result(alloc, context) {
+    let blended = match check_result(alloc, context, &mut known.varyings) {
         Ok(blended) => blended,
         Err(refusal) => return Err(refusal),
     };
@@ -92,7 +120,7 @@ pub fn check_connections(
     }
     match &context.entry.mesh_info {
         None => Ok(blended),
-        Some(mesh) => match check_mesh(alloc, context, mesh) {
+        Some(mesh) => match check_mesh(alloc, context, known, mesh) {
             Ok(()) => Ok(blended),
             Err(refusal) => Err(refusal),
         },

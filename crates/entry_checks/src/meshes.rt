@@ -1,20 +1,29 @@
 //! What a mesh shader gives, by the variable that holds it.
 
-ghost use Rattle.std.specs.Prelude.{◌≡◌, ◌<◌, ◌↔◌, ℕ, IsTrue, List, MatchOption, MatchResult, Option, None, Some, length, map};
+ghost use Rattle.std.specs.Prelude.{◌≡◌, ◌∷◌, ◌<◌, ◌↔◌, [], ℕ, IsTrue, List, MatchOption, MatchResult, OnOk, Option, None, Some, length, map};
+ghost use Rattle.entry_checks.specs.Faults.{IsRefusedFor};
+ghost use Rattle.entry_checks.specs.Interfaces.{AreMeshesKnown};
 ghost use Rattle.entry_checks.specs.MeshFaults.{AreSame, IsImpliedFault, IsSaidFault};
+ghost use Rattle.entry_checks.specs.MeshFields.{HasFields};
+ghost use Rattle.ir_items.specs.Plain.{PlainModule};
 ghost use Rattle.ir_items.specs.View.{module_view};
 ghost use Rattle.ir_types.specs.ExpressionPlain.{expression_view};
 ghost use Rattle.ir_types.specs.Plain.{inner_view, member_view};
 ghost use Rattle.typing_forms.specs.Resolutions.{inner_at};
+ghost use Rattle.spec_entries.specs.Members.{topologies_at};
 ghost use Rattle.spec_entries.specs.Meshes.{FieldsOK, HoldsMost, Implies, IsCount, IsSaid, SaidBy, array_of, most, override_at, override_of, variable_members};
 ghost use Rattle.ir_items.specs.declared.entries.MeshStageInfo.{MeshStageInfo};
 
 use crate::error::EntryPointError;
+use crate::known::KnownMeshes;
 use ir_arena::handle::Handle;
+use ir_faults::refusal::Refusal;
+use ir_faults::with_span::WithSpan;
 use ir_items::{MeshStageInfo, Module};
-use ir_kinds::Scalar;
+use ir_kinds::{MeshOutputTopology, Scalar};
 use ir_types::{ArraySize, Expression, StructMember, TypeInner, key};
 use spec_entries::{MeshParts, inner_at, members_at, parts_of, topology_at};
+use std::alloc::Global;
 use typing_forms::laws::form_equality;
 use typing_forms::{Form, form_of_type};
 
@@ -148,6 +157,39 @@ fn fields_of(module: &Module, parts: MeshParts) -> Option<Fields>
     })
 }
 
+// The type of the primitives.
+fn primitive_of(fields: &Fields) -> Handle<key::IrType>
+    ensures { result ≡ fields.now.primitives.element }
+{
+    fields.primitives.element
+}
+
+// What a variable implies that has these vertices and primitives, of which these are.
+fn implied_by(
+    variable: Handle<key::GlobalVariable>,
+    fields: &Fields,
+    topology: MeshOutputTopology,
+) -> Implied
+    ensures { (m : PlainModule) → HasFields m variable fields.now → topologies_at m.types fields.now.primitives.element ≡ topology ∷ [] → Implies m variable result.info result.vertices_by result.primitives_by }
+{
+    let vertices = fields.vertices;
+    let primitives = fields.primitives;
+    Implied {
+        info: MeshStageInfo {
+            topology,
+            max_vertices: vertices.most,
+            max_vertices_override: None,
+            max_primitives: primitives.most,
+            max_primitives_override: None,
+            vertex_output_type: vertices.element,
+            primitive_output_type: primitives.element,
+            output_variable: variable,
+        },
+        vertices_by: vertices.by,
+        primitives_by: primitives.by,
+    }
+}
+
 /// What a variable implies that holds what a mesh shader gives.
 pub(crate) fn implied_mesh(
     module: &Module,
@@ -170,28 +212,70 @@ pub(crate) fn implied_mesh(
         Some(fields) => fields,
         None => return Err(EntryPointError::BadMeshOutputVariableField),
     };
-    let Fields {
-        vertices,
-        primitives,
-    } = fields;
-    let topology = match topology_at(module, primitives.element) {
-        Some(topology) => topology,
-        None => return Err(EntryPointError::InvalidMeshPrimitiveOutputType),
+    match topology_at(module, primitive_of(&fields)) {
+        Some(topology) => Ok(implied_by(variable, &fields, topology)),
+        None => Err(EntryPointError::InvalidMeshPrimitiveOutputType),
+    }
+}
+
+// What the vertices and the primitives of a variable are, where `known` has what was found of types before.
+fn fields_with(
+    alloc: Global,
+    module: &Module,
+    known: &mut KnownMeshes,
+    variable: Handle<key::GlobalVariable>,
+) -> Result<Fields, Refusal<EntryPointError>>
+    requires within { variable < length (module_view «module».now).globals }
+    requires known { AreMeshesKnown (module_view «module».now).types known.old }
+    ensures known { OnOk result (AreMeshesKnown (module_view «module».now).types known.new) }
+    ensures fine { MatchResult result
+        (HasFields (module_view «module».now) variable)
+        (IsRefusedFor (IsImpliedFault (module_view «module».now) variable)) }
+{
+    let ty = module.global_variables[variable].ty;
+    let parts = match known.find_parts(module, ty) {
+        Ok(Some(parts)) => parts,
+        Ok(None) => {
+            let error = EntryPointError::BadMeshOutputVariableType;
+            return Err(Refusal::Fault(WithSpan::new(alloc, error)));
+        }
+        Err(error) => return Err(Refusal::Memory(error)),
     };
-    Ok(Implied {
-        info: MeshStageInfo {
-            topology,
-            max_vertices: vertices.most,
-            max_vertices_override: None,
-            max_primitives: primitives.most,
-            max_primitives_override: None,
-            vertex_output_type: vertices.element,
-            primitive_output_type: primitives.element,
-            output_variable: variable,
-        },
-        vertices_by: vertices.by,
-        primitives_by: primitives.by,
-    })
+    match fields_of(module, parts) {
+        Some(fields) => Ok(fields),
+        None => {
+            let error = EntryPointError::BadMeshOutputVariableField;
+            Err(Refusal::Fault(WithSpan::new(alloc, error)))
+        }
+    }
+}
+
+// What a variable implies that holds what a mesh shader gives, where `known` has what was found of types before.
+fn implied_with(
+    alloc: Global,
+    module: &Module,
+    known: &mut KnownMeshes,
+    variable: Handle<key::GlobalVariable>,
+) -> Result<Implied, Refusal<EntryPointError>>
+    requires within { variable < length (module_view «module».now).globals }
+    requires known { AreMeshesKnown (module_view «module».now).types known.old }
+    ensures known { OnOk result (AreMeshesKnown (module_view «module».now).types known.new) }
+    ensures fine { MatchResult result
+        (λ i. Implies (module_view «module».now) variable i.info i.vertices_by i.primitives_by)
+        (IsRefusedFor (IsImpliedFault (module_view «module».now) variable)) }
+{
+    let fields = match fields_with(alloc, module, known, variable) {
+        Ok(fields) => fields,
+        Err(refusal) => return Err(refusal),
+    };
+    match known.find_topology(module, primitive_of(&fields)) {
+        Ok(Some(topology)) => Ok(implied_by(variable, &fields, topology)),
+        Ok(None) => {
+            let error = EntryPointError::InvalidMeshPrimitiveOutputType;
+            Err(Refusal::Fault(WithSpan::new(alloc, error)))
+        }
+        Err(error) => Err(Refusal::Memory(error)),
+    }
 }
 
 // The override that a global expression is, if it is one.
@@ -248,17 +332,17 @@ fn is_same(implied: &MeshStageInfo, said: &MeshStageInfo) -> bool
         && implied.primitive_output_type == said.primitive_output_type
 }
 
-/// Whether what is said of a mesh shader is what its output implies.
-pub(crate) fn check_said(module: &Module, mesh: &MeshStageInfo) -> Result<(), EntryPointError>
-    requires { mesh.now.output_variable < length (module_view «module».now).globals }
+// Whether what is said of a mesh shader is what its output implies, which is this.
+fn check_implied(
+    module: &Module,
+    mesh: &MeshStageInfo,
+    implied: &Implied,
+) -> Result<(), EntryPointError>
+    requires { Implies (module_view «module».now) mesh.now.output_variable implied.now.info implied.now.vertices_by implied.now.primitives_by }
     ensures { MatchResult result
         (λ _. IsSaid (module_view «module».now) mesh.now)
         (IsSaidFault (module_view «module».now) mesh.now) }
 {
-    let implied = match implied_mesh(module, mesh.output_variable) {
-        Ok(implied) => implied,
-        Err(error) => return Err(error),
-    };
     if !is_said_by(module, mesh.max_vertices_override, implied.vertices_by) {
         return Err(EntryPointError::BadMeshOutputVariableType);
     }
@@ -269,4 +353,28 @@ pub(crate) fn check_said(module: &Module, mesh: &MeshStageInfo) -> Result<(), En
         return Err(EntryPointError::BadMeshOutputVariableType);
     }
     Ok(())
+}
+
+/// Whether what is said of a mesh shader is what its output implies, where `known` has what was found of types before.
+pub(crate) fn check_said(
+    alloc: Global,
+    module: &Module,
+    known: &mut KnownMeshes,
+    mesh: &MeshStageInfo,
+) -> Result<(), Refusal<EntryPointError>>
+    requires within { mesh.now.output_variable < length (module_view «module».now).globals }
+    requires known { AreMeshesKnown (module_view «module».now).types known.old }
+    ensures known { OnOk result (AreMeshesKnown (module_view «module».now).types known.new) }
+    ensures fine { MatchResult result
+        (λ _. IsSaid (module_view «module».now) mesh.now)
+        (IsRefusedFor (IsSaidFault (module_view «module».now) mesh.now)) }
+{
+    let implied = match implied_with(alloc, module, known, mesh.output_variable) {
+        Ok(implied) => implied,
+        Err(refusal) => return Err(refusal),
+    };
+    match check_implied(module, mesh, &implied) {
+        Ok(()) => Ok(()),
+        Err(error) => Err(Refusal::Fault(WithSpan::new(alloc, error))),
+    }
 }

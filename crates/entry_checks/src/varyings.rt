@@ -1,13 +1,15 @@
 //! What an entry point is given and gives.
 
-ghost use Rattle.std.specs.Prelude.{◌≡◌, ◌⊎◌, ◌↔◌, IsSome, IsTrue, MatchResult, min};
-ghost use Rattle.entry_checks.specs.Contexts.{IsKnown, entry_in, module_in, varying_context};
+ghost use Rattle.std.specs.Prelude.{◌≡◌, ◌⊎◌, ◌↔◌, IsSome, IsTrue, MatchResult, OnOk, false, min};
+ghost use Rattle.entry_checks.specs.Contexts.{AreKnownIn, IsKnown, entry_in, module_in, varying_context};
 ghost use Rattle.entry_checks.specs.Faults.{IsRefusedFor};
 ghost use Rattle.entry_checks.specs.VaryingFaults.{IsAnswerFault, IsArgumentFault, IsGivenFault, IsOutputFault, IsToldOfArgument, IsToldOfResult};
 ghost use Rattle.ir_items.specs.View.{module_view};
+ghost use Rattle.ir_kinds.specs.declared.bindings.BuiltIn.TheVariants.{Position};
 ghost use Rattle.spec_entries.specs.Members.{members_at};
 ghost use Rattle.spec_entries.specs.Results.{AnswerOK, GivesTaskSize};
-ghost use Rattle.spec_varyings.specs.Varyings.{HasBlendSources, VaryingsOK, argument_varyings, mesh_varyings, result_varyings};
+ghost use Rattle.spec_varyings.specs.Varyings.{HasBlendSources, HasBuiltIn, VaryingsOK, argument_varyings, mesh_varyings, result_varyings};
+ghost use Rattle.varying_checks.specs.Known.{IsShownBy};
 
 use crate::context::{EntryContext, varying_context};
 use crate::error::EntryPointError;
@@ -15,16 +17,14 @@ use ir_arena::handle::Handle;
 use ir_faults::refusal::Refusal;
 use ir_faults::with_span::WithSpan;
 use ir_items::{FunctionResult, Module};
-use ir_kinds::{BuiltIn, Scalar, ShaderStage, VectorSize};
+use ir_kinds::{Scalar, ShaderStage, VectorSize};
 use ir_types::key;
 use spec_entries::is_struct;
-use spec_varyings::{Direction, Varying};
+use spec_varyings::Direction;
 use std::alloc::Global;
 use typing_forms::laws::form_equality;
 use typing_forms::{Form, form_of_type};
-use varying_checks::{
-    VaryingRefusal, has_blend_sources, has_built_in, validate_arguments, validate_value,
-};
+use varying_checks::{KnownTypes, Shown, VaryingRefusal};
 
 // An index as a number of four bytes, as far as it goes.
 const fn short(index: usize) -> u32
@@ -66,37 +66,43 @@ fn result_refusal(alloc: Global, refusal: VaryingRefusal) -> Refusal<EntryPointE
 pub(crate) fn check_arguments(
     alloc: Global,
     context: &EntryContext<'_>,
+    known: &mut KnownTypes,
 ) -> Result<(), Refusal<EntryPointError>>
-    requires { IsKnown context.now }
-    ensures { let arguments = (entry_in context.now).function.arguments in
+    requires told { IsKnown context.now }
+    requires known { AreKnownIn context.now known.old }
+    ensures known { OnOk result (AreKnownIn context.now known.new) }
+    ensures fine { let arguments = (entry_in context.now).function.arguments in
         MatchResult result
         (λ _. VaryingsOK (varying_context context.now Direction.Input) (argument_varyings (module_in context.now).types arguments))
         (IsRefusedFor (IsArgumentFault (varying_context context.now Direction.Input) arguments)) }
 {
     let varyings = varying_context(context, Direction::Input);
-    match validate_arguments(alloc, &varyings, &context.entry.function.arguments) {
-        Ok(_) => Ok(()),
+    match known.validate_arguments(alloc, &varyings, &context.entry.function.arguments) {
+        Ok(()) => Ok(()),
         Err(refusal) => Err(argument_refusal(alloc, refusal)),
     }
 }
 
-// The varyings that an entry point's function answers, where it may.
+// What the varyings show that an entry point's function answers, where it may.
 fn answered(
     alloc: Global,
     context: &EntryContext<'_>,
-) -> Result<Vec<Varying>, Refusal<EntryPointError>>
-    requires { IsKnown context.now }
-    ensures { let vs = result_varyings (module_in context.now).types (entry_in context.now).function.result in
+    known: &mut KnownTypes,
+) -> Result<Shown, Refusal<EntryPointError>>
+    requires told { IsKnown context.now }
+    requires known { AreKnownIn context.now known.old }
+    ensures known { OnOk result (AreKnownIn context.now known.new) }
+    ensures fine { let vs = result_varyings (module_in context.now).types (entry_in context.now).function.result in
         MatchResult result
-        (λ found. (found.items ≡ vs) × VaryingsOK (varying_context context.now Direction.Output) vs)
+        (λ shown. IsShownBy vs shown × VaryingsOK (varying_context context.now Direction.Output) vs)
         (IsRefusedFor (IsGivenFault (varying_context context.now Direction.Output) vs)) }
 {
     match &context.entry.function.result {
-        None => Ok(Vec::new(alloc)),
+        None => Ok(Shown::nothing()),
         Some(answer) => {
             let varyings = varying_context(context, Direction::Output);
-            match validate_value(alloc, &varyings, answer.ty, answer.binding) {
-                Ok(found) => Ok(found),
+            match known.validate_value(alloc, &varyings, answer.ty, answer.binding) {
+                Ok(shown) => Ok(shown),
                 Err(refusal) => Err(result_refusal(alloc, refusal)),
             }
         }
@@ -119,21 +125,21 @@ fn gives_task_size(module: &Module, answer: &Option<FunctionResult>) -> bool
     }
 }
 
-// Whether an entry point of a stage answers what it should, by these varyings.
+// Whether an entry point of a stage answers what it should, by whether a position is among it.
 fn check_answer(
     module: &Module,
     stage: ShaderStage,
     answer: &Option<FunctionResult>,
-    varyings: &[Varying],
+    positioned: bool,
 ) -> Result<(), EntryPointError>
-    requires { varyings.now ≡ result_varyings (module_view «module».now).types answer.now }
+    requires { IsTrue positioned ↔ HasBuiltIn (result_varyings (module_view «module».now).types answer.now) (Position false) }
     ensures { MatchResult result
         (λ _. AnswerOK (module_view «module».now).types stage answer.now)
         (IsAnswerFault (module_view «module».now).types stage answer.now) }
 {
     match stage {
         ShaderStage::Vertex => {
-            if has_built_in(varyings, BuiltIn::Position { invariant: false }) {
+            if positioned {
                 Ok(())
             } else {
                 Err(EntryPointError::MissingVertexOutputPosition)
@@ -163,9 +169,12 @@ fn check_answer(
 pub(crate) fn check_result(
     alloc: Global,
     context: &EntryContext<'_>,
+    known: &mut KnownTypes,
 ) -> Result<bool, Refusal<EntryPointError>>
-    requires { IsKnown context.now }
-    ensures { let types = (module_in context.now).types in
+    requires told { IsKnown context.now }
+    requires known { AreKnownIn context.now known.old }
+    ensures known { OnOk result (AreKnownIn context.now known.new) }
+    ensures fine { let types = (module_in context.now).types in
         let answer = (entry_in context.now).function.result in
         let stage = (entry_in context.now).stage in
         MatchResult result
@@ -173,8 +182,8 @@ pub(crate) fn check_result(
         × (IsTrue blended ↔ HasBlendSources (result_varyings types answer)))
         (IsRefusedFor (λ x. IsGivenFault (varying_context context.now Direction.Output) (result_varyings types answer) x ⊎ IsAnswerFault types stage answer x)) }
 {
-    let varyings = match answered(alloc, context) {
-        Ok(varyings) => varyings,
+    let shown = match answered(alloc, context, known) {
+        Ok(shown) => shown,
         Err(refusal) => return Err(refusal),
     };
     let entry = context.entry;
@@ -182,24 +191,27 @@ pub(crate) fn check_result(
         context.module,
         entry.stage,
         &entry.function.result,
-        &varyings,
+        shown.positioned,
     ) {
-        Ok(()) => Ok(has_blend_sources(&varyings)),
+        Ok(()) => Ok(shown.blended),
         Err(error) => Err(Refusal::Fault(WithSpan::new(alloc, error))),
     }
 }
 
-/// The varyings that a mesh shader gives with each vertex or each primitive, of this type, where it may.
+/// What the varyings show that a mesh shader gives with each vertex or each primitive, of this type, where it may.
 pub(crate) fn check_output(
     alloc: Global,
     context: &EntryContext<'_>,
+    known: &mut KnownTypes,
     ty: Handle<key::IrType>,
     direction: Direction,
-) -> Result<Vec<Varying>, Refusal<EntryPointError>>
-    requires { IsKnown context.now }
-    ensures { let types = (module_in context.now).types in
+) -> Result<Shown, Refusal<EntryPointError>>
+    requires told { IsKnown context.now }
+    requires known { AreKnownIn context.now known.old }
+    ensures known { OnOk result (AreKnownIn context.now known.new) }
+    ensures fine { let types = (module_in context.now).types in
         MatchResult result
-        (λ found. (found.items ≡ mesh_varyings types ty) × VaryingsOK (varying_context context.now direction) (mesh_varyings types ty) × IsSome (members_at types ty))
+        (λ shown. IsShownBy (mesh_varyings types ty) shown × VaryingsOK (varying_context context.now direction) (mesh_varyings types ty) × IsSome (members_at types ty))
         (IsRefusedFor (IsOutputFault (varying_context context.now direction) ty)) }
 {
     if !is_struct(context.module, ty) {
@@ -207,8 +219,8 @@ pub(crate) fn check_output(
         return Err(Refusal::Fault(WithSpan::new(alloc, error)));
     }
     let varyings = varying_context(context, direction);
-    match validate_value(alloc, &varyings, ty, None) {
-        Ok(found) => Ok(found),
+    match known.validate_value(alloc, &varyings, ty, None) {
+        Ok(shown) => Ok(shown),
         Err(refusal) => Err(result_refusal(alloc, refusal)),
     }
 }

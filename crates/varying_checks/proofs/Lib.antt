@@ -1,4 +1,7 @@
 mod Told
 mod Places
 mod Located
+pub mod KnownLaws
+pub mod MarkLaws
+mod ArgumentLaws
 pub mod Refuted

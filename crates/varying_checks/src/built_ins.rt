@@ -103,15 +103,15 @@ fn check_need(context: &VaryingContext<'_>, row: &BuiltInRow) -> Result<(), RowF
     }
 }
 
-// Whether workgroups have one invocation in all ways but the first.
-fn are_rows(sizes: [u32; 3]) -> bool
+/// Whether workgroups have one invocation in all ways but the first.
+pub(crate) fn are_rows(sizes: [u32; 3]) -> bool
     ensures { IsTrue result ↔ AreRows sizes }
 {
     sizes[1] <= 1 && sizes[2] <= 1
 }
 
-// Whether no task hands a mesh shader a payload.
-fn is_ahead(context: &VaryingContext<'_>) -> bool
+/// Whether no task hands a mesh shader a payload.
+pub(crate) fn is_ahead(context: &VaryingContext<'_>) -> bool
     ensures { IsTrue result ↔ IsAhead (context_view context.now) }
 {
     context.stage != ShaderStage::Mesh || context.task_payload.is_none()

@@ -1,9 +1,5 @@
-use Rattle.entry_checks.proofs.Told.{mesh_refused}
-use Rattle.entry_checks.specs.Contexts.{entry_in, module_in}
-use Rattle.spec_analysis.specs.Summaries.{HasUseBit}
+use Rattle.entry_checks.specs.Contexts.{module_in}
 use Rattle.entry_checks.proofs.connections.check_connections.Goals as goal
 
-pub returns-in-Err-check_mesh : goal.returns-in-Err-check_mesh
-returns-in-Err-check_mesh c =
-    let x = c.args.context.now in
-    mesh_refused x.flags x.capabilities (module_in x) (entry_in x) (HasUseBit c.args.uses.now) c.in-Some.mesh c.in-Some.is c.in-Err-check_mesh.refusal c.in-Err-check_mesh.ensures
+pub check_connections_with-requires-clause-known : goal.check_connections_with-requires-clause-known
+check_connections_with-requires-clause-known c = let x = c.args.context.now in c.new-known.ensures x.flags x.capabilities (module_in x).types

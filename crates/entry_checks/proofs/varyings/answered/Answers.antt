@@ -10,8 +10,8 @@ use Rattle.spec_varyings.specs.declared.varyings.Direction.TheVariants.{Output}
 use Rattle.varying_checks.specs.View.{context_view}
 use Rattle.entry_checks.proofs.varyings.answered.Goals as goal
 
-pub returns-in-Err : goal.returns-in-Err
-returns-in-Err c =
+pub returns-in-Err-clause-fine : goal.returns-in-Err-clause-fine
+returns-in-Err-clause-fine c =
     let k = varying_context c.args.context.now Output in
     subst (λ (o : Option FunctionResult). IsRefusedFor (IsGivenFault k (result_varyings k.types o)) c.result_refusal.result) (sym c.in-Some.is)
-    (given_refused (context_view c.varying_context-varyings.result) k c.varying_context-varyings.ensures.view (λ (types : List PlainType). varyings_of types 0 c.in-Some.answer.ty c.in-Some.answer.binding) c.in-Err.refusal c.result_refusal.result c.in-Err.ensures c.result_refusal.ensures)
+    (given_refused (context_view c.varying_context-varyings.result) k c.varying_context-varyings.ensures.view (λ (types : List PlainType). varyings_of types 0 c.in-Some.answer.ty c.in-Some.answer.binding) c.in-Err.refusal c.result_refusal.result c.in-Err.ensures.fine c.result_refusal.ensures)
