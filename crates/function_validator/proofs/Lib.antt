@@ -10,4 +10,5 @@ mod Whole
 mod Refuted
 mod Noted
 mod NameLaws
+mod GlobalLemmas
 pub mod EntryWhole

@@ -20,7 +20,7 @@ use Rattle.spec_statements.specs.Functions.{Reading, FunctionSettings}
 use Rattle.spec_statements.specs.Interfaces.{InterfaceOK}
 use Rattle.statement_validator.specs.Faults.{IsBodyRefusal}
 use Rattle.function_validator.proofs.Below.{left_has, right_has, both_have}
-use Rattle.function_validator.specs.Faults.{AllAccepted, IsFaultOfBody, IsUnanswered, IsFaultBehind, in_body, unanswered, IsFunctionFault, in_arity, in_analysis}
+use Rattle.function_validator.specs.Faults.{AllAccepted, IsBodyInOrder, IsFaultOfBody, IsUnanswered, IsFaultBehind, in_body, unanswered, IsFunctionFault, in_arity, in_analysis}
 use Rattle.function_validator.specs.Judged.{AcceptedBelow, AreExpressionsMet, IsBodyMet, AllAnswer, AreBlocksMet, IsBlocksFault, ArePartsMet}
 
 -- ---- refusals
@@ -90,6 +90,12 @@ asked_blocks s c callees stages answered held asked met all run = record {
 pub asked_answers : (s : FunctionSettings) (c : BlockContext) → Has s.flags.0 EXPRESSIONS.0 → (r : Refusal FunctionError) → IsRefusedFor (IsUnanswered c.f) r → IsRefusedFor (λ e. Has s.flags.0 EXPRESSIONS.0 × IsUnanswered c.f e) r
 asked_answers s c asked r h = refused_as (IsUnanswered c.f) (λ e. Has s.flags.0 EXPRESSIONS.0 × IsUnanswered c.f e) (λ e w. (asked, w)) r h
 
+pub unanswered_refused : (s : FunctionSettings) (c : BlockContext) (answered : List ℕ) (held : Option ℕ) → Has s.flags.0 BLOCKS.0 → IsBodyMet s c answered held → (r : Refusal FunctionError)
+    → IsRefusedFor (λ e. Has s.flags.0 EXPRESSIONS.0 × IsUnanswered c.f e) r → IsRefusedFor (IsBlocksFault s c) r
+unanswered_refused s c answered held asked met r h =
+    let ordered : IsBodyInOrder s c = record { control = met.control; scope = met.scope; once = met.once; statements = met.statements; payloads = met.payloads.payloads; strict = met.strict } in
+    refused_as (λ e. Has s.flags.0 EXPRESSIONS.0 × IsUnanswered c.f e) (IsBlocksFault s c) (λ e w. (asked, inr (ordered, w.0, w.1))) r h
+
 -- ---- all parts
 
 pub parts_met : (R : Reading) (s : FunctionSettings) (c : BlockContext) (callees : List ShaderStages) (body own : ShaderStages) (held : Option ℕ) (stages : ShaderStages)
@@ -112,4 +118,4 @@ parts_met R s c callees body own held stages is interface expressions blocks = r
 
 pub behind_blocks : (R : Reading) (F : Faults) (s : FunctionSettings) (c : BlockContext) → InterfaceOK c s.entry → AllAccepted R s c → (e : FunctionError) → IsBlocksFault s c e → IsFaultBehind R F s c e
 behind_blocks R F s c interface accepted e (asked, inl wrong) = in_body interface accepted asked wrong
-behind_blocks R F s c interface accepted e (asked, inr (expressions, wrong)) = unanswered interface accepted asked expressions wrong
+behind_blocks R F s c interface accepted e (asked, inr (ordered, expressions, wrong)) = unanswered interface accepted asked ordered expressions wrong

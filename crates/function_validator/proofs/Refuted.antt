@@ -81,7 +81,7 @@ module _ (R : Reading) (F : Faults) (s : FunctionSettings) where
   behind_refuted m f forms e refutes (in_interface w) ok same = (by_interface (block_context s m f forms) s.entry e).interface w (subst (λ (x : List Form). InterfaceOK (block_context s m f x) s.entry) same ok.interface)
   behind_refuted m f forms e refutes (in_expressions interface asked w) ok same = expressions_refuted (block_context s m f forms) e refutes w (λ k lt. subst (λ (x : List Form). R.IsAccepted s.capabilities x k) same (ok.expressions asked k lt))
   behind_refuted m f forms e refutes (in_body interface accepted asked w) ok same = body_refuted s (block_context s m f forms) e w (subst (λ (x : List Form). BodyOK s (block_context s m f x)) same (ok.body asked))
-  behind_refuted m f forms e refutes (unanswered interface accepted asked expressions w) ok same = unanswered_refuted f e w m ok.forms (ok.body asked) expressions
+  behind_refuted m f forms e refutes (unanswered interface accepted asked ordered expressions w) ok same = unanswered_refuted f e w m ok.forms (ok.body asked) expressions
 
   pub function_refuted : (m : PlainModule) (f : PlainFunction) (e : FunctionError) → OneForm R → AnalysisRefutes R F → ExpressionsRefute R F → IsFunctionFault R F s m f e → FunctionOK R s m f → ⊥
   function_refuted m f e one analysis refutes (in_arity w) ok = arities_refuted m f e w ok.arity

@@ -7,17 +7,24 @@ use Rattle.error_functions.specs.declared.error.FunctionError.TheVariants as err
 use Rattle.function_interface.specs.Analysis.{Faults}
 use Rattle.function_interface.specs.Arities.{IsArityFault}
 use Rattle.function_validator.specs.Interfaces.{IsInterfaceFault}
-use Rattle.ir_blocks.specs.Places.{Place}
+use Rattle.ir_blocks.specs.Control.{ControlOK}
+use Rattle.ir_blocks.specs.Places.{Place, StandsAt}
+use Rattle.ir_blocks.specs.Plain.{PlainStatement}
 use Rattle.ir_flags.specs.Sets.{Has}
 use Rattle.ir_flags.specs.declared.settings.TheConstants.ValidationFlags.{EXPRESSIONS, BLOCKS, STRICT_SCOPE}
 use Rattle.ir_items.specs.Plain.{PlainFunction, PlainModule}
 use Rattle.operation_checks.specs.Payloads.{IsPayloadsFault}
 use Rattle.body_checks.specs.Faults.{IsScopeFault}
 use Rattle.spec_handles.specs.Conditions.{AritiesMatch}
+use Rattle.spec_statements.specs.Answered.{EachOnce}
 use Rattle.spec_statements.specs.BlockContext.{BlockContext}
 use Rattle.spec_statements.specs.Functions.{Reading, FunctionSettings, AreFormsBy, block_context}
 use Rattle.spec_statements.specs.Interfaces.{InterfaceOK}
+use Rattle.spec_statements.specs.Payloads.{PayloadsOK}
 use Rattle.spec_statements.specs.Results.{AnswersBy, StandsForAnswer}
+use Rattle.spec_statements.specs.Scope.{ScopeOK}
+use Rattle.spec_statements.specs.Statements.{StatementOK}
+use Rattle.spec_statements.specs.Strict.{StrictOK}
 use Rattle.statement_validator.specs.Faults.{IsBodyFault}
 use Rattle.strict_checks.specs.Faults.{IsStrictFault}
 use Rattle.typing_forms.specs.declared.form.Form.{Form}
@@ -44,6 +51,15 @@ AllAccepted reading s c = Has s.flags.0 EXPRESSIONS.0 → (e : ℕ) → e < leng
 abbrev pub IsFaultOfBody : FunctionSettings → BlockContext → FunctionError → Type 0
 IsFaultOfBody s c e = IsControlFault c.f.body e ⊎ (IsScopeFault s.flags c.f e ⊎ (IsBodyFault c e ⊎ (IsPayloadsFault c.m c.f s.held e ⊎ (Has s.flags.0 STRICT_SCOPE.0 × IsStrictFault c.f e))))
 
+-- nothing of this is wrong with the body
+pub record IsBodyInOrder (s : FunctionSettings) (c : BlockContext) : Type 0 where
+  pub control : ControlOK c.f.body
+  pub scope : ScopeOK c.f
+  pub once : EachOnce c.f.body
+  pub statements : (p : Place) (u : PlainStatement) → StandsAt c.f.body p u → StatementOK c u
+  pub payloads : PayloadsOK c.m c.f s.held
+  pub strict : Has s.flags.0 STRICT_SCOPE.0 → StrictOK c.f
+
 -- what stands for an answer is answered by no statement
 pub record IsNotAnswered (f : PlainFunction) (e : ℕ) : Type 0 where
   pub stands : StandsForAnswer f.expressions e
@@ -60,7 +76,7 @@ pub data IsFaultBehind (reading : Reading) (faults : Faults) (s : FunctionSettin
   in_interface : IsInterfaceFault c s.entry e → IsFaultBehind reading faults s c e
   in_expressions : InterfaceOK c s.entry → Has s.flags.0 EXPRESSIONS.0 → IsExpressionFault reading faults c e → IsFaultBehind reading faults s c e
   in_body : InterfaceOK c s.entry → AllAccepted reading s c → Has s.flags.0 BLOCKS.0 → IsFaultOfBody s c e → IsFaultBehind reading faults s c e
-  unanswered : InterfaceOK c s.entry → AllAccepted reading s c → Has s.flags.0 BLOCKS.0 → Has s.flags.0 EXPRESSIONS.0 → IsUnanswered c.f e → IsFaultBehind reading faults s c e
+  unanswered : InterfaceOK c s.entry → AllAccepted reading s c → Has s.flags.0 BLOCKS.0 → IsBodyInOrder s c → Has s.flags.0 EXPRESSIONS.0 → IsUnanswered c.f e → IsFaultBehind reading faults s c e
 
 -- The arity of calls, the analysis, the variables with the arguments and the result, the expressions, the body, and what stands
 -- for answers: the fault is one of the first of these with which something is wrong.

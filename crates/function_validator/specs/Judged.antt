@@ -1,6 +1,6 @@
 -- What the parts of a check of a function find.
 use Rattle.std.specs.Prelude.{◌↔◌, ◌⊎◌, ◌<◌, ℕ, Contains, List, Option, length}
-use Rattle.function_validator.specs.Faults.{AllAccepted, IsFaultOfBody, IsUnanswered}
+use Rattle.function_validator.specs.Faults.{AllAccepted, IsBodyInOrder, IsFaultOfBody, IsUnanswered}
 use Rattle.error_functions.specs.declared.error.FunctionError.{FunctionError}
 use Rattle.ir_blocks.specs.Control.{ControlOK}
 use Rattle.ir_blocks.specs.Places.{Place, StandsAt}
@@ -58,9 +58,9 @@ pub record AreBlocksMet (s : FunctionSettings) (c : BlockContext) (callees : Lis
   pub run : (stage : ℕ) → Has stages.0 stage ↔ (Has all_stages.0 stage × (Has s.flags.0 BLOCKS.0 → (p : Place) (u : PlainStatement) → StandsAt c.f.body p u → Has (statement_stages s.subgroup_stages callees u).0 stage))
   pub held_after : IsHeldAfter s.flags c.m c.f s.held held
 
--- something is wrong with the body, or what stands for an answer is not answered
+-- something is wrong with the body, or nothing is, and what stands for an answer is not answered
 abbrev pub IsBlocksFault : FunctionSettings → BlockContext → FunctionError → Type 0
-IsBlocksFault s c e = Has s.flags.0 BLOCKS.0 × (IsFaultOfBody s c e ⊎ (Has s.flags.0 EXPRESSIONS.0 × IsUnanswered c.f e))
+IsBlocksFault s c e = Has s.flags.0 BLOCKS.0 × (IsFaultOfBody s c e ⊎ (IsBodyInOrder s c × Has s.flags.0 EXPRESSIONS.0 × IsUnanswered c.f e))
 
 -- ---- all parts behind the analysis
 

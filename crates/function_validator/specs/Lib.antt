@@ -11,3 +11,4 @@ pub mod Judged
 pub mod EntryFaults
 pub mod Validated
 pub mod Names
+pub mod Globals

@@ -1,7 +1,8 @@
 //! What connects an entry point with other stages and with hosts, where this is kept of its function.
 
-ghost use Rattle.std.specs.Prelude.{◌≡◌, ◌<◌, ◌↔◌, ◌||◌, IfOk, IfSome, IsTrue, MatchResult, false, length};
+ghost use Rattle.std.specs.Prelude.{◌≡◌, ◌<◌, ◌↔◌, ◌||◌, IfOk, IfSome, IsTrue, MatchResult, OnOk, false, length};
 ghost use Rattle.entry_checks.specs.Faults.{IsRefusedFor};
+ghost use Rattle.entry_checks.specs.Interfaces.{AreInterfacesKnown};
 ghost use Rattle.function_validator.specs.EntryFaults.{IsUnconnected};
 ghost use Rattle.function_validator.specs.Validated.{AddsOwnUses, TellsSame};
 ghost use Rattle.ir_items.specs.View.{entry_view, module_view};
@@ -13,7 +14,7 @@ ghost use Rattle.spec_varyings.specs.Varyings.{HasBlendSources, result_varyings}
 
 use crate::settings::FunctionSettings;
 use crate::uses::{note_own, uses_of};
-use entry_checks::{EntryContext, EntryPointError, check_connections};
+use entry_checks::{EntryContext, EntryPointError, KnownInterfaces, check_connections_with};
 use function_interface::Lower;
 use ir_faults::refusal::Refusal;
 use ir_items::{EntryPoint, Module};
@@ -28,11 +29,14 @@ fn judge<L: Lower>(
     module: &Module,
     entry: &EntryPoint,
     info: &L::Info,
+    known: &mut KnownInterfaces,
 ) -> Result<bool, Refusal<EntryPointError>>
     requires made { L.is_for lower.now (module_view «module».now) }
     requires many { length (L.summary lower.now info.now).uses ≡ length (module_view «module».now).globals }
     requires output { IfSome entry.now.mesh_info (λ (i : MeshStageInfo). i.output_variable < length (module_view «module».now).globals) }
-    ensures { let m = module_view «module».now in
+    requires known { AreInterfacesKnown settings.now.flags settings.now.capabilities (module_view «module».now).types known.old }
+    ensures known { OnOk result (AreInterfacesKnown settings.now.flags settings.now.capabilities (module_view «module».now).types known.new) }
+    ensures judged { let m = module_view «module».now in
         let e = entry_view entry.now in
         let Uses = HasUseBit (L.summary lower.now info.now).uses in
         MatchResult result
@@ -50,7 +54,7 @@ fn judge<L: Lower>(
         infos: lower.type_infos(),
         entry,
     };
-    match check_connections(alloc, &context, &uses) {
+    match check_connections_with(alloc, &context, &uses, known) {
         Ok(blended) => Ok(blended),
         Err(refusal) => Err(refusal),
     }
@@ -97,12 +101,15 @@ pub(crate) fn connect<L: Lower>(
     module: &Module,
     entry: &EntryPoint,
     info: L::Info,
+    known: &mut KnownInterfaces,
 ) -> Result<L::Info, Refusal<EntryPointError>>
     requires made { L.is_for lower.now (module_view «module».now) }
     requires payload { IfSome entry.now.task_payload (λ g. g < length (module_view «module».now).globals) }
     requires output { IfSome entry.now.mesh_info (λ (i : MeshStageInfo). i.output_variable < length (module_view «module».now).globals) }
     requires many { length (L.summary lower.now info).uses ≡ length (module_view «module».now).globals }
     requires unblended { L.blending lower.now info ≡ false }
+    requires known { AreInterfacesKnown settings.now.flags settings.now.capabilities (module_view «module».now).types known.old }
+    ensures known { OnOk result (AreInterfacesKnown settings.now.flags settings.now.capabilities (module_view «module».now).types known.new) }
     ensures judged { let m = module_view «module».now in
         let e = entry_view entry.now in
         let Uses = EntryUses e (HasUseBit (L.summary lower.now info).uses) in
@@ -113,7 +120,7 @@ pub(crate) fn connect<L: Lower>(
     ensures blended { IfOk result (λ kept. IsTrue (L.blending lower.now kept) ↔ HasBlendSources (result_varyings (module_view «module».now).types (entry_view entry.now).function.result)) }
 {
     let info = with_own(lower, info, entry);
-    match judge(lower, alloc, settings, module, entry, &info) {
+    match judge(lower, alloc, settings, module, entry, &info, known) {
         Ok(blended) => Ok(with_blending(lower, info, blended)),
         Err(refusal) => Err(refusal),
     }

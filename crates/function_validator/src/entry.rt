@@ -1,7 +1,8 @@
 //! Whether a module may have an entry point.
 
-ghost use Rattle.std.specs.Prelude.{◌≡◌, ◌<◌, ◌↔◌, IfSome, IsTrue, MatchResult, length, map};
+ghost use Rattle.std.specs.Prelude.{◌≡◌, ◌<◌, ◌↔◌, IfSome, IsTrue, MatchResult, OnOk, length, map};
 ghost use Rattle.entry_checks.specs.Faults.{IsRefusedFor};
+ghost use Rattle.entry_checks.specs.Interfaces.{AreInterfacesKnown};
 ghost use Rattle.function_validator.specs.EntryFaults.{IsRefusedAs, IsToldAs};
 ghost use Rattle.function_validator.specs.Validated.{IsEntryValidated, own_settings};
 ghost use Rattle.function_validator.specs.Settings.{settings_view};
@@ -21,7 +22,7 @@ use crate::connect::connect;
 use crate::settings::FunctionSettings;
 use crate::validate::{Validated, validate_function_with};
 use bitflags::Flags;
-use entry_checks::{EntryPointError, check_payload, check_stage, stage_set};
+use entry_checks::{EntryPointError, KnownInterfaces, check_payload, check_stage, stage_set};
 use error_functions::FunctionError;
 use function_interface::Lower;
 use ir_faults::refusal::Refusal;
@@ -100,11 +101,22 @@ pub fn validate_entry_point<L: Lower>(
         (λ v. IsEntryValidated (L.reading lower.now q) q.stages s m e (L.summary lower.now v.info) (L.noted lower.now v.info) (L.blending lower.now v.info) v.held)
         (IsRefusedFor (IsRefusedAs (L.reading lower.now q) (L.faults lower.now q) q.stages (HasUse m e.function) s m e)) }
 {
-    validate_entry_point_with(lower, alloc, settings, module, entry, callees, &[])
+    let mut known = KnownInterfaces::new(alloc);
+    validate_entry_point_with(
+        lower,
+        alloc,
+        settings,
+        module,
+        entry,
+        callees,
+        &[],
+        &mut known,
+    )
 }
 
 /// The same, where `descriptors` has marks of the types that are made as the module's type of rays is, found once for all its
-/// entry points (`descriptors_of` of `statement_checks`).
+/// entry points (`descriptors_of` of `statement_checks`), and `known` what was found of the interfaces of those before, with the
+/// same flags and capabilities.
 ///
 /// # Errors
 ///
@@ -117,16 +129,19 @@ pub fn validate_entry_point_with<L: Lower>(
     entry: &EntryPoint,
     callees: &[L::Info],
     descriptors: &[bool],
+    known: &mut KnownInterfaces,
 ) -> Result<Validated<L::Info>, Refusal<EntryPointError>>
     requires made { L.is_for lower.now (module_view «module».now) }
     requires handles { HandlesInRange (module_view «module».now) (entry_view entry.now).function }
     requires precede { OperandsPrecede (entry_view entry.now).function.expressions }
     requires parents { ParentsPrecede (module_view «module».now).filters }
     requires marked { AreDescriptors (module_view «module».now).types (module_view «module».now).special.ray_desc descriptors.now }
+    requires interfaces { AreInterfacesKnown settings.now.flags settings.now.capabilities (module_view «module».now).types known.old }
     requires payload { IfSome entry.now.task_payload (λ g. g < length (module_view «module».now).globals) }
     requires output { IfSome entry.now.mesh_info (λ (i : MeshStageInfo). i.output_variable < length (module_view «module».now).globals) }
     requires known { CalleesKnown (module_view «module».now) (entry_view entry.now).function (map (L.summary lower.now) callees.now) }
-    ensures { let m = module_view «module».now in
+    ensures interfaces { OnOk result (AreInterfacesKnown settings.now.flags settings.now.capabilities (module_view «module».now).types known.new) }
+    ensures judged { let m = module_view «module».now in
         let e = entry_view entry.now in
         let q = question m e.function (map (L.summary lower.now) callees.now) (map (L.noted lower.now) callees.now) in
         let s = own_settings settings.now in
@@ -159,7 +174,7 @@ pub fn validate_entry_point_with<L: Lower>(
         let error = EntryPointError::ForbiddenStageOperations;
         return Err(Refusal::Fault(WithSpan::new(alloc, error)));
     }
-    match connect(lower, alloc, settings, module, entry, validated.info) {
+    match connect(lower, alloc, settings, module, entry, validated.info, known) {
         Ok(info) => Ok(Validated {
             info,
             held: validated.held,

@@ -14,6 +14,7 @@ mod entry;
 mod expressions;
 mod flags;
 mod forms;
+mod globals;
 mod interface;
 mod item_names;
 pub mod laws;
@@ -27,6 +28,7 @@ mod validate;
 
 pub use arguments::check_arguments;
 pub use entry::{validate_entry_point, validate_entry_point_with};
+pub use globals::validate_global_var;
 pub use interface::check_interface;
 pub use locals::{check_local, check_locals};
 pub use names::SeenNames;

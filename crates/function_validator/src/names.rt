@@ -1,6 +1,6 @@
 //! The names of entry points, each beside its stage.
 
-ghost use Rattle.std.specs.Prelude.{◌≡◌, ◌⊎◌, ◌↔◌, ℕ, IfOk, IsTrue, List, OnOk, if◌then◌else◌, not, string_bytes, true};
+ghost use Rattle.std.specs.Prelude.{◌≡◌, ◌⊎◌, ◌↔◌, ℕ, IfOk, IsTrue, List, OnErr, OnOk, if◌then◌else◌, not, string_bytes, true};
 ghost use Rattle.std.specs.BTreeSet.{contains_text};
 ghost use Rattle.std.specs.Str.{bytes_eq};
 ghost use Rattle.function_validator.specs.Names.{IsSeen, key_of, stage_letter};
@@ -48,6 +48,7 @@ fn key_of(alloc: Global, entry: &EntryPoint) -> Result<String, AllocError>
 fn note_key(keys: &mut BTreeSet<String>, key: String) -> Result<bool, AllocError>
     ensures fresh { IfOk result (λ fresh. fresh ≡ not (contains_text keys.old (string_bytes key))) }
     ensures noted { OnOk result ((bs : List ℕ) → contains_text keys.new bs ≡ (if bytes_eq (string_bytes key) bs then true else contains_text keys.old bs)) }
+    ensures err { OnErr result (keys.new ≡ keys.old) }
 {
     match keys.insert(key) {
         Ok(fresh) => return Ok(fresh),
@@ -66,11 +67,13 @@ impl SeenNames {
         }
     }
 
-    /// Notes an entry point, and whether none of its stage and its name was seen. The error is out of memory.
+    /// Notes an entry point, and whether none of its stage and its name was seen. The error is out of memory, and leaves what
+    /// was seen.
     pub fn note(&mut self, alloc: Global, entry: &EntryPoint) -> Result<bool, AllocError>
         ensures fresh { IfOk result (λ fresh. IsTrue fresh ↔ ¬ IsSeen self.old (entry_view entry.now).stage (entry_view entry.now).name) }
         ensures noted { OnOk result ((stage : ShaderStage) (name : List ℕ) → IsSeen self.new stage name
             ↔ (IsSeen self.old stage name ⊎ (((entry_view entry.now).stage ≡ stage) × ((entry_view entry.now).name ≡ name)))) }
+        ensures err { OnErr result (self.new ≡ self.old) }
     {
         let key = key_of(alloc, entry)?;
         note_key(&mut self.keys, key)

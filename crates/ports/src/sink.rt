@@ -38,6 +38,13 @@ impl<W> Sink<W> {
     {
         self.failed
     }
+
+    /// The writer inside.
+    pub fn into_inner(self) -> W
+        ensures { result ≡ writer_of self }
+    {
+        self.writer
+    }
 }
 
 impl<W: WriteCall> Sink<W> {

@@ -142,6 +142,7 @@ module _ (s : FunctionSettings) (m : PlainModule) (handles : HandlesOK m) (summa
       fails = refused_at x.index x.error r.here;
     };
     summaries = summaries;
+    many = many;
     known = known;
     stages = stages;
     run = run;

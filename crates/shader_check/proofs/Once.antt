@@ -1,6 +1,5 @@
 -- One text is expected for some bytes.
-use Rattle.std.proofs.Common.{◌≡◌, ◌↔◌, IsTrue, inl, inr, ℕ, ◌<◌, Bool, true, false, List, ◌++◌, refl, sym, ap, subst, ◌∙◌, arith}
-use Rattle.std.proofs.lemmas.Bool.{cases_lt}
+use Rattle.std.proofs.Common.{◌≡◌, ◌↔◌, IsTrue, ℕ, Bool, true, false, List, ◌++◌, refl, sym, ap, subst, ◌∙◌}
 use Rattle.ir_flags.specs.Settings.{PlainSettings}
 use Rattle.ir_items.specs.Plain.{PlainModule}
 use Rattle.ir_items.proofs.Returned.{one_returned}
@@ -12,18 +11,11 @@ use Rattle.judgement.specs.declared.finding.Step.{Step}
 use Rattle.judgement.specs.declared.finding.Step.TheVariants.{Layout, «Type», Typing, Expression, Constant, Override, Global, Function, Entry}
 use Rattle.judgement.specs.declared.finding.Finding.{Finding}
 use Rattle.judgement.specs.declared.finding.Finding.TheVariants.{Accepted, RefusedDocument, RefusedHandles, Refused}
-use Rattle.spec_entries.specs.Modules as entries
-use Rattle.spec_entries.specs.Modules.{EntryAtOK, EntriesOK}
-use Rattle.spec_functions.specs.Functions as functions
-use Rattle.spec_functions.specs.Functions.{FunctionAtOK, FunctionsOK}
-use Rattle.spec_globals.specs.Globals as globals
-use Rattle.spec_globals.specs.Globals.{GlobalOK, GlobalsOK}
 use Rattle.spec_handles.specs.InOrder.{HandlesOK}
-use Rattle.spec_modules.proofs.Failures.{one_failure, none_fails}
 use Rattle.spec_modules.specs.Steps as step
-use Rattle.spec_modules.specs.Steps.{ModuleStep, IsFirstFailing, ModuleOK}
 use Rattle.spec_report.proofs.OneReport.{one_report}
 use Rattle.spec_report.specs.Reports.{IsReport}
+use Rattle.shader_check.proofs.Failing.{Family, up_to_overrides, at_variables, at_functions, at_entries, IsFailing, in_order, none_failing, failing_once}
 use Rattle.shader_check.specs.Theorem.{Finds, FindsIn, Judged, OneText, IsReportOn, IsTold}
 
 -- two truths that say the same are one
@@ -33,26 +25,9 @@ same_truth true false P x y = absurd (let z = y.1 (x.0 refl) in cc)
 same_truth false true P x y = absurd (let z = x.1 (y.0 refl) in cc)
 same_truth false false P x y = refl
 
--- the first that is not such is one
-first_once : (OK : ℕ → Type 0) (i j : ℕ) → ((k : ℕ) → k < i → OK k) → ¬ OK i → ((k : ℕ) → k < j → OK k) → ¬ OK j → i ≡ j
-first_once OK i j before fails before' fails' =
-    elim (cases_lt i j) [
-      | inl lt ↦ absurd (fails (before' i lt))
-      | inr le ↦ elim (cases_lt j i) [
-        | inl lt ↦ absurd (fails' (before j lt))
-        | inr ge ↦ omega arith
-      ]
-    ]
+-- ---- the step of a family
 
--- ---- the steps that are refused: those up to overrides, and those behind
-
-data Family : Type 0 where
-  up_to_overrides : ModuleStep → Family
-  at_variables : Family
-  at_functions : Family
-  at_entries : Family
-
-abbrev step_in : Step → Family
+abbrev pub step_in : Step → Family
 step_in Layout = up_to_overrides step.layout
 step_in «Type» = up_to_overrides step.type
 step_in Typing = up_to_overrides step.typing
@@ -63,7 +38,7 @@ step_in Global = at_variables
 step_in Function = at_functions
 step_in Entry = at_entries
 
-abbrev step_back : Family → Step
+abbrev pub step_back : Family → Step
 step_back (up_to_overrides step.layout) = Layout
 step_back (up_to_overrides step.type) = «Type»
 step_back (up_to_overrides step.typing) = Typing
@@ -86,13 +61,10 @@ back Function = refl
 back Entry = refl
 
 module _ (s : PlainSettings) (m : PlainModule) where
-  abbrev IsFailing : Family → ℕ → Type 0
-  IsFailing (up_to_overrides k) i = IsFirstFailing (module_settings s) m k i
-  IsFailing at_variables i = ModuleOK (module_settings s) m × globals.IsFirstFailing s.flags s.capabilities m i
-  IsFailing at_functions i = ModuleOK (module_settings s) m × GlobalsOK s.flags s.capabilities m × functions.IsFirstFailing (function_settings s) m i
-  IsFailing at_entries i = ModuleOK (module_settings s) m × GlobalsOK s.flags s.capabilities m × FunctionsOK (function_settings s) m × entries.IsFirstFailing (function_settings s) m i
+  abbrev Fails : Family → ℕ → Type 0
+  Fails = IsFailing (module_settings s) (function_settings s) m
 
-  as_failing : (t : Step) (i : ℕ) → IsFinding s m (Refused t i) → IsFailing (step_in t) i
+  as_failing : (t : Step) (i : ℕ) → IsFinding s m (Refused t i) → Fails (step_in t) i
   as_failing Layout i x = x
   as_failing «Type» i x = x
   as_failing Typing i x = x
@@ -103,60 +75,15 @@ module _ (s : PlainSettings) (m : PlainModule) where
   as_failing Function i x = x
   as_failing Entry i x = x
 
-  in_order : (o : Family) (i : ℕ) → IsFailing o i → HandlesOK m
-  in_order (up_to_overrides k) i x = x.reached.handles
-  in_order at_variables i x = x.0.handles
-  in_order at_functions i x = x.0.handles
-  in_order at_entries i x = x.0.handles
+  handles_in_order : (o : Family) (i : ℕ) → Fails o i → HandlesOK m
+  handles_in_order o i x = in_order (module_settings s) (function_settings s) m o i x
 
-  -- no global variable fails where all are accepted
-  no_variable : (i : ℕ) → GlobalsOK s.flags s.capabilities m → globals.IsFirstFailing s.flags s.capabilities m i → ⊥
-  no_variable i all first = first.fails (all i first.within)
-
-  no_function : (i : ℕ) → FunctionsOK (function_settings s) m → functions.IsFirstFailing (function_settings s) m i → ⊥
-  no_function i all first = first.fails (all i first.within)
-
-  no_entry : (i : ℕ) → EntriesOK (function_settings s) m → entries.IsFirstFailing (function_settings s) m i → ⊥
-  no_entry i all first = first.fails (all i first.within)
-
-  not_accepted : (o : Family) (i : ℕ) (strict : Bool) → IsFinding s m (Accepted strict) → IsFailing o i → ⊥
-  not_accepted (up_to_overrides k) i strict x y = none_fails (module_settings s) m k i y x.0
-  not_accepted at_variables i strict x y = no_variable i x.1 y.1
-  not_accepted at_functions i strict x y = no_function i x.2 y.2
-  not_accepted at_entries i strict x y = no_entry i x.3 y.3
-
-  variable_once : (i j : ℕ) → globals.IsFirstFailing s.flags s.capabilities m i → globals.IsFirstFailing s.flags s.capabilities m j → i ≡ j
-  variable_once i j f g = first_once (GlobalOK s.flags s.capabilities m) i j f.before f.fails g.before g.fails
-
-  function_once : (i j : ℕ) → functions.IsFirstFailing (function_settings s) m i → functions.IsFirstFailing (function_settings s) m j → i ≡ j
-  function_once i j f g = first_once (FunctionAtOK (function_settings s) m) i j f.before f.fails g.before g.fails
-
-  entry_once : (i j : ℕ) → entries.IsFirstFailing (function_settings s) m i → entries.IsFirstFailing (function_settings s) m j → i ≡ j
-  entry_once i j f g = first_once (EntryAtOK (function_settings s) m) i j f.before f.fails g.before g.fails
-
-  failing_once : (o p : Family) (i j : ℕ) → IsFailing o i → IsFailing p j → (o ≡ p) × (i ≡ j)
-  failing_once (up_to_overrides k) (up_to_overrides l) i j x y =
-      let e = one_failure (module_settings s) m k l i j x y in
-      (ap up_to_overrides e.0, e.1)
-  failing_once (up_to_overrides k) at_variables i j x y = absurd (none_fails (module_settings s) m k i x y.0)
-  failing_once (up_to_overrides k) at_functions i j x y = absurd (none_fails (module_settings s) m k i x y.0)
-  failing_once (up_to_overrides k) at_entries i j x y = absurd (none_fails (module_settings s) m k i x y.0)
-  failing_once at_variables (up_to_overrides l) i j x y = absurd (none_fails (module_settings s) m l j y x.0)
-  failing_once at_variables at_variables i j x y = (refl, variable_once i j x.1 y.1)
-  failing_once at_variables at_functions i j x y = absurd (no_variable i y.1 x.1)
-  failing_once at_variables at_entries i j x y = absurd (no_variable i y.1 x.1)
-  failing_once at_functions (up_to_overrides l) i j x y = absurd (none_fails (module_settings s) m l j y x.0)
-  failing_once at_functions at_variables i j x y = absurd (no_variable j x.1 y.1)
-  failing_once at_functions at_functions i j x y = (refl, function_once i j x.2 y.2)
-  failing_once at_functions at_entries i j x y = absurd (no_function i y.2 x.2)
-  failing_once at_entries (up_to_overrides l) i j x y = absurd (none_fails (module_settings s) m l j y x.0)
-  failing_once at_entries at_variables i j x y = absurd (no_variable j x.1 y.1)
-  failing_once at_entries at_functions i j x y = absurd (no_function j x.2 y.2)
-  failing_once at_entries at_entries i j x y = (refl, entry_once i j x.3 y.3)
+  not_accepted : (o : Family) (i : ℕ) (strict : Bool) → IsFinding s m (Accepted strict) → Fails o i → ⊥
+  not_accepted o i strict x y = none_failing (module_settings s) (function_settings s) m o i x.0 x.1 x.2 x.3 y
 
   refused_once : (t u : Step) (i j : ℕ) → IsFinding s m (Refused t i) → IsFinding s m (Refused u j) → Refused t i ≡ Refused u j
   refused_once t u i j x y =
-      let e = failing_once (step_in t) (step_in u) i j (as_failing t i x) (as_failing u j y) in
+      let e = failing_once (module_settings s) (function_settings s) m (step_in t) (step_in u) i j (as_failing t i x) (as_failing u j y) in
       let same = sym (back t) ∙ (ap step_back e.0 ∙ back u) in
       ap (λ v. Refused v i) same ∙ ap (Refused u) e.1
 
@@ -168,9 +95,9 @@ module _ (s : PlainSettings) (m : PlainModule) where
   finding_once (Accepted strict) (Refused t j) x y = absurd (not_accepted (step_in t) j strict x (as_failing t j y))
   finding_once RefusedHandles (Accepted strict) x y = absurd (x y.0.handles)
   finding_once RefusedHandles RefusedHandles x y = refl
-  finding_once RefusedHandles (Refused t j) x y = absurd (x (in_order (step_in t) j (as_failing t j y)))
+  finding_once RefusedHandles (Refused t j) x y = absurd (x (handles_in_order (step_in t) j (as_failing t j y)))
   finding_once (Refused t i) (Accepted strict) x y = absurd (not_accepted (step_in t) i strict y (as_failing t i x))
-  finding_once (Refused t i) RefusedHandles x y = absurd (y (in_order (step_in t) i (as_failing t i x)))
+  finding_once (Refused t i) RefusedHandles x y = absurd (y (handles_in_order (step_in t) i (as_failing t i x)))
   finding_once (Refused t i) (Refused u j) x y = refused_once t u i j x y
 
 -- one module is judged for a document

@@ -1,5 +1,5 @@
 -- There are no bytes for which no text is expected.
-use Rattle.std.proofs.Common.{◌≡◌, ◌↔◌, ◌⊎◌, IsTrue, nat_eq, inl, inr, ℕ, List, [], ◌++◌, Bool, true, false, length, refl, subst}
+use Rattle.std.proofs.Common.{◌↔◌, ◌⊎◌, IsTrue, nat_eq, inl, inr, ℕ, List, [], ◌++◌, Bool, true, false, length, refl, subst}
 use Rattle.std.specs.Int.RustNames.{bit_and}
 use Rattle.std.proofs.lemmas.Bool.{eqb-true, eq-eqb}
 use Rattle.ir_flags.specs.Sets.{Has}

@@ -1,5 +1,5 @@
 -- What is found of a document, with the error where its module is refused.
-use Rattle.std.specs.Prelude.{◌≡◌, ◌↔◌, ℕ, List, [], false, IsTrue}
+use Rattle.std.specs.Prelude.{◌≡◌, ◌↔◌, ◌⊎◌, ℕ, Bool, List, [], false, IsTrue}
 use Rattle.document_reader.specs.Plain.{PlainDocument}
 use Rattle.error_functions.specs.declared.const_expressions.ConstExpressionError.{ConstExpressionError}
 use Rattle.error_functions.specs.declared.const_expressions.ConstExpressionError.TheVariants as constant
@@ -7,7 +7,10 @@ use Rattle.shader_check.specs.Validated.{IsValidated, IsValidationFault}
 use Rattle.shader_check.specs.declared.error.ValidationError.{ValidationError}
 use Rattle.shader_check.specs.declared.error.ValidationError.TheVariants as error
 use Rattle.ir_flags.specs.Settings.{PlainSettings}
+use Rattle.ir_items.specs.Copies.{spanned_module}
 use Rattle.ir_items.specs.Plain.{PlainModule}
+use Rattle.ir_items.specs.View.{module_view}
+use Rattle.ir_items.specs.declared.module.Module.{Module}
 use Rattle.judgement.specs.Steps.{IsPrepared, IsScopeStrict, function_settings}
 use Rattle.judgement.specs.declared.finding.Finding.{Finding}
 use Rattle.judgement.specs.declared.finding.Finding.TheVariants.{Accepted, RefusedDocument, RefusedHandles, Refused}
@@ -59,6 +62,10 @@ IsExamined s m (examined.Refused e) = IsValidationFault (function_settings s) fa
 pub record IsExaminedDocument (d : PlainDocument) (m : PlainModule) (x : Examined) : Type 0 where
   pub prepared : IsPrepared d.settings.returns d.content m
   pub examined : IsExamined d.settings m x
+
+-- What is left of a module m where memory runs out: m with its spans, or m with returns put in where that is asked for.
+abbrev pub IsLeft : (returns : Bool) → (m n : Module) → Type 0
+IsLeft returns m n = (spanned_module n ≡ spanned_module m) ⊎ IsPrepared returns (module_view m) (module_view n)
 
 -- what is kept of a module is enough for the report on it
 abbrev pub IsKeptIn : PlainModule → Examined → Type 0

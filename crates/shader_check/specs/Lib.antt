@@ -6,3 +6,4 @@ pub mod Validated
 pub mod Examined
 pub mod Theorem
 pub mod Judgements
+pub mod Fresh

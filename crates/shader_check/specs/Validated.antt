@@ -66,6 +66,7 @@ pub record IsValidated (s : FunctionSettings) (resolved : Bool) (m : PlainModule
 pub record IsEntryFault (s : FunctionSettings) (m : PlainModule) (e : InvalidEntryPoint) : Type 0 where
   pub first : entries.IsFirstFailing s m e.index
   pub summaries : List Summary
+  pub many : length summaries ≡ length m.functions
   pub known : AreSummaries m summaries
   pub stages : List ShaderStages
   pub run : AreStages s m stages

@@ -1,6 +1,7 @@
 //! All entry points of a module, one after the other.
 
 ghost use Rattle.std.specs.Prelude.{◌≡◌, ◌<◌, ◌+◌, ◌++◌, ◌∷◌, [], MatchResult, OnOk, Some, length, map, slice_get};
+ghost use Rattle.entry_checks.specs.Interfaces.{AreInterfacesKnown};
 ghost use Rattle.function_validator.specs.Names.{AreNamesBelow};
 ghost use Rattle.shader_check.specs.JudgedEntries.{AreEntriesJudged, IsConflictTold, IsEntryRefusal, IsEntryToldAt, note_of};
 ghost use Rattle.shader_check.specs.Settings.{settings_in};
@@ -14,7 +15,7 @@ ghost use Rattle.statement_checks.specs.Descriptors.{AreDescriptors};
 
 use crate::functions::Judged;
 use crate::validator::Validator;
-use entry_checks::EntryPointError;
+use entry_checks::{EntryPointError, KnownInterfaces};
 use function_interface::Lower;
 use function_validator::{FunctionSettings, SeenNames, Validated, validate_entry_point_with};
 use ir_arena::handle::Handle;
@@ -91,6 +92,7 @@ fn judge_next<L: Lower>(
     kept: &[L::Info],
     held: Option<Handle<key::IrType>>,
     descriptors: &[bool],
+    known: &mut KnownInterfaces,
 ) -> Result<Validated<L::Info>, Refusal<InvalidEntryPoint>>
     requires made { L.is_for validator.now.lower (module_view «module».now) }
     requires handles { HandlesOK (module_view «module».now) }
@@ -99,8 +101,10 @@ fn judge_next<L: Lower>(
     requires many { length callees.now ≡ length (module_view «module».now).functions }
     requires known { AreSummaries (module_view «module».now) (map (L.summary validator.now.lower) callees.now) }
     requires apart { (e : PlainEntry) → slice_get (module_view «module».now).entries index ≡ Some e → ¬ IsConflict (module_view «module».now) index e }
+    requires interfaces { AreInterfacesKnown validator.now.flags validator.now.capabilities (module_view «module».now).types known.old }
     requires before { AreEntriesJudged (L.reading validator.now.lower) (settings_in validator.now) (module_view «module».now) (map (L.summary validator.now.lower) callees.now) (map (L.noted validator.now.lower) callees.now) index (map (L.summary validator.now.lower) kept.now) (map (note_of (L.noted validator.now.lower) (L.blending validator.now.lower)) kept.now) held }
-    ensures { let summaries = map (L.summary validator.now.lower) callees.now in
+    ensures interfaces { OnOk result (AreInterfacesKnown validator.now.flags validator.now.capabilities (module_view «module».now).types known.new) }
+    ensures judged { let summaries = map (L.summary validator.now.lower) callees.now in
         let stages = map (L.noted validator.now.lower) callees.now in
         let note = note_of (L.noted validator.now.lower) (L.blending validator.now.lower) in
         MatchResult result
@@ -124,6 +128,7 @@ fn judge_next<L: Lower>(
         &module.entry_points[index],
         callees,
         descriptors,
+        known,
     ) {
         Ok(validated) => Ok(validated),
         Err(refusal) => Err(refusal_at(alloc, index, refusal)),
@@ -156,12 +161,22 @@ pub(crate) fn judge_entries<L: Lower>(
     let mut infos = Vec::with_capacity(alloc, count)?;
     let mut held = held;
     let mut names = SeenNames::new(alloc);
+    let mut known = KnownInterfaces::new(alloc);
     for index in 0..count {
         match check_name(alloc, module, &mut names, index) {
             Ok(()) => {}
             Err(refusal) => return Err(refusal),
         }
-        match judge_next(validator, module, index, callees, &infos, held, descriptors) {
+        match judge_next(
+            validator,
+            module,
+            index,
+            callees,
+            &infos,
+            held,
+            descriptors,
+            &mut known,
+        ) {
             Ok(validated) => {
                 infos.push(validated.info)?;
                 held = validated.held;

@@ -1,11 +1,12 @@
 // The judgement over bytes.
-ghost use Rattle.std.specs.Prelude.{◌≡◌, ◌↔◌, [], IfOk, IsTrue, OnOk, string_bytes};
+ghost use Rattle.std.specs.Prelude.{◌≡◌, ◌↔◌, [], IfOk, IsTrue, OnErr, OnOk, string_bytes};
+ghost use Rattle.ir_items.specs.Copies.{spanned_module};
 ghost use Rattle.ir_items.specs.View.{module_view};
 ghost use Rattle.document_reader.specs.View.{document_view, settings_view as document_settings};
 ghost use Rattle.shader_check.specs.Settings.{settings_in};
 ghost use Rattle.judgement.specs.Steps.{IsPrepared, IsScopeStrict, function_settings};
 ghost use Rattle.judgement.specs.declared.finding.Finding.TheVariants.{RefusedDocument};
-ghost use Rattle.shader_check.specs.Examined.{finding_in, IsExamined, IsExaminedDocument, IsKeptIn, IsToldIn};
+ghost use Rattle.shader_check.specs.Examined.{finding_in, IsExamined, IsExaminedDocument, IsKeptIn, IsLeft, IsToldIn};
 ghost use Rattle.shader_check.specs.Judgements.{IsJudgementOf, IsJudgementOn};
 
 use crate::examined::Examined;
@@ -61,7 +62,8 @@ fn examine_module(
 
 // Puts returns in where they are asked for.
 fn prepare(alloc: Global, returns: bool, module: &mut Module) -> Result<(), AllocError>
-    ensures { OnOk result (IsPrepared returns (module_view «module».old) (module_view «module».new)) }
+    ensures ok { OnOk result (IsPrepared returns (module_view «module».old) (module_view «module».new)) }
+    ensures err { OnErr result (spanned_module «module».new ≡ spanned_module «module».old) }
 {
     if returns {
         module.ensure_block_returns(alloc)
@@ -71,9 +73,12 @@ fn prepare(alloc: Global, returns: bool, module: &mut Module) -> Result<(), Allo
 }
 
 /// What is found of the document, with the error where its module is refused: each error only where what it tells is wrong.
-/// Returns are put into its module where its settings ask for them, and the module is left so. The error is out of memory.
+/// Returns are put into its module where its settings ask for them, and the module is left so. The error is out of memory, and
+/// leaves the module so, or as it was.
 pub fn examine_document(alloc: Global, document: &mut Document) -> Result<Examined, AllocError>
-    ensures { IfOk result (IsExaminedDocument (document_view document.old) (module_view document.new.«module»)) }
+    ensures left { IsLeft document.old.settings.returns document.old.«module» document.new.«module» }
+    ensures settings { document.new.settings ≡ document.old.settings }
+    ensures examined { IfOk result (IsExaminedDocument (document_view document.old) (module_view document.new.«module»)) }
 {
     prepare(alloc, document.settings.returns, &mut document.module)?;
     examine_module(alloc, &document.settings, &document.module)
@@ -90,9 +95,12 @@ fn report_on(alloc: Global, module: &Module, examined: &Examined) -> Result<Stri
     }
 }
 
-/// What is found of the document, and the report on it. Returns are put into its module where its settings ask for them.
+/// What is found of the document, and the report on it. Returns are put into its module where its settings ask for them, and the
+/// module is left so. The error is out of memory, and leaves the module so, or as it was.
 pub fn judge_document(alloc: Global, document: &mut Document) -> Result<Judgement, AllocError>
-    ensures { IfOk result (IsJudgementOf (document_view document.old)) }
+    ensures left { IsLeft document.old.settings.returns document.old.«module» document.new.«module» }
+    ensures settings { document.new.settings ≡ document.old.settings }
+    ensures judged { IfOk result (IsJudgementOf (document_view document.old)) }
 {
     let examined = examine_document(alloc, document)?;
     let report = report_on(alloc, &document.module, &examined)?;

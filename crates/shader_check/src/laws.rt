@@ -1,7 +1,8 @@
 // Laws of the judgement over bytes, and what is asked of an accepted module.
-ghost use Rattle.std.specs.Prelude.{◌≡◌, length};
+ghost use Rattle.std.specs.Prelude.{◌≡◌, false, length, true};
 ghost use Rattle.ir_items.specs.View.{module_view};
 ghost use Rattle.run_laws.specs.Sound.{BoundsDepth};
+ghost use Rattle.shader_check.specs.Fresh.{AnswersAreAlike};
 ghost use Rattle.shader_check.specs.Theorem.{AcceptedTextsAreSound, OneText, SomeText, ReturnsDontShow};
 
 pub use document_reader::laws::{distinct_types, one_document};
@@ -28,6 +29,18 @@ pub fn returns_dont_show()
 /// Where the text that is expected for some bytes begins with `accepted`, all holds that is promised of an accepted document.
 pub fn accepted_texts_are_sound()
     ensures { AcceptedTextsAreSound }
+{}
+
+/// Whatever a validator judged before, and where memory ran out too, it answers as a fresh one with the same settings: the
+/// contract of [`crate::Validator::validate`] speaks of the settings alone, and by these no module is both accepted and refused,
+/// nor refused at two steps or two items.
+pub fn validate_answers_as_fresh()
+    ensures { AnswersAreAlike false }
+{}
+
+/// So it does by [`crate::Validator::validate_resolved_overrides`].
+pub fn validate_resolved_overrides_answers_as_fresh()
+    ensures { AnswersAreAlike true }
 {}
 
 /// How deep the calls of a run nest at most, the entry point's own body being at 0: as deep as the module has functions.

@@ -3,19 +3,23 @@
 ghost use Rattle.std.specs.Prelude.{◌≡◌, ◌<◌, ◌↔◌, ℕ, IfErr, IfOk, IfSome, MatchResult, None, OnErr, OnOk, false, length, map};
 ghost use Rattle.entry_checks.specs.Faults.{IsRefusedFor as IsRefusalFor};
 ghost use Rattle.function_validator.specs.EntryFaults.{IsRefusedAs};
+ghost use Rattle.function_validator.specs.Globals.{IsRefusedFor as IsVariableRefused, IsVariableOf};
 ghost use Rattle.function_validator.specs.Validated.{IsEntryValidated};
 ghost use Rattle.function_validator.specs.Faults.{IsFunctionFault};
 ghost use Rattle.function_interface.specs.Analysis.{IsRefusedFor};
 ghost use Rattle.function_interface.specs.Question.{question};
 ghost use Rattle.shader_check.specs.Judged.{AreJudged, IsRefusal};
 ghost use Rattle.shader_check.specs.Settings.{settings_for, settings_in};
+ghost use Rattle.global_checks.specs.Faults.{IsWrongBy};
 ghost use Rattle.ir_flags.specs.Sets.{Has};
+ghost use Rattle.ir_items.specs.GlobalView.{global_view};
 ghost use Rattle.ir_items.specs.View.{entry_view, function_view, module_view};
 ghost use Rattle.ir_items.specs.declared.entries.MeshStageInfo.{MeshStageInfo};
 ghost use Rattle.ir_walks.specs.Filters.{ParentsPrecede};
 ghost use Rattle.spec_analysis.specs.Chains.{HasUse};
 ghost use Rattle.spec_analysis.specs.Summaries.{CalleesKnown, IsJoined, IsSummary};
 ghost use Rattle.spec_entries.specs.Modules.{entry_settings};
+ghost use Rattle.spec_globals.specs.Globals.{VariableBy};
 ghost use Rattle.spec_statements.specs.ExpressionStages.{all_stages};
 ghost use Rattle.spec_handles.specs.Conditions.{HandlesInRange, OperandsPrecede};
 ghost use Rattle.spec_handles.specs.InOrder.{HandlesOK};
@@ -27,11 +31,14 @@ use bitflags::Flags;
 use entry_checks::EntryPointError;
 use error_functions::FunctionError;
 use function_interface::Lower;
-use function_validator::{FunctionSettings, validate_entry_point, validate_function};
+use function_validator::{
+    FunctionSettings, validate_entry_point, validate_function, validate_global_var,
+};
+use global_checks::GlobalVariableError;
 use ir_arena::handle::Handle;
 use ir_faults::refusal::Refusal;
 use ir_flags::{Capabilities, ShaderStages, SubgroupOperationSet, ValidationFlags};
-use ir_items::{EntryPoint, Function, Module};
+use ir_items::{EntryPoint, Function, GlobalVariable, Module};
 use ir_types::key;
 use statement_checks::descriptors_of;
 use std::alloc::Global;
@@ -221,6 +228,41 @@ impl<L: Lower> Validator<L> {
             }
             Err(refusal) => Err(refusal),
         }
+    }
+
+    /// Whether the module may have a global variable of its own, by the typing of global expressions that the layer has (naga's
+    /// `Validator::validate_global_var`). Where the variable has an initializer, it takes time and memory for each global
+    /// expression; [`Validator::validate`] goes over them only once.
+    ///
+    /// Requires that the layer was made for the module, that the handles of the module are in order, and that the variable is one
+    /// of the module's.
+    ///
+    /// # Errors
+    ///
+    /// [`Refusal::Fault`] exactly where the module may not have the variable, with a fault that it has and no span; of several
+    /// faults it is one. [`Refusal::Memory`] where memory ran out. The validator is as it was in any case.
+    pub fn validate_global_var(
+        &self,
+        var: &GlobalVariable,
+        module: &Module,
+    ) -> Result<(), Refusal<GlobalVariableError>>
+        requires made { L.is_for self.now.lower (module_view «module».now) }
+        requires handles { HandlesOK (module_view «module».now) }
+        requires part { IsVariableOf (module_view «module».now) (global_view var.now) }
+        ensures { let m = module_view «module».now in
+            let v = global_view var.now in
+            MatchResult result
+            (λ _. VariableBy (L.has_global_form self.now.lower m) self.now.flags self.now.capabilities m v)
+            (IsVariableRefused (IsWrongBy (L.has_global_form self.now.lower m) self.now.flags self.now.capabilities m v)) }
+    {
+        validate_global_var(
+            &self.lower,
+            self.alloc,
+            self.flags,
+            self.capabilities,
+            module,
+            var,
+        )
     }
 
     /// Judges all functions of a module in order, and tells what is kept of each (the part of naga's `Validator::validate` that

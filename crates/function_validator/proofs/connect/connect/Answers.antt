@@ -14,7 +14,7 @@ returns-in-Ok-clause-judged g c =
     let before = g.L.Lower.summary c.args.lower.now c.args.info in
     let noted = g.L.Lower.summary c.args.lower.now c.with_own-info.result in
     let last = g.L.Lower.summary c.args.lower.now c.with_blending.result in (
-      uses_added m e before noted c.with_own-info.ensures.added s.flags s.capabilities c.in-Ok.ensures.0,
+      uses_added m e before noted c.with_own-info.ensures.added s.flags s.capabilities c.in-Ok.ensures.judged.0,
       adds_still m e before noted last c.with_own-info.ensures.added c.with_blending.ensures.same,
     )
 
@@ -22,7 +22,7 @@ pub returns-in-Ok-clause-blended : goal.returns-in-Ok-clause-blended
 returns-in-Ok-clause-blended g c =
     let b = g.L.Lower.blending c.args.lower.now in
     blending_is (HasBlendSources (result_varyings (module_view c.args.«module».now).types (entry_view c.args.entry.now).function.result)) (b c.args.info) (b c.with_own-info.result) c.in-Ok.blended (b c.with_blending.result)
-    c.requires.unblended c.with_own-info.ensures.blending c.with_blending.ensures.blending c.in-Ok.ensures.1
+    c.requires.unblended c.with_own-info.ensures.blending c.with_blending.ensures.blending c.in-Ok.ensures.judged.1
 
 pub returns-in-Err-clause-judged : goal.returns-in-Err-clause-judged
 returns-in-Err-clause-judged g c =
@@ -34,4 +34,4 @@ returns-in-Err-clause-judged g c =
     let From = HasUseBit noted.uses in
     let To = EntryUses e (HasUseBit before.uses) in
     refused_as (IsUnconnected s.flags s.capabilities m e From) (IsUnconnected s.flags s.capabilities m e To) (λ x u. unconnected_to m e From To (λ v k lt. c.with_own-info.ensures.added.uses v k) s.flags s.capabilities x u)
-    c.in-Err.refusal c.in-Err.ensures
+    c.in-Err.refusal c.in-Err.ensures.judged

@@ -18,29 +18,29 @@ uses_of-requires-clause-many g c =
     let seen : length (module_view m).globals ≡ length m.global_variables = length-map (values_of m.global_variables) global_view ∙ length-map m.global_variables value_of_entry in
     c.len.ensures.value ∙ (sym seen ∙ sym c.requires.many)
 
-pub check_connections-requires-clause-known : goal.check_connections-requires-clause-known
-check_connections-requires-clause-known g c =
+pub check_connections_with-requires-clause-told : goal.check_connections_with-requires-clause-told
+check_connections_with-requires-clause-told g c =
     let m = module_view c.args.«module».now in
     let told = g.met.L.Lower.told_of_all c.args.lower.now m c.requires.made in
     record { told = subst (AreInfos m.types) (sym c.type_infos.ensures) told.told; many = ap length c.type_infos.ensures ∙ told.many }
 
-pub check_connections-requires-clause-many : goal.check_connections-requires-clause-many
-check_connections-requires-clause-many g c = ap length (c.deref.ensures.value ∙ c.in-Ok.ensures) ∙ c.requires.many
+pub check_connections_with-requires-clause-many : goal.check_connections_with-requires-clause-many
+check_connections_with-requires-clause-many g c = ap length (c.deref.ensures.value ∙ c.in-Ok.ensures) ∙ c.requires.many
 
-pub returns-in-Ok-check_connections : goal.returns-in-Ok-check_connections
-returns-in-Ok-check_connections g c =
+pub returns-in-Ok-check_connections_with-clause-judged : goal.returns-in-Ok-check_connections_with-clause-judged
+returns-in-Ok-check_connections_with-clause-judged g c =
     let s = c.args.settings.now in
     let m = module_view c.args.«module».now in
     let e = entry_view c.args.entry.now in
     let same = c.deref.ensures.value ∙ c.in-Ok.ensures in
-    (subst (λ us. ConnectionsOK s.flags s.capabilities m e (HasUseBit us)) same c.in-Ok-check_connections.ensures.0, c.in-Ok-check_connections.ensures.1)
+    (subst (λ us. ConnectionsOK s.flags s.capabilities m e (HasUseBit us)) same c.in-Ok-check_connections_with.ensures.judged.0, c.in-Ok-check_connections_with.ensures.judged.1)
 
-pub returns : goal.returns
-returns g c =
+pub returns-clause-judged : goal.returns-clause-judged
+returns-clause-judged g c =
     let s = c.args.settings.now in
     let m = module_view c.args.«module».now in
     let e = entry_view c.args.entry.now in
     let Uses = HasUseBit (g.L.Lower.summary c.args.lower.now c.args.info.now).uses in
     let same = c.deref.ensures.value ∙ c.in-Ok.ensures in
-    refused_as (IsConnectionFault s.flags s.capabilities m e Uses) (IsUnconnected s.flags s.capabilities m e Uses) (λ x fault. unconnected s.flags s.capabilities m e Uses x fault) c.in-Err-check_connections.refusal
-    (subst (λ us. IsRefusedFor (IsConnectionFault s.flags s.capabilities m e (HasUseBit us)) c.in-Err-check_connections.refusal) same c.in-Err-check_connections.ensures)
+    refused_as (IsConnectionFault s.flags s.capabilities m e Uses) (IsUnconnected s.flags s.capabilities m e Uses) (λ x fault. unconnected s.flags s.capabilities m e Uses x fault) c.in-Err-check_connections_with.refusal
+    (subst (λ us. IsRefusedFor (IsConnectionFault s.flags s.capabilities m e (HasUseBit us)) c.in-Err-check_connections_with.refusal) same c.in-Err-check_connections_with.ensures.judged)

@@ -16,8 +16,8 @@ use Rattle.spec_statements.specs.Functions.{AllowsStage, FunctionOK, FunctionSet
 use Rattle.spec_statements.specs.Payloads.{IsHeldAfter}
 use Rattle.function_validator.proofs.entry.validate_entry_point_with.Goals as goal
 
-pub returns-in-Err : goal.returns-in-Err
-returns-in-Err g c =
+pub returns-in-Err-clause-judged : goal.returns-in-Err-clause-judged
+returns-in-Err-clause-judged g c =
     let l = c.args.lower.now in
     let m = module_view c.args.«module».now in
     let e = entry_view c.args.entry.now in
@@ -26,8 +26,8 @@ returns-in-Err g c =
     let s = own_settings c.args.settings.now in
     subst (IsRefusedAs (g.L.Lower.reading l q) (g.L.Lower.faults l q) stages (HasUse m e.function) s m e) (sym c.new.ensures.error) (by_stage (g.L.Lower.reading l q) (g.L.Lower.faults l q) stages s m e c.in-Err.error c.in-Err.ensures)
 
-pub returns-in-Err-validate_function_with : goal.returns-in-Err-validate_function_with
-returns-in-Err-validate_function_with g c =
+pub returns-in-Err-validate_function_with-clause-judged : goal.returns-in-Err-validate_function_with-clause-judged
+returns-in-Err-validate_function_with-clause-judged g c =
     let l = c.args.lower.now in
     let m = module_view c.args.«module».now in
     let e = entry_view c.args.entry.now in
@@ -41,8 +41,8 @@ returns-in-Err-validate_function_with g c =
     (subst (λ (z : FunctionSettings). IsFunctionRefusedFor (λ y. FunctionOK R z m e.function → ⊥) r) c.own_settings-own.ensures c.in-Err-validate_function_with.ensures.refused)
     (subst (λ (z : FunctionSettings). IsFunctionRefusedFor (IsFunctionFault R F z m e.function) r) c.own_settings-own.ensures c.in-Err-validate_function_with.ensures.fault)
 
-pub returns-in-Err-check_payload : goal.returns-in-Err-check_payload
-returns-in-Err-check_payload g c =
+pub returns-in-Err-check_payload-clause-judged : goal.returns-in-Err-check_payload-clause-judged
+returns-in-Err-check_payload-clause-judged g c =
     let l = c.args.lower.now in
     let m = module_view c.args.«module».now in
     let e = entry_view c.args.entry.now in
@@ -52,8 +52,8 @@ returns-in-Err-check_payload g c =
     subst (IsRefusedAs (g.L.Lower.reading l q) (g.L.Lower.faults l q) stages (HasUse m e.function) s m e) (sym c.new-in-Err-check_payload.ensures.error)
     (by_payload (g.L.Lower.reading l q) (g.L.Lower.faults l q) stages s m e c.in-Err-check_payload.error c.in-Err-check_payload.ensures)
 
-pub returns-then-not-allows_stage : goal.returns-then-not-allows_stage
-returns-then-not-allows_stage g c =
+pub returns-then-not-allows_stage-clause-judged : goal.returns-then-not-allows_stage-clause-judged
+returns-then-not-allows_stage-clause-judged g c =
     let l = c.args.lower.now in
     let m = module_view c.args.«module».now in
     let e = entry_view c.args.entry.now in
@@ -66,8 +66,8 @@ returns-then-not-allows_stage g c =
     subst (IsRefusedAs R (g.L.Lower.faults l q) stages (HasUse m e.function) s m e) (sym c.new-then-not-allows_stage.ensures.error)
     (by_runs R (g.L.Lower.faults l q) stages s m e (g.L.Lower.noted l v.info) exact (λ has. true≢false (sym (c.allows_stage.ensures.1 has) ∙ c.if-not-allows_stage.true)))
 
-pub returns-in-Ok-connect : goal.returns-in-Ok-connect
-returns-in-Ok-connect g c =
+pub returns-in-Ok-connect-clause-judged : goal.returns-in-Ok-connect-clause-judged
+returns-in-Ok-connect-clause-judged g c =
     let l = c.args.lower.now in
     let m = module_view c.args.«module».now in
     let e = entry_view c.args.entry.now in
@@ -95,8 +95,8 @@ returns-in-Ok-connect g c =
       after = subst (λ (z : FunctionSettings). IsHeldAfter z.flags m e.function z.held v.held) same known.held;
     }
 
-pub returns-in-Err-connect : goal.returns-in-Err-connect
-returns-in-Err-connect g c =
+pub returns-in-Err-connect-clause-judged : goal.returns-in-Err-connect-clause-judged
+returns-in-Err-connect-clause-judged g c =
     let l = c.args.lower.now in
     let m = module_view c.args.«module».now in
     let e = entry_view c.args.entry.now in

@@ -16,6 +16,7 @@ loop-index-init g c =
       subst (λ xs. AreEntriesJudged (g.L.Lower.reading v.lower) (settings_in v) m summaries stages 0 (map (g.L.Lower.summary v.lower) xs) (map (note_of (g.L.Lower.noted v.lower) (g.L.Lower.blending v.lower)) xs) c.args.held) (sym c.in_ok-infos.ensures.items)
           (none_judged (g.L.Lower.reading v.lower) (settings_in v) m summaries stages c.args.held c.requires.before),
       no_names m c.new-names.result c.new-names.ensures,
+      c.new-known.ensures v.flags v.capabilities m.types,
     )
 
 pub returns : goal.returns

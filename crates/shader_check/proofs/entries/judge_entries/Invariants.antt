@@ -1,4 +1,5 @@
 use Rattle.std.proofs.Common.{map}
+use Rattle.entry_checks.specs.Interfaces.{AreInterfacesKnown}
 use Rattle.function_validator.specs.Names.{AreNamesBelow}
 use Rattle.shader_check.specs.JudgedEntries.{AreEntriesJudged, note_of}
 use Rattle.shader_check.specs.Settings.{settings_in}
@@ -12,3 +13,4 @@ invariant-loop-index g l =
     let m = module_view l.«module» in
     let summary = g.L.Lower.summary v.lower in
     AreEntriesJudged (g.L.Lower.reading v.lower) (settings_in v) m (map summary l.callees) (map (g.L.Lower.noted v.lower) l.callees) l.index (map summary l.infos.items) (map (note_of (g.L.Lower.noted v.lower) (g.L.Lower.blending v.lower)) l.infos.items) l.held × AreNamesBelow m l.index l.names
+    × AreInterfacesKnown v.flags v.capabilities m.types l.known

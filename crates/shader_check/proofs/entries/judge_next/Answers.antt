@@ -38,21 +38,21 @@ validate_entry_point_with-requires-clause-known g c =
     entry_known (module_view m) c.requires.handles c.args.index (entry_view c.index.result.now) (item_there entry_view m.entry_points.items c.args.index c.requires.within c.index.result.now c.index.ensures)
     (map summary c.args.callees.now) (length-map c.args.callees.now summary ∙ c.requires.many) c.requires.known
 
-pub returns-in-Ok : goal.returns-in-Ok
-returns-in-Ok g c =
+pub returns-in-Ok-clause-judged : goal.returns-in-Ok-clause-judged
+returns-in-Ok-clause-judged g c =
     let v = c.args.validator.now in
     let m = c.args.«module».now in
     let summary = g.L.Lower.summary v.lower in
     let at = item_there entry_view m.entry_points.items c.args.index c.requires.within c.index.result.now c.index.ensures in
     judged_more (module_view m) c.requires.handles c.args.index (entry_view c.index.result.now) at (g.L.Lower.reading v.lower) (g.L.Lower.faults v.lower) (settings_in v) (map summary c.args.callees.now)
     (map (g.L.Lower.noted v.lower) c.args.callees.now) (map summary c.args.kept.now) (map (note_of (g.L.Lower.noted v.lower) (g.L.Lower.blending v.lower)) c.args.kept.now) c.args.held c.requires.before (c.requires.apart (entry_view c.index.result.now) at) (summary c.in-Ok.validated.info)
-    (g.L.Lower.noted v.lower c.in-Ok.validated.info) (g.L.Lower.blending v.lower c.in-Ok.validated.info) c.in-Ok.validated.held c.in-Ok.ensures
+    (g.L.Lower.noted v.lower c.in-Ok.validated.info) (g.L.Lower.blending v.lower c.in-Ok.validated.info) c.in-Ok.validated.held c.in-Ok.ensures.judged
 
-pub returns-in-Err : goal.returns-in-Err
-returns-in-Err g c =
+pub returns-in-Err-clause-judged : goal.returns-in-Err-clause-judged
+returns-in-Err-clause-judged g c =
     let v = c.args.validator.now in
     let m = c.args.«module».now in
     let summary = g.L.Lower.summary v.lower in
     let at = item_there entry_view m.entry_points.items c.args.index c.requires.within c.index.result.now c.index.ensures in
     told_entry (module_view m) c.requires.handles c.args.index (entry_view c.index.result.now) at (g.L.Lower.reading v.lower) (g.L.Lower.faults v.lower) (settings_in v) (map summary c.args.callees.now)
-    (map (g.L.Lower.noted v.lower) c.args.callees.now) (map summary c.args.kept.now) (map (note_of (g.L.Lower.noted v.lower) (g.L.Lower.blending v.lower)) c.args.kept.now) c.args.held c.requires.before c.in-Err.refusal c.refusal_at.result c.refusal_at.ensures c.in-Err.ensures
+    (map (g.L.Lower.noted v.lower) c.args.callees.now) (map summary c.args.kept.now) (map (note_of (g.L.Lower.noted v.lower) (g.L.Lower.blending v.lower)) c.args.kept.now) c.args.held c.requires.before c.in-Err.refusal c.refusal_at.result c.refusal_at.ensures c.in-Err.ensures.judged

@@ -3,7 +3,7 @@ use Rattle.shader_check.proofs.JudgedLaws.{judgement_of, kept_in}
 use Rattle.shader_check.proofs.judge.judge_document.Goals as goal
 
 pub report_on-requires : goal.report_on-requires
-report_on-requires c = record { kept = kept_in (document_view c.args.document.now) _ c.in_ok-examined.examined c.in_ok-examined.ensures }
+report_on-requires c = record { kept = kept_in (document_view c.args.document.now) _ c.in_ok-examined.examined c.in_ok-examined.ensures.examined }
 
-pub returns : goal.returns
-returns c = judgement_of (document_view c.args.document.now) _ c.in_ok-examined.examined _ c.in_ok-examined.ensures c.finding.ensures c.in_ok-report.ensures
+pub returns-clause-judged : goal.returns-clause-judged
+returns-clause-judged c = judgement_of (document_view c.args.document.now) _ c.in_ok-examined.examined _ c.in_ok-examined.ensures.examined c.finding.ensures c.in_ok-report.ensures

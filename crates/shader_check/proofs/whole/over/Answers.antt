@@ -1,4 +1,4 @@
-use Rattle.std.proofs.Common.{◌≡◌, ◌∙◌, sym, ap, subst, false, None}
+use Rattle.std.proofs.Common.{◌∙◌, sym, ap, subst, false, None}
 use Rattle.shader_check.specs.Settings.{settings_for}
 use Rattle.ir_items.specs.View.{module_view}
 use Rattle.real_lower.specs.Severities.{AreKnown}

@@ -1,0 +1,5 @@
+use Rattle.ir_items.specs.View.{module_view}
+use Rattle.function_validator.proofs.entry.validate_entry_point.Goals as goal
+
+pub validate_entry_point_with-requires-clause-interfaces : goal.validate_entry_point_with-requires-clause-interfaces
+validate_entry_point_with-requires-clause-interfaces g c = c.new-known.ensures c.args.settings.now.flags c.args.settings.now.capabilities (module_view c.args.«module».now).types

@@ -1,0 +1,17 @@
+-- A global variable that is judged over a layer beneath.
+use Rattle.std.specs.Prelude.{◌≡◌, [], ℕ, Some, slice_get}
+use Rattle.global_checks.specs.declared.error.GlobalVariableError.{GlobalVariableError}
+use Rattle.ir_faults.specs.Faults.{error_of, spans_of}
+use Rattle.ir_faults.specs.declared.refusal.Refusal.{Refusal}
+use Rattle.ir_faults.specs.declared.refusal.Refusal.TheVariants as refusal
+use Rattle.ir_items.specs.GlobalPlain.{PlainGlobal}
+use Rattle.ir_items.specs.Plain.{PlainModule}
+
+-- the variable is one of the module's
+abbrev pub IsVariableOf : PlainModule → PlainGlobal → Type 0
+IsVariableOf m v = (handle : ℕ) × (slice_get m.globals handle ≡ Some v)
+
+-- memory ran out, or it is a fault of this kind, with no span
+abbrev pub IsRefusedFor : (GlobalVariableError → Type 0) → Refusal GlobalVariableError → Type 0
+IsRefusedFor IsFault (refusal.Memory e) = Unit {0}
+IsRefusedFor IsFault (refusal.Fault e) = IsFault (error_of e) × (spans_of e ≡ [])

@@ -1,0 +1,93 @@
+-- The first step that fails is one, and so is the item.
+use Rattle.std.proofs.Common.{◌≡◌, inl, inr, ℕ, ◌<◌, refl, ap, arith}
+use Rattle.std.proofs.lemmas.Bool.{cases_lt}
+use Rattle.ir_items.specs.Plain.{PlainModule}
+use Rattle.spec_entries.specs.Modules as entries
+use Rattle.spec_entries.specs.Modules.{EntryAtOK, EntriesOK}
+use Rattle.spec_functions.specs.Functions as functions
+use Rattle.spec_functions.specs.Functions.{FunctionAtOK, FunctionsOK}
+use Rattle.spec_globals.specs.Globals as globals
+use Rattle.spec_globals.specs.Globals.{GlobalOK, GlobalsOK}
+use Rattle.spec_handles.specs.InOrder.{HandlesOK}
+use Rattle.spec_modules.proofs.Failures.{one_failure, none_fails}
+use Rattle.spec_modules.specs.Steps.{ModuleStep, IsFirstFailing, ModuleOK}
+use Rattle.spec_modules.specs.declared.settings.ModuleSettings.{ModuleSettings}
+use Rattle.spec_statements.specs.Functions.{FunctionSettings}
+
+-- the first that is not such is one
+first_once : (OK : ℕ → Type 0) (i j : ℕ) → ((k : ℕ) → k < i → OK k) → ¬ OK i → ((k : ℕ) → k < j → OK k) → ¬ OK j → i ≡ j
+first_once OK i j before fails before' fails' =
+    elim (cases_lt i j) [
+      | inl lt ↦ absurd (fails (before' i lt))
+      | inr le ↦ elim (cases_lt j i) [
+        | inl lt ↦ absurd (fails' (before j lt))
+        | inr ge ↦ omega arith
+      ]
+    ]
+
+-- ---- the steps that are refused: those up to overrides, and those behind
+
+pub data Family : Type 0 where
+  up_to_overrides : ModuleStep → Family
+  at_variables : Family
+  at_functions : Family
+  at_entries : Family
+
+module _ (k : ModuleSettings) (s : FunctionSettings) (m : PlainModule) where
+  abbrev pub IsFailing : Family → ℕ → Type 0
+  IsFailing (up_to_overrides step) i = IsFirstFailing k m step i
+  IsFailing at_variables i = ModuleOK k m × globals.IsFirstFailing s.flags s.capabilities m i
+  IsFailing at_functions i = ModuleOK k m × GlobalsOK s.flags s.capabilities m × functions.IsFirstFailing s m i
+  IsFailing at_entries i = ModuleOK k m × GlobalsOK s.flags s.capabilities m × FunctionsOK s m × entries.IsFirstFailing s m i
+
+  pub in_order : (o : Family) (i : ℕ) → IsFailing o i → HandlesOK m
+  in_order (up_to_overrides step) i x = x.reached.handles
+  in_order at_variables i x = x.0.handles
+  in_order at_functions i x = x.0.handles
+  in_order at_entries i x = x.0.handles
+
+  -- no global variable fails where all are accepted
+  no_variable : (i : ℕ) → GlobalsOK s.flags s.capabilities m → globals.IsFirstFailing s.flags s.capabilities m i → ⊥
+  no_variable i all first = first.fails (all i first.within)
+
+  no_function : (i : ℕ) → FunctionsOK s m → functions.IsFirstFailing s m i → ⊥
+  no_function i all first = first.fails (all i first.within)
+
+  no_entry : (i : ℕ) → EntriesOK s m → entries.IsFirstFailing s m i → ⊥
+  no_entry i all first = first.fails (all i first.within)
+
+  -- where all steps accept, none fails
+  pub none_failing : (o : Family) (i : ℕ) → ModuleOK k m → GlobalsOK s.flags s.capabilities m → FunctionsOK s m → EntriesOK s m → IsFailing o i → ⊥
+  none_failing (up_to_overrides step) i items variables functions entries y = none_fails k m step i y items
+  none_failing at_variables i items variables functions entries y = no_variable i variables y.1
+  none_failing at_functions i items variables functions entries y = no_function i functions y.2
+  none_failing at_entries i items variables functions entries y = no_entry i entries y.3
+
+  variable_once : (i j : ℕ) → globals.IsFirstFailing s.flags s.capabilities m i → globals.IsFirstFailing s.flags s.capabilities m j → i ≡ j
+  variable_once i j f g = first_once (GlobalOK s.flags s.capabilities m) i j f.before f.fails g.before g.fails
+
+  function_once : (i j : ℕ) → functions.IsFirstFailing s m i → functions.IsFirstFailing s m j → i ≡ j
+  function_once i j f g = first_once (FunctionAtOK s m) i j f.before f.fails g.before g.fails
+
+  entry_once : (i j : ℕ) → entries.IsFirstFailing s m i → entries.IsFirstFailing s m j → i ≡ j
+  entry_once i j f g = first_once (EntryAtOK s m) i j f.before f.fails g.before g.fails
+
+  pub failing_once : (o p : Family) (i j : ℕ) → IsFailing o i → IsFailing p j → (o ≡ p) × (i ≡ j)
+  failing_once (up_to_overrides step) (up_to_overrides other) i j x y =
+      let e = one_failure k m step other i j x y in
+      (ap up_to_overrides e.0, e.1)
+  failing_once (up_to_overrides step) at_variables i j x y = absurd (none_fails k m step i x y.0)
+  failing_once (up_to_overrides step) at_functions i j x y = absurd (none_fails k m step i x y.0)
+  failing_once (up_to_overrides step) at_entries i j x y = absurd (none_fails k m step i x y.0)
+  failing_once at_variables (up_to_overrides other) i j x y = absurd (none_fails k m other j y x.0)
+  failing_once at_variables at_variables i j x y = (refl, variable_once i j x.1 y.1)
+  failing_once at_variables at_functions i j x y = absurd (no_variable i y.1 x.1)
+  failing_once at_variables at_entries i j x y = absurd (no_variable i y.1 x.1)
+  failing_once at_functions (up_to_overrides other) i j x y = absurd (none_fails k m other j y x.0)
+  failing_once at_functions at_variables i j x y = absurd (no_variable j x.1 y.1)
+  failing_once at_functions at_functions i j x y = (refl, function_once i j x.2 y.2)
+  failing_once at_functions at_entries i j x y = absurd (no_function i y.2 x.2)
+  failing_once at_entries (up_to_overrides other) i j x y = absurd (none_fails k m other j y x.0)
+  failing_once at_entries at_variables i j x y = absurd (no_variable j x.1 y.1)
+  failing_once at_entries at_functions i j x y = absurd (no_function j x.2 y.2)
+  failing_once at_entries at_entries i j x y = (refl, entry_once i j x.3 y.3)
