@@ -7,8 +7,8 @@ reads the same bytes as JSON and no more (`test_kinds json`), each the least of 
 `rt ci` leaves them, and so does `rt run` in crates/checker and crates/test_kinds.
 
 The status is 1 where the whole takes more than 4.6 times what the quarter does, or more than 10 times the JSON reader, or more
-than 64 bytes of memory for a byte. Kinds whose answer, or what each function tells of itself, is itself larger than linear are
-printed and not counted; `docs/PERFORMANCE.md` tells their bounds.
+than 64 bytes of memory for a byte. Kinds whose answer, or what each function tells of itself, is itself larger than linear, or for
+which `docs/PERFORMANCE.md` tells a bound that is, are printed and not counted.
 """
 import argparse
 import json

@@ -13,7 +13,8 @@ IMAGE = [None, ["Image", "D2", False, ["Sampled", "Float", False]]]
 SAMPLER = [None, ["Sampler", False]]
 RAYS = [None, ["AccelerationStructure", False]]
 KINDS = {}
-# kinds whose answer, or what every caller is given, is itself larger than linear
+# kinds whose answer, or what every caller is given, is itself larger than linear, or for which docs/PERFORMANCE.md tells a bound
+# that is: a word for 64 locations, a strip for 4096 pairs
 HELD = set()
 
 
@@ -292,6 +293,58 @@ def one_range_in_every_block_strict(n):
     return emitted_again(n, SIX + ["strict-scope"])
 
 
+STRICT = SIX + ["strict-scope"]
+
+
+def in_blocks(expressions, outer, inner):
+    """Under strict scope, what is emitted at the top of a body, and in each of many blocks."""
+    emits = lambda ranges: [["Emit", first, end] for first, end in ranges]
+    blocks = [["Block", emits(ranges)] for ranges in inner]
+    return document(flags=STRICT, functions=[function(expressions, emits(outer) + blocks)])
+
+
+def negations_of(operands):
+    return [["Unary", "BitwiseNot", at] for at in operands]
+
+
+@kind
+def one_range_of_operands_strict(n):
+    """Each of many blocks emits one long range, of which each expression names another operand before it."""
+    values = [["Literal", "u32", 1]] + negations(n) + negations_of(range(1, n + 1))
+    return in_blocks(values, [(1, n + 1)], [[(n + 1, 2 * n + 1)]] * n)
+
+
+@kind
+def two_ranges_in_every_block_strict(n):
+    """Each of many blocks emits two long ranges, of which the second names each expression of the first."""
+    values = [["Literal", "u32", 1]] + negations(n) + negations_of(1 + (at * 7919) % n for at in range(n))
+    return in_blocks(values, [], [[(1, n + 1), (n + 1, 2 * n + 1)]] * n)
+
+
+@kind
+def parts_of_a_range_strict(n):
+    """Blocks that emit parts of one long range, all from other places on and to other places."""
+    values = [["Literal", "u32", 1]] + negations(n) + negations_of(range(1, n + 1))
+    return in_blocks(values, [(1, n + 1)], [[(n + 1 + at // 2, 2 * n + 1 - at // 3)] for at in range(n)])
+
+
+@kind
+def operands_one_by_one_strict(n):
+    """Operands with gaps between them that are emitted one by one, and many blocks that emit one more and then all that name them."""
+    values = [["Literal", "u32", 1]] + negations(2 * n) + [["Binary", "Add", 1 + 2 * at, 1] for at in range(n)]
+    return in_blocks(values, [(at, at + 1) for at in range(3, 2 * n, 2)], [[(1, 2), (2 * n + 1, 3 * n + 1)]] * n)
+
+
+@held
+def graph_of_operands_strict(n):
+    """Blocks that each emit many of some operands, and then ranges that name some of these: a question about triangles."""
+    side = max(2, round(n ** 0.5))
+    values = [["Literal", "u32", 1]] + negations(side) + [x for row in range(side) for x in negations_of(1 + (row * 31 + at * 17) % side for at in range(side))]
+    rows = [(side + 1 + row * side, side + 1 + (row + 1) * side) for row in range(side)]
+    blocks = [["Block", [["Emit", 1 + at, 2 + at] for at in range(side)] + [["Block", [["Emit", *row]]] for row in rows]] for _ in range(side)]
+    return document(flags=STRICT, functions=[function(values, blocks)])
+
+
 @kind
 def one_range_in_uniform_branches(n):
     """One long range of derivatives that is emitted in each of many branches on what is uniform."""
@@ -527,12 +580,51 @@ def locations_of_one_struct(n):
                     entries=[entry(f"e{at}", "Fragment", [[None, 1, None]]) for at in range(n)])
 
 
-@kind
+@held
 def locations_of_two_structs(n):
     """Entry points that are all given two structs, one with the even locations and one with the odd."""
     return document(types=[U32, struct([0] * n, bindings=lambda at: location(2 * at)),
                            struct([0] * n, bindings=lambda at: location(2 * at + 1))],
                     entries=[entry(f"e{at}", "Fragment", [[None, 1, None], [None, 2, None]]) for at in range(n)])
+
+
+@held
+def locations_of_struct_and_arguments(n):
+    """Entry points that are given one struct of many locations, a location of its own, and a built-in value."""
+    given_at = [[None, 1, None], [None, 0, location(2**32 - 1)], [None, 2, ["BuiltIn", "Position", False]]]
+    return document(types=[U32, struct([0] * n, bindings=location), VEC4],
+                    entries=[entry(f"e{at}", "Fragment", given_at) for at in range(n)])
+
+
+@held
+def locations_of_pairs_of_structs(n):
+    """Entry points that are given two of many structs each, no two entry points the same two."""
+    count = 2 + int((2 * n) ** 0.5)
+    pairs = [(one, other) for other in range(count) for one in range(other)][:n]
+    made = [struct([0] * (n // count), bindings=lambda at, of=of: location(at * count + of)) for of in range(count)]
+    return document(types=[U32, *made], entries=[entry(f"e{one}x{other}", "Fragment",
+                                                       [[None, 1 + one, None], [None, 1 + other, None]])
+                                                 for one, other in pairs])
+
+
+@held
+def locations_of_scattered_structs(n):
+    """A struct of many locations, and entry points that are given 16 structs, each of which has one of each 64 of these."""
+    count = n // 64
+    made = [struct([0] * count, bindings=lambda at, of=of: location(64 * at + of)) for of in range(16)]
+    return document(types=[U32, struct([0] * (64 * count), bindings=location), *made],
+                    entries=[entry("all", "Fragment", [[None, 1, None], [None, 0, location(2**32 - 1)]])]
+                    + [entry(f"e{at}", "Fragment", [[None, 2 + of, None] for of in range(16)]) for at in range(n // 16)])
+
+
+@kind
+def one_struct_both_ways(n):
+    """Vertex shaders that give one struct of many locations, and fragment shaders that are given it."""
+    made = struct([1] + [0] * n, 16, lambda at: location(at) if at else ["BuiltIn", "Position", False])
+    return document(types=[U32, VEC4, made],
+                    entries=[entry(f"v{at}", "Vertex", result=[2, None], expressions=[["ZeroValue", 2]], body=[["Return", 0]])
+                             for at in range(n // 2)]
+                    + [entry(f"f{at}", "Fragment", [[None, 2, None]]) for at in range(n // 2)])
 
 
 def meshes(locations, entries):

@@ -1,8 +1,8 @@
 #!/bin/sh
 # Refuses each allocation of the built program in turn, on the documents of examples/ and on a few others.
 #
-# A run that was refused one ends with status 2, writes nothing, and says `fault: memory`. The first run with
-# too few allocations to be refused one gives the document's own answer. Needs the built program (`rt ci` leaves it, and
+# A run that was refused one ends with status 2, writes nothing, and says `fault: memory`; or it can do without, and gives the
+# document's own answer, as does the first run with too few allocations to be refused one. Needs the built program (`rt ci` leaves it, and
 # ./shader-check builds it), a C compiler, and glibc.
 set -eu
 cd "$(dirname "$0")/.."
@@ -25,25 +25,32 @@ run() {
     allocations=$(cat "$room/allocations")
 }
 
+# Whether the run gave the answer in the file $1.
+is_own() {
+    case $(cat "$1") in
+    accepted*) own=0 ;;
+    *) own=1 ;;
+    esac
+    [ "$status" = "$own" ] && [ ! -s "$room/err" ] && cmp -s "$room/out" "$1"
+}
+
 # Tries the document in the file $1, called $2, whose answer is in the file $3.
 try() {
     at=1
+    faults=0
     while :; do
         run "$1" "$at"
         [ "$allocations" -ge "$at" ] || break
-        [ "$status" = 2 ] || fail "$2: allocation $at refused, and the status is $status"
-        [ ! -s "$room/out" ] || fail "$2: allocation $at refused, and something was written: $(cat "$room/out")"
-        [ "$(cat "$room/err")" = "fault: memory" ] || fail "$2: allocation $at refused, and it said: $(cat "$room/err")"
         at=$((at + 1))
+        is_own "$3" && continue
+        faults=$((faults + 1))
+        [ "$status" = 2 ] || fail "$2: allocation $((at - 1)) refused, and the status is $status"
+        [ ! -s "$room/out" ] || fail "$2: allocation $((at - 1)) refused, and something was written: $(cat "$room/out")"
+        [ "$(cat "$room/err")" = "fault: memory" ] || fail "$2: allocation $((at - 1)) refused, and it said: $(cat "$room/err")"
     done
-    [ "$at" -gt 1 ] || [ ! -s "$1" ] || fail "$2: there was no allocation to refuse"
-    cmp -s "$room/out" "$3" || fail "$2: it wrote $(cat "$room/out"), and not $(cat "$3")"
-    case $(cat "$3") in
-    accepted*) [ "$status" = 0 ] || fail "$2: status $status" ;;
-    *) [ "$status" = 1 ] || fail "$2: status $status" ;;
-    esac
-    [ ! -s "$room/err" ] || fail "$2: it said $(cat "$room/err")"
-    echo "$2: each of $((at - 1)) allocations refused in turn, then $(head -n 1 "$3")"
+    [ "$faults" -gt 0 ] || [ ! -s "$1" ] || fail "$2: there was no allocation to refuse"
+    is_own "$3" || fail "$2: status $status, and it wrote $(cat "$room/out" "$room/err"), and not $(cat "$3")"
+    echo "$2: each of $((at - 1)) allocations refused in turn, $faults faults; then $(head -n 1 "$3")"
 }
 
 for file in examples/*.json; do

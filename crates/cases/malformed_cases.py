@@ -73,8 +73,10 @@ def numbers():
     array = lambda count, stride: document([U32, [None, ["Array", 0, ["Constant", count], stride]]])
     yield "array of the most items, of the longest stride", array(MOST, MOST), "refused layout 1"
     yield "array of no items", array(0, 4), NO_DOCUMENT
+    yield "array of no items, of the longest stride", array(0, MOST), NO_DOCUMENT
     yield "member at the last offset", document([U32, [None, ["Struct", [["a", 0, None, MOST]], 4]]]), "refused type 1"
     yield "one flag twice", document(flags=["BLOCKS", *SIX]), ACCEPTED
+    yield "one flag twice, the second after all others", document(flags=[*SIX, "BLOCKS"]), ACCEPTED
 
 
 def flag_sets():

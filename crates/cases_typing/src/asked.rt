@@ -5,6 +5,7 @@ use crate::constness::{kinds_told, tracked};
 use crate::handles::handles_told;
 use crate::infos::{Told, infos_told};
 use crate::layouts::{laid, layouts_told};
+use crate::left::left_told;
 use crate::summaries::{ordered, summaries_told, summarized};
 use crate::types::{typed, types_told};
 use crate::whole::{functions_told, refusals_told};
@@ -18,6 +19,11 @@ pub fn answer(alloc: Global, asked: &str, document: &mut Document) -> Result<Str
     match asked {
         "functions" => functions_told(alloc, document),
         "refusal" => refusals_told(alloc, document),
+        "left of layouts"
+        | "left of functions"
+        | "left of a copy"
+        | "left of a report"
+        | "left of returns" => left_told(alloc, asked, document),
         _ => answer_unchanged(alloc, asked, document),
     }
 }

@@ -1,12 +1,16 @@
 // What a case's document is answered.
 use crate::asked::answer;
+use crate::turns::turns_told;
 use document_reader::{DocumentError, read_document};
 use std::alloc::{AllocError, Global};
 use test_support::case::Case;
 
-// What is answered to a question about the document of these bytes.
-fn answer_of(alloc: Global, asked: &str, bytes: &[u8]) -> Result<String, AllocError> {
-    match read_document(alloc, bytes) {
+// What is answered to a question about the document of these bytes, or about the documents in a list.
+fn answer_of(alloc: Global, asked: &str, text: &str) -> Result<String, AllocError> {
+    if asked == "turns" {
+        return turns_told(alloc, text);
+    }
+    match read_document(alloc, text.as_bytes()) {
         Ok(mut document) => answer(alloc, asked, &mut document),
         Err(DocumentError::Memory) => Err(AllocError),
         Err(_) => String::from_str(alloc, "no document"),
@@ -15,7 +19,7 @@ fn answer_of(alloc: Global, asked: &str, bytes: &[u8]) -> Result<String, AllocEr
 
 /// What is answered, where that is not the answer of the case, nor the other one where there are two.
 pub fn judge(alloc: Global, case: &Case<'_>) -> Result<Option<String>, AllocError> {
-    let found = answer_of(alloc, case.asked, case.document.as_bytes())?;
+    let found = answer_of(alloc, case.asked, case.document)?;
     if case.is_right(&found) {
         return Ok(None);
     }

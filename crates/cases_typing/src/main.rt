@@ -5,7 +5,7 @@
 //
 // A line of a data file is a list of texts: the case's name, what is asked, a document, and the answer, or two of which either
 // is right. `make_data.py`, `make_types.py`, `make_tests.py`, `make_infos.py`, `make_checks.py`, `make_summaries.py`,
-// `make_chains.py`, `make_functions.py` and `make_names.py` write these files. The answers come from two implementations that were written
+// `make_chains.py`, `make_functions.py`, `make_names.py` and `make_turns.py` write these files. The answers come from two implementations that were written
 // independently of this one, those of chains of calls from the model in `make_chains.py`; which function is refused comes from
 // those two as well, and why from the model in `model_functions.py`. Beside that it makes each call of layouts, of kinds and of
 // slots of immediate data once.
@@ -20,8 +20,10 @@ mod constness;
 mod handles;
 mod infos;
 mod layouts;
+mod left;
 mod refusals;
 mod summaries;
+mod turns;
 mod types;
 mod whole;
 
@@ -33,7 +35,7 @@ use std::fs;
 use test_support::case::Case;
 
 /// The files of cases.
-const FILES: [&str; 11] = [
+const FILES: [&str; 12] = [
     "layouts.jsonl",
     "constness.jsonl",
     "types.jsonl",
@@ -45,6 +47,7 @@ const FILES: [&str; 11] = [
     "chains.jsonl",
     "functions.jsonl",
     "names.jsonl",
+    "turns.jsonl",
 ];
 
 // Asks what a line asks. Answers whether the answer is another one.
