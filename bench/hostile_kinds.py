@@ -287,7 +287,7 @@ def one_range_in_every_block(n):
     return emitted_again(n, SIX)
 
 
-@kind
+@held
 def one_range_in_every_block_strict(n):
     """The same under the flag for strict scope."""
     return emitted_again(n, SIX + ["strict-scope"])
@@ -307,28 +307,28 @@ def negations_of(operands):
     return [["Unary", "BitwiseNot", at] for at in operands]
 
 
-@kind
+@held
 def one_range_of_operands_strict(n):
     """Each of many blocks emits one long range, of which each expression names another operand before it."""
     values = [["Literal", "u32", 1]] + negations(n) + negations_of(range(1, n + 1))
     return in_blocks(values, [(1, n + 1)], [[(n + 1, 2 * n + 1)]] * n)
 
 
-@kind
+@held
 def two_ranges_in_every_block_strict(n):
     """Each of many blocks emits two long ranges, of which the second names each expression of the first."""
     values = [["Literal", "u32", 1]] + negations(n) + negations_of(1 + (at * 7919) % n for at in range(n))
     return in_blocks(values, [], [[(1, n + 1), (n + 1, 2 * n + 1)]] * n)
 
 
-@kind
+@held
 def parts_of_a_range_strict(n):
     """Blocks that emit parts of one long range, all from other places on and to other places."""
     values = [["Literal", "u32", 1]] + negations(n) + negations_of(range(1, n + 1))
     return in_blocks(values, [(1, n + 1)], [[(n + 1 + at // 2, 2 * n + 1 - at // 3)] for at in range(n)])
 
 
-@kind
+@held
 def operands_one_by_one_strict(n):
     """Operands with gaps between them that are emitted one by one, and many blocks that emit one more and then all that name them."""
     values = [["Literal", "u32", 1]] + negations(2 * n) + [["Binary", "Add", 1 + 2 * at, 1] for at in range(n)]
