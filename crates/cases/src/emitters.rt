@@ -3,7 +3,7 @@ ghost use Rattle.std.specs.Prelude.{◌≡◌, ◌+◌, OnOk, length};
 
 use ir_arena::arena::Arena;
 use ir_arena::span::Span;
-use ir_emitter::Emitter;
+use ir_walks::Emitter;
 use ir_items::{Expression, Statement, key};
 use ir_kinds::Literal;
 use serde_json::Value;

@@ -5,7 +5,7 @@ use ir_arena::handle::Handle;
 use ir_arena::span::Span;
 use ir_items::{DiagnosticFilterNode, Function, IrType, key};
 use ir_kinds::{Severity, StandardFilterableTriggeringRule};
-use ir_unique_arena::unique_arena::UniqueArena;
+use ir_sets::unique_arena::UniqueArena;
 use ir_walks::{DiagnosticFilterNodeExt, FlattenCompose, FunctionExt};
 use serde_json::Value;
 use std::alloc::{AllocError, Global};

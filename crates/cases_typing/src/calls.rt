@@ -3,7 +3,7 @@ use anyhow::{Result, ensure};
 use global_checks::ImmediateSlots;
 use ir_kinds::{CooperativeSize, Scalar, VectorSize};
 use ir_types::{IrType, TypeInner, key};
-use ir_unique_arena::unique_arena::UniqueArena;
+use ir_sets::unique_arena::UniqueArena;
 use std::io;
 use typing_forms::types_go_back;
 use typing_layout::{Alignment, LayoutErrorInner, Layouter};

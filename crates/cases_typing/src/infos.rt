@@ -7,7 +7,7 @@ ghost use Rattle.typing_layout.specs.Held.{AreLayouts};
 use ir_faults::refusal::Refusal;
 use ir_flags::Capabilities;
 use ir_types::{IrType, key};
-use ir_unique_arena::unique_arena::UniqueArena;
+use ir_sets::unique_arena::UniqueArena;
 use module_types::{InvalidType, TypeSettings, validate_types};
 use std::alloc::{AllocError, Global};
 use type_infos::{TypeError, TypeInfo};

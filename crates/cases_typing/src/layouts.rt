@@ -4,7 +4,7 @@ ghost use Rattle.std.specs.Prelude.{◌≤◌, length};
 use ir_arena::handle::Handle;
 use ir_faults::refusal::Refusal;
 use ir_types::{IrType, key};
-use ir_unique_arena::unique_arena::UniqueArena;
+use ir_sets::unique_arena::UniqueArena;
 use std::alloc::{AllocError, Global};
 use typing_forms::types_go_back;
 use typing_layout::{LayoutError, Layouter, TypeLayout};

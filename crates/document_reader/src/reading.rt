@@ -11,7 +11,7 @@ ghost use Rattle.document_reader.specs.declared.error.DocumentError.TheVariants.
 use crate::document::read_value;
 use crate::error::DocumentError;
 use crate::model::Document;
-use ir_unique_arena::keyed::KeyedState;
+use ir_sets::keyed::KeyedState;
 use serde_json::Value;
 use std::alloc::Global;
 

@@ -13,7 +13,7 @@ ghost use Rattle.typing_forms.specs.Sizes.{counted, type_size};
 use crate::slots::ImmediateSlots;
 use ir_arena::handle::Handle;
 use ir_types::{ArraySize, IrType, StructMember, TypeInner, key};
-use ir_unique_arena::unique_arena::UniqueArena;
+use ir_sets::unique_arena::UniqueArena;
 use typing_forms::{TypeInnerExt, inner_of};
 
 // A number of bytes, as far as it counts for slots.

@@ -12,7 +12,7 @@ use crate::slots::ImmediateSlots;
 use ir_arena::handle::Handle;
 use ir_items::{GlobalVariable, IrType, Module, key};
 use ir_kinds::AddressSpace;
-use ir_unique_arena::unique_arena::UniqueArena;
+use ir_sets::unique_arena::UniqueArena;
 use typing_forms::{TypeInnerExt, inner_of};
 
 // Whether variables are immediate data.

@@ -11,7 +11,7 @@ use crate::{Constant, DiagnosticFilterNode, GlobalVariable, Override, SpecialTyp
 use ir_arena::arena::Arena;
 use ir_arena::handle::Handle;
 use ir_types::{Expression, IrType, key};
-use ir_unique_arena::unique_arena::UniqueArena;
+use ir_sets::unique_arena::UniqueArena;
 use std::alloc::{AllocError, Global};
 
 /// A shader module (naga's `Module`).

@@ -1,3 +1,5 @@
 pub mod Members
 pub mod Parts
 pub mod Words
+pub mod Copied
+pub mod Distinct

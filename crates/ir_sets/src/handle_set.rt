@@ -9,7 +9,7 @@ use crate::bits;
 use ir_arena::arena::Arena;
 use ir_arena::handle::Handle;
 use ir_arena::range::Range;
-use ir_unique_arena::unique_arena::UniqueArena;
+use crate::unique_arena::UniqueArena;
 use std::alloc::{AllocError, Global};
 use std::hash::Hash;
 use std::marker::{Model, PhantomData};

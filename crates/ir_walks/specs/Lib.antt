@@ -1,3 +1,4 @@
 pub mod Bases
 pub mod Filters
 pub mod Flat
+pub mod Emitted

@@ -9,7 +9,7 @@ ghost use Rattle.ir_walks.specs.Flat.{types_of, size_at, vector_size, parts_of, 
 use ir_arena::arena::Arena;
 use ir_arena::handle::Handle;
 use ir_items::{Expression, IrType, TypeInner, key};
-use ir_unique_arena::unique_arena::UniqueArena;
+use ir_sets::unique_arena::UniqueArena;
 use std::alloc::{AllocError, Global};
 use std::marker::Model;
 use std::vec;

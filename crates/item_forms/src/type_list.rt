@@ -5,7 +5,7 @@ use crate::types::TypeForm;
 use document_forms::{Grow, ReadError, Wanted};
 use ir_arena::span::Span;
 use ir_types::{IrType, key};
-use ir_unique_arena::unique_arena::UniqueArena;
+use ir_sets::unique_arena::UniqueArena;
 use std::alloc::{AllocError, Global};
 
 impl Grow<TypeForm> for UniqueArena<IrType, key::IrType> {

@@ -11,7 +11,7 @@ use crate::leaves::{Leaf, add_along};
 use ir_arena::handle::Handle;
 use ir_items::Module;
 use ir_types::{IrType, TypeInner, key};
-use ir_unique_arena::unique_arena::UniqueArena;
+use ir_sets::unique_arena::UniqueArena;
 use std::alloc::{AllocError, Global};
 use typing_forms::inner_of;
 

@@ -15,7 +15,7 @@ use crate::leaves::{counted, vector_alignment};
 use crate::paths::{to_element, to_member};
 use ir_arena::handle::Handle;
 use ir_types::{IrType, StructMember, TypeInner, key};
-use ir_unique_arena::unique_arena::UniqueArena;
+use ir_sets::unique_arena::UniqueArena;
 use std::alloc::{AllocError, Global};
 use typing_forms::{TypeInnerExt, inner_of};
 

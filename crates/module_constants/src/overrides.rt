@@ -18,7 +18,7 @@ use ir_faults::with_span::WithSpan;
 use ir_items::Override;
 use ir_kinds::Scalar;
 use ir_types::{IrType, TypeInner, key};
-use ir_unique_arena::unique_arena::UniqueArena;
+use ir_sets::unique_arena::UniqueArena;
 use module_expressions::OverrideError;
 use std::alloc::{AllocError, Global};
 use typing_forms::inner_of;

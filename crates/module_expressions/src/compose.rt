@@ -16,7 +16,7 @@ use error_functions::ComposeError;
 use ir_arena::handle::Handle;
 use ir_kinds::Scalar;
 use ir_types::{IrType, StructMember, TypeInner, key};
-use ir_unique_arena::unique_arena::UniqueArena;
+use ir_sets::unique_arena::UniqueArena;
 use typing_forms::laws::form_equality;
 use typing_forms::{Form, TypeInnerExt, TypeResolution, form_of_type, inner_of};
 

@@ -13,7 +13,7 @@ use ir_faults::refusal::Refusal;
 use ir_faults::with_span::WithSpan;
 use ir_flags::Capabilities;
 use ir_types::{IrType, key};
-use ir_unique_arena::unique_arena::UniqueArena;
+use ir_sets::unique_arena::UniqueArena;
 use std::alloc::Global;
 use thiserror::Error;
 use type_checks::{TypeContext, check_type};

@@ -1,7 +1,7 @@
 //! What holds of handles, spans, types and completed bodies for all values.
 
 pub use ir_arena::laws::{handle_laws, subsume_laws};
-pub use ir_emitter::laws::ranges_partition;
+pub use ir_walks::emitter_laws::ranges_partition;
 pub use ir_flags::laws::{all_words, compute_like, within};
 pub use ir_items::laws::{
     always_in_step, completed_by_tails, completed_once, kept_equality, one_completed, one_returned,

@@ -19,7 +19,7 @@ use ir_arena::handle::Handle;
 use ir_flags::{Capabilities, ShaderStages};
 use ir_kinds::Literal;
 use ir_types::{Expression, IrType, TypeInner, key};
-use ir_unique_arena::unique_arena::UniqueArena;
+use ir_sets::unique_arena::UniqueArena;
 use type_infos::{TypeFlags, TypeInfo};
 use typing_forms::{Form, inner_of};
 use typing_layout::ExpressionKindTracker;

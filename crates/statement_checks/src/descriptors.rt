@@ -7,7 +7,7 @@ ghost use Rattle.typing_forms.specs.Resolutions.{inner_at, types_view};
 
 use ir_arena::handle::Handle;
 use ir_types::{IrType, TypeInner, key};
-use ir_unique_arena::unique_arena::UniqueArena;
+use ir_sets::unique_arena::UniqueArena;
 use std::alloc::{AllocError, Global};
 use typing_forms::inner_of;
 

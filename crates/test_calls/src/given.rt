@@ -7,7 +7,7 @@ ghost use Rattle.typing_forms.specs.Canonical.{NotBothStructs};
 
 use ir_kinds::Scalar;
 use ir_types::{IrType, TypeInner, key};
-use ir_unique_arena::unique_arena::UniqueArena;
+use ir_sets::unique_arena::UniqueArena;
 use item_forms::TypeForm;
 use serde_json::Value;
 use std::alloc::{AllocError, Global};

@@ -2,7 +2,7 @@
 use crate::arenas::Entries;
 use crate::item::Item;
 use ir_arena::handle::{Handle, Kind};
-use ir_unique_arena::unique_arena::UniqueArena;
+use ir_sets::unique_arena::UniqueArena;
 use serde_json::Value;
 use std::alloc::{AllocError, Global};
 use std::mem;

@@ -10,7 +10,7 @@ use ir_faults::refusal::Refusal;
 use ir_flags::Capabilities;
 use ir_items::Module;
 use ir_types::{IrType, key};
-use ir_unique_arena::unique_arena::UniqueArena;
+use ir_sets::unique_arena::UniqueArena;
 use module_types::{TypeInfo, TypeSettings, validate_types};
 use std::alloc::{AllocError, Global};
 use tiny_lower::TinyLower;

@@ -5,7 +5,7 @@ use ir_arena::handle::Handle;
 use ir_arena::span::Span;
 use ir_items::{Expression, IrType, TypeInner, key};
 use ir_kinds::{Literal, Scalar, VectorSize};
-use ir_unique_arena::unique_arena::UniqueArena;
+use ir_sets::unique_arena::UniqueArena;
 use ir_walks::FlattenCompose;
 use std::alloc::{AllocError, Global};
 use std::test::Fail;

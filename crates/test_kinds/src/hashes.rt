@@ -1,7 +1,7 @@
 // Hashers that know a key. What is due was computed by a SipHash-1-3 written apart, which gives the values that are published
 // with that function.
 use anyhow::Result;
-use ir_unique_arena::keyed::KeyedState;
+use ir_sets::keyed::KeyedState;
 use std::hash::{BuildHasher, Hasher};
 
 // The hash of bytes under a key.

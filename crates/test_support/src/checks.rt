@@ -10,7 +10,7 @@ ghost use Rattle.ir_walks.specs.Flat.{parts_of, PartsPrecede};
 use ir_arena::arena::Arena;
 use ir_arena::handle::Handle;
 use ir_items::{DiagnosticFilterNode, Expression, IrType, key};
-use ir_unique_arena::unique_arena::UniqueArena;
+use ir_sets::unique_arena::UniqueArena;
 use ir_walks::{FlattenCompose, flatten_compose};
 use std::alloc::{AllocError, Global};
 

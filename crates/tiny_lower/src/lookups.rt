@@ -9,7 +9,7 @@ use crate::value_type::{ValueType, type_of_inner};
 use ir_arena::handle::Handle;
 use ir_items::{Function, FunctionArgument, FunctionResult, Module};
 use ir_types::{IrType, key};
-use ir_unique_arena::unique_arena::UniqueArena;
+use ir_sets::unique_arena::UniqueArena;
 use typing_forms::inner_of;
 
 /// The type of values of the type at a handle.

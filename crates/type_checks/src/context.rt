@@ -2,7 +2,7 @@
 
 use ir_flags::Capabilities;
 use ir_types::{IrType, key};
-use ir_unique_arena::unique_arena::UniqueArena;
+use ir_sets::unique_arena::UniqueArena;
 use type_infos::TypeInfo;
 use typing_layout::Layouter;
 

@@ -14,7 +14,7 @@ ghost use Rattle.typing_forms.specs.Sizes.{rounded_up};
 use crate::context::TypeContext;
 use ir_arena::handle::Handle;
 use ir_types::{IrType, TypeInner, key};
-use ir_unique_arena::unique_arena::UniqueArena;
+use ir_sets::unique_arena::UniqueArena;
 use type_infos::TypeInfo;
 use typing_layout::Alignment;
 

@@ -12,7 +12,7 @@ use crate::{converted_rank, inner_of};
 use ir_arena::handle::Handle;
 use ir_kinds::{Scalar, VectorSize};
 use ir_types::{ArraySize, IrType, TypeInner, key};
-use ir_unique_arena::unique_arena::UniqueArena;
+use ir_sets::unique_arena::UniqueArena;
 
 fn same_size(left: VectorSize, right: VectorSize) -> bool
     ensures { result ≡ same_size left right }

@@ -11,7 +11,7 @@ use crate::inner_of;
 use ir_arena::handle::Handle;
 use ir_kinds::Scalar;
 use ir_types::{ArraySize, IrType, TypeInner, key};
-use ir_unique_arena::unique_arena::UniqueArena;
+use ir_sets::unique_arena::UniqueArena;
 
 // The type of an array's elements.
 fn base_of(inner: &TypeInner) -> Option<Handle<key::IrType>>

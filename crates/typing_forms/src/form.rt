@@ -11,7 +11,7 @@ use ir_kinds::{
     AddressSpace, CooperativeRole, CooperativeSize, ImageClass, ImageDimension, Scalar, VectorSize,
 };
 use ir_types::{ArraySize, IrType, TypeInner, key};
-use ir_unique_arena::unique_arena::UniqueArena;
+use ir_sets::unique_arena::UniqueArena;
 
 /// A type in its canonical form: two types are equivalent exactly where their forms are equal.
 ///

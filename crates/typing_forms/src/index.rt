@@ -7,7 +7,7 @@ ghost use Rattle.typing_forms.specs.Lengths.{array_length, elements_of, length_o
 
 use crate::inner_of;
 use ir_types::{ArraySize, IrType, TypeInner, key};
-use ir_unique_arena::unique_arena::UniqueArena;
+use ir_sets::unique_arena::UniqueArena;
 use thiserror::Error;
 
 /// How many elements what is indexed has (naga's `IndexableLength`).

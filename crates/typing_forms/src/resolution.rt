@@ -6,7 +6,7 @@ ghost use Rattle.typing_forms.specs.Resolutions.{types_view, resolution_view, ha
 
 use ir_arena::handle::Handle;
 use ir_types::{IrType, TypeInner, key};
-use ir_unique_arena::unique_arena::UniqueArena;
+use ir_sets::unique_arena::UniqueArena;
 use std::alloc::{AllocError, Global};
 
 /// The type of an expression (naga's `TypeResolution`).

@@ -12,7 +12,7 @@ use ir_arena::handle::Handle;
 use ir_faults::refusal::Refusal;
 use ir_faults::with_span::WithSpan;
 use ir_types::{IrType, key};
-use ir_unique_arena::unique_arena::UniqueArena;
+use ir_sets::unique_arena::UniqueArena;
 use std::alloc::Global;
 use std::marker::Model;
 use std::ops::Index;

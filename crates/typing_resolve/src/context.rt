@@ -23,7 +23,7 @@ use ir_items::{
     SpecialTypes,
 };
 use ir_types::{Expression, IrType, key};
-use ir_unique_arena::unique_arena::UniqueArena;
+use ir_sets::unique_arena::UniqueArena;
 use std::alloc::Global;
 use typing_forms::TypeResolution;
 use typing_operands::{Given, ResolveRefusal, operands_of};

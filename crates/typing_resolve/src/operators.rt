@@ -9,7 +9,7 @@ ghost use Rattle.typing_operands.specs.Operands.{given_form};
 
 use ir_kinds::{BinaryOperator, Scalar, VectorSize};
 use ir_types::{IrType, TypeInner, key};
-use ir_unique_arena::unique_arena::UniqueArena;
+use ir_sets::unique_arena::UniqueArena;
 use spec_expressions::TypingFault;
 use std::alloc::{AllocError, Global};
 use typing_forms::{Form, TypeResolution};

@@ -18,7 +18,7 @@ use ir_arena::handle::Handle;
 use ir_flags::{Capabilities, ShaderStages};
 use ir_kinds::{BuiltIn, Scalar, ShaderStage};
 use ir_types::{ArraySize, IrType, key};
-use ir_unique_arena::unique_arena::UniqueArena;
+use ir_sets::unique_arena::UniqueArena;
 use spec_varyings::{BuiltInRow, BuiltInType, Direction, Exception, built_in_row};
 use std::alloc::{AllocError, Global};
 use typing_forms::laws::form_equality;

@@ -4,7 +4,7 @@ use ir_arena::handle::Handle;
 use ir_flags::{Capabilities, ValidationFlags};
 use ir_kinds::ShaderStage;
 use ir_types::{IrType, key};
-use ir_unique_arena::unique_arena::UniqueArena;
+use ir_sets::unique_arena::UniqueArena;
 use spec_varyings::Direction;
 use type_infos::TypeInfo;
 

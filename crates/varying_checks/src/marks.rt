@@ -21,7 +21,7 @@ use ir_flags::ValidationFlags;
 use ir_kinds::BuiltIn;
 use ir_sets::bits;
 use ir_types::{IrType, key};
-use ir_unique_arena::unique_arena::UniqueArena;
+use ir_sets::unique_arena::UniqueArena;
 use spec_varyings::{Bound, Varying};
 use std::alloc::{AllocError, Global};
 use std::collections::BTreeMap;

@@ -11,7 +11,7 @@ use ir_arena::handle::Handle;
 use ir_items::FunctionArgument;
 use ir_kinds::Binding;
 use ir_types::{IrType, StructMember, TypeInner, key};
-use ir_unique_arena::unique_arena::UniqueArena;
+use ir_sets::unique_arena::UniqueArena;
 use spec_varyings::{Bound, Location, Varying};
 use std::alloc::{AllocError, Global};
 use typing_forms::inner_of;

@@ -1,0 +1,7 @@
+use Rattle.std.proofs.Common.{◌≡◌, map, take}
+use Rattle.ir_arena.specs.Copies.{entry_of}
+use Rattle.ir_sets.proofs.unique_arena.UniqueArena.clone.Given as goal
+
+-- the copy holds the values so far
+abbrev pub invariant-loop-place : goal.invariant-loop-place
+invariant-loop-place g l = map (entry_of g.T.Copied.view) l.copy ≡ map (entry_of g.T.Copied.view) (take l.place l.self)
