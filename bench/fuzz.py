@@ -407,7 +407,7 @@ def main():
         library = f"{room}/libserve.so"
         words = [os.environ.get("CC", "cc"), "-O2", "-fPIC", "-shared", "-o", library, str(TOP / "bench/serve.c"), "-ldl"]
         subprocess.run(words, check=True)
-        seeds = read_seeds([TOP / "examples", TOP / "crates/cases/data", *given.seeds], given.longest)
+        seeds = read_seeds([TOP / "examples", TOP / "crates/test_cases/data", *given.seeds], given.longest)
         maker, judge = Maker(seeds, random.Random(given.seed), given.longest), Judge(given, library)
         print(f"{len(seeds)} documents to begin with, {len(maker.seeds)} of them chosen", flush=True)
         begin = said = time.time()

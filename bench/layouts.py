@@ -2,12 +2,12 @@
 """Measures how long layouts of all types, and kinds and types of all expressions of large documents take, beside reading
 the same bytes as JSON and no more: layouts.py [--instructions]
 
-`cases_typing` is run twice on each document: once it reads the document and no more, and once it lays out the types
+`test_typing` is run twice on each document: once it reads the document and no more, and once it lays out the types
 besides, or finds the kinds or the types of the expressions. What these take is the difference, of the least times of five runs, which
 take turns. It is a small part of the whole, so that where other programs run beside it can't be told from theirs: with
 --instructions the instructions of one run each are counted instead (valgrind's callgrind), on documents of 256 KiB and
 1 MiB, since that takes fifty times as long. Prints a table in Markdown. Both programs have to be built: `rt ci` leaves
-them, and so does `rt run` in crates/cases_typing and crates/test_kinds. The status is 1 where a target is missed.
+them, and so does `rt run` in crates/test_typing and crates/test_kinds. The status is 1 where a target is missed.
 """
 import json
 import os
@@ -19,8 +19,8 @@ import tempfile
 
 from run import ALONE, MEASURES, RUNS, SIZES, TOP, run
 
-CASES = TOP / "crates/cases_typing/out/cases_typing"
-DATA = TOP / "crates/cases_typing/data"
+CASES = TOP / "crates/test_typing/out/cases_typing"
+DATA = TOP / "crates/test_typing/data"
 MOST_SHARE = 0.25
 TYPES = ('[1,[],[],[[],[]],false,[[null,["Scalar","u32"]],[null,["Vector",3,"f32"]]', '],[null,null,null,[]],[[],null],'
          '[],[],[],[],[],[]]')
@@ -95,7 +95,7 @@ def ask(room, asked, document):
 
 
 def taken(room, asked, document):
-    """The processor time in seconds of one run of `cases_typing` that is asked this of a document."""
+    """The processor time in seconds of one run of `test_typing` that is asked this of a document."""
     ask(room, asked, document)
     with open(f"{room}/answer", "w+") as told:
         child = subprocess.Popen([CASES], cwd=room, stdout=told)

@@ -116,7 +116,7 @@ def called(room, path):
 def json_alone(room, path):
     """The instructions of reading the bytes as JSON and letting the value go, without taking the bytes in."""
     said = counted_run(room, path, [MEASURES, "json"], "read\n")
-    whole, taken = of_call(said, "test_kinds::json_alone::run"), of_call(said, "ports::source::Source::take_all")
+    whole, taken = of_call(said, "test_kinds::json_alone::run"), of_call(said, "check_ports::source::Source::take_all")
     if not whole or not taken:
         sys.exit("modules: the JSON reader was not counted")
     return whole - taken

@@ -5,7 +5,7 @@ First the program (crates/checker/out/checker) on nine documents, from an empty 
 request is refused, N from 1 until a run makes fewer. A run that is refused one ends with status 2, writes nothing, and says
 `fault: memory`, or it can do without and gives the document's own answer, as does the first that is refused none.
 
-Then `cases_typing` (crates/cases_typing/out/cases_typing) on each line of its data/turns.jsonl alone. `Done` becomes `AsBefore`
+Then `test_typing` (crates/test_typing/out/cases_typing) on each line of its data/turns.jsonl alone. `Done` becomes `AsBefore`
 where the call is refused, and of several modules in turn one answer becomes `Memory`, the others staying as they are; or the call
 can do without and answers the same. Where the refused request is another one, such as one to print, the program ends with an error.
 
@@ -22,7 +22,7 @@ import tempfile
 from pathlib import Path
 
 TOP = Path(__file__).resolve().parent.parent
-CALLS = TOP / "crates/cases_typing"
+CALLS = TOP / "crates/test_typing"
 SIX = ["EXPRESSIONS", "BLOCKS", "CONTROL_FLOW_UNIFORMITY", "STRUCT_LAYOUTS", "CONSTANTS", "BINDINGS"]
 FAULT = 2, "", "fault: memory\n"
 # the descriptor that refuse.c writes the number of requests to

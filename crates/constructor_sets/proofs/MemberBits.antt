@@ -8,7 +8,7 @@ use Rattle.std.proofs.lemmas.Nat.Bits.{and_pow, bit_at-suc, bit_at_lowest, bit_a
 use Rattle.ir_flags.specs.Sets.{Has}
 use Rattle.ir_kinds.specs.Scalars.{is_scalar}
 use Rattle.ir_kinds.specs.declared.scalars.Scalar.{Scalar}
-use Rattle.overload_tables.specs.Types.{constructor_place}
+use Rattle.typing_rules.specs.Types.{constructor_place}
 use Rattle.constructor_sets.specs.Bits.{put_if, chosen, MembersByBits}
 use Rattle.constructor_sets.specs.Members.{scalars, sizes}
 

@@ -3,9 +3,9 @@ use Rattle.std.specs.Prelude.{ℕ, List, [], ◌∷◌, Option, Some, None, map}
 use Rattle.ir_kinds.specs.Scalars.{signed, unsigned, floating, boolean, abstract_int, abstract_float}
 use Rattle.ir_kinds.specs.declared.scalars.Scalar.{Scalar}
 use Rattle.ir_kinds.specs.declared.scalars.VectorSize.TheVariants.{Bi, Tri, Quad}
-use Rattle.overload_tables.specs.declared.rules.ConstructorSize.{ConstructorSize}
-use Rattle.overload_tables.specs.declared.rules.ConstructorSize.TheVariants as size
-use Rattle.overload_tables.specs.declared.rules.ValueType.{ValueType}
+use Rattle.typing_rules.specs.declared.rules.ConstructorSize.{ConstructorSize}
+use Rattle.typing_rules.specs.declared.rules.ConstructorSize.TheVariants as size
+use Rattle.typing_rules.specs.declared.rules.ValueType.{ValueType}
 use Rattle.constructor_sets.specs.Bits.{chosen, powers}
 use Rattle.constructor_sets.specs.declared.constructor_set.ConstructorSet.{ConstructorSet}
 use Rattle.constructor_sets.specs.declared.scalar_set.ScalarSet.{ScalarSet}

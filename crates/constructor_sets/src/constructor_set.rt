@@ -2,7 +2,7 @@
 
 ghost use Rattle.std.specs.Prelude.{◌≡◌, ◌==◌, [], ◌∷◌, length};
 ghost use Rattle.ir_types.specs.Plain.{inner_view};
-ghost use Rattle.overload_tables.specs.Types.{value_type_of};
+ghost use Rattle.typing_rules.specs.Types.{value_type_of};
 ghost use Rattle.constructor_sets.specs.Bits.{chosen};
 ghost use Rattle.constructor_sets.specs.Members.{sizes_in, single_sizes, size_of};
 
@@ -10,7 +10,7 @@ use crate::one_bits::Members;
 use bitflags::{Flag, Flags, bitflag_items};
 use ir_kinds::VectorSize;
 use ir_types::TypeInner;
-use overload_tables::{ConstructorSize, ValueType};
+use typing_rules::{ConstructorSize, ValueType};
 
 /// A set of shapes (naga's `ConstructorSet`). A contract sees the number of its bits, as `set.0`.
 #[derive(Clone, Copy, PartialEq, Eq, Debug)]

@@ -8,5 +8,5 @@ mod scalar_set;
 
 pub use constructor_set::ConstructorSet;
 pub use one_bits::{Members, OneBitsIter};
-pub use overload_tables::ConstructorSize;
+pub use typing_rules::ConstructorSize;
 pub use scalar_set::ScalarSet;

@@ -10,7 +10,7 @@ use Rattle.serde_json.specs.Read.{read}
 use Rattle.serde_json.proofs.Nesting.{depth-read}
 use Rattle.document_forms.specs.Decide.{first, all_of, behind}
 use Rattle.document_forms.specs.Inverse.{some_is, bind_some}
-use Rattle.item_forms.specs.Types.{a_type}
+use Rattle.document_items.specs.Types.{a_type}
 use Rattle.document_reader.specs.Distinct.{AreDistinct}
 use Rattle.document_reader.specs.Plain.{PlainDocument}
 use Rattle.ir_flags.specs.declared.settings.ValidationFlags.{ValidationFlags}

@@ -20,10 +20,10 @@ use Rattle.document_forms.specs.Decide.{◌>>=◌, whole_of, first, all_of}
 use Rattle.document_forms.specs.Inverse.{bind_some, guarded, whole_some}
 use Rattle.document_forms.specs.Forms.{a_bool, a_handle, a_set, maybe, a_list, ◌▹◌, an_array, made}
 use Rattle.document_forms.specs.Rows.{row2, row8}
-use Rattle.item_forms.specs.Types.{a_type}
-use Rattle.item_forms.specs.Items.{a_constant, an_override, a_global, a_filter}
-use Rattle.item_forms.specs.Special.{the_special}
-use Rattle.expression_forms.specs.Expressions.{an_expression}
+use Rattle.document_items.specs.Types.{a_type}
+use Rattle.document_items.specs.Items.{a_constant, an_override, a_global, a_filter}
+use Rattle.document_items.specs.Special.{the_special}
+use Rattle.document_expressions.specs.Expressions.{an_expression}
 use Rattle.document_reader.specs.Functions.{a_function, an_entry}
 use Rattle.document_reader.specs.Plain.{PlainDocument}
 use Rattle.document_reader.specs.Form.{IsVersion, ADocument}

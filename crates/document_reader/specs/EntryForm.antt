@@ -2,7 +2,7 @@
 use Rattle.serde_json.specs.Data.{Data}
 use Rattle.ir_items.specs.Plain.{PlainEntry}
 use Rattle.document_forms.specs.Form.{AHandle, AText, Maybe, AnArray, Ends, ◌▸◌}
-use Rattle.item_forms.specs.ItemForm.{AStage, AnEarly, TheSizes, AMesh}
+use Rattle.document_items.specs.ItemForm.{AStage, AnEarly, TheSizes, AMesh}
 use Rattle.document_reader.specs.FunctionForm.{AFunction}
 
 abbrev pub AnEntry : PlainEntry → Data → Type 0

@@ -6,9 +6,9 @@ use Rattle.ir_flags.specs.Settings.{PlainSettings}
 use Rattle.document_words.specs.Tables.{flags, capabilities, stages, operations}
 use Rattle.document_words.specs.Unions.{flag_union, capability_union, stage_union, operation_union}
 use Rattle.document_forms.specs.Form.{ABool, ASet, AnArray, AList, Ends, ◌▸◌}
-use Rattle.item_forms.specs.Form.{AType}
-use Rattle.expression_forms.specs.Form.{AnExpression}
-use Rattle.item_forms.specs.ItemForm.{ASpecial, AllFilters, AConstant, AnOverride, AGlobal}
+use Rattle.document_items.specs.Form.{AType}
+use Rattle.document_expressions.specs.Form.{AnExpression}
+use Rattle.document_items.specs.ItemForm.{ASpecial, AllFilters, AConstant, AnOverride, AGlobal}
 use Rattle.document_reader.specs.FunctionForm.{AFunction}
 use Rattle.document_reader.specs.EntryForm.{AnEntry}
 use Rattle.document_reader.specs.declared.reading.TheConstants.{MAX_LEN}

@@ -3,8 +3,8 @@ use Rattle.serde_json.specs.Data.{Data}
 use Rattle.ir_items.specs.Plain.{PlainArgument, PlainLocal, PlainFunction}
 use Rattle.ir_items.specs.declared.functions.FunctionResult.{FunctionResult}
 use Rattle.document_forms.specs.Form.{AHandle, AText, Maybe, AnArray, AList, Ends, ◌▸◌}
-use Rattle.item_forms.specs.Form.{ABinding}
-use Rattle.expression_forms.specs.Form.{AnExpression}
+use Rattle.document_items.specs.Form.{ABinding}
+use Rattle.document_expressions.specs.Form.{AnExpression}
 use Rattle.document_reader.specs.StatementForm.{ABody}
 
 abbrev pub AnArgument : PlainArgument → Data → Type 0

@@ -5,9 +5,9 @@ use Rattle.ir_items.specs.declared.functions.FunctionResult.{FunctionResult}
 use Rattle.document_forms.specs.Exact.{FormOf}
 use Rattle.document_forms.specs.Forms.{a_handle, a_text, maybe, a_list, an_array, made}
 use Rattle.document_forms.specs.Rows.{row2, row3, row7}
-use Rattle.item_forms.specs.Types.{a_binding}
-use Rattle.item_forms.specs.Items.{a_stage, an_early, the_sizes, a_mesh}
-use Rattle.expression_forms.specs.Expressions.{an_expression}
+use Rattle.document_items.specs.Types.{a_binding}
+use Rattle.document_items.specs.Items.{a_stage, an_early, the_sizes, a_mesh}
+use Rattle.document_expressions.specs.Expressions.{an_expression}
 use Rattle.document_reader.specs.Statements.{a_body}
 use Rattle.document_reader.specs.FunctionForm.{AnArgument, AResult, ALocal, AFunction}
 use Rattle.document_reader.specs.EntryForm.{AnEntry}

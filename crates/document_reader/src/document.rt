@@ -7,7 +7,7 @@ ghost use Rattle.ir_items.specs.Plain.{PlainModule};
 ghost use Rattle.ir_items.specs.View.{module_view};
 ghost use Rattle.document_forms.specs.Decide.{all_of};
 ghost use Rattle.document_forms.specs.declared.error.ReadError.TheVariants.{Memory};
-ghost use Rattle.item_forms.specs.Types.{a_type};
+ghost use Rattle.document_items.specs.Types.{a_type};
 ghost use Rattle.document_reader.specs.Distinct.{AreDistinct};
 ghost use Rattle.document_reader.specs.Plain.{PlainDocument};
 ghost use Rattle.document_reader.specs.View.{document_view};
@@ -20,13 +20,13 @@ use document_forms::{
     At, Each, Form, InArena, InArray, Maybe, ReadError, SetOf, TakeRow, Truth, Wanted, Whole,
     take_into, take_part,
 };
-use expression_forms::ExpressionForm;
+use document_expressions::ExpressionForm;
 use ir_flags::{Capabilities, ShaderStages, SubgroupOperationSet, ValidationFlags};
 use ir_items::Module;
 use ir_types::{IrType, key};
 use ir_sets::keyed::KeyedState;
 use ir_sets::unique_arena::UniqueArena;
-use item_forms::{ConstantForm, FilterForm, GlobalForm, OverrideForm, SpecialForm, TypeForm};
+use document_items::{ConstantForm, FilterForm, GlobalForm, OverrideForm, SpecialForm, TypeForm};
 use serde_json::Value;
 use std::alloc::Global;
 

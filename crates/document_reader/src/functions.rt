@@ -9,10 +9,10 @@ use crate::statements::BodyForm;
 use document_forms::{
     At, Each, Form, InArena, Maybe, ReadError, Row, Take, Text, Whole, read_row, take_row,
 };
-use expression_forms::ExpressionForm;
+use document_expressions::ExpressionForm;
 use ir_items::{EntryPoint, Function, FunctionArgument, FunctionResult, LocalVariable};
 use ir_types::key;
-use item_forms::{BindingForm, EarlyForm, MeshForm, SizesForm, StageForm};
+use document_items::{BindingForm, EarlyForm, MeshForm, SizesForm, StageForm};
 use serde_json::Value;
 use std::alloc::Global;
 

@@ -8,7 +8,7 @@ use Rattle.ir_items.specs.Plain.{PlainModule}
 use Rattle.judgement.specs.Steps.{IsPrepared}
 use Rattle.module_buffers.specs.Lines.{leaf_report}
 use Rattle.module_buffers.specs.Rows.{AreLaid, AreLayoutsIn}
-use Rattle.module_info.specs.declared.info.ModuleInfo.{ModuleInfo}
+use Rattle.typing_infos.specs.declared.info.ModuleInfo.{ModuleInfo}
 use Rattle.shader_check.specs.declared.examined.Examined.{Examined}
 use Rattle.shader_check.specs.declared.examined.Examined.TheVariants as examined
 use Rattle.spec_handles.specs.InOrder.{HandlesOK}

@@ -13,7 +13,7 @@ use document_forms::Place;
 use document_reader::{DocumentError, MAX_LEN, read_document};
 use ir_items::Module;
 use module_buffers::leaf_report;
-use module_info::ModuleInfo;
+use typing_infos::ModuleInfo;
 use shader_check::{
     Examined, Finding, ModuleError, Named, ValidationError, examine_document, refused_by,
 };

@@ -8,7 +8,7 @@ mod parts;
 mod place;
 
 use explanation::{Explanation, explain};
-use ports::{Source, TakeError};
+use check_ports::{Source, TakeError};
 use shader_check::MAX_TAKEN;
 use std::env::args;
 use std::process::ExitCode;

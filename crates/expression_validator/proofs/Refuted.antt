@@ -2,8 +2,8 @@
 use Rattle.std.proofs.Common.{◌≡◌, Option, Some, None, refl, subst}
 use Rattle.module_expressions.proofs.Compositions.{composition_refuted}
 use Rattle.module_expressions.proofs.Literals.{literal_refuted}
-use Rattle.error_functions.specs.declared.expressions.ExpressionError.{ExpressionError}
-use Rattle.error_functions.specs.declared.expressions.ExpressionError.TheVariants as error
+use Rattle.typing_errors.specs.declared.expressions.ExpressionError.{ExpressionError}
+use Rattle.typing_errors.specs.declared.expressions.ExpressionError.TheVariants as error
 use Rattle.expression_validator.specs.Faults.{IsPlainFault, IsFaultOf}
 use Rattle.expression_validator.specs.Laws.{ExpressionRefuted}
 use Rattle.ir_types.specs.ExpressionPlain.{PlainExpression, compose, plain}

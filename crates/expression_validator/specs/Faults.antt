@@ -1,8 +1,8 @@
 -- Why an expression is refused.
 use Rattle.std.specs.Prelude.{◌≡◌, ℕ, Option, Some, None, map, slice_get}
-use Rattle.statement_checks.specs.Refused.{IsRefused}
-use Rattle.error_functions.specs.declared.expressions.ExpressionError.{ExpressionError}
-use Rattle.expression_checks.specs.Faults.{IsBadLiteral, IsBadComposition}
+use Rattle.function_statement_checks.specs.Refused.{IsRefused}
+use Rattle.typing_errors.specs.declared.expressions.ExpressionError.{ExpressionError}
+use Rattle.module_expression_checks.specs.Faults.{IsBadLiteral, IsBadComposition}
 use Rattle.ir_types.specs.ExpressionPlain.{PlainExpression, compose, plain}
 use Rattle.ir_types.specs.declared.expressions.Expression.{Expression}
 use Rattle.ir_kinds.specs.declared.values.Literal.{Literal}

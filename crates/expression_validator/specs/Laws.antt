@@ -1,6 +1,6 @@
 -- What has a fault is not accepted.
 use Rattle.std.specs.Prelude.{ℕ}
-use Rattle.error_functions.specs.declared.expressions.ExpressionError.{ExpressionError}
+use Rattle.typing_errors.specs.declared.expressions.ExpressionError.{ExpressionError}
 use Rattle.expression_validator.specs.Faults.{IsExpressionFault}
 use Rattle.spec_statements.specs.Expressions.{ExpressionOK}
 use Rattle.spec_statements.specs.Scene.{Scene}

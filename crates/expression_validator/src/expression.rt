@@ -1,7 +1,7 @@
 //! The checks of all kinds of expressions: one arm for each kind.
 
 ghost use Rattle.std.specs.Prelude.{◌<◌, length, MatchResult};
-ghost use Rattle.statement_checks.specs.OperandView.{scene_in, IsKnown};
+ghost use Rattle.function_statement_checks.specs.OperandView.{scene_in, IsKnown};
 ghost use Rattle.expression_validator.specs.Faults.{IsFaultOf, IsExpressionFault};
 ghost use Rattle.ir_types.specs.ExpressionPlain.{expression_view};
 ghost use Rattle.spec_statements.specs.Expressions.{AskedOf, ExpressionOK};
@@ -9,8 +9,8 @@ ghost use Rattle.spec_statements.specs.ExpressionStages.{IsRunBy};
 
 use crate::stages::stages_of;
 use crate::{check_image_load, check_image_query, check_image_sample};
-use error_functions::ExpressionError;
-use expression_checks::{
+use typing_errors::ExpressionError;
+use module_expression_checks::{
     check_access, check_access_index, check_array_length, check_as, check_atomic_result,
     check_binary, check_compose, check_cooperative_load, check_derivative, check_intersection,
     check_literal, check_load, check_multiply_add, check_relational, check_select, check_swizzle,
@@ -20,7 +20,7 @@ use ir_arena::handle::Handle;
 use ir_flags::ShaderStages;
 use ir_types::{Expression, key};
 use spec_statements::Sampling;
-use statement_checks::CheckContext;
+use function_statement_checks::CheckContext;
 
 // Whether what is asked of an expression is met.
 fn check_expression(

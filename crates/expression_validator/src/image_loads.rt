@@ -1,20 +1,20 @@
 //! How texels are loaded, and what is asked of images.
 
 ghost use Rattle.std.specs.Prelude.{◌↔◌, IsTrue, MatchResult};
-ghost use Rattle.statement_checks.specs.Refused.{IsRefused};
-ghost use Rattle.statement_checks.specs.OperandView.{scene_in};
+ghost use Rattle.function_statement_checks.specs.Refused.{IsRefused};
+ghost use Rattle.function_statement_checks.specs.OperandView.{scene_in};
 ghost use Rattle.spec_statements.specs.ImageLoads.{IsFlat, IsTexel, IsReadable, IsTexelLoad, ImageLoadOK, IsAnswered, ImageQueryOK};
 ghost use Rattle.spec_statements.specs.Scene.{form_at};
 
 use crate::operands::{along, is_number_if};
 use bitflags::Flags;
-use error_functions::ExpressionError;
+use typing_errors::ExpressionError;
 use ir_arena::handle::Handle;
 use ir_flags::StorageAccess;
 use ir_kinds::{ImageClass, ImageDimension};
 use ir_types::{ImageQuery, key};
 use spec_statements::Picture;
-use statement_checks::{
+use function_statement_checks::{
     CheckContext, are_same, is_integer, is_integer_scalar, picture_of, refused_unless, shaped_of,
 };
 use typing_forms::Form;
@@ -99,7 +99,7 @@ fn is_image_load(
 /// # Errors
 ///
 /// [`ExpressionError::Other`] where it is not.
-#[tactic(auto, using(statement_checks::proofs::Refusals::by_test))]
+#[tactic(auto, using(function_statement_checks::proofs::Refusals::by_test))]
 pub fn check_image_load(
     context: &CheckContext<'_>,
     image: Handle<key::Expression>,
@@ -160,7 +160,7 @@ fn is_image_query(context: &CheckContext<'_>, image: Form, query: ImageQuery) ->
 /// # Errors
 ///
 /// [`ExpressionError::Other`] where it has none.
-#[tactic(auto, using(statement_checks::proofs::Refusals::by_test))]
+#[tactic(auto, using(function_statement_checks::proofs::Refusals::by_test))]
 pub fn check_image_query(
     context: &CheckContext<'_>,
     image: Handle<key::Expression>,

@@ -1,6 +1,6 @@
 //! Whether an expression whose operands have types is accepted, and which stages may run it; and what is asked of expressions
 //! that look at images beside their types: a module a family, of the name that its definitions have in `spec_statements`. The
-//! other families stand in `expression_checks`.
+//! other families stand in `module_expression_checks`.
 #![tactic(auto)]
 
 mod expression;

@@ -1,5 +1,5 @@
 -- A refusal for one fault is one for any that it implies.
-use Rattle.error_functions.specs.declared.error.FunctionError.{FunctionError}
+use Rattle.typing_errors.specs.declared.error.FunctionError.{FunctionError}
 use Rattle.ir_faults.specs.Faults.{error_of}
 use Rattle.ir_faults.specs.declared.refusal.Refusal.{Refusal}
 use Rattle.ir_faults.specs.declared.refusal.Refusal.TheVariants as refusal

@@ -1,7 +1,7 @@
 -- What a lower layer's analysis of a function answers.
 use Rattle.std.specs.Prelude.{◌≡◌, ℕ, Bool, false, List, Some, length, map, slice_get}
-use Rattle.error_functions.specs.declared.expressions.ExpressionError.{ExpressionError}
-use Rattle.error_functions.specs.declared.error.FunctionError.{FunctionError}
+use Rattle.typing_errors.specs.declared.expressions.ExpressionError.{ExpressionError}
+use Rattle.typing_errors.specs.declared.error.FunctionError.{FunctionError}
 use Rattle.ir_faults.specs.Faults.{error_of}
 use Rattle.ir_faults.specs.declared.refusal.Refusal.{Refusal}
 use Rattle.ir_faults.specs.declared.refusal.Refusal.TheVariants as refusal

@@ -1,7 +1,7 @@
 -- Whether what stands for answers is answered.
 use Rattle.std.specs.Prelude.{◌≡◌, ◌<◌, ℕ, List, Some, Bool, true, slice_get}
-use Rattle.error_functions.specs.declared.error.FunctionError.{FunctionError}
-use Rattle.error_functions.specs.declared.error.FunctionError.TheVariants as error
+use Rattle.typing_errors.specs.declared.error.FunctionError.{FunctionError}
+use Rattle.typing_errors.specs.declared.error.FunctionError.TheVariants as error
 use Rattle.ir_types.specs.ExpressionPlain.{PlainExpression, plain}
 use Rattle.ir_types.specs.declared.expressions.Expression.TheVariants as x
 use Rattle.spec_statements.specs.Results.{StandsForAnswer}

@@ -1,9 +1,9 @@
 -- Calls that pass another number of arguments than their functions have.
 use Rattle.std.specs.Prelude.{ℕ, Some}
-use Rattle.error_functions.specs.declared.error.FunctionError.{FunctionError}
-use Rattle.error_functions.specs.declared.error.FunctionError.TheVariants as error
-use Rattle.error_functions.specs.declared.calls.CallError.{CallError}
-use Rattle.error_functions.specs.declared.calls.CallError.TheVariants as call_error
+use Rattle.typing_errors.specs.declared.error.FunctionError.{FunctionError}
+use Rattle.typing_errors.specs.declared.error.FunctionError.TheVariants as error
+use Rattle.typing_errors.specs.declared.calls.CallError.{CallError}
+use Rattle.typing_errors.specs.declared.calls.CallError.TheVariants as call_error
 use Rattle.ir_items.specs.Plain.{PlainFunction, PlainModule}
 use Rattle.typing_conditions.specs.Tests.{PassesWrongCount, fault_at}
 

@@ -1,6 +1,6 @@
 -- The stages that are noted in what is kept of functions.
 use Rattle.std.specs.Prelude.{List, map}
-use Rattle.module_info.specs.declared.function_info.FunctionInfo.{FunctionInfo}
+use Rattle.typing_infos.specs.declared.function_info.FunctionInfo.{FunctionInfo}
 use Rattle.ir_flags.specs.declared.stages.ShaderStages.{ShaderStages}
 
 abbrev pub noted : List FunctionInfo → List ShaderStages

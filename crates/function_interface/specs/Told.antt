@@ -1,8 +1,8 @@
 -- What is told of a module's types.
 use Rattle.std.specs.Prelude.{◌≡◌, List, length}
 use Rattle.ir_types.specs.Plain.{PlainType}
-use Rattle.type_checks.specs.Known.{AreInfos}
-use Rattle.type_infos.specs.declared.info.TypeInfo.{TypeInfo}
+use Rattle.module_type_checks.specs.Known.{AreInfos}
+use Rattle.module_type_infos.specs.declared.info.TypeInfo.{TypeInfo}
 
 -- the infos are those of all types
 pub record AreTold (types : List PlainType) (infos : List TypeInfo) : Type 0 where

@@ -5,7 +5,7 @@ ghost use Rattle.function_interface.specs.Answered.{Stands, AllAnswered, IsUnans
 ghost use Rattle.ir_types.specs.ExpressionPlain.{expression_view};
 ghost use Rattle.ir_items.specs.View.{function_view};
 
-use error_functions::FunctionError;
+use typing_errors::FunctionError;
 use ir_arena::handle::Handle;
 use ir_items::Function;
 use ir_types::Expression;

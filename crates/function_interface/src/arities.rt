@@ -5,7 +5,7 @@ ghost use Rattle.function_interface.specs.Arities.{IsArityFault};
 ghost use Rattle.ir_items.specs.View.{function_view, module_view};
 ghost use Rattle.spec_handles.specs.Conditions.{AritiesMatch, HandlesInRange};
 
-use error_functions::{CallError, FunctionError};
+use typing_errors::{CallError, FunctionError};
 use ir_items::{Function, Module};
 use typing_conditions::arity_fault;
 

@@ -8,7 +8,7 @@ use bitflags::Flags;
 use ir_arena::handle::Handle;
 use ir_flags::ShaderStages;
 use ir_types::key;
-use module_info::FunctionInfo;
+use typing_infos::FunctionInfo;
 
 /// The stages that may run the module's functions, as far as they are known.
 pub trait CalleeStages {

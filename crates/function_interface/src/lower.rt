@@ -1,9 +1,9 @@
 //! A layer that types expressions, analyses functions and tells of types.
 
 ghost use Rattle.std.specs.Prelude.{◌≡◌, ◌<◌, ◌↔◌, ◌⊎◌, ◌||◌, ℕ, All, Bool, IfErr, IfOk, List, MatchResult, Some, bit_and, length, map, slice_get};
-ghost use Rattle.module_info.specs.Infos.{NotesUse};
-ghost use Rattle.error_functions.specs.declared.expressions.ExpressionError.{ExpressionError};
-ghost use Rattle.error_functions.specs.declared.error.FunctionError.{FunctionError};
+ghost use Rattle.typing_infos.specs.Infos.{NotesUse};
+ghost use Rattle.typing_errors.specs.declared.expressions.ExpressionError.{ExpressionError};
+ghost use Rattle.typing_errors.specs.declared.error.FunctionError.{FunctionError};
 ghost use Rattle.function_interface.specs.Analysis.{Faults, IsKept, IsRefusedFor};
 ghost use Rattle.function_interface.specs.Question.{Question, question};
 ghost use Rattle.function_interface.specs.Told.{AreTold};
@@ -13,26 +13,26 @@ ghost use Rattle.ir_flags.specs.declared.stages.ShaderStages.{ShaderStages};
 ghost use Rattle.ir_items.specs.GlobalPlain.{PlainGlobal};
 ghost use Rattle.ir_items.specs.Plain.{PlainModule};
 ghost use Rattle.ir_items.specs.View.{function_view, module_view};
-ghost use Rattle.ir_walks.specs.Filters.{ParentsPrecede};
+ghost use Rattle.ir_proc.specs.Filters.{ParentsPrecede};
 ghost use Rattle.spec_analysis.specs.Summaries.{AgreeOnCallees, HasUseBit, Summary};
 ghost use Rattle.spec_handles.specs.Conditions.{HandlesInRange, OperandsPrecede};
 ghost use Rattle.spec_statements.specs.Functions.{Reading};
-ghost use Rattle.statement_checks.specs.View.{context_view, IsKnown};
-ghost use Rattle.type_infos.specs.declared.info.TypeInfo.{TypeInfo};
+ghost use Rattle.function_statement_checks.specs.View.{context_view, IsKnown};
+ghost use Rattle.module_type_infos.specs.declared.info.TypeInfo.{TypeInfo};
 ghost use Rattle.typing_forms.specs.declared.form.Form.{Form};
 ghost use Rattle.typing_forms.specs.declared.resolution.TypeResolution.{TypeResolution};
 ghost use Rattle.typing_operands.specs.Answers.{form_given};
 
 use analysis_forms::{GlobalUse, SamplingPair};
-use error_functions::{ExpressionError, FunctionError};
+use typing_errors::{ExpressionError, FunctionError};
 use ir_arena::handle::Handle;
 use ir_faults::refusal::Refusal;
 use ir_flags::{ShaderStages, ValidationFlags};
 use ir_items::{Function, Module};
 use ir_types::key;
-use statement_checks::BlockContext;
+use function_statement_checks::BlockContext;
 use std::alloc::Global;
-use type_infos::TypeInfo;
+use module_type_infos::TypeInfo;
 use typing_forms::TypeResolution;
 
 /// What types the expressions of a module's functions, analyses its functions, and tells of its types. The rules of functions

@@ -1,14 +1,14 @@
 -- An entry point that is accepted or refused, put together of its parts.
 use Rattle.std.proofs.Common.{◌≡◌, ◌↔◌, inl, inr, ◌<◌, ◌||◌, ℕ, List, Bool, IsTrue, false, length, ◌^◌, ◌-◌, refl, sym, ap, subst, ◌∙◌}
-use Rattle.entry_checks.proofs.Refuted.{connection_refuted, payload_fault_refutes, stage_fault_refutes}
-use Rattle.entry_checks.proofs.Transport.{connection_fault_to, connections_to}
-use Rattle.entry_checks.specs.ConnectionFaults.{IsConnectionFault}
-use Rattle.entry_checks.specs.Faults.{IsPayloadFault, IsRefusedFor, IsStageFault}
-use Rattle.entry_checks.specs.declared.error.EntryPointError.{EntryPointError}
-use Rattle.entry_checks.specs.declared.error.EntryPointError.TheVariants.{ForbiddenStageOperations}
+use Rattle.function_entries.proofs.Refuted.{connection_refuted, payload_fault_refutes, stage_fault_refutes}
+use Rattle.function_entries.proofs.Transport.{connection_fault_to, connections_to}
+use Rattle.function_entries.specs.ConnectionFaults.{IsConnectionFault}
+use Rattle.function_entries.specs.Faults.{IsPayloadFault, IsRefusedFor, IsStageFault}
+use Rattle.function_entries.specs.declared.error.EntryPointError.{EntryPointError}
+use Rattle.function_entries.specs.declared.error.EntryPointError.TheVariants.{ForbiddenStageOperations}
 use Rattle.function_validator.specs.EntryFaults.{of_stage, of_function, of_payload, of_runs, of_connections, IsRefusedAs, IsToldAs, IsUnconnected}
 use Rattle.function_validator.specs.Validated.{AddsOwnUses, IsEntrySummary, TellsSame}
-use Rattle.error_functions.specs.declared.error.FunctionError.{FunctionError}
+use Rattle.typing_errors.specs.declared.error.FunctionError.{FunctionError}
 use Rattle.function_validator.specs.Faults.{IsFunctionFault}
 use Rattle.function_interface.specs.Analysis.{Faults, IsRefusedFor as IsFunctionRefusedFor}
 use Rattle.ir_faults.specs.Faults.{error_of}
@@ -22,7 +22,7 @@ use Rattle.ir_flags.specs.declared.stages.ShaderStages.{ShaderStages}
 use Rattle.ir_items.specs.Plain.{PlainEntry, PlainModule}
 use Rattle.ir_kinds.specs.declared.stages.ShaderStage.{ShaderStage}
 use Rattle.ir_kinds.specs.declared.stages.ShaderStage.TheVariants.{Vertex, Fragment, Compute, Mesh, Task, RayGeneration, AnyHit, ClosestHit, Miss}
-use Rattle.overload_tables.specs.Laws.{IsAmong}
+use Rattle.typing_rules.specs.Laws.{IsAmong}
 use Rattle.spec_analysis.specs.Chains.{HasUse, HasPair, MayKill}
 use Rattle.spec_analysis.specs.Summaries.{HasUseBit, IsSummary, Summary}
 use Rattle.spec_entries.specs.Entries.{ConnectionsOK}

@@ -1,6 +1,6 @@
 -- A global variable of a module whose handles are in order.
 use Rattle.std.proofs.Common.{◌≡◌, ◌<◌, ℕ, Option, Some, None, IfSome, length, slice_get, refl}
-use Rattle.global_checks.specs.There.{IsPlaced}
+use Rattle.module_globals.specs.There.{IsPlaced}
 use Rattle.ir_items.specs.GlobalPlain.{PlainGlobal}
 use Rattle.ir_items.specs.Plain.{PlainModule}
 use Rattle.spec_handles.specs.InOrder.{HandlesOK}

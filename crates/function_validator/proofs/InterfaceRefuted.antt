@@ -1,9 +1,9 @@
 -- A function with a fault does not meet its rule.
 use Rattle.std.proofs.Common.{inl, inr, ℕ, List, Bool, Option, Some, None, IfSome, IsSomeAnd, subst}
-use Rattle.error_functions.specs.declared.error.FunctionError.{FunctionError}
-use Rattle.error_functions.specs.declared.error.FunctionError.TheVariants as error
-use Rattle.error_functions.specs.declared.locals.LocalVariableError.{LocalVariableError}
-use Rattle.error_functions.specs.declared.locals.LocalVariableError.TheVariants.{InvalidType, InitializerType, NonConstOrOverrideInitializer}
+use Rattle.typing_errors.specs.declared.error.FunctionError.{FunctionError}
+use Rattle.typing_errors.specs.declared.error.FunctionError.TheVariants as error
+use Rattle.typing_errors.specs.declared.locals.LocalVariableError.{LocalVariableError}
+use Rattle.typing_errors.specs.declared.locals.LocalVariableError.TheVariants.{InvalidType, InitializerType, NonConstOrOverrideInitializer}
 use Rattle.function_interface.specs.Answered.{AllAnswered, IsUnansweredFault}
 use Rattle.function_validator.specs.Arguments.{IsArgumentFault, IsArgumentsFault}
 use Rattle.function_validator.specs.Interfaces.{IsInterfaceFault}

@@ -2,8 +2,8 @@
 use Rattle.std.proofs.Common.{◌≡◌, ◌↔◌, ◌⊎◌, inl, inr, rules, ◌<◌, ◌+◌, zero, suc, ℕ, Bool, true, IsTrue, List, [], ◌∷◌, ◌++◌, Some, Contains, length, map, slice_get, refl, sym, ap, subst, ◌∙◌, arith}
 use Rattle.std.proofs.lemmas.List.{length-map}
 use Rattle.std.proofs.lemmas.Option.{slice_get_within}
-use Rattle.error_functions.specs.declared.error.FunctionError.{FunctionError}
-use Rattle.error_functions.specs.declared.error.FunctionError.TheVariants as error
+use Rattle.typing_errors.specs.declared.error.FunctionError.{FunctionError}
+use Rattle.typing_errors.specs.declared.error.FunctionError.TheVariants as error
 use Rattle.function_interface.specs.Answered.{AllAnswered, IsUnansweredFault}
 use Rattle.ir_blocks.specs.Places.{Place}
 use Rattle.ir_types.specs.ExpressionPlain.{PlainExpression}

@@ -1,7 +1,7 @@
 -- What the parts of a check find, put together.
 use Rattle.std.proofs.Common.{◌≡◌, ◌↔◌, inl, inr, ℕ, List, Option, length, refl, sym, subst}
 use Rattle.std.specs.Int.RustNames.{bit_and}
-use Rattle.error_functions.specs.declared.error.FunctionError.{FunctionError}
+use Rattle.typing_errors.specs.declared.error.FunctionError.{FunctionError}
 use Rattle.function_interface.specs.Analysis.{Faults, IsRefusedFor, IsFaultBefore, in_arity as with_arity, in_analysis as with_analysis}
 use Rattle.function_interface.proofs.RefusedAs.{refused_as}
 use Rattle.ir_items.specs.Plain.{PlainFunction, PlainModule}
@@ -13,12 +13,12 @@ use Rattle.ir_flags.specs.Sets.{Has}
 use Rattle.ir_flags.specs.declared.settings.TheConstants.ValidationFlags.{EXPRESSIONS, BLOCKS}
 use Rattle.ir_flags.specs.declared.stages.ShaderStages.{ShaderStages}
 use Rattle.function_interface.specs.Bodies.{MayRun}
-use Rattle.body_checks.specs.Faults.{IsScopeRefusal}
+use Rattle.function_body_checks.specs.Faults.{IsScopeRefusal}
 use Rattle.spec_statements.specs.ExpressionStages.{all_stages}
 use Rattle.spec_statements.specs.BlockContext.{BlockContext}
 use Rattle.spec_statements.specs.Functions.{Reading, FunctionSettings}
 use Rattle.spec_statements.specs.Interfaces.{InterfaceOK}
-use Rattle.statement_validator.specs.Faults.{IsBodyRefusal}
+use Rattle.function_statements.specs.Faults.{IsBodyRefusal}
 use Rattle.function_validator.proofs.Below.{left_has, right_has, both_have}
 use Rattle.function_validator.specs.Faults.{AllAccepted, IsBodyInOrder, IsFaultOfBody, IsUnanswered, IsFaultBehind, in_body, unanswered, IsFunctionFault, in_arity, in_analysis}
 use Rattle.function_validator.specs.Judged.{AcceptedBelow, AreExpressionsMet, IsBodyMet, AllAnswer, AreBlocksMet, IsBlocksFault, ArePartsMet}

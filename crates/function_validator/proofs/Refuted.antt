@@ -1,11 +1,11 @@
 -- A function with a fault is not accepted.
 use Rattle.std.proofs.Common.{◌≡◌, inl, inr, ◌<◌, suc, ℕ, List, [], ◌∷◌, Some, length, refl, sym, ap, subst, slice_get, ◌∙◌, arith}
-use Rattle.body_checks.proofs.ControlRefuted.{faults_refute_lem as by_control}
-use Rattle.error_functions.specs.declared.expressions.ExpressionError.{ExpressionError}
-use Rattle.error_functions.specs.declared.error.FunctionError.{FunctionError}
-use Rattle.error_functions.specs.declared.error.FunctionError.TheVariants as error
-use Rattle.error_functions.specs.declared.calls.CallError.{CallError}
-use Rattle.error_functions.specs.declared.calls.CallError.TheVariants as call_error
+use Rattle.function_body_checks.proofs.ControlRefuted.{faults_refute_lem as by_control}
+use Rattle.typing_errors.specs.declared.expressions.ExpressionError.{ExpressionError}
+use Rattle.typing_errors.specs.declared.error.FunctionError.{FunctionError}
+use Rattle.typing_errors.specs.declared.error.FunctionError.TheVariants as error
+use Rattle.typing_errors.specs.declared.calls.CallError.{CallError}
+use Rattle.typing_errors.specs.declared.calls.CallError.TheVariants as call_error
 use Rattle.function_interface.specs.Analysis.{Faults}
 use Rattle.function_validator.proofs.InterfaceRefuted.{faults_refute_lem as by_interface}
 use Rattle.ir_flags.specs.Sets.{Has}
@@ -13,14 +13,14 @@ use Rattle.ir_flags.specs.declared.settings.Capabilities.{Capabilities}
 use Rattle.ir_flags.specs.declared.settings.TheConstants.ValidationFlags.{EXPRESSIONS}
 use Rattle.ir_flags.specs.declared.settings.ValidationFlags.{ValidationFlags}
 use Rattle.ir_items.specs.Plain.{PlainFunction, PlainModule}
-use Rattle.operation_checks.proofs.Refuted.{faults_refute_lem as by_ray}
-use Rattle.body_checks.proofs.Refuted.{faults_refute_lem as by_scope}
+use Rattle.function_operation_checks.proofs.Refuted.{faults_refute_lem as by_ray}
+use Rattle.function_body_checks.proofs.Refuted.{faults_refute_lem as by_scope}
 use Rattle.spec_handles.specs.Conditions.{AritiesMatch}
 use Rattle.spec_statements.specs.BlockContext.{BlockContext}
 use Rattle.spec_statements.specs.Functions.{Reading, FunctionSettings, AreFormsBy, BodyOK, FunctionOK, block_context}
 use Rattle.spec_statements.specs.Interfaces.{InterfaceOK}
-use Rattle.statement_validator.proofs.Refuted.{faults_refute_lem as by_statement}
-use Rattle.strict_checks.proofs.Refuted.{strict_faults_refute_lem as by_strict}
+use Rattle.function_statements.proofs.Refuted.{faults_refute_lem as by_statement}
+use Rattle.function_strict_scope.proofs.Refuted.{strict_faults_refute_lem as by_strict}
 use Rattle.typing_forms.specs.declared.form.Form.{Form}
 use Rattle.typing_conditions.proofs.OrderLaws.{wrong_refutes}
 use Rattle.typing_conditions.specs.Tests.{fault_at}

@@ -1,6 +1,6 @@
 -- A refusal of a part is one of the whole.
 use Rattle.std.proofs.Common.{Bool, inl, inr}
-use Rattle.error_functions.specs.declared.error.FunctionError.{FunctionError}
+use Rattle.typing_errors.specs.declared.error.FunctionError.{FunctionError}
 use Rattle.function_validator.specs.Arguments.{IsArgumentsFault}
 use Rattle.function_validator.specs.Interfaces.{IsInterfaceFault}
 use Rattle.function_interface.specs.Items.{EachOK}

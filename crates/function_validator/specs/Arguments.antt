@@ -1,7 +1,7 @@
 -- What is wrong with what a function is given.
 use Rattle.std.specs.Prelude.{◌≡◌, ℕ, Bool, false, Some, None, string_bytes}
-use Rattle.error_functions.specs.declared.error.FunctionError.{FunctionError}
-use Rattle.error_functions.specs.declared.error.FunctionError.TheVariants as error
+use Rattle.typing_errors.specs.declared.error.FunctionError.{FunctionError}
+use Rattle.typing_errors.specs.declared.error.FunctionError.TheVariants as error
 use Rattle.function_interface.specs.Items.{IsFirstAt}
 use Rattle.function_validator.specs.Named.{name_of}
 use Rattle.function_validator.specs.declared.arguments.ArgumentFault.{ArgumentFault}

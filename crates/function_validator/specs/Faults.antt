@@ -1,9 +1,9 @@
 -- What is wrong with a function: of its parts in their order the first with which something is wrong.
 use Rattle.std.specs.Prelude.{◌⊎◌, ◌<◌, ℕ, List, length}
-use Rattle.body_checks.specs.ControlFaults.{IsControlFault}
-use Rattle.error_functions.specs.declared.expressions.ExpressionError.{ExpressionError}
-use Rattle.error_functions.specs.declared.error.FunctionError.{FunctionError}
-use Rattle.error_functions.specs.declared.error.FunctionError.TheVariants as error
+use Rattle.function_body_checks.specs.ControlFaults.{IsControlFault}
+use Rattle.typing_errors.specs.declared.expressions.ExpressionError.{ExpressionError}
+use Rattle.typing_errors.specs.declared.error.FunctionError.{FunctionError}
+use Rattle.typing_errors.specs.declared.error.FunctionError.TheVariants as error
 use Rattle.function_interface.specs.Analysis.{Faults}
 use Rattle.function_interface.specs.Arities.{IsArityFault}
 use Rattle.function_validator.specs.Interfaces.{IsInterfaceFault}
@@ -13,8 +13,8 @@ use Rattle.ir_blocks.specs.Plain.{PlainStatement}
 use Rattle.ir_flags.specs.Sets.{Has}
 use Rattle.ir_flags.specs.declared.settings.TheConstants.ValidationFlags.{EXPRESSIONS, BLOCKS, STRICT_SCOPE}
 use Rattle.ir_items.specs.Plain.{PlainFunction, PlainModule}
-use Rattle.operation_checks.specs.Payloads.{IsPayloadsFault}
-use Rattle.body_checks.specs.Faults.{IsScopeFault}
+use Rattle.function_operation_checks.specs.Payloads.{IsPayloadsFault}
+use Rattle.function_body_checks.specs.Faults.{IsScopeFault}
 use Rattle.spec_handles.specs.Conditions.{AritiesMatch}
 use Rattle.spec_statements.specs.Answered.{EachOnce}
 use Rattle.spec_statements.specs.BlockContext.{BlockContext}
@@ -25,8 +25,8 @@ use Rattle.spec_statements.specs.Results.{AnswersBy, StandsForAnswer}
 use Rattle.spec_statements.specs.Scope.{ScopeOK}
 use Rattle.spec_statements.specs.Statements.{StatementOK}
 use Rattle.spec_statements.specs.Strict.{StrictOK}
-use Rattle.statement_validator.specs.Faults.{IsBodyFault}
-use Rattle.strict_checks.specs.Faults.{IsStrictFault}
+use Rattle.function_statements.specs.Faults.{IsBodyFault}
+use Rattle.function_strict_scope.specs.Faults.{IsStrictFault}
 use Rattle.typing_forms.specs.declared.form.Form.{Form}
 
 -- ---- expressions

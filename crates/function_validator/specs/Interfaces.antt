@@ -1,6 +1,6 @@
 -- What is wrong with the variables, the arguments and the result of a function.
 use Rattle.std.specs.Prelude.{◌⊎◌, Bool}
-use Rattle.error_functions.specs.declared.error.FunctionError.{FunctionError}
+use Rattle.typing_errors.specs.declared.error.FunctionError.{FunctionError}
 use Rattle.function_validator.specs.Arguments.{IsArgumentsFault}
 use Rattle.function_interface.specs.Items.{EachOK}
 use Rattle.function_validator.specs.Locals.{IsLocalsFault}

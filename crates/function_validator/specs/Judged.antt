@@ -1,14 +1,14 @@
 -- What the parts of a check of a function find.
 use Rattle.std.specs.Prelude.{◌↔◌, ◌⊎◌, ◌<◌, ℕ, Contains, List, Option, length}
 use Rattle.function_validator.specs.Faults.{AllAccepted, IsBodyInOrder, IsFaultOfBody, IsUnanswered}
-use Rattle.error_functions.specs.declared.error.FunctionError.{FunctionError}
+use Rattle.typing_errors.specs.declared.error.FunctionError.{FunctionError}
 use Rattle.ir_blocks.specs.Control.{ControlOK}
 use Rattle.ir_blocks.specs.Places.{Place, StandsAt}
 use Rattle.ir_blocks.specs.Plain.{PlainStatement}
 use Rattle.ir_flags.specs.Sets.{Has}
 use Rattle.ir_flags.specs.declared.settings.TheConstants.ValidationFlags.{EXPRESSIONS, BLOCKS, STRICT_SCOPE}
 use Rattle.ir_flags.specs.declared.stages.ShaderStages.{ShaderStages}
-use Rattle.operation_checks.specs.Payloads.{AreOfOneType}
+use Rattle.function_operation_checks.specs.Payloads.{AreOfOneType}
 use Rattle.spec_statements.specs.ExpressionStages.{all_stages}
 use Rattle.spec_statements.specs.Answered.{EachOnce}
 use Rattle.spec_statements.specs.BlockContext.{BlockContext}

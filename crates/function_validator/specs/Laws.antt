@@ -1,7 +1,7 @@
 -- A function with a fault does not meet its rule.
 use Rattle.std.specs.Prelude.{Bool, IfSome, List}
-use Rattle.error_functions.specs.declared.error.FunctionError.{FunctionError}
-use Rattle.error_functions.specs.declared.locals.LocalVariableError.{LocalVariableError}
+use Rattle.typing_errors.specs.declared.error.FunctionError.{FunctionError}
+use Rattle.typing_errors.specs.declared.locals.LocalVariableError.{LocalVariableError}
 use Rattle.function_interface.specs.Answered.{AllAnswered, IsUnansweredFault}
 use Rattle.function_validator.specs.Arguments.{IsArgumentsFault}
 use Rattle.function_validator.specs.Interfaces.{IsInterfaceFault}

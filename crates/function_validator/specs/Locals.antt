@@ -1,9 +1,9 @@
 -- What is wrong with a variable of a function.
 use Rattle.std.specs.Prelude.{◌≡◌, ◌⊎◌, ℕ, IsSomeAnd, string_bytes}
-use Rattle.error_functions.specs.declared.error.FunctionError.{FunctionError}
-use Rattle.error_functions.specs.declared.error.FunctionError.TheVariants as error
-use Rattle.error_functions.specs.declared.locals.LocalVariableError.{LocalVariableError}
-use Rattle.error_functions.specs.declared.locals.LocalVariableError.TheVariants.{InvalidType, InitializerType, NonConstOrOverrideInitializer}
+use Rattle.typing_errors.specs.declared.error.FunctionError.{FunctionError}
+use Rattle.typing_errors.specs.declared.error.FunctionError.TheVariants as error
+use Rattle.typing_errors.specs.declared.locals.LocalVariableError.{LocalVariableError}
+use Rattle.typing_errors.specs.declared.locals.LocalVariableError.TheVariants.{InvalidType, InitializerType, NonConstOrOverrideInitializer}
 use Rattle.function_interface.specs.Items.{IsFirstAt}
 use Rattle.function_validator.specs.Named.{name_of}
 use Rattle.ir_items.specs.Plain.{PlainLocal}

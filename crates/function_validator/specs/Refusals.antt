@@ -1,6 +1,6 @@
 -- How what breaks a rule is refused.
 use Rattle.std.specs.Prelude.{◌≡◌, []}
-use Rattle.error_functions.specs.declared.error.FunctionError.{FunctionError}
+use Rattle.typing_errors.specs.declared.error.FunctionError.{FunctionError}
 use Rattle.ir_faults.specs.Faults.{error_of, spans_of}
 use Rattle.ir_faults.specs.declared.refusal.Refusal.{Refusal}
 use Rattle.ir_faults.specs.declared.refusal.Refusal.TheVariants as refusal

@@ -1,7 +1,7 @@
 -- What is wrong with what a function answers.
 use Rattle.std.specs.Prelude.{◌≡◌, Bool, false, None, IsSomeAnd}
-use Rattle.error_functions.specs.declared.error.FunctionError.{FunctionError}
-use Rattle.error_functions.specs.declared.error.FunctionError.TheVariants as error
+use Rattle.typing_errors.specs.declared.error.FunctionError.{FunctionError}
+use Rattle.typing_errors.specs.declared.error.FunctionError.TheVariants as error
 use Rattle.typing_layout.specs.Flags.{HasFlag, Constructible}
 use Rattle.spec_statements.specs.BlockContext.{BlockContext}
 use Rattle.typing_layout.specs.View.{type_tree}

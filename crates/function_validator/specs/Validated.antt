@@ -6,7 +6,7 @@ use Rattle.function_validator.specs.declared.settings.FunctionSettings.{Function
 use Rattle.ir_flags.specs.Sets.{Has}
 use Rattle.ir_flags.specs.declared.stages.ShaderStages.{ShaderStages}
 use Rattle.ir_items.specs.Plain.{PlainEntry, PlainModule}
-use Rattle.overload_tables.specs.Laws.{IsAmong}
+use Rattle.typing_rules.specs.Laws.{IsAmong}
 use Rattle.spec_analysis.specs.Chains.{HasUse, HasPair, MayKill}
 use Rattle.spec_analysis.specs.Summaries.{Summary, HasUseBit}
 use Rattle.spec_entries.specs.Entries.{EntryOK}

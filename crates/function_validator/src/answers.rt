@@ -6,15 +6,15 @@ ghost use Rattle.function_validator.specs.Judged.{AllAnswer};
 ghost use Rattle.function_interface.specs.Analysis.{IsRefusedFor};
 ghost use Rattle.ir_blocks.specs.Places.{Place};
 ghost use Rattle.spec_statements.specs.Results.{AnswersBy};
-ghost use Rattle.statement_checks.specs.View.{context_view};
+ghost use Rattle.function_statement_checks.specs.View.{context_view};
 
-use body_checks::ExpressionList;
-use error_functions::FunctionError;
+use function_body_checks::ExpressionList;
+use typing_errors::FunctionError;
 use function_interface::check_answered;
 use ir_arena::handle::Handle;
 use ir_faults::refusal::Refusal;
 use ir_faults::with_span::WithSpan;
-use statement_checks::BlockContext;
+use function_statement_checks::BlockContext;
 use std::alloc::{AllocError, Global};
 
 // Of each of so many expressions, whether it is among these. The error is out of memory.

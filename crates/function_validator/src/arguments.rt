@@ -8,18 +8,18 @@ ghost use Rattle.function_interface.specs.Told.{AreTold};
 ghost use Rattle.ir_items.specs.View.{argument_view};
 ghost use Rattle.spec_statements.specs.BlockContext.{BlockContext as PlainContext};
 ghost use Rattle.spec_statements.specs.Interfaces.{ArgumentOK, IsGiven};
-ghost use Rattle.statement_checks.specs.View.{context_view};
+ghost use Rattle.function_statement_checks.specs.View.{context_view};
 
 use crate::flags::is_argument;
 use crate::item_names::name_of;
-use error_functions::FunctionError;
+use typing_errors::FunctionError;
 use ir_faults::refusal::Refusal;
 use ir_faults::with_span::WithSpan;
 use ir_items::FunctionArgument;
 use ir_kinds::AddressSpace;
-use statement_checks::{BlockContext, StatementContext, pointer_space};
+use function_statement_checks::{BlockContext, StatementContext, pointer_space};
 use std::alloc::{AllocError, Global};
-use type_infos::TypeInfo;
+use module_type_infos::TypeInfo;
 
 // Why a function may not be given something.
 #[derive(Clone, Copy)]

@@ -8,28 +8,28 @@ ghost use Rattle.function_interface.specs.Analysis.{IsRefusedFor};
 ghost use Rattle.ir_flags.specs.Sets.{Has};
 ghost use Rattle.ir_flags.specs.declared.settings.TheConstants.ValidationFlags.{STRICT_SCOPE};
 ghost use Rattle.ir_items.specs.View.{function_view};
-ghost use Rattle.ir_walks.specs.Bases.{BasesPrecede};
+ghost use Rattle.ir_proc.specs.Bases.{BasesPrecede};
 ghost use Rattle.spec_handles.specs.Conditions.{AritiesMatch};
 ghost use Rattle.spec_statements.specs.Scope.{ScopeOK};
 ghost use Rattle.spec_statements.specs.Strict.{StrictOK};
-ghost use Rattle.statement_checks.specs.View.{context_view, IsKnown};
-ghost use Rattle.strict_checks.specs.Faults.{IsStrictFault};
+ghost use Rattle.function_statement_checks.specs.View.{context_view, IsKnown};
+ghost use Rattle.function_strict_scope.specs.Faults.{IsStrictFault};
 
 use crate::settings::FunctionSettings;
 use bitflags::Flags;
-use body_checks::{ExpressionList, check_control, check_scope};
-use error_functions::FunctionError;
+use function_body_checks::{ExpressionList, check_control, check_scope};
+use typing_errors::FunctionError;
 use ir_arena::handle::Handle;
 use ir_faults::refusal::Refusal;
 use ir_faults::with_span::WithSpan;
 use ir_flags::ValidationFlags;
 use ir_items::Function;
 use ir_types::key;
-use operation_checks::payload_of;
-use statement_checks::BlockContext;
-use statement_validator::validate_statements;
+use function_operation_checks::payload_of;
+use function_statement_checks::BlockContext;
+use function_statements::validate_statements;
 use std::alloc::Global;
-use strict_checks::check_strict;
+use function_strict_scope::check_strict;
 
 /// What is found of a body.
 #[derive(Drop)]

@@ -1,8 +1,8 @@
 //! Whether a module may have an entry point.
 
 ghost use Rattle.std.specs.Prelude.{◌≡◌, ◌<◌, ◌↔◌, IfSome, IsTrue, MatchResult, OnOk, length, map};
-ghost use Rattle.entry_checks.specs.Faults.{IsRefusedFor};
-ghost use Rattle.entry_checks.specs.Interfaces.{AreInterfacesKnown};
+ghost use Rattle.function_entries.specs.Faults.{IsRefusedFor};
+ghost use Rattle.function_entries.specs.Interfaces.{AreInterfacesKnown};
 ghost use Rattle.function_validator.specs.EntryFaults.{IsRefusedAs, IsToldAs};
 ghost use Rattle.function_validator.specs.Validated.{IsEntryValidated, own_settings};
 ghost use Rattle.function_validator.specs.Settings.{settings_view};
@@ -11,19 +11,19 @@ ghost use Rattle.ir_faults.specs.Faults.{error_of};
 ghost use Rattle.ir_flags.specs.Sets.{Has};
 ghost use Rattle.ir_items.specs.View.{entry_view, module_view};
 ghost use Rattle.ir_items.specs.declared.entries.MeshStageInfo.{MeshStageInfo};
-ghost use Rattle.ir_walks.specs.Filters.{ParentsPrecede};
+ghost use Rattle.ir_proc.specs.Filters.{ParentsPrecede};
 ghost use Rattle.spec_analysis.specs.Chains.{HasUse};
 ghost use Rattle.spec_analysis.specs.Summaries.{CalleesKnown};
 ghost use Rattle.spec_handles.specs.Conditions.{HandlesInRange, OperandsPrecede};
 ghost use Rattle.spec_varyings.specs.Contexts.{stage_set};
-ghost use Rattle.statement_checks.specs.Descriptors.{AreDescriptors};
+ghost use Rattle.function_statement_checks.specs.Descriptors.{AreDescriptors};
 
 use crate::connect::connect;
 use crate::settings::FunctionSettings;
 use crate::validate::{Validated, validate_function_with};
 use bitflags::Flags;
-use entry_checks::{EntryPointError, KnownInterfaces, check_payload, check_stage, stage_set};
-use error_functions::FunctionError;
+use function_entries::{EntryPointError, KnownInterfaces, check_payload, check_stage, stage_set};
+use typing_errors::FunctionError;
 use function_interface::Lower;
 use ir_faults::refusal::Refusal;
 use ir_faults::with_span::WithSpan;
@@ -115,7 +115,7 @@ pub fn validate_entry_point<L: Lower>(
 }
 
 /// The same, where `descriptors` has marks of the types that are made as the module's type of rays is, found once for all its
-/// entry points (`descriptors_of` of `statement_checks`), and `known` what was found of the interfaces of those before, with the
+/// entry points (`descriptors_of` of `function_statement_checks`), and `known` what was found of the interfaces of those before, with the
 /// same flags and capabilities.
 ///
 /// # Errors

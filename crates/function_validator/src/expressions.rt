@@ -4,14 +4,14 @@ ghost use Rattle.std.specs.Prelude.{MatchResult, length, map};
 ghost use Rattle.function_validator.specs.Faults.{IsExpressionFault};
 ghost use Rattle.function_validator.specs.Judged.{AcceptedBelow};
 ghost use Rattle.function_interface.specs.Question.{question};
-ghost use Rattle.statement_checks.specs.View.{context_view, IsKnown};
+ghost use Rattle.function_statement_checks.specs.View.{context_view, IsKnown};
 
 use bitflags::Flags;
-use error_functions::FunctionError;
+use typing_errors::FunctionError;
 use function_interface::Lower;
 use ir_arena::handle::Handle;
 use ir_flags::ShaderStages;
-use statement_checks::BlockContext;
+use function_statement_checks::BlockContext;
 
 /// Whether all expressions of the context's function are accepted, and which stages may run them all.
 ///

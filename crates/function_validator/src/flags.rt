@@ -9,7 +9,7 @@ ghost use Rattle.typing_layout.specs.View.{type_tree};
 use bitflags::Flags;
 use ir_arena::handle::Handle;
 use ir_types::key;
-use type_infos::{TypeFlags, TypeInfo};
+use module_type_infos::{TypeFlags, TypeInfo};
 
 /// Whether functions take values of a type. One that is not there is not refused here: that it is there is asked of handles.
 pub(crate) fn is_argument(infos: &[TypeInfo], ty: Handle<key::IrType>) -> bool

@@ -2,15 +2,15 @@
 
 ghost use Rattle.std.specs.Prelude.{IfOk, MatchResult};
 ghost use Rattle.function_validator.specs.Globals.{IsRefusedFor, IsVariableOf};
-ghost use Rattle.global_checks.specs.Faults.{IsWrongBy};
-ghost use Rattle.global_checks.specs.Initializers.{IsInitializer, IsTypedBy};
+ghost use Rattle.module_globals.specs.Faults.{IsWrongBy};
+ghost use Rattle.module_globals.specs.Initializers.{IsInitializer, IsTypedBy};
 ghost use Rattle.ir_items.specs.GlobalView.{global_view};
 ghost use Rattle.ir_items.specs.View.{module_view};
 ghost use Rattle.spec_globals.specs.Globals.{VariableBy};
 ghost use Rattle.spec_handles.specs.InOrder.{HandlesOK};
 
 use function_interface::Lower;
-use global_checks::{GlobalVariableError, Initializer, VariableContext, validate_variable};
+use module_globals::{GlobalVariableError, Initializer, VariableContext, validate_variable};
 use ir_faults::refusal::Refusal;
 use ir_faults::with_span::WithSpan;
 use ir_flags::{Capabilities, ValidationFlags};

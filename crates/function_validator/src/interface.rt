@@ -5,17 +5,17 @@ ghost use Rattle.function_validator.specs.Interfaces.{IsInterfaceFault};
 ghost use Rattle.function_validator.specs.Refusals.{IsRefusal};
 ghost use Rattle.function_interface.specs.Told.{AreTold};
 ghost use Rattle.spec_statements.specs.Interfaces.{InterfaceOK};
-ghost use Rattle.statement_checks.specs.View.{context_view, IsKnown};
+ghost use Rattle.function_statement_checks.specs.View.{context_view, IsKnown};
 
 use crate::arguments::check_arguments;
 use crate::locals::check_locals;
 use crate::results::check_result;
-use error_functions::FunctionError;
+use typing_errors::FunctionError;
 use ir_faults::refusal::Refusal;
 use ir_faults::with_span::WithSpan;
-use statement_checks::BlockContext;
+use function_statement_checks::BlockContext;
 use std::alloc::Global;
-use type_infos::TypeInfo;
+use module_type_infos::TypeInfo;
 
 /// Whether a function may have its variables, its arguments and its result, in this order (the first part of naga's
 /// `validate_function`). `infos` has what is told of the module's types; `entry` says that the function is an entry point's.

@@ -1,5 +1,5 @@
 //! Whether a function is accepted, and whether a module may have an entry point, over any layer that types expressions, analyses
-//! functions and tells of types. Of an entry point that is its stage (`entry_checks`), its function, its payload, and what
+//! functions and tells of types. Of an entry point that is its stage (`function_entries`), its function, its payload, and what
 //! connects it with other stages and with hosts; and the names of those before it.
 //!
 //! Whether a function may have its variables, what it is given and what it answers.

@@ -8,21 +8,21 @@ ghost use Rattle.function_interface.specs.Told.{AreTold};
 ghost use Rattle.ir_items.specs.View.{local_view};
 ghost use Rattle.spec_statements.specs.BlockContext.{BlockContext as PlainContext};
 ghost use Rattle.spec_statements.specs.Interfaces.{BeginsAs, LocalOK};
-ghost use Rattle.statement_checks.specs.View.{context_view, IsKnown};
+ghost use Rattle.function_statement_checks.specs.View.{context_view, IsKnown};
 ghost use Rattle.typing_layout.specs.Constness.{IsOfKind};
 ghost use Rattle.typing_layout.specs.declared.constness.ExpressionKind.TheVariants.{Const, Override};
 
 use crate::flags::is_constructible;
 use crate::item_names::name_of;
-use error_functions::{FunctionError, LocalVariableError};
+use typing_errors::{FunctionError, LocalVariableError};
 use ir_arena::handle::Handle;
 use ir_faults::refusal::Refusal;
 use ir_faults::with_span::WithSpan;
 use ir_items::LocalVariable;
 use ir_types::key;
-use statement_checks::{BlockContext, StatementContext, are_same};
+use function_statement_checks::{BlockContext, StatementContext, are_same};
 use std::alloc::Global;
-use type_infos::TypeInfo;
+use module_type_infos::TypeInfo;
 
 // Whether the value of an expression is known before the shader runs.
 fn is_known(context: &BlockContext<'_>, handle: Handle<key::Expression>) -> bool

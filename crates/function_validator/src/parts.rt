@@ -10,9 +10,9 @@ ghost use Rattle.ir_flags.specs.Sets.{Has};
 ghost use Rattle.ir_flags.specs.declared.settings.TheConstants.ValidationFlags.{EXPRESSIONS, BLOCKS};
 ghost use Rattle.ir_blocks.specs.Places.{Place};
 ghost use Rattle.spec_statements.specs.Results.{AnswersBy};
-ghost use Rattle.ir_walks.specs.Bases.{BasesPrecede};
+ghost use Rattle.ir_proc.specs.Bases.{BasesPrecede};
 ghost use Rattle.spec_handles.specs.Conditions.{AritiesMatch};
-ghost use Rattle.statement_checks.specs.View.{context_view, IsKnown};
+ghost use Rattle.function_statement_checks.specs.View.{context_view, IsKnown};
 
 use crate::answers::check_answers;
 use crate::body::check_body;
@@ -21,15 +21,15 @@ use crate::expressions::check_expressions;
 use crate::interface::check_interface;
 use crate::settings::FunctionSettings;
 use bitflags::Flags;
-use body_checks::ExpressionList;
-use error_functions::FunctionError;
+use function_body_checks::ExpressionList;
+use typing_errors::FunctionError;
 use function_interface::{Lower, stages_of};
 use ir_arena::handle::Handle;
 use ir_faults::refusal::Refusal;
 use ir_faults::with_span::WithSpan;
 use ir_flags::{ShaderStages, ValidationFlags};
 use ir_types::key;
-use statement_checks::BlockContext;
+use function_statement_checks::BlockContext;
 use std::alloc::Global;
 
 /// What is found of a function that is accepted.

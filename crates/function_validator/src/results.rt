@@ -4,12 +4,12 @@ ghost use Rattle.std.specs.Prelude.{IfSome, MatchResult};
 ghost use Rattle.function_validator.specs.Results.{IsResultFault};
 ghost use Rattle.function_interface.specs.Told.{AreTold};
 ghost use Rattle.spec_statements.specs.Interfaces.{ResultOK};
-ghost use Rattle.statement_checks.specs.View.{context_view};
+ghost use Rattle.function_statement_checks.specs.View.{context_view};
 
 use crate::flags::is_constructible;
-use error_functions::FunctionError;
-use statement_checks::BlockContext;
-use type_infos::TypeInfo;
+use typing_errors::FunctionError;
+use function_statement_checks::BlockContext;
+use module_type_infos::TypeInfo;
 
 /// Whether a function may answer what it answers, if it answers anything. `infos` has what is told of the module's types;
 /// `entry` says that the function is an entry point's, whose result alone is bound.

@@ -8,26 +8,26 @@ ghost use Rattle.function_interface.specs.Analysis.{IsRefusedFor};
 ghost use Rattle.function_interface.specs.Question.{question};
 ghost use Rattle.ir_flags.specs.Sets.{Has};
 ghost use Rattle.ir_items.specs.View.{function_view, module_view};
-ghost use Rattle.ir_walks.specs.Filters.{ParentsPrecede};
+ghost use Rattle.ir_proc.specs.Filters.{ParentsPrecede};
 ghost use Rattle.spec_analysis.specs.Summaries.{CalleesKnown, HasUseBit, IsJoined, IsSummary};
 ghost use Rattle.spec_statements.specs.ExpressionStages.{all_stages};
 ghost use Rattle.spec_handles.specs.Conditions.{AritiesMatch, HandlesInRange, OperandsPrecede};
 ghost use Rattle.spec_statements.specs.Functions.{FunctionOK, AllowsStage, block_context};
 ghost use Rattle.spec_statements.specs.Payloads.{IsHeldAfter};
-ghost use Rattle.statement_checks.specs.Descriptors.{AreDescriptors};
+ghost use Rattle.function_statement_checks.specs.Descriptors.{AreDescriptors};
 ghost use Rattle.typing_operands.specs.Answers.{form_given};
 
 use crate::forms::forms_of;
 use crate::parts::{Met, check_parts};
 use crate::settings::FunctionSettings;
-use error_functions::FunctionError;
+use typing_errors::FunctionError;
 use function_interface::{Lower, analyse_function};
 use ir_arena::handle::Handle;
 use ir_faults::refusal::Refusal;
 use ir_items::{Function, Module};
 use ir_types::key;
-use statement_checks::BlockContext;
-use statement_validator::next_answers;
+use function_statement_checks::BlockContext;
+use function_statements::next_answers;
 use std::alloc::Global;
 use typing_layout::ExpressionKindTracker;
 
@@ -154,7 +154,7 @@ pub fn validate_function<L: Lower>(
 }
 
 /// The same, where `descriptors` has marks of the types that are made as the module's type of rays is, found once for all its
-/// functions (`descriptors_of` of `statement_checks`).
+/// functions (`descriptors_of` of `function_statement_checks`).
 ///
 /// # Errors
 ///

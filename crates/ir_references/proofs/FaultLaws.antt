@@ -12,7 +12,7 @@ use Rattle.ir_items.specs.GlobalView.{values_of, node_view}
 use Rattle.ir_items.specs.declared.filters.DiagnosticFilterNode.{DiagnosticFilterNode}
 use Rattle.ir_items.specs.Plain.{PlainFunction, PlainModule}
 use Rattle.ir_items.specs.declared.functions.FunctionResult.{FunctionResult}
-use Rattle.ir_walks.specs.Filters.{ParentsPrecede}
+use Rattle.ir_proc.specs.Filters.{ParentsPrecede}
 use Rattle.spec_handles.specs.Conditions.{HandlesInRange, OperandsPrecede, CalleesPrecede}
 use Rattle.spec_handles.specs.Expressions.{expression_operands, expression_item}
 use Rattle.spec_handles.specs.InOrder.{named_at}

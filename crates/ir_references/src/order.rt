@@ -8,7 +8,7 @@ ghost use Rattle.ir_items.specs.GlobalView.{values_of, node_view};
 ghost use Rattle.ir_items.specs.View.{function_view};
 ghost use Rattle.ir_references.specs.Faults.{operand_forward, callee_forward, function_of, expression_forward, callees_forward, parent_forward, IsForwardOperand, IsForwardCallee, IsForwardParent};
 ghost use Rattle.ir_references.specs.First.{first_of};
-ghost use Rattle.ir_walks.specs.Filters.{ParentsPrecede};
+ghost use Rattle.ir_proc.specs.Filters.{ParentsPrecede};
 ghost use Rattle.spec_handles.specs.Conditions.{OperandsPrecede, CalleesPrecede};
 
 use crate::expressions::{item_of, operand_past};

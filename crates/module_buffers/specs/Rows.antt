@@ -4,7 +4,7 @@ use Rattle.ir_items.specs.GlobalPlain.{PlainGlobal}
 use Rattle.ir_items.specs.Plain.{PlainModule}
 use Rattle.ir_types.specs.Plain.{PlainInner, PlainType}
 use Rattle.module_buffers.specs.declared.leaves.Leaf.{Leaf}
-use Rattle.module_info.specs.declared.info.ModuleInfo.{ModuleInfo}
+use Rattle.typing_infos.specs.declared.info.ModuleInfo.{ModuleInfo}
 use Rattle.spec_buffers.specs.Laws.{buffer_type}
 use Rattle.spec_buffers.specs.Leaves.{Leaf as Place, leaves}
 use Rattle.typing_forms.specs.Resolutions.{inner_at}

@@ -13,7 +13,7 @@ use crate::lines::write_along;
 use ir_arena::handle::Handle;
 use ir_items::{GlobalVariable, Module};
 use ir_kinds::AddressSpace;
-use module_info::ModuleInfo;
+use typing_infos::ModuleInfo;
 use std::alloc::{AllocError, Global};
 
 // Whether a host fills it with bytes.

@@ -13,10 +13,10 @@ use Rattle.module_conditions.proofs.Forms.{at_place, Gives, GivesIf, gives, give
 use Rattle.module_conditions.proofs.Values.{splat_made, swizzle_made, image_sample_made, image_load_made, query_made, binary_made, relational_made, as_made, matrix_loaded, value_size_made}
 use Rattle.module_conditions.specs.Types.{IsMadeOf, OrderGivesTypes}
 use Rattle.module_handles.proofs.Whole.{conditions}
-use Rattle.overload_tables.specs.Laws.{IsAmong}
-use Rattle.overload_tables.specs.declared.rules.Conclusion.{Conclusion}
-use Rattle.overload_tables.specs.declared.rules.Conclusion.TheVariants.{Value, Predeclared}
-use Rattle.overload_tables.specs.declared.rules.Rule.{Rule}
+use Rattle.typing_rules.specs.Laws.{IsAmong}
+use Rattle.typing_rules.specs.declared.rules.Conclusion.{Conclusion}
+use Rattle.typing_rules.specs.declared.rules.Conclusion.TheVariants.{Value, Predeclared}
+use Rattle.typing_rules.specs.declared.rules.Rule.{Rule}
 use Rattle.spec_expressions.specs.Access.{element}
 use Rattle.spec_expressions.specs.Context.{Context, inside, form_if}
 use Rattle.spec_expressions.specs.CooperativeMatrices.{pointed_scalar}
@@ -24,8 +24,8 @@ use Rattle.spec_expressions.specs.Loads.{global_if, local_if}
 use Rattle.spec_expressions.specs.Maths.{arguments, concluded, math_of, taking}
 use Rattle.ir_kinds.specs.Maths.{argument_count}
 use Rattle.ir_kinds.specs.declared.maths.MathFunction.{MathFunction}
-use Rattle.overload_tables.specs.Tables.{table}
-use Rattle.overload_tables.specs.Types.{inner_of}
+use Rattle.typing_rules.specs.Tables.{table}
+use Rattle.typing_rules.specs.Types.{inner_of}
 use Rattle.spec_expressions.specs.Results.{result_of}
 use Rattle.spec_expressions.specs.Typing.{HasTypeAmong, has}
 use Rattle.spec_expressions.specs.declared.faults.TypingFault.{TypingFault}

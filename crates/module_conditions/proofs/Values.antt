@@ -20,9 +20,9 @@ use Rattle.ir_kinds.specs.declared.scalars.VectorSize.{VectorSize}
 use Rattle.ir_types.specs.Plain.{PlainType, plain}
 use Rattle.module_conditions.proofs.Forms.{Gives, GivesIf, gives, gives_none, some_form, no_form}
 use Rattle.module_conditions.specs.Types.{IsMadeOf}
-use Rattle.overload_tables.specs.Types.{inner_of}
-use Rattle.overload_tables.specs.declared.rules.ConstructorSize.{ConstructorSize}
-use Rattle.overload_tables.specs.declared.rules.ConstructorSize.TheVariants as shape
+use Rattle.typing_rules.specs.Types.{inner_of}
+use Rattle.typing_rules.specs.declared.rules.ConstructorSize.{ConstructorSize}
+use Rattle.typing_rules.specs.declared.rules.ConstructorSize.TheVariants as shape
 use Rattle.spec_expressions.specs.Compositions.{splat_type, swizzle_type}
 use Rattle.spec_expressions.specs.Conversions.{converted, as_type}
 use Rattle.spec_expressions.specs.ImageLoads.{loaded_texel, image_load_type, extent, size_type, image_query_type}

@@ -7,8 +7,8 @@ use Rattle.module_expressions.specs.Expressions.{IsConstExpressionFault}
 use Rattle.module_expressions.specs.Overrides.{IsFaultOf as IsOverrideFaultOf, IsOverrideFault}
 use Rattle.module_expressions.specs.declared.constants.ConstantError.{ConstantError}
 use Rattle.module_expressions.specs.declared.overrides.OverrideError.{OverrideError}
-use Rattle.error_functions.specs.declared.const_expressions.ConstExpressionError.{ConstExpressionError}
-use Rattle.error_functions.specs.declared.const_expressions.ConstExpressionError.TheVariants as error
+use Rattle.typing_errors.specs.declared.const_expressions.ConstExpressionError.{ConstExpressionError}
+use Rattle.typing_errors.specs.declared.const_expressions.ConstExpressionError.TheVariants as error
 use Rattle.ir_arena.specs.declared.span.Span.{Span}
 use Rattle.ir_types.specs.ExpressionPlain.{PlainExpression}
 use Rattle.ir_faults.specs.Faults.{error_of}

@@ -1,13 +1,13 @@
 -- What is asked of global expressions, where it is known when their values are known.
 use Rattle.std.specs.Prelude.{Bool}
 use Rattle.module_expressions.specs.Expressions.{IsComponentsFault}
-use Rattle.error_functions.specs.declared.const_expressions.ConstExpressionError.{ConstExpressionError}
-use Rattle.error_functions.specs.declared.const_expressions.ConstExpressionError.TheVariants as error
+use Rattle.typing_errors.specs.declared.const_expressions.ConstExpressionError.{ConstExpressionError}
+use Rattle.typing_errors.specs.declared.const_expressions.ConstExpressionError.TheVariants as error
 use Rattle.ir_flags.specs.declared.settings.Capabilities.{Capabilities}
 use Rattle.ir_items.specs.Plain.{PlainModule}
 use Rattle.spec_expressions.specs.GlobalExpressions.{Asked, of_literal, of_composition, of_value, to_work_out, MayWait}
 use Rattle.spec_expressions.specs.Context.{outside}
-use Rattle.type_checks.specs.Widths.{IsLiteralFault}
+use Rattle.module_type_checks.specs.Widths.{IsLiteralFault}
 use Rattle.typing_layout.specs.declared.constness.ExpressionKind.{ExpressionKind}
 
 abbrev pub IsLate : (resolved : Bool) → ExpressionKind → ConstExpressionError → Type 0

@@ -5,9 +5,9 @@ use Rattle.ir_items.specs.GlobalPlain.{PlainConstant, PlainOverride}
 use Rattle.ir_items.specs.Plain.{PlainModule}
 use Rattle.ir_items.specs.View.{module_view}
 use Rattle.module_constants.specs.declared.context.GlobalContext.{GlobalContext}
-use Rattle.overload_tables.specs.Laws.{IsAmong}
+use Rattle.typing_rules.specs.Laws.{IsAmong}
 use Rattle.spec_expressions.specs.Typing.{HasGlobalType}
-use Rattle.type_checks.specs.Known.{AreInfos}
+use Rattle.module_type_checks.specs.Known.{AreInfos}
 use Rattle.typing_forms.specs.Forms.{form_of_type}
 use Rattle.typing_forms.specs.declared.form.Form.{Form}
 use Rattle.typing_layout.specs.Constness.{AreKinds}

@@ -6,7 +6,7 @@ use Rattle.module_expressions.specs.Overrides.{IsOverrideFault}
 use Rattle.module_expressions.specs.declared.constants.ConstantError.{ConstantError}
 use Rattle.module_expressions.specs.declared.overrides.OverrideError.{OverrideError}
 use Rattle.module_expressions.specs.declared.overrides.OverrideError.TheVariants as error
-use Rattle.error_functions.specs.declared.const_expressions.ConstExpressionError.{ConstExpressionError}
+use Rattle.typing_errors.specs.declared.const_expressions.ConstExpressionError.{ConstExpressionError}
 use Rattle.ir_faults.specs.Faults.{error_of, spans_of}
 use Rattle.ir_faults.specs.declared.refusal.Refusal.{Refusal}
 use Rattle.ir_faults.specs.declared.refusal.Refusal.TheVariants as refusal

@@ -6,14 +6,14 @@ ghost use Rattle.ir_types.specs.Plain.{PlainType};
 ghost use Rattle.typing_layout.specs.Flags.{HasFlag, Constructible};
 ghost use Rattle.typing_layout.specs.Tree.{Tree};
 ghost use Rattle.typing_layout.specs.View.{type_tree};
-ghost use Rattle.type_infos.specs.Infos.{HasInfo};
+ghost use Rattle.module_type_infos.specs.Infos.{HasInfo};
 
 use bitflags::Flags;
 use ir_arena::handle::Handle;
 use ir_flags::Capabilities;
 use ir_items::Module;
 use ir_types::key;
-use type_infos::{TypeFlags, TypeInfo};
+use module_type_infos::{TypeFlags, TypeInfo};
 use typing_forms::laws::form_equality;
 use typing_forms::{Form, form_of_type};
 use typing_layout::{ExpressionKind, ExpressionKindTracker};

@@ -11,15 +11,15 @@ ghost use Rattle.spec_expressions.specs.ConstantCompositions.{ComponentsOK};
 ghost use Rattle.spec_expressions.specs.GlobalExpressions.{asked_of, IsMet, MayWait, GlobalExpressionOK};
 ghost use Rattle.spec_expressions.specs.ConstantLiterals.{LiteralOK};
 ghost use Rattle.spec_expressions.specs.Context.{outside};
-ghost use Rattle.type_checks.specs.Widths.{IsLiteralFault};
+ghost use Rattle.module_type_checks.specs.Widths.{IsLiteralFault};
 
 use crate::context::{GlobalContext, known_kind};
-use error_functions::{ComposeError, ConstExpressionError};
+use typing_errors::{ComposeError, ConstExpressionError};
 use ir_arena::handle::Handle;
 use ir_types::{Expression, key};
 use module_expressions::{Components, check_composition};
 use thiserror::Error;
-use type_checks::validate_literal;
+use module_type_checks::validate_literal;
 use typing_layout::ExpressionKind;
 
 /// A global expression that is refused (naga's `ValidationError::ConstExpression`).

@@ -1,8 +1,8 @@
 -- Values with a fault don't make a composed one.
 use Rattle.std.proofs.Common.{◌≡◌, inl, inr, ℕ, List, [], ◌∷◌, None, map, refl, subst}
 use Rattle.module_expressions.specs.Laws.{CompositionRefuted, ComponentsRefuted}
-use Rattle.error_functions.specs.declared.compose.ComposeError.TheVariants as compose
-use Rattle.overload_tables.specs.Laws.{IsAmong}
+use Rattle.typing_errors.specs.declared.compose.ComposeError.TheVariants as compose
+use Rattle.typing_rules.specs.Laws.{IsAmong}
 use Rattle.spec_expressions.specs.ConstantCompositions.{IsMadeOf, ComposeOK}
 use Rattle.spec_expressions.proofs.TypingLaws.{one_type}
 use Rattle.typing_forms.specs.declared.form.Form.{Form}

@@ -3,7 +3,7 @@ use Rattle.std.proofs.Common.{◌≡◌, Bool, ap, subst, ◌∙◌}
 use Rattle.module_expressions.proofs.Compositions.{components_refuted}
 use Rattle.module_expressions.proofs.Literals.{literal_refuted}
 use Rattle.module_expressions.specs.Laws.{ExpressionRefuted}
-use Rattle.error_functions.specs.declared.const_expressions.ConstExpressionError.TheVariants as error
+use Rattle.typing_errors.specs.declared.const_expressions.ConstExpressionError.TheVariants as error
 use Rattle.ir_types.specs.ExpressionPlain.{PlainExpression}
 use Rattle.ir_flags.specs.declared.settings.Capabilities.{Capabilities}
 use Rattle.ir_items.specs.Plain.{PlainModule}

@@ -1,8 +1,8 @@
 -- Compositions by the forms of their components.
 use Rattle.std.specs.Prelude.{◌≡◌, ◌≢◌, ◌<◌, ◌⊎◌, ℕ, List, Option, Some, None, map, slice_get, unwrap_or}
 use Rattle.module_expressions.specs.Compositions.{in_32_bits}
-use Rattle.error_functions.specs.declared.compose.ComposeError.{ComposeError}
-use Rattle.error_functions.specs.declared.compose.ComposeError.TheVariants as compose
+use Rattle.typing_errors.specs.declared.compose.ComposeError.{ComposeError}
+use Rattle.typing_errors.specs.declared.compose.ComposeError.TheVariants as compose
 use Rattle.ir_kinds.specs.declared.scalars.Scalar.{Scalar}
 use Rattle.ir_types.specs.Plain.{PlainMember, PlainType}
 use Rattle.module_expressions.specs.declared.components.Components.{Components}

@@ -1,7 +1,7 @@
 -- Why values don't make a composed one.
 use Rattle.std.specs.Prelude.{◌≡◌, ◌≢◌, ℕ, List, Some, None, min, slice_get}
-use Rattle.error_functions.specs.declared.compose.ComposeError.{ComposeError}
-use Rattle.error_functions.specs.declared.compose.ComposeError.TheVariants as compose
+use Rattle.typing_errors.specs.declared.compose.ComposeError.{ComposeError}
+use Rattle.typing_errors.specs.declared.compose.ComposeError.TheVariants as compose
 use Rattle.ir_types.specs.Plain.{PlainInner, PlainType}
 use Rattle.spec_expressions.specs.ConstantCompositions.{Fits, parts_given}
 use Rattle.typing_forms.specs.Resolutions.{inner_at}

@@ -1,19 +1,19 @@
 -- Why a global expression is refused.
 use Rattle.std.specs.Prelude.{◌≡◌, ◌≢◌, ℕ, List, Some, Bool, map, slice_get}
 use Rattle.module_expressions.specs.Compositions.{IsComposeFault}
-use Rattle.error_functions.specs.declared.compose.ComposeError.{ComposeError}
-use Rattle.error_functions.specs.declared.const_expressions.ConstExpressionError.{ConstExpressionError}
-use Rattle.error_functions.specs.declared.const_expressions.ConstExpressionError.TheVariants as error
+use Rattle.typing_errors.specs.declared.compose.ComposeError.{ComposeError}
+use Rattle.typing_errors.specs.declared.const_expressions.ConstExpressionError.{ConstExpressionError}
+use Rattle.typing_errors.specs.declared.const_expressions.ConstExpressionError.TheVariants as error
 use Rattle.ir_types.specs.ExpressionPlain.{PlainExpression}
 use Rattle.ir_flags.specs.declared.settings.Capabilities.{Capabilities}
 use Rattle.ir_items.specs.Plain.{PlainModule}
 use Rattle.ir_kinds.specs.declared.values.Literal.{Literal}
-use Rattle.overload_tables.specs.Laws.{IsAmong}
+use Rattle.typing_rules.specs.Laws.{IsAmong}
 use Rattle.spec_expressions.specs.GlobalExpressions.{of_literal, of_composition, to_work_out, asked_of, MayWait}
 use Rattle.spec_expressions.specs.Context.{Context, outside}
 use Rattle.spec_expressions.specs.Typing.{HasTypeAmong}
-use Rattle.type_checks.specs.Widths.{IsLiteralFault}
-use Rattle.type_infos.specs.declared.error.LiteralError.{LiteralError}
+use Rattle.module_type_checks.specs.Widths.{IsLiteralFault}
+use Rattle.module_type_infos.specs.declared.error.LiteralError.{LiteralError}
 use Rattle.typing_forms.specs.declared.form.Form.{Form}
 use Rattle.typing_layout.specs.Constness.{IsOfKind}
 use Rattle.typing_layout.specs.declared.constness.ExpressionKind.{ExpressionKind}

@@ -6,8 +6,8 @@ use Rattle.module_expressions.specs.Expressions.{IsComponentsFault, IsConstExpre
 use Rattle.module_expressions.specs.Overrides.{IsOverrideFault}
 use Rattle.module_expressions.specs.declared.constants.ConstantError.{ConstantError}
 use Rattle.module_expressions.specs.declared.overrides.OverrideError.{OverrideError}
-use Rattle.error_functions.specs.declared.compose.ComposeError.{ComposeError}
-use Rattle.error_functions.specs.declared.const_expressions.ConstExpressionError.{ConstExpressionError}
+use Rattle.typing_errors.specs.declared.compose.ComposeError.{ComposeError}
+use Rattle.typing_errors.specs.declared.const_expressions.ConstExpressionError.{ConstExpressionError}
 use Rattle.ir_types.specs.ExpressionPlain.{PlainExpression}
 use Rattle.ir_flags.specs.declared.settings.Capabilities.{Capabilities}
 use Rattle.ir_items.specs.Plain.{PlainModule}
@@ -19,8 +19,8 @@ use Rattle.spec_expressions.specs.GlobalExpressions.{GlobalExpressionOK}
 use Rattle.spec_expressions.specs.ConstantLiterals.{LiteralOK}
 use Rattle.spec_expressions.specs.Overrides.{OverrideOK}
 use Rattle.spec_expressions.specs.Context.{Context}
-use Rattle.type_checks.specs.Widths.{IsLiteralFault}
-use Rattle.type_infos.specs.declared.error.LiteralError.{LiteralError}
+use Rattle.module_type_checks.specs.Widths.{IsLiteralFault}
+use Rattle.module_type_infos.specs.declared.error.LiteralError.{LiteralError}
 use Rattle.typing_forms.specs.declared.form.Form.{Form}
 
 abbrev pub LiteralRefuted : Type 0

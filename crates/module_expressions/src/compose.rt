@@ -3,7 +3,7 @@
 ghost use Rattle.std.specs.Prelude.{◌≡◌, ◌<◌, ◌≤◌, ◌↔◌, ℕ, IsTrue, Some, length, map, slice_get, sum, MatchResult};
 ghost use Rattle.module_expressions.specs.Compositions.{in_32_bits, IsComposeFault};
 ghost use Rattle.ir_types.specs.Plain.{PlainMember, inner_view, member_view};
-ghost use Rattle.error_functions.specs.declared.compose.ComposeError.TheVariants as compose;
+ghost use Rattle.typing_errors.specs.declared.compose.ComposeError.TheVariants as compose;
 ghost use Rattle.module_expressions.specs.Composed.{AllFit, IsMisfit, IsOtherCount, AreWhole, AreNotWhole, IsForm, IsScalars, IsMember, forms_of};
 ghost use Rattle.spec_expressions.specs.ConstantCompositions.{scalars_in, Fits, parts_given, ComposeOK};
 ghost use Rattle.typing_forms.specs.Forms.{form_of_type};
@@ -12,7 +12,7 @@ ghost use Rattle.typing_operands.specs.Answers.{form_given};
 ghost use Rattle.typing_forms.specs.Parts.{components_of};
 
 use crate::components::{Components, count_of, form_at, scalars_of};
-use error_functions::ComposeError;
+use typing_errors::ComposeError;
 use ir_arena::handle::Handle;
 use ir_kinds::Scalar;
 use ir_types::{IrType, StructMember, TypeInner, key};

@@ -9,7 +9,7 @@ use Rattle.ir_references.proofs.FaultLaws.{missing_none, then_none, map_none, ma
 use Rattle.ir_references.proofs.FirstLaws.{or_none, below_each}
 use Rattle.ir_references.specs.Faults.{outside_functions, missing, item_missing}
 use Rattle.ir_types.specs.Plain.{PlainInner, PlainType}
-use Rattle.ir_walks.specs.Filters.{ParentsPrecede}
+use Rattle.ir_proc.specs.Filters.{ParentsPrecede}
 use Rattle.module_handles.proofs.OutsideFaults.{forward_none, each_there, item_there, type_found}
 use Rattle.module_handles.specs.Conditions.{FunctionConditions, ModuleConditions, OrderGivesConditions}
 use Rattle.module_handles.specs.Found.{up_to, looked_through}

@@ -1,7 +1,7 @@
 -- What a module whose handles are in order gives to the steps behind: what layouts, types and the analysis of functions ask.
 use Rattle.std.specs.Prelude.{◌≡◌, ℕ, Some, length, slice_get}
 use Rattle.ir_items.specs.Plain.{PlainFunction, PlainEntry, PlainModule}
-use Rattle.ir_walks.specs.Filters.{ParentsPrecede}
+use Rattle.ir_proc.specs.Filters.{ParentsPrecede}
 use Rattle.spec_handles.specs.Conditions.{HandlesInRange, OperandsPrecede, CalleesPrecede}
 use Rattle.spec_handles.specs.InOrder.{HandlesOK}
 use Rattle.typing_forms.specs.Order.{TypesGoBack}

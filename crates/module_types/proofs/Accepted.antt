@@ -6,9 +6,9 @@ use Rattle.ir_types.specs.Plain.{PlainType}
 use Rattle.ir_types.specs.declared.types.IrType.{IrType}
 use Rattle.module_types.specs.Validated.{IsAccepted, IsRefusedFor, AreAcceptedBelow, AreAccepted, IsNextRefused, IsFirstRefused}
 use Rattle.module_types.specs.declared.validate.InvalidType.{InvalidType}
-use Rattle.type_checks.specs.Known.{types_in, IsKnown}
-use Rattle.type_checks.specs.declared.context.TypeContext.{TypeContext}
-use Rattle.type_infos.specs.declared.info.TypeInfo.{TypeInfo}
+use Rattle.module_type_checks.specs.Known.{types_in, IsKnown}
+use Rattle.module_type_checks.specs.declared.context.TypeContext.{TypeContext}
+use Rattle.module_type_infos.specs.declared.info.TypeInfo.{TypeInfo}
 use Rattle.typing_forms.specs.Order.{TypesGoBack}
 use Rattle.typing_forms.specs.Resolutions.{types_view}
 use Rattle.typing_layout.proofs.Held.{pushed}

@@ -2,7 +2,7 @@
 use Rattle.std.proofs.Common.{◌≡◌, inl, inr, ℕ, zero, suc, Some, slice_get, refl, sym, subst}
 use Rattle.typing_layout.specs.Parts.{Part, listed, Everywhere, EverywhereIn, Somewhere, SomewhereIn}
 use Rattle.typing_layout.specs.Tree.{Tree, scalar, vector, matrix, cooperative_matrix, atomic, pointer, value_pointer, array, struct, image, sampler, acceleration_structure, ray_query, binding_array, Members, no_members, member}
-use Rattle.type_checks.specs.Placed.{AtPlace}
+use Rattle.module_type_checks.specs.Placed.{AtPlace}
 
 -- each member has something everywhere
 pub everywhere_in : (P : Tree → Type 0) (ms : Members) → ((k : ℕ) → AtPlace (λ k p. Everywhere P p.of_type) (listed ms) k) → EverywhereIn P ms

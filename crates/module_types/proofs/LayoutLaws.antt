@@ -13,15 +13,15 @@ use Rattle.typing_layout.specs.Parts.{Part, before, end_of, Somewhere}
 use Rattle.typing_layout.specs.Layout.{alignment}
 use Rattle.typing_layout.specs.Tree.{Tree, array}
 use Rattle.typing_layout.specs.View.{members_by}
-use Rattle.type_checks.specs.Known.{types_in, tree_in}
-use Rattle.type_checks.specs.Placed.{parts_in, part_of, IsPlaced, IsBefore, AtPlace}
-use Rattle.type_checks.specs.declared.context.TypeContext.{TypeContext}
-use Rattle.type_checks.specs.declared.facts.Facts.{Facts}
-use Rattle.type_checks.specs.declared.members.Placed.{Placed}
-use Rattle.type_infos.specs.BufferFaults.{IsBadStride, IsBadSpan, IsBadOffset, IsNearBehind, IsBroken, IsUnfit}
-use Rattle.type_infos.specs.declared.error.Disalignment.{Disalignment}
-use Rattle.type_infos.specs.declared.error.ImmediateError.{ImmediateError}
-use Rattle.type_infos.specs.declared.error.ImmediateError.TheVariants as immediate
+use Rattle.module_type_checks.specs.Known.{types_in, tree_in}
+use Rattle.module_type_checks.specs.Placed.{parts_in, part_of, IsPlaced, IsBefore, AtPlace}
+use Rattle.module_type_checks.specs.declared.context.TypeContext.{TypeContext}
+use Rattle.module_type_checks.specs.declared.facts.Facts.{Facts}
+use Rattle.module_type_checks.specs.declared.members.Placed.{Placed}
+use Rattle.module_type_infos.specs.BufferFaults.{IsBadStride, IsBadSpan, IsBadOffset, IsNearBehind, IsBroken, IsUnfit}
+use Rattle.module_type_infos.specs.declared.error.Disalignment.{Disalignment}
+use Rattle.module_type_infos.specs.declared.error.ImmediateError.{ImmediateError}
+use Rattle.module_type_infos.specs.declared.error.ImmediateError.TheVariants as immediate
 use Rattle.typing_forms.specs.Sizes.{rounded_up}
 
 pub struct_at : (c : TypeContext) (ms : List PlainMember) (span handle : ℕ) → IsStructOf c ms span handle → IsStructAt c ms handle

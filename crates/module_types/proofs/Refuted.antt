@@ -20,20 +20,20 @@ use Rattle.typing_layout.specs.Rules.{ShapeOK, TypeOK, CooperativeOK, PointerOK,
 use Rattle.typing_layout.specs.Structs.{MemberOK, StructOK}
 use Rattle.typing_layout.specs.Widths.{IsKindAllowed}
 use Rattle.typing_layout.specs.View.{members_by, type_tree}
-use Rattle.type_checks.proofs.Known.{tree_of}
-use Rattle.type_checks.proofs.Places.{part_at, many_parts}
-use Rattle.type_checks.proofs.Scalars.{lacked, width_refuted, atomic_refuted}
-use Rattle.type_checks.specs.Checked.{IsTypeFault, IsInnerOK}
-use Rattle.type_checks.specs.Known.{types_in, tree_in, IsKnown}
-use Rattle.type_checks.specs.Placed.{part_of}
-use Rattle.type_checks.specs.declared.context.TypeContext.{TypeContext}
-use Rattle.type_infos.specs.BlendFaults.{IsSource, IsVaryingFault, IsBlendFault}
-use Rattle.type_infos.specs.Faults.{IsScalarFault, IsMatrixFault, IsCooperativeFault, IsPointerFault, IsArrayFault, IsBindingArrayFault, IsImageFault, IsStructureFault, IsQueryFault, IsInnerFault, IsPending}
-use Rattle.type_infos.specs.MemberFaults.{IsMemberFault, IsStructFault}
-use Rattle.type_infos.specs.declared.error.TypeError.{TypeError}
-use Rattle.type_infos.specs.declared.error.TypeError.TheVariants as error
-use Rattle.type_infos.specs.declared.error.VaryingError.{VaryingError}
-use Rattle.type_infos.specs.declared.error.VaryingError.TheVariants as varying
+use Rattle.module_type_checks.proofs.Known.{tree_of}
+use Rattle.module_type_checks.proofs.Places.{part_at, many_parts}
+use Rattle.module_type_checks.proofs.Scalars.{lacked, width_refuted, atomic_refuted}
+use Rattle.module_type_checks.specs.Checked.{IsTypeFault, IsInnerOK}
+use Rattle.module_type_checks.specs.Known.{types_in, tree_in, IsKnown}
+use Rattle.module_type_checks.specs.Placed.{part_of}
+use Rattle.module_type_checks.specs.declared.context.TypeContext.{TypeContext}
+use Rattle.module_type_infos.specs.BlendFaults.{IsSource, IsVaryingFault, IsBlendFault}
+use Rattle.module_type_infos.specs.Faults.{IsScalarFault, IsMatrixFault, IsCooperativeFault, IsPointerFault, IsArrayFault, IsBindingArrayFault, IsImageFault, IsStructureFault, IsQueryFault, IsInnerFault, IsPending}
+use Rattle.module_type_infos.specs.MemberFaults.{IsMemberFault, IsStructFault}
+use Rattle.module_type_infos.specs.declared.error.TypeError.{TypeError}
+use Rattle.module_type_infos.specs.declared.error.TypeError.TheVariants as error
+use Rattle.module_type_infos.specs.declared.error.VaryingError.{VaryingError}
+use Rattle.module_type_infos.specs.declared.error.VaryingError.TheVariants as varying
 use Rattle.typing_forms.specs.Resolutions.{inner_at}
 
 -- ---- structs

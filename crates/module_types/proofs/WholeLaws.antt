@@ -5,9 +5,9 @@ use Rattle.ir_types.specs.declared.types.ArraySize.{ArraySize}
 use Rattle.ir_types.specs.declared.types.TypeInner.{TypeInner}
 use Rattle.ir_types.specs.declared.types.TypeInner.TheVariants as inner
 use Rattle.module_types.proofs.Inside.{somewhere_here}
-use Rattle.type_checks.specs.Kinds.{whole_flags}
+use Rattle.module_type_checks.specs.Kinds.{whole_flags}
 use Rattle.module_types.specs.Layouts.{IsStructOf, IsArrayAt, IsScalarFit, IsScalarUnfit}
-use Rattle.type_checks.specs.Sets.{AreOf}
+use Rattle.module_type_checks.specs.Sets.{AreOf}
 use Rattle.module_types.specs.Whole.{IsWhole}
 use Rattle.typing_layout.specs.Buffers.{IsStorage, IsUniform, uniform_alignment}
 use Rattle.typing_layout.specs.Flags.{HasFlag, HostShareable}
@@ -15,15 +15,15 @@ use Rattle.typing_layout.specs.Immediates.{FitsImmediates, scalar_of}
 use Rattle.typing_layout.specs.Layout.{alignment}
 use Rattle.typing_layout.specs.Tree.{Tree, scalar, vector, matrix, cooperative_matrix, atomic, pointer, value_pointer, array, struct, image, sampler, acceleration_structure, ray_query, binding_array}
 use Rattle.typing_layout.specs.View.{tree_by, members_by}
-use Rattle.type_checks.proofs.Known.{tree_of}
-use Rattle.type_checks.specs.Known.{types_in, tree_in, IsKnown, AreFacts}
-use Rattle.type_checks.specs.declared.context.TypeContext.{TypeContext}
-use Rattle.type_checks.specs.declared.facts.Facts.{Facts}
-use Rattle.type_infos.specs.BufferFaults.{IsUnfit}
-use Rattle.type_infos.specs.Infos.{AreFlags}
-use Rattle.type_infos.specs.declared.error.ImmediateError.{ImmediateError}
-use Rattle.type_infos.specs.declared.error.ImmediateError.TheVariants as immediate
-use Rattle.type_infos.specs.declared.flags.TypeFlags.{TypeFlags}
+use Rattle.module_type_checks.proofs.Known.{tree_of}
+use Rattle.module_type_checks.specs.Known.{types_in, tree_in, IsKnown, AreFacts}
+use Rattle.module_type_checks.specs.declared.context.TypeContext.{TypeContext}
+use Rattle.module_type_checks.specs.declared.facts.Facts.{Facts}
+use Rattle.module_type_infos.specs.BufferFaults.{IsUnfit}
+use Rattle.module_type_infos.specs.Infos.{AreFlags}
+use Rattle.module_type_infos.specs.declared.error.ImmediateError.{ImmediateError}
+use Rattle.module_type_infos.specs.declared.error.ImmediateError.TheVariants as immediate
+use Rattle.module_type_infos.specs.declared.flags.TypeFlags.{TypeFlags}
 use Rattle.typing_forms.specs.Resolutions.{inner_at}
 
 pub whole_storage : (t : Tree) → IsWhole t → HasFlag HostShareable t → IsStorage t

@@ -10,11 +10,11 @@ use Rattle.typing_layout.specs.Parts.{Part, before}
 use Rattle.typing_layout.specs.Layout.{alignment}
 use Rattle.typing_layout.specs.Tree.{Tree, array, struct}
 use Rattle.typing_layout.specs.View.{members_by}
-use Rattle.type_checks.specs.Known.{tree_in, AreFacts}
-use Rattle.type_checks.specs.declared.context.TypeContext.{TypeContext}
-use Rattle.type_checks.specs.declared.facts.Facts.{Facts}
-use Rattle.type_infos.specs.declared.error.ImmediateError.{ImmediateError}
-use Rattle.type_infos.specs.declared.error.ImmediateError.TheVariants as immediate
+use Rattle.module_type_checks.specs.Known.{tree_in, AreFacts}
+use Rattle.module_type_checks.specs.declared.context.TypeContext.{TypeContext}
+use Rattle.module_type_checks.specs.declared.facts.Facts.{Facts}
+use Rattle.module_type_infos.specs.declared.error.ImmediateError.{ImmediateError}
+use Rattle.module_type_infos.specs.declared.error.ImmediateError.TheVariants as immediate
 
 -- the type at a handle is a struct of these members
 pub record IsStructOf (c : TypeContext) (members : List PlainMember) (span handle : ℕ) : Type 0 where

@@ -8,10 +8,10 @@ use Rattle.ir_types.specs.Plain.{PlainInner, PlainType}
 use Rattle.module_types.specs.declared.validate.InvalidType.{InvalidType}
 use Rattle.typing_layout.specs.Rules.{TypeOK}
 use Rattle.typing_layout.specs.View.{type_tree}
-use Rattle.type_infos.specs.Faults.{IsInnerFault}
-use Rattle.type_infos.specs.Infos.{HasInfo}
-use Rattle.type_infos.specs.declared.error.TypeError.{TypeError}
-use Rattle.type_infos.specs.declared.info.TypeInfo.{TypeInfo}
+use Rattle.module_type_infos.specs.Faults.{IsInnerFault}
+use Rattle.module_type_infos.specs.Infos.{HasInfo}
+use Rattle.module_type_infos.specs.declared.error.TypeError.{TypeError}
+use Rattle.module_type_infos.specs.declared.info.TypeInfo.{TypeInfo}
 use Rattle.typing_forms.specs.Resolutions.{inner_at}
 
 -- the type at a handle is accepted, and this is told of it

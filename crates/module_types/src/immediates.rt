@@ -6,16 +6,16 @@ ghost use Rattle.module_types.specs.Layouts.{FitsAt, IsStructAt};
 ghost use Rattle.typing_layout.specs.Immediates.{scalar_of, FitsImmediates};
 ghost use Rattle.typing_layout.specs.Tree.{Tree};
 ghost use Rattle.typing_layout.specs.View.{tree_by};
-ghost use Rattle.type_checks.specs.Known.{IsKnown, tree_in};
-ghost use Rattle.type_checks.specs.Placed.{parts_in, AtPlace};
+ghost use Rattle.module_type_checks.specs.Known.{IsKnown, tree_in};
+ghost use Rattle.module_type_checks.specs.Placed.{parts_in, AtPlace};
 ghost use Rattle.module_types.specs.Layouts.{IsScalarFit, IsScalarUnfit};
-ghost use Rattle.type_infos.specs.BufferFaults.{IsUnfit};
+ghost use Rattle.module_type_infos.specs.BufferFaults.{IsUnfit};
 
 use ir_arena::handle::Handle;
 use ir_kinds::Scalar;
 use ir_types::{StructMember, TypeInner, key};
-use type_checks::{TypeContext, member_at};
-use type_infos::ImmediateError;
+use module_type_checks::{TypeContext, member_at};
+use module_type_infos::ImmediateError;
 
 // The scalars that a value is, without those of elements and members.
 fn scalar_of(inner: &TypeInner) -> Option<Scalar>

@@ -8,9 +8,9 @@ ghost use Rattle.typing_layout.specs.Buffers.{IsStorage, IsUniform, uniform_alig
 ghost use Rattle.typing_layout.specs.Layout.{alignment};
 ghost use Rattle.typing_layout.specs.Tree.{array};
 ghost use Rattle.typing_layout.specs.View.{tree_by};
-ghost use Rattle.type_checks.specs.Known.{IsKnown, tree_in, types_in};
-ghost use Rattle.type_infos.specs.BufferFaults.{BreaksStorage, BreaksUniform, IsBroken};
-ghost use Rattle.type_infos.specs.Infos.{AreFlags, HasInfo};
+ghost use Rattle.module_type_checks.specs.Known.{IsKnown, tree_in, types_in};
+ghost use Rattle.module_type_infos.specs.BufferFaults.{BreaksStorage, BreaksUniform, IsBroken};
+ghost use Rattle.module_type_infos.specs.Infos.{AreFlags, HasInfo};
 ghost use Rattle.typing_forms.specs.Order.{named_types};
 ghost use Rattle.typing_forms.specs.Resolutions.{inner_at};
 
@@ -20,8 +20,8 @@ use crate::{storage_of_array, storage_of_struct};
 use bitflags::Flags;
 use ir_arena::handle::Handle;
 use ir_types::{ArraySize, StructMember, TypeInner, key};
-use type_checks::{TypeContext, facts_of, flags_of_array, flags_of_struct, type_at, whole_flags};
-use type_infos::{Disalignment, LayoutCompatibility, TypeFlags, TypeInfo};
+use module_type_checks::{TypeContext, facts_of, flags_of_array, flags_of_struct, type_at, whole_flags};
+use module_type_infos::{Disalignment, LayoutCompatibility, TypeFlags, TypeInfo};
 use typing_layout::Alignment;
 
 // The layout in buffers of both kinds of a type that holds no other.

@@ -10,10 +10,10 @@ mod validate;
 
 pub use info::info_of;
 pub use storage::{Broken, storage_of_array, storage_of_struct};
-pub use type_checks::{
+pub use module_type_checks::{
     TypeContext, check_literal_value, check_type, check_width, validate_literal,
 };
-pub use type_infos::{
+pub use module_type_infos::{
     Disalignment, ImmediateError, LayoutCompatibility, LiteralError, TypeError, TypeFlags,
     TypeInfo, VaryingError, WidthError,
 };

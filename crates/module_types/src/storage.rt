@@ -5,16 +5,16 @@ ghost use Rattle.ir_types.specs.Plain.{member_view};
 ghost use Rattle.module_types.specs.Layouts.{IsArrayAt, IsStructAt, IsStructOf, StoragePart};
 ghost use Rattle.typing_layout.specs.Buffers.{IsStorage};
 ghost use Rattle.typing_layout.specs.Layout.{alignment};
-ghost use Rattle.type_checks.specs.Known.{IsKnown, tree_in, types_in};
-ghost use Rattle.type_checks.specs.Placed.{parts_in, AtPlace};
-ghost use Rattle.type_infos.specs.BufferFaults.{BreaksStorage, IsBroken};
-ghost use Rattle.type_infos.specs.Infos.{AreFlags};
+ghost use Rattle.module_type_checks.specs.Known.{IsKnown, tree_in, types_in};
+ghost use Rattle.module_type_checks.specs.Placed.{parts_in, AtPlace};
+ghost use Rattle.module_type_infos.specs.BufferFaults.{BreaksStorage, IsBroken};
+ghost use Rattle.module_type_infos.specs.Infos.{AreFlags};
 
 use bitflags::Flags;
 use ir_arena::handle::Handle;
 use ir_types::{StructMember, key};
-use type_checks::{Facts, TypeContext, member_at};
-use type_infos::{Disalignment, LayoutCompatibility, TypeFlags};
+use module_type_checks::{Facts, TypeContext, member_at};
+use module_type_infos::{Disalignment, LayoutCompatibility, TypeFlags};
 use typing_layout::Alignment;
 
 /// What keeps a host from laying out a type, and the type.

@@ -6,17 +6,17 @@ ghost use Rattle.module_types.specs.Layouts.{IsArrayAt, IsStructAt, IsStructOf, 
 ghost use Rattle.typing_layout.specs.Buffers.{IsUniform, uniform_alignment};
 ghost use Rattle.typing_layout.specs.Parts.{before};
 ghost use Rattle.typing_layout.specs.Layout.{alignment};
-ghost use Rattle.type_checks.specs.Known.{IsKnown, tree_in, types_in};
-ghost use Rattle.type_checks.specs.Placed.{parts_in, AtPlace, IsPlaced};
-ghost use Rattle.type_infos.specs.BufferFaults.{BreaksUniform, IsBroken};
-ghost use Rattle.type_infos.specs.Infos.{AreFlags};
+ghost use Rattle.module_type_checks.specs.Known.{IsKnown, tree_in, types_in};
+ghost use Rattle.module_type_checks.specs.Placed.{parts_in, AtPlace, IsPlaced};
+ghost use Rattle.module_type_infos.specs.BufferFaults.{BreaksUniform, IsBroken};
+ghost use Rattle.module_type_infos.specs.Infos.{AreFlags};
 
 use crate::Broken;
 use bitflags::Flags;
 use ir_arena::handle::Handle;
 use ir_types::{StructMember, key};
-use type_checks::{Facts, Placed, TypeContext, at_least_sixteen, member_at, member_before};
-use type_infos::{Disalignment, LayoutCompatibility, TypeFlags};
+use module_type_checks::{Facts, Placed, TypeContext, at_least_sixteen, member_at, member_before};
+use module_type_infos::{Disalignment, LayoutCompatibility, TypeFlags};
 use typing_layout::Alignment;
 
 // Where the member before a place lets the next one begin.

@@ -2,7 +2,7 @@
 
 ghost use Rattle.std.specs.Prelude.{◌≡◌, ◌<◌, ◌≤◌, length, IfOk, IfErr, MatchResult};
 ghost use Rattle.module_types.specs.Validated.{IsAccepted, IsRefusedFor, AreAcceptedBelow, AreAccepted, IsNextRefused, IsRefusal};
-ghost use Rattle.type_checks.specs.Known.{IsKnown, types_in};
+ghost use Rattle.module_type_checks.specs.Known.{IsKnown, types_in};
 ghost use Rattle.typing_forms.specs.Order.{TypesGoBack};
 ghost use Rattle.typing_forms.specs.Resolutions.{types_view};
 ghost use Rattle.typing_layout.specs.Held.{AreLayouts};
@@ -16,8 +16,8 @@ use ir_types::{IrType, key};
 use ir_sets::unique_arena::UniqueArena;
 use std::alloc::Global;
 use thiserror::Error;
-use type_checks::{TypeContext, check_type};
-use type_infos::{TypeError, TypeInfo};
+use module_type_checks::{TypeContext, check_type};
+use module_type_infos::{TypeError, TypeInfo};
 use typing_layout::Layouter;
 
 /// A type that is refused (naga's `ValidationError::Type`).

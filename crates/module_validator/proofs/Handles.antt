@@ -5,7 +5,7 @@ use Rattle.module_handles.specs.declared.error.InvalidHandleError.TheVariants as
 use Rattle.ir_items.specs.Plain.{PlainModule}
 use Rattle.module_constants.specs.Known.{AreThere}
 use Rattle.module_handles.specs.Errors.{IsHandleError}
-use Rattle.overload_tables.specs.Laws.{IsAmong}
+use Rattle.typing_rules.specs.Laws.{IsAmong}
 use Rattle.spec_handles.specs.InOrder.{HandlesOK, IsAbsent, in_module, in_function, in_entry}
 use Rattle.spec_handles.specs.Modules as part
 use Rattle.spec_handles.specs.References.{Named, item, operand}

@@ -20,7 +20,7 @@ use Rattle.typing_operands.specs.Answers.{TellsFault, fault_of, form_given}
 use Rattle.typing_operands.specs.declared.error.ResolveError.{ResolveError}
 use Rattle.spec_expressions.specs.declared.faults.TypingFault.{TypingFault}
 use Rattle.spec_expressions.specs.Typing.{HasTypeAmong}
-use Rattle.type_infos.specs.declared.info.TypeInfo.{TypeInfo}
+use Rattle.module_type_infos.specs.declared.info.TypeInfo.{TypeInfo}
 use Rattle.typing_forms.specs.declared.form.Form.{Form}
 
 -- what stands at a place of a list

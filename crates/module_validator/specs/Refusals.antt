@@ -1,6 +1,6 @@
 -- Why not all global variables of a module are accepted.
 use Rattle.std.specs.Prelude.{◌≡◌, []}
-use Rattle.global_checks.specs.Faults.{IsGlobalFault}
+use Rattle.module_globals.specs.Faults.{IsGlobalFault}
 use Rattle.ir_faults.specs.Faults.{error_of, spans_of}
 use Rattle.ir_faults.specs.declared.refusal.Refusal.{Refusal}
 use Rattle.ir_faults.specs.declared.refusal.Refusal.TheVariants as refusal

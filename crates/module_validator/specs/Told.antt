@@ -1,7 +1,7 @@
 -- What is told of a module that is accepted.
 use Rattle.std.specs.Prelude.{◌≡◌, [], Bool, length}
 use Rattle.ir_items.specs.Plain.{PlainModule}
-use Rattle.module_info.specs.declared.info.ModuleInfo.{ModuleInfo}
+use Rattle.typing_infos.specs.declared.info.ModuleInfo.{ModuleInfo}
 use Rattle.module_types.specs.Validated.{AreAccepted}
 use Rattle.module_validator.specs.declared.validator.ModuleValidator.{ModuleValidator}
 use Rattle.spec_expressions.specs.Context.{outside}

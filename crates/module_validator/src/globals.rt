@@ -10,7 +10,7 @@ ghost use Rattle.spec_globals.specs.Globals.{GlobalsOK};
 ghost use Rattle.spec_handles.specs.InOrder.{HandlesOK};
 ghost use Rattle.typing_expressions.specs.Types.{AreTypes};
 
-use global_checks::{GlobalVariableError, validate_global_var};
+use module_globals::{GlobalVariableError, validate_global_var};
 use ir_arena::handle::Handle;
 use ir_faults::refusal::Refusal;
 use ir_faults::with_span::WithSpan;
@@ -22,7 +22,7 @@ use module_expressions::forms_given;
 use spec_modules::ModuleSettings;
 use std::alloc::Global;
 use thiserror::Error;
-use type_infos::TypeInfo;
+use module_type_infos::TypeInfo;
 use typing_forms::TypeResolution;
 use typing_layout::ExpressionKindTracker;
 

@@ -3,7 +3,7 @@
 //! What a context says of capabilities does not count: they are the validator's.
 
 ghost use Rattle.std.specs.Prelude.{◌<◌, ◌≤◌, length, MatchResult};
-ghost use Rattle.statement_checks.specs.OperandView.{IsKnown as IsKnownOfExpressions};
+ghost use Rattle.function_statement_checks.specs.OperandView.{IsKnown as IsKnownOfExpressions};
 ghost use Rattle.expression_validator.specs.Faults.{IsExpressionFault};
 ghost use Rattle.module_constants.specs.Known.{IsKnown as IsKnownOfValues, module_in};
 ghost use Rattle.module_constants.specs.Refusals.{IsExpressionRefused};
@@ -12,19 +12,19 @@ ghost use Rattle.module_validator.specs.Seen.{scene_by};
 ghost use Rattle.spec_statements.specs.Expressions.{ExpressionOK};
 ghost use Rattle.spec_statements.specs.ExpressionStages.{IsRunBy};
 ghost use Rattle.spec_expressions.specs.GlobalExpressions.{GlobalExpressionOK};
-ghost use Rattle.type_checks.specs.Known.{IsKnown as IsKnownOfTypes, types_in};
+ghost use Rattle.module_type_checks.specs.Known.{IsKnown as IsKnownOfTypes, types_in};
 
 use crate::validator::ModuleValidator;
-use error_functions::{ConstExpressionError, ExpressionError};
+use typing_errors::{ConstExpressionError, ExpressionError};
 use expression_validator::validate_expression;
 use ir_arena::handle::Handle;
 use ir_flags::ShaderStages;
 use ir_types::key;
 use module_constants::{GlobalContext, validate_const_expression};
 use module_types::validate_type;
-use statement_checks::CheckContext;
-use type_checks::TypeContext;
-use type_infos::{TypeError, TypeInfo};
+use function_statement_checks::CheckContext;
+use module_type_checks::TypeContext;
+use module_type_infos::{TypeError, TypeInfo};
 
 impl ModuleValidator {
     /// What is told of the type at a handle, if a module may have it, from what is told of the types before it (naga's

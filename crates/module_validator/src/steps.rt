@@ -10,7 +10,7 @@ ghost use Rattle.typing_expressions.specs.Types.{AreTypes, IsFirstUntyped};
 ghost use Rattle.typing_layout.specs.Held.{AreLayouts};
 
 use crate::error::ModuleError;
-use error_functions::ConstExpressionError;
+use typing_errors::ConstExpressionError;
 use ir_faults::refusal::Refusal;
 use ir_faults::with_span::WithSpan;
 use ir_items::Module;
@@ -19,7 +19,7 @@ use module_handles::validate_module_handles;
 use module_types::{TypeSettings, validate_types};
 use spec_modules::ModuleSettings;
 use std::alloc::{AllocError, Global};
-use type_infos::TypeInfo;
+use module_type_infos::TypeInfo;
 use typing_expressions::{TypingRefusal, const_expression_types};
 use typing_forms::TypeResolution;
 use typing_layout::Layouter;

@@ -7,15 +7,15 @@ ghost use Rattle.module_validator.specs.Told.{IsInfoOf, settings_of};
 ghost use Rattle.typing_layout.specs.Widths.{ScalarOK};
 ghost use Rattle.spec_expressions.specs.ConstantLiterals.{LiteralOK};
 ghost use Rattle.spec_modules.specs.Steps.{ModuleOK};
-ghost use Rattle.type_infos.specs.Faults.{IsWidthFault};
-ghost use Rattle.type_checks.specs.Widths.{IsLiteralFault};
+ghost use Rattle.module_type_infos.specs.Faults.{IsWidthFault};
+ghost use Rattle.module_type_checks.specs.Widths.{IsLiteralFault};
 
 use crate::{ModuleError, check_handles, check_values, expression_types, lay_out, type_infos};
 use ir_faults::refusal::Refusal;
 use ir_flags::{Capabilities, ValidationFlags};
 use ir_items::Module;
 use ir_kinds::{Literal, Scalar};
-use module_info::ModuleInfo;
+use typing_infos::ModuleInfo;
 use module_types::{LiteralError, WidthError, check_width, validate_literal};
 use spec_modules::ModuleSettings;
 use std::alloc::Global;

@@ -23,7 +23,7 @@ use module_constants::{GlobalContext, validate_const_expressions, validate_const
 use module_expressions::forms_given;
 use spec_modules::ModuleSettings;
 use std::alloc::Global;
-use type_infos::TypeInfo;
+use module_type_infos::TypeInfo;
 use typing_forms::TypeResolution;
 use typing_layout::ExpressionKindTracker;
 

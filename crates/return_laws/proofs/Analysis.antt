@@ -4,14 +4,14 @@ use Rattle.ir_flags.specs.declared.settings.ValidationFlags.{ValidationFlags}
 use Rattle.ir_blocks.specs.Plain.{PlainBlock}
 use Rattle.ir_items.specs.Plain.{PlainFunction, PlainEntry, PlainModule}
 use Rattle.ir_types.specs.ExpressionPlain.{PlainExpression, compose, plain}
-use Rattle.overload_tables.specs.Laws.{IsAmong}
+use Rattle.typing_rules.specs.Laws.{IsAmong}
 use Rattle.spec_analysis.specs.Chains.{place}
 use Rattle.spec_analysis.specs.Effects.{samples}
 use Rattle.spec_analysis.specs.Summaries.{IsWrongArgument}
 use Rattle.spec_analysis.specs.Values.{is_source, ComesFrom, itself, through, NonUniform}
 use Rattle.spec_bodies.specs.Uniformity.{Asked}
-use Rattle.analysis_facts.specs.Facts.{requirement_at}
-use Rattle.analysis_facts.specs.Faults.{FunctionFault}
+use Rattle.typing_uniformity.specs.Facts.{requirement_at}
+use Rattle.typing_uniformity.specs.Faults.{FunctionFault}
 use Rattle.spec_functions.specs.Analysis.{HasWrongForm, IsAnalysed}
 use Rattle.return_laws.specs.Alike.{Alike}
 use Rattle.return_laws.specs.Like.{LikeFunction, LikeModule}

@@ -3,7 +3,7 @@ use Rattle.std.proofs.Common.{◌≡◌, inl, inr, ℕ, Option, Some, List, [], 
 use Rattle.ir_items.specs.Plain.{PlainFunction, PlainModule}
 use Rattle.ir_types.specs.ExpressionPlain.{plain}
 use Rattle.ir_types.specs.declared.expressions.Expression.TheVariants.{GlobalVariable}
-use Rattle.overload_tables.specs.Laws.{IsAmong}
+use Rattle.typing_rules.specs.Laws.{IsAmong}
 use Rattle.analysis_forms.specs.Pairs.{SamplingPair}
 use Rattle.analysis_forms.specs.declared.sampling.GlobalOrArgument.{GlobalOrArgument}
 use Rattle.spec_analysis.specs.Effects.{takes, samples, runs, expressions_effects, effects_of}

@@ -8,8 +8,8 @@ use Rattle.ir_kinds.specs.declared.maths.MathFunction.{MathFunction}
 use Rattle.ir_types.specs.ExpressionPlain.{PlainExpression, compose, plain}
 use Rattle.ir_types.specs.declared.expressions.Expression.{Expression}
 use Rattle.ir_types.specs.declared.expressions.Expression.TheVariants as x
-use Rattle.overload_tables.specs.declared.rules.Rule.{Rule}
-use Rattle.overload_tables.specs.Tables.{table}
+use Rattle.typing_rules.specs.declared.rules.Rule.{Rule}
+use Rattle.typing_rules.specs.Tables.{table}
 use Rattle.typing_forms.specs.Forms.{form_of_type}
 use Rattle.typing_forms.specs.declared.form.Form.{Form}
 use Rattle.spec_expressions.specs.Context.{Context}

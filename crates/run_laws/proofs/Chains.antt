@@ -10,7 +10,7 @@ use Rattle.ir_blocks.specs.Shapes.{Part, inner, accepting, rejecting, case_at, l
 use Rattle.ir_types.specs.ExpressionPlain.{PlainExpression, plain}
 use Rattle.ir_types.specs.declared.expressions.Expression.TheVariants.{GlobalVariable, ImageSample}
 use Rattle.ir_items.specs.Plain.{PlainFunction, PlainModule}
-use Rattle.overload_tables.specs.Laws.{IsAmong}
+use Rattle.typing_rules.specs.Laws.{IsAmong}
 use Rattle.spec_analysis.proofs.Members.{among-left, among-right, get-among}
 use Rattle.spec_analysis.specs.Chains.{place, Step, Calls, IsChain, end_of, argument_means, seen_through, bound, Reaches, Names, HasPair}
 use Rattle.spec_analysis.specs.Effects.{Effect, takes, samples as sampling, runs, sampling_at, expression_effects, expressions_effects, statement_effects, effects_in, effects_inside, effects_in_cases, effects_of}

@@ -7,7 +7,7 @@ use Rattle.analysis_forms.specs.declared.global_use.GlobalUse.{GlobalUse}
 use Rattle.ir_items.specs.GlobalPlain.{PlainGlobal}
 use Rattle.ir_items.specs.Plain.{PlainEntry, PlainModule}
 use Rattle.ir_types.specs.Plain.{PlainType}
-use Rattle.overload_tables.specs.Laws.{IsAmong}
+use Rattle.typing_rules.specs.Laws.{IsAmong}
 use Rattle.spec_analysis.specs.Summaries.{no_use}
 use Rattle.run_laws.proofs.Texts.{whole_end, whole_append, whole_if, whole_each, whole_flat, has_itself, has_left, has_right, has_each, has_flat}
 use Rattle.spec_globals.specs.Spaces.{counted}

@@ -16,7 +16,7 @@ use Rattle.ir_flags.specs.declared.settings.ValidationFlags.{ValidationFlags}
 use Rattle.ir_flags.specs.declared.stages.ShaderStages.{ShaderStages}
 use Rattle.ir_items.specs.Plain.{PlainModule}
 use Rattle.module_handles.proofs.Whole.{order_gives_conditions}
-use Rattle.module_info.specs.declared.info.ModuleInfo.{ModuleInfo}
+use Rattle.typing_infos.specs.declared.info.ModuleInfo.{ModuleInfo}
 use Rattle.module_types.specs.Validated.{AreAccepted}
 use Rattle.module_validator.specs.Faults as items
 use Rattle.module_validator.specs.Faults.{IsModuleFault}
@@ -26,8 +26,8 @@ use Rattle.module_validator.specs.Told.{IsInfoOf, settings_of}
 use Rattle.module_validator.specs.declared.error.ModuleError.{ModuleError}
 use Rattle.module_validator.specs.declared.globals.InvalidGlobalVariable.{InvalidGlobalVariable}
 use Rattle.module_validator.specs.declared.validator.ModuleValidator.{ModuleValidator}
-use Rattle.real_lower.specs.Made.{IsMadeOf}
-use Rattle.real_lower.specs.Readings.{reading_of, faults_of}
+use Rattle.function_real_lower.specs.Made.{IsMadeOf}
+use Rattle.function_real_lower.specs.Readings.{reading_of, faults_of}
 use Rattle.spec_analysis.specs.Summaries.{Summary}
 use Rattle.spec_entries.specs.Modules.{AreStages, reading_with}
 use Rattle.spec_expressions.specs.Context.{outside}

@@ -1,17 +1,17 @@
 -- What is read with summaries of the callees is read by chains of calls.
 use Rattle.std.proofs.Common.{◌≡◌, ℕ, ◌<◌, List, length, Option, Some, None, sym, subst, ◌∙◌}
 use Rattle.std.proofs.lemmas.Option.{slice_get_within}
-use Rattle.error_functions.specs.declared.expressions.ExpressionError.TheVariants.{ExpectedGlobalOrArgument}
-use Rattle.error_functions.specs.declared.error.FunctionError.{FunctionError}
-use Rattle.error_functions.specs.declared.error.FunctionError.TheVariants.{Expression, NonUniformControlFlow}
-use Rattle.error_functions.specs.declared.disruptor.UniformityDisruptor.TheVariants.{Discard}
+use Rattle.typing_errors.specs.declared.expressions.ExpressionError.TheVariants.{ExpectedGlobalOrArgument}
+use Rattle.typing_errors.specs.declared.error.FunctionError.{FunctionError}
+use Rattle.typing_errors.specs.declared.error.FunctionError.TheVariants.{Expression, NonUniformControlFlow}
+use Rattle.typing_errors.specs.declared.disruptor.UniformityDisruptor.TheVariants.{Discard}
 use Rattle.function_interface.specs.Question.{question}
 use Rattle.shader_check.proofs.Chained.{some_is}
 use Rattle.shader_check.specs.Judged.{IsAcceptedAt, IsRefusedAt}
 use Rattle.ir_flags.specs.declared.settings.ValidationFlags.{ValidationFlags}
 use Rattle.ir_flags.specs.declared.stages.ShaderStages.{ShaderStages}
 use Rattle.ir_items.specs.Plain.{PlainFunction, PlainModule}
-use Rattle.real_lower.specs.Readings.{reading_of, faults_of}
+use Rattle.function_real_lower.specs.Readings.{reading_of, faults_of}
 use Rattle.spec_analysis.specs.Summaries.{Summary, CalleesKnown}
 use Rattle.spec_analysis.proofs.Members.{get-within}
 use Rattle.spec_expressions.specs.Context.{inside}
@@ -22,7 +22,7 @@ use Rattle.spec_functions.specs.Analysis.{IsAnalysed}
 use Rattle.spec_functions.specs.Functions.{reading_over, settings_with, FunctionAtOK}
 use Rattle.spec_statements.specs.Functions.{FunctionSettings, FunctionOK, AreFormsBy}
 use Rattle.typing_forms.specs.declared.form.Form.{Form}
-use Rattle.real_lower.specs.Processed.{IsAnalysisFault, untyped, wrong_form, non_uniform}
+use Rattle.function_real_lower.specs.Processed.{IsAnalysisFault, untyped, wrong_form, non_uniform}
 use Rattle.typing_operands.specs.Answers.{fault_of, TellsFault}
 
 module _ (m : PlainModule) (f : PlainFunction) (summaries : List Summary) (stages : List ShaderStages) (known : CalleesKnown m f summaries) where

@@ -1,7 +1,7 @@
 -- What is read of entry points with summaries of the functions is read by chains of calls.
 use Rattle.std.proofs.Common.{◌≡◌, ℕ, Bool, List, length, Option, Some, sym, subst, ◌∙◌, slice_get}
 use Rattle.std.proofs.lemmas.Option.{slice_get_within}
-use Rattle.entry_checks.specs.declared.error.EntryPointError.{EntryPointError}
+use Rattle.function_entries.specs.declared.error.EntryPointError.{EntryPointError}
 use Rattle.function_interface.specs.Question.{question}
 use Rattle.function_validator.specs.Validated.{IsEntryNoted}
 use Rattle.shader_check.proofs.ByChains.{ok_by_chains, ok_by_summaries}
@@ -14,7 +14,7 @@ use Rattle.shader_check.specs.declared.entries.InvalidEntryPoint.{InvalidEntryPo
 use Rattle.ir_flags.specs.declared.stages.ShaderStages.{ShaderStages}
 use Rattle.ir_items.specs.Plain.{PlainEntry, PlainFunction, PlainModule}
 use Rattle.module_handles.proofs.Whole.{order_gives_conditions}
-use Rattle.real_lower.specs.Readings.{reading_of, faults_of}
+use Rattle.function_real_lower.specs.Readings.{reading_of, faults_of}
 use Rattle.spec_analysis.specs.Chains.{HasUse}
 use Rattle.spec_analysis.specs.Summaries.{Summary, AreSummaries, CalleesKnown}
 use Rattle.spec_entries.proofs.OneStages.{all_agree, allows_other}

@@ -1,11 +1,11 @@
 -- A module has one verdict by the same settings, at one step and one item.
 use Rattle.std.proofs.Common.{◌≡◌, inl, inr, ℕ, Bool, Option, Some, None, refl, sym, ap, ◌∙◌}
-use Rattle.error_functions.specs.declared.const_expressions.ConstExpressionError.{ConstExpressionError}
-use Rattle.error_functions.specs.declared.const_expressions.ConstExpressionError.TheVariants as constant
+use Rattle.typing_errors.specs.declared.const_expressions.ConstExpressionError.{ConstExpressionError}
+use Rattle.typing_errors.specs.declared.const_expressions.ConstExpressionError.TheVariants as constant
 use Rattle.ir_items.specs.Plain.{PlainModule}
 use Rattle.judgement.specs.declared.finding.Finding.{Finding}
 use Rattle.judgement.specs.declared.finding.Finding.TheVariants.{RefusedHandles, Refused}
-use Rattle.module_info.specs.declared.info.ModuleInfo.{ModuleInfo}
+use Rattle.typing_infos.specs.declared.info.ModuleInfo.{ModuleInfo}
 use Rattle.module_validator.specs.Faults.{IsExpressionRefused, IsModuleFault}
 use Rattle.module_validator.specs.declared.error.ModuleError.{ModuleError}
 use Rattle.module_validator.specs.declared.error.ModuleError.TheVariants as error

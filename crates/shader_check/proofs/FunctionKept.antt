@@ -10,7 +10,7 @@ use Rattle.ir_faults.specs.declared.refusal.Refusal.{Refusal}
 use Rattle.ir_faults.specs.declared.refusal.Refusal.TheVariants as refusal
 use Rattle.ir_flags.specs.declared.stages.ShaderStages.{ShaderStages}
 use Rattle.ir_items.specs.Plain.{PlainModule}
-use Rattle.real_lower.specs.Readings.{reading_of, faults_of}
+use Rattle.function_real_lower.specs.Readings.{reading_of, faults_of}
 use Rattle.spec_analysis.specs.Summaries.{Summary}
 use Rattle.spec_statements.specs.Functions.{FunctionSettings}
 

@@ -2,14 +2,14 @@
 use Rattle.std.proofs.Common.{◌≡◌, ◌∙◌, ℕ, false, Some, option_map, slice_get, sym, ap}
 use Rattle.std.proofs.lemmas.List.{length-map}
 use Rattle.std.proofs.lemmas.Option.{slice_get-map}
-use Rattle.module_info.specs.Infos.{summary_of}
-use Rattle.module_info.specs.declared.function_info.FunctionInfo.{FunctionInfo}
+use Rattle.typing_infos.specs.Infos.{summary_of}
+use Rattle.typing_infos.specs.declared.function_info.FunctionInfo.{FunctionInfo}
 use Rattle.shader_check.specs.Validated.{IsValidated}
 use Rattle.ir_items.specs.Plain.{PlainEntry, PlainModule}
 use Rattle.module_handles.proofs.Whole.{order_gives_conditions}
-use Rattle.module_info.specs.declared.info.ModuleInfo.{ModuleInfo}
-use Rattle.module_report.proofs.Noted.{noted_is_told}
-use Rattle.module_report.specs.Told.{IsEntryInfo, IsReported}
+use Rattle.typing_infos.specs.declared.info.ModuleInfo.{ModuleInfo}
+use Rattle.check_report.proofs.Noted.{noted_is_told}
+use Rattle.check_report.specs.Told.{IsEntryInfo, IsReported}
 use Rattle.spec_handles.specs.Modules as part
 use Rattle.spec_handles.specs.References.{item}
 use Rattle.spec_handles.specs.declared.target.Target.TheVariants as target

@@ -1,7 +1,7 @@
 -- What a module is refused for is what the judgement finds of it.
 use Rattle.std.proofs.Common.{inl, inr, ℕ, false}
-use Rattle.error_functions.specs.declared.const_expressions.ConstExpressionError.{ConstExpressionError}
-use Rattle.error_functions.specs.declared.const_expressions.ConstExpressionError.TheVariants as constant
+use Rattle.typing_errors.specs.declared.const_expressions.ConstExpressionError.{ConstExpressionError}
+use Rattle.typing_errors.specs.declared.const_expressions.ConstExpressionError.TheVariants as constant
 use Rattle.ir_flags.specs.Settings.{PlainSettings}
 use Rattle.ir_items.specs.Plain.{PlainModule}
 use Rattle.judgement.specs.Steps.{module_settings, function_settings, IsFinding}

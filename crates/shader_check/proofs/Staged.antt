@@ -11,7 +11,7 @@ use Rattle.ir_types.specs.declared.expressions.Expression.TheVariants as x
 use Rattle.ir_flags.specs.Sets.{Has}
 use Rattle.ir_flags.specs.declared.stages.ShaderStages.{ShaderStages}
 use Rattle.ir_items.specs.Plain.{PlainFunction, PlainModule}
-use Rattle.real_lower.specs.Readings.{reading_of}
+use Rattle.function_real_lower.specs.Readings.{reading_of}
 use Rattle.spec_analysis.specs.Summaries.{Summary}
 use Rattle.spec_entries.specs.Modules.{reading_with, AreStages}
 use Rattle.spec_functions.specs.Functions.{settings_with}

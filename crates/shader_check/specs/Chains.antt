@@ -3,7 +3,7 @@ use Rattle.std.specs.Prelude.{◌≡◌, List, length}
 use Rattle.shader_check.specs.Judged.{IsRefusedAt}
 use Rattle.shader_check.specs.declared.functions.InvalidFunction.{InvalidFunction}
 use Rattle.ir_items.specs.Plain.{PlainModule}
-use Rattle.real_lower.specs.Readings.{reading_of, faults_of}
+use Rattle.function_real_lower.specs.Readings.{reading_of, faults_of}
 use Rattle.spec_analysis.specs.Summaries.{Summary, AreSummaries}
 use Rattle.spec_functions.specs.Functions.{FunctionsOK, IsFirstFailing}
 use Rattle.spec_statements.specs.Functions.{FunctionSettings}

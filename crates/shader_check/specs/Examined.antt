@@ -1,8 +1,8 @@
 -- What is found of a document, with the error where its module is refused.
 use Rattle.std.specs.Prelude.{◌≡◌, ◌↔◌, ◌⊎◌, ℕ, Bool, List, [], false, IsTrue}
 use Rattle.document_reader.specs.Plain.{PlainDocument}
-use Rattle.error_functions.specs.declared.const_expressions.ConstExpressionError.{ConstExpressionError}
-use Rattle.error_functions.specs.declared.const_expressions.ConstExpressionError.TheVariants as constant
+use Rattle.typing_errors.specs.declared.const_expressions.ConstExpressionError.{ConstExpressionError}
+use Rattle.typing_errors.specs.declared.const_expressions.ConstExpressionError.TheVariants as constant
 use Rattle.shader_check.specs.Validated.{IsValidated, IsValidationFault}
 use Rattle.shader_check.specs.declared.error.ValidationError.{ValidationError}
 use Rattle.shader_check.specs.declared.error.ValidationError.TheVariants as error
@@ -16,7 +16,7 @@ use Rattle.judgement.specs.declared.finding.Finding.{Finding}
 use Rattle.judgement.specs.declared.finding.Finding.TheVariants.{Accepted, RefusedDocument, RefusedHandles, Refused}
 use Rattle.judgement.specs.declared.finding.Step.{Step}
 use Rattle.judgement.specs.declared.finding.Step.TheVariants.{Layout, «Type», Typing, Expression, Constant, Override, Global, Function, Entry}
-use Rattle.module_report.specs.Told.{IsReported}
+use Rattle.check_report.specs.Told.{IsReported}
 use Rattle.module_validator.specs.declared.error.ModuleError.{ModuleError}
 use Rattle.module_validator.specs.declared.error.ModuleError.TheVariants as module_error
 use Rattle.shader_check.specs.declared.examined.Examined.{Examined}

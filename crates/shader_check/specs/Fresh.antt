@@ -1,7 +1,7 @@
 -- What validators with the same settings answer of one module.
 use Rattle.std.specs.Prelude.{◌≡◌, Bool}
 use Rattle.ir_items.specs.Plain.{PlainModule}
-use Rattle.module_info.specs.declared.info.ModuleInfo.{ModuleInfo}
+use Rattle.typing_infos.specs.declared.info.ModuleInfo.{ModuleInfo}
 use Rattle.shader_check.specs.Examined.{refused_by}
 use Rattle.shader_check.specs.Validated.{IsValidated, IsValidationFault}
 use Rattle.shader_check.specs.declared.error.ValidationError.{ValidationError}

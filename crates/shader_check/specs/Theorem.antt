@@ -3,12 +3,12 @@
 use Rattle.std.specs.Prelude.{◌≡◌, ◌↔◌, ℕ, List, [], ◌++◌, Bool, Option, Some, IfSome, IsTrue, Result, Ok, Err, codes, nat_eq, slice_get}
 use Rattle.std.specs.List.{starts_with}
 use Rattle.std.specs.Io.KnownBytes.{Appends}
-use Rattle.ports.specs.Calls.{Call}
-use Rattle.ports.specs.Source.{TakesAll, ReadsAll}
-use Rattle.ports.specs.Sink.{AppendsFront, WritesAll, WritingFails}
-use Rattle.ports.specs.declared.source.TheConstants.{MAX_CALLS}
-use Rattle.ports.specs.declared.source.TakeError.{TakeError}
-use Rattle.ports.specs.declared.source.TakeError.TheVariants as take
+use Rattle.check_ports.specs.Calls.{Call}
+use Rattle.check_ports.specs.Source.{TakesAll, ReadsAll}
+use Rattle.check_ports.specs.Sink.{AppendsFront, WritesAll, WritingFails}
+use Rattle.check_ports.specs.declared.source.TheConstants.{MAX_CALLS}
+use Rattle.check_ports.specs.declared.source.TakeError.{TakeError}
+use Rattle.check_ports.specs.declared.source.TakeError.TheVariants as take
 use Rattle.ir_items.specs.Plain.{PlainEntry, PlainModule}
 use Rattle.document_reader.specs.Plain.{PlainDocument}
 use Rattle.document_reader.specs.Form.{Reads}

@@ -1,7 +1,7 @@
 -- What is answered of a whole module.
 use Rattle.std.specs.Prelude.{◌≡◌, [], Bool, List, length, map}
-use Rattle.module_info.specs.Infos.{summary_of}
-use Rattle.module_info.specs.declared.function_info.FunctionInfo.{FunctionInfo}
+use Rattle.typing_infos.specs.Infos.{summary_of}
+use Rattle.typing_infos.specs.declared.function_info.FunctionInfo.{FunctionInfo}
 use Rattle.shader_check.specs.Chains.{AreKept, IsFunctionFault}
 use Rattle.shader_check.specs.JudgedEntries.{AreEntryNotes, AreEntrySummaries, IsEntryRefusedAt, note_of}
 use Rattle.shader_check.specs.declared.entries.InvalidEntryPoint.{InvalidEntryPoint}
@@ -12,11 +12,11 @@ use Rattle.ir_faults.specs.declared.refusal.Refusal.{Refusal}
 use Rattle.ir_faults.specs.declared.refusal.Refusal.TheVariants as refusal
 use Rattle.ir_flags.specs.declared.stages.ShaderStages.{ShaderStages}
 use Rattle.ir_items.specs.Plain.{PlainModule}
-use Rattle.module_info.specs.declared.info.ModuleInfo.{ModuleInfo}
+use Rattle.typing_infos.specs.declared.info.ModuleInfo.{ModuleInfo}
 use Rattle.module_types.specs.Validated.{AreAccepted}
 use Rattle.module_validator.specs.Faults.{IsModuleFault}
 use Rattle.module_validator.specs.Refusals.{IsVariableFault}
-use Rattle.real_lower.specs.Readings.{reading_of, faults_of}
+use Rattle.function_real_lower.specs.Readings.{reading_of, faults_of}
 use Rattle.spec_analysis.specs.Summaries.{Summary, AreSummaries}
 use Rattle.spec_entries.specs.Modules as entries
 use Rattle.spec_entries.specs.Modules.{EntriesOK, AreStages, reading_with}

@@ -1,10 +1,10 @@
 // From a reader to a writer: the judgement over what the one gives, as the text that the other takes.
 ghost use Rattle.std.specs.Prelude.{◌≡◌, false, true, List, IfErr, IfOk, OnErr, OnOk, Err};
 ghost use Rattle.std.specs.Io.KnownBytes.{Appends};
-ghost use Rattle.ports.specs.Calls.{Call};
-ghost use Rattle.ports.specs.Sink.{AppendsFront, WritesAll, WritingFails, has_failed as sink_failed, writer_of};
-ghost use Rattle.ports.specs.Source.{has_failed as source_failed, reader_of, Reading, ReadingFails};
-ghost use Rattle.ports.specs.declared.source.TheConstants.{MAX_CALLS};
+ghost use Rattle.check_ports.specs.Calls.{Call};
+ghost use Rattle.check_ports.specs.Sink.{AppendsFront, WritesAll, WritingFails, has_failed as sink_failed, writer_of};
+ghost use Rattle.check_ports.specs.Source.{has_failed as source_failed, reader_of, Reading, ReadingFails};
+ghost use Rattle.check_ports.specs.declared.source.TheConstants.{MAX_CALLS};
 ghost use Rattle.shader_check.specs.declared.check.TheConstants.{MAX_TAKEN};
 ghost use Rattle.shader_check.specs.Theorem.{verdict_of, Answers, AnswersInCalls, BreaksOff, BreaksOffInCalls};
 ghost use Rattle.shader_check.specs.Theorem.{status_of, message_of};
@@ -12,7 +12,7 @@ ghost use Rattle.shader_check.specs.Theorem.{status_of, message_of};
 use crate::judge::judge;
 use document_reader::MAX_LEN;
 use judgement::Finding;
-use ports::{MAX_CALLS, ReadCall, Sink, Source, TakeError, WriteCall, WriteFailed};
+use check_ports::{MAX_CALLS, ReadCall, Sink, Source, TakeError, WriteCall, WriteFailed};
 use std::alloc::{AllocError, Global};
 use thiserror::Error;
 

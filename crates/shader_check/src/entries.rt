@@ -1,7 +1,7 @@
 //! All entry points of a module, one after the other.
 
 ghost use Rattle.std.specs.Prelude.{◌≡◌, ◌<◌, ◌+◌, ◌++◌, ◌∷◌, [], MatchResult, OnOk, Some, length, map, slice_get};
-ghost use Rattle.entry_checks.specs.Interfaces.{AreInterfacesKnown};
+ghost use Rattle.function_entries.specs.Interfaces.{AreInterfacesKnown};
 ghost use Rattle.function_validator.specs.Names.{AreNamesBelow};
 ghost use Rattle.shader_check.specs.JudgedEntries.{AreEntriesJudged, IsConflictTold, IsEntryRefusal, IsEntryToldAt, note_of};
 ghost use Rattle.shader_check.specs.Settings.{settings_in};
@@ -11,11 +11,11 @@ ghost use Rattle.spec_analysis.specs.Summaries.{AreSummaries};
 ghost use Rattle.spec_entries.specs.Held.{IsHeldBeforeEntry};
 ghost use Rattle.spec_entries.specs.Modules.{IsConflict};
 ghost use Rattle.spec_handles.specs.InOrder.{HandlesOK};
-ghost use Rattle.statement_checks.specs.Descriptors.{AreDescriptors};
+ghost use Rattle.function_statement_checks.specs.Descriptors.{AreDescriptors};
 
 use crate::functions::Judged;
 use crate::validator::Validator;
-use entry_checks::{EntryPointError, KnownInterfaces};
+use function_entries::{EntryPointError, KnownInterfaces};
 use function_interface::Lower;
 use function_validator::{FunctionSettings, SeenNames, Validated, validate_entry_point_with};
 use ir_arena::handle::Handle;

@@ -3,9 +3,9 @@ ghost use Rattle.std.specs.Prelude.{◌≡◌};
 ghost use Rattle.shader_check.specs.Examined.{step_of, refused_early, refused_by, finding_in};
 
 use crate::error::ValidationError;
-use error_functions::ConstExpressionError;
+use typing_errors::ConstExpressionError;
 use judgement::{Finding, Step};
-use module_info::ModuleInfo;
+use typing_infos::ModuleInfo;
 use module_validator::ModuleError;
 
 /// What is found of a document, with the error where its module is refused.

@@ -5,10 +5,10 @@ ghost use Rattle.shader_check.specs.Judged.{AreJudged, IsToldAt, IsRefusal};
 ghost use Rattle.shader_check.specs.Settings.{settings_for};
 ghost use Rattle.ir_items.specs.View.{module_view};
 ghost use Rattle.spec_handles.specs.InOrder.{HandlesOK};
-ghost use Rattle.statement_checks.specs.Descriptors.{AreDescriptors};
+ghost use Rattle.function_statement_checks.specs.Descriptors.{AreDescriptors};
 
 use crate::validator::Validator;
-use error_functions::FunctionError;
+use typing_errors::FunctionError;
 use function_interface::Lower;
 use function_validator::{FunctionSettings, Validated, validate_function_with};
 use ir_arena::handle::Handle;

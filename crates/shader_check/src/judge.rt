@@ -18,9 +18,9 @@ use ir_faults::refusal::Refusal;
 use ir_flags::ValidationFlags;
 use ir_items::Module;
 use judgement::Finding;
-use module_info::ModuleInfo;
-use module_report::report;
-use real_lower::RealLower;
+use typing_infos::ModuleInfo;
+use check_report::report;
+use function_real_lower::RealLower;
 use std::alloc::{AllocError, Global};
 
 // What judges modules by the settings of a document.

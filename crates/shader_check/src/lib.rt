@@ -24,6 +24,6 @@ pub use functions::InvalidFunction;
 pub use judge::{examine_document, judge_document};
 pub use judgement::{Finding, Step};
 pub use module_validator::{InvalidGlobalVariable, ModuleError};
-pub use ports::{ReadCall, Sink, Source, WriteCall};
+pub use check_ports::{ReadCall, Sink, Source, WriteCall};
 pub use told::Judgement;
 pub use validator::Validator;

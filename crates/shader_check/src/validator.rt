@@ -1,7 +1,7 @@
 //! A validator of functions, over any layer beneath them.
 
 ghost use Rattle.std.specs.Prelude.{◌≡◌, ◌<◌, ◌↔◌, ℕ, IfErr, IfOk, IfSome, MatchResult, None, OnErr, OnOk, false, length, map};
-ghost use Rattle.entry_checks.specs.Faults.{IsRefusedFor as IsRefusalFor};
+ghost use Rattle.function_entries.specs.Faults.{IsRefusedFor as IsRefusalFor};
 ghost use Rattle.function_validator.specs.EntryFaults.{IsRefusedAs};
 ghost use Rattle.function_validator.specs.Globals.{IsRefusedFor as IsVariableRefused, IsVariableOf};
 ghost use Rattle.function_validator.specs.Validated.{IsEntryValidated};
@@ -10,12 +10,12 @@ ghost use Rattle.function_interface.specs.Analysis.{IsRefusedFor};
 ghost use Rattle.function_interface.specs.Question.{question};
 ghost use Rattle.shader_check.specs.Judged.{AreJudged, IsRefusal};
 ghost use Rattle.shader_check.specs.Settings.{settings_for, settings_in};
-ghost use Rattle.global_checks.specs.Faults.{IsWrongBy};
+ghost use Rattle.module_globals.specs.Faults.{IsWrongBy};
 ghost use Rattle.ir_flags.specs.Sets.{Has};
 ghost use Rattle.ir_items.specs.GlobalView.{global_view};
 ghost use Rattle.ir_items.specs.View.{entry_view, function_view, module_view};
 ghost use Rattle.ir_items.specs.declared.entries.MeshStageInfo.{MeshStageInfo};
-ghost use Rattle.ir_walks.specs.Filters.{ParentsPrecede};
+ghost use Rattle.ir_proc.specs.Filters.{ParentsPrecede};
 ghost use Rattle.spec_analysis.specs.Chains.{HasUse};
 ghost use Rattle.spec_analysis.specs.Summaries.{CalleesKnown, IsJoined, IsSummary};
 ghost use Rattle.spec_entries.specs.Modules.{entry_settings};
@@ -28,19 +28,19 @@ ghost use Rattle.spec_statements.specs.Payloads.{IsHeldAfter};
 
 use crate::functions::{InvalidFunction, judge_all};
 use bitflags::Flags;
-use entry_checks::EntryPointError;
-use error_functions::FunctionError;
+use function_entries::EntryPointError;
+use typing_errors::FunctionError;
 use function_interface::Lower;
 use function_validator::{
     FunctionSettings, validate_entry_point, validate_function, validate_global_var,
 };
-use global_checks::GlobalVariableError;
+use module_globals::GlobalVariableError;
 use ir_arena::handle::Handle;
 use ir_faults::refusal::Refusal;
 use ir_flags::{Capabilities, ShaderStages, SubgroupOperationSet, ValidationFlags};
 use ir_items::{EntryPoint, Function, GlobalVariable, Module};
 use ir_types::key;
-use statement_checks::descriptors_of;
+use function_statement_checks::descriptors_of;
 use std::alloc::Global;
 
 /// What judges the functions of a module, one after the other (naga's `Validator`, as far as it speaks of functions). It keeps

@@ -9,9 +9,9 @@ ghost use Rattle.module_types.specs.Validated.{AreAccepted};
 ghost use Rattle.module_validator.specs.Faults.{IsModuleFault};
 ghost use Rattle.module_validator.specs.Refusals.{IsVariableFault};
 ghost use Rattle.module_validator.specs.Told.{IsInfoOf};
-ghost use Rattle.ir_walks.specs.Filters.{ParentsPrecede};
-ghost use Rattle.real_lower.specs.Made.{IsMadeOf};
-ghost use Rattle.real_lower.specs.Severities.{AreKnown};
+ghost use Rattle.ir_proc.specs.Filters.{ParentsPrecede};
+ghost use Rattle.function_real_lower.specs.Made.{IsMadeOf};
+ghost use Rattle.function_real_lower.specs.Severities.{AreKnown};
 ghost use Rattle.spec_expressions.specs.Context.{outside};
 ghost use Rattle.spec_globals.specs.Globals.{GlobalsOK};
 ghost use Rattle.spec_handles.specs.InOrder.{HandlesOK};
@@ -25,11 +25,11 @@ use crate::validator::Validator;
 use ir_faults::refusal::Refusal;
 use ir_faults::with_span::WithSpan;
 use ir_items::Module;
-use module_info::ModuleInfo;
+use typing_infos::ModuleInfo;
 use module_validator::{InvalidGlobalVariable, ModuleError, ModuleValidator, validate_globals};
-use real_lower::RealLower;
+use function_real_lower::RealLower;
 use spec_modules::ModuleSettings;
-use statement_checks::descriptors_of;
+use function_statement_checks::descriptors_of;
 use std::alloc::{AllocError, Global};
 
 // ---- refusals of steps

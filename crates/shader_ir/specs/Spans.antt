@@ -7,4 +7,4 @@ pub use Rattle.ir_blocks.specs.Tails.{IsCompleted, completed, CompletedByTails, 
 pub use Rattle.ir_arena.specs.Copies.{entry_of}
 pub use Rattle.ir_items.specs.Copies.{SpannedFunction, spanned_function, SpannedEntry, spanned_entry, SpannedModule, spanned_module}
 pub use Rattle.ir_items.specs.Returned.{IsReturnedFunction, IsReturnedEntry, IsReturned, KeepsFunctionSpans, KeepsEntrySpans, KeepsSpansAt, KeepsModuleSpans, returned_module, returned_module_spans, ReturnedByBodies, OneReturned}
-pub use Rattle.ir_walks.specs.Emitted.{emitted, Run, AreRuns, ranges_of, Holds, ArePartition, Partition}
+pub use Rattle.ir_proc.specs.Emitted.{emitted, Run, AreRuns, ranges_of, Holds, ArePartition, Partition}

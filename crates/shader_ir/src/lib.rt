@@ -1,7 +1,7 @@
 //! The intermediate representation of a shader from one place: the sets of words of `ir_flags`, the kinds of `ir_kinds`,
 //! the arenas of `ir_arena`, the sets of handles of `ir_sets`, the errors with spans of `ir_faults`, the types, the
 //! expressions and the items of `ir_types`, `ir_expressions` and `ir_items`, the emitter of `ir_emitter`, the walks of
-//! `ir_walks`, and in `specs/`
+//! `ir_proc`, and in `specs/`
 //! the words of their contracts.
 //!
 //! Nothing is defined here. A crate that uses the representation as a whole names this crate alone.
@@ -23,7 +23,7 @@ pub use ir_arena::iter_mut::IterMut;
 pub use ir_arena::range::BadRangeError;
 pub use ir_arena::range::Range;
 pub use ir_arena::span::Span;
-pub use ir_walks::Emitter;
+pub use ir_proc::Emitter;
 pub use ir_faults::refusal::Refusal;
 pub use ir_faults::with_span::SpanContext;
 pub use ir_faults::with_span::WithSpan;
@@ -110,7 +110,7 @@ pub use ir_sets::handle_set::HandleSet;
 pub use ir_sets::handle_vec::HandleVec;
 pub use ir_types::LiteralExt;
 pub use ir_sets::unique_arena::UniqueArena;
-pub use ir_walks::DiagnosticFilterNodeExt;
-pub use ir_walks::FlattenCompose;
-pub use ir_walks::FunctionExt;
-pub use ir_walks::flatten_compose;
+pub use ir_proc::DiagnosticFilterNodeExt;
+pub use ir_proc::FlattenCompose;
+pub use ir_proc::FunctionExt;
+pub use ir_proc::flatten_compose;

@@ -1,9 +1,9 @@
 //! The typing of a shader's expressions from one place: the types that expressions are given as and their canonical
 //! forms of `typing_forms`, which says too what types are built of and which of them are equivalent, layouts of types and
-//! kinds of expressions of `typing_layout`, the rules of math functions of `overload_tables`, sets of scalars and of shapes of
+//! kinds of expressions of `typing_layout`, the rules of math functions of `typing_rules`, sets of scalars and of shapes of
 //! `constructor_sets`, overload sets of `typing_overloads`, the types of expressions of `typing_resolve`, which are those that
 //! `spec_expressions` defines, those of all expressions of a list and comparing types of `typing_expressions`, what the
-//! analysis of a function asks of `typing_conditions`, and what is kept of a function of `real_lower`, with its errors.
+//! analysis of a function asks of `typing_conditions`, and what is kept of a function of `function_real_lower`, with its errors.
 //!
 //! Nothing is defined here. A crate that uses the typing as a whole names this crate alone.
 #![tactic(auto)]
@@ -15,13 +15,13 @@ pub use analysis_forms::{
     UniformityRequirements,
 };
 pub use constructor_sets::{ConstructorSet, Members, OneBitsIter, ScalarSet};
-pub use error_functions::{
+pub use typing_errors::{
     AtomicError, CallError, ComposeError, ExpressionError, FunctionError, LocalVariableError,
     SubgroupError, UniformityDisruptor,
 };
-pub use module_info::FunctionInfo;
-pub use overload_tables::{Arguments, Conclusion, ConstructorSize, Pattern, Rule, ValueType};
-pub use real_lower::process_function;
+pub use typing_infos::FunctionInfo;
+pub use typing_rules::{Arguments, Conclusion, ConstructorSize, Pattern, Rule, ValueType};
+pub use function_real_lower::process_function;
 pub use spec_expressions::{ConclusionExt, MissingSpecialType, TypingFault};
 pub use typing_conditions::{
     arities_match, callees_precede, filter_parents_precede, handles_in_range, operands_precede,

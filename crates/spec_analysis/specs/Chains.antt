@@ -4,7 +4,7 @@ use Rattle.std.specs.Int.{bit_at}
 use Rattle.ir_types.specs.ExpressionPlain.{PlainExpression, plain}
 use Rattle.ir_types.specs.declared.expressions.Expression.TheVariants.{GlobalVariable, FunctionArgument, Access, AccessIndex}
 use Rattle.ir_items.specs.Plain.{PlainFunction, PlainModule}
-use Rattle.overload_tables.specs.Laws.{IsAmong}
+use Rattle.typing_rules.specs.Laws.{IsAmong}
 use Rattle.analysis_forms.specs.declared.global_use.TheConstants.GlobalUse.{QUERY}
 use Rattle.analysis_forms.specs.declared.sampling.GlobalOrArgument.{GlobalOrArgument}
 use Rattle.analysis_forms.specs.declared.sampling.GlobalOrArgument.TheVariants.{Global, Argument}

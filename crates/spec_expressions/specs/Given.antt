@@ -6,9 +6,9 @@ use Rattle.ir_kinds.specs.declared.scalars.VectorSize.{VectorSize}
 use Rattle.ir_kinds.specs.Scalars.{is_scalar, component_count}
 use Rattle.ir_types.specs.Plain.{plain}
 use Rattle.typing_forms.specs.Resolutions.{PlainResolution, by_handle, by_value}
-use Rattle.overload_tables.specs.declared.rules.Conclusion.{Conclusion}
-use Rattle.overload_tables.specs.declared.rules.Conclusion.TheVariants.{Value, Predeclared}
-use Rattle.overload_tables.specs.Types.{inner_of}
+use Rattle.typing_rules.specs.declared.rules.Conclusion.{Conclusion}
+use Rattle.typing_rules.specs.declared.rules.Conclusion.TheVariants.{Value, Predeclared}
+use Rattle.typing_rules.specs.Types.{inner_of}
 
 abbrev pub is_size : Option VectorSize → Option VectorSize → Bool
 is_size None None = true

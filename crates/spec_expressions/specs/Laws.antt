@@ -5,7 +5,7 @@ use Rattle.typing_forms.specs.declared.form.Form.{Form}
 use Rattle.typing_forms.specs.Forms.{form_of}
 use Rattle.typing_forms.specs.Resolutions.{PlainResolution}
 use Rattle.typing_forms.specs.Equivalence.{AreEquivalent}
-use Rattle.overload_tables.specs.Laws.{IsAmong}
+use Rattle.typing_rules.specs.Laws.{IsAmong}
 use Rattle.spec_expressions.specs.Context.{Context}
 use Rattle.spec_expressions.specs.Typing.{typing_operands, rule_at, HasTypeAmong}
 use Rattle.spec_expressions.specs.declared.faults.TypingFault.{TypingFault}

@@ -5,12 +5,12 @@ use Rattle.ir_kinds.specs.declared.maths.MathFunction.{MathFunction}
 use Rattle.typing_forms.specs.declared.form.Form.{Form}
 use Rattle.typing_forms.specs.declared.form.Form.TheVariants as form
 use Rattle.typing_forms.specs.Forms.{form_of}
-use Rattle.overload_tables.specs.declared.rules.ConstructorSize.TheVariants as size
-use Rattle.overload_tables.specs.declared.rules.Rule.{Rule}
-use Rattle.overload_tables.specs.declared.rules.ValueType.{ValueType}
-use Rattle.overload_tables.specs.Ranks.{accepts_if}
-use Rattle.overload_tables.specs.Tables.{table}
-use Rattle.overload_tables.specs.Types.{value_type}
+use Rattle.typing_rules.specs.declared.rules.ConstructorSize.TheVariants as size
+use Rattle.typing_rules.specs.declared.rules.Rule.{Rule}
+use Rattle.typing_rules.specs.declared.rules.ValueType.{ValueType}
+use Rattle.typing_rules.specs.Ranks.{accepts_if}
+use Rattle.typing_rules.specs.Tables.{table}
+use Rattle.typing_rules.specs.Types.{value_type}
 use Rattle.spec_expressions.specs.Given.{given_type}
 use Rattle.spec_expressions.specs.Context.{Context}
 use Rattle.spec_expressions.specs.declared.faults.TypingFault.{TypingFault}

@@ -6,7 +6,7 @@ use Rattle.ir_types.specs.declared.expressions.Expression.TheVariants as x
 use Rattle.ir_items.specs.Plain.{PlainFunction, PlainModule}
 use Rattle.typing_forms.specs.declared.form.Form.{Form}
 use Rattle.typing_forms.specs.declared.form.Form.TheVariants as form
-use Rattle.overload_tables.specs.Laws.{IsAmong}
+use Rattle.typing_rules.specs.Laws.{IsAmong}
 use Rattle.spec_expressions.specs.Access.{access_type, access_index_type}
 use Rattle.spec_expressions.specs.Compositions.{compose_type, splat_type, swizzle_type}
 use Rattle.spec_expressions.specs.Context.{Context, inside, outside}

@@ -6,7 +6,7 @@ ghost use Rattle.ir_items.specs.GlobalView.{special_view};
 ghost use Rattle.typing_forms.specs.Resolutions.{PlainResolution, resolution_view};
 
 use ir_items::SpecialTypes;
-use overload_tables::Conclusion;
+use typing_rules::Conclusion;
 use thiserror::Error;
 use typing_forms::TypeResolution;
 

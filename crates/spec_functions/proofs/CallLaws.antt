@@ -6,7 +6,7 @@ use Rattle.ir_blocks.specs.Shapes.{Part, inner, accepting, rejecting, case_at, l
 use Rattle.ir_types.specs.ExpressionPlain.{PlainExpression, compose, plain}
 use Rattle.ir_types.specs.declared.expressions.Expression.TheVariants.{ImageSample}
 use Rattle.ir_items.specs.Plain.{PlainFunction}
-use Rattle.overload_tables.specs.Laws.{IsAmong}
+use Rattle.typing_rules.specs.Laws.{IsAmong}
 use Rattle.spec_analysis.proofs.Members.{among-cases}
 use Rattle.spec_analysis.specs.Effects.{Effect, takes, samples, runs, discards, sampling_at, expression_effects, expressions_effects, leaving_effects, statement_effects, effects_in, effects_inside, effects_in_cases, effects_of}
 use Rattle.spec_analysis.specs.Operands.{Operand, expression_operands, statement_operands}

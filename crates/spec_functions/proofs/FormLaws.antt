@@ -2,7 +2,7 @@
 use Rattle.std.proofs.Common.{◌≡◌, ◌⊎◌, inl, inr, ℕ, List, Some, None, sym, ap, subst, ◌∙◌, slice_get}
 use Rattle.analysis_forms.specs.Pairs.{SamplingPair}
 use Rattle.ir_items.specs.Plain.{PlainFunction, PlainModule}
-use Rattle.overload_tables.specs.Laws.{IsAmong}
+use Rattle.typing_rules.specs.Laws.{IsAmong}
 use Rattle.spec_analysis.proofs.Members.{among-get, get-among}
 use Rattle.spec_analysis.specs.Chains.{Step, Calls, HasPair}
 use Rattle.spec_analysis.specs.Effects.{runs, effects_of}

@@ -1,10 +1,10 @@
 -- What the analysis asks of a function, by the chains of calls that begin at it.
 use Rattle.std.specs.Prelude.{◌≡◌, ◌⊎◌, ℕ, None}
 use Rattle.analysis_forms.specs.Pairs.{SamplingPair}
-use Rattle.analysis_facts.specs.Faults.{FunctionFault}
+use Rattle.typing_uniformity.specs.Faults.{FunctionFault}
 use Rattle.ir_flags.specs.declared.settings.ValidationFlags.{ValidationFlags}
 use Rattle.ir_items.specs.Plain.{PlainFunction, PlainModule}
-use Rattle.overload_tables.specs.Laws.{IsAmong}
+use Rattle.typing_rules.specs.Laws.{IsAmong}
 use Rattle.spec_analysis.specs.Chains.{place, Step, Calls, HasPair}
 use Rattle.spec_analysis.specs.Effects.{samples, effects_of}
 use Rattle.spec_analysis.specs.Summaries.{IsWrongArgument}

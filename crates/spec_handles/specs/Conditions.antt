@@ -1,4 +1,4 @@
--- When the handles of a function are in order. That filters come after their parents is `ParentsPrecede` of `ir_walks`.
+-- When the handles of a function are in order. That filters come after their parents is `ParentsPrecede` of `ir_proc`.
 use Rattle.std.specs.Prelude.{◌≡◌, ℕ, ◌<◌, List, length, Option, Some, All, slice_get}
 use Rattle.ir_blocks.specs.Places.{Place, StandsAt}
 use Rattle.ir_blocks.specs.Plain.{call}

@@ -21,7 +21,7 @@ use Rattle.ir_types.specs.declared.expressions.ImageQuery.TheVariants.{Size, Num
 use Rattle.ir_types.specs.declared.expressions.SampleLevel.{SampleLevel}
 use Rattle.ir_types.specs.declared.expressions.SampleLevel.TheVariants.{Auto, Zero, Exact, Bias, Gradient}
 use Rattle.ir_items.specs.Plain.{PlainFunction, PlainModule}
-use Rattle.overload_tables.specs.Laws.{IsAmong}
+use Rattle.typing_rules.specs.Laws.{IsAmong}
 use Rattle.spec_analysis.specs.Chains.{end_of, UsesDirectly, HasUse}
 use Rattle.spec_analysis.specs.Effects.{Effect, takes, samples, runs, discards, sampling_at, expression_effects, expressions_effects, leaving_effects, statement_effects, effects_in, effects_inside, effects_in_cases, effects_of}
 use Rattle.spec_analysis.specs.Operands.{Operand, reads, reads_if, level_operands, query_operands, operands_of, expression_operands, atomic_operands, gather_operands, ray_query_operands, ray_pipeline_operands, operation_operands, statement_operands}

@@ -8,7 +8,7 @@ use Rattle.analysis_forms.specs.declared.sampling.GlobalOrArgument.TheVariants.{
 use Rattle.ir_types.specs.ExpressionPlain.{PlainExpression, plain}
 use Rattle.ir_types.specs.declared.expressions.Expression.TheVariants as x
 use Rattle.ir_items.specs.Plain.{PlainEntry, PlainFunction, PlainModule}
-use Rattle.overload_tables.specs.Laws.{IsAmong}
+use Rattle.typing_rules.specs.Laws.{IsAmong}
 use Rattle.spec_analysis.specs.Chains.{base_stands_for, stands_for, place, Step, IsChain, end_of, bound, argument_means, seen_through, HasUse, HasPair}
 use Rattle.spec_analysis.specs.Summaries.{no_use}
 use Rattle.spec_handles.specs.Conditions.{HandlesInRange}

@@ -2,7 +2,7 @@
 use Rattle.std.specs.Prelude.{ℕ, Option, option_and_then, slice_get}
 use Rattle.ir_items.specs.GlobalPlain.{PlainGlobal}
 use Rattle.ir_items.specs.Plain.{PlainFunction, PlainModule}
-use Rattle.ir_walks.specs.Bases.{base_of, global_of}
+use Rattle.ir_proc.specs.Bases.{base_of, global_of}
 
 -- the global variable that an expression is
 abbrev pub variable_at : PlainModule → PlainFunction → ℕ → Option PlainGlobal

@@ -2,7 +2,7 @@
 use crate::given::scalar;
 use ir_items::SpecialTypes;
 use ir_kinds::PredeclaredType;
-use overload_tables::{Conclusion, ConstructorSize, ValueType};
+use typing_rules::{Conclusion, ConstructorSize, ValueType};
 use serde_json::Value;
 use spec_expressions::ConclusionExt;
 use std::alloc::{AllocError, Global};

@@ -8,7 +8,7 @@ ghost use Rattle.typing_forms.specs.Canonical.{NotBothStructs};
 use ir_kinds::Scalar;
 use ir_types::{IrType, TypeInner, key};
 use ir_sets::unique_arena::UniqueArena;
-use item_forms::TypeForm;
+use document_items::TypeForm;
 use serde_json::Value;
 use std::alloc::{AllocError, Global};
 use test_support::call::{handle, text};

@@ -3,7 +3,7 @@ use crate::given::Types;
 use crate::{compared, conclusions, parts, scalars};
 use ir_arena::span::Span;
 use ir_items::Module;
-use item_forms::TypeForm;
+use document_items::TypeForm;
 use serde_json::Value;
 use std::alloc::{AllocError, Global};
 use test_support::call::{handle, list, text, told};

@@ -4,7 +4,7 @@ use Rattle.function_interface.specs.Told.{AreTold}
 use Rattle.ir_flags.specs.declared.settings.Capabilities.{Capabilities}
 use Rattle.ir_types.specs.Plain.{PlainType}
 use Rattle.module_types.specs.Validated.{AreAccepted}
-use Rattle.type_infos.specs.declared.info.TypeInfo.{TypeInfo}
+use Rattle.module_type_infos.specs.declared.info.TypeInfo.{TypeInfo}
 
 pub told_of : (capabilities : Capabilities) (resolved : Bool) (types : List PlainType) (infos : List TypeInfo) → AreAccepted capabilities resolved types infos → AreTold types infos
 told_of capabilities resolved types infos accepted = record {

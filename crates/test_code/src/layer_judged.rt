@@ -2,19 +2,19 @@
 
 ghost use Rattle.std.specs.Prelude.{◌≡◌, IsTrue};
 ghost use Rattle.ir_items.specs.View.{function_view, module_view};
-ghost use Rattle.ir_walks.specs.Filters.{ParentsPrecede};
+ghost use Rattle.ir_proc.specs.Filters.{ParentsPrecede};
 ghost use Rattle.spec_handles.specs.Conditions.{HandlesInRange, OperandsPrecede};
-ghost use Rattle.tiny_lower.specs.Readings.{IsMadeOf};
+ghost use Rattle.function_tiny_lower.specs.Readings.{IsMadeOf};
 
 use crate::layer_made::lower_for;
-use error_functions::FunctionError;
+use typing_errors::FunctionError;
 use function_interface::Lower;
 use ir_faults::refusal::Refusal;
 use ir_flags::{Capabilities, ValidationFlags};
 use ir_items::{Function, Module};
 use shader_check::Validator;
 use std::alloc::{AllocError, Global};
-use tiny_lower::{TinyInfo, TinyLower};
+use function_tiny_lower::{TinyInfo, TinyLower};
 use typing_conditions::{filter_parents_precede, handles_in_range, operands_precede};
 
 // Whether the handles of a function are in order.

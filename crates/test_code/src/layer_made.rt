@@ -3,7 +3,7 @@
 ghost use Rattle.std.specs.Prelude.{IfOk, IfSome};
 ghost use Rattle.function_interface.specs.Told.{AreTold};
 ghost use Rattle.ir_items.specs.View.{module_view};
-ghost use Rattle.tiny_lower.specs.Readings.{IsMadeOf};
+ghost use Rattle.function_tiny_lower.specs.Readings.{IsMadeOf};
 ghost use Rattle.typing_forms.specs.Resolutions.{types_view};
 
 use ir_faults::refusal::Refusal;
@@ -13,7 +13,7 @@ use ir_types::{IrType, key};
 use ir_sets::unique_arena::UniqueArena;
 use module_types::{TypeInfo, TypeSettings, validate_types};
 use std::alloc::{AllocError, Global};
-use tiny_lower::TinyLower;
+use function_tiny_lower::TinyLower;
 use typing_forms::types_go_back;
 use typing_layout::Layouter;
 

@@ -6,7 +6,7 @@ use ir_arena::span::Span;
 use ir_items::{Expression, IrType, TypeInner, key};
 use ir_kinds::{Literal, Scalar, VectorSize};
 use ir_sets::unique_arena::UniqueArena;
-use ir_walks::FlattenCompose;
+use ir_proc::FlattenCompose;
 use std::alloc::{AllocError, Global};
 use std::test::Fail;
 use test_support::checks::flat;

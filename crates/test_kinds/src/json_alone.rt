@@ -1,5 +1,5 @@
 // Reads standard input as JSON, and does nothing with it: what any check of a document has to take at least.
-use ports::Source;
+use check_ports::Source;
 use serde_json::Value;
 use std::io;
 

@@ -2,7 +2,7 @@
 // leave in all: what overload sets take in a check of as many calls.
 use ir_kinds::{MathFunction, Scalar, VectorSize};
 use ir_types::TypeInner;
-use ports::Source;
+use check_ports::Source;
 use std::alloc::{AllocError, Global};
 use std::io;
 use typing_overloads::{MathFunctionExt, OverloadSet};

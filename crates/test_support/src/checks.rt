@@ -3,15 +3,15 @@ ghost use Rattle.std.specs.Prelude.{◌≡◌, ◌<◌, length, IsTrue};
 ghost use Rattle.std.specs.List.{All};
 ghost use Rattle.std.specs.Option.{ForSome};
 ghost use Rattle.ir_types.specs.ExpressionPlain.{expression_view};
-ghost use Rattle.ir_walks.specs.Bases.{expressions_of, base_of, BasesPrecede};
-ghost use Rattle.ir_walks.specs.Filters.{nodes_of, ParentsPrecede};
-ghost use Rattle.ir_walks.specs.Flat.{parts_of, PartsPrecede};
+ghost use Rattle.ir_proc.specs.Bases.{expressions_of, base_of, BasesPrecede};
+ghost use Rattle.ir_proc.specs.Filters.{nodes_of, ParentsPrecede};
+ghost use Rattle.ir_proc.specs.Flat.{parts_of, PartsPrecede};
 
 use ir_arena::arena::Arena;
 use ir_arena::handle::Handle;
 use ir_items::{DiagnosticFilterNode, Expression, IrType, key};
 use ir_sets::unique_arena::UniqueArena;
-use ir_walks::{FlattenCompose, flatten_compose};
+use ir_proc::{FlattenCompose, flatten_compose};
 use std::alloc::{AllocError, Global};
 
 /// Whether the parent of each node comes before it.

@@ -6,7 +6,7 @@ use Rattle.ir_types.specs.declared.expressions.Expression.TheVariants as x
 use Rattle.ir_types.specs.declared.expressions.ImageQuery.TheVariants.{Size, NumLevels, NumLayers, NumSamples}
 use Rattle.ir_types.specs.declared.expressions.SampleLevel.{SampleLevel}
 use Rattle.ir_types.specs.declared.expressions.SampleLevel.TheVariants.{Auto, Zero, Exact, Bias, Gradient}
-use Rattle.overload_tables.specs.Laws.{IsAmong}
+use Rattle.typing_rules.specs.Laws.{IsAmong}
 use Rattle.spec_analysis.specs.Operands.{Operand, reads, reads_if, level_operands, expression_operands as operands_with_uses}
 use Rattle.spec_handles.specs.Expressions.{given, level_first, level_second}
 use Rattle.typing_conditions.specs.SameOperands.{handles_of, SameOperands, SameOrder}

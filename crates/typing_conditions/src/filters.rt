@@ -2,7 +2,7 @@
 
 ghost use Rattle.std.specs.Prelude.{◌↔◌, IsTrue};
 ghost use Rattle.ir_items.specs.View.{module_view};
-ghost use Rattle.ir_walks.specs.Filters.{ParentsPrecede};
+ghost use Rattle.ir_proc.specs.Filters.{ParentsPrecede};
 
 use ir_items::{Function, Module};
 use ir_references::forward_parent;

@@ -3,7 +3,7 @@ use Rattle.std.specs.Prelude.{◌≡◌, ℕ, ◌<◌, List, Some, length, slice
 use Rattle.ir_types.specs.ExpressionPlain.{PlainExpression}
 use Rattle.spec_expressions.specs.Context.{Context, NamesItem}
 use Rattle.spec_expressions.specs.Typing.{typing_operands, HasTypeAmong}
-use Rattle.overload_tables.specs.Laws.{IsAmong}
+use Rattle.typing_rules.specs.Laws.{IsAmong}
 use Rattle.typing_forms.specs.declared.form.Form.{Form}
 use Rattle.typing_forms.specs.declared.resolution.TypeResolution.{TypeResolution}
 use Rattle.typing_operands.specs.Answers.{form_given, fault_of, TellsFault, IsAnswer}

@@ -1,12 +1,12 @@
 -- How many arguments the rules of a product have: all as many.
 use Rattle.std.proofs.Common.{◌≡◌, ◌∙◌, ◌++◌, ℕ, suc, Some, None, List, [], ◌∷◌, refl, ap, sym, arith, fold, length, map, max, min, slice_get}
 use Rattle.ir_kinds.specs.declared.scalars.Scalar.{Scalar}
-use Rattle.overload_tables.specs.declared.patterns.Pattern.{Pattern}
-use Rattle.overload_tables.specs.declared.rules.ConstructorSize.{ConstructorSize}
-use Rattle.overload_tables.specs.declared.rules.Rule.{Rule}
-use Rattle.overload_tables.specs.Tables.{rule_of, row, rules_over}
+use Rattle.typing_rules.specs.declared.patterns.Pattern.{Pattern}
+use Rattle.typing_rules.specs.declared.rules.ConstructorSize.{ConstructorSize}
+use Rattle.typing_rules.specs.declared.rules.Rule.{Rule}
+use Rattle.typing_rules.specs.Tables.{rule_of, row, rules_over}
 use Rattle.typing_overloads.specs.Products.{asked_type, asked_by}
-use Rattle.overload_tables.specs.Laws.{arity}
+use Rattle.typing_rules.specs.Laws.{arity}
 use Rattle.typing_overloads.specs.Sets.{fewest_arguments, most_arguments}
 use Rattle.typing_overloads.proofs.Kept.{asked_are}
 

@@ -5,14 +5,14 @@ use Rattle.std.proofs.lemmas.Option.{slice_get-map}
 use Rattle.ir_kinds.specs.declared.scalars.Scalar.{Scalar}
 use Rattle.ir_types.specs.Plain.{PlainInner}
 use Rattle.typing_forms.specs.Ranks.{rank}
-use Rattle.overload_tables.specs.declared.patterns.Pattern.{Pattern}
-use Rattle.overload_tables.specs.declared.patterns.Pattern.TheVariants as pattern
-use Rattle.overload_tables.specs.declared.rules.ConstructorSize.{ConstructorSize}
-use Rattle.overload_tables.specs.declared.rules.Rule.{Rule}
-use Rattle.overload_tables.specs.declared.rules.ValueType.{ValueType}
-use Rattle.overload_tables.specs.Ranks.{rank_if, accepts, accepts_if, accepts_inner, is_abstract_kind, is_concrete}
-use Rattle.overload_tables.specs.Tables.{arguments_of, rule_of, row, rules_over}
-use Rattle.overload_tables.specs.Types.{constructor_place, listed, value_type_of}
+use Rattle.typing_rules.specs.declared.patterns.Pattern.{Pattern}
+use Rattle.typing_rules.specs.declared.patterns.Pattern.TheVariants as pattern
+use Rattle.typing_rules.specs.declared.rules.ConstructorSize.{ConstructorSize}
+use Rattle.typing_rules.specs.declared.rules.Rule.{Rule}
+use Rattle.typing_rules.specs.declared.rules.ValueType.{ValueType}
+use Rattle.typing_rules.specs.Ranks.{rank_if, accepts, accepts_if, accepts_inner, is_abstract_kind, is_concrete}
+use Rattle.typing_rules.specs.Tables.{arguments_of, rule_of, row, rules_over}
+use Rattle.typing_rules.specs.Types.{constructor_place, listed, value_type_of}
 use Rattle.constructor_sets.specs.Bits.{marks}
 use Rattle.constructor_sets.specs.Members.{scalars, scalars_in, sizes, sizes_in}
 use Rattle.typing_overloads.specs.declared.asked.Asked.{Asked}

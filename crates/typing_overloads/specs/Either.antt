@@ -1,6 +1,6 @@
 -- The rules of either kind of set.
 use Rattle.std.specs.Prelude.{List}
-use Rattle.overload_tables.specs.declared.rules.Rule.{Rule}
+use Rattle.typing_rules.specs.declared.rules.Rule.{Rule}
 use Rattle.typing_overloads.specs.declared.any.AnyOverloadSet as any
 use Rattle.typing_overloads.specs.declared.any.AnyOverloadSet.TheVariants as which
 

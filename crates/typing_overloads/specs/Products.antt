@@ -1,15 +1,15 @@
 -- Rules that are made of each of some shapes with each of some scalars, and what each asks for at a place.
 use Rattle.std.specs.Prelude.{List, [], ◌∷◌, Bool, true, not}
 use Rattle.ir_kinds.specs.declared.scalars.Scalar.{Scalar}
-use Rattle.overload_tables.specs.declared.patterns.Pattern.{Pattern}
-use Rattle.overload_tables.specs.declared.patterns.Pattern.TheVariants as pattern
-use Rattle.overload_tables.specs.declared.rules.ConstructorSize.{ConstructorSize}
-use Rattle.overload_tables.specs.declared.rules.ConstructorSize.TheVariants as size
-use Rattle.overload_tables.specs.declared.rules.Rule.{Rule}
-use Rattle.overload_tables.specs.declared.rules.ValueType.{ValueType}
-use Rattle.overload_tables.specs.Ranks.{is_abstract_kind}
-use Rattle.overload_tables.specs.Tables.{i32, u32, column_size, row_size, rules_over}
-use Rattle.overload_tables.specs.Types.{value_type}
+use Rattle.typing_rules.specs.declared.patterns.Pattern.{Pattern}
+use Rattle.typing_rules.specs.declared.patterns.Pattern.TheVariants as pattern
+use Rattle.typing_rules.specs.declared.rules.ConstructorSize.{ConstructorSize}
+use Rattle.typing_rules.specs.declared.rules.ConstructorSize.TheVariants as size
+use Rattle.typing_rules.specs.declared.rules.Rule.{Rule}
+use Rattle.typing_rules.specs.declared.rules.ValueType.{ValueType}
+use Rattle.typing_rules.specs.Ranks.{is_abstract_kind}
+use Rattle.typing_rules.specs.Tables.{i32, u32, column_size, row_size, rules_over}
+use Rattle.typing_rules.specs.Types.{value_type}
 use Rattle.constructor_sets.specs.Members.{scalars_in, sizes_in}
 use Rattle.typing_overloads.specs.declared.asked.Asked.{Asked}
 use Rattle.typing_overloads.specs.declared.asked.AskedScalar.{AskedScalar}

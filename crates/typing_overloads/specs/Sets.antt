@@ -1,10 +1,10 @@
 -- What lists of rules have.
 use Rattle.std.specs.Prelude.{ℕ, List, [], ◌∷◌, Option, Some, None, slice_get, min, max}
 use Rattle.std.specs.List.{fold, flat_map}
-use Rattle.overload_tables.specs.declared.rules.Rule.{Rule}
-use Rattle.overload_tables.specs.declared.rules.ValueType.{ValueType}
-use Rattle.overload_tables.specs.Laws.{arity}
-use Rattle.overload_tables.specs.Types.{listed}
+use Rattle.typing_rules.specs.declared.rules.Rule.{Rule}
+use Rattle.typing_rules.specs.declared.rules.ValueType.{ValueType}
+use Rattle.typing_rules.specs.Laws.{arity}
+use Rattle.typing_rules.specs.Types.{listed}
 
 -- the least number of arguments, and 0 where there is no rule
 abbrev pub fewest_arguments : List Rule → ℕ

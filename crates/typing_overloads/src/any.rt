@@ -7,7 +7,7 @@ use crate::list::List;
 use crate::overload_set::OverloadSet;
 use crate::regular::Regular;
 use ir_types::TypeInner;
-use overload_tables::{Rule, ValueType};
+use typing_rules::{Rule, ValueType};
 use std::alloc::{AllocError, Global};
 
 /// An overload set of one of the two kinds (naga's `AnyOverloadSet`). A contract sees the rules that are left.

@@ -1,8 +1,8 @@
 //! What the rules of a pattern ask for at each place, and which of them take a type there.
 
 ghost use Rattle.std.specs.Prelude.{◌≡◌, ◌==◌, is_some, length, map, slice_get};
-ghost use Rattle.overload_tables.specs.Tables.{column_size, row_size};
-ghost use Rattle.overload_tables.specs.Types.{constructor_place};
+ghost use Rattle.typing_rules.specs.Tables.{column_size, row_size};
+ghost use Rattle.typing_rules.specs.Types.{constructor_place};
 ghost use Rattle.typing_forms.specs.Ranks.{rank};
 ghost use Rattle.constructor_sets.specs.Bits.{marks};
 ghost use Rattle.constructor_sets.specs.Members.{scalars, sizes};
@@ -10,7 +10,7 @@ ghost use Rattle.typing_overloads.specs.Products.{asked_size, asked_scalar, aske
 
 use constructor_sets::{ConstructorSet, ScalarSet};
 use ir_kinds::{Scalar, VectorSize};
-use overload_tables::{ConstructorSize, Pattern};
+use typing_rules::{ConstructorSize, Pattern};
 use typing_forms::conversion_rank;
 
 /// The shape that a rule asks for.

@@ -1,7 +1,7 @@
 //! The overload sets of the math functions.
 
 ghost use Rattle.std.specs.Prelude.{◌≡◌, ◌++◌, List, IfOk};
-ghost use Rattle.overload_tables.specs.declared.rules.Rule.{Rule};
+ghost use Rattle.typing_rules.specs.declared.rules.Rule.{Rule};
 ghost use Rattle.typing_overloads.specs.Either.{any_rules};
 ghost use Rattle.typing_overloads.specs.Products.{rules_of};
 
@@ -12,7 +12,7 @@ use crate::regular::Regular;
 use crate::rows::row_of;
 use constructor_sets::{ConstructorSet, ScalarSet};
 use ir_kinds::MathFunction;
-use overload_tables::Pattern;
+use typing_rules::Pattern;
 use std::alloc::{AllocError, Global};
 
 // The rules of `Mix` that blend vectors by a scalar.
@@ -67,7 +67,7 @@ pub trait MathFunctionExt: Sized {
 }
 
 impl MathFunctionExt for MathFunction {
-    ghost use Rattle.overload_tables.specs.Tables as tables;
+    ghost use Rattle.typing_rules.specs.Tables as tables;
 
     ghost table = { tables.table };
 

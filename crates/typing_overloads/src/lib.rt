@@ -16,5 +16,5 @@ pub use constructor_sets::{ConstructorSet, Members, OneBitsIter, ScalarSet};
 pub use functions::MathFunctionExt;
 pub use list::List;
 pub use overload_set::OverloadSet;
-pub use overload_tables::{Arguments, Conclusion, ConstructorSize, Rule, ValueType};
+pub use typing_rules::{Arguments, Conclusion, ConstructorSize, Rule, ValueType};
 pub use regular::Regular;

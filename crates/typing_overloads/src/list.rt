@@ -5,7 +5,7 @@ ghost use Rattle.std.specs.Prelude.{◌≡◌, IfOk};
 use crate::overload_set::OverloadSet;
 use crate::rule_lists::{accepting, asked_for, concrete, max_arity, min_arity};
 use ir_types::TypeInner;
-use overload_tables::{Rule, ValueType};
+use typing_rules::{Rule, ValueType};
 use std::alloc::{AllocError, Global};
 use std::marker::Model;
 
@@ -18,7 +18,7 @@ pub struct List {
 
 impl Model for List {
     ghost use Rattle.std.specs.Prelude.{List};
-    ghost use Rattle.overload_tables.specs.declared.rules.Rule.{Rule};
+    ghost use Rattle.typing_rules.specs.declared.rules.Rule.{Rule};
 
     ghost Value = { List Rule };
 

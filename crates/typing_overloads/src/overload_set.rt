@@ -2,12 +2,12 @@
 
 ghost use Rattle.std.specs.Prelude.{◌≡◌, ◌<◌, ◌==◌, List, IfOk, Some, filter, length, slice_get};
 ghost use Rattle.ir_types.specs.Plain.{inner_view};
-ghost use Rattle.overload_tables.specs.declared.rules.Rule.{Rule};
-ghost use Rattle.overload_tables.specs.Ranks.{accepts_inner, is_concrete};
+ghost use Rattle.typing_rules.specs.declared.rules.Rule.{Rule};
+ghost use Rattle.typing_rules.specs.Ranks.{accepts_inner, is_concrete};
 ghost use Rattle.typing_overloads.specs.Sets.{fewest_arguments, most_arguments, arguments_at};
 
 use ir_types::TypeInner;
-use overload_tables::{Rule, ValueType};
+use typing_rules::{Rule, ValueType};
 use std::alloc::{AllocError, Global};
 
 /// The rules that a function has left for the arguments that were supplied (naga's `OverloadSet`). In a contract a set

@@ -3,9 +3,9 @@
 ghost use Rattle.std.specs.Prelude.{◌≡◌, ◌++◌, OnOk, filter, max, min, slice_get};
 ghost use Rattle.std.specs.List.{fold};
 ghost use Rattle.ir_types.specs.Plain.{inner_view};
-ghost use Rattle.overload_tables.specs.Laws.{arity};
-ghost use Rattle.overload_tables.specs.Ranks.{accepts_inner, is_concrete};
-ghost use Rattle.overload_tables.specs.Tables.{row};
+ghost use Rattle.typing_rules.specs.Laws.{arity};
+ghost use Rattle.typing_rules.specs.Ranks.{accepts_inner, is_concrete};
+ghost use Rattle.typing_rules.specs.Tables.{row};
 ghost use Rattle.constructor_sets.specs.Members.{scalars_in};
 ghost use Rattle.typing_overloads.specs.Products.{rules_of};
 ghost use Rattle.typing_overloads.specs.Sets.{one_or_none, arguments_at};
@@ -13,7 +13,7 @@ ghost use Rattle.typing_overloads.specs.Sets.{one_or_none, arguments_at};
 use crate::asked::{asked_at, asked_by, concrete_scalars};
 use constructor_sets::{ConstructorSet, ScalarSet};
 use ir_types::TypeInner;
-use overload_tables::{ConstructorSize, Pattern, Rule, ValueType};
+use typing_rules::{ConstructorSize, Pattern, Rule, ValueType};
 use std::alloc::AllocError;
 
 /// The rules that a pattern makes of each of the shapes with each of the scalars: by shape, then by scalar.

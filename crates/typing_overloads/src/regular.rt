@@ -6,7 +6,7 @@ ghost use Rattle.typing_overloads.specs.Products.{rules_of};
 use crate::overload_set::OverloadSet;
 use crate::product::Product;
 use ir_types::TypeInner;
-use overload_tables::{Rule, ValueType};
+use typing_rules::{Rule, ValueType};
 use std::alloc::{AllocError, Global};
 use std::marker::Model;
 
@@ -19,7 +19,7 @@ pub struct Regular {
 
 impl Model for Regular {
     ghost use Rattle.std.specs.Prelude.{List};
-    ghost use Rattle.overload_tables.specs.declared.rules.Rule.{Rule};
+    ghost use Rattle.typing_rules.specs.declared.rules.Rule.{Rule};
     ghost use Rattle.typing_overloads.specs.Products.{rules_of};
 
     ghost Value = { List Rule };

@@ -7,7 +7,7 @@ ghost use Rattle.typing_overloads.specs.Rows.{first_row};
 use crate::product::Product;
 use constructor_sets::{ConstructorSet as C, ScalarSet as S};
 use ir_kinds::MathFunction as Mf;
-use overload_tables::Pattern;
+use typing_rules::Pattern;
 
 // All numbers but the unsigned ones.
 const SIGNED_NUMBERS: S = S(S::ABSTRACT_INT.0 | S::I32.0 | S::I16.0 | S::I64.0 | S::FLOAT.0);

@@ -3,13 +3,13 @@
 ghost use Rattle.std.specs.Prelude.{◌≡◌, IfOk, filter, max, min};
 ghost use Rattle.std.specs.List.{fold};
 ghost use Rattle.ir_types.specs.Plain.{inner_view};
-ghost use Rattle.overload_tables.specs.Laws.{arity};
-ghost use Rattle.overload_tables.specs.Ranks.{accepts_inner, is_concrete};
+ghost use Rattle.typing_rules.specs.Laws.{arity};
+ghost use Rattle.typing_rules.specs.Ranks.{accepts_inner, is_concrete};
 ghost use Rattle.typing_overloads.specs.Sets.{arguments_at};
 
 use crate::product::add_type;
 use ir_types::TypeInner;
-use overload_tables::{Rule, ValueType};
+use typing_rules::{Rule, ValueType};
 use std::alloc::{AllocError, Global};
 
 /// The rules that accept an argument of the type `given` at a place, counted from 0. The error is out of memory.

@@ -6,7 +6,7 @@ ghost use Rattle.std.specs.Borrow.{Bor};
 ghost use Rattle.ir_types.specs.ExpressionPlain.{PlainExpression, expression_view};
 ghost use Rattle.ir_items.specs.GlobalView.{values_of};
 ghost use Rattle.ir_items.specs.View.{argument_view, local_view, module_view};
-ghost use Rattle.overload_tables.specs.Laws.{IsAmong};
+ghost use Rattle.typing_rules.specs.Laws.{IsAmong};
 ghost use Rattle.spec_expressions.specs.Context.{NamesItem, context_with};
 ghost use Rattle.spec_expressions.specs.Typing.{typing_operands, rule_at, form_read, HasTypeAmong};
 ghost use Rattle.typing_forms.specs.declared.form.Form.{Form};

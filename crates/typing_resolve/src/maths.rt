@@ -2,8 +2,8 @@
 
 ghost use Rattle.std.specs.Prelude.{◌≡◌, IfOk, Some};
 ghost use Rattle.ir_types.specs.Plain.{inner_view};
-ghost use Rattle.overload_tables.specs.Tables.{table};
-ghost use Rattle.overload_tables.specs.Types.{value_type_of};
+ghost use Rattle.typing_rules.specs.Tables.{table};
+ghost use Rattle.typing_rules.specs.Types.{value_type_of};
 ghost use Rattle.spec_expressions.specs.Maths.{value_of, taking, concluded, math_of, math_type};
 ghost use Rattle.typing_overloads.specs.Either.{any_rules};
 ghost use Rattle.typing_operands.specs.Answers.{form_answer};
@@ -14,7 +14,7 @@ use crate::context::ResolveContext;
 use ir_arena::handle::Handle;
 use ir_kinds::MathFunction;
 use ir_types::{TypeInner, key};
-use overload_tables::Rule;
+use typing_rules::Rule;
 use spec_expressions::{ConclusionExt, TypingFault};
 use std::alloc::{AllocError, Global};
 use typing_forms::Form;

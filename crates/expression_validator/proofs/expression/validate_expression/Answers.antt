@@ -1,4 +1,4 @@
-use Rattle.statement_checks.proofs.Lookups.{found}
+use Rattle.function_statement_checks.proofs.Lookups.{found}
 use Rattle.ir_types.specs.ExpressionPlain.{expression_view}
 use Rattle.expression_validator.proofs.expression.validate_expression.Goals as goal
 

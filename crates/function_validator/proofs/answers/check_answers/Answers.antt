@@ -4,7 +4,7 @@ use Rattle.function_validator.specs.Faults.{IsUnanswered}
 use Rattle.function_interface.specs.Answered.{AllAnswered, IsUnansweredFault}
 use Rattle.ir_arena.specs.Arenas.{value_of_entry}
 use Rattle.ir_types.specs.ExpressionPlain.{expression_view}
-use Rattle.statement_checks.specs.View.{context_view}
+use Rattle.function_statement_checks.specs.View.{context_view}
 use Rattle.function_validator.proofs.answers.check_answers.Goals as goal
 
 pub returns-in-Ok-check_answered : goal.returns-in-Ok-check_answered

@@ -2,7 +2,7 @@ use Rattle.std.proofs.Common.{refl, ap, length, arith}
 use Rattle.function_interface.proofs.Below.{one_more, all_below, viewed_at, as_many_viewed}
 use Rattle.ir_items.specs.View.{argument_view}
 use Rattle.spec_statements.specs.Interfaces.{ArgumentOK}
-use Rattle.statement_checks.specs.View.{context_view}
+use Rattle.function_statement_checks.specs.View.{context_view}
 use Rattle.function_validator.proofs.arguments.check_arguments.Goals as goal
 
 pub returns-in-Err : goal.returns-in-Err

@@ -1,6 +1,6 @@
 use Rattle.function_interface.specs.Items.{EachBelow}
 use Rattle.spec_statements.specs.Interfaces.{ArgumentOK}
-use Rattle.statement_checks.specs.View.{context_view}
+use Rattle.function_statement_checks.specs.View.{context_view}
 use Rattle.function_validator.proofs.arguments.check_arguments.Given as goal
 
 -- the function may be given the arguments before

@@ -1,7 +1,7 @@
 use Rattle.std.proofs.Common.{◌≡◌, ◌∙◌, length, sym, ap, subst}
 use Rattle.std.proofs.lemmas.List.{length-map}
-use Rattle.entry_checks.specs.ConnectionFaults.{IsConnectionFault}
-use Rattle.entry_checks.specs.Faults.{IsRefusedFor}
+use Rattle.function_entries.specs.ConnectionFaults.{IsConnectionFault}
+use Rattle.function_entries.specs.Faults.{IsRefusedFor}
 use Rattle.function_validator.proofs.EntryWhole.{refused_as, unconnected}
 use Rattle.function_validator.specs.EntryFaults.{IsUnconnected}
 use Rattle.ir_arena.specs.Arenas.{value_of_entry}
@@ -9,7 +9,7 @@ use Rattle.ir_items.specs.GlobalView.{global_view, values_of}
 use Rattle.ir_items.specs.View.{entry_view, module_view}
 use Rattle.spec_analysis.specs.Summaries.{HasUseBit}
 use Rattle.spec_entries.specs.Entries.{ConnectionsOK}
-use Rattle.type_checks.specs.Known.{AreInfos}
+use Rattle.module_type_checks.specs.Known.{AreInfos}
 use Rattle.function_validator.proofs.connect.judge.Goals as goal
 
 pub uses_of-requires-clause-many : goal.uses_of-requires-clause-many

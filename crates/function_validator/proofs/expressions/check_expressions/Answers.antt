@@ -2,7 +2,7 @@ use Rattle.std.proofs.Common.{map, refl, subst}
 use Rattle.std.specs.Int.RustNames.{bit_and}
 use Rattle.function_validator.proofs.Below.{more_below}
 use Rattle.function_interface.specs.Question.{question}
-use Rattle.statement_checks.specs.View.{context_view}
+use Rattle.function_statement_checks.specs.View.{context_view}
 use Rattle.function_validator.proofs.expressions.check_expressions.Goals as goal
 
 pub loop-index-preserved : goal.loop-index-preserved

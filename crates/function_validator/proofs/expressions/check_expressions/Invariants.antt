@@ -1,7 +1,7 @@
 use Rattle.std.proofs.Common.{map}
 use Rattle.function_validator.specs.Judged.{AcceptedBelow}
 use Rattle.function_interface.specs.Question.{question}
-use Rattle.statement_checks.specs.View.{context_view}
+use Rattle.function_statement_checks.specs.View.{context_view}
 use Rattle.function_validator.proofs.expressions.check_expressions.Given as goal
 
 -- the expressions before are accepted

@@ -1,7 +1,7 @@
 use Rattle.std.proofs.Common.{Some, sym, subst, arith}
-use Rattle.global_checks.proofs.Begins.{known_by}
-use Rattle.global_checks.specs.Initializers.{IsInitializer, IsTypedBy}
-use Rattle.global_checks.specs.declared.context.Initializer.{Initializer}
+use Rattle.module_globals.proofs.Begins.{known_by}
+use Rattle.module_globals.specs.Initializers.{IsInitializer, IsTypedBy}
+use Rattle.module_globals.specs.declared.context.Initializer.{Initializer}
 use Rattle.ir_items.specs.GlobalView.{global_view}
 use Rattle.ir_items.specs.View.{module_view}
 use Rattle.module_conditions.proofs.Origins.{order_gives_origins}

@@ -1,5 +1,5 @@
 use Rattle.function_validator.proofs.Widened.{locals_refused, arguments_refused}
-use Rattle.statement_checks.specs.View.{context_view}
+use Rattle.function_statement_checks.specs.View.{context_view}
 use Rattle.function_validator.proofs.interface.check_interface.Goals as goal
 
 pub returns-in-Err : goal.returns-in-Err

@@ -1,10 +1,10 @@
 use Rattle.std.proofs.Common.{◌≡◌, Some, slice_get, refl, sym, subst, arith}
-use Rattle.statement_checks.proofs.Lookups.{found, many_viewed}
+use Rattle.function_statement_checks.proofs.Lookups.{found, many_viewed}
 use Rattle.function_interface.proofs.Below.{one_more, all_below}
 use Rattle.function_interface.specs.Items.{EachBelow}
 use Rattle.ir_items.specs.View.{local_view}
 use Rattle.spec_statements.specs.Interfaces.{LocalOK}
-use Rattle.statement_checks.specs.View.{context_view}
+use Rattle.function_statement_checks.specs.View.{context_view}
 use Rattle.function_validator.proofs.locals.check_locals.Goals as goal
 
 pub returns-in-Err : goal.returns-in-Err

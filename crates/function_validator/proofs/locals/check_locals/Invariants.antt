@@ -1,6 +1,6 @@
 use Rattle.function_interface.specs.Items.{EachBelow}
 use Rattle.spec_statements.specs.Interfaces.{LocalOK}
-use Rattle.statement_checks.specs.View.{context_view}
+use Rattle.function_statement_checks.specs.View.{context_view}
 use Rattle.function_validator.proofs.locals.check_locals.Given as goal
 
 -- the function may have the variables before

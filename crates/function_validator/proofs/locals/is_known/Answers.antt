@@ -1,9 +1,9 @@
 use Rattle.std.proofs.Common.{◌≡◌, arith, length}
-use Rattle.statement_checks.proofs.Constness.{past_the_last}
-use Rattle.statement_checks.proofs.Lookups.{many_viewed}
+use Rattle.function_statement_checks.proofs.Constness.{past_the_last}
+use Rattle.function_statement_checks.proofs.Lookups.{many_viewed}
 use Rattle.function_validator.proofs.Known.{known_early, unknown_past}
 use Rattle.ir_types.specs.ExpressionPlain.{expression_view}
-use Rattle.statement_checks.specs.View.{context_view}
+use Rattle.function_statement_checks.specs.View.{context_view}
 use Rattle.function_validator.proofs.locals.is_known.Goals as goal
 
 pub returns-then-index-len : goal.returns-then-index-len

@@ -1,7 +1,7 @@
 use Rattle.std.proofs.Common.{rules, IsTrue, map}
 use Rattle.function_validator.proofs.PartLaws.{asked_blocks, unanswered_refused}
 use Rattle.function_validator.specs.Settings.{settings_view}
-use Rattle.statement_checks.specs.View.{context_view}
+use Rattle.function_statement_checks.specs.View.{context_view}
 use Rattle.function_validator.proofs.parts.blocks_met.Goals as goal
 
 pub returns : goal.returns

@@ -5,7 +5,7 @@ use Rattle.function_validator.specs.Faults.{IsFaultBehind}
 use Rattle.function_validator.specs.Judged.{IsBlocksFault}
 use Rattle.function_validator.specs.Settings.{settings_view}
 use Rattle.function_interface.specs.Question.{question}
-use Rattle.statement_checks.specs.View.{context_view}
+use Rattle.function_statement_checks.specs.View.{context_view}
 use Rattle.function_validator.proofs.parts.check_parts.Goals as goal
 
 pub returns-in-Ok-blocks_met : goal.returns-in-Ok-blocks_met

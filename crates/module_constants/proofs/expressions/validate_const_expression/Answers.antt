@@ -1,5 +1,5 @@
 use Rattle.std.proofs.Common.{◌≡◌, ◌∙◌, Some, ap, rules}
-use Rattle.error_functions.specs.declared.const_expressions.ConstExpressionError.TheVariants as error
+use Rattle.typing_errors.specs.declared.const_expressions.ConstExpressionError.TheVariants as error
 use Rattle.ir_types.specs.ExpressionPlain.{expression_view}
 use Rattle.module_constants.proofs.Told.{expression_refused, expression_told}
 use Rattle.module_constants.specs.Known.{module_in}

@@ -2,9 +2,9 @@ use Rattle.std.proofs.Common.{map, arith}
 use Rattle.ir_types.specs.Plain.{member_view}
 use Rattle.module_types.proofs.LayoutLaws.{fit_struct}
 use Rattle.module_types.specs.Layouts.{FitsAt}
-use Rattle.type_checks.proofs.Places.{below_more, below_all}
-use Rattle.type_checks.specs.Known.{tree_in}
-use Rattle.type_checks.specs.Placed.{parts_in}
+use Rattle.module_type_checks.proofs.Places.{below_more, below_all}
+use Rattle.module_type_checks.specs.Known.{tree_in}
+use Rattle.module_type_checks.specs.Placed.{parts_in}
 use Rattle.module_types.proofs.immediates.immediates_of_struct.Goals as goal
 
 pub loop-place-preserved : goal.loop-place-preserved

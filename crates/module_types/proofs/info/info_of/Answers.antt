@@ -1,5 +1,5 @@
 use Rattle.ir_types.specs.Plain.{inner_view}
-use Rattle.type_checks.proofs.Checks.{names_within}
+use Rattle.module_type_checks.proofs.Checks.{names_within}
 use Rattle.module_types.proofs.info.info_of.Goals as goal
 
 pub info_of_inner-requires-clause-named : goal.info_of_inner-requires-clause-named

@@ -1,4 +1,4 @@
-use Rattle.type_checks.proofs.Checks.{struct_named}
+use Rattle.module_type_checks.proofs.Checks.{struct_named}
 use Rattle.module_types.proofs.WholeLaws.{array_tree, struct_tree}
 use Rattle.module_types.proofs.info.info_of_inner.Goals as goal
 

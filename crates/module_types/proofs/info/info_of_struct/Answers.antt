@@ -1,7 +1,7 @@
 use Rattle.std.proofs.Common.{sym, subst, map}
 use Rattle.ir_types.specs.Plain.{member_view}
 use Rattle.module_types.proofs.LayoutLaws.{struct_at}
-use Rattle.type_infos.specs.Infos.{AreFlags}
+use Rattle.module_type_infos.specs.Infos.{AreFlags}
 use Rattle.module_types.proofs.info.info_of_struct.Goals as goal
 
 pub uniform_of_struct-requires-clause-flags : goal.uniform_of_struct-requires-clause-flags

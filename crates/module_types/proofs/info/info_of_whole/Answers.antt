@@ -1,6 +1,6 @@
 use Rattle.ir_types.specs.Plain.{inner_view}
 use Rattle.module_types.proofs.WholeLaws.{at_whole, at_flags, at_immediates}
-use Rattle.type_checks.specs.Known.{tree_in}
+use Rattle.module_type_checks.specs.Known.{tree_in}
 use Rattle.module_types.proofs.info.info_of_whole.Goals as goal
 
 pub layout_of_whole-layout-requires-clause-whole : goal.layout_of_whole-layout-requires-clause-whole

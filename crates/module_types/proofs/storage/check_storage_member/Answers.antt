@@ -2,9 +2,9 @@ use Rattle.std.proofs.Common.{map, rules, true≢false, sym, ◌∙◌}
 use Rattle.ir_types.specs.Plain.{member_view}
 use Rattle.module_types.proofs.LayoutLaws.{broken_part, broken_here, bad_offset, storage_part}
 use Rattle.typing_layout.specs.Layout.{alignment}
-use Rattle.type_checks.specs.Known.{types_in, tree_in}
-use Rattle.type_infos.specs.BufferFaults.{BreaksStorage, IsBroken}
-use Rattle.type_infos.specs.declared.error.Disalignment.TheVariants as fault
+use Rattle.module_type_checks.specs.Known.{types_in, tree_in}
+use Rattle.module_type_infos.specs.BufferFaults.{BreaksStorage, IsBroken}
+use Rattle.module_type_infos.specs.declared.error.Disalignment.TheVariants as fault
 use Rattle.module_types.proofs.storage.check_storage_member.Goals as goal
 
 pub returns-in-Err : goal.returns-in-Err

@@ -4,11 +4,11 @@ use Rattle.ir_types.specs.Plain.{member_view}
 use Rattle.module_types.proofs.LayoutLaws.{struct_at, broken_here, bad_span, storage_struct}
 use Rattle.module_types.specs.Layouts.{StoragePart}
 use Rattle.typing_layout.specs.Flags.{HasFlag, HostShareable}
-use Rattle.type_checks.proofs.Places.{below_more, below_all}
-use Rattle.type_checks.specs.Known.{tree_in}
-use Rattle.type_checks.specs.Placed.{parts_in}
-use Rattle.type_infos.specs.BufferFaults.{BreaksStorage}
-use Rattle.type_infos.specs.declared.error.Disalignment.TheVariants as fault
+use Rattle.module_type_checks.proofs.Places.{below_more, below_all}
+use Rattle.module_type_checks.specs.Known.{tree_in}
+use Rattle.module_type_checks.specs.Placed.{parts_in}
+use Rattle.module_type_infos.specs.BufferFaults.{BreaksStorage}
+use Rattle.module_type_infos.specs.declared.error.Disalignment.TheVariants as fault
 use Rattle.module_types.proofs.storage.storage_of_struct.Goals as goal
 
 pub check_storage_member-requires-clause-own : goal.check_storage_member-requires-clause-own

@@ -1,8 +1,8 @@
 use Rattle.std.proofs.Common.{map, rules}
 use Rattle.ir_types.specs.Plain.{member_view}
 use Rattle.module_types.proofs.LayoutLaws.{broken_part}
-use Rattle.type_checks.specs.Known.{types_in, tree_in}
-use Rattle.type_infos.specs.BufferFaults.{BreaksUniform, IsBroken}
+use Rattle.module_type_checks.specs.Known.{types_in, tree_in}
+use Rattle.module_type_infos.specs.BufferFaults.{BreaksUniform, IsBroken}
 use Rattle.module_types.proofs.uniform.check_uniform_member.Goals as goal
 
 pub returns-in-Err : goal.returns-in-Err

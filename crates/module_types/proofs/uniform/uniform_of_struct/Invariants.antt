@@ -2,7 +2,7 @@
 use Rattle.std.proofs.Common.{map}
 use Rattle.ir_types.specs.Plain.{member_view}
 use Rattle.module_types.specs.Layouts.{UniformPart}
-use Rattle.type_checks.specs.Placed.{parts_in, Below}
+use Rattle.module_type_checks.specs.Placed.{parts_in, Below}
 use Rattle.module_types.proofs.uniform.uniform_of_struct.Given as goal
 
 abbrev pub invariant-loop-place : goal.invariant-loop-place

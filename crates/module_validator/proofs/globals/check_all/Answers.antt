@@ -1,5 +1,5 @@
 use Rattle.std.proofs.Common.{◌≡◌, sym, subst, arith}
-use Rattle.global_checks.proofs.Refuted.{fault_refutes}
+use Rattle.module_globals.proofs.Refuted.{fault_refutes}
 use Rattle.ir_items.specs.GlobalView.{global_view}
 use Rattle.module_constants.proofs.Told.{accepted_more, many_viewed}
 use Rattle.module_constants.specs.Known.{module_in}

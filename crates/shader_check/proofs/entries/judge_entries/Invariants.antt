@@ -1,5 +1,5 @@
 use Rattle.std.proofs.Common.{map}
-use Rattle.entry_checks.specs.Interfaces.{AreInterfacesKnown}
+use Rattle.function_entries.specs.Interfaces.{AreInterfacesKnown}
 use Rattle.function_validator.specs.Names.{AreNamesBelow}
 use Rattle.shader_check.specs.JudgedEntries.{AreEntriesJudged, note_of}
 use Rattle.shader_check.specs.Settings.{settings_in}

@@ -4,11 +4,11 @@ use Rattle.shader_check.specs.Settings.{settings_in}
 use Rattle.shader_check.specs.Validated.{IsFaultBehind, IsKeptWith, IsRefusedWith, IsValidationFault, module_settings}
 use Rattle.shader_check.specs.declared.error.ValidationError.TheVariants as error
 use Rattle.ir_items.specs.View.{module_view}
-use Rattle.module_info.specs.declared.info.ModuleInfo.{ModuleInfo}
+use Rattle.typing_infos.specs.declared.info.ModuleInfo.{ModuleInfo}
 use Rattle.module_handles.proofs.Whole.{order_gives_conditions}
 use Rattle.module_validator.specs.Faults.{IsModuleFault}
 use Rattle.module_validator.specs.Refusals.{IsVariableFault}
-use Rattle.real_lower.specs.Made.{IsMadeOf}
+use Rattle.function_real_lower.specs.Made.{IsMadeOf}
 use Rattle.spec_statements.specs.Functions.{FunctionSettings}
 use Rattle.shader_check.proofs.whole.judge.Goals as goal
 

@@ -1,7 +1,7 @@
 use Rattle.std.proofs.Common.{◌∙◌, List, length, map, sym, ap, subst}
 use Rattle.std.proofs.lemmas.List.{length-map}
-use Rattle.module_info.specs.Infos.{summary_of}
-use Rattle.module_info.specs.declared.function_info.FunctionInfo.{FunctionInfo}
+use Rattle.typing_infos.specs.Infos.{summary_of}
+use Rattle.typing_infos.specs.declared.function_info.FunctionInfo.{FunctionInfo}
 use Rattle.shader_check.proofs.Assembled.{entries_kept, entries_noted, entry_refused, run_so, told_by}
 use Rattle.shader_check.proofs.EntryHeld.{held_behind_functions}
 use Rattle.shader_check.proofs.FunctionKept.{kept, refused_by}
@@ -11,8 +11,8 @@ use Rattle.shader_check.specs.Settings.{settings_in}
 use Rattle.shader_check.specs.Validated.{AreEntriesKept, AreNoted, IsEntryFault, IsFaultBehind}
 use Rattle.shader_check.specs.declared.error.ValidationError.TheVariants as error
 use Rattle.ir_items.specs.View.{module_view}
-use Rattle.module_info.specs.declared.info.ModuleInfo.{ModuleInfo}
-use Rattle.real_lower.specs.Readings.{reading_of, faults_of}
+use Rattle.typing_infos.specs.declared.info.ModuleInfo.{ModuleInfo}
+use Rattle.function_real_lower.specs.Readings.{reading_of, faults_of}
 use Rattle.spec_analysis.specs.Summaries.{AreSummaries}
 use Rattle.shader_check.proofs.whole.judge_behind.Goals as goal
 

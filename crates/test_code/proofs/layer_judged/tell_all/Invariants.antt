@@ -1,5 +1,5 @@
 use Rattle.ir_items.specs.View.{module_view}
-use Rattle.tiny_lower.specs.Readings.{IsMadeOf}
+use Rattle.function_tiny_lower.specs.Readings.{IsMadeOf}
 use Rattle.test_code.proofs.layer_judged.tell_all.Given as goal
 
 -- the layer stays the one that was made for the module

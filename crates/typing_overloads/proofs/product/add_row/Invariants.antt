@@ -1,5 +1,5 @@
 use Rattle.std.proofs.Common.{◌≡◌, ◌++◌}
-use Rattle.overload_tables.specs.Tables.{row}
+use Rattle.typing_rules.specs.Tables.{row}
 use Rattle.constructor_sets.specs.Members.{scalars_in}
 use Rattle.typing_overloads.proofs.product.add_row.Given as goal
 

@@ -1,5 +1,5 @@
 use Rattle.std.proofs.Common.{◌≡◌, drop}
-use Rattle.overload_tables.specs.Tables.{table}
+use Rattle.typing_rules.specs.Tables.{table}
 use Rattle.spec_expressions.specs.Maths.{taking}
 use Rattle.typing_overloads.specs.Either.{any_rules}
 use Rattle.typing_resolve.proofs.maths.taking.Given as goal

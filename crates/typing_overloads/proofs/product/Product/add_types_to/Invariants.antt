@@ -1,5 +1,5 @@
 use Rattle.std.proofs.Common.{◌≡◌, ◌++◌}
-use Rattle.overload_tables.specs.Tables.{rules_over}
+use Rattle.typing_rules.specs.Tables.{rules_over}
 use Rattle.constructor_sets.specs.Members.{scalars_in}
 use Rattle.typing_overloads.specs.Products.{rules_of}
 use Rattle.typing_overloads.specs.Sets.{arguments_at}

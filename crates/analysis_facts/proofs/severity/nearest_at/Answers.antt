@@ -1,9 +1,0 @@
-use Rattle.ir_items.specs.GlobalView.{node_view}
-use Rattle.ir_walks.specs.Filters.{nodes_of}
-use Rattle.analysis_facts.proofs.Nearest.{plain_at, own_or_behind}
-use Rattle.analysis_facts.proofs.severity.nearest_at.Goals as goal
-
-pub returns : goal.returns
-returns c =
-    let at = plain_at node_view c.args.filters.now c.args.handle c.index-node.result.now c.index-node.ensures in
-    own_or_behind (nodes_of c.args.filters.now) c.requires.precede c.args.handle (node_view c.index-node.result.now) c.nearest_by.result c.own_or.result at c.nearest_by.ensures c.own_or.ensures

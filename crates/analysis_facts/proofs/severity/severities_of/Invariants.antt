@@ -1,8 +1,0 @@
--- What is known so far is that of the nodes before this one.
-use Rattle.std.proofs.Common.{◌≡◌, length}
-use Rattle.ir_walks.specs.Filters.{nodes_of}
-use Rattle.analysis_facts.specs.Nearest.{AreNearest}
-use Rattle.analysis_facts.proofs.severity.severities_of.Given as goal
-
-abbrev pub invariant-loop-index : goal.invariant-loop-index
-invariant-loop-index l = (length l.known.items ≡ l.index) × AreNearest (nodes_of l.filters) l.known.items

@@ -1,7 +1,0 @@
-use Rattle.std.proofs.Common.{◌≡◌, drop, map}
-use Rattle.spec_analysis.specs.Operands.{reads}
-use Rattle.analysis_tally.specs.Tallies.{counted, take_all}
-use Rattle.analysis_tally.proofs.counts.Counts.read_all.Given as goal
-
-abbrev pub invariant-loop-handle : goal.invariant-loop-handle
-invariant-loop-handle l = take_all l.globals (map reads (drop l.handle-index l.handles)) (counted l.self) ≡ take_all l.globals (map reads l.handles) (counted l.fn.self)

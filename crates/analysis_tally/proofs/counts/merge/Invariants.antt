@@ -1,7 +1,0 @@
--- What is joined with what the rest joins is what all join.
-use Rattle.std.proofs.Common.{◌≡◌, drop, length}
-use Rattle.analysis_tally.specs.Tallies.{merged_from}
-use Rattle.analysis_tally.proofs.counts.merge.Given as goal
-
-abbrev pub invariant-loop-index : goal.invariant-loop-index
-invariant-loop-index l = (merged_from l.index l.uses (drop l.index l.others) ≡ merged_from 0 l.fn.uses l.others) × (length l.uses ≡ length l.fn.uses)

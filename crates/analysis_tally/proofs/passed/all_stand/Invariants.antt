@@ -1,7 +1,0 @@
--- Of each argument before this number it is so.
-use Rattle.std.proofs.Common.{ℕ, ◌<◌}
-use Rattle.analysis_tally.specs.Parts.{Stands}
-use Rattle.analysis_tally.proofs.passed.all_stand.Given as goal
-
-abbrev pub invariant-loop-number : goal.invariant-loop-number
-invariant-loop-number l = (n : ℕ) → n < l.number → Stands l.marks l.parts n

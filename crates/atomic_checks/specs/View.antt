@@ -1,6 +1,0 @@
--- What is found of atomic operations, as plain data.
-use Rattle.atomic_checks.specs.declared.atomics.DeclaredAnswer.{DeclaredAnswer}
-use Rattle.spec_statements.specs.Atomics.{AtomicAnswer}
-
-abbrev pub answer_view : DeclaredAnswer → AtomicAnswer
-answer_view a = record { ty = a.ty; comparison = a.comparison }

@@ -1,9 +1,0 @@
-use Rattle.std.proofs.Common.{◌≡◌, drop}
-use Rattle.ir_items.specs.View.{function_view}
-use Rattle.body_checks.specs.Carried.{known, place_lacking}
-use Rattle.body_checks.proofs.operands.unknown_place.Given as goal
-
--- the first of the rest is the first of all
-abbrev pub invariant-loop-place : goal.invariant-loop-place
-invariant-loop-place l =
-    place_lacking (known (function_view l.function) l.scope) l.place (drop l.place l.arguments) ≡ place_lacking (known (function_view l.function) l.scope) 0 l.arguments

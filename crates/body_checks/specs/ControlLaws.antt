@@ -1,8 +1,0 @@
--- A fault refutes the rule.
-use Rattle.error_functions.specs.declared.error.FunctionError.{FunctionError}
-use Rattle.ir_blocks.specs.Control.{ControlOK}
-use Rattle.ir_blocks.specs.Plain.{PlainBlock}
-use Rattle.body_checks.specs.ControlFaults.{IsControlFault}
-
-abbrev pub FaultsRefute : Type 0
-FaultsRefute = (b : PlainBlock) (e : FunctionError) → IsControlFault b e → ControlOK b → ⊥

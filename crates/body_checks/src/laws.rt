@@ -1,8 +1,0 @@
-//! A law of the faults of scope.
-ghost use Rattle.body_checks.specs.Laws.{FaultsRefute};
-
-/// A function with a fault of scope uses what is not in scope, brings what is, answers by one expression twice, or answers where
-/// no answer is asked for.
-pub fn faults_refute()
-    ensures { FaultsRefute }
-{}

@@ -1,4 +1,0 @@
-use Rattle.entry_checks.proofs.known.KnownInterfaces.new.Goals as goal
-
-pub returns : goal.returns
-returns c = λ flags capabilities types. record { varyings = c.new.ensures flags capabilities types; meshes = c.new-2.ensures types }

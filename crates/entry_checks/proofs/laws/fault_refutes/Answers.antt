@@ -1,5 +1,0 @@
-use Rattle.entry_checks.proofs.Refuted.{connection_fault_refutes, payload_fault_refutes, stage_fault_refutes}
-use Rattle.entry_checks.proofs.laws.fault_refutes.Goals as goal
-
-pub returns : goal.returns
-returns c = record { stage = stage_fault_refutes; payload = payload_fault_refutes; connections = connection_fault_refutes }

@@ -1,6 +1,0 @@
--- The letters that were passed may stand where they do.
-use Rattle.expression_checks.specs.Letters.{StandBelow}
-use Rattle.expression_checks.proofs.compositions.are_components.Given as goal
-
-abbrev pub invariant-loop-place : goal.invariant-loop-place
-invariant-loop-place l = StandBelow l.size l.pattern l.of l.place

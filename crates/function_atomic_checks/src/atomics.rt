@@ -1,0 +1,495 @@
+//! Values in memory that are changed at once.
+
+ghost use Rattle.std.specs.Prelude.{◌≡◌, ◌↔◌, IsTrue, MatchResult, IfSome, Some, None, option_and_then, option_map, slice_get};
+ghost use Rattle.ir_types.specs.ExpressionPlain.{expression_view};
+ghost use Rattle.ir_types.specs.Plain.{inner_view};
+ghost use Rattle.function_atomic_checks.specs.Atomics.{IsWide, IsWideFault, IsFloatFault, IsScalarFault, IsPlainFault, IsExchangeFault, IsAnswerFault, IsChangeFault, IsAtomicFault};
+ghost use Rattle.function_atomic_checks.specs.View.{answer_view};
+ghost use Rattle.spec_statements.specs.ExpressionResults.{IsExchangeOf};
+ghost use Rattle.spec_handles.specs.Statements.{compared};
+ghost use Rattle.spec_statements.specs.Atomics.{atomic_of, changed_scalar, IsStorage, IsInStorage, IsKeptExtremum, WideOK, IsDoneWithFloats, FloatOK, ScalarAllows, declared_answer, AnswerOK, MayBeUnanswered, AtomicResultOK, IsChangedAtOnce, AtomicStatementOK};
+ghost use Rattle.spec_statements.specs.BlockContext.{form_at};
+ghost use Rattle.spec_statements.specs.StorageImages.{IsExtremum};
+ghost use Rattle.spec_statements.specs.Stores.{pointer_space};
+ghost use Rattle.typing_forms.specs.Resolutions.{inner_at};
+
+use bitflags::Flags;
+use typing_errors::{AtomicError, FunctionError};
+use module_expression_checks::exchanged_value;
+use ir_arena::handle::Handle;
+use ir_blocks::AtomicFunction;
+use ir_flags::Capabilities;
+use ir_kinds::{AddressSpace, Scalar};
+use ir_types::{Expression, TypeInner, key};
+use function_statement_checks::{StatementContext, are_same, pointer_space};
+use typing_forms::Form;
+
+// ---- what is changed
+
+// The scalar of an atomic, and the space in which it lies.
+#[derive(Clone, Copy)]
+struct Changed {
+    scalar: Scalar,
+    space: AddressSpace,
+}
+
+// The scalar of an atomic.
+const fn atomic_of(inner: &TypeInner) -> Option<Scalar>
+    ensures { result ≡ atomic_of (Some (inner_view inner.now)) }
+{
+    match *inner {
+        TypeInner::Atomic(scalar) => Some(scalar),
+        TypeInner::Scalar(_)
+        | TypeInner::Vector { .. }
+        | TypeInner::Matrix { .. }
+        | TypeInner::CooperativeMatrix { .. }
+        | TypeInner::Pointer { .. }
+        | TypeInner::ValuePointer { .. }
+        | TypeInner::Array { .. }
+        | TypeInner::Struct { .. }
+        | TypeInner::Image { .. }
+        | TypeInner::Sampler { .. }
+        | TypeInner::AccelerationStructure { .. }
+        | TypeInner::RayQuery { .. }
+        | TypeInner::BindingArray { .. } => None,
+    }
+}
+
+// The same of a type of the module.
+fn atomic_at<C: StatementContext>(context: &C, ty: Handle<key::IrType>) -> Option<Scalar>
+    ensures { result ≡ atomic_of (inner_at (C.seen context.now).m.types ty) }
+{
+    match context.inner_of(ty) {
+        Some(inner) => atomic_of(inner),
+        None => None,
+    }
+}
+
+// The atomic that a pointer leads to.
+fn changed_by<C: StatementContext>(context: &C, pointer: &Form) -> Option<Changed>
+    ensures scalar { option_map (λ x. x.scalar) result ≡ changed_scalar (C.seen context.now).m.types pointer.now }
+    ensures space { IfSome result (λ x. pointer_space pointer.now ≡ Some x.space) }
+{
+    match *pointer {
+        Form::Pointer { base, space } => match atomic_at(context, base) {
+            Some(scalar) => Some(Changed { scalar, space }),
+            None => None,
+        },
+        Form::Scalar(_)
+        | Form::Vector { .. }
+        | Form::Matrix { .. }
+        | Form::CooperativeMatrix { .. }
+        | Form::Atomic(_)
+        | Form::ValuePointer { .. }
+        | Form::Array { .. }
+        | Form::Struct(_)
+        | Form::Image { .. }
+        | Form::Sampler { .. }
+        | Form::AccelerationStructure { .. }
+        | Form::RayQuery { .. }
+        | Form::BindingArray { .. }
+        | Form::Nothing => None,
+    }
+}
+
+/// The scalar of the atomic that a pointer leads to.
+pub(crate) fn changed_scalar<C: StatementContext>(context: &C, pointer: &Form) -> Option<Scalar>
+    ensures { result ≡ changed_scalar (C.seen context.now).m.types pointer.now }
+{
+    match changed_by(context, pointer) {
+        Some(changed) => Some(changed.scalar),
+        None => None,
+    }
+}
+
+// ---- which scalars are changed how
+
+// Whether two scalars are the same.
+#[tactic(auto, using(crate::proofs::Scalars::same_scalar))]
+fn is_scalar(scalar: Scalar, other: Scalar) -> bool
+    ensures { IsTrue result ↔ (scalar ≡ other) }
+{
+    are_same(Form::Scalar(scalar), Form::Scalar(other))
+}
+
+// Whether a scalar is an integer of eight bytes.
+fn is_wide(scalar: Scalar) -> bool
+    ensures { IsTrue result ↔ IsWide scalar }
+{
+    is_scalar(scalar, Scalar::I64) || is_scalar(scalar, Scalar::U64)
+}
+
+// Whether a space is that of storage buffers.
+const fn is_storage(space: AddressSpace) -> bool
+    ensures { IsTrue result ↔ IsStorage space }
+{
+    match space {
+        AddressSpace::Storage { .. } => true,
+        AddressSpace::Function
+        | AddressSpace::Private
+        | AddressSpace::WorkGroup
+        | AddressSpace::Uniform
+        | AddressSpace::Handle
+        | AddressSpace::Immediate
+        | AddressSpace::TaskPayload
+        | AddressSpace::RayPayload
+        | AddressSpace::IncomingRayPayload => false,
+    }
+}
+
+// Whether a pointer leads into a storage buffer.
+fn is_in_storage(pointer: &Form) -> bool
+    ensures { IsTrue result ↔ IsInStorage pointer.now }
+{
+    match pointer_space(*pointer) {
+        Some(space) => is_storage(space),
+        None => false,
+    }
+}
+
+/// Whether what stays is the least or the greatest.
+pub(crate) const fn is_extremum(fun: &AtomicFunction) -> bool
+    ensures { IsTrue result ↔ IsExtremum fun.now }
+{
+    match *fun {
+        AtomicFunction::Min | AtomicFunction::Max => true,
+        AtomicFunction::Add
+        | AtomicFunction::Subtract
+        | AtomicFunction::And
+        | AtomicFunction::ExclusiveOr
+        | AtomicFunction::InclusiveOr
+        | AtomicFunction::Exchange { .. } => false,
+    }
+}
+
+// Whether what stays in a storage buffer is the least or the greatest, and nothing is answered.
+fn is_kept_extremum(
+    pointer: &Form,
+    fun: &AtomicFunction,
+    answer: &Option<Handle<key::Expression>>,
+) -> bool
+    ensures { IsTrue result ↔ IsKeptExtremum pointer.now fun.now answer.now }
+{
+    is_extremum(fun) && is_in_storage(pointer) && answer.is_none()
+}
+
+// Whether an integer of eight bytes may be changed so.
+fn check_wide(
+    capabilities: Capabilities,
+    pointer: &Form,
+    fun: &AtomicFunction,
+    answer: &Option<Handle<key::Expression>>,
+) -> Result<(), AtomicError>
+    ensures { MatchResult result
+        (λ _. WideOK capabilities pointer.now fun.now answer.now)
+        (IsWideFault capabilities pointer.now fun.now answer.now) }
+{
+    if capabilities.contains(Capabilities::SHADER_INT64_ATOMIC_ALL_OPS) {
+        return Ok(());
+    }
+    if !is_kept_extremum(pointer, fun, answer) {
+        return Err(AtomicError::MissingCapability(Capabilities::SHADER_INT64_ATOMIC_ALL_OPS));
+    }
+    if !capabilities.contains(Capabilities::SHADER_INT64_ATOMIC_MIN_MAX) {
+        return Err(AtomicError::MissingCapability(Capabilities::SHADER_INT64_ATOMIC_MIN_MAX));
+    }
+    Ok(())
+}
+
+// Whether this is done with floats.
+const fn is_done_with_floats(fun: &AtomicFunction) -> bool
+    ensures { IsTrue result ↔ IsDoneWithFloats fun.now }
+{
+    match *fun {
+        AtomicFunction::Add | AtomicFunction::Subtract => true,
+        AtomicFunction::Exchange { compare } => match compare {
+            Some(_) => false,
+            None => true,
+        },
+        AtomicFunction::And
+        | AtomicFunction::ExclusiveOr
+        | AtomicFunction::InclusiveOr
+        | AtomicFunction::Min
+        | AtomicFunction::Max => false,
+    }
+}
+
+// Whether a float of four bytes in a space may be changed so.
+fn check_float(
+    capabilities: Capabilities,
+    pointer: &Form,
+    space: AddressSpace,
+    fun: &AtomicFunction,
+) -> Result<(), AtomicError>
+    requires { pointer_space pointer.now ≡ Some space }
+    ensures { MatchResult result
+        (λ _. FloatOK capabilities pointer.now fun.now)
+        (IsFloatFault capabilities pointer.now fun.now) }
+{
+    if !capabilities.contains(Capabilities::SHADER_FLOAT32_ATOMIC) {
+        return Err(AtomicError::MissingCapability(Capabilities::SHADER_FLOAT32_ATOMIC));
+    }
+    if !is_done_with_floats(fun) {
+        return Err(AtomicError::InvalidOperator(*fun));
+    }
+    if !is_in_storage(pointer) {
+        return Err(AtomicError::InvalidAddressSpace(space));
+    }
+    Ok(())
+}
+
+// Whether the scalar of an atomic may be changed so.
+#[tactic(auto, using(crate::proofs::Scalars::wide_allows, crate::proofs::Scalars::float_allows, crate::proofs::Scalars::others_allow))]
+fn check_scalar(
+    capabilities: Capabilities,
+    pointer: &Form,
+    changed: Changed,
+    fun: &AtomicFunction,
+    answer: &Option<Handle<key::Expression>>,
+) -> Result<(), AtomicError>
+    requires { pointer_space pointer.now ≡ Some changed.space }
+    ensures { MatchResult result
+        (λ _. ScalarAllows capabilities changed.scalar pointer.now fun.now answer.now)
+        (IsScalarFault capabilities changed.scalar pointer.now fun.now answer.now) }
+{
+    if is_wide(changed.scalar) {
+        return match check_wide(capabilities, pointer, fun, answer) {
+            Ok(()) => Ok(()),
+            Err(error) => Err(error),
+        };
+    }
+    if is_scalar(changed.scalar, Scalar::F32) {
+        return match check_float(capabilities, pointer, changed.space, fun) {
+            Ok(()) => Ok(()),
+            Err(error) => Err(error),
+        };
+    }
+    Ok(())
+}
+
+// ---- what is answered
+
+// What the answer of an atomic operation declares.
+#[derive(Clone, Copy)]
+struct DeclaredAnswer {
+    ty: Handle<key::IrType>,
+    comparison: bool,
+}
+
+// What the answer that an expression is declares.
+fn declared_answer(expression: &Expression) -> Option<DeclaredAnswer>
+    ensures { option_map answer_view result ≡ declared_answer (expression_view expression.now) }
+{
+    match *expression {
+        Expression::AtomicResult { ty, comparison } => Some(DeclaredAnswer { ty, comparison }),
+        _ => None,
+    }
+}
+
+// The same of the expression at a handle.
+fn declared_at<C: StatementContext>(
+    context: &C,
+    handle: Handle<key::Expression>,
+) -> Option<DeclaredAnswer>
+    ensures { option_map answer_view result ≡ option_and_then declared_answer (slice_get (C.seen context.now).f.expressions handle) }
+{
+    match context.expression_at(handle) {
+        Some(expression) => declared_answer(expression),
+        None => None,
+    }
+}
+
+// Whether what an exchange that compares answers has this scalar.
+fn is_exchange_of<C: StatementContext>(context: &C, ty: Handle<key::IrType>, scalar: Scalar) -> bool
+    ensures { IsTrue result
+        ↔ IsExchangeOf (λ old. old ≡ Form.Scalar scalar) (C.seen context.now).m.types (inner_at (C.seen context.now).m.types ty) }
+{
+    match exchanged_value(context.types(), ty) {
+        Some(old) => are_same(old, Form::Scalar(scalar)),
+        None => false,
+    }
+}
+
+// Whether the answer is the scalar that was there.
+fn check_plain<C: StatementContext>(
+    context: &C,
+    scalar: Scalar,
+    answer: Handle<key::Expression>,
+    declared: &DeclaredAnswer,
+) -> Result<(), AtomicError>
+    ensures { MatchResult result
+        (λ _. AnswerOK (C.seen context.now) scalar None (answer_view declared.now))
+        (IsPlainFault (C.seen context.now) scalar answer (answer_view declared.now)) }
+{
+    if !are_same(context.form_of(declared.ty), Form::Scalar(scalar)) {
+        return Err(AtomicError::ResultTypeMismatch(answer));
+    }
+    if declared.comparison {
+        return Err(AtomicError::ResultExpressionExchange(answer));
+    }
+    Ok(())
+}
+
+// Whether the answer is the scalar that was there, and whether it was replaced.
+fn check_exchange<C: StatementContext>(
+    context: &C,
+    scalar: Scalar,
+    compare: Handle<key::Expression>,
+    answer: Handle<key::Expression>,
+    declared: &DeclaredAnswer,
+) -> Result<(), AtomicError>
+    ensures { MatchResult result
+        (λ _. AnswerOK (C.seen context.now) scalar (Some compare) (answer_view declared.now))
+        (IsExchangeFault (C.seen context.now) scalar compare answer (answer_view declared.now)) }
+{
+    if !are_same(context.form_at(compare), Form::Scalar(scalar)) {
+        return Err(AtomicError::InvalidOperand(compare));
+    }
+    if !is_exchange_of(context, declared.ty, scalar) {
+        return Err(AtomicError::ResultTypeMismatch(answer));
+    }
+    if !declared.comparison {
+        return Err(AtomicError::ResultExpressionNotExchange(answer));
+    }
+    Ok(())
+}
+
+// What a value is compared with before it is replaced.
+const fn compared(fun: &AtomicFunction) -> Option<Handle<key::Expression>>
+    ensures { result ≡ compared fun.now }
+{
+    match *fun {
+        AtomicFunction::Exchange { compare } => compare,
+        AtomicFunction::Add
+        | AtomicFunction::Subtract
+        | AtomicFunction::And
+        | AtomicFunction::ExclusiveOr
+        | AtomicFunction::InclusiveOr
+        | AtomicFunction::Min
+        | AtomicFunction::Max => None,
+    }
+}
+
+// Whether nothing need be answered.
+const fn may_be_unanswered(fun: &AtomicFunction) -> bool
+    ensures { IsTrue result ↔ MayBeUnanswered fun.now }
+{
+    match *fun {
+        AtomicFunction::Exchange { compare } => match compare {
+            Some(_) => true,
+            None => false,
+        },
+        AtomicFunction::Add
+        | AtomicFunction::Subtract
+        | AtomicFunction::And
+        | AtomicFunction::ExclusiveOr
+        | AtomicFunction::InclusiveOr
+        | AtomicFunction::Min
+        | AtomicFunction::Max => true,
+    }
+}
+
+// Whether an expression is the answer of this.
+fn check_result<C: StatementContext>(
+    context: &C,
+    scalar: Scalar,
+    fun: &AtomicFunction,
+    answer: Handle<key::Expression>,
+) -> Result<(), AtomicError>
+    ensures { MatchResult result
+        (λ _. AtomicResultOK (C.seen context.now) scalar fun.now (Some answer))
+        (IsAnswerFault (C.seen context.now) scalar fun.now (Some answer)) }
+{
+    match declared_at(context, answer) {
+        None => Err(AtomicError::InvalidResultExpression(answer)),
+        Some(declared) => match compared(fun) {
+            None => match check_plain(context, scalar, answer, &declared) {
+                Ok(()) => Ok(()),
+                Err(error) => Err(error),
+            },
+            Some(compare) => match check_exchange(context, scalar, compare, answer, &declared) {
+                Ok(()) => Ok(()),
+                Err(error) => Err(error),
+            },
+        },
+    }
+}
+
+// Whether this is answered so.
+fn check_answer<C: StatementContext>(
+    context: &C,
+    scalar: Scalar,
+    fun: &AtomicFunction,
+    answer: &Option<Handle<key::Expression>>,
+) -> Result<(), AtomicError>
+    ensures { MatchResult result
+        (λ _. AtomicResultOK (C.seen context.now) scalar fun.now answer.now)
+        (IsAnswerFault (C.seen context.now) scalar fun.now answer.now) }
+{
+    match *answer {
+        Some(answer) => check_result(context, scalar, fun, answer),
+        None => {
+            if may_be_unanswered(fun) {
+                Ok(())
+            } else {
+                Err(AtomicError::MissingReturnValue)
+            }
+        }
+    }
+}
+
+// ---- the whole
+
+// Whether the scalar of an atomic is changed by a value.
+fn check_change<C: StatementContext>(
+    context: &C,
+    pointer: Handle<key::Expression>,
+    changed: Changed,
+    fun: &AtomicFunction,
+    value: Handle<key::Expression>,
+    answer: &Option<Handle<key::Expression>>,
+) -> Result<(), AtomicError>
+    requires { pointer_space (form_at (C.seen context.now) pointer) ≡ Some changed.space }
+    ensures { MatchResult result
+        (λ _. IsChangedAtOnce (C.seen context.now) pointer fun.now value answer.now changed.scalar)
+        (IsChangeFault (C.seen context.now) pointer fun.now value answer.now changed.scalar) }
+{
+    if !are_same(context.form_at(value), Form::Scalar(changed.scalar)) {
+        return Err(AtomicError::InvalidOperand(value));
+    }
+    let place = context.form_at(pointer);
+    match check_scalar(context.capabilities(), &place, changed, fun, answer) {
+        Err(error) => Err(error),
+        Ok(()) => match check_answer(context, changed.scalar, fun, answer) {
+            Ok(()) => Ok(()),
+            Err(error) => Err(error),
+        },
+    }
+}
+
+/// Whether an atomic may be changed so: the pointer leads to one, the value and what it is compared with are of its scalar, the
+/// scalar allows it, and it is answered by an `AtomicResult` of that scalar, or of what an exchange that compares answers.
+///
+/// # Errors
+///
+/// [`FunctionError::InvalidAtomic`] with what of this is not so.
+pub fn check_atomic<C: StatementContext>(
+    context: &C,
+    pointer: Handle<key::Expression>,
+    fun: AtomicFunction,
+    value: Handle<key::Expression>,
+    answer: Option<Handle<key::Expression>>,
+) -> Result<(), FunctionError>
+    ensures { MatchResult result
+        (λ _. AtomicStatementOK (C.seen context.now) pointer fun value answer)
+        (IsAtomicFault (C.seen context.now) pointer fun value answer) }
+{
+    let place = context.form_at(pointer);
+    match changed_by(context, &place) {
+        None => Err(FunctionError::InvalidAtomic(AtomicError::InvalidPointer(pointer))),
+        Some(changed) => match check_change(context, pointer, changed, &fun, value, &answer) {
+            Ok(()) => Ok(()),
+            Err(error) => Err(FunctionError::InvalidAtomic(error)),
+        },
+    }
+}

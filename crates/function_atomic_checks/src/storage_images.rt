@@ -1,0 +1,589 @@
+//! Texels that are written, and texels that are changed at once.
+
+ghost use Rattle.std.specs.Prelude.{◌≡◌, ◌↔◌, IsTrue, MatchResult, MatchOption, IfOk, Some, option_and_then, option_map};
+ghost use Rattle.ir_kinds.specs.declared.images.StorageFormat.TheVariants.{R32Sint, R32Uint, R64Uint};
+ghost use Rattle.ir_types.specs.Plain.{inner_view, plain};
+ghost use Rattle.ir_types.specs.declared.types.TypeInner.TheVariants.{Image, ValuePointer};
+ghost use Rattle.function_atomic_checks.specs.StorageImages.{IsElementFault, IsWrittenImageFault, IsChangedImageFault, IsTexelFault, format_of, IsPlaceFault, IsMisfit, matrix_inner, inner_of_form, IsValueFault, IsImageStoreRefusal, IsFormatFault, IsStorageFault, IsChangeFault, IsImageAtomicFault};
+ghost use Rattle.spec_statements.specs.ImageLoads.{IsTexel};
+ghost use Rattle.spec_statements.specs.Shapes.{picture_of};
+ghost use Rattle.spec_statements.specs.BlockContext.{form_at};
+ghost use Rattle.spec_statements.specs.StorageImages.{resource_of, written_image, picture_in, changed_image, IsTexelOf, ImageStoreOK, IsDoneAtTexels, FormatAllows, IsChangedBy, IsChanged, ImageAtomicOK};
+ghost use Rattle.typing_forms.specs.Forms.{form_of_type};
+ghost use Rattle.typing_forms.specs.Resolutions.{inner_at};
+
+use crate::atomics::is_extremum;
+use bitflags::Flags;
+use typing_errors::{ExpressionError, FunctionError};
+use expression_validator::is_texel;
+use ir_arena::handle::Handle;
+use ir_blocks::AtomicFunction;
+use ir_faults::refusal::Refusal;
+use ir_faults::with_span::WithSpan;
+use ir_flags::{Capabilities, StorageAccess};
+use ir_kinds::{AddressSpace, ImageClass, ImageDimension, Scalar, StorageFormat, VectorSize};
+use ir_types::{TypeInner, key};
+use spec_statements::Picture;
+use function_statement_checks::{
+    StatementContext, accessed_at, are_same, is_integer_scalar, named_at, picture_of, variable_at,
+};
+use std::alloc::{AllocError, Global};
+use typing_forms::Form;
+
+// ---- the image
+
+// The type of the resources of an array of such.
+const fn resource_of(of: Form) -> Option<Handle<key::IrType>>
+    ensures { result ≡ resource_of of }
+{
+    match of {
+        Form::BindingArray { base, .. } => Some(base),
+        Form::Scalar(_)
+        | Form::Vector { .. }
+        | Form::Matrix { .. }
+        | Form::CooperativeMatrix { .. }
+        | Form::Atomic(_)
+        | Form::Pointer { .. }
+        | Form::ValuePointer { .. }
+        | Form::Array { .. }
+        | Form::Struct(_)
+        | Form::Image { .. }
+        | Form::Sampler { .. }
+        | Form::AccelerationStructure { .. }
+        | Form::RayQuery { .. }
+        | Form::Nothing => None,
+    }
+}
+
+// The image of which the elements of a type are.
+fn written_element<C: StatementContext>(
+    context: &C,
+    ty: Handle<key::IrType>,
+) -> Result<Picture, ExpressionError>
+    ensures { MatchResult result
+        (λ picture. option_and_then (λ r. picture_of (form_of_type (C.seen context.now).m.types r)) (resource_of (form_of_type (C.seen context.now).m.types ty)) ≡ Some picture)
+        (IsElementFault (C.seen context.now).m.types ty) }
+{
+    match resource_of(context.form_of(ty)) {
+        None => Err(ExpressionError::ExpectedBindingArrayType(ty)),
+        Some(resource) => match picture_of(context.form_of(resource)) {
+            Some(picture) => Ok(picture),
+            None => Err(ExpressionError::ExpectedImageType(ty)),
+        },
+    }
+}
+
+// The image that is written: a global variable, or an element of an array of images.
+fn written_image<C: StatementContext>(
+    context: &C,
+    image: Handle<key::Expression>,
+) -> Result<Picture, ExpressionError>
+    ensures { MatchResult result
+        (λ picture. written_image (C.seen context.now).m (C.seen context.now).f image ≡ Some picture)
+        (IsWrittenImageFault (C.seen context.now) image) }
+{
+    match variable_at(context, image) {
+        Some(variable) => match picture_of(context.form_of(variable.ty)) {
+            Some(picture) => Ok(picture),
+            None => Err(ExpressionError::ExpectedImageType(variable.ty)),
+        },
+        None => match accessed_at(context, image) {
+            Some(variable) => match written_element(context, variable.ty) {
+                Ok(picture) => Ok(picture),
+                Err(error) => Err(error),
+            },
+            None => Err(ExpressionError::ExpectedGlobalVariable),
+        },
+    }
+}
+
+// The image that a type is, or an array of such.
+fn picture_in<C: StatementContext>(context: &C, ty: Handle<key::IrType>) -> Option<Picture>
+    ensures { result ≡ picture_in (C.seen context.now).m.types (form_of_type (C.seen context.now).m.types ty) (resource_of (form_of_type (C.seen context.now).m.types ty)) }
+{
+    match resource_of(context.form_of(ty)) {
+        Some(resource) => picture_of(context.form_of(resource)),
+        None => picture_of(context.form_of(ty)),
+    }
+}
+
+// The image whose texels are changed at once.
+fn changed_image<C: StatementContext>(
+    context: &C,
+    image: Handle<key::Expression>,
+) -> Result<Picture, ExpressionError>
+    ensures { MatchResult result
+        (λ picture. changed_image (C.seen context.now).m (C.seen context.now).f image ≡ Some picture)
+        (IsChangedImageFault (C.seen context.now) image) }
+{
+    match named_at(context, image) {
+        Some(variable) => match picture_in(context, variable.ty) {
+            Some(picture) => Ok(picture),
+            None => Err(ExpressionError::ExpectedImageType(variable.ty)),
+        },
+        None => Err(ExpressionError::ExpectedGlobalVariable),
+    }
+}
+
+// ---- the texel
+
+// Whether a texel with a number each way has a layer exactly where the image has several.
+fn check_layer<C: StatementContext>(
+    context: &C,
+    picture: &Picture,
+    coordinate: Handle<key::Expression>,
+    array_index: &Option<Handle<key::Expression>>,
+) -> Result<(), ExpressionError>
+    requires { IsTexel picture.now.dim (form_at (C.seen context.now) coordinate) }
+    ensures { MatchResult result
+        (λ _. IsTexelOf (C.seen context.now) picture.now coordinate array_index.now)
+        (IsTexelFault (C.seen context.now) picture.now coordinate array_index.now) }
+{
+    match *array_index {
+        Some(layer) => {
+            if !picture.arrayed {
+                return Err(ExpressionError::InvalidImageArrayIndex);
+            }
+            if !is_integer_scalar(context.form_at(layer)) {
+                return Err(ExpressionError::InvalidImageArrayIndexType(layer));
+            }
+            Ok(())
+        }
+        None => {
+            if picture.arrayed {
+                return Err(ExpressionError::InvalidImageArrayIndex);
+            }
+            Ok(())
+        }
+    }
+}
+
+// Whether an image has a texel there.
+fn check_texel<C: StatementContext>(
+    context: &C,
+    picture: &Picture,
+    coordinate: Handle<key::Expression>,
+    array_index: &Option<Handle<key::Expression>>,
+) -> Result<(), ExpressionError>
+    ensures { MatchResult result
+        (λ _. IsTexelOf (C.seen context.now) picture.now coordinate array_index.now)
+        (IsTexelFault (C.seen context.now) picture.now coordinate array_index.now) }
+{
+    let place = context.form_at(coordinate);
+    if !is_texel(picture.dim, &place) {
+        return Err(ExpressionError::InvalidImageCoordinateType(picture.dim, coordinate));
+    }
+    check_layer(context, picture, coordinate, array_index)
+}
+
+// ---- what is written
+
+// The format of a storage image.
+const fn format_of(class: ImageClass) -> Option<StorageFormat>
+    ensures { result ≡ format_of class }
+{
+    match class {
+        ImageClass::Storage { format, .. } => Some(format),
+        ImageClass::Sampled { .. } | ImageClass::Depth { .. } | ImageClass::External => None,
+    }
+}
+
+// Whether a texel is written where an image has one. The answer is the image's format, where the value is no texel of it.
+#[tactic(auto, using(crate::proofs::Formats::texel_written))]
+fn check_written<C: StatementContext>(
+    context: &C,
+    image: Handle<key::Expression>,
+    coordinate: Handle<key::Expression>,
+    array_index: &Option<Handle<key::Expression>>,
+    value: Handle<key::Expression>,
+) -> Result<Option<StorageFormat>, ExpressionError>
+    ensures { MatchResult result
+        (λ other. MatchOption other (ImageStoreOK (C.seen context.now) image coordinate array_index.now value) (IsMisfit (C.seen context.now) image value))
+        (IsPlaceFault (C.seen context.now) image coordinate array_index.now) }
+{
+    match written_image(context, image) {
+        Err(error) => Err(error),
+        Ok(picture) => match format_of(picture.class) {
+            None => Err(ExpressionError::InvalidImageClass(picture.class)),
+            Some(format) => match check_texel(context, &picture, coordinate, array_index) {
+                Err(error) => Err(error),
+                Ok(()) => {
+                    let texel = Form::Vector {
+                        size: VectorSize::Quad,
+                        scalar: Scalar::from(format),
+                    };
+                    if are_same(context.form_at(value), texel) {
+                        Ok(None)
+                    } else {
+                        Ok(Some(format))
+                    }
+                }
+            },
+        },
+    }
+}
+
+// ---- types of values, as they are told
+
+// What a matrix of either kind is made of.
+const fn matrix_inner(of: &Form) -> Option<TypeInner>
+    ensures { option_map inner_view result ≡ matrix_inner of.now }
+{
+    match *of {
+        Form::Matrix {
+            columns,
+            rows,
+            scalar,
+        } => Some(TypeInner::Matrix {
+            columns,
+            rows,
+            scalar,
+        }),
+        Form::CooperativeMatrix {
+            columns,
+            rows,
+            scalar,
+            role,
+        } => Some(TypeInner::CooperativeMatrix {
+            columns,
+            rows,
+            scalar,
+            role,
+        }),
+        Form::Scalar(_)
+        | Form::Vector { .. }
+        | Form::Atomic(_)
+        | Form::Pointer { .. }
+        | Form::ValuePointer { .. }
+        | Form::Array { .. }
+        | Form::Struct(_)
+        | Form::Image { .. }
+        | Form::Sampler { .. }
+        | Form::AccelerationStructure { .. }
+        | Form::RayQuery { .. }
+        | Form::BindingArray { .. }
+        | Form::Nothing => None,
+    }
+}
+
+// What a pointer to a scalar or a vector is made of.
+const fn value_pointer_inner(
+    size: Option<VectorSize>,
+    scalar: Scalar,
+    space: AddressSpace,
+) -> TypeInner
+    ensures { inner_view result ≡ plain (ValuePointer size scalar space) }
+{
+    TypeInner::ValuePointer {
+        size,
+        scalar,
+        space,
+    }
+}
+
+// What an image is made of.
+const fn image_inner(dim: ImageDimension, arrayed: bool, class: ImageClass) -> TypeInner
+    ensures { inner_view result ≡ plain (Image dim arrayed class) }
+{
+    TypeInner::Image {
+        dim,
+        arrayed,
+        class,
+    }
+}
+
+// What the type at a handle is made of, in memory of its own.
+fn copied_inner<C: StatementContext>(
+    alloc: Global,
+    context: &C,
+    ty: Handle<key::IrType>,
+) -> Result<Option<TypeInner>, AllocError>
+    ensures { IfOk result (λ found. option_map inner_view found ≡ inner_at (C.seen context.now).m.types ty) }
+{
+    match context.inner_of(ty) {
+        Some(inner) => match inner.clone(alloc) {
+            Ok(copy) => Ok(Some(copy)),
+            Err(error) => Err(error),
+        },
+        None => Ok(None),
+    }
+}
+
+// What a type is made of, in memory of its own, if it is one.
+fn inner_of_form<C: StatementContext>(
+    alloc: Global,
+    context: &C,
+    of: &Form,
+) -> Result<Option<TypeInner>, AllocError>
+    ensures { IfOk result (λ found. option_map inner_view found ≡ inner_of_form (C.seen context.now).m.types of.now) }
+{
+    match *of {
+        Form::Struct(handle) => copied_inner(alloc, context, handle),
+        Form::Scalar(scalar) => Ok(Some(TypeInner::Scalar(scalar))),
+        Form::Vector { size, scalar } => Ok(Some(TypeInner::Vector { size, scalar })),
+        Form::Atomic(scalar) => Ok(Some(TypeInner::Atomic(scalar))),
+        Form::Pointer { base, space } => Ok(Some(TypeInner::Pointer { base, space })),
+        Form::Array { base, size, stride } => Ok(Some(TypeInner::Array { base, size, stride })),
+        Form::Sampler { comparison } => Ok(Some(TypeInner::Sampler { comparison })),
+        Form::AccelerationStructure { vertex_return } => Ok(Some(TypeInner::AccelerationStructure {
+            vertex_return,
+        })),
+        Form::RayQuery { vertex_return } => Ok(Some(TypeInner::RayQuery { vertex_return })),
+        Form::BindingArray { base, size } => Ok(Some(TypeInner::BindingArray { base, size })),
+        Form::ValuePointer {
+            size,
+            scalar,
+            space,
+        } => Ok(Some(value_pointer_inner(size, scalar, space))),
+        Form::Image {
+            dim,
+            arrayed,
+            class,
+        } => Ok(Some(image_inner(dim, arrayed, class))),
+        Form::Matrix { .. } | Form::CooperativeMatrix { .. } => Ok(matrix_inner(of)),
+        Form::Nothing => Ok(None),
+    }
+}
+
+// That a value is no texel of a format.
+fn value_error<C: StatementContext>(
+    alloc: Global,
+    context: &C,
+    value: Handle<key::Expression>,
+    format: StorageFormat,
+) -> Result<FunctionError, AllocError>
+    ensures { IfOk result (IsValueFault (C.seen context.now) value format) }
+{
+    let of = context.form_at(value);
+    match inner_of_form(alloc, context, &of) {
+        Ok(Some(actual_ty)) => Ok(FunctionError::InvalidStoreValue {
+            actual: value,
+            actual_ty,
+            expected_ty: TypeInner::Vector {
+                size: VectorSize::Quad,
+                scalar: Scalar::from(format),
+            },
+        }),
+        Ok(None) => Ok(FunctionError::InvalidImageStore(ExpressionError::Other)),
+        Err(error) => Err(error),
+    }
+}
+
+/// Whether a texel may be written: in a storage image, which is a global variable or an element of an array of images, where it
+/// has one, and of the image's format.
+///
+/// # Errors
+///
+/// [`FunctionError::InvalidImageStore`] where no image may be written so: it is no global variable, no array of bindings, no
+/// image, of another class, or has no such texel. [`FunctionError::InvalidStoreValue`] where the value is no texel of the format;
+/// one that has no type is refused as [`ExpressionError::Other`]. [`Refusal::Memory`] where there is none to tell of what type
+/// the value is.
+#[tactic(auto, using(crate::proofs::Refusals::refused_by))]
+pub fn check_image_store<C: StatementContext>(
+    alloc: Global,
+    context: &C,
+    image: Handle<key::Expression>,
+    coordinate: Handle<key::Expression>,
+    array_index: Option<Handle<key::Expression>>,
+    value: Handle<key::Expression>,
+) -> Result<(), Refusal<FunctionError>>
+    ensures { MatchResult result
+        (λ _. ImageStoreOK (C.seen context.now) image coordinate array_index value)
+        (IsImageStoreRefusal (C.seen context.now) image coordinate array_index value) }
+{
+    match check_written(context, image, coordinate, &array_index, value) {
+        Ok(None) => Ok(()),
+        Ok(Some(format)) => match value_error(alloc, context, value, format) {
+            Ok(error) => Err(Refusal::Fault(WithSpan::new(alloc, error))),
+            Err(error) => Err(Refusal::Memory(error)),
+        },
+        Err(error) => Err(Refusal::Fault(WithSpan::new(
+            alloc,
+            FunctionError::InvalidImageStore(error),
+        ))),
+    }
+}
+
+// ---- texels that are changed at once
+
+// Whether this is done at texels.
+const fn is_done_at_texels(fun: &AtomicFunction) -> bool
+    ensures { IsTrue result ↔ IsDoneAtTexels fun.now }
+{
+    match *fun {
+        AtomicFunction::Add
+        | AtomicFunction::And
+        | AtomicFunction::ExclusiveOr
+        | AtomicFunction::InclusiveOr
+        | AtomicFunction::Min
+        | AtomicFunction::Max => true,
+        AtomicFunction::Subtract | AtomicFunction::Exchange { .. } => false,
+    }
+}
+
+// Whether texels of eight bytes may be changed so.
+#[tactic(auto, using(crate::proofs::Formats::wide_allowed))]
+fn check_wide(capabilities: Capabilities, fun: &AtomicFunction) -> Result<(), FunctionError>
+    ensures { MatchResult result (λ _. FormatAllows capabilities fun.now R64Uint) (IsFormatFault capabilities fun.now R64Uint) }
+{
+    if !capabilities.contains(Capabilities::TEXTURE_INT64_ATOMIC) {
+        return Err(FunctionError::MissingCapability(Capabilities::TEXTURE_INT64_ATOMIC));
+    }
+    if !is_extremum(fun) {
+        return Err(FunctionError::InvalidImageAtomicFunction(*fun));
+    }
+    Ok(())
+}
+
+// Whether texels of four bytes may be changed so.
+#[tactic(auto, using(crate::proofs::Formats::unsigned_allowed, crate::proofs::Formats::signed_allowed))]
+fn check_narrow(capabilities: Capabilities, fun: &AtomicFunction) -> Result<(), FunctionError>
+    ensures unsigned { MatchResult result (λ _. FormatAllows capabilities fun.now R32Uint) (IsFormatFault capabilities fun.now R32Uint) }
+    ensures signed { MatchResult result (λ _. FormatAllows capabilities fun.now R32Sint) (IsFormatFault capabilities fun.now R32Sint) }
+{
+    if !capabilities.contains(Capabilities::TEXTURE_ATOMIC) {
+        return Err(FunctionError::MissingCapability(Capabilities::TEXTURE_ATOMIC));
+    }
+    if !is_done_at_texels(fun) {
+        return Err(FunctionError::InvalidImageAtomicFunction(*fun));
+    }
+    Ok(())
+}
+
+// Whether texels of a format may be changed so.
+fn check_format(
+    capabilities: Capabilities,
+    format: StorageFormat,
+    fun: &AtomicFunction,
+) -> Result<(), FunctionError>
+    ensures { MatchResult result
+        (λ _. FormatAllows capabilities fun.now format)
+        (IsFormatFault capabilities fun.now format) }
+{
+    match format {
+        StorageFormat::R64Uint => check_wide(capabilities, fun),
+        StorageFormat::R32Uint | StorageFormat::R32Sint => check_narrow(capabilities, fun),
+        StorageFormat::R8Unorm
+        | StorageFormat::R8Snorm
+        | StorageFormat::R8Uint
+        | StorageFormat::R8Sint
+        | StorageFormat::R16Uint
+        | StorageFormat::R16Sint
+        | StorageFormat::R16Float
+        | StorageFormat::Rg8Unorm
+        | StorageFormat::Rg8Snorm
+        | StorageFormat::Rg8Uint
+        | StorageFormat::Rg8Sint
+        | StorageFormat::R32Float
+        | StorageFormat::Rg16Uint
+        | StorageFormat::Rg16Sint
+        | StorageFormat::Rg16Float
+        | StorageFormat::Rgba8Unorm
+        | StorageFormat::Rgba8Snorm
+        | StorageFormat::Rgba8Uint
+        | StorageFormat::Rgba8Sint
+        | StorageFormat::Bgra8Unorm
+        | StorageFormat::Rgb10a2Uint
+        | StorageFormat::Rgb10a2Unorm
+        | StorageFormat::Rg11b10Ufloat
+        | StorageFormat::Rg32Uint
+        | StorageFormat::Rg32Sint
+        | StorageFormat::Rg32Float
+        | StorageFormat::Rgba16Uint
+        | StorageFormat::Rgba16Sint
+        | StorageFormat::Rgba16Float
+        | StorageFormat::Rgba32Uint
+        | StorageFormat::Rgba32Sint
+        | StorageFormat::Rgba32Float
+        | StorageFormat::R16Unorm
+        | StorageFormat::R16Snorm
+        | StorageFormat::Rg16Unorm
+        | StorageFormat::Rg16Snorm
+        | StorageFormat::Rgba16Unorm
+        | StorageFormat::Rgba16Snorm => {
+            Err(FunctionError::InvalidImageAtomic(ExpressionError::InvalidImageFormat(format)))
+        }
+    }
+}
+
+// Whether texels of a storage image may be changed so by a value.
+fn check_storage<C: StatementContext>(
+    context: &C,
+    format: StorageFormat,
+    access: StorageAccess,
+    fun: &AtomicFunction,
+    value: Handle<key::Expression>,
+) -> Result<(), FunctionError>
+    ensures { MatchResult result
+        (λ _. IsChangedBy (C.seen context.now).capabilities format access fun.now (form_at (C.seen context.now) value))
+        (IsStorageFault (C.seen context.now) format access fun.now value) }
+{
+    if !access.contains(StorageAccess::ATOMIC) {
+        return Err(FunctionError::InvalidImageAtomic(ExpressionError::InvalidImageStorageAccess(
+            access,
+        )));
+    }
+    match check_format(context.capabilities(), format, fun) {
+        Err(error) => Err(error),
+        Ok(()) => {
+            if are_same(context.form_at(value), Form::Scalar(Scalar::from(format))) {
+                Ok(())
+            } else {
+                Err(FunctionError::InvalidImageAtomicValue(value))
+            }
+        }
+    }
+}
+
+// Whether texels of an image of a class may be changed so by a value.
+fn check_changed<C: StatementContext>(
+    context: &C,
+    class: ImageClass,
+    fun: &AtomicFunction,
+    value: Handle<key::Expression>,
+) -> Result<(), FunctionError>
+    ensures { MatchResult result
+        (λ _. IsChanged (C.seen context.now).capabilities class fun.now (form_at (C.seen context.now) value))
+        (IsChangeFault (C.seen context.now) class fun.now value) }
+{
+    match class {
+        ImageClass::Storage { format, access } => {
+            check_storage(context, format, access, fun, value)
+        }
+        ImageClass::Sampled { .. } | ImageClass::Depth { .. } | ImageClass::External => {
+            Err(FunctionError::InvalidImageAtomic(ExpressionError::InvalidImageClass(class)))
+        }
+    }
+}
+
+/// Whether a texel may be changed at once: of a storage image that allows it, which is a global variable or an element of one,
+/// where it has one, in a way that its format allows, and by a value of the format's scalar.
+///
+/// # Errors
+///
+/// [`FunctionError::InvalidImageAtomic`] where no image may be changed at once so: it is no global variable, no image, has no such
+/// texel, or is of another class, format or access. [`FunctionError::MissingCapability`],
+/// [`FunctionError::InvalidImageAtomicFunction`] or [`FunctionError::InvalidImageAtomicValue`] where its format doesn't allow it.
+pub fn check_image_atomic<C: StatementContext>(
+    context: &C,
+    image: Handle<key::Expression>,
+    coordinate: Handle<key::Expression>,
+    array_index: Option<Handle<key::Expression>>,
+    fun: AtomicFunction,
+    value: Handle<key::Expression>,
+) -> Result<(), FunctionError>
+    ensures { MatchResult result
+        (λ _. ImageAtomicOK (C.seen context.now) image coordinate array_index fun value)
+        (IsImageAtomicFault (C.seen context.now) image coordinate array_index fun value) }
+{
+    match changed_image(context, image) {
+        Err(error) => Err(FunctionError::InvalidImageAtomic(error)),
+        Ok(picture) => match check_texel(context, &picture, coordinate, &array_index) {
+            Err(error) => Err(FunctionError::InvalidImageAtomic(error)),
+            Ok(()) => match check_changed(context, picture.class, &fun, value) {
+                Ok(()) => Ok(()),
+                Err(error) => Err(error),
+            },
+        },
+    }
+}

@@ -1,0 +1,15 @@
+use Rattle.std.proofs.Common.{◌≡◌, drop, map}
+use Rattle.ir_blocks.specs.View.{statements_view, case_view, cases_of}
+use Rattle.ir_items.specs.View.{function_view}
+use Rattle.function_body_checks.proofs.Walks.{Leads, LeadsCases}
+use Rattle.function_body_checks.proofs.walk.+walk.Given as goal
+
+-- the rest leads to the whole
+abbrev pub invariant-check_block-loop-statement : goal.invariant-check_block-loop-statement
+invariant-check_block-loop-statement l =
+    Leads (function_view l.outline.function.now) l.asked l.fn.carried.scope l.fn.carried.answered (statements_view l.statement-items) l.carried.scope l.carried.answered (statements_view (drop l.statement-index l.statement-items))
+
+abbrev pub invariant-check_cases-loop-case : goal.invariant-check_cases-loop-case
+invariant-check_cases-loop-case l =
+    (l.carried.scope ≡ l.fn.carried.scope)
+    × LeadsCases (function_view l.outline.function.now) l.asked l.fn.carried.scope l.fn.carried.answered (cases_of (map case_view l.cases)) l.carried.answered (cases_of (map case_view (drop l.case-index l.cases)))

@@ -1,0 +1,182 @@
+-- What a walk over a body asks at each place, with what it carries there: the expressions in scope, and those by which
+-- statements before have answered.
+use Rattle.std.specs.Prelude.{◌≡◌, ◌⊎◌, ℕ, ◌+◌, Bool, true, false, ◌||◌, if◌then◌else◌, nat_eq, List, [], ◌∷◌, ◌++◌, All, Option, Some, None, Contains, slice_get}
+use Rattle.function_body_checks.specs.declared.error.ScopeError.{ScopeError}
+use Rattle.function_body_checks.specs.declared.error.ScopeError.TheVariants as scope_error
+use Rattle.typing_errors.specs.declared.expressions.ExpressionError.TheVariants.{NotInScope}
+use Rattle.typing_errors.specs.declared.error.FunctionError.{FunctionError}
+use Rattle.typing_errors.specs.declared.error.FunctionError.TheVariants as error
+use Rattle.typing_errors.specs.declared.atomics.AtomicError.{AtomicError}
+use Rattle.typing_errors.specs.declared.atomics.AtomicError.TheVariants as atomic_error
+use Rattle.typing_errors.specs.declared.calls.CallError.{CallError}
+use Rattle.typing_errors.specs.declared.calls.CallError.TheVariants as call_error
+use Rattle.ir_blocks.specs.Places.{Spot, nothing, statement, loop_condition}
+use Rattle.ir_blocks.specs.Plain.{PlainStatement, emit, block, if_, switch, loop, break, continue, return, kill, operation, call, PlainBlock, stop, next, PlainCases, no_case, case}
+use Rattle.ir_types.specs.ExpressionPlain.{PlainExpression}
+use Rattle.ir_items.specs.Plain.{PlainFunction}
+use Rattle.spec_handles.specs.Statements.{statement_callee}
+use Rattle.spec_statements.specs.Answered.{answered_in, answered_at}
+use Rattle.spec_statements.specs.Results.{answer_of}
+use Rattle.spec_statements.specs.Scope.{PreEmitted, is_pre_emitted}
+use Rattle.spec_statements.specs.Tables.{checked_at, introduced, introduced_at}
+use Rattle.spec_statements.specs.Visible.{top_level}
+
+-- what an error speaks of, which is nothing where there is no memory
+abbrev pub IfFault : ScopeError → (FunctionError → Type 0) → Type 0
+IfFault (scope_error.Memory e) P = Unit {0}
+IfFault (scope_error.Unknown e) P = P (error.Expression e NotInScope)
+IfFault (scope_error.UnknownArgument function index) P = P (error.InvalidCall function (call_error.Argument index NotInScope))
+IfFault (scope_error.Known e) P = P (error.ExpressionAlreadyInScope e)
+IfFault (scope_error.KnownResult function answer) P = P (error.InvalidCall function (call_error.ResultAlreadyInScope answer))
+IfFault (scope_error.Answered function answer) P = P (error.InvalidCall function (call_error.ResultAlreadyPopulated answer))
+IfFault (scope_error.AnsweredAtomic answer) P = P (error.InvalidAtomic (atomic_error.ResultAlreadyPopulated answer))
+
+abbrev pub Known : PlainFunction → (scope : List ℕ) → ℕ → Type 0
+Known f scope e = PreEmitted f e ⊎ Contains scope e
+
+-- by what the statement at a place answers, and which function it calls
+abbrev pub answer_at : Spot → Option ℕ
+answer_at nothing = None
+answer_at (statement s) = answer_of s
+answer_at (loop_condition break_if) = None
+
+abbrev pub callee_at : Spot → Option ℕ
+callee_at nothing = None
+callee_at (statement s) = statement_callee s
+callee_at (loop_condition break_if) = None
+
+-- what is used is in scope, what is brought is not, and none answers by what has been answered by
+pub record Fine (f : PlainFunction) (asked : Bool) (spot : Spot) (scope answered : List ℕ) : Type 0 where
+  pub used : All (Known f scope) (checked_at spot)
+  pub fresh : All (λ e. ¬ Known f scope e) (introduced_at spot)
+  pub once : (e : ℕ) → answer_at spot ≡ Some e → ¬ Contains answered e
+  pub asks : (e : ℕ) → answer_at spot ≡ Some e → asked ≡ true
+
+-- ---- what is looked for in operands
+
+-- whether an expression is one of these
+abbrev pub holds : List ℕ → ℕ → Bool
+holds [] e = false
+holds (x ∷ xs) e = nat_eq x e || holds xs e
+
+abbrev pub pre_known : Option PlainExpression → Bool
+pre_known None = false
+pre_known (Some x) = is_pre_emitted x
+
+-- whether it is in scope
+abbrev pub known : PlainFunction → (scope : List ℕ) → ℕ → Bool
+known f scope e = holds scope e || pre_known (slice_get f.expressions e)
+
+-- the first of these that does not pass
+abbrev pub first_lacking : (ℕ → Bool) → List ℕ → Option ℕ
+first_lacking test [] = None
+first_lacking test (e ∷ es) = if test e then first_lacking test es else Some e
+
+-- the same by its place, where the first one has this place
+abbrev pub place_lacking : (ℕ → Bool) → (place : ℕ) → List ℕ → Option ℕ
+place_lacking test place [] = None
+place_lacking test place (e ∷ es) = if test e then place_lacking test (place + 1) es else Some place
+
+-- the expression comes into scope, or is in scope
+abbrev pub IsBrought : PlainFunction → (old new : List ℕ) → ℕ → (brought : Bool) → Type 0
+IsBrought f old new e true = (new ≡ old ++ e ∷ []) × ¬ Known f old e
+IsBrought f old new e false = (new ≡ old) × Known f old e
+
+-- all of them come into scope, or one of them is in scope
+abbrev pub AreBrought : PlainFunction → (old new : List ℕ) → List ℕ → (known : Option ℕ) → Type 0
+AreBrought f old new es None = (new ≡ old ++ es) × All (λ e. ¬ Known f old e) es
+AreBrought f old new es (Some e) = Contains es e × Known f old e
+
+-- by what is answered is noted, if anything is: it is asked for, and was not noted before
+abbrev pub IsNoted : (asked : Bool) → (old new : List ℕ) → (answer : Option ℕ) → Type 0
+IsNoted asked old new None = new ≡ old
+IsNoted asked old new (Some e) = (new ≡ old ++ e ∷ []) × (¬ Contains old e) × (asked ≡ true)
+
+-- ---- what is wrong at a place
+
+-- an expression is used that is not in scope
+abbrev pub IsUnknown : PlainFunction → (scope : List ℕ) → List ℕ → ℕ → Type 0
+IsUnknown f scope used e = Contains used e × ¬ Known f scope e
+
+-- answers are not asked for, or it has been answered by
+abbrev pub IsAgain : (asked : Bool) → (answered : List ℕ) → ℕ → Type 0
+IsAgain asked answered e = (asked ≡ false) ⊎ Contains answered e
+
+abbrev pub IsCallError : PlainFunction → (asked : Bool) → Spot → (scope answered : List ℕ) → CallError → Type 0
+IsCallError f asked spot scope answered (call_error.Argument place source) = (source ≡ NotInScope) × ((e : ℕ) × (slice_get (checked_at spot) place ≡ Some e) × ¬ Known f scope e)
+IsCallError f asked spot scope answered (call_error.ResultAlreadyInScope e) = Contains (introduced_at spot) e × Known f scope e
+IsCallError f asked spot scope answered (call_error.ResultAlreadyPopulated e) = (answer_at spot ≡ Some e) × IsAgain asked answered e
+IsCallError f asked spot scope answered _ = ⊥
+
+-- what is passed to a function is not in scope
+abbrev pub IsArgumentError : PlainFunction → (scope : List ℕ) → (function : ℕ) → (arguments : List ℕ) → FunctionError → Type 0
+IsArgumentError f scope function arguments (error.InvalidCall called (call_error.Argument place source)) =
+    (called ≡ function) × (source ≡ NotInScope) × ((e : ℕ) × (slice_get arguments place ≡ Some e) × ¬ Known f scope e)
+IsArgumentError f scope function arguments _ = ⊥
+
+abbrev pub IsAtomicError : (asked : Bool) → Spot → (answered : List ℕ) → AtomicError → Type 0
+IsAtomicError asked spot answered (atomic_error.ResultAlreadyPopulated e) = (answer_at spot ≡ Some e) × IsAgain asked answered e
+IsAtomicError asked spot answered _ = ⊥
+
+abbrev pub IsFaultHere : PlainFunction → (asked : Bool) → Spot → (scope answered : List ℕ) → FunctionError → Type 0
+IsFaultHere f asked spot scope answered (error.Expression e source) = (callee_at spot ≡ None) × (source ≡ NotInScope) × IsUnknown f scope (checked_at spot) e
+IsFaultHere f asked spot scope answered (error.ExpressionAlreadyInScope e) = (callee_at spot ≡ None) × Contains (introduced_at spot) e × Known f scope e
+IsFaultHere f asked spot scope answered (error.InvalidCall function e) = (callee_at spot ≡ Some function) × IsCallError f asked spot scope answered e
+IsFaultHere f asked spot scope answered (error.InvalidAtomic e) = (callee_at spot ≡ None) × IsAtomicError asked spot answered e
+IsFaultHere f asked spot scope answered _ = ⊥
+
+-- ---- along a body
+
+module _ (f : PlainFunction) (asked : Bool) where
+  abbrev mutual
+    pub AllFine : (scope answered : List ℕ) → PlainBlock → Type 0
+    AllFine scope answered stop = Unit {0}
+    AllFine scope answered (next s rest) = FineWithin scope answered s × AllFine (scope ++ introduced s) (answered ++ answered_at s) rest
+
+    -- of a statement, and of what stands inside it
+    pub FineWithin : (scope answered : List ℕ) → PlainStatement → Type 0
+    FineWithin scope answered (emit first end) = Fine f asked (statement (emit first end)) scope answered
+    FineWithin scope answered (block b) = AllFine scope answered b
+    FineWithin scope answered (if_ test accept reject) =
+        All (Known f scope) (test ∷ []) × (AllFine scope answered accept × AllFine scope (answered ++ answered_in accept) reject)
+    FineWithin scope answered (switch selector cases) = All (Known f scope) (selector ∷ []) × FineInCases scope answered cases
+    FineWithin scope answered (loop body continuing break_if) =
+        AllFine scope answered body
+        × (AllFine (scope ++ top_level body) (answered ++ answered_in body) continuing
+        × All (Known f ((scope ++ top_level body) ++ top_level continuing)) (checked_at (loop_condition break_if)))
+    FineWithin scope answered break = Fine f asked (statement break) scope answered
+    FineWithin scope answered continue = Fine f asked (statement continue) scope answered
+    FineWithin scope answered (return value) = Fine f asked (statement (return value)) scope answered
+    FineWithin scope answered kill = Fine f asked (statement kill) scope answered
+    FineWithin scope answered (operation a) = Fine f asked (statement (operation a)) scope answered
+    FineWithin scope answered (call function arguments answer) = Fine f asked (statement (call function arguments answer)) scope answered
+
+    pub FineInCases : (scope answered : List ℕ) → PlainCases → Type 0
+    FineInCases scope answered no_case = Unit {0}
+    FineInCases scope answered (case value body falls rest) = AllFine scope answered body × FineInCases scope (answered ++ answered_in body) rest
+
+  abbrev mutual
+    pub FaultIn : FunctionError → (scope answered : List ℕ) → PlainBlock → Type 0
+    FaultIn e scope answered stop = ⊥
+    FaultIn e scope answered (next s rest) = FaultWithin e scope answered s ⊎ FaultIn e (scope ++ introduced s) (answered ++ answered_at s) rest
+
+    pub FaultWithin : FunctionError → (scope answered : List ℕ) → PlainStatement → Type 0
+    FaultWithin e scope answered (emit first end) = IsFaultHere f asked (statement (emit first end)) scope answered e
+    FaultWithin e scope answered (block b) = FaultIn e scope answered b
+    FaultWithin e scope answered (if_ test accept reject) =
+        IsFaultHere f asked (statement (if_ test accept reject)) scope answered e ⊎ (FaultIn e scope answered accept ⊎ FaultIn e scope (answered ++ answered_in accept) reject)
+    FaultWithin e scope answered (switch selector cases) = IsFaultHere f asked (statement (switch selector cases)) scope answered e ⊎ FaultInCases e scope answered cases
+    FaultWithin e scope answered (loop body continuing break_if) =
+        FaultIn e scope answered body
+        ⊎ (FaultIn e (scope ++ top_level body) (answered ++ answered_in body) continuing
+        ⊎ IsFaultHere f asked (loop_condition break_if) ((scope ++ top_level body) ++ top_level continuing) ((answered ++ answered_in body) ++ answered_in continuing) e)
+    FaultWithin e scope answered break = IsFaultHere f asked (statement break) scope answered e
+    FaultWithin e scope answered continue = IsFaultHere f asked (statement continue) scope answered e
+    FaultWithin e scope answered (return value) = IsFaultHere f asked (statement (return value)) scope answered e
+    FaultWithin e scope answered kill = IsFaultHere f asked (statement kill) scope answered e
+    FaultWithin e scope answered (operation a) = IsFaultHere f asked (statement (operation a)) scope answered e
+    FaultWithin e scope answered (call function arguments answer) = IsFaultHere f asked (statement (call function arguments answer)) scope answered e
+
+    pub FaultInCases : FunctionError → (scope answered : List ℕ) → PlainCases → Type 0
+    FaultInCases e scope answered no_case = ⊥
+    FaultInCases e scope answered (case value body falls rest) = FaultIn e scope answered body ⊎ FaultInCases e scope (answered ++ answered_in body) rest

@@ -1,0 +1,80 @@
+-- What is wrong with the scope of a function's body, by places.
+use Rattle.std.specs.Prelude.{◌≡◌, ◌⊎◌, ℕ, List, Option, Some, None, slice_get}
+use Rattle.typing_errors.specs.declared.expressions.ExpressionError.TheVariants.{NotInScope}
+use Rattle.typing_errors.specs.declared.error.FunctionError.{FunctionError}
+use Rattle.typing_errors.specs.declared.error.FunctionError.TheVariants as error
+use Rattle.typing_errors.specs.declared.atomics.AtomicError.{AtomicError}
+use Rattle.typing_errors.specs.declared.atomics.AtomicError.TheVariants as atomic_error
+use Rattle.typing_errors.specs.declared.calls.CallError.{CallError}
+use Rattle.typing_errors.specs.declared.calls.CallError.TheVariants as call_error
+use Rattle.ir_blocks.specs.Places.{Place, StandsAt, spot_at}
+use Rattle.ir_blocks.specs.Plain.{call}
+use Rattle.ir_faults.specs.Faults.{error_of}
+use Rattle.ir_faults.specs.declared.refusal.Refusal.{Refusal}
+use Rattle.ir_faults.specs.declared.refusal.Refusal.TheVariants as refusal
+use Rattle.ir_flags.specs.Sets.{Has}
+use Rattle.ir_flags.specs.declared.settings.ValidationFlags.{ValidationFlags}
+use Rattle.ir_flags.specs.declared.settings.TheConstants.ValidationFlags.{EXPRESSIONS}
+use Rattle.ir_items.specs.Plain.{PlainFunction}
+use Rattle.function_body_checks.specs.Carried.{callee_at}
+use Rattle.spec_statements.specs.Results.{AnswersBy}
+use Rattle.spec_statements.specs.Scope.{InScope, Checks, Introduces}
+
+-- no call stands at the place
+abbrev pub NoCallAt : PlainFunction → Place → Type 0
+NoCallAt f p = callee_at (spot_at p f.body) ≡ None
+
+-- an expression is used where it is not in scope, by another statement than a call
+pub record IsUsedEarly (f : PlainFunction) (e : ℕ) : Type 0 where
+  pub place : Place
+  pub other : NoCallAt f place
+  pub used : Checks f.body place e
+  pub unknown : ¬ InScope f place e
+
+-- an expression is brought into scope that is there, by another statement than a call
+pub record IsBroughtAgain (f : PlainFunction) (e : ℕ) : Type 0 where
+  pub place : Place
+  pub other : NoCallAt f place
+  pub brought : Introduces f.body place e
+  pub known : InScope f place e
+
+-- results are not asked for, or another statement answers by the expression
+abbrev pub IsPopulated : ValidationFlags → PlainFunction → Place → ℕ → Type 0
+IsPopulated flags f p e = (Has flags.0 EXPRESSIONS.0 → ⊥) ⊎ ((q : Place) × AnswersBy f.body q e × (q ≡ p → ⊥))
+
+abbrev pub IsCallErrorAt : ValidationFlags → PlainFunction → Place → (arguments : List ℕ) → (answer : Option ℕ) → CallError → Type 0
+IsCallErrorAt flags f p arguments answer (call_error.Argument place source) =
+    (source ≡ NotInScope) × ((e : ℕ) × (slice_get arguments place ≡ Some e) × (InScope f p e → ⊥))
+IsCallErrorAt flags f p arguments answer (call_error.ResultAlreadyInScope e) = (answer ≡ Some e) × InScope f p e
+IsCallErrorAt flags f p arguments answer (call_error.ResultAlreadyPopulated e) = (answer ≡ Some e) × IsPopulated flags f p e
+IsCallErrorAt flags f p arguments answer _ = ⊥
+
+pub record IsBadCall (flags : ValidationFlags) (f : PlainFunction) (function : ℕ) (e : CallError) : Type 0 where
+  pub place : Place
+  pub arguments : List ℕ
+  pub answer : Option ℕ
+  pub stands : StandsAt f.body place (call function arguments answer)
+  pub wrong : IsCallErrorAt flags f place arguments answer e
+
+-- an atomic operation answers by what is answered by already
+pub record IsBadAtomic (flags : ValidationFlags) (f : PlainFunction) (e : ℕ) : Type 0 where
+  pub place : Place
+  pub other : NoCallAt f place
+  pub answers : AnswersBy f.body place e
+  pub again : IsPopulated flags f place e
+
+abbrev pub IsAtomicErrorIn : ValidationFlags → PlainFunction → AtomicError → Type 0
+IsAtomicErrorIn flags f (atomic_error.ResultAlreadyPopulated e) = IsBadAtomic flags f e
+IsAtomicErrorIn flags f _ = ⊥
+
+abbrev pub IsScopeFault : ValidationFlags → PlainFunction → FunctionError → Type 0
+IsScopeFault flags f (error.Expression e source) = (source ≡ NotInScope) × IsUsedEarly f e
+IsScopeFault flags f (error.ExpressionAlreadyInScope e) = IsBroughtAgain f e
+IsScopeFault flags f (error.InvalidCall function e) = IsBadCall flags f function e
+IsScopeFault flags f (error.InvalidAtomic e) = IsAtomicErrorIn flags f e
+IsScopeFault flags f _ = ⊥
+
+-- a refusal tells such a fault, or that there is no memory
+abbrev pub IsScopeRefusal : ValidationFlags → PlainFunction → Refusal FunctionError → Type 0
+IsScopeRefusal flags f (refusal.Memory e) = Unit {0}
+IsScopeRefusal flags f (refusal.Fault e) = IsScopeFault flags f (error_of e)

@@ -1,0 +1,17 @@
+-- A fault of scope refutes what is asked of scope and of answers.
+use Rattle.std.specs.Prelude.{ℕ}
+use Rattle.typing_errors.specs.declared.error.FunctionError.{FunctionError}
+use Rattle.ir_blocks.specs.Places.{Place}
+use Rattle.ir_flags.specs.Sets.{Has}
+use Rattle.ir_flags.specs.declared.settings.ValidationFlags.{ValidationFlags}
+use Rattle.ir_flags.specs.declared.settings.TheConstants.ValidationFlags.{EXPRESSIONS}
+use Rattle.ir_items.specs.Plain.{PlainFunction}
+use Rattle.function_body_checks.specs.Faults.{IsScopeFault}
+use Rattle.spec_statements.specs.Answered.{EachOnce}
+use Rattle.spec_statements.specs.Results.{AnswersBy}
+use Rattle.spec_statements.specs.Scope.{ScopeOK}
+
+abbrev pub FaultsRefute : Type 0
+FaultsRefute =
+    (flags : ValidationFlags) (f : PlainFunction) (e : FunctionError) → IsScopeFault flags f e
+    → ScopeOK f → EachOnce f.body → ((p : Place) (x : ℕ) → AnswersBy f.body p x → Has flags.0 EXPRESSIONS.0) → ⊥

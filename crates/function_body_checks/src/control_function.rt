@@ -1,0 +1,29 @@
+//! How the statements of a function leave their blocks.
+
+ghost use Rattle.std.specs.Prelude.{MatchResult};
+ghost use Rattle.ir_blocks.specs.Control.{ControlOK};
+ghost use Rattle.ir_blocks.specs.View.{block_view};
+ghost use Rattle.function_body_checks.specs.ControlFaults.{IsControlFault};
+
+use crate::control::{Allowed, Wrong};
+use crate::control_walk::check_block;
+use typing_errors::FunctionError;
+use ir_items::Block;
+
+/// Whether each statement of a function's body that leaves its block may do so where it stands (naga's `ControlFlowAbility`).
+///
+/// # Errors
+///
+/// Of a statement that may not (the first in the order of the text, which no clause says): [`FunctionError::BreakOutsideOfLoopOrSwitch`], [`FunctionError::ContinueOutsideOfLoop`],
+/// or [`FunctionError::InvalidReturnSpot`] in a continuing part.
+#[tactic(auto, using(crate::proofs::ControlPlaces::control_fine, crate::proofs::ControlPlaces::control_wrong))]
+pub fn check_control(body: &Block) -> Result<(), FunctionError>
+    ensures { MatchResult result (λ _. ControlOK (block_view body.now)) (IsControlFault (block_view body.now)) }
+{
+    match check_block(Allowed::BODY, body) {
+        Ok(()) => Ok(()),
+        Err(Wrong::Break) => Err(FunctionError::BreakOutsideOfLoopOrSwitch),
+        Err(Wrong::Continue) => Err(FunctionError::ContinueOutsideOfLoop),
+        Err(Wrong::Return) => Err(FunctionError::InvalidReturnSpot),
+    }
+}

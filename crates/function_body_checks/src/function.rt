@@ -1,0 +1,128 @@
+//! The scope of a function's body.
+
+ghost use Rattle.std.specs.Prelude.{◌≡◌, ◌↔◌, ℕ, [], Contains, IfErr, IfOk, IsTrue, OnOk};
+ghost use Rattle.ir_blocks.specs.Places.{Place};
+ghost use Rattle.ir_flags.specs.Sets.{Has};
+ghost use Rattle.ir_flags.specs.declared.settings.TheConstants.ValidationFlags.{EXPRESSIONS};
+ghost use Rattle.ir_flags.specs.declared.settings.ValidationFlags.{ValidationFlags};
+ghost use Rattle.ir_items.specs.Plain.{PlainFunction};
+ghost use Rattle.ir_items.specs.View.{function_view};
+ghost use Rattle.typing_errors.specs.declared.error.FunctionError.TheVariants.{InvalidCall};
+ghost use Rattle.function_body_checks.specs.Carried.{IfFault};
+ghost use Rattle.function_body_checks.specs.Faults.{IsScopeFault, IsScopeRefusal};
+ghost use Rattle.spec_statements.specs.Answered.{EachOnce};
+ghost use Rattle.spec_statements.specs.Results.{AnswersBy};
+ghost use Rattle.spec_statements.specs.Scope.{ScopeOK};
+
+use crate::always::{Outline, next_always};
+use crate::error::ScopeError;
+use crate::list::ExpressionList;
+use crate::statement::Carried;
+use crate::walk::check_block;
+use bitflags::Flags;
+use typing_errors::{AtomicError, CallError, ExpressionError, FunctionError};
+use ir_arena::handle::Handle;
+use ir_faults::refusal::Refusal;
+use ir_faults::with_span::WithSpan;
+use ir_flags::ValidationFlags;
+use ir_items::{Function, key};
+use std::alloc::{AllocError, Global};
+
+// Nothing is in scope, and nothing has been answered by. The error is out of memory.
+fn beginning(alloc: Global, count: usize) -> Result<Carried, AllocError>
+    ensures scope { IfOk result (λ c. c.scope ≡ []) }
+    ensures answered { IfOk result (λ c. c.answered ≡ []) }
+{
+    let scope = ExpressionList::new(alloc, count)?;
+    Ok(Carried {
+        scope,
+        answered: ExpressionList::new(alloc, count)?,
+    })
+}
+
+// The refusal of a call.
+fn refused_call(
+    alloc: Global,
+    function: Handle<key::Function>,
+    error: CallError,
+) -> Refusal<FunctionError>
+    ensures { (flags : ValidationFlags) (f : PlainFunction) → IsScopeFault flags f (InvalidCall function error) → IsScopeRefusal flags f result }
+{
+    let error = FunctionError::InvalidCall { function, error };
+    Refusal::Fault(WithSpan::new(alloc, error))
+}
+
+// The refusal that tells an error.
+fn refused(alloc: Global, error: ScopeError) -> Refusal<FunctionError>
+    ensures { (flags : ValidationFlags) (f : PlainFunction) → IfFault error (IsScopeFault flags f) → IsScopeRefusal flags f result }
+{
+    match error {
+        ScopeError::Memory(error) => Refusal::Memory(error),
+        ScopeError::Unknown(handle) => {
+            let source = ExpressionError::NotInScope;
+            Refusal::Fault(WithSpan::new(alloc, FunctionError::Expression { handle, source }))
+        }
+        ScopeError::UnknownArgument { function, index } => {
+            let source = ExpressionError::NotInScope;
+            refused_call(alloc, function, CallError::Argument { index, source })
+        }
+        ScopeError::Known(handle) => Refusal::Fault(WithSpan::new(
+            alloc,
+            FunctionError::ExpressionAlreadyInScope(handle),
+        )),
+        ScopeError::KnownResult { function, answer } => {
+            refused_call(alloc, function, CallError::ResultAlreadyInScope(answer))
+        }
+        ScopeError::Answered { function, answer } => {
+            refused_call(alloc, function, CallError::ResultAlreadyPopulated(answer))
+        }
+        ScopeError::AnsweredAtomic(answer) => {
+            let error = AtomicError::ResultAlreadyPopulated(answer);
+            Refusal::Fault(WithSpan::new(alloc, FunctionError::InvalidAtomic(error)))
+        }
+    }
+}
+
+// Whether statements may answer by expressions.
+fn asks_answers(flags: ValidationFlags) -> bool
+    ensures { IsTrue result ↔ Has flags.0 EXPRESSIONS.0 }
+{
+    flags.contains(ValidationFlags::EXPRESSIONS)
+}
+
+/// Whether what the statements of a function use is in scope where they stand, what they bring into scope is not there
+/// already, and no two of them answer by one expression; and, where expressions are not checked, whether none answers. Answers
+/// by which expressions calls and atomic operations answer (naga's `valid_expression_set` and `needs_visit`).
+///
+/// # Errors
+///
+/// A fault of a statement that has one (the first in the order of the text, which no clause says): [`FunctionError::Expression`] with `NotInScope` for
+/// an operand, or [`FunctionError::InvalidCall`] with `Argument` for what is passed to a function;
+/// [`FunctionError::ExpressionAlreadyInScope`], or `ResultAlreadyInScope` of a call; `ResultAlreadyPopulated` of a call or of an
+/// atomic operation. [`Refusal::Memory`] where there is no memory.
+pub fn check_scope(
+    alloc: Global,
+    flags: ValidationFlags,
+    function: &Function,
+) -> Result<ExpressionList, Refusal<FunctionError>>
+    ensures scope { OnOk result (ScopeOK (function_view function.now)) }
+    ensures once { OnOk result (EachOnce (function_view function.now).body) }
+    ensures asked { OnOk result ((p : Place) (e : ℕ) → AnswersBy (function_view function.now).body p e → Has flags.0 EXPRESSIONS.0) }
+    ensures answered { IfOk result (λ answered. (e : ℕ) → Contains answered e ↔ ((p : Place) × AnswersBy (function_view function.now).body p e)) }
+    ensures fault { IfErr result (IsScopeRefusal flags (function_view function.now)) }
+{
+    let asked = asks_answers(flags);
+    let always = next_always(alloc, function)?;
+    let outline = Outline {
+        function,
+        always: &always,
+    };
+    let mut carried = beginning(alloc, function.expressions.len())?;
+    match check_block(&outline, asked, &mut carried, &function.body) {
+        Ok(()) => {
+            let Carried { answered, scope: _ } = carried;
+            Ok(answered)
+        }
+        Err(error) => Err(refused(alloc, error)),
+    }
+}

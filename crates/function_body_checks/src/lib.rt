@@ -1,0 +1,33 @@
+//! What is asked of a whole body, over and above the rule of each statement.
+//!
+//! Whether what the statements of a function use is in scope, what they bring into scope is not there already, and each call
+//! and each atomic operation answers by an expression of its own.
+//!
+//! Whether each statement of a body that leaves its block may do so where it stands: breaks, continues and returns.
+//!
+//! Whether the values of the cases of a switch differ, one is the default, and the last case doesn't fall through.
+#![tactic(auto)]
+
+mod always;
+mod answers;
+mod bringing;
+mod cases;
+mod control;
+mod control_function;
+pub mod control_laws;
+mod control_walk;
+mod error;
+mod function;
+pub mod laws;
+mod list;
+mod operands;
+mod statement;
+mod walk;
+
+pub use test_cases::cases_fault;
+pub use control_function::check_control;
+pub use function::check_scope;
+pub use list::ExpressionList;
+pub use operands::{
+    first_unknown, gather_index, is_known, unknown_in_pipeline, unknown_in_query, unknown_place,
+};

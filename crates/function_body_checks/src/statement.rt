@@ -1,0 +1,154 @@
+//! What a statement itself uses, brings into scope and answers by.
+
+ghost use Rattle.std.specs.Prelude.{◌≡◌, ◌++◌, ℕ, Bool, List, All, IfErr, IfNone, IfSome, OnOk, Some, option_to_list};
+ghost use Rattle.ir_blocks.specs.Places.{statement as spot, loop_condition};
+ghost use Rattle.ir_blocks.specs.View.{statement_view};
+ghost use Rattle.ir_items.specs.View.{function_view};
+ghost use Rattle.function_body_checks.specs.Carried.{Fine, IfFault, IsArgumentError, IsFaultHere, Known};
+ghost use Rattle.spec_handles.specs.Statements.{statement_callee};
+ghost use Rattle.spec_statements.specs.Results.{answer_of};
+ghost use Rattle.spec_statements.specs.Tables.{checked_at, introduced, statement_checked};
+
+use crate::always::Outline;
+use crate::answers::note_answer;
+use crate::bringing::bring;
+use crate::error::ScopeError;
+use crate::list::ExpressionList;
+use crate::operands::{is_known, unknown_operand, unknown_place};
+use ir_arena::handle::Handle;
+use ir_items::{Function, Statement, key};
+use ir_references::callee_of;
+
+/// What a walk over a body carries: the expressions in scope, and those by which calls and atomic operations have answered.
+#[derive(Drop)]
+pub struct Carried {
+    pub scope: ExpressionList,
+    pub answered: ExpressionList,
+}
+
+// What is passed where a statement is a call.
+fn arguments_of(statement: &Statement) -> &[Handle<key::Expression>]
+    ensures { (function : ℕ) → statement_callee (statement_view statement.now) ≡ Some function → result.now ≡ statement_checked (statement_view statement.now) }
+{
+    match statement {
+        Statement::Call { arguments, .. } => arguments,
+        Statement::Emit(_)
+        | Statement::Block(_)
+        | Statement::If { .. }
+        | Statement::Switch { .. }
+        | Statement::Loop { .. }
+        | Statement::Break
+        | Statement::Continue
+        | Statement::Return { .. }
+        | Statement::Kill
+        | Statement::ControlBarrier(_)
+        | Statement::MemoryBarrier(_)
+        | Statement::Store { .. }
+        | Statement::ImageStore { .. }
+        | Statement::Atomic { .. }
+        | Statement::ImageAtomic { .. }
+        | Statement::WorkGroupUniformLoad { .. }
+        | Statement::RayQuery { .. }
+        | Statement::SubgroupBallot { .. }
+        | Statement::SubgroupCollectiveOperation { .. }
+        | Statement::SubgroupGather { .. }
+        | Statement::CooperativeStore { .. }
+        | Statement::RayPipelineFunction(_) => &[],
+    }
+}
+
+// What is wrong with what a call passes.
+#[tactic(auto, using(crate::proofs::Tables::all_placed, crate::proofs::Tables::not_placed))]
+fn argument_error(
+    function: &Function,
+    scope: &ExpressionList,
+    callee: Handle<key::Function>,
+    arguments: &[Handle<key::Expression>],
+) -> Option<ScopeError>
+    ensures none { IfNone result (All (Known (function_view function.now) scope.now) arguments.now) }
+    ensures found { IfSome result (λ r. IfFault r (IsArgumentError (function_view function.now) scope.now callee arguments.now)) }
+{
+    match unknown_place(function, scope, arguments) {
+        Some(place) => Some(ScopeError::UnknownArgument {
+            function: callee,
+            index: place,
+        }),
+        None => None,
+    }
+}
+
+// What is wrong with the operands of a statement.
+#[tactic(auto, using(crate::proofs::Tables::all_known, crate::proofs::Tables::not_known))]
+fn operand_error(
+    function: &Function,
+    scope: &ExpressionList,
+    statement: &Statement,
+) -> Option<ScopeError>
+    ensures none { IfNone result (All (Known (function_view function.now) scope.now) (statement_checked (statement_view statement.now))) }
+    ensures found { IfSome result (λ r. IfFault r (λ e. (asked : Bool) (answered : List ℕ) → IsFaultHere (function_view function.now) asked (spot (statement_view statement.now)) scope.now answered e)) }
+{
+    match callee_of(statement) {
+        Some(callee) => argument_error(function, scope, callee, arguments_of(statement)),
+        None => match unknown_operand(function, scope, statement) {
+            Some(handle) => Some(ScopeError::Unknown(handle)),
+            None => None,
+        },
+    }
+}
+
+/// Whether what a statement uses is in scope, what stands inside it aside, and a loop's condition.
+pub fn check_used(
+    function: &Function,
+    asked: bool,
+    carried: &Carried,
+    statement: &Statement,
+) -> Result<(), ScopeError>
+    ensures used { OnOk result (All (Known (function_view function.now) carried.now.scope) (statement_checked (statement_view statement.now))) }
+    ensures fault { IfErr result (λ r. IfFault r (λ e. IsFaultHere (function_view function.now) asked (spot (statement_view statement.now)) carried.now.scope carried.now.answered e)) }
+{
+    match operand_error(function, &carried.scope, statement) {
+        Some(error) => Err(error),
+        None => Ok(()),
+    }
+}
+
+/// Whether a loop's condition is in scope, if it has one.
+#[tactic(auto, using(crate::proofs::Tables::told_known, crate::proofs::Tables::told_unknown))]
+pub fn check_condition(
+    function: &Function,
+    asked: bool,
+    carried: &Carried,
+    break_if: Option<Handle<key::Expression>>,
+) -> Result<(), ScopeError>
+    ensures used { OnOk result (All (Known (function_view function.now) carried.now.scope) (checked_at (loop_condition break_if))) }
+    ensures fault { IfErr result (λ r. IfFault r (λ e. IsFaultHere (function_view function.now) asked (loop_condition break_if) carried.now.scope carried.now.answered e)) }
+{
+    match break_if {
+        Some(handle) => {
+            if is_known(function, &carried.scope, handle) {
+                Ok(())
+            } else {
+                Err(ScopeError::Unknown(handle))
+            }
+        }
+        None => Ok(()),
+    }
+}
+
+/// What a statement that holds no others uses, brings into scope and answers by.
+#[tactic(auto, using(crate::proofs::Tables::noted, crate::proofs::Tables::fine))]
+pub fn check_own(
+    outline: &Outline<'_>,
+    asked: bool,
+    carried: &mut Carried,
+    statement: &Statement,
+) -> Result<(), ScopeError>
+    ensures fine { OnOk result (Fine (function_view outline.now.function.now) asked (spot (statement_view statement.now)) carried.old.scope carried.old.answered) }
+    ensures scope { OnOk result (carried.new.scope ≡ carried.old.scope ++ introduced (statement_view statement.now)) }
+    ensures answered { OnOk result (carried.new.answered ≡ carried.old.answered ++ option_to_list (answer_of (statement_view statement.now))) }
+    ensures fault { IfErr result (λ r. IfFault r (IsFaultHere (function_view outline.now.function.now) asked (spot (statement_view statement.now)) carried.old.scope carried.old.answered)) }
+{
+    check_used(outline.function, asked, carried, statement)?;
+    bring(outline, &mut carried.scope, statement)?;
+    note_answer(asked, &mut carried.answered, statement)
+}

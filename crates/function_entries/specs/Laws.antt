@@ -1,0 +1,33 @@
+-- What is known of the faults of entry points.
+use Rattle.std.specs.Prelude.{◌≡◌, ℕ, List, Option}
+use Rattle.function_entries.specs.ConnectionFaults.{IsConnectionFault}
+use Rattle.function_entries.specs.Faults.{IsPayloadFault, IsStageFault}
+use Rattle.function_entries.specs.MeshFaults.{AreSame}
+use Rattle.function_entries.specs.declared.error.EntryPointError.{EntryPointError}
+use Rattle.ir_flags.specs.declared.settings.Capabilities.{Capabilities}
+use Rattle.ir_flags.specs.declared.settings.ValidationFlags.{ValidationFlags}
+use Rattle.ir_items.specs.Plain.{PlainEntry, PlainModule}
+use Rattle.ir_items.specs.declared.entries.MeshStageInfo.{MeshStageInfo}
+use Rattle.spec_analysis.specs.Summaries.{HasUseBit}
+use Rattle.analysis_forms.specs.declared.global_use.GlobalUse.{GlobalUse}
+use Rattle.spec_entries.specs.Entries.{ConnectionsOK}
+use Rattle.spec_entries.specs.Meshes.{Implies}
+use Rattle.spec_entries.specs.Payloads.{PayloadOK}
+use Rattle.spec_entries.specs.Stages.{StageOK}
+
+abbrev pub StageFaultRefutes : Type 0
+StageFaultRefutes = (capabilities : Capabilities) (e : PlainEntry) (x : EntryPointError) → IsStageFault capabilities e x → ¬ StageOK capabilities e
+
+abbrev pub PayloadFaultRefutes : Type 0
+PayloadFaultRefutes = (m : PlainModule) (e : PlainEntry) (x : EntryPointError) → IsPayloadFault m e x → ¬ PayloadOK m e
+
+-- where global variables are used in these ways
+abbrev pub ConnectionFaultRefutes : Type 0
+ConnectionFaultRefutes = (flags : ValidationFlags) (capabilities : Capabilities) (m : PlainModule) (e : PlainEntry) (uses : List GlobalUse) (x : EntryPointError)
+    → IsConnectionFault flags capabilities m e (HasUseBit uses) x → ¬ ConnectionsOK flags capabilities m e (HasUseBit uses)
+
+-- a variable implies one thing, with the same overrides
+abbrev pub OneImplied : Type 0
+OneImplied = (m : PlainModule) (variable : ℕ) (i j : MeshStageInfo) (vertices_by primitives_by vertices_by_other primitives_by_other : Option ℕ)
+    → Implies m variable i vertices_by primitives_by → Implies m variable j vertices_by_other primitives_by_other
+    → AreSame i j × (vertices_by ≡ vertices_by_other) × (primitives_by ≡ primitives_by_other)

@@ -1,0 +1,15 @@
+-- What a mesh shader gives, by the fields of the variable that holds it.
+use Rattle.std.specs.Prelude.{ℕ}
+use Rattle.function_entries.specs.declared.meshes.Fields.{Fields}
+use Rattle.ir_items.specs.Plain.{PlainModule}
+use Rattle.spec_entries.specs.Meshes.{HasParts, HoldsMost, IsCount}
+use Rattle.spec_entries.specs.declared.parts.MeshParts.{MeshParts}
+
+-- the variable has parts, of which these are the vertices and the primitives
+pub record HasFields (m : PlainModule) (variable : ℕ) (f : Fields) : Type 0 where
+  pub types : MeshParts
+  pub parts : HasParts m variable types
+  pub vertex_count : IsCount m.types types.vertex_count
+  pub primitive_count : IsCount m.types types.primitive_count
+  pub vertices : HoldsMost m.types types.vertices f.vertices.element f.vertices.most f.vertices.by
+  pub primitives : HoldsMost m.types types.primitives f.primitives.element f.primitives.most f.primitives.by

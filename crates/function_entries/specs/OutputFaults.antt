@@ -1,0 +1,48 @@
+-- What is wrong with a mesh shader.
+use Rattle.std.specs.Prelude.{◌≡◌, ◌≢◌, ℕ, Some, false}
+use Rattle.function_entries.specs.MeshFaults.{IsSaidFault}
+use Rattle.function_entries.specs.VaryingFaults.{IsOutputFault}
+use Rattle.function_entries.specs.declared.error.EntryPointError.{EntryPointError}
+use Rattle.function_entries.specs.declared.error.EntryPointError.TheVariants as error
+use Rattle.ir_flags.specs.Sets.{Has}
+use Rattle.ir_flags.specs.declared.settings.Capabilities.{Capabilities}
+use Rattle.ir_flags.specs.declared.settings.TheConstants.Capabilities.{MESH_SHADER_POINT_TOPOLOGY}
+use Rattle.ir_flags.specs.declared.settings.ValidationFlags.{ValidationFlags}
+use Rattle.ir_items.specs.Plain.{PlainEntry, PlainModule}
+use Rattle.ir_items.specs.declared.entries.MeshStageInfo.{MeshStageInfo}
+use Rattle.ir_kinds.specs.declared.bindings.BuiltIn.TheVariants.{Position}
+use Rattle.ir_kinds.specs.declared.spaces.AddressSpace.TheVariants.{WorkGroup}
+use Rattle.ir_kinds.specs.declared.stages.MeshOutputTopology.TheVariants.{Points}
+use Rattle.spec_entries.specs.Payloads.{space_at}
+use Rattle.spec_varyings.specs.Contexts.{context_of}
+use Rattle.spec_varyings.specs.Varyings.{HasBuiltIn, mesh_varyings}
+use Rattle.spec_varyings.specs.declared.varyings.Direction.TheVariants.{VertexOutput, PrimitiveOutput}
+
+-- points need a capability, which is not there
+abbrev pub IsPointFault : Capabilities → MeshStageInfo → EntryPointError → Type 0
+IsPointFault capabilities i (error.UnsupportedCapability c) = (c ≡ MESH_SHADER_POINT_TOPOLOGY) × (i.topology ≡ Points) × ¬ Has capabilities.0 MESH_SHADER_POINT_TOPOLOGY.0
+IsPointFault capabilities i _ = ⊥
+
+abbrev pub IsSpaceFault : PlainModule → MeshStageInfo → EntryPointError → Type 0
+IsSpaceFault m i error.WrongMeshOutputAddressSpace = space_at m i.output_variable ≢ Some WorkGroup
+IsSpaceFault m i _ = ⊥
+
+-- of what is said, by the variable
+pub data IsOwnMeshFault (capabilities : Capabilities) (m : PlainModule) (i : MeshStageInfo) (x : EntryPointError) : Type 0 where
+  of_space : IsSpaceFault m i x → IsOwnMeshFault capabilities m i x
+  of_said : IsSaidFault m i x → IsOwnMeshFault capabilities m i x
+  of_points : IsPointFault capabilities i x → IsOwnMeshFault capabilities m i x
+
+abbrev pub IsPositionFault : PlainModule → (type : ℕ) → EntryPointError → Type 0
+IsPositionFault m type error.MissingVertexOutputPosition = ¬ HasBuiltIn (mesh_varyings m.types type) (Position false)
+IsPositionFault m type _ = ⊥
+
+-- of vertices
+pub data IsVertexFault (flags : ValidationFlags) (capabilities : Capabilities) (m : PlainModule) (e : PlainEntry) (type : ℕ) (x : EntryPointError) : Type 0 where
+  of_output : IsOutputFault (context_of flags capabilities m e VertexOutput) type x → IsVertexFault flags capabilities m e type x
+  of_position : IsPositionFault m type x → IsVertexFault flags capabilities m e type x
+
+pub data IsMeshFault (flags : ValidationFlags) (capabilities : Capabilities) (m : PlainModule) (e : PlainEntry) (i : MeshStageInfo) (x : EntryPointError) : Type 0 where
+  of_own : IsOwnMeshFault capabilities m i x → IsMeshFault flags capabilities m e i x
+  of_vertices : IsVertexFault flags capabilities m e i.vertex_output_type x → IsMeshFault flags capabilities m e i x
+  of_primitives : IsOutputFault (context_of flags capabilities m e PrimitiveOutput) i.primitive_output_type x → IsMeshFault flags capabilities m e i x

@@ -1,0 +1,62 @@
+-- What is wrong with what an entry point is given and gives.
+use Rattle.std.specs.Prelude.{◌≡◌, ℕ, List, Option, IsSome, false, min}
+use Rattle.function_entries.specs.declared.error.EntryPointError.{EntryPointError}
+use Rattle.function_entries.specs.declared.error.EntryPointError.TheVariants as error
+use Rattle.ir_faults.specs.Faults.{error_of}
+use Rattle.ir_faults.specs.declared.refusal.Refusal.{Refusal}
+use Rattle.ir_faults.specs.declared.refusal.Refusal.TheVariants as refusal
+use Rattle.ir_items.specs.Plain.{PlainArgument}
+use Rattle.ir_items.specs.declared.functions.FunctionResult.{FunctionResult}
+use Rattle.ir_kinds.specs.declared.bindings.BuiltIn.TheVariants.{Position}
+use Rattle.ir_kinds.specs.declared.stages.ShaderStage.{ShaderStage}
+use Rattle.ir_kinds.specs.declared.stages.ShaderStage.TheVariants.{Vertex, Mesh, Task}
+use Rattle.ir_types.specs.Plain.{PlainType}
+use Rattle.spec_entries.specs.Members.{members_at}
+use Rattle.spec_entries.specs.Results.{GivesTaskSize}
+use Rattle.spec_varyings.specs.Contexts.{VaryingContext}
+use Rattle.spec_varyings.specs.Varyings.{HasBuiltIn, argument_varyings, mesh_varyings, result_varyings}
+use Rattle.spec_varyings.specs.declared.varyings.Varying.{Varying}
+use Rattle.function_varyings.specs.Faults.{IsVaryingFault}
+use Rattle.function_varyings.specs.declared.error.VaryingRefusal.{VaryingRefusal}
+use Rattle.function_varyings.specs.declared.error.VaryingRefusal.TheVariants as varying
+
+-- ---- refusals
+
+-- a refusal of varyings, told as one of an argument
+abbrev pub IsToldOfArgument : VaryingRefusal → Refusal EntryPointError → Type 0
+IsToldOfArgument (varying.Memory a) (refusal.Memory b) = Unit {0}
+IsToldOfArgument (varying.Memory a) (refusal.Fault f) = ⊥
+IsToldOfArgument (varying.Fault index e) (refusal.Memory b) = ⊥
+IsToldOfArgument (varying.Fault index e) (refusal.Fault f) = error_of f ≡ error.Argument (min index 4294967295) e
+
+-- and as one of what is given
+abbrev pub IsToldOfResult : VaryingRefusal → Refusal EntryPointError → Type 0
+IsToldOfResult (varying.Memory a) (refusal.Memory b) = Unit {0}
+IsToldOfResult (varying.Memory a) (refusal.Fault f) = ⊥
+IsToldOfResult (varying.Fault index e) (refusal.Memory b) = ⊥
+IsToldOfResult (varying.Fault index e) (refusal.Fault f) = error_of f ≡ error.Result e
+
+-- ---- varyings
+
+-- one of the arguments is refused, which the number names as far as it goes
+abbrev pub IsArgumentFault : VaryingContext → List PlainArgument → EntryPointError → Type 0
+IsArgumentFault c arguments (error.Argument k e) = (index : ℕ) × (k ≡ min index 4294967295) × IsVaryingFault c (argument_varyings c.types arguments) index e
+IsArgumentFault c arguments _ = ⊥
+
+-- one of these varyings is refused that are given
+abbrev pub IsGivenFault : VaryingContext → List Varying → EntryPointError → Type 0
+IsGivenFault c vs (error.Result e) = (index : ℕ) × IsVaryingFault c vs index e
+IsGivenFault c vs _ = ⊥
+
+-- what a mesh shader gives with a vertex or a primitive, which is of this type
+abbrev pub IsOutputFault : VaryingContext → (type : ℕ) → EntryPointError → Type 0
+IsOutputFault c type error.InvalidMeshOutputType = ¬ IsSome (members_at c.types type)
+IsOutputFault c type e = IsGivenFault c (mesh_varyings c.types type) e
+
+-- ---- what is answered
+
+abbrev pub IsAnswerFault : List PlainType → ShaderStage → Option FunctionResult → EntryPointError → Type 0
+IsAnswerFault types stage r error.MissingVertexOutputPosition = (stage ≡ Vertex) × ¬ HasBuiltIn (result_varyings types r) (Position false)
+IsAnswerFault types stage r error.WrongTaskShaderEntryResult = (stage ≡ Task) × ¬ GivesTaskSize types r
+IsAnswerFault types stage r error.UnexpectedMeshShaderEntryResult = (stage ≡ Mesh) × IsSome r
+IsAnswerFault types stage r _ = ⊥

@@ -1,0 +1,128 @@
+//! What connects an entry point with other stages and with hosts.
+
+ghost use Rattle.std.specs.Prelude.{◌≡◌, ◌<◌, ◌↔◌, IfSome, IsTrue, MatchResult, OnOk, length};
+ghost use Rattle.function_entries.specs.ConnectionFaults.{IsConnectionFault};
+ghost use Rattle.function_entries.specs.Contexts.{AreSharedIn, IsKnown, entry_in, module_in};
+ghost use Rattle.function_entries.specs.Faults.{IsRefusedFor, IsVariablesFault};
+ghost use Rattle.ir_items.specs.View.{entry_view, module_view};
+ghost use Rattle.ir_items.specs.declared.entries.MeshStageInfo.{MeshStageInfo};
+ghost use Rattle.spec_analysis.specs.Summaries.{HasUseBit};
+ghost use Rattle.spec_entries.specs.Entries.{ConnectionsOK};
+ghost use Rattle.spec_entries.specs.Variables.{VariablesOK};
+ghost use Rattle.spec_varyings.specs.Varyings.{HasBlendSources, result_varyings};
+
+use crate::bindings::check_bindings;
+use crate::context::EntryContext;
+use crate::error::EntryPointError;
+use crate::known::KnownInterfaces;
+use crate::outputs::check_mesh;
+use crate::variables::{check_each, check_immediates};
+use crate::varyings::{check_arguments, check_result};
+use analysis_forms::GlobalUse;
+use bitflags::Flags;
+use ir_faults::refusal::Refusal;
+use ir_faults::with_span::WithSpan;
+use ir_flags::ValidationFlags;
+use ir_items::{EntryPoint, Module};
+use std::alloc::Global;
+
+// Whether an entry point may use the variables that it uses.
+fn check_variables(
+    alloc: Global,
+    flags: ValidationFlags,
+    module: &Module,
+    entry: &EntryPoint,
+    uses: &[GlobalUse],
+) -> Result<(), Refusal<EntryPointError>>
+    requires { length uses.now ≡ length (module_view «module».now).globals }
+    ensures { MatchResult result
+        (λ _. VariablesOK flags (module_view «module».now) (entry_view entry.now) (HasUseBit uses.now))
+        (IsRefusedFor (IsVariablesFault flags (module_view «module».now) (entry_view entry.now) (HasUseBit uses.now))) }
+{
+    match check_immediates(module, uses) {
+        Ok(()) => {}
+        Err(error) => return Err(Refusal::Fault(WithSpan::new(alloc, error))),
+    }
+    match check_each(module, entry, uses) {
+        Ok(()) => {}
+        Err(error) => return Err(Refusal::Fault(WithSpan::new(alloc, error))),
+    }
+    if !flags.contains(ValidationFlags::BINDINGS) {
+        return Ok(());
+    }
+    match check_bindings(alloc, module, uses) {
+        Ok(()) => Ok(()),
+        Err(refusal) => Err(refusal),
+    }
+}
+
+/// Whether what connects an entry point with other stages and with hosts is as it may be, where its global variables are used in
+/// these ways; then whether two sources of a blend are among what it answers.
+///
+/// Asks that the uses are told of all global variables, and that the output of a mesh shader is there.
+///
+/// # Errors
+///
+/// [`Refusal::Fault`] with a fault that stands: of the arguments, the result, the variables that are used, or what a mesh shader
+/// gives (of the first of these with which something is wrong, which no clause says); [`Refusal::Memory`] where memory ran out.
+pub fn check_connections(
+    alloc: Global,
+    context: &EntryContext<'_>,
+    uses: &[GlobalUse],
+) -> Result<bool, Refusal<EntryPointError>>
+    requires known { IsKnown context.now }
+    requires many { length uses.now ≡ length (module_in context.now).globals }
+    requires output { IfSome (entry_in context.now).mesh (λ (i : MeshStageInfo). i.output_variable < length (module_in context.now).globals) }
+    ensures { let m = module_in context.now in
+        let e = entry_in context.now in
+        MatchResult result
+        (λ blended. ConnectionsOK context.now.flags context.now.capabilities m e (HasUseBit uses.now) × (IsTrue blended ↔ HasBlendSources (result_varyings m.types e.function.result)))
+        (IsRefusedFor (IsConnectionFault context.now.flags context.now.capabilities m e (HasUseBit uses.now))) }
+{
+    let mut known = KnownInterfaces::new(alloc);
+    check_connections_with(alloc, context, uses, &mut known)
+}
+
+/// The same, where `known` has what was found for entry points of the module before, with the same flags and capabilities; what is
+/// found besides is noted.
+///
+/// # Errors
+///
+/// Those of [`check_connections`].
+pub fn check_connections_with(
+    alloc: Global,
+    context: &EntryContext<'_>,
+    uses: &[GlobalUse],
+    known: &mut KnownInterfaces,
+) -> Result<bool, Refusal<EntryPointError>>
+    requires told { IsKnown context.now }
+    requires known { AreSharedIn context.now known.old }
+    requires many { length uses.now ≡ length (module_in context.now).globals }
+    requires output { IfSome (entry_in context.now).mesh (λ (i : MeshStageInfo). i.output_variable < length (module_in context.now).globals) }
+    ensures known { OnOk result (AreSharedIn context.now known.new) }
+    ensures judged { let m = module_in context.now in
+        let e = entry_in context.now in
+        MatchResult result
+        (λ blended. ConnectionsOK context.now.flags context.now.capabilities m e (HasUseBit uses.now) × (IsTrue blended ↔ HasBlendSources (result_varyings m.types e.function.result)))
+        (IsRefusedFor (IsConnectionFault context.now.flags context.now.capabilities m e (HasUseBit uses.now))) }
+{
+    match check_arguments(alloc, context, &mut known.varyings) {
+        Ok(()) => {}
+        Err(refusal) => return Err(refusal),
+    }
+    let blended = match check_result(alloc, context, &mut known.varyings) {
+        Ok(blended) => blended,
+        Err(refusal) => return Err(refusal),
+    };
+    match check_variables(alloc, context.flags, context.module, context.entry, uses) {
+        Ok(()) => {}
+        Err(refusal) => return Err(refusal),
+    }
+    match &context.entry.mesh_info {
+        None => Ok(blended),
+        Some(mesh) => match check_mesh(alloc, context, known, mesh) {
+            Ok(()) => Ok(blended),
+            Err(refusal) => Err(refusal),
+        },
+    }
+}

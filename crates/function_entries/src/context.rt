@@ -1,0 +1,47 @@
+//! What the rules of entry points may look at.
+
+ghost use Rattle.std.specs.Prelude.{◌≡◌};
+ghost use Rattle.function_entries.specs.Contexts.{IsKnown, varying_context};
+ghost use Rattle.function_varyings.specs.View.{IsTold, context_view};
+
+use ir_flags::{Capabilities, ValidationFlags};
+use ir_items::{EntryPoint, Module};
+use spec_varyings::Direction;
+use module_type_infos::TypeInfo;
+use function_varyings::VaryingContext;
+
+/// What the rules of entry points may look at.
+#[derive(Clone, Copy)]
+pub struct EntryContext<'a> {
+    /// The checks that are asked.
+    pub flags: ValidationFlags,
+    /// What shaders may use beyond the common part.
+    pub capabilities: Capabilities,
+    /// The module.
+    pub module: &'a Module,
+    /// What is told of its types.
+    pub infos: &'a [TypeInfo],
+    /// The entry point.
+    pub entry: &'a EntryPoint,
+}
+
+/// What the rules of varyings may look at that go this way.
+pub(crate) fn varying_context<'a>(
+    context: &EntryContext<'a>,
+    direction: Direction,
+) -> VaryingContext<'a>
+    requires { IsKnown context.now }
+    ensures view { context_view result ≡ varying_context context.now direction }
+    ensures told { IsTold result }
+{
+    VaryingContext {
+        flags: context.flags,
+        capabilities: context.capabilities,
+        types: &context.module.types,
+        infos: context.infos,
+        stage: context.entry.stage,
+        workgroup_size: context.entry.workgroup_size,
+        task_payload: context.entry.task_payload,
+        direction,
+    }
+}

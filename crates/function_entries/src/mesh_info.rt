@@ -1,0 +1,76 @@
+//! What the outputs of mesh shaders imply.
+
+ghost use Rattle.std.specs.Prelude.{◌<◌, MatchOption, None, length, slice_index_or};
+ghost use Rattle.function_entries.specs.MeshFaults.{IsImpliedFault};
+ghost use Rattle.ir_faults.specs.Faults.{error_of};
+ghost use Rattle.ir_items.specs.Plain.{PlainModule};
+ghost use Rattle.spec_entries.specs.Meshes.{Implies};
+
+use crate::error::EntryPointError;
+use crate::meshes::implied_mesh;
+use ir_arena::handle::Handle;
+use ir_faults::with_span::WithSpan;
+use ir_items::{MeshStageInfo, Module};
+use ir_kinds::MeshOutputTopology;
+use ir_types::key;
+use std::alloc::Global;
+
+/// What is implied of a mesh shader, with the overrides that say how many vertices and how many primitives there are at most, and
+/// what is wrong, if something is.
+pub type MeshAnalysis = (
+    MeshStageInfo,
+    [Option<Handle<key::Override>>; 2],
+    Option<WithSpan<EntryPointError>>,
+);
+
+/// What the outputs of mesh shaders imply.
+pub trait MeshInfo {
+    /// The module that has the variables.
+    ghost module_of: { Self → PlainModule };
+
+    /// What a variable implies that holds what a mesh shader gives, no override said (naga's `Module::analyze_mesh_shader_info`).
+    /// Where something is wrong with the variable, that is told, and the rest says nothing. Asks that the variable is there.
+    fn analyze_mesh_shader_info(
+        &self,
+        alloc: Global,
+        variable: Handle<key::GlobalVariable>,
+    ) -> MeshAnalysis
+        requires { variable < length (module_of self.now).globals }
+        ensures { MatchOption result.2
+            (Implies (module_of self.now) variable result.0 (slice_index_or result.1 0 None) (slice_index_or result.1 1 None))
+            (λ f. IsImpliedFault (module_of self.now) variable (error_of f)) };
+}
+
+impl MeshInfo for Module {
+    ghost use Rattle.ir_items.specs.View.{module_view};
+
+    ghost module_of = { module_view };
+
+    fn analyze_mesh_shader_info(
+        &self,
+        alloc: Global,
+        variable: Handle<key::GlobalVariable>,
+    ) -> MeshAnalysis {
+        match implied_mesh(self, variable) {
+            Ok(implied) => (
+                implied.info,
+                [implied.vertices_by, implied.primitives_by],
+                None,
+            ),
+            Err(error) => {
+                let ty = self.global_variables[variable].ty;
+                let info = MeshStageInfo {
+                    topology: MeshOutputTopology::Triangles,
+                    max_vertices: 0,
+                    max_vertices_override: None,
+                    max_primitives: 0,
+                    max_primitives_override: None,
+                    vertex_output_type: ty,
+                    primitive_output_type: ty,
+                    output_variable: variable,
+                };
+                (info, [None, None], Some(WithSpan::new(alloc, error)))
+            }
+        }
+    }
+}

@@ -1,0 +1,380 @@
+//! What a mesh shader gives, by the variable that holds it.
+
+ghost use Rattle.std.specs.Prelude.{◌≡◌, ◌∷◌, ◌<◌, ◌↔◌, [], ℕ, IsTrue, List, MatchOption, MatchResult, OnOk, Option, None, Some, length, map};
+ghost use Rattle.function_entries.specs.Faults.{IsRefusedFor};
+ghost use Rattle.function_entries.specs.Interfaces.{AreMeshesKnown};
+ghost use Rattle.function_entries.specs.MeshFaults.{AreSame, IsImpliedFault, IsSaidFault};
+ghost use Rattle.function_entries.specs.MeshFields.{HasFields};
+ghost use Rattle.ir_items.specs.Plain.{PlainModule};
+ghost use Rattle.ir_items.specs.View.{module_view};
+ghost use Rattle.ir_types.specs.ExpressionPlain.{expression_view};
+ghost use Rattle.ir_types.specs.Plain.{inner_view, member_view};
+ghost use Rattle.typing_forms.specs.Resolutions.{inner_at};
+ghost use Rattle.spec_entries.specs.Members.{topologies_at};
+ghost use Rattle.spec_entries.specs.Meshes.{FieldsOK, HoldsMost, Implies, IsCount, IsSaid, SaidBy, array_of, most, override_at, override_of, variable_members};
+ghost use Rattle.ir_items.specs.declared.entries.MeshStageInfo.{MeshStageInfo};
+
+use crate::error::EntryPointError;
+use crate::known::KnownMeshes;
+use ir_arena::handle::Handle;
+use ir_faults::refusal::Refusal;
+use ir_faults::with_span::WithSpan;
+use ir_items::{MeshStageInfo, Module};
+use ir_kinds::{MeshOutputTopology, Scalar};
+use ir_types::{ArraySize, Expression, StructMember, TypeInner, key};
+use spec_entries::{MeshParts, inner_at, members_at, parts_of, topology_at};
+use std::alloc::Global;
+use typing_forms::laws::form_equality;
+use typing_forms::{Form, form_of_type};
+
+/// What an array holds.
+#[derive(Clone, Copy)]
+pub(crate) struct Held {
+    /// The type of its elements.
+    element: Handle<key::IrType>,
+    /// How many there are at most; 0 where an override says so.
+    most: u32,
+    /// The override that says so.
+    by: Option<Handle<key::Override>>,
+}
+
+/// What the vertices and the primitives are.
+#[derive(Clone, Copy)]
+pub(crate) struct Fields {
+    vertices: Held,
+    primitives: Held,
+}
+
+/// What an output implies.
+#[derive(Clone, Copy)]
+pub(crate) struct Implied {
+    /// What is given, no override said.
+    pub(crate) info: MeshStageInfo,
+    /// The override that says how many vertices there are at most.
+    pub(crate) vertices_by: Option<Handle<key::Override>>,
+    /// The override that says how many primitives there are at most.
+    pub(crate) primitives_by: Option<Handle<key::Override>>,
+}
+
+// The members of the struct that a variable is.
+fn variable_members(
+    module: &Module,
+    variable: Handle<key::GlobalVariable>,
+) -> Option<&[StructMember]>
+    requires { variable < length (module_view «module».now).globals }
+    ensures { MatchOption result
+        (variable_members (module_view «module».now) variable ≡ None)
+        (λ members. variable_members (module_view «module».now) variable ≡ Some (map member_view members.now)) }
+{
+    members_at(module, module.global_variables[variable].ty)
+}
+
+// Whether a type is that of a number of things.
+fn is_count(module: &Module, ty: Handle<key::IrType>) -> bool
+    ensures { IsTrue result ↔ IsCount (module_view «module».now).types ty }
+{
+    form_equality(form_of_type(&module.types, ty), Form::Scalar(Scalar::U32))
+}
+
+// The type of the elements of what is an array, and how many there are.
+fn array_of(inner: &TypeInner) -> Option<(Handle<key::IrType>, ArraySize)>
+    ensures { result ≡ array_of (Some (inner_view inner.now)) }
+{
+    match inner {
+        TypeInner::Array { base, size, .. } => Some((*base, *size)),
+        _ => None,
+    }
+}
+
+// The same of the type at a handle.
+fn array_at(module: &Module, ty: Handle<key::IrType>) -> Option<(Handle<key::IrType>, ArraySize)>
+    ensures { result ≡ array_of (inner_at (module_view «module».now).types ty) }
+{
+    match inner_at(module, ty) {
+        Some(inner) => array_of(inner),
+        None => None,
+    }
+}
+
+// How many elements there are at most, and the override that says so; `None` where a buffer says how many.
+fn most(size: ArraySize) -> Option<(u32, Option<Handle<key::Override>>)>
+    ensures { result ≡ most size }
+{
+    match size {
+        ArraySize::Constant(count) => Some((count, None)),
+        ArraySize::Pending(by) => Some((0, Some(by))),
+        ArraySize::Dynamic => None,
+    }
+}
+
+// What an array of a type holds; `None` of what is no array, or one of which a buffer says how many there are.
+fn held_by(module: &Module, ty: Handle<key::IrType>) -> Option<Held>
+    ensures { let types = (module_view «module».now).types in
+        MatchOption result
+        ((element n : ℕ) (by : Option ℕ) → HoldsMost types ty element n by → ⊥)
+        (λ held. HoldsMost types ty held.element held.most held.by) }
+{
+    let array = match array_at(module, ty) {
+        Some(array) => array,
+        None => return None,
+    };
+    match most(array.1) {
+        Some(count) => Some(Held {
+            element: array.0,
+            most: count.0,
+            by: count.1,
+        }),
+        None => None,
+    }
+}
+
+// What the parts are, where each is as it should be.
+fn fields_of(module: &Module, parts: MeshParts) -> Option<Fields>
+    ensures { let types = (module_view «module».now).types in
+        MatchOption result
+        ((i : MeshStageInfo) (vertices_by primitives_by : Option ℕ) → FieldsOK types parts i vertices_by primitives_by → ⊥)
+        (λ f. IsCount types parts.vertex_count × IsCount types parts.primitive_count
+        × HoldsMost types parts.vertices f.vertices.element f.vertices.most f.vertices.by
+        × HoldsMost types parts.primitives f.primitives.element f.primitives.most f.primitives.by) }
+{
+    if !is_count(module, parts.vertex_count) {
+        return None;
+    }
+    if !is_count(module, parts.primitive_count) {
+        return None;
+    }
+    let vertices = match held_by(module, parts.vertices) {
+        Some(held) => held,
+        None => return None,
+    };
+    let primitives = match held_by(module, parts.primitives) {
+        Some(held) => held,
+        None => return None,
+    };
+    Some(Fields {
+        vertices,
+        primitives,
+    })
+}
+
+// The type of the primitives.
+fn primitive_of(fields: &Fields) -> Handle<key::IrType>
+    ensures { result ≡ fields.now.primitives.element }
+{
+    fields.primitives.element
+}
+
+// What a variable implies that has these vertices and primitives, of which these are.
+fn implied_by(
+    variable: Handle<key::GlobalVariable>,
+    fields: &Fields,
+    topology: MeshOutputTopology,
+) -> Implied
+    ensures { (m : PlainModule) → HasFields m variable fields.now → topologies_at m.types fields.now.primitives.element ≡ topology ∷ [] → Implies m variable result.info result.vertices_by result.primitives_by }
+{
+    let vertices = fields.vertices;
+    let primitives = fields.primitives;
+    Implied {
+        info: MeshStageInfo {
+            topology,
+            max_vertices: vertices.most,
+            max_vertices_override: None,
+            max_primitives: primitives.most,
+            max_primitives_override: None,
+            vertex_output_type: vertices.element,
+            primitive_output_type: primitives.element,
+            output_variable: variable,
+        },
+        vertices_by: vertices.by,
+        primitives_by: primitives.by,
+    }
+}
+
+/// What a variable implies that holds what a mesh shader gives.
+pub(crate) fn implied_mesh(
+    module: &Module,
+    variable: Handle<key::GlobalVariable>,
+) -> Result<Implied, EntryPointError>
+    requires { variable < length (module_view «module».now).globals }
+    ensures { MatchResult result
+        (λ i. Implies (module_view «module».now) variable i.info i.vertices_by i.primitives_by)
+        (IsImpliedFault (module_view «module».now) variable) }
+{
+    let members = match variable_members(module, variable) {
+        Some(members) => members,
+        None => return Err(EntryPointError::BadMeshOutputVariableType),
+    };
+    let parts = match parts_of(members) {
+        Some(parts) => parts,
+        None => return Err(EntryPointError::BadMeshOutputVariableType),
+    };
+    let fields = match fields_of(module, parts) {
+        Some(fields) => fields,
+        None => return Err(EntryPointError::BadMeshOutputVariableField),
+    };
+    match topology_at(module, primitive_of(&fields)) {
+        Some(topology) => Ok(implied_by(variable, &fields, topology)),
+        None => Err(EntryPointError::InvalidMeshPrimitiveOutputType),
+    }
+}
+
+// What the vertices and the primitives of a variable are, where `known` has what was found of types before.
+fn fields_with(
+    alloc: Global,
+    module: &Module,
+    known: &mut KnownMeshes,
+    variable: Handle<key::GlobalVariable>,
+) -> Result<Fields, Refusal<EntryPointError>>
+    requires within { variable < length (module_view «module».now).globals }
+    requires known { AreMeshesKnown (module_view «module».now).types known.old }
+    ensures known { OnOk result (AreMeshesKnown (module_view «module».now).types known.new) }
+    ensures fine { MatchResult result
+        (HasFields (module_view «module».now) variable)
+        (IsRefusedFor (IsImpliedFault (module_view «module».now) variable)) }
+{
+    let ty = module.global_variables[variable].ty;
+    let parts = match known.find_parts(module, ty) {
+        Ok(Some(parts)) => parts,
+        Ok(None) => {
+            let error = EntryPointError::BadMeshOutputVariableType;
+            return Err(Refusal::Fault(WithSpan::new(alloc, error)));
+        }
+        Err(error) => return Err(Refusal::Memory(error)),
+    };
+    match fields_of(module, parts) {
+        Some(fields) => Ok(fields),
+        None => {
+            let error = EntryPointError::BadMeshOutputVariableField;
+            Err(Refusal::Fault(WithSpan::new(alloc, error)))
+        }
+    }
+}
+
+// What a variable implies that holds what a mesh shader gives, where `known` has what was found of types before.
+fn implied_with(
+    alloc: Global,
+    module: &Module,
+    known: &mut KnownMeshes,
+    variable: Handle<key::GlobalVariable>,
+) -> Result<Implied, Refusal<EntryPointError>>
+    requires within { variable < length (module_view «module».now).globals }
+    requires known { AreMeshesKnown (module_view «module».now).types known.old }
+    ensures known { OnOk result (AreMeshesKnown (module_view «module».now).types known.new) }
+    ensures fine { MatchResult result
+        (λ i. Implies (module_view «module».now) variable i.info i.vertices_by i.primitives_by)
+        (IsRefusedFor (IsImpliedFault (module_view «module».now) variable)) }
+{
+    let fields = match fields_with(alloc, module, known, variable) {
+        Ok(fields) => fields,
+        Err(refusal) => return Err(refusal),
+    };
+    match known.find_topology(module, primitive_of(&fields)) {
+        Ok(Some(topology)) => Ok(implied_by(variable, &fields, topology)),
+        Ok(None) => {
+            let error = EntryPointError::InvalidMeshPrimitiveOutputType;
+            Err(Refusal::Fault(WithSpan::new(alloc, error)))
+        }
+        Err(error) => Err(Refusal::Memory(error)),
+    }
+}
+
+// The override that a global expression is, if it is one.
+fn override_at(
+    module: &Module,
+    expression: Handle<key::Expression>,
+) -> Option<Handle<key::Override>>
+    ensures { result ≡ override_at (module_view «module».now) expression }
+{
+    match module.global_expressions.try_get(expression) {
+        Ok(found) => override_of(found),
+        Err(_) => None,
+    }
+}
+
+// The same of the expression itself.
+fn override_of(expression: &Expression) -> Option<Handle<key::Override>>
+    ensures { result ≡ override_of (expression_view expression.now) }
+{
+    match expression {
+        Expression::Override(by) => Some(*by),
+        _ => None,
+    }
+}
+
+// Whether a global expression that says how many there are, where it is an override, is the one that is implied.
+fn is_said_by(
+    module: &Module,
+    given: Option<Handle<key::Expression>>,
+    by: Option<Handle<key::Override>>,
+) -> bool
+    ensures { IsTrue result ↔ SaidBy (module_view «module».now) given by }
+{
+    let Some(expression) = given else {
+        return true;
+    };
+    match override_at(module, expression) {
+        None => true,
+        Some(said) => match by {
+            Some(implied) => implied == said,
+            None => false,
+        },
+    }
+}
+
+// Whether two say the same of a mesh shader, overrides and the variable aside.
+fn is_same(implied: &MeshStageInfo, said: &MeshStageInfo) -> bool
+    ensures { IsTrue result ↔ AreSame implied.now said.now }
+{
+    implied.topology == said.topology
+        && implied.max_vertices == said.max_vertices
+        && implied.max_primitives == said.max_primitives
+        && implied.vertex_output_type == said.vertex_output_type
+        && implied.primitive_output_type == said.primitive_output_type
+}
+
+// Whether what is said of a mesh shader is what its output implies, which is this.
+fn check_implied(
+    module: &Module,
+    mesh: &MeshStageInfo,
+    implied: &Implied,
+) -> Result<(), EntryPointError>
+    requires { Implies (module_view «module».now) mesh.now.output_variable implied.now.info implied.now.vertices_by implied.now.primitives_by }
+    ensures { MatchResult result
+        (λ _. IsSaid (module_view «module».now) mesh.now)
+        (IsSaidFault (module_view «module».now) mesh.now) }
+{
+    if !is_said_by(module, mesh.max_vertices_override, implied.vertices_by) {
+        return Err(EntryPointError::BadMeshOutputVariableType);
+    }
+    if !is_said_by(module, mesh.max_primitives_override, implied.primitives_by) {
+        return Err(EntryPointError::BadMeshOutputVariableType);
+    }
+    if !is_same(&implied.info, mesh) {
+        return Err(EntryPointError::BadMeshOutputVariableType);
+    }
+    Ok(())
+}
+
+/// Whether what is said of a mesh shader is what its output implies, where `known` has what was found of types before.
+pub(crate) fn check_said(
+    alloc: Global,
+    module: &Module,
+    known: &mut KnownMeshes,
+    mesh: &MeshStageInfo,
+) -> Result<(), Refusal<EntryPointError>>
+    requires within { mesh.now.output_variable < length (module_view «module».now).globals }
+    requires known { AreMeshesKnown (module_view «module».now).types known.old }
+    ensures known { OnOk result (AreMeshesKnown (module_view «module».now).types known.new) }
+    ensures fine { MatchResult result
+        (λ _. IsSaid (module_view «module».now) mesh.now)
+        (IsRefusedFor (IsSaidFault (module_view «module».now) mesh.now)) }
+{
+    let implied = match implied_with(alloc, module, known, mesh.output_variable) {
+        Ok(implied) => implied,
+        Err(refusal) => return Err(refusal),
+    };
+    match check_implied(module, mesh, &implied) {
+        Ok(()) => Ok(()),
+        Err(error) => Err(Refusal::Fault(WithSpan::new(alloc, error))),
+    }
+}

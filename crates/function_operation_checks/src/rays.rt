@@ -1,0 +1,68 @@
+//! What rays are traced in, and what describes them.
+
+ghost use Rattle.std.specs.Prelude.{◌≡◌, ◌↔◌, IsTrue, Some};
+ghost use Rattle.spec_statements.specs.RayQueries.{structure_of, IsMadeAs, IsRayDescriptor};
+
+use ir_arena::handle::Handle;
+use ir_types::key;
+use function_statement_checks::{StatementContext, are_same};
+use typing_forms::Form;
+
+/// Whether the acceleration structure that a type is gives the vertices of a hit.
+pub(crate) const fn structure_of(of: Form) -> Option<bool>
+    ensures { result ≡ structure_of of }
+{
+    match of {
+        Form::AccelerationStructure { vertex_return } => Some(vertex_return),
+        Form::Scalar(_)
+        | Form::Vector { .. }
+        | Form::Matrix { .. }
+        | Form::CooperativeMatrix { .. }
+        | Form::Atomic(_)
+        | Form::Pointer { .. }
+        | Form::ValuePointer { .. }
+        | Form::Array { .. }
+        | Form::Struct(_)
+        | Form::Image { .. }
+        | Form::Sampler { .. }
+        | Form::RayQuery { .. }
+        | Form::BindingArray { .. }
+        | Form::Nothing => None,
+    }
+}
+
+// Whether a type is made as the module's type of rays, which is this.
+fn is_made_as<C: StatementContext>(context: &C, declared: Handle<key::IrType>, of: &Form) -> bool
+    requires known { C.known context.now }
+    requires declared { (C.seen context.now).m.special.ray_desc ≡ Some declared }
+    ensures { IsTrue result ↔ IsMadeAs (C.seen context.now).m.types declared of.now }
+{
+    match *of {
+        Form::Struct(handle) => context.is_descriptor(handle),
+        Form::Nothing => false,
+        Form::Scalar(_)
+        | Form::Vector { .. }
+        | Form::Matrix { .. }
+        | Form::CooperativeMatrix { .. }
+        | Form::Atomic(_)
+        | Form::Pointer { .. }
+        | Form::ValuePointer { .. }
+        | Form::Array { .. }
+        | Form::Image { .. }
+        | Form::Sampler { .. }
+        | Form::AccelerationStructure { .. }
+        | Form::RayQuery { .. }
+        | Form::BindingArray { .. } => are_same(*of, context.form_of(declared)),
+    }
+}
+
+/// Whether a type is made as that of what describes a ray.
+pub(crate) fn is_ray_descriptor<C: StatementContext>(context: &C, of: &Form) -> bool
+    requires { C.known context.now }
+    ensures { IsTrue result ↔ IsRayDescriptor (C.seen context.now) of.now }
+{
+    match context.ray_descriptor() {
+        Some(declared) => is_made_as(context, declared, of),
+        None => false,
+    }
+}

@@ -1,0 +1,14 @@
+-- Why a function has no summary.
+use Rattle.std.specs.Prelude.{List}
+use Rattle.ir_items.specs.Plain.{PlainFunction, PlainModule}
+use Rattle.spec_analysis.specs.Summaries.{Summary, IsFormFault}
+use Rattle.spec_expressions.specs.Context.{inside}
+use Rattle.function_real_lower.specs.declared.summary.SummaryError.{SummaryError}
+use Rattle.function_real_lower.specs.declared.summary.SummaryError.TheVariants.{Memory, Untyped, WrongForm}
+use Rattle.typing_expressions.specs.Types.{IsUntypedFirst}
+
+-- the refusal is that memory ran out, or a fault of the function that stands
+abbrev pub IsSummaryFault : PlainModule → PlainFunction → List Summary → SummaryError → Type 0
+IsSummaryFault m f summaries (Memory error) = Unit {0}
+IsSummaryFault m f summaries (Untyped expression error) = IsUntypedFirst (inside m f) f.expressions expression error
+IsSummaryFault m f summaries (WrongForm expression) = IsFormFault f summaries expression

@@ -1,0 +1,38 @@
+-- What is kept of a function, expression by expression and as a whole.
+use Rattle.std.specs.Prelude.{◌≡◌, ◌↔◌, ℕ, ◌-◌, ◌^◌, min, false, List, Some, length, slice_get}
+use Rattle.std.specs.List.{flat_map}
+use Rattle.bitflags.specs.Sets.{known_bits}
+use Rattle.ir_flags.specs.Words.{shader_stages}
+use Rattle.ir_items.specs.Plain.{PlainFunction, PlainModule}
+use Rattle.typing_uniformity.specs.Facts.{IsUniformity}
+use Rattle.analysis_forms.specs.declared.expression_info.ExpressionInfo.{ExpressionInfo}
+use Rattle.typing_infos.specs.Infos.{summary_of, key_of}
+use Rattle.typing_infos.specs.declared.function_info.FunctionInfo.{FunctionInfo}
+use Rattle.spec_analysis.specs.Effects.{effects_of, places_of}
+use Rattle.spec_analysis.specs.Summaries.{Summary, IsJoined}
+use Rattle.spec_analysis.specs.Values.{StartsAt}
+use Rattle.spec_expressions.specs.Typing.{HasType}
+use Rattle.typing_operands.specs.Answers.{form_given}
+
+-- Of the expression at a place it says where its value comes from and what it asks for, at how many places it is an operand,
+-- the global variable that its chain of accesses starts at, and a type that it has.
+pub record IsExpressionInfo (m : PlainModule) (f : PlainFunction) (e : ℕ) (i : ExpressionInfo) : Type 0 where
+  pub uniformity : IsUniformity m f e i.uniformity
+  pub ref_count : i.ref_count ≡ min (places_of e (effects_of f)) (2 ^ 64 - 1)
+  pub assignable_global : (g : ℕ) → (i.assignable_global ≡ Some g) ↔ StartsAt f.expressions e g
+  pub ty : HasType m f e (form_given m.types i.ty)
+
+-- so of each expression
+pub record AreExpressionInfos (m : PlainModule) (f : PlainFunction) (infos : List ExpressionInfo) : Type 0 where
+  pub len : length infos ≡ length f.expressions
+  pub each : (e : ℕ) (i : ExpressionInfo) → slice_get infos e ≡ Some i → IsExpressionInfo m f e i
+
+-- What is kept of a function, which calls others of which these summaries are kept: the uses of all global variables, the
+-- pairs and whether it may end the fragment are joined of its own and its callees', and nothing is noted yet.
+pub record IsFunctionInfo (m : PlainModule) (f : PlainFunction) (summaries : List Summary) (info : FunctionInfo) : Type 0 where
+  pub expressions : AreExpressionInfos m f info.expressions.items
+  pub globals : length info.uses.items ≡ length m.globals
+  pub joined : IsJoined (length m.globals) f summaries (summary_of info)
+  pub sampling_set : info.sampling_set.items ≡ flat_map key_of info.sampling.items
+  pub available_stages : info.available_stages.0 ≡ known_bits shader_stages
+  pub dual_source_blending : info.dual_source_blending ≡ false

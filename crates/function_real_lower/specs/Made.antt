@@ -1,0 +1,21 @@
+-- What is kept of a module is that of this one, whose handles are in order.
+use Rattle.std.specs.Prelude.{List, map}
+use Rattle.analysis_forms.specs.declared.expression_info.ExpressionInfo.{ExpressionInfo}
+use Rattle.typing_infos.specs.declared.function_info.FunctionInfo.{FunctionInfo}
+use Rattle.function_interface.specs.Told.{AreTold}
+use Rattle.ir_items.specs.Plain.{PlainModule}
+use Rattle.typing_infos.specs.declared.info.ModuleInfo.{ModuleInfo}
+use Rattle.spec_expressions.specs.Context.{outside}
+use Rattle.spec_handles.specs.InOrder.{HandlesOK}
+use Rattle.typing_expressions.specs.Types.{AreTypes}
+use Rattle.typing_forms.specs.declared.resolution.TypeResolution.{TypeResolution}
+
+-- the handles of the module are in order; it tells of all types of the module, and has the types of all its global expressions
+pub record IsMadeOf (m : PlainModule) (info : ModuleInfo) : Type 0 where
+  pub handles : HandlesOK m
+  pub told : AreTold m.types info.types.items
+  pub typed : AreTypes (outside m) m.global_expressions info.const_expression_types.items
+
+-- the types of the expressions of a function
+abbrev pub types_of : FunctionInfo → List TypeResolution
+types_of info = map (λ (i : ExpressionInfo). i.ty) info.expressions.items

@@ -1,0 +1,27 @@
+-- What the analysis of functions and the checks of expressions say of a function.
+use Rattle.std.specs.Prelude.{ℕ}
+use Rattle.typing_errors.specs.declared.error.FunctionError.{FunctionError}
+use Rattle.expression_validator.specs.Faults.{IsExpressionFault}
+use Rattle.function_interface.specs.Analysis.{Faults}
+use Rattle.function_interface.specs.Question.{Question}
+use Rattle.spec_statements.specs.Expressions.{ExpressionOK}
+use Rattle.spec_statements.specs.Scene.{scene_of}
+use Rattle.spec_statements.specs.ExpressionStages.{IsRunBy}
+use Rattle.spec_expressions.specs.Typing.{HasType}
+use Rattle.spec_statements.specs.Functions.{Reading}
+use Rattle.function_real_lower.specs.Processed.{IsAnalysisFault}
+
+-- its expressions have types by the rules of their kinds, and no fault of the analysis stands
+abbrev pub reading_of : Question → Reading
+reading_of q = record {
+  HasForm = HasType q.m q.f;
+  IsAnalysed = λ flags. (e : FunctionError) → IsAnalysisFault flags q.m q.f q.summaries e → ⊥;
+  IsAccepted = λ capabilities forms e. ExpressionOK (scene_of capabilities q.m q.f forms) e;
+  IsRunBy = IsRunBy q.stages q.f.expressions;
+}
+
+abbrev pub faults_of : Question → Faults
+faults_of q = record {
+  IsAnalysisFault = λ flags. IsAnalysisFault flags q.m q.f q.summaries;
+  IsFaultAt = λ capabilities forms. IsExpressionFault (scene_of capabilities q.m q.f forms);
+}

@@ -1,0 +1,48 @@
+-- What is wrong with a range that is emitted.
+use Rattle.std.specs.Prelude.{ℕ, Bool, true, false, List, length, Option, None, Some, IfSome, MatchOption, slice_get}
+use Rattle.typing_errors.specs.declared.error.FunctionError.{FunctionError}
+use Rattle.typing_errors.specs.declared.error.FunctionError.TheVariants as error
+use Rattle.ir_arena.specs.Handles.{handles_between}
+use Rattle.ir_sets.specs.Next.{AreNext}
+use Rattle.ir_types.specs.ExpressionPlain.{PlainExpression, compose, plain}
+use Rattle.ir_types.specs.declared.expressions.Expression.{Expression}
+use Rattle.ir_types.specs.declared.expressions.Expression.TheVariants as x
+use Rattle.typing_rules.specs.Laws.{IsAmong}
+use Rattle.spec_statements.specs.BlockContext.{BlockContext}
+use Rattle.spec_statements.specs.Emits.{EmitOK, IsEmittable}
+
+-- one of the range stands for the answer of a statement, or is not there
+abbrev pub IsEmitFault : BlockContext → (first end : ℕ) → FunctionError → Type 0
+IsEmitFault c first end (error.EmitResult e) = IsAmong e (handles_between (first, end)) × ¬ IfSome (slice_get c.f.expressions e) IsEmittable
+IsEmitFault c first end _ = ⊥
+
+-- whether an expression stands for the answer of a statement
+abbrev pub is_answer_itself : Expression → Bool
+is_answer_itself (x.CallResult function) = true
+is_answer_itself (x.AtomicResult type comparison) = true
+is_answer_itself (x.WorkGroupUniformLoadResult type) = true
+is_answer_itself x.RayQueryProceedResult = true
+is_answer_itself x.SubgroupBallotResult = true
+is_answer_itself (x.SubgroupOperationResult type) = true
+is_answer_itself _ = false
+
+abbrev pub is_answer : PlainExpression → Bool
+is_answer (compose type components) = false
+is_answer (plain expression) = is_answer_itself expression
+
+abbrev pub is_answer_there : Option PlainExpression → Bool
+is_answer_there None = false
+is_answer_there (Some expression) = is_answer expression
+
+-- the same of the expression at a handle
+abbrev pub is_answer_at : List PlainExpression → ℕ → Bool
+is_answer_at expressions e = is_answer_there (slice_get expressions e)
+
+-- for each expression the first from it on that stands for the answer of a statement
+abbrev pub AreAnswers : List PlainExpression → List ℕ → Type 0
+AreAnswers expressions next = AreNext (is_answer_at expressions) (length expressions) next
+
+-- the first of a range that stands for the answer of a statement, if there is one
+abbrev pub IsAnswerOf : List PlainExpression → (range : ℕ × ℕ) → Option ℕ → Type 0
+IsAnswerOf expressions range found =
+    MatchOption found (EmitOK expressions range.0 range.1) (λ e. IsAmong e (handles_between range) × ¬ IfSome (slice_get expressions e) IsEmittable)

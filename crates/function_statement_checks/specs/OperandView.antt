@@ -1,0 +1,30 @@
+-- What a context holds, as plain data.
+use Rattle.std.specs.Prelude.{◌≡◌, List, length, map}
+use Rattle.ir_types.specs.ExpressionPlain.{PlainExpression, expression_view}
+use Rattle.ir_items.specs.GlobalView.{values_of}
+use Rattle.ir_types.specs.Plain.{PlainType}
+use Rattle.spec_statements.specs.Scene.{Scene}
+use Rattle.module_type_checks.specs.Known.{AreInfos}
+use Rattle.typing_forms.specs.Resolutions.{types_view}
+use Rattle.typing_layout.specs.Constness.{AreKinds}
+use Rattle.function_statement_checks.specs.declared.check_context.CheckContext.{CheckContext}
+
+abbrev pub types_in : CheckContext → List PlainType
+types_in c = types_view c.types.now
+
+abbrev pub expressions_in : CheckContext → List PlainExpression
+expressions_in c = map expression_view (values_of c.expressions.now)
+
+abbrev pub scene_in : CheckContext → Scene
+scene_in c = record {
+  capabilities = c.capabilities;
+  types = types_in c;
+  expressions = expressions_in c;
+  forms = c.forms.now;
+}
+
+-- the infos are those of all types, and the kinds those of all expressions
+pub record IsKnown (c : CheckContext) : Type 0 where
+  pub told : AreInfos (types_in c) c.infos.now
+  pub many : length c.infos.now ≡ length (types_in c)
+  pub kinds : AreKinds (expressions_in c) c.kinds.now

@@ -1,0 +1,164 @@
+//! What the checks of an expression may look at.
+
+ghost use Rattle.std.specs.Prelude.{◌≡◌, ◌↔◌, IsTrue, option_and_then, option_map, slice_get};
+ghost use Rattle.ir_types.specs.ExpressionPlain.{expression_view};
+ghost use Rattle.ir_types.specs.Plain.{inner_view};
+ghost use Rattle.function_statement_checks.specs.OperandView.{scene_in, expressions_in, types_in, IsKnown};
+ghost use Rattle.spec_statements.specs.Access.{literal_of};
+ghost use Rattle.spec_statements.specs.Scene.{form_at};
+ghost use Rattle.spec_statements.specs.Shapes.{pointed_in};
+ghost use Rattle.typing_layout.specs.Flags.{HasFlag, Data, Sized, Constructible};
+ghost use Rattle.typing_layout.specs.View.{type_tree};
+ghost use Rattle.typing_layout.specs.Constness.{IsOfKind};
+ghost use Rattle.typing_layout.specs.declared.constness.ExpressionKind.TheVariants.{Const};
+
+use crate::shapes::pointee_of;
+use bitflags::Flags;
+use ir_arena::arena::Arena;
+use ir_arena::handle::Handle;
+use ir_flags::{Capabilities, ShaderStages};
+use ir_kinds::Literal;
+use ir_types::{Expression, IrType, TypeInner, key};
+use ir_sets::unique_arena::UniqueArena;
+use module_type_infos::{TypeFlags, TypeInfo};
+use typing_forms::{Form, inner_of};
+use typing_layout::ExpressionKindTracker;
+
+/// What the checks of an expression may look at.
+#[derive(Clone, Copy)]
+pub struct CheckContext<'a> {
+    /// What shaders may use beyond the common part.
+    pub capabilities: Capabilities,
+    /// The module's types.
+    pub types: &'a UniqueArena<IrType, key::IrType>,
+    /// What is told of each of them.
+    pub infos: &'a [TypeInfo],
+    /// The expressions among which the one stands: those of a function, or those of the module.
+    pub expressions: &'a Arena<Expression, key::Expression>,
+    /// The form of the type of each of them.
+    pub forms: &'a [Form],
+    /// When the value of each of them is known.
+    pub kinds: &'a ExpressionKindTracker,
+    /// The stages that may run the module's functions, as far as they are known.
+    pub callees: &'a [ShaderStages],
+}
+
+// The literal that an expression is.
+fn literal_of(expression: &Expression) -> Option<Literal>
+    ensures { result ≡ literal_of (expression_view expression.now) }
+{
+    match *expression {
+        Expression::Literal(value) => Some(value),
+        Expression::Constant(_)
+        | Expression::Override(_)
+        | Expression::ZeroValue(_)
+        | Expression::Compose { .. }
+        | Expression::Access { .. }
+        | Expression::AccessIndex { .. }
+        | Expression::Splat { .. }
+        | Expression::Swizzle { .. }
+        | Expression::FunctionArgument(_)
+        | Expression::GlobalVariable(_)
+        | Expression::LocalVariable(_)
+        | Expression::Load { .. }
+        | Expression::ImageSample { .. }
+        | Expression::ImageLoad { .. }
+        | Expression::ImageQuery { .. }
+        | Expression::Unary { .. }
+        | Expression::Binary { .. }
+        | Expression::Select { .. }
+        | Expression::Derivative { .. }
+        | Expression::Relational { .. }
+        | Expression::Math { .. }
+        | Expression::As { .. }
+        | Expression::CallResult(_)
+        | Expression::AtomicResult { .. }
+        | Expression::WorkGroupUniformLoadResult { .. }
+        | Expression::ArrayLength(_)
+        | Expression::RayQueryVertexPositions { .. }
+        | Expression::RayQueryProceedResult
+        | Expression::RayQueryGetIntersection { .. }
+        | Expression::SubgroupBallotResult
+        | Expression::SubgroupOperationResult { .. }
+        | Expression::CooperativeLoad { .. }
+        | Expression::CooperativeMultiplyAdd { .. } => None,
+    }
+}
+
+impl<'a> CheckContext<'a> {
+    /// The form of the type of an expression, [`Form::Nothing`] where there is none.
+    pub fn form_at(&self, handle: Handle<key::Expression>) -> Form
+        ensures { result ≡ form_at (scene_in self.now).forms handle }
+    {
+        match self.forms.get(handle.index()) {
+            Some(form) => *form,
+            None => Form::Nothing,
+        }
+    }
+
+    /// The literal that the expression at a handle is, if it is one.
+    #[tactic(auto, using(crate::proofs::Lookups::found, crate::proofs::Lookups::missing))]
+    pub fn literal_at(&self, handle: Handle<key::Expression>) -> Option<Literal>
+        ensures { result ≡ option_and_then literal_of (slice_get (expressions_in self.now) handle) }
+    {
+        match self.expressions.try_get(handle) {
+            Ok(expression) => literal_of(expression),
+            Err(_) => None,
+        }
+    }
+
+    /// What a pointer leads to, where that is neither a scalar nor a vector.
+    pub fn pointed_in(&self, of: Form) -> Option<&TypeInner>
+        ensures { option_map (λ found. inner_view found.now) result ≡ pointed_in (types_in self.now) of }
+    {
+        match pointee_of(of) {
+            Some(base) => inner_of(self.types, base),
+            None => None,
+        }
+    }
+
+    // Whether a type may be used for something that images are not used for.
+    fn has(&self, ty: Handle<key::IrType>, flag: TypeFlags) -> bool
+        requires { IsKnown self.now }
+        ensures data { flag.0 ≡ 1 → IsTrue result ↔ HasFlag Data (type_tree (types_in self.now) ty) }
+        ensures sized { flag.0 ≡ 2 → IsTrue result ↔ HasFlag Sized (type_tree (types_in self.now) ty) }
+        ensures constructible { flag.0 ≡ 128 → IsTrue result ↔ HasFlag Constructible (type_tree (types_in self.now) ty) }
+    {
+        match self.infos.get(ty.index()) {
+            Some(info) => info.flags.contains(flag),
+            None => false,
+        }
+    }
+
+    /// Whether values of a type can be stored.
+    pub fn is_data(&self, ty: Handle<key::IrType>) -> bool
+        requires { IsKnown self.now }
+        ensures { IsTrue result ↔ HasFlag Data (type_tree (types_in self.now) ty) }
+    {
+        self.has(ty, TypeFlags::DATA)
+    }
+
+    /// Whether the size of values of a type is known.
+    pub fn is_sized(&self, ty: Handle<key::IrType>) -> bool
+        requires { IsKnown self.now }
+        ensures { IsTrue result ↔ HasFlag Sized (type_tree (types_in self.now) ty) }
+    {
+        self.has(ty, TypeFlags::SIZED)
+    }
+
+    /// Whether values of a type can be composed.
+    pub fn is_constructible(&self, ty: Handle<key::IrType>) -> bool
+        requires { IsKnown self.now }
+        ensures { IsTrue result ↔ HasFlag Constructible (type_tree (types_in self.now) ty) }
+    {
+        self.has(ty, TypeFlags::CONSTRUCTIBLE)
+    }
+
+    /// Whether the value of an expression is known as the module is written.
+    pub fn is_const(&self, handle: Handle<key::Expression>) -> bool
+        requires { IsKnown self.now }
+        ensures { IsTrue result ↔ IsOfKind (expressions_in self.now) handle Const }
+    {
+        handle.index() < self.expressions.len() && self.kinds.is_const(handle)
+    }
+}

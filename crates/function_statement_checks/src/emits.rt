@@ -1,0 +1,47 @@
+//! Expressions that are emitted.
+
+ghost use Rattle.std.specs.Prelude.{List, MatchResult};
+ghost use Rattle.ir_types.specs.ExpressionPlain.{PlainExpression};
+ghost use Rattle.spec_statements.specs.Emits.{EmitOK};
+ghost use Rattle.function_statement_checks.specs.Emits.{AreAnswers, IsAnswerOf, IsEmitFault};
+
+use crate::context::StatementContext;
+use typing_errors::FunctionError;
+use ir_arena::handle::Handle;
+use ir_arena::range::Range;
+use ir_sets::next::first_passing;
+use ir_types::key;
+
+// The first expression of a range that stands for the answer of a statement, where for each expression the first from it on that does is known.
+pub(crate) fn answer_of(
+    answers: &[u32],
+    range: Range<key::Expression>,
+) -> Option<Handle<key::Expression>>
+    ensures { (expressions : List PlainExpression) → AreAnswers expressions answers.now → IsAnswerOf expressions range result }
+{
+    let bounds = range.index_range();
+    match first_passing(answers, bounds.start as usize, bounds.end as usize) {
+        Some(place) => Some(Handle::at(place)),
+        None => None,
+    }
+}
+
+/// Whether each expression of a range is computed where it is emitted.
+///
+/// # Errors
+///
+/// [`FunctionError::EmitResult`] for one that stands for the answer of a statement.
+pub fn check_emit<C: StatementContext>(
+    context: &C,
+    range: Range<key::Expression>,
+) -> Result<(), FunctionError>
+    requires { C.known context.now }
+    ensures { MatchResult result
+        (λ _. EmitOK (C.seen context.now).f.expressions range.0 range.1)
+        (IsEmitFault (C.seen context.now) range.0 range.1) }
+{
+    match context.answer_of(range) {
+        Some(handle) => Err(FunctionError::EmitResult(handle)),
+        None => Ok(()),
+    }
+}

@@ -1,0 +1,192 @@
+//! Pointers: where they begin, and what lies where they lead.
+
+ghost use Rattle.std.specs.Prelude.{◌≡◌, ◌↔◌, IsTrue, Some};
+ghost use Rattle.ir_types.specs.ExpressionPlain.{expression_view};
+ghost use Rattle.ir_types.specs.Plain.{inner_view};
+ghost use Rattle.ir_proc.specs.Bases.{base_of, BasesPrecede};
+ghost use Rattle.spec_expressions.specs.Loads.{loaded, loaded_value};
+ghost use Rattle.spec_statements.specs.Stores.{base_at, BeginsAt, IsVariable, IsVariableOf, IsVariableAt, pointer_space, IsWritable, FitsAt};
+ghost use Rattle.typing_forms.specs.Resolutions.{inner_at};
+
+use crate::are_same;
+use crate::context::StatementContext;
+use bitflags::Flags;
+use ir_arena::handle::Handle;
+use ir_flags::StorageAccess;
+use ir_kinds::{AddressSpace, Scalar, VectorSize};
+use ir_types::{Expression, TypeInner, key};
+use typing_forms::Form;
+
+// ---- where a pointer begins
+
+// The base of an access, if the expression is one.
+fn base_of(expression: &Expression) -> Option<Handle<key::Expression>>
+    ensures { result ≡ base_of (expression_view expression.now) }
+{
+    match *expression {
+        Expression::Access { base, .. } => Some(base),
+        Expression::AccessIndex { base, .. } => Some(base),
+        _ => None,
+    }
+}
+
+/// The base of the access that the expression at a handle is, if it is one.
+pub fn base_at<C: StatementContext>(
+    context: &C,
+    handle: Handle<key::Expression>,
+) -> Option<Handle<key::Expression>>
+    ensures { result ≡ base_at (C.seen context.now).f.expressions handle }
+{
+    match context.expression_at(handle) {
+        Some(expression) => base_of(expression),
+        None => None,
+    }
+}
+
+/// What a chain of accesses begins at. Asks that the base of each access comes before it.
+pub(crate) fn beginning_of<C: StatementContext>(
+    context: &C,
+    pointer: Handle<key::Expression>,
+) -> Handle<key::Expression>
+    requires { BasesPrecede (C.seen context.now).f.expressions }
+    ensures { BeginsAt (C.seen context.now).f.expressions pointer result }
+{
+    let mut current = pointer;
+    while let Some(base) = base_at(context, current) {
+        current = base;
+    }
+    current
+}
+
+// Whether an expression is a variable or an argument.
+fn is_variable(expression: &Expression) -> bool
+    ensures { IsTrue result ↔ IsVariableOf (expression_view expression.now) }
+{
+    match *expression {
+        Expression::FunctionArgument(_)
+        | Expression::GlobalVariable(_)
+        | Expression::LocalVariable(_) => true,
+        Expression::Literal(_)
+        | Expression::Constant(_)
+        | Expression::Override(_)
+        | Expression::ZeroValue(_)
+        | Expression::Compose { .. }
+        | Expression::Access { .. }
+        | Expression::AccessIndex { .. }
+        | Expression::Splat { .. }
+        | Expression::Swizzle { .. }
+        | Expression::Load { .. }
+        | Expression::ImageSample { .. }
+        | Expression::ImageLoad { .. }
+        | Expression::ImageQuery { .. }
+        | Expression::Unary { .. }
+        | Expression::Binary { .. }
+        | Expression::Select { .. }
+        | Expression::Derivative { .. }
+        | Expression::Relational { .. }
+        | Expression::Math { .. }
+        | Expression::As { .. }
+        | Expression::CallResult(_)
+        | Expression::AtomicResult { .. }
+        | Expression::WorkGroupUniformLoadResult { .. }
+        | Expression::ArrayLength(_)
+        | Expression::RayQueryVertexPositions { .. }
+        | Expression::RayQueryProceedResult
+        | Expression::RayQueryGetIntersection { .. }
+        | Expression::SubgroupBallotResult
+        | Expression::SubgroupOperationResult { .. }
+        | Expression::CooperativeLoad { .. }
+        | Expression::CooperativeMultiplyAdd { .. } => false,
+    }
+}
+
+/// Whether the expression at a handle is a variable or an argument.
+pub(crate) fn is_variable_at<C: StatementContext>(
+    context: &C,
+    handle: Handle<key::Expression>,
+) -> bool
+    ensures { IsTrue result ↔ IsVariableAt (C.seen context.now).f.expressions handle }
+{
+    match context.expression_at(handle) {
+        Some(expression) => is_variable(expression),
+        None => false,
+    }
+}
+
+// ---- where it leads
+
+/// The space that a pointer points into.
+pub const fn pointer_space(pointer: Form) -> Option<AddressSpace>
+    ensures { result ≡ pointer_space pointer }
+{
+    match pointer {
+        Form::Pointer { space, .. } => Some(space),
+        Form::ValuePointer { space, .. } => Some(space),
+        Form::Scalar(_)
+        | Form::Vector { .. }
+        | Form::Matrix { .. }
+        | Form::CooperativeMatrix { .. }
+        | Form::Atomic(_)
+        | Form::Array { .. }
+        | Form::Struct(_)
+        | Form::Image { .. }
+        | Form::Sampler { .. }
+        | Form::AccelerationStructure { .. }
+        | Form::RayQuery { .. }
+        | Form::BindingArray { .. }
+        | Form::Nothing => None,
+    }
+}
+
+/// Whether it is a pointer to what may be written.
+pub(crate) fn is_writable(pointer: Form) -> bool
+    ensures { IsTrue result ↔ IsWritable pointer }
+{
+    match pointer_space(pointer) {
+        Some(space) => space.access().contains(StorageAccess::STORE),
+        None => false,
+    }
+}
+
+// What is loaded of a value pointer.
+const fn loaded_value(size: Option<VectorSize>, scalar: Scalar) -> Form
+    ensures { result ≡ loaded_value size scalar }
+{
+    match size {
+        None => Form::Scalar(scalar),
+        Some(size) => Form::Vector { size, scalar },
+    }
+}
+
+// What is loaded of what a pointer leads to: of an atomic its scalar, and else the whole.
+fn loaded<C: StatementContext>(context: &C, base: Handle<key::IrType>) -> Form
+    ensures { result ≡ loaded (C.seen context.now).m.types base (inner_at (C.seen context.now).m.types base) }
+{
+    match context.inner_of(base) {
+        Some(TypeInner::Atomic(scalar)) => Form::Scalar(*scalar),
+        _ => context.form_of(base),
+    }
+}
+
+/// Whether a value is of the type that would be loaded.
+pub(crate) fn fits_at<C: StatementContext>(context: &C, pointer: Form, value: Form) -> bool
+    ensures { IsTrue result ↔ FitsAt (C.seen context.now).m.types pointer value }
+{
+    match pointer {
+        Form::Pointer { base, .. } => are_same(value, loaded(context, base)),
+        Form::ValuePointer { size, scalar, .. } => are_same(value, loaded_value(size, scalar)),
+        Form::Scalar(_)
+        | Form::Vector { .. }
+        | Form::Matrix { .. }
+        | Form::CooperativeMatrix { .. }
+        | Form::Atomic(_)
+        | Form::Array { .. }
+        | Form::Struct(_)
+        | Form::Image { .. }
+        | Form::Sampler { .. }
+        | Form::AccelerationStructure { .. }
+        | Form::RayQuery { .. }
+        | Form::BindingArray { .. }
+        | Form::Nothing => false,
+    }
+}

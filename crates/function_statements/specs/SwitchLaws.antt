@@ -1,0 +1,17 @@
+-- A switch with a fault does not meet its rule.
+use Rattle.std.specs.Prelude.{ℕ}
+use Rattle.typing_errors.specs.declared.error.FunctionError.{FunctionError}
+use Rattle.ir_blocks.specs.Plain.{PlainCases}
+use Rattle.ir_kinds.specs.declared.scalars.ScalarKind.{ScalarKind}
+use Rattle.spec_statements.specs.BlockContext.{BlockContext, form_at}
+use Rattle.spec_statements.specs.Switches.{CasesOK, SwitchOK}
+use Rattle.function_body_checks.specs.Cases.{IsCaseFault}
+use Rattle.function_statements.specs.Switches.{IsSwitchFault}
+
+-- What refutes the rules.
+pub record Refuted (c : BlockContext) (e : FunctionError) : Type 0 where
+  pub cases : (kind : ScalarKind) (cases : PlainCases) → IsCaseFault kind cases e → CasesOK kind cases → ⊥
+  pub switch : (selector : ℕ) (cases : PlainCases) → IsSwitchFault c selector cases e → SwitchOK (form_at c selector) cases → ⊥
+
+abbrev pub FaultsRefute : Type 0
+FaultsRefute = (c : BlockContext) (e : FunctionError) → Refuted c e

@@ -1,0 +1,60 @@
+//! Which expressions of a function stand for the answers of statements.
+
+ghost use Rattle.std.specs.Prelude.{◌≡◌, ◌<◌, IfOk};
+ghost use Rattle.ir_items.specs.View.{function_view};
+ghost use Rattle.ir_types.specs.ExpressionPlain.{expression_view};
+ghost use Rattle.function_statement_checks.specs.Emits.{is_answer, AreAnswers};
+
+use ir_arena::handle::Handle;
+use ir_items::{Expression, Function};
+use ir_sets::next::{PlaceTest, next_passing};
+use std::alloc::{AllocError, Global};
+
+// Whether an expression stands for the answer of a statement, and so is not computed where it is emitted.
+fn is_answer(expression: &Expression) -> bool
+    ensures { result ≡ is_answer (expression_view expression.now) }
+{
+    matches!(
+        *expression,
+        Expression::CallResult(_)
+            | Expression::AtomicResult { .. }
+            | Expression::WorkGroupUniformLoadResult { .. }
+            | Expression::RayQueryProceedResult
+            | Expression::SubgroupBallotResult
+            | Expression::SubgroupOperationResult { .. }
+    )
+}
+
+// Whether an expression of a function stands for the answer of a statement.
+#[derive(Drop)]
+struct AnswerTest<'a> {
+    function: &'a Function,
+}
+
+impl PlaceTest for AnswerTest<'_> {
+    ghost use Rattle.ir_items.specs.View.{function_view};
+    ghost use Rattle.function_statement_checks.specs.Emits.{is_answer_at};
+
+    ghost passes = { λ t. is_answer_at (function_view t.function.now).expressions };
+
+    #[tactic(auto, using(function_statement_checks::proofs::Lookups::found, function_statement_checks::proofs::Lookups::missing))]
+    fn passes(&self, place: usize) -> bool {
+        match self.function.expressions.try_get(Handle::at(place)) {
+            Ok(expression) => is_answer(expression),
+            Err(_) => false,
+        }
+    }
+}
+
+/// For each expression of a function the first from it on that stands for the answer of a statement, their number where there
+/// is none.
+///
+/// # Errors
+///
+/// `AllocError` where there is no memory.
+pub fn next_answers(alloc: Global, function: &Function) -> Result<Vec<u32>, AllocError>
+    ensures { IfOk result (λ next. AreAnswers (function_view function.now).expressions next.items) }
+{
+    let test = AnswerTest { function };
+    next_passing(alloc, function.expressions.len(), &test)
+}

@@ -1,0 +1,32 @@
+//! The rules of statements, as they are asked of each statement of a body.
+
+use crate::error::StatementError;
+use crate::statement::check_own;
+use ir_blocks::Statement;
+use ir_references::StatementRule;
+use function_statement_checks::StatementContext;
+use std::alloc::Global;
+
+/// The rule of each kind of statement, in a context.
+#[derive(Drop)]
+pub(crate) struct Rules<'a, C> {
+    /// Where the values of a switch are kept while they are compared.
+    pub alloc: Global,
+    /// What the rules may look at.
+    pub context: &'a C,
+}
+
+impl<'a, C: StatementContext> StatementRule<StatementError> for Rules<'a, C> {
+    ghost use Rattle.ir_proc.specs.Bases.{BasesPrecede};
+    ghost use Rattle.function_statements.specs.Bodies.{Meets, IsWrong};
+
+    ghost fits = { λ r. C.known r.context.now × BasesPrecede (C.seen r.context.now).f.expressions };
+
+    ghost meets = { λ r u. Meets (C.seen r.context.now) u };
+
+    ghost wrong = { λ r e u. IsWrong (C.seen r.context.now) e u };
+
+    fn check(&self, statement: &Statement) -> Result<(), StatementError> {
+        check_own(self.alloc, self.context, statement)
+    }
+}

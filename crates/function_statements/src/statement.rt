@@ -1,0 +1,200 @@
+//! The rules of statements: one arm for each kind.
+
+ghost use Rattle.std.specs.Prelude.{IfSome, IsSomeAnd, MatchResult, map};
+ghost use Rattle.ir_blocks.specs.View.{statement_view, case_view, cases_of};
+ghost use Rattle.ir_proc.specs.Bases.{BasesPrecede};
+ghost use Rattle.function_atomic_checks.specs.StorageImages.{IsImageStoreFault};
+ghost use Rattle.spec_statements.specs.BlockContext.{form_at};
+ghost use Rattle.spec_statements.specs.Conditions.{ConditionOK};
+ghost use Rattle.spec_statements.specs.StorageImages.{ImageStoreOK};
+ghost use Rattle.spec_statements.specs.Switches.{SwitchOK};
+ghost use Rattle.function_statement_checks.specs.Conditions.{IsConditionFault};
+ghost use Rattle.function_statements.specs.Bodies.{Meets, MeetsPlainly};
+ghost use Rattle.function_statements.specs.Faults.{IfFault, IsStatementFault};
+ghost use Rattle.function_statements.specs.Switches.{IsSwitchFault};
+
+use crate::check_switch;
+use crate::error::StatementError;
+use function_atomic_checks::{check_atomic, check_image_atomic, check_image_store, check_uniform_load};
+use typing_errors::FunctionError;
+use ir_arena::handle::Handle;
+use ir_blocks::{Statement, SwitchCase};
+use ir_faults::refusal::Refusal;
+use ir_types::key;
+use function_operation_checks::{
+    check_ballot, check_collective, check_gather, check_ray_pipeline, check_ray_query,
+};
+use function_statement_checks::{
+    StatementContext, check_barrier, check_call, check_condition, check_cooperative_store,
+    check_emit, check_return, check_store,
+};
+use std::alloc::Global;
+
+// A switch.
+fn check_cases<C: StatementContext>(
+    alloc: Global,
+    context: &C,
+    selector: Handle<key::Expression>,
+    cases: &[SwitchCase],
+) -> Result<(), StatementError>
+    ensures { MatchResult result
+        (λ _. SwitchOK (form_at (C.seen context.now) selector) (cases_of (map case_view cases.now)))
+        (λ r. IfFault r (IsSwitchFault (C.seen context.now) selector (cases_of (map case_view cases.now)))) }
+{
+    match check_switch(alloc, context, selector, cases) {
+        Ok(()) => Ok(()),
+        Err(Refusal::Memory(error)) => Err(StatementError::Memory(error)),
+        Err(Refusal::Fault(fault)) => Err(StatementError::Fault(fault.into_inner())),
+    }
+}
+
+// A texel that is written.
+fn check_written<C: StatementContext>(
+    alloc: Global,
+    context: &C,
+    image: Handle<key::Expression>,
+    coordinate: Handle<key::Expression>,
+    array_index: Option<Handle<key::Expression>>,
+    value: Handle<key::Expression>,
+) -> Result<(), StatementError>
+    ensures { MatchResult result
+        (λ _. ImageStoreOK (C.seen context.now) image coordinate array_index value)
+        (λ r. IfFault r (IsImageStoreFault (C.seen context.now) image coordinate array_index value)) }
+{
+    match check_image_store(alloc, context, image, coordinate, array_index, value) {
+        Ok(()) => Ok(()),
+        Err(Refusal::Memory(error)) => Err(StatementError::Memory(error)),
+        Err(Refusal::Fault(fault)) => Err(StatementError::Fault(fault.into_inner())),
+    }
+}
+
+// The condition of a loop, if it has one.
+fn check_break_if<C: StatementContext>(
+    context: &C,
+    break_if: &Option<Handle<key::Expression>>,
+) -> Result<(), FunctionError>
+    ensures { MatchResult result
+        (λ _. IfSome break_if.now (λ e. ConditionOK (form_at (C.seen context.now) e)))
+        (λ x. IsSomeAnd break_if.now (λ e. IsConditionFault (C.seen context.now) e x)) }
+{
+    match *break_if {
+        Some(condition) => match check_condition(context, condition) {
+            Ok(()) => Ok(()),
+            Err(error) => Err(error),
+        },
+        None => Ok(()),
+    }
+}
+
+// Whether a statement meets its rule, what stands inside it aside, where its rule takes no memory: not a switch, and not a
+// texel that is written.
+fn check_plain<C: StatementContext>(context: &C, statement: &Statement) -> Result<(), FunctionError>
+    requires known { C.known context.now }
+    requires precede { BasesPrecede (C.seen context.now).f.expressions }
+    ensures { MatchResult result
+        (λ _. MeetsPlainly (C.seen context.now) (statement_view statement.now))
+        (IsStatementFault (C.seen context.now) (statement_view statement.now)) }
+{
+    match statement {
+        Statement::Emit(range) => check_emit(context, *range),
+        Statement::Block(_) => Ok(()),
+        Statement::If { condition, .. } => check_condition(context, *condition),
+        Statement::Switch { .. } => Ok(()),
+        Statement::Loop { break_if, .. } => check_break_if(context, break_if),
+        Statement::Break => Ok(()),
+        Statement::Continue => Ok(()),
+        Statement::Return { value } => check_return(context, *value),
+        Statement::Kill => Ok(()),
+        Statement::ControlBarrier(barrier) => check_barrier(context, *barrier),
+        Statement::MemoryBarrier(barrier) => check_barrier(context, *barrier),
+        Statement::Store { pointer, value } => check_store(context, *pointer, *value),
+        Statement::ImageStore { .. } => Ok(()),
+        Statement::Atomic {
+            pointer,
+            fun,
+            value,
+            result: answer,
+        } => check_atomic(context, *pointer, *fun, *value, *answer),
+        Statement::ImageAtomic {
+            image,
+            coordinate,
+            array_index,
+            fun,
+            value,
+        } => check_image_atomic(context, *image, *coordinate, *array_index, *fun, *value),
+        Statement::WorkGroupUniformLoad {
+            pointer,
+            result: answer,
+        } => check_uniform_load(context, *pointer, *answer),
+        Statement::Call {
+            function,
+            arguments,
+            result: answer,
+        } => check_call(context, *function, arguments, *answer),
+        Statement::RayQuery { query, fun } => check_ray_query(context, *query, *fun),
+        Statement::SubgroupBallot { predicate, .. } => check_ballot(context, *predicate),
+        Statement::SubgroupCollectiveOperation {
+            op,
+            collective_op,
+            argument,
+            result: answer,
+        } => check_collective(context, *op, *collective_op, *argument, *answer),
+        Statement::SubgroupGather {
+            mode,
+            argument,
+            result: answer,
+        } => check_gather(context, *mode, *argument, *answer),
+        Statement::CooperativeStore { target, block } => {
+            check_cooperative_store(context, *target, *block)
+        }
+        Statement::RayPipelineFunction(fun) => check_ray_pipeline(context, *fun),
+    }
+}
+
+/// Whether a statement meets its rule, what stands inside it aside. A call of a function that is not there is not refused here:
+/// that it is there is asked beforehand.
+pub(crate) fn check_own<C: StatementContext>(
+    alloc: Global,
+    context: &C,
+    statement: &Statement,
+) -> Result<(), StatementError>
+    requires known { C.known context.now }
+    requires precede { BasesPrecede (C.seen context.now).f.expressions }
+    ensures { MatchResult result
+        (λ _. Meets (C.seen context.now) (statement_view statement.now))
+        (λ r. IfFault r (IsStatementFault (C.seen context.now) (statement_view statement.now))) }
+{
+    match statement {
+        Statement::Switch { selector, cases } => check_cases(alloc, context, *selector, cases),
+        Statement::ImageStore {
+            image,
+            coordinate,
+            array_index,
+            value,
+        } => check_written(alloc, context, *image, *coordinate, *array_index, *value),
+        Statement::Emit(_)
+        | Statement::Block(_)
+        | Statement::If { .. }
+        | Statement::Loop { .. }
+        | Statement::Break
+        | Statement::Continue
+        | Statement::Return { .. }
+        | Statement::Kill
+        | Statement::ControlBarrier(_)
+        | Statement::MemoryBarrier(_)
+        | Statement::Store { .. }
+        | Statement::Atomic { .. }
+        | Statement::ImageAtomic { .. }
+        | Statement::WorkGroupUniformLoad { .. }
+        | Statement::Call { .. }
+        | Statement::RayQuery { .. }
+        | Statement::SubgroupBallot { .. }
+        | Statement::SubgroupCollectiveOperation { .. }
+        | Statement::SubgroupGather { .. }
+        | Statement::CooperativeStore { .. }
+        | Statement::RayPipelineFunction(_) => match check_plain(context, statement) {
+            Ok(()) => Ok(()),
+            Err(error) => Err(StatementError::Fault(error)),
+        },
+    }
+}

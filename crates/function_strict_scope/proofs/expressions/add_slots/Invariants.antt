@@ -1,0 +1,7 @@
+use Rattle.std.proofs.Common.{◌≡◌, ◌++◌, drop}
+use Rattle.spec_handles.specs.Expressions.{given}
+use Rattle.function_strict_scope.proofs.expressions.add_slots.Given as goal
+
+-- what was added with the rest is what all add
+abbrev pub invariant-loop-slot : goal.invariant-loop-slot
+invariant-loop-slot l = (l.list.items ++ given (drop l.slot-index l.slots)) ≡ l.fn.list.items ++ given l.slots

@@ -1,0 +1,71 @@
+-- What is wrong with the strict scope of a function's body, by places.
+use Rattle.std.specs.Prelude.{◌≡◌, ◌⊎◌, ◌<◌, ◌≤◌, ℕ, List, Option, Some, Contains, slice_get}
+use Rattle.function_body_checks.specs.Faults.{NoCallAt}
+use Rattle.typing_errors.specs.declared.expressions.ExpressionError.TheVariants.{NotInScope}
+use Rattle.typing_errors.specs.declared.error.FunctionError.{FunctionError}
+use Rattle.typing_errors.specs.declared.error.FunctionError.TheVariants as error
+use Rattle.typing_errors.specs.declared.calls.CallError.{CallError}
+use Rattle.typing_errors.specs.declared.calls.CallError.TheVariants as call_error
+use Rattle.ir_blocks.specs.Places.{Place, StandsAt}
+use Rattle.ir_blocks.specs.Plain.{emit, operation, call, ray_query, ballot}
+use Rattle.ir_blocks.specs.declared.operations.RayQueryFunction.TheVariants.{Proceed}
+use Rattle.ir_faults.specs.Faults.{error_of}
+use Rattle.ir_faults.specs.declared.refusal.Refusal.{Refusal}
+use Rattle.ir_faults.specs.declared.refusal.Refusal.TheVariants as refusal
+use Rattle.ir_types.specs.ExpressionPlain.{PlainExpression, plain}
+use Rattle.ir_types.specs.declared.expressions.Expression.TheVariants.{RayQueryProceedResult, SubgroupBallotResult}
+use Rattle.ir_items.specs.Plain.{PlainFunction}
+use Rattle.spec_handles.specs.Expressions.{expression_operands}
+use Rattle.spec_statements.specs.Strict.{InStrictScope, Needs}
+
+-- an operand is used where it is not in strict scope, by another statement than a call
+pub record IsUsedUnsurely (f : PlainFunction) (o : ℕ) : Type 0 where
+  pub place : Place
+  pub other : NoCallAt f place
+  pub used : Needs f.body place o
+  pub unknown : ¬ InStrictScope f place o
+
+-- an expression is emitted whose operand is neither before it in its range nor in strict scope
+pub record IsOperandOfEmitted (f : PlainFunction) (o : ℕ) : Type 0 where
+  pub place : Place
+  pub first : ℕ
+  pub end : ℕ
+  pub stands : StandsAt f.body place (emit first end)
+  pub expression : ℕ
+  pub from : first ≤ expression
+  pub below : expression < end
+  pub form : PlainExpression
+  pub is : slice_get f.expressions expression ≡ Some form
+  pub operand : Contains (expression_operands form) o
+  pub later : ¬ ((first ≤ o) × (o < expression))
+  pub unknown : ¬ InStrictScope f place o
+
+-- what is passed to a function at a place is not in strict scope
+pub record IsPassedUnsurely (f : PlainFunction) (function place_of_argument : ℕ) : Type 0 where
+  pub place : Place
+  pub arguments : List ℕ
+  pub answer : Option ℕ
+  pub stands : StandsAt f.body place (call function arguments answer)
+  pub passed : ℕ
+  pub is : slice_get arguments place_of_argument ≡ Some passed
+  pub unknown : ¬ InStrictScope f place passed
+
+-- what stands for the answer of a `Proceed` or of a ballot is of another kind
+pub data IsOfOtherKind (f : PlainFunction) (e : ℕ) : Type 0 where
+  of_proceed : (p : Place) (query : ℕ) → StandsAt f.body p (operation (ray_query query (Proceed e))) → ¬ (slice_get f.expressions e ≡ Some (plain RayQueryProceedResult)) → IsOfOtherKind f e
+  of_ballot : (p : Place) (predicate : Option ℕ) → StandsAt f.body p (operation (ballot e predicate)) → ¬ (slice_get f.expressions e ≡ Some (plain SubgroupBallotResult)) → IsOfOtherKind f e
+
+abbrev pub IsStrictCallError : PlainFunction → (function : ℕ) → CallError → Type 0
+IsStrictCallError f function (call_error.Argument place source) = (source ≡ NotInScope) × IsPassedUnsurely f function place
+IsStrictCallError f function _ = ⊥
+
+abbrev pub IsStrictFault : PlainFunction → FunctionError → Type 0
+IsStrictFault f (error.Expression o source) = (source ≡ NotInScope) × (IsUsedUnsurely f o ⊎ IsOperandOfEmitted f o)
+IsStrictFault f (error.InvalidCall function e) = IsStrictCallError f function e
+IsStrictFault f (error.StrictResultMismatch e) = IsOfOtherKind f e
+IsStrictFault f _ = ⊥
+
+-- a refusal tells such a fault, or that there is no memory
+abbrev pub IsStrictRefusal : PlainFunction → Refusal FunctionError → Type 0
+IsStrictRefusal f (refusal.Memory e) = Unit {0}
+IsStrictRefusal f (refusal.Fault e) = IsStrictFault f (error_of e)

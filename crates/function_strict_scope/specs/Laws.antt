@@ -1,0 +1,8 @@
+-- A fault of strict scope refutes what is asked.
+use Rattle.typing_errors.specs.declared.error.FunctionError.{FunctionError}
+use Rattle.ir_items.specs.Plain.{PlainFunction}
+use Rattle.spec_statements.specs.Strict.{StrictOK}
+use Rattle.function_strict_scope.specs.Faults.{IsStrictFault}
+
+abbrev pub StrictFaultsRefute : Type 0
+StrictFaultsRefute = (f : PlainFunction) (e : FunctionError) → IsStrictFault f e → StrictOK f → ⊥

@@ -1,0 +1,120 @@
+//! The kinds of what stands for answers.
+
+ghost use Rattle.std.specs.Prelude.{◌≡◌, ℕ, List, IfErr, OnOk, slice_get};
+ghost use Rattle.ir_blocks.specs.Places.{statement as spot};
+ghost use Rattle.ir_blocks.specs.View.{statement_view};
+ghost use Rattle.ir_items.specs.View.{function_view};
+ghost use Rattle.function_strict_scope.specs.Tables.{proceeds_by, ballots_by, is_proceed, is_ballot};
+ghost use Rattle.function_strict_scope.specs.Walked.{AnswerKindOK, IfFault, IsFaultHere};
+
+use crate::error::StrictError;
+use ir_arena::handle::Handle;
+use ir_items::{Expression, Function, RayQueryFunction, Statement, key};
+
+// What stands for the answer of a `Proceed`.
+fn proceeds_by(statement: &Statement) -> Option<Handle<key::Expression>>
+    ensures { result ≡ proceeds_by (statement_view statement.now) }
+{
+    match statement {
+        Statement::RayQuery { fun, .. } => match fun {
+            RayQueryFunction::Proceed { result: answer } => Some(*answer),
+            RayQueryFunction::Initialize { .. }
+            | RayQueryFunction::GenerateIntersection { .. }
+            | RayQueryFunction::ConfirmIntersection
+            | RayQueryFunction::Terminate => None,
+        },
+        Statement::Emit(_)
+        | Statement::Block(_)
+        | Statement::If { .. }
+        | Statement::Switch { .. }
+        | Statement::Loop { .. }
+        | Statement::Break
+        | Statement::Continue
+        | Statement::Return { .. }
+        | Statement::Kill
+        | Statement::Call { .. }
+        | Statement::ControlBarrier(_)
+        | Statement::MemoryBarrier(_)
+        | Statement::Store { .. }
+        | Statement::ImageStore { .. }
+        | Statement::Atomic { .. }
+        | Statement::ImageAtomic { .. }
+        | Statement::WorkGroupUniformLoad { .. }
+        | Statement::SubgroupBallot { .. }
+        | Statement::SubgroupCollectiveOperation { .. }
+        | Statement::SubgroupGather { .. }
+        | Statement::CooperativeStore { .. }
+        | Statement::RayPipelineFunction(_) => None,
+    }
+}
+
+// What stands for the answer of a ballot.
+fn ballots_by(statement: &Statement) -> Option<Handle<key::Expression>>
+    ensures { result ≡ ballots_by (statement_view statement.now) }
+{
+    match statement {
+        Statement::SubgroupBallot { result: answer, .. } => Some(*answer),
+        Statement::Emit(_)
+        | Statement::Block(_)
+        | Statement::If { .. }
+        | Statement::Switch { .. }
+        | Statement::Loop { .. }
+        | Statement::Break
+        | Statement::Continue
+        | Statement::Return { .. }
+        | Statement::Kill
+        | Statement::Call { .. }
+        | Statement::ControlBarrier(_)
+        | Statement::MemoryBarrier(_)
+        | Statement::Store { .. }
+        | Statement::ImageStore { .. }
+        | Statement::Atomic { .. }
+        | Statement::ImageAtomic { .. }
+        | Statement::WorkGroupUniformLoad { .. }
+        | Statement::RayQuery { .. }
+        | Statement::SubgroupCollectiveOperation { .. }
+        | Statement::SubgroupGather { .. }
+        | Statement::CooperativeStore { .. }
+        | Statement::RayPipelineFunction(_) => None,
+    }
+}
+
+// Whether the expression at a handle stands for the answer of a `Proceed`.
+#[tactic(auto, using(ir_references::proofs::Entries::entries))]
+fn is_proceed_result(function: &Function, handle: Handle<key::Expression>) -> bool
+    ensures { result ≡ is_proceed (slice_get (function_view function.now).expressions handle) }
+{
+    match function.expressions.try_get(handle) {
+        Ok(expression) => matches!(expression, Expression::RayQueryProceedResult),
+        Err(_) => false,
+    }
+}
+
+// The same of a ballot.
+#[tactic(auto, using(ir_references::proofs::Entries::entries))]
+fn is_ballot_result(function: &Function, handle: Handle<key::Expression>) -> bool
+    ensures { result ≡ is_ballot (slice_get (function_view function.now).expressions handle) }
+{
+    match function.expressions.try_get(handle) {
+        Ok(expression) => matches!(expression, Expression::SubgroupBallotResult),
+        Err(_) => false,
+    }
+}
+
+/// Whether what stands for the answer of a `Proceed` or of a ballot is of its own kind.
+pub fn check_answer(function: &Function, statement: &Statement) -> Result<(), StrictError>
+    ensures kind { OnOk result (AnswerKindOK (function_view function.now) (statement_view statement.now)) }
+    ensures fault { IfErr result (λ r. IfFault r (λ e. (sure : List ℕ) → IsFaultHere (function_view function.now) (spot (statement_view statement.now)) sure e)) }
+{
+    if let Some(handle) = proceeds_by(statement) {
+        if !is_proceed_result(function, handle) {
+            return Err(StrictError::OtherAnswer(handle));
+        }
+    }
+    if let Some(handle) = ballots_by(statement) {
+        if !is_ballot_result(function, handle) {
+            return Err(StrictError::OtherAnswer(handle));
+        }
+    }
+    Ok(())
+}

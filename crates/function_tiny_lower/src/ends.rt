@@ -1,0 +1,80 @@
+//! Whether a function may end the fragment.
+
+ghost use Rattle.std.specs.Prelude.{◌≡◌, is_some, map, slice_get};
+ghost use Rattle.ir_items.specs.View.{function_view};
+ghost use Rattle.ir_references.specs.First.{first_in};
+ghost use Rattle.function_tiny_lower.specs.Ends.{ends_in, may_end, summary_of};
+
+use crate::tiny::TinyInfo;
+use ir_arena::handle::Handle;
+use ir_items::{Function, Statement};
+use ir_references::{StatementLook, first_in};
+use ir_types::key;
+
+// Whether a function that is called may.
+fn may_end(callees: &[TinyInfo], function: Handle<key::Function>) -> bool
+    ensures { result ≡ may_end (slice_get (map summary_of callees.now) function) }
+{
+    match callees.get(function.index()) {
+        Some(info) => info.may_kill,
+        None => false,
+    }
+}
+
+// Statements that end it, themselves or by a function that they call.
+#[derive(Drop)]
+struct Ends<'a> {
+    callees: &'a [TinyInfo],
+}
+
+impl StatementLook<()> for Ends<'_> {
+    ghost use Rattle.std.specs.Prelude.{map};
+    ghost use Rattle.function_tiny_lower.specs.Ends.{ends_in, summary_of};
+
+    ghost look = { λ t s. ends_in (map summary_of t.callees.now) s };
+
+    fn look(&self, statement: &Statement) -> Option<()> {
+        match statement {
+            Statement::Kill => Some(()),
+            Statement::Call { function, .. } => {
+                if may_end(self.callees, *function) {
+                    Some(())
+                } else {
+                    None
+                }
+            }
+            Statement::Emit(_)
+            | Statement::Block(_)
+            | Statement::If { .. }
+            | Statement::Switch { .. }
+            | Statement::Loop { .. }
+            | Statement::Break
+            | Statement::Continue
+            | Statement::Return { .. }
+            | Statement::ControlBarrier(_)
+            | Statement::MemoryBarrier(_)
+            | Statement::Store { .. }
+            | Statement::ImageStore { .. }
+            | Statement::Atomic { .. }
+            | Statement::ImageAtomic { .. }
+            | Statement::WorkGroupUniformLoad { .. }
+            | Statement::RayQuery { .. }
+            | Statement::SubgroupBallot { .. }
+            | Statement::SubgroupCollectiveOperation { .. }
+            | Statement::SubgroupGather { .. }
+            | Statement::CooperativeStore { .. }
+            | Statement::RayPipelineFunction(_) => None,
+        }
+    }
+}
+
+/// Whether a function may, where this is kept of those that it calls.
+pub(crate) fn may_kill(function: &Function, callees: &[TinyInfo]) -> bool
+    ensures { result ≡ is_some (first_in (ends_in (map summary_of callees.now)) (function_view function.now).body) }
+{
+    let ends = Ends { callees };
+    match first_in(&ends, &function.body) {
+        Some(()) => true,
+        None => false,
+    }
+}

@@ -1,0 +1,11 @@
+-- What is known of the faults of varyings.
+use Rattle.std.specs.Prelude.{ℕ, List}
+use Rattle.spec_varyings.specs.Contexts.{VaryingContext}
+use Rattle.spec_varyings.specs.Varyings.{VaryingsOK}
+use Rattle.spec_varyings.specs.declared.varyings.Varying.{Varying}
+use Rattle.function_varyings.specs.Faults.{IsVaryingFault}
+use Rattle.function_varyings.specs.declared.error.VaryingError.{VaryingError}
+
+-- varyings with a fault are not as they should be
+abbrev pub FaultRefutes : Type 0
+FaultRefutes = (c : VaryingContext) (vs : List Varying) (index : ℕ) (e : VaryingError) → IsVaryingFault c vs index e → ¬ VaryingsOK c vs

@@ -1,0 +1,30 @@
+//! What the rules of varyings may look at.
+
+use ir_arena::handle::Handle;
+use ir_flags::{Capabilities, ValidationFlags};
+use ir_kinds::ShaderStage;
+use ir_types::{IrType, key};
+use ir_sets::unique_arena::UniqueArena;
+use spec_varyings::Direction;
+use module_type_infos::TypeInfo;
+
+/// What the rules of varyings may look at (naga's `VaryingContext`, without what changes).
+#[derive(Clone, Copy)]
+pub struct VaryingContext<'a> {
+    /// The checks that are asked.
+    pub flags: ValidationFlags,
+    /// What shaders may use beyond the common part.
+    pub capabilities: Capabilities,
+    /// The module's types.
+    pub types: &'a UniqueArena<IrType, key::IrType>,
+    /// What is told of them.
+    pub infos: &'a [TypeInfo],
+    /// The entry point's stage.
+    pub stage: ShaderStage,
+    /// How many invocations its workgroups have, each way.
+    pub workgroup_size: [u32; 3],
+    /// The variable that a task shader hands to mesh shaders.
+    pub task_payload: Option<Handle<key::GlobalVariable>>,
+    /// Which way the varyings go.
+    pub direction: Direction,
+}

@@ -1,0 +1,78 @@
+//! What varyings show.
+
+ghost use Rattle.std.specs.Prelude.{◌≡◌, ◌↔◌, ◌≤◌, IsTrue, Some, length};
+ghost use Rattle.spec_varyings.specs.Varyings.{HasBlendSources, HasBuiltIn, built_in_of, canonical, location_of};
+ghost use Rattle.spec_varyings.specs.declared.varyings.Bound.TheVariants.{BlendSources};
+ghost use Rattle.function_varyings.specs.Faults.{ShowsBefore};
+
+use ir_kinds::BuiltIn;
+use spec_varyings::{Bound, Varying, are_same};
+
+/// The location that is taken, if one is; sources of a blend take the first one.
+pub(crate) const fn location_of(bound: &Bound) -> Option<u32>
+    ensures { result ≡ location_of bound.now }
+{
+    match *bound {
+        Bound::Location { ty: _, at } => Some(at.location),
+        Bound::BlendSources => Some(0),
+        Bound::BuiltIn { .. } | Bound::Nothing | Bound::NoMember { .. } => None,
+    }
+}
+
+// Whether it is the built-in value, whatever that says besides.
+fn shows(bound: &Bound, built_in: BuiltIn) -> bool
+    ensures { IsTrue result ↔ (built_in_of bound.now ≡ Some (canonical built_in)) }
+{
+    match *bound {
+        Bound::BuiltIn {
+            ty: _,
+            built_in: other,
+        } => are_same(other, built_in),
+        Bound::Location { .. } | Bound::BlendSources | Bound::Nothing | Bound::NoMember { .. } => {
+            false
+        }
+    }
+}
+
+/// Whether the built-in value is among the varyings before a place, whatever it says besides.
+pub(crate) fn shows_before(varyings: &[Varying], place: usize, built_in: BuiltIn) -> bool
+    requires { place ≤ length varyings.now }
+    ensures { IsTrue result ↔ ShowsBefore built_in_of varyings.now place (canonical built_in) }
+{
+    for earlier in 0..place {
+        if shows(&varyings[earlier].bound, built_in) {
+            return true;
+        }
+    }
+    false
+}
+
+/// Whether a built-in value is among varyings, whatever it says besides.
+pub fn has_built_in(varyings: &[Varying], built_in: BuiltIn) -> bool
+    ensures { IsTrue result ↔ HasBuiltIn varyings.now built_in }
+{
+    shows_before(varyings, varyings.len(), built_in)
+}
+
+// Whether it is the sources of a blend.
+const fn are_sources(bound: &Bound) -> bool
+    ensures { IsTrue result ↔ (bound.now ≡ BlendSources) }
+{
+    match *bound {
+        Bound::BlendSources => true,
+        Bound::BuiltIn { .. } | Bound::Location { .. } | Bound::Nothing | Bound::NoMember { .. } =>
+            false,
+    }
+}
+
+/// Whether two sources of a blend are among varyings.
+pub fn has_blend_sources(varyings: &[Varying]) -> bool
+    ensures { IsTrue result ↔ HasBlendSources varyings.now }
+{
+    for place in 0..varyings.len() {
+        if are_sources(&varyings[place].bound) {
+            return true;
+        }
+    }
+    false
+}

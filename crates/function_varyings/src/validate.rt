@@ -1,0 +1,295 @@
+//! The varyings of an entry point.
+
+ghost use Rattle.std.specs.Prelude.{◌≡◌, ◌<◌, ◌+◌, ◌↔◌, IfOk, IsTrue, MatchOption, MatchResult, length, map, min};
+ghost use Rattle.ir_flags.specs.Sets.{Has};
+ghost use Rattle.ir_flags.specs.declared.settings.TheConstants.ValidationFlags.{BINDINGS};
+ghost use Rattle.ir_items.specs.View.{argument_view};
+ghost use Rattle.spec_varyings.specs.Locations.{LocationOK};
+ghost use Rattle.spec_varyings.specs.Varyings.{BoundOK, VaryingsOK, argument_varyings, built_in_of, location_of, varyings_of};
+ghost use Rattle.spec_varyings.specs.declared.varyings.Bound.TheVariants.{BlendSources};
+ghost use Rattle.spec_varyings.specs.declared.varyings.Direction.TheVariants.{Output};
+ghost use Rattle.function_varyings.specs.Faults.{IsBlendFault, IsLocationFault, IsMemberFault, IsOwnFault, IsRefusal, IsUnboundFault};
+ghost use Rattle.function_varyings.specs.Places.{AreNoted, IsBuiltInAgain, IsFaultAt, IsFine, IsNew, IsTakenAgain};
+ghost use Rattle.function_varyings.specs.View.{IsTold, context_view};
+
+use crate::built_ins::built_in_fault;
+use crate::context::VaryingContext;
+use crate::error::{VaryingError, VaryingRefusal};
+use crate::locations::{check_location, is_fragment};
+use crate::shown::{location_of, shows_before};
+use crate::spread::{add_value, argument_varyings};
+use bitflags::Flags;
+use ir_arena::handle::Handle;
+use ir_flags::ValidationFlags;
+use ir_items::FunctionArgument;
+use ir_kinds::{Binding, BuiltIn};
+use ir_types::key;
+use spec_varyings::{Bound, Direction, Location, Varying};
+use std::alloc::{AllocError, Global};
+use std::collections::BTreeSet;
+
+// What is wrong with a value at a location.
+fn location_fault(
+    context: &VaryingContext<'_>,
+    ty: Handle<key::IrType>,
+    at: &Location,
+) -> Option<VaryingError>
+    requires { IsTold context.now }
+    ensures { MatchOption result
+        (LocationOK (context_view context.now) ty at.now)
+        (IsLocationFault (context_view context.now) ty at.now) }
+{
+    match check_location(context, ty, at) {
+        Ok(()) => None,
+        Err(error) => Some(error),
+    }
+}
+
+// Whether an entry point answers what goes this way.
+const fn is_output(direction: Direction) -> bool
+    ensures { IsTrue result ↔ (direction ≡ Output) }
+{
+    match direction {
+        Direction::Output => true,
+        Direction::Input | Direction::VertexOutput | Direction::PrimitiveOutput => false,
+    }
+}
+
+// What is wrong with sources of a blend: fragments alone give them.
+fn blend_fault(context: &VaryingContext<'_>) -> Option<VaryingError>
+    ensures { MatchOption result
+        (BoundOK (context_view context.now) BlendSources)
+        (IsBlendFault (context_view context.now)) }
+{
+    if !is_fragment(context.stage) {
+        return Some(VaryingError::InvalidAttributeInStage("blend_src", context.stage));
+    }
+    if !is_output(context.direction) {
+        return Some(VaryingError::InvalidInputAttributeInStage("blend_src", context.stage));
+    }
+    None
+}
+
+// That a value is not bound, where that is asked.
+fn unbound_fault(flags: ValidationFlags) -> Option<VaryingError>
+    ensures { MatchOption result
+        (¬ Has flags.0 BINDINGS.0)
+        (IsUnboundFault flags) }
+{
+    if flags.contains(ValidationFlags::BINDINGS) {
+        Some(VaryingError::MissingBinding)
+    } else {
+        None
+    }
+}
+
+// A place as a number of four bytes, as far as it goes.
+const fn short(place: usize) -> u32
+    ensures { result ≡ min place 4294967295 }
+{
+    if place < 4294967295 {
+        place as u32
+    } else {
+        4294967295
+    }
+}
+
+// That a member is not bound, where that is asked.
+fn member_fault(flags: ValidationFlags, place: usize) -> Option<VaryingError>
+    ensures { MatchOption result
+        (¬ Has flags.0 BINDINGS.0)
+        (IsMemberFault flags place) }
+{
+    if flags.contains(ValidationFlags::BINDINGS) {
+        Some(VaryingError::MemberMissingBinding(short(place)))
+    } else {
+        None
+    }
+}
+
+// What is wrong with a varying by itself. The error is out of memory.
+fn own_fault(
+    alloc: Global,
+    context: &VaryingContext<'_>,
+    bound: &Bound,
+) -> Result<Option<VaryingError>, AllocError>
+    requires { IsTold context.now }
+    ensures { IfOk result (λ found. MatchOption found
+        (BoundOK (context_view context.now) bound.now)
+        (IsOwnFault (context_view context.now) bound.now)) }
+{
+    match bound {
+        Bound::BuiltIn { ty, built_in } => built_in_fault(alloc, context, *ty, *built_in),
+        Bound::Location { ty, at } => Ok(location_fault(context, *ty, at)),
+        Bound::BlendSources => Ok(blend_fault(context)),
+        Bound::Nothing => Ok(unbound_fault(context.flags)),
+        Bound::NoMember { place } => Ok(member_fault(context.flags, *place)),
+    }
+}
+
+// The built-in value at a place, where it stands before.
+fn built_in_again(varyings: &[Varying], place: usize) -> Option<BuiltIn>
+    requires { place < length varyings.now }
+    ensures { MatchOption result (IsNew built_in_of varyings.now place) (IsBuiltInAgain varyings.now place) }
+{
+    match varyings[place].bound {
+        Bound::BuiltIn { ty: _, built_in } => {
+            if shows_before(varyings, place, built_in) {
+                Some(built_in)
+            } else {
+                None
+            }
+        }
+        Bound::Location { .. } | Bound::BlendSources | Bound::Nothing | Bound::NoMember { .. } => {
+            None
+        }
+    }
+}
+
+// Notes the location that is taken at a place, and answers it where it is taken before. The error is out of memory.
+fn note_location(
+    noted: &mut BTreeSet<u32>,
+    varyings: &[Varying],
+    place: usize,
+) -> Result<Option<u32>, AllocError>
+    requires within { place < length varyings.now }
+    requires noted { AreNoted noted.old varyings.now place }
+    ensures { IfOk result (λ again. MatchOption again
+        (IsNew location_of varyings.now place × AreNoted noted.new varyings.now (place + 1))
+        (IsTakenAgain varyings.now place)) }
+{
+    let Some(location) = location_of(&varyings[place].bound) else {
+        return Ok(None);
+    };
+    if noted.insert(location)? {
+        Ok(None)
+    } else {
+        Ok(Some(location))
+    }
+}
+
+// What is wrong with the varying at a place. The error is out of memory.
+fn fault_at(
+    alloc: Global,
+    context: &VaryingContext<'_>,
+    noted: &mut BTreeSet<u32>,
+    varyings: &[Varying],
+    place: usize,
+) -> Result<Option<VaryingError>, AllocError>
+    requires told { IsTold context.now }
+    requires within { place < length varyings.now }
+    requires noted { Has context.now.flags.0 BINDINGS.0 → AreNoted noted.old varyings.now place }
+    ensures { IfOk result (λ found. MatchOption found
+        (IsFine (context_view context.now) varyings.now place × (Has context.now.flags.0 BINDINGS.0 → AreNoted noted.new varyings.now (place + 1)))
+        (IsFaultAt (context_view context.now) varyings.now place)) }
+{
+    match own_fault(alloc, context, &varyings[place].bound) {
+        Ok(None) => {}
+        Ok(Some(error)) => return Ok(Some(error)),
+        Err(error) => return Err(error),
+    }
+    if let Some(built_in) = built_in_again(varyings, place) {
+        return Ok(Some(VaryingError::DuplicateBuiltIn(built_in)));
+    }
+    if !context.flags.contains(ValidationFlags::BINDINGS) {
+        return Ok(None);
+    }
+    match note_location(noted, varyings, place) {
+        Ok(None) => Ok(None),
+        Ok(Some(location)) => Ok(Some(VaryingError::BindingCollision { location })),
+        Err(error) => Err(error),
+    }
+}
+
+// Whether varyings are as they should be.
+fn check_varyings(
+    alloc: Global,
+    context: &VaryingContext<'_>,
+    varyings: &[Varying],
+) -> Result<(), VaryingRefusal>
+    requires { IsTold context.now }
+    ensures { MatchResult result
+        (λ _. VaryingsOK (context_view context.now) varyings.now)
+        (IsRefusal (context_view context.now) varyings.now) }
+{
+    let mut noted = BTreeSet::new(alloc);
+    for place in 0..varyings.len() {
+        match fault_at(alloc, context, &mut noted, varyings, place) {
+            Ok(None) => {}
+            Ok(Some(error)) => {
+                return Err(VaryingRefusal::Fault {
+                    index: varyings[place].index,
+                    error,
+                });
+            }
+            Err(error) => return Err(VaryingRefusal::Memory(error)),
+        }
+    }
+    Ok(())
+}
+
+// These varyings, where they are as they should be.
+fn accepted(
+    alloc: Global,
+    context: &VaryingContext<'_>,
+    varyings: Vec<Varying>,
+) -> Result<Vec<Varying>, VaryingRefusal>
+    requires { IsTold context.now }
+    ensures { MatchResult result
+        (λ found. (found.items ≡ varyings.items) × VaryingsOK (context_view context.now) found.items)
+        (IsRefusal (context_view context.now) varyings.items) }
+{
+    match check_varyings(alloc, context, &varyings) {
+        Ok(()) => Ok(varyings),
+        Err(refusal) => Err(refusal),
+    }
+}
+
+/// The varyings that are an entry point's arguments, or members of them, where an entry point may be given these (naga's
+/// `VaryingContext::validate` for each). The direction of the context is that of inputs.
+///
+/// # Errors
+///
+/// [`VaryingRefusal::Fault`] for one that it may not be given (the first, which no clause says), by the argument that it is or
+/// belongs to;
+/// [`VaryingRefusal::Memory`] where there is no memory for the varyings, their locations or what an error speaks of.
+pub fn validate_arguments(
+    alloc: Global,
+    context: &VaryingContext<'_>,
+    arguments: &[FunctionArgument],
+) -> Result<Vec<Varying>, VaryingRefusal>
+    requires { IsTold context.now }
+    ensures { MatchResult result
+        (λ found. (found.items ≡ argument_varyings (context_view context.now).types (map argument_view arguments.now)) × VaryingsOK (context_view context.now) found.items)
+        (IsRefusal (context_view context.now) (argument_varyings (context_view context.now).types (map argument_view arguments.now))) }
+{
+    match argument_varyings(alloc, context.types, arguments) {
+        Ok(varyings) => accepted(alloc, context, varyings),
+        Err(error) => Err(VaryingRefusal::Memory(error)),
+    }
+}
+
+/// The varyings that a value is, or the members of its type, where an entry point may give these: a result, or, with no
+/// binding, what a mesh shader gives with a vertex or a primitive (naga's `VaryingContext::validate`).
+///
+/// # Errors
+///
+/// [`VaryingRefusal::Fault`] for one that it may not give (the first, which no clause says); [`VaryingRefusal::Memory`] where there is no memory for the
+/// varyings, their locations or what an error speaks of.
+pub fn validate_value(
+    alloc: Global,
+    context: &VaryingContext<'_>,
+    ty: Handle<key::IrType>,
+    binding: Option<Binding>,
+) -> Result<Vec<Varying>, VaryingRefusal>
+    requires { IsTold context.now }
+    ensures { MatchResult result
+        (λ found. (found.items ≡ varyings_of (context_view context.now).types 0 ty binding) × VaryingsOK (context_view context.now) found.items)
+        (IsRefusal (context_view context.now) (varyings_of (context_view context.now).types 0 ty binding)) }
+{
+    let mut varyings = Vec::new(alloc);
+    match add_value(context.types, &mut varyings, 0, ty, binding) {
+        Ok(()) => accepted(alloc, context, varyings),
+        Err(error) => Err(VaryingRefusal::Memory(error)),
+    }
+}

@@ -1,0 +1,127 @@
+-- What stands for an answer is the answer of one statement of its kind.
+use Rattle.std.proofs.Common.{◌≡◌, ◌∙◌, ℕ, Option, Some, None, option_and_then, slice_get, refl, sym, ap, subst, List}
+use Rattle.std.proofs.lemmas.Option.{slice_get_within}
+use Rattle.std.specs.Prelude.{IsSomeAnd}
+use Rattle.ir_blocks.specs.Places.{Place, StandsAt}
+use Rattle.ir_blocks.specs.Plain.{PlainOperation, control_barrier, memory_barrier, store, image_store, atomic, image_atomic, uniform_load, ray_query, ballot, collective, gather, cooperative_store, ray_pipeline, PlainStatement, emit, block, if_, switch, loop, break, continue, return, kill, operation, call}
+use Rattle.ir_types.specs.ExpressionPlain.{PlainExpression, plain}
+use Rattle.ir_types.specs.declared.expressions.Expression.TheVariants as x
+use Rattle.ir_flags.specs.Sets.{Has}
+use Rattle.ir_flags.specs.declared.settings.TheConstants.ValidationFlags.{BLOCKS, EXPRESSIONS}
+use Rattle.ir_items.specs.Plain.{PlainFunction, PlainModule}
+use Rattle.judgement_laws.specs.Laws.{IsCallOf, IsOperationOf, StandsOnce, EachAnswered, AnsweredByOne}
+use Rattle.spec_functions.specs.Functions.{FunctionAtOK}
+use Rattle.ir_kinds.specs.declared.scalars.Scalar.{Scalar}
+use Rattle.spec_handles.specs.Statements.{compared}
+use Rattle.spec_statements.specs.Atomics.{AnswerOK, AtomicAnswer, IsChangedAtOnce, changed_scalar, declared_answer}
+use Rattle.spec_statements.specs.BlockContext.{BlockContext, form_at}
+use Rattle.spec_statements.specs.Functions.{FunctionSettings, BodyOK}
+use Rattle.spec_statements.specs.Results.{AnswersBy, StandsForAnswer, of_call, of_atomic, answer_of, operation_answer}
+use Rattle.spec_statements.specs.Statements.{OperationOK, StatementOK}
+
+some_is : {A : Type 0} {x y : A} → Some x ≡ Some y → x ≡ y
+some_is e = cc (e)
+
+some_and : {A : Type 0} (P : A → Type 0) (o : Option A) → IsSomeAnd o P → (a : A) × P a
+some_and P None h = absurd h
+some_and P (Some a) h = (a, h)
+
+-- the answer of a call is none of an atomic operation
+undeclared : (P : AtomicAnswer → Type 0) (o : Option PlainExpression) (function : ℕ) → o ≡ Some (plain (x.CallResult function)) → ¬ IsSomeAnd (option_and_then declared_answer o) P
+undeclared P o function at h = subst (λ z. IsSomeAnd (option_and_then declared_answer z) P) at h
+
+module _ (c : BlockContext) (e : ℕ) where
+  module _ (function : ℕ) (at : slice_get c.f.expressions e ≡ Some (plain (x.CallResult function))) where
+    no_operation : (a : PlainOperation) → OperationOK c a → ¬ (operation_answer a ≡ Some e)
+    no_operation (control_barrier barrier) ok is = cc (is)
+    no_operation (memory_barrier barrier) ok is = cc (is)
+    no_operation (store pointer value) ok is = cc (is)
+    no_operation (image_store image coordinate array_index value) ok is = cc (is)
+    no_operation (atomic pointer done value None) ok is = cc (is)
+    no_operation (atomic pointer done value (Some result)) ok is =
+        let changed : (s : Scalar) × IsChangedAtOnce c pointer done value (Some result) s = some_and (IsChangedAtOnce c pointer done value (Some result)) (changed_scalar c.m.types (form_at c pointer)) ok in
+        undeclared (AnswerOK c changed.0 (compared done)) (slice_get c.f.expressions result) function (ap (slice_get c.f.expressions) (some_is is) ∙ at) changed.1.answered
+    no_operation (image_atomic image coordinate array_index done value) ok is = cc (is)
+    no_operation (uniform_load pointer result) ok is = cc (is)
+    no_operation (ray_query query done) ok is = cc (is)
+    no_operation (ballot result predicate) ok is = cc (is)
+    no_operation (collective op collective_op argument result) ok is = cc (is)
+    no_operation (gather mode argument result) ok is = cc (is)
+    no_operation (cooperative_store target place) ok is = cc (is)
+    no_operation (ray_pipeline done) ok is = cc (is)
+
+    is_call : (s : PlainStatement) → StatementOK c s → answer_of s ≡ Some e → IsCallOf function e s
+    is_call (emit first end) ok is = cc (is)
+    is_call (block b) ok is = cc (is)
+    is_call (if_ condition accept reject) ok is = cc (is)
+    is_call (switch selector cases) ok is = cc (is)
+    is_call (loop body continuing break_if) ok is = cc (is)
+    is_call break ok is = cc (is)
+    is_call continue ok is = cc (is)
+    is_call (return value) ok is = cc (is)
+    is_call kill ok is = cc (is)
+    is_call (operation a) ok is = absurd (no_operation a ok is)
+    is_call (call g arguments None) ok is = cc (is)
+    is_call (call g arguments (Some result)) ok is =
+        let same : result ≡ e = some_is is in
+        let named = sym ok.answered.1 ∙ (ap (slice_get c.f.expressions) same ∙ at) in
+        let callee : g ≡ function = cc (named) in
+        (arguments, λ i. call (callee i) arguments (Some (same i)))
+
+  is_operation : (type : ℕ) (comparison : _) → slice_get c.f.expressions e ≡ Some (plain (x.AtomicResult type comparison)) → (s : PlainStatement) → StatementOK c s → answer_of s ≡ Some e → IsOperationOf e s
+  is_operation type comparison at (emit first end) ok is = cc (is)
+  is_operation type comparison at (block b) ok is = cc (is)
+  is_operation type comparison at (if_ condition accept reject) ok is = cc (is)
+  is_operation type comparison at (switch selector cases) ok is = cc (is)
+  is_operation type comparison at (loop body continuing break_if) ok is = cc (is)
+  is_operation type comparison at break ok is = cc (is)
+  is_operation type comparison at continue ok is = cc (is)
+  is_operation type comparison at (return value) ok is = cc (is)
+  is_operation type comparison at kill ok is = cc (is)
+  is_operation type comparison at (operation a) ok is = is
+  is_operation type comparison at (call g arguments None) ok is = cc (is)
+  is_operation type comparison at (call g arguments (Some result)) ok is =
+      let named = sym ok.answered.1 ∙ (ap (slice_get c.f.expressions) (some_is is) ∙ at) in
+      cc (named)
+
+answers_operation : (e : ℕ) (s : PlainStatement) → IsOperationOf e s → answer_of s ≡ Some e
+answers_operation e (operation a) is = is
+answers_operation e (emit first end) is = absurd is
+answers_operation e (block b) is = absurd is
+answers_operation e (if_ condition accept reject) is = absurd is
+answers_operation e (switch selector cases) is = absurd is
+answers_operation e (loop body continuing break_if) is = absurd is
+answers_operation e break is = absurd is
+answers_operation e continue is = absurd is
+answers_operation e (return value) is = absurd is
+answers_operation e kill is = absurd is
+answers_operation e (call function arguments result) is = absurd is
+
+module _ (s : FunctionSettings) (c : BlockContext) (body : BodyOK s c) (expressions : Has s.flags.0 EXPRESSIONS.0) where
+  each_answered : EachAnswered c.f
+  each_answered = record {
+    calls = λ e function at.
+        let found = body.answered.each expressions e (of_call at) in
+        record {
+          place = found.0;
+          statement = found.1.0;
+          stands = found.1.1;
+          is = is_call c e function at found.1.0 (body.statements found.0 found.1.0 found.1.1) found.1.2;
+          alone = λ other t stands is. body.answered.once other found.0 e (t, stands, ap answer_of is.1) found.1;
+        };
+    atomics = λ e type comparison at.
+        let found = body.answered.each expressions e (of_atomic at) in
+        record {
+          place = found.0;
+          statement = found.1.0;
+          stands = found.1.1;
+          is = is_operation c e type comparison at found.1.0 (body.statements found.0 found.1.0 found.1.1) found.1.2;
+          alone = λ other t stands is. body.answered.once other found.0 e (t, stands, answers_operation e t is) found.1;
+        };
+  }
+
+pub answered_by_one : AnsweredByOne
+answered_by_one s m ok blocks expressions index f at =
+    let here = ok index (slice_get_within m.functions index f at) in
+    let same : here.function ≡ f = some_is (sym here.at ∙ at) in
+    subst EachAnswered same (each_answered _ _ (here.ok.body blocks) expressions)

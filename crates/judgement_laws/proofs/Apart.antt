@@ -1,0 +1,37 @@
+-- The global variables of an entry point's report have bindings that differ.
+use Rattle.std.proofs.Common.{◌≡◌, ◌<◌, inl, ℕ, List, Option, Some, None, length, slice_get, option_and_then, refl, subst, sym, ap, ◌∙◌}
+use Rattle.std.proofs.lemmas.Option.{slice_get_within}
+use Rattle.ir_items.specs.GlobalPlain.{PlainGlobal}
+use Rattle.ir_items.specs.Plain.{PlainEntry, PlainModule}
+use Rattle.ir_kinds.specs.declared.bindings.ResourceBinding.{ResourceBinding}
+use Rattle.judgement_laws.specs.Laws.{IsTold, BindingsDiffer}
+use Rattle.spec_analysis.specs.Chains.{HasUse}
+use Rattle.spec_entries.specs.Modules.{EntryAtOK}
+use Rattle.spec_entries.specs.Payloads.{binding_at}
+use Rattle.spec_entries.specs.Uses.{EntryUses}
+use Rattle.spec_entries.specs.Variables.{IsUsed}
+use Rattle.spec_report.proofs.Named.{used_bit}
+use Rattle.spec_report.specs.Reports.{IsEntryReport}
+
+some_is : {A : Type 0} {x y : A} → Some x ≡ Some y → x ≡ y
+some_is e = cc (e)
+
+-- what has a binding is a variable of the module
+bound_in : (m : PlainModule) (g : ℕ) (b : ResourceBinding) (o : Option PlainGlobal) → slice_get m.globals g ≡ o → option_and_then (λ (v : PlainGlobal). v.binding) o ≡ Some b → g < length m.globals
+bound_in m g b None at e = absurd (let h = e in cc)
+bound_in m g b (Some v) at e = slice_get_within m.globals g v at
+
+module _ (m : PlainModule) (number : ℕ) (e : PlainEntry) (lines : List ℕ) (r : IsEntryReport m number e lines) (g : ℕ) (b : ResourceBinding) (told : IsTold m number e lines r g) (bound : binding_at m g ≡ Some b) where
+  pub told_is_used : IsUsed (EntryUses e (HasUse m e.function)) g
+  told_is_used =
+      let bit = used_bit r.uses g told.used in
+      (bit.0, inl ((r.are_uses.exact g bit.0 (bound_in m g b (slice_get m.globals g) refl bound) told.other).0 bit.1))
+
+pub bindings_differ : BindingsDiffer
+bindings_differ s m ok asked number e at lines r g h b g_told h_told g_at h_at =
+    let within = slice_get_within m.entries number e at in
+    let entry = ok number within in
+    let same : entry.entry ≡ e = some_is (sym entry.at ∙ at) in
+    let apart = subst (λ (x : PlainEntry). (j k : ℕ) (d : ResourceBinding) → IsUsed (EntryUses x (HasUse m x.function)) j → IsUsed (EntryUses x (HasUse m x.function)) k → binding_at m j ≡ Some d → binding_at m k ≡ Some d → j ≡ k) same
+    (entry.ok.connections.variables.bound asked) in
+    apart g h b (told_is_used m number e lines r g b g_told g_at) (told_is_used m number e lines r h b h_told h_at) g_at h_at

@@ -1,0 +1,20 @@
+-- How literals and compositions are refused.
+use Rattle.std.specs.Prelude.{ℕ, List}
+use Rattle.module_expressions.specs.Compositions.{IsComposeFault}
+use Rattle.typing_errors.specs.declared.expressions.ExpressionError.{ExpressionError}
+use Rattle.typing_errors.specs.declared.expressions.ExpressionError.TheVariants as error
+use Rattle.ir_flags.specs.declared.settings.Capabilities.{Capabilities}
+use Rattle.ir_kinds.specs.declared.values.Literal.{Literal}
+use Rattle.ir_types.specs.Plain.{PlainType}
+use Rattle.module_type_checks.specs.Widths.{IsLiteralFault}
+use Rattle.typing_forms.specs.declared.form.Form.{Form}
+
+-- the literal may not be used
+abbrev pub IsBadLiteral : Capabilities → Literal → ExpressionError → Type 0
+IsBadLiteral capabilities value (error.Literal e) = IsLiteralFault capabilities value e
+IsBadLiteral capabilities value _ = ⊥
+
+-- values of these forms don't make one of the type
+abbrev pub IsBadComposition : List PlainType → (type : ℕ) → List Form → ExpressionError → Type 0
+IsBadComposition types type forms (error.Compose e) = IsComposeFault types type forms e
+IsBadComposition types type forms _ = ⊥

@@ -1,0 +1,198 @@
+//! Indexes of accesses.
+
+ghost use Rattle.std.specs.Prelude.{◌≡◌, ◌<◌, ◌↔◌, IfSome, IsTrue, MatchResult, Some, option_and_then, slice_get};
+ghost use Rattle.function_statement_checks.specs.Refused.{IsRefused};
+ghost use Rattle.function_statement_checks.specs.OperandView.{scene_in, types_in, expressions_in};
+ghost use Rattle.ir_types.specs.Plain.{inner_view};
+ghost use Rattle.spec_statements.specs.Access.{element_count, pointed_count, row_count, known_length, literal_of, index_of, IsIndexOf, AccessOK, AccessIndexOK};
+ghost use Rattle.spec_statements.specs.Scene.{form_at};
+ghost use Rattle.typing_forms.specs.Resolutions.{inner_at};
+
+use typing_errors::ExpressionError;
+use ir_arena::handle::Handle;
+use ir_kinds::{Literal, VectorSize};
+use ir_types::{ArraySize, TypeInner, key};
+use function_statement_checks::{CheckContext, is_integer_scalar, refused_unless};
+use typing_forms::{Form, inner_of};
+
+// ---- how many parts there are, where the module says it
+
+// How many elements an array of a size has.
+const fn element_count(size: ArraySize) -> Option<u32>
+    ensures { result ≡ element_count size }
+{
+    match size {
+        ArraySize::Constant(count) => Some(count),
+        ArraySize::Pending(_) | ArraySize::Dynamic => None,
+    }
+}
+
+// How many components a value of a size has, if it is a vector.
+fn row_count(size: Option<VectorSize>) -> Option<u32>
+    ensures { result ≡ row_count size }
+{
+    match size {
+        Some(size) => Some(u32::from(size)),
+        None => None,
+    }
+}
+
+// How many parts what a pointer leads to has.
+fn pointed_count(inner: &TypeInner) -> Option<u32>
+    ensures { result ≡ pointed_count (Some (inner_view inner.now)) }
+{
+    match *inner {
+        TypeInner::Vector { size, .. } => Some(u32::from(size)),
+        TypeInner::Matrix { columns, .. } => Some(u32::from(columns)),
+        TypeInner::Array { size, .. } | TypeInner::BindingArray { size, .. } => element_count(size),
+        TypeInner::Scalar(_)
+        | TypeInner::CooperativeMatrix { .. }
+        | TypeInner::Atomic(_)
+        | TypeInner::Pointer { .. }
+        | TypeInner::ValuePointer { .. }
+        | TypeInner::Struct { .. }
+        | TypeInner::Image { .. }
+        | TypeInner::Sampler { .. }
+        | TypeInner::AccelerationStructure { .. }
+        | TypeInner::RayQuery { .. } => None,
+    }
+}
+
+// How many parts what a pointer to a type leads to has.
+fn length_at(context: &CheckContext<'_>, base: Handle<key::IrType>) -> Option<u32>
+    ensures { result ≡ pointed_count (inner_at (types_in context.now) base) }
+{
+    match inner_of(context.types, base) {
+        Some(inner) => pointed_count(inner),
+        None => None,
+    }
+}
+
+// How many parts a value of a type has, or what it leads to.
+fn known_length(context: &CheckContext<'_>, of: Form) -> Option<u32>
+    ensures { result ≡ known_length (types_in context.now) of }
+{
+    match of {
+        Form::Vector { size, .. } => Some(u32::from(size)),
+        Form::Matrix { columns, .. } => Some(u32::from(columns)),
+        Form::Array { size, .. } | Form::BindingArray { size, .. } => element_count(size),
+        Form::ValuePointer { size, .. } => row_count(size),
+        Form::Pointer { base, .. } => length_at(context, base),
+        Form::Scalar(_)
+        | Form::CooperativeMatrix { .. }
+        | Form::Atomic(_)
+        | Form::Struct(_)
+        | Form::Image { .. }
+        | Form::Sampler { .. }
+        | Form::AccelerationStructure { .. }
+        | Form::RayQuery { .. }
+        | Form::Nothing => None,
+    }
+}
+
+// Whether an index is below the number of parts, if that is known.
+const fn is_below(parts: Option<u32>, index: u32) -> bool
+    ensures { IsTrue result ↔ IfSome parts (λ many. index < many) }
+{
+    match parts {
+        Some(many) => index < many,
+        None => true,
+    }
+}
+
+// ---- an index that is computed
+
+// Whether a signed number is an index of so many parts.
+const fn is_signed_index(parts: Option<u32>, index: i32) -> bool
+    ensures { IsTrue result ↔ IsIndexOf parts index }
+{
+    if index < 0 {
+        return false;
+    }
+    is_below(parts, index as u32)
+}
+
+// Whether a literal is an index of so many parts, if it is one of an index at all.
+const fn is_index(parts: Option<u32>, literal: Literal) -> bool
+    ensures { IsTrue result ↔ IfSome (index_of literal) (IsIndexOf parts) }
+{
+    match literal {
+        Literal::I32(index) => is_signed_index(parts, index),
+        Literal::U32(index) => is_below(parts, index),
+        Literal::F64(_)
+        | Literal::F32(_)
+        | Literal::F16(_)
+        | Literal::U16(_)
+        | Literal::I16(_)
+        | Literal::U64(_)
+        | Literal::I64(_)
+        | Literal::Bool(_)
+        | Literal::AbstractInt(_)
+        | Literal::AbstractFloat(_) => true,
+    }
+}
+
+// Whether the literal at a handle, if there is one, is an index of so many parts.
+fn is_within(context: &CheckContext<'_>, parts: Option<u32>, index: Handle<key::Expression>) -> bool
+    ensures { IsTrue result
+        ↔ IfSome (option_and_then index_of (option_and_then literal_of (slice_get (expressions_in context.now) index))) (IsIndexOf parts) }
+{
+    match context.literal_at(index) {
+        Some(literal) => is_index(parts, literal),
+        None => true,
+    }
+}
+
+// Whether an expression is an index of a value of a type.
+fn is_access(context: &CheckContext<'_>, base: Form, index: Handle<key::Expression>) -> bool
+    ensures { IsTrue result
+        ↔ AccessOK (types_in context.now) base (form_at (scene_in context.now).forms index) (slice_get (expressions_in context.now) index) }
+{
+    is_integer_scalar(context.form_at(index))
+        && is_within(context, known_length(context, base), index)
+}
+
+/// Whether an expression is an index of another: an integer, and where it is written, that of a part.
+///
+/// # Errors
+///
+/// [`ExpressionError::Other`] where it is not.
+#[tactic(auto, using(function_statement_checks::proofs::Refusals::by_test))]
+pub fn check_access(
+    context: &CheckContext<'_>,
+    base: Handle<key::Expression>,
+    index: Handle<key::Expression>,
+) -> Result<(), ExpressionError>
+    ensures { MatchResult result
+        (λ _. AccessOK (types_in context.now) (form_at (scene_in context.now).forms base) (form_at (scene_in context.now).forms index) (slice_get (expressions_in context.now) index))
+        (IsRefused (AccessOK (types_in context.now) (form_at (scene_in context.now).forms base) (form_at (scene_in context.now).forms index) (slice_get (expressions_in context.now) index))) }
+{
+    refused_unless(is_access(context, context.form_at(base), index))
+}
+
+// ---- an index that is written
+
+// Whether a number is that of a part of a value of a type, if it is known how many there are.
+fn is_part(context: &CheckContext<'_>, base: Form, index: u32) -> bool
+    ensures { IsTrue result ↔ AccessIndexOK (types_in context.now) base index }
+{
+    is_below(known_length(context, base), index)
+}
+
+/// Whether a number is that of a part of an expression, if it is known how many there are.
+///
+/// # Errors
+///
+/// [`ExpressionError::Other`] where it is not.
+#[tactic(auto, using(function_statement_checks::proofs::Refusals::by_test))]
+pub fn check_access_index(
+    context: &CheckContext<'_>,
+    base: Handle<key::Expression>,
+    index: u32,
+) -> Result<(), ExpressionError>
+    ensures { MatchResult result
+        (λ _. AccessIndexOK (types_in context.now) (form_at (scene_in context.now).forms base) index)
+        (IsRefused (AccessIndexOK (types_in context.now) (form_at (scene_in context.now).forms base) index)) }
+{
+    refused_unless(is_part(context, context.form_at(base), index))
+}

@@ -1,0 +1,96 @@
+//! Values that are composed, and components of vectors in another order.
+
+ghost use Rattle.std.specs.Prelude.{◌↔◌, IsTrue, MatchResult, map};
+ghost use Rattle.function_statement_checks.specs.Refused.{IsRefused};
+ghost use Rattle.function_statement_checks.specs.OperandView.{scene_in, types_in};
+ghost use Rattle.module_expression_checks.specs.Faults.{IsBadComposition};
+ghost use Rattle.module_expression_checks.specs.Letters.{MayStand};
+ghost use Rattle.spec_statements.specs.Compositions.{AreComponents, SwizzleOK};
+ghost use Rattle.spec_statements.specs.Scene.{form_at};
+ghost use Rattle.spec_expressions.specs.ConstantCompositions.{ComposeOK};
+
+use typing_errors::ExpressionError;
+use ir_arena::handle::Handle;
+use ir_kinds::{SwizzleComponent, VectorSize};
+use ir_types::key;
+use module_expressions::{Components, check_composition};
+use spec_statements::Shape;
+use function_statement_checks::{CheckContext, refused_unless, shaped_of};
+use typing_forms::Form;
+
+/// Whether components make a value of a type (naga's `validate_compose`).
+///
+/// # Errors
+///
+/// [`ExpressionError::Compose`]: nothing of the type is composed, a component does not fit, or they are too few or too many;
+/// each is answered only where it stands.
+pub fn check_compose(
+    context: &CheckContext<'_>,
+    ty: Handle<key::IrType>,
+    components: &[Handle<key::Expression>],
+) -> Result<(), ExpressionError>
+    ensures { MatchResult result
+        (λ _. ComposeOK (types_in context.now) ty (map (form_at (scene_in context.now).forms) components.now))
+        (IsBadComposition (types_in context.now) ty (map (form_at (scene_in context.now).forms) components.now)) }
+{
+    let parts = Components::Expressions {
+        forms: context.forms,
+        handles: components,
+    };
+    match check_composition(context.types, ty, &parts) {
+        Ok(()) => Ok(()),
+        Err(error) => Err(ExpressionError::Compose(error)),
+    }
+}
+
+// Whether a letter of a pattern for so many components is that of a component, where it counts.
+fn may_stand(size: VectorSize, place: usize, letter: SwizzleComponent, of: VectorSize) -> bool
+    ensures { IsTrue result ↔ MayStand size place letter of }
+{
+    place >= u32::from(size) as usize || letter.index() < u32::from(of)
+}
+
+// Whether the letters of a pattern that count are those of components of a vector.
+#[tactic(auto, using(crate::proofs::Letters::stand_none, crate::proofs::Letters::stand_more, crate::proofs::Letters::stand_all, crate::proofs::Letters::stand_not))]
+fn are_components(size: VectorSize, pattern: [SwizzleComponent; 4], of: VectorSize) -> bool
+    ensures { IsTrue result ↔ AreComponents size pattern of }
+{
+    for place in 0..4 {
+        if !may_stand(size, place, pattern[place], of) {
+            return false;
+        }
+    }
+    true
+}
+
+// Whether a pattern puts components of a vector in order.
+fn is_swizzle(size: VectorSize, pattern: [SwizzleComponent; 4], of: Form) -> bool
+    ensures { IsTrue result ↔ SwizzleOK size pattern of }
+{
+    match shaped_of(of) {
+        Some(shaped) => match shaped.shape {
+            Shape::Row(components) => are_components(size, pattern, components),
+            Shape::One | Shape::Grid { .. } | Shape::Shared { .. } => false,
+        },
+        None => false,
+    }
+}
+
+/// Whether a pattern puts components of a vector in order.
+///
+/// # Errors
+///
+/// [`ExpressionError::Other`] where it does not: one of the letters that count is that of no component.
+#[tactic(auto, using(function_statement_checks::proofs::Refusals::by_test))]
+pub fn check_swizzle(
+    context: &CheckContext<'_>,
+    size: VectorSize,
+    vector: Handle<key::Expression>,
+    pattern: [SwizzleComponent; 4],
+) -> Result<(), ExpressionError>
+    ensures { MatchResult result
+        (λ _. SwizzleOK size pattern (form_at (scene_in context.now).forms vector))
+        (IsRefused (SwizzleOK size pattern (form_at (scene_in context.now).forms vector))) }
+{
+    refused_unless(is_swizzle(size, pattern, context.form_at(vector)))
+}

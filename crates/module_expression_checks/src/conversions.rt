@@ -1,0 +1,69 @@
+//! Which conversions there are.
+
+ghost use Rattle.std.specs.Prelude.{◌↔◌, IsTrue, MatchResult};
+ghost use Rattle.function_statement_checks.specs.Refused.{IsRefused};
+ghost use Rattle.function_statement_checks.specs.OperandView.{scene_in};
+ghost use Rattle.spec_statements.specs.Conversions.{IsConverted, AsOK};
+ghost use Rattle.spec_statements.specs.Scene.{form_at};
+ghost use Rattle.typing_layout.specs.Widths.{ScalarOK};
+
+use typing_errors::ExpressionError;
+use ir_arena::handle::Handle;
+use ir_flags::Capabilities;
+use ir_kinds::{Bytes, Scalar, ScalarKind};
+use ir_types::key;
+use function_statement_checks::{CheckContext, refused_unless, shaped_of};
+use module_type_checks::check_width;
+use typing_forms::Form;
+
+// Whether there is a scalar.
+fn is_there(capabilities: Capabilities, scalar: Scalar) -> bool
+    ensures { IsTrue result ↔ ScalarOK capabilities scalar }
+{
+    check_width(capabilities, scalar).is_ok()
+}
+
+// Whether a scalar is converted to one of a kind, and of a width where that is said.
+fn is_converted(
+    capabilities: Capabilities,
+    kind: ScalarKind,
+    convert: Option<Bytes>,
+    scalar: Scalar,
+) -> bool
+    ensures { IsTrue result ↔ IsConverted capabilities kind convert scalar }
+{
+    match convert {
+        Some(width) => is_there(capabilities, Scalar { kind, width }),
+        None => kind != ScalarKind::Bool && scalar.kind != ScalarKind::Bool,
+    }
+}
+
+// Whether a value of a type is converted.
+fn converts(capabilities: Capabilities, kind: ScalarKind, convert: Option<Bytes>, of: Form) -> bool
+    ensures { IsTrue result ↔ AsOK capabilities kind convert of }
+{
+    match shaped_of(of) {
+        Some(shaped) => is_converted(capabilities, kind, convert, shaped.scalar),
+        None => false,
+    }
+}
+
+/// Whether an expression is converted: to a scalar that there is, or where its bits are read anew, neither from truth
+/// values nor as such.
+///
+/// # Errors
+///
+/// [`ExpressionError::Other`] where it is not.
+#[tactic(auto, using(function_statement_checks::proofs::Refusals::by_test))]
+pub fn check_as(
+    context: &CheckContext<'_>,
+    expr: Handle<key::Expression>,
+    kind: ScalarKind,
+    convert: Option<Bytes>,
+) -> Result<(), ExpressionError>
+    ensures { MatchResult result
+        (λ _. AsOK context.now.capabilities kind convert (form_at (scene_in context.now).forms expr))
+        (IsRefused (AsOK context.now.capabilities kind convert (form_at (scene_in context.now).forms expr))) }
+{
+    refused_unless(converts(context.capabilities, kind, convert, context.form_at(expr)))
+}

@@ -1,0 +1,130 @@
+//! Which cooperative matrices are loaded and multiplied.
+
+ghost use Rattle.std.specs.Prelude.{◌↔◌, IsTrue, MatchResult};
+ghost use Rattle.function_statement_checks.specs.Refused.{IsRefused};
+ghost use Rattle.function_statement_checks.specs.OperandView.{scene_in};
+ghost use Rattle.spec_statements.specs.CooperativeMatrices.{CooperativeLoadOK, IsAddend, IsRightFactor, AreFactors, MultiplyAddOK};
+ghost use Rattle.spec_statements.specs.Scene.{form_at};
+
+use typing_errors::ExpressionError;
+use ir_arena::handle::Handle;
+use ir_kinds::{CooperativeRole, CooperativeSize, Scalar};
+use ir_types::key;
+use spec_statements::Shape;
+use function_statement_checks::{CheckContext, are_same, refused_unless, shaped_of};
+use typing_forms::Form;
+
+// ---- loads
+
+// Whether a type is that of a distance from row to row.
+fn is_stride(of: Form) -> bool
+    ensures { IsTrue result ↔ CooperativeLoadOK of }
+{
+    are_same(of, Form::Scalar(Scalar::U32))
+}
+
+/// Whether a cooperative matrix is loaded by a distance from row to row: it is a 32-bit unsigned integer.
+///
+/// # Errors
+///
+/// [`ExpressionError::Other`] where it is not.
+#[tactic(auto, using(function_statement_checks::proofs::Refusals::by_test))]
+pub fn check_cooperative_load(
+    context: &CheckContext<'_>,
+    stride: Handle<key::Expression>,
+) -> Result<(), ExpressionError>
+    ensures { MatchResult result
+        (λ _. CooperativeLoadOK (form_at (scene_in context.now).forms stride))
+        (IsRefused (CooperativeLoadOK (form_at (scene_in context.now).forms stride))) }
+{
+    refused_unless(is_stride(context.form_at(stride)))
+}
+
+// ---- products
+
+// Whether a shape is that of what is added to a product of so many columns and rows.
+fn is_addend(columns: CooperativeSize, rows: CooperativeSize, third: Shape) -> bool
+    ensures { IsTrue result ↔ IsAddend columns rows third }
+{
+    match third {
+        Shape::Shared {
+            columns: more,
+            rows: lines,
+            role,
+        } => role == CooperativeRole::C && more == columns && lines == rows,
+        Shape::One | Shape::Row(_) | Shape::Grid { .. } => false,
+    }
+}
+
+// Whether a shape is that of a right factor for a left one of so many columns and rows, and another fits the product.
+fn is_right_factor(
+    columns: CooperativeSize,
+    rows: CooperativeSize,
+    right: Shape,
+    third: Shape,
+) -> bool
+    ensures { IsTrue result ↔ IsRightFactor columns rows right third }
+{
+    match right {
+        Shape::Shared {
+            columns: more,
+            rows: lines,
+            role,
+        } => role == CooperativeRole::B && columns == lines && is_addend(more, rows, third),
+        Shape::One | Shape::Row(_) | Shape::Grid { .. } => false,
+    }
+}
+
+// Whether two shapes are those of factors, and a third fits their product.
+fn are_factors(left: Shape, right: Shape, third: Shape) -> bool
+    ensures { IsTrue result ↔ AreFactors left right third }
+{
+    match left {
+        Shape::Shared {
+            columns,
+            rows,
+            role,
+        } => role == CooperativeRole::A && is_right_factor(columns, rows, right, third),
+        Shape::One | Shape::Row(_) | Shape::Grid { .. } => false,
+    }
+}
+
+// Whether two types are those of factors of one scalar, and a third fits their product.
+fn is_product(a: &Form, b: &Form, c: &Form) -> bool
+    ensures { IsTrue result ↔ MultiplyAddOK a.now b.now c.now }
+{
+    match shaped_of(*a) {
+        Some(left) => match shaped_of(*b) {
+            Some(right) => match shaped_of(*c) {
+                Some(third) => {
+                    left.scalar == right.scalar && are_factors(left.shape, right.shape, third.shape)
+                }
+                None => false,
+            },
+            None => false,
+        },
+        None => false,
+    }
+}
+
+/// Whether two cooperative matrices are multiplied, and a third is added to their product.
+///
+/// # Errors
+///
+/// [`ExpressionError::Other`] where they are not.
+#[tactic(auto, using(function_statement_checks::proofs::Refusals::by_test))]
+pub fn check_multiply_add(
+    context: &CheckContext<'_>,
+    a: Handle<key::Expression>,
+    b: Handle<key::Expression>,
+    c: Handle<key::Expression>,
+) -> Result<(), ExpressionError>
+    ensures { MatchResult result
+        (λ _. MultiplyAddOK (form_at (scene_in context.now).forms a) (form_at (scene_in context.now).forms b) (form_at (scene_in context.now).forms c))
+        (IsRefused (MultiplyAddOK (form_at (scene_in context.now).forms a) (form_at (scene_in context.now).forms b) (form_at (scene_in context.now).forms c))) }
+{
+    let a = context.form_at(a);
+    let b = context.form_at(b);
+    let c = context.form_at(c);
+    refused_unless(is_product(&a, &b, &c))
+}

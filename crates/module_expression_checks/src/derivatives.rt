@@ -1,0 +1,52 @@
+//! What changes from fragment to fragment.
+
+ghost use Rattle.std.specs.Prelude.{◌↔◌, IsTrue, MatchResult};
+ghost use Rattle.function_statement_checks.specs.Refused.{IsRefused};
+ghost use Rattle.function_statement_checks.specs.OperandView.{scene_in};
+ghost use Rattle.spec_statements.specs.Derivatives.{DerivativeOK};
+ghost use Rattle.spec_statements.specs.Scene.{form_at};
+
+use typing_errors::ExpressionError;
+use ir_arena::handle::Handle;
+use ir_types::key;
+use function_statement_checks::{CheckContext, is_floating, refused_unless};
+use typing_forms::Form;
+
+// Whether a type is one of floats alone or in a row.
+fn is_slope(of: Form) -> bool
+    ensures { IsTrue result ↔ DerivativeOK of }
+{
+    match of {
+        Form::Scalar(scalar) | Form::Vector { scalar, .. } => is_floating(scalar.kind),
+        Form::Matrix { .. }
+        | Form::CooperativeMatrix { .. }
+        | Form::Atomic(_)
+        | Form::Pointer { .. }
+        | Form::ValuePointer { .. }
+        | Form::Array { .. }
+        | Form::Struct(_)
+        | Form::Image { .. }
+        | Form::Sampler { .. }
+        | Form::AccelerationStructure { .. }
+        | Form::RayQuery { .. }
+        | Form::BindingArray { .. }
+        | Form::Nothing => false,
+    }
+}
+
+/// Whether a value has a derivative.
+///
+/// # Errors
+///
+/// [`ExpressionError::Other`] where it has none.
+#[tactic(auto, using(function_statement_checks::proofs::Refusals::by_test))]
+pub fn check_derivative(
+    context: &CheckContext<'_>,
+    expr: Handle<key::Expression>,
+) -> Result<(), ExpressionError>
+    ensures { MatchResult result
+        (λ _. DerivativeOK (form_at (scene_in context.now).forms expr))
+        (IsRefused (DerivativeOK (form_at (scene_in context.now).forms expr))) }
+{
+    refused_unless(is_slope(context.form_at(expr)))
+}

@@ -1,0 +1,46 @@
+//! Which literals there are, and which types have a zero.
+
+ghost use Rattle.std.specs.Prelude.{MatchResult};
+ghost use Rattle.function_statement_checks.specs.Refused.{IsRefused};
+ghost use Rattle.function_statement_checks.specs.OperandView.{types_in, IsKnown};
+ghost use Rattle.module_expression_checks.specs.Faults.{IsBadLiteral};
+ghost use Rattle.spec_statements.specs.Literals.{ZeroOK};
+ghost use Rattle.spec_expressions.specs.ConstantLiterals.{LiteralOK};
+
+use typing_errors::ExpressionError;
+use ir_arena::handle::Handle;
+use ir_flags::Capabilities;
+use ir_kinds::Literal;
+use ir_types::key;
+use function_statement_checks::{CheckContext, refused_unless};
+use module_type_checks::validate_literal;
+
+/// Whether a literal may be used.
+///
+/// # Errors
+///
+/// [`ExpressionError::Literal`] where there is no such scalar.
+pub fn check_literal(capabilities: Capabilities, value: Literal) -> Result<(), ExpressionError>
+    ensures { MatchResult result (λ _. LiteralOK capabilities value) (IsBadLiteral capabilities value) }
+{
+    match validate_literal(capabilities, value) {
+        Ok(()) => Ok(()),
+        Err(error) => Err(ExpressionError::Literal(error)),
+    }
+}
+
+/// Whether a type has a zero: values of it can be composed.
+///
+/// # Errors
+///
+/// [`ExpressionError::Other`] where it has none.
+#[tactic(auto, using(function_statement_checks::proofs::Refusals::by_test))]
+pub fn check_zero(
+    context: &CheckContext<'_>,
+    ty: Handle<key::IrType>,
+) -> Result<(), ExpressionError>
+    requires { IsKnown context.now }
+    ensures { MatchResult result (λ _. ZeroOK (types_in context.now) ty) (IsRefused (ZeroOK (types_in context.now) ty)) }
+{
+    refused_unless(context.is_constructible(ty))
+}

@@ -1,0 +1,119 @@
+//! What is loaded, and what has a length.
+
+ghost use Rattle.std.specs.Prelude.{◌↔◌, IsTrue, MatchResult, Some};
+ghost use Rattle.function_statement_checks.specs.Refused.{IsRefused};
+ghost use Rattle.function_statement_checks.specs.OperandView.{scene_in, types_in, IsKnown};
+ghost use Rattle.ir_types.specs.Plain.{inner_view};
+ghost use Rattle.spec_statements.specs.Loads.{LoadOK, IsDynamic, IsRuntimeArray, ArrayLengthOK};
+ghost use Rattle.spec_statements.specs.Scene.{form_at};
+
+use typing_errors::ExpressionError;
+use ir_arena::handle::Handle;
+use ir_types::{ArraySize, TypeInner, key};
+use function_statement_checks::{CheckContext, refused_unless};
+use typing_forms::Form;
+
+// ---- loads
+
+// Whether what a type leads to is loaded.
+fn is_loaded(context: &CheckContext<'_>, pointer: Form) -> bool
+    requires { IsKnown context.now }
+    ensures { IsTrue result ↔ LoadOK (types_in context.now) pointer }
+{
+    match pointer {
+        Form::Pointer { base, .. } => context.is_data(base) && context.is_sized(base),
+        Form::ValuePointer { .. } => true,
+        Form::Scalar(_)
+        | Form::Vector { .. }
+        | Form::Matrix { .. }
+        | Form::CooperativeMatrix { .. }
+        | Form::Atomic(_)
+        | Form::Array { .. }
+        | Form::Struct(_)
+        | Form::Image { .. }
+        | Form::Sampler { .. }
+        | Form::AccelerationStructure { .. }
+        | Form::RayQuery { .. }
+        | Form::BindingArray { .. }
+        | Form::Nothing => false,
+    }
+}
+
+/// Whether what a pointer leads to is loaded: it can be stored, and its size is known.
+///
+/// # Errors
+///
+/// [`ExpressionError::Other`] where it is not.
+#[tactic(auto, using(function_statement_checks::proofs::Refusals::by_test))]
+pub fn check_load(
+    context: &CheckContext<'_>,
+    pointer: Handle<key::Expression>,
+) -> Result<(), ExpressionError>
+    requires { IsKnown context.now }
+    ensures { MatchResult result
+        (λ _. LoadOK (types_in context.now) (form_at (scene_in context.now).forms pointer))
+        (IsRefused (LoadOK (types_in context.now) (form_at (scene_in context.now).forms pointer))) }
+{
+    refused_unless(is_loaded(context, context.form_at(pointer)))
+}
+
+// ---- lengths
+
+// Whether an array of a size is as long as its buffer.
+const fn is_dynamic(size: ArraySize) -> bool
+    ensures { IsTrue result ↔ IsDynamic size }
+{
+    match size {
+        ArraySize::Dynamic => true,
+        ArraySize::Constant(_) | ArraySize::Pending(_) => false,
+    }
+}
+
+// Whether a type is that of an array that is as long as its buffer.
+const fn is_runtime_array(inner: &TypeInner) -> bool
+    ensures { IsTrue result ↔ IsRuntimeArray (Some (inner_view inner.now)) }
+{
+    match *inner {
+        TypeInner::Array { size, .. } => is_dynamic(size),
+        TypeInner::Scalar(_)
+        | TypeInner::Vector { .. }
+        | TypeInner::Matrix { .. }
+        | TypeInner::CooperativeMatrix { .. }
+        | TypeInner::Atomic(_)
+        | TypeInner::Pointer { .. }
+        | TypeInner::ValuePointer { .. }
+        | TypeInner::Struct { .. }
+        | TypeInner::Image { .. }
+        | TypeInner::Sampler { .. }
+        | TypeInner::AccelerationStructure { .. }
+        | TypeInner::RayQuery { .. }
+        | TypeInner::BindingArray { .. } => false,
+    }
+}
+
+// Whether what a type leads to is such an array.
+fn has_length(context: &CheckContext<'_>, array: Form) -> bool
+    ensures { IsTrue result ↔ ArrayLengthOK (types_in context.now) array }
+{
+    match context.pointed_in(array) {
+        Some(inner) => is_runtime_array(inner),
+        None => false,
+    }
+}
+
+/// Whether what a pointer leads to has a length that the shader may ask for: it is an array that is as long as its buffer.
+///
+/// # Errors
+///
+/// [`ExpressionError::Other`] where it has none.
+#[tactic(auto, using(function_statement_checks::proofs::Refusals::by_test))]
+pub fn check_array_length(
+    context: &CheckContext<'_>,
+    array: Handle<key::Expression>,
+) -> Result<(), ExpressionError>
+    ensures { MatchResult result
+        (λ _. ArrayLengthOK (types_in context.now) (form_at (scene_in context.now).forms array))
+        (IsRefused (ArrayLengthOK (types_in context.now) (form_at (scene_in context.now).forms array))) }
+{
+    refused_unless(has_length(context, context.form_at(array)))
+}

@@ -1,0 +1,252 @@
+//! Operands of operations on one value and on two.
+
+ghost use Rattle.std.specs.Prelude.{◌≡◌, ◌↔◌, IsTrue, MatchResult};
+ghost use Rattle.function_statement_checks.specs.Refused.{IsRefused};
+ghost use Rattle.function_statement_checks.specs.OperandView.{scene_in};
+ghost use Rattle.spec_statements.specs.Operators.{IsSigned, IsBits, TakesKind, IsAdded, AreMultiplied, UnaryOK, SumOK, ProductOK, ShiftOK, BinaryOK};
+ghost use Rattle.spec_statements.specs.Scene.{form_at};
+ghost use Rattle.spec_statements.specs.Shapes.{AnyShape, IsAlone, IsOfValue, IsInteger, IsNumeric, IsTruth, IsMadeOf, IsValue};
+
+use crate::shapes::{is_alone, is_of_value, is_one_truth};
+use typing_errors::ExpressionError;
+use ir_arena::handle::Handle;
+use ir_kinds::{BinaryOperator, Scalar, ScalarKind, UnaryOperator, VectorSize};
+use ir_types::key;
+use spec_statements::Shape;
+use function_statement_checks::{
+    CheckContext, are_same, form_of_shape, is_integer, is_numeric, is_truth, refused_unless,
+    shaped_of,
+};
+use typing_forms::Form;
+
+// ---- on one value
+
+// Whether numbers of a kind may be negative.
+const fn is_signed(kind: ScalarKind) -> bool
+    ensures { IsTrue result ↔ IsSigned kind }
+{
+    match kind {
+        ScalarKind::Sint | ScalarKind::Float => true,
+        ScalarKind::Uint | ScalarKind::Bool | ScalarKind::AbstractInt | ScalarKind::AbstractFloat =>
+            false,
+    }
+}
+
+// Whether an operation on one value takes scalars of a kind.
+const fn takes_kind(op: UnaryOperator, kind: ScalarKind) -> bool
+    ensures { IsTrue result ↔ TakesKind op kind }
+{
+    match op {
+        UnaryOperator::Negate => is_signed(kind),
+        UnaryOperator::LogicalNot => is_truth(kind),
+        UnaryOperator::BitwiseNot => is_integer(kind),
+    }
+}
+
+// Whether an operation on one value takes one of a type.
+fn takes(op: UnaryOperator, of: Form) -> bool
+    ensures { IsTrue result ↔ UnaryOK op of }
+{
+    match shaped_of(of) {
+        Some(shaped) => takes_kind(op, shaped.scalar.kind),
+        None => false,
+    }
+}
+
+/// Whether an operation takes its operand.
+///
+/// # Errors
+///
+/// [`ExpressionError::Other`] where it does not.
+#[tactic(auto, using(function_statement_checks::proofs::Refusals::by_test))]
+pub fn check_unary(
+    context: &CheckContext<'_>,
+    op: UnaryOperator,
+    expr: Handle<key::Expression>,
+) -> Result<(), ExpressionError>
+    ensures { MatchResult result
+        (λ _. UnaryOK op (form_at (scene_in context.now).forms expr))
+        (IsRefused (UnaryOK op (form_at (scene_in context.now).forms expr))) }
+{
+    refused_unless(takes(op, context.form_at(expr)))
+}
+
+// ---- on two values
+
+// Whether scalars of a kind are truth values or integers.
+const fn is_bits(kind: ScalarKind) -> bool
+    ensures { IsTrue result ↔ IsBits kind }
+{
+    match kind {
+        ScalarKind::Sint | ScalarKind::Uint | ScalarKind::Bool => true,
+        ScalarKind::Float | ScalarKind::AbstractInt | ScalarKind::AbstractFloat => false,
+    }
+}
+
+// Whether values of a shape and a kind are added.
+const fn is_added(shape: Shape, kind: ScalarKind) -> bool
+    ensures { IsTrue result ↔ IsAdded shape kind }
+{
+    match shape {
+        Shape::One | Shape::Row(_) => is_numeric(kind),
+        Shape::Grid { .. } | Shape::Shared { .. } => true,
+    }
+}
+
+// Whether two values are added.
+fn are_added(left: &Form, right: &Form) -> bool
+    ensures { IsTrue result ↔ SumOK left.now right.now }
+{
+    if !are_same(*left, *right) {
+        return false;
+    }
+    match shaped_of(*left) {
+        Some(shaped) => is_added(shaped.shape, shaped.scalar.kind),
+        None => false,
+    }
+}
+
+// Whether a row of so many is multiplied with something.
+fn is_row_multiplied(size: VectorSize, right: Shape) -> bool
+    ensures { IsTrue result ↔ AreMultiplied (Shape.Row size) right }
+{
+    match right {
+        Shape::One => true,
+        Shape::Row(other) => size == other,
+        Shape::Grid { rows, .. } => size == rows,
+        Shape::Shared { .. } => false,
+    }
+}
+
+// Whether two shapes are multiplied.
+fn are_shapes_multiplied(left: Shape, right: Shape) -> bool
+    ensures { IsTrue result ↔ AreMultiplied left right }
+{
+    match left {
+        Shape::One => true,
+        Shape::Row(size) => is_row_multiplied(size, right),
+        Shape::Grid { columns, .. } => match right {
+            Shape::One => true,
+            Shape::Row(size) => columns == size,
+            Shape::Grid { rows, .. } => columns == rows,
+            Shape::Shared { .. } => false,
+        },
+        Shape::Shared { .. } => is_alone(right),
+    }
+}
+
+// Whether two values are multiplied.
+fn are_multiplied(left: Form, right: Form) -> bool
+    ensures { IsTrue result ↔ ProductOK left right }
+{
+    match shaped_of(left) {
+        Some(left) => match shaped_of(right) {
+            Some(right) => {
+                left.scalar == right.scalar && are_shapes_multiplied(left.shape, right.shape)
+            }
+            None => false,
+        },
+        None => false,
+    }
+}
+
+// Whether a type is that of a value.
+fn is_value(of: Form) -> bool
+    ensures { IsTrue result ↔ IsValue of }
+{
+    match shaped_of(of) {
+        Some(shaped) => is_of_value(shaped.shape),
+        None => false,
+    }
+}
+
+// Whether a type is one of numbers alone or in a row.
+fn is_number(of: Form) -> bool
+    ensures { IsTrue result ↔ IsMadeOf IsOfValue IsNumeric of }
+{
+    match shaped_of(of) {
+        Some(shaped) => is_of_value(shaped.shape) && is_numeric(shaped.scalar.kind),
+        None => false,
+    }
+}
+
+// Whether a type is made of truth values or integers.
+fn is_of_bits(of: Form) -> bool
+    ensures { IsTrue result ↔ IsMadeOf AnyShape IsBits of }
+{
+    match shaped_of(of) {
+        Some(shaped) => is_bits(shaped.scalar.kind),
+        None => false,
+    }
+}
+
+// Whether a type is made of integers.
+fn is_of_integers(of: Form) -> bool
+    ensures { IsTrue result ↔ IsMadeOf AnyShape IsInteger of }
+{
+    match shaped_of(of) {
+        Some(shaped) => is_integer(shaped.scalar.kind),
+        None => false,
+    }
+}
+
+// Whether integers are shifted by others.
+fn are_shifted(left: Form, right: Form) -> bool
+    ensures { IsTrue result ↔ ShiftOK left right }
+{
+    match shaped_of(left) {
+        Some(shaped) => {
+            is_integer(shaped.scalar.kind)
+                && are_same(right, form_of_shape(shaped.shape, Scalar::U32))
+        }
+        None => false,
+    }
+}
+
+// Whether an operation on two values takes those of two types.
+fn take(op: BinaryOperator, left: &Form, right: &Form) -> bool
+    ensures { IsTrue result ↔ BinaryOK op left.now right.now }
+{
+    match op {
+        BinaryOperator::Add | BinaryOperator::Subtract => are_added(left, right),
+        BinaryOperator::Multiply => are_multiplied(*left, *right),
+        BinaryOperator::Divide
+        | BinaryOperator::Modulo
+        | BinaryOperator::Less
+        | BinaryOperator::LessEqual
+        | BinaryOperator::Greater
+        | BinaryOperator::GreaterEqual => are_same(*left, *right) && is_number(*left),
+        BinaryOperator::Equal | BinaryOperator::NotEqual => {
+            are_same(*left, *right) && is_value(*left)
+        }
+        BinaryOperator::And | BinaryOperator::InclusiveOr => {
+            are_same(*left, *right) && is_of_bits(*left)
+        }
+        BinaryOperator::ExclusiveOr => are_same(*left, *right) && is_of_integers(*left),
+        BinaryOperator::LogicalAnd | BinaryOperator::LogicalOr => {
+            are_same(*left, *right) && is_one_truth(*left)
+        }
+        BinaryOperator::ShiftLeft | BinaryOperator::ShiftRight => are_shifted(*left, *right),
+    }
+}
+
+/// Whether an operation takes its operands.
+///
+/// # Errors
+///
+/// [`ExpressionError::Other`] where it does not.
+#[tactic(auto, using(function_statement_checks::proofs::Refusals::by_test))]
+pub fn check_binary(
+    context: &CheckContext<'_>,
+    op: BinaryOperator,
+    left: Handle<key::Expression>,
+    right: Handle<key::Expression>,
+) -> Result<(), ExpressionError>
+    ensures { MatchResult result
+        (λ _. BinaryOK op (form_at (scene_in context.now).forms left) (form_at (scene_in context.now).forms right))
+        (IsRefused (BinaryOK op (form_at (scene_in context.now).forms left) (form_at (scene_in context.now).forms right))) }
+{
+    let left = context.form_at(left);
+    let right = context.form_at(right);
+    refused_unless(take(op, &left, &right))
+}

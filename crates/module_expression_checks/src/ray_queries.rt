@@ -1,0 +1,98 @@
+//! Which ray queries are asked.
+
+ghost use Rattle.std.specs.Prelude.{◌≡◌, ◌↔◌, IsTrue, MatchResult, Some};
+ghost use Rattle.function_statement_checks.specs.Refused.{IsRefused};
+ghost use Rattle.function_statement_checks.specs.OperandView.{scene_in, types_in};
+ghost use Rattle.ir_types.specs.Plain.{inner_view};
+ghost use Rattle.spec_statements.specs.ExpressionRayQueries.{query_of, VertexPositionsOK, IntersectionOK};
+ghost use Rattle.spec_statements.specs.Scene.{form_at};
+ghost use Rattle.spec_statements.specs.Shapes.{pointed_in};
+
+use typing_errors::ExpressionError;
+use ir_arena::handle::Handle;
+use ir_types::{TypeInner, key};
+use function_statement_checks::{CheckContext, refused_unless};
+use typing_forms::Form;
+
+/// Whether the ray query that a type is gives the vertices of a hit.
+pub const fn query_of(inner: &TypeInner) -> Option<bool>
+    ensures { result ≡ query_of (Some (inner_view inner.now)) }
+{
+    match *inner {
+        TypeInner::RayQuery { vertex_return } => Some(vertex_return),
+        TypeInner::Scalar(_)
+        | TypeInner::Vector { .. }
+        | TypeInner::Matrix { .. }
+        | TypeInner::CooperativeMatrix { .. }
+        | TypeInner::Atomic(_)
+        | TypeInner::Pointer { .. }
+        | TypeInner::ValuePointer { .. }
+        | TypeInner::Array { .. }
+        | TypeInner::Struct { .. }
+        | TypeInner::Image { .. }
+        | TypeInner::Sampler { .. }
+        | TypeInner::AccelerationStructure { .. }
+        | TypeInner::BindingArray { .. } => None,
+    }
+}
+
+// The same of the ray query that a pointer leads to.
+fn pointed_query(context: &CheckContext<'_>, query: Form) -> Option<bool>
+    ensures { result ≡ query_of (pointed_in (types_in context.now) query) }
+{
+    match context.pointed_in(query) {
+        Some(inner) => query_of(inner),
+        None => None,
+    }
+}
+
+// Whether a type leads to a ray query that gives the vertices of a hit.
+fn gives_positions(context: &CheckContext<'_>, query: Form) -> bool
+    ensures { IsTrue result ↔ VertexPositionsOK (types_in context.now) query }
+{
+    match pointed_query(context, query) {
+        Some(vertex_return) => vertex_return,
+        None => false,
+    }
+}
+
+// Whether a type leads to a ray query.
+fn gives_intersection(context: &CheckContext<'_>, query: Form) -> bool
+    ensures { IsTrue result ↔ IntersectionOK (types_in context.now) query }
+{
+    pointed_query(context, query).is_some()
+}
+
+/// Whether what a pointer leads to tells the vertices of a hit: it is a ray query that gives them.
+///
+/// # Errors
+///
+/// [`ExpressionError::Other`] where it does not.
+#[tactic(auto, using(function_statement_checks::proofs::Refusals::by_test))]
+pub fn check_vertex_positions(
+    context: &CheckContext<'_>,
+    query: Handle<key::Expression>,
+) -> Result<(), ExpressionError>
+    ensures { MatchResult result
+        (λ _. VertexPositionsOK (types_in context.now) (form_at (scene_in context.now).forms query))
+        (IsRefused (VertexPositionsOK (types_in context.now) (form_at (scene_in context.now).forms query))) }
+{
+    refused_unless(gives_positions(context, context.form_at(query)))
+}
+
+/// Whether what a pointer leads to tells where a ray hit: it is a ray query.
+///
+/// # Errors
+///
+/// [`ExpressionError::Other`] where it does not.
+#[tactic(auto, using(function_statement_checks::proofs::Refusals::by_test))]
+pub fn check_intersection(
+    context: &CheckContext<'_>,
+    query: Handle<key::Expression>,
+) -> Result<(), ExpressionError>
+    ensures { MatchResult result
+        (λ _. IntersectionOK (types_in context.now) (form_at (scene_in context.now).forms query))
+        (IsRefused (IntersectionOK (types_in context.now) (form_at (scene_in context.now).forms query))) }
+{
+    refused_unless(gives_intersection(context, context.form_at(query)))
+}

@@ -1,0 +1,106 @@
+//! What statements may answer.
+
+ghost use Rattle.std.specs.Prelude.{◌↔◌, IsTrue, MatchResult};
+ghost use Rattle.function_statement_checks.specs.Refused.{IsRefused};
+ghost use Rattle.function_statement_checks.specs.OperandView.{types_in, IsKnown};
+ghost use Rattle.spec_statements.specs.ExpressionResults.{IsAtomicValue, IsExchange, AtomicResultOK, UniformLoadOK};
+ghost use Rattle.typing_layout.specs.Widths.{AtomicOK};
+ghost use Rattle.typing_forms.specs.Resolutions.{inner_at};
+
+use crate::exchanges::exchanged_value;
+use crate::shapes::is_alone;
+use typing_errors::ExpressionError;
+use ir_arena::handle::Handle;
+use ir_flags::Capabilities;
+use ir_kinds::Scalar;
+use ir_types::key;
+use function_statement_checks::{CheckContext, refused_unless, shaped_of};
+use module_type_checks::check_atomic;
+use typing_forms::{Form, form_of_type};
+
+// ---- atomic operations
+
+// Whether atomics have a scalar.
+fn is_atomic(capabilities: Capabilities, scalar: Scalar) -> bool
+    ensures { IsTrue result ↔ AtomicOK capabilities scalar }
+{
+    check_atomic(capabilities, scalar).is_ok()
+}
+
+// Whether a type is that of a scalar that atomics have.
+fn is_atomic_value(capabilities: Capabilities, of: Form) -> bool
+    ensures { IsTrue result ↔ IsAtomicValue capabilities of }
+{
+    match shaped_of(of) {
+        Some(shaped) => is_alone(shaped.shape) && is_atomic(capabilities, shaped.scalar),
+        None => false,
+    }
+}
+
+// Whether a type is that of what an exchange answers, with a scalar that atomics have.
+#[tactic(auto, using(crate::proofs::OldValues::by_test, crate::proofs::OldValues::by_none))]
+fn is_atomic_exchange(context: &CheckContext<'_>, ty: Handle<key::IrType>) -> bool
+    ensures { IsTrue result ↔ IsExchange context.now.capabilities (types_in context.now) (inner_at (types_in context.now) ty) }
+{
+    match exchanged_value(context.types, ty) {
+        Some(old) => is_atomic_value(context.capabilities, old),
+        None => false,
+    }
+}
+
+// Whether an atomic operation may answer a value of a type.
+fn is_atomic_result(context: &CheckContext<'_>, ty: Handle<key::IrType>, comparison: bool) -> bool
+    ensures { IsTrue result ↔ AtomicResultOK context.now.capabilities (types_in context.now) ty comparison }
+{
+    if comparison {
+        is_atomic_exchange(context, ty)
+    } else {
+        is_atomic_value(context.capabilities, form_of_type(context.types, ty))
+    }
+}
+
+/// Whether an atomic operation may answer a value of a type: a scalar, or of an exchange that compares a struct.
+///
+/// # Errors
+///
+/// [`ExpressionError::Other`] where it may not.
+#[tactic(auto, using(function_statement_checks::proofs::Refusals::by_test))]
+pub fn check_atomic_result(
+    context: &CheckContext<'_>,
+    ty: Handle<key::IrType>,
+    comparison: bool,
+) -> Result<(), ExpressionError>
+    ensures { MatchResult result
+        (λ _. AtomicResultOK context.now.capabilities (types_in context.now) ty comparison)
+        (IsRefused (AtomicResultOK context.now.capabilities (types_in context.now) ty comparison)) }
+{
+    refused_unless(is_atomic_result(context, ty, comparison))
+}
+
+// ---- uniform loads
+
+// Whether values of a type are of a known size and can be composed.
+fn is_loaded_uniformly(context: &CheckContext<'_>, ty: Handle<key::IrType>) -> bool
+    requires { IsKnown context.now }
+    ensures { IsTrue result ↔ UniformLoadOK (types_in context.now) ty }
+{
+    context.is_sized(ty) && context.is_constructible(ty)
+}
+
+/// Whether a uniform load may answer a value of a type: its size is known, and it can be composed.
+///
+/// # Errors
+///
+/// [`ExpressionError::Other`] where it may not.
+#[tactic(auto, using(function_statement_checks::proofs::Refusals::by_test))]
+pub fn check_uniform_load(
+    context: &CheckContext<'_>,
+    ty: Handle<key::IrType>,
+) -> Result<(), ExpressionError>
+    requires { IsKnown context.now }
+    ensures { MatchResult result
+        (λ _. UniformLoadOK (types_in context.now) ty)
+        (IsRefused (UniformLoadOK (types_in context.now) ty)) }
+{
+    refused_unless(is_loaded_uniformly(context, ty))
+}

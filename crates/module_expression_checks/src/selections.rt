@@ -1,0 +1,145 @@
+//! Which values are chosen from, by which condition; of which values something is asked.
+
+ghost use Rattle.std.specs.Prelude.{◌↔◌, IsTrue, MatchResult};
+ghost use Rattle.function_statement_checks.specs.Refused.{IsRefused};
+ghost use Rattle.function_statement_checks.specs.OperandView.{scene_in};
+ghost use Rattle.spec_statements.specs.Scene.{form_at};
+ghost use Rattle.spec_statements.specs.Selections.{ChoosesFrom, IsCondition, SelectOK, RelationalOK};
+ghost use Rattle.spec_statements.specs.Shapes.{IsRow, IsOfValue, IsFloating, IsTruth, IsMadeOf};
+
+use crate::shapes::is_of_value;
+use typing_errors::ExpressionError;
+use ir_arena::handle::Handle;
+use ir_kinds::{RelationalFunction, VectorSize};
+use ir_types::key;
+use spec_statements::Shape;
+use function_statement_checks::{CheckContext, are_same, is_floating, is_truth, refused_unless, shaped_of};
+use typing_forms::Form;
+
+// ---- selections
+
+// Whether a truth value for each of so many components chooses from values of a shape.
+fn is_chosen_by_row(size: VectorSize, value: Shape) -> bool
+    ensures { IsTrue result ↔ ChoosesFrom (Shape.Row size) value }
+{
+    match value {
+        Shape::Row(other) => size == other,
+        Shape::One | Shape::Grid { .. } | Shape::Shared { .. } => false,
+    }
+}
+
+// Whether truth values of one shape choose from values of another.
+fn chooses_from(condition: Shape, value: Shape) -> bool
+    ensures { IsTrue result ↔ ChoosesFrom condition value }
+{
+    match condition {
+        Shape::One => true,
+        Shape::Row(size) => is_chosen_by_row(size, value),
+        Shape::Grid { .. } | Shape::Shared { .. } => false,
+    }
+}
+
+// Whether a type is that of a condition for values of a shape.
+fn is_condition(condition: Form, value: Shape) -> bool
+    ensures { IsTrue result ↔ IsCondition condition value }
+{
+    match shaped_of(condition) {
+        Some(shaped) => is_truth(shaped.scalar.kind) && chooses_from(shaped.shape, value),
+        None => false,
+    }
+}
+
+// Whether a condition chooses from two values.
+fn is_selection(condition: &Form, accept: &Form, reject: &Form) -> bool
+    ensures { IsTrue result ↔ SelectOK condition.now accept.now reject.now }
+{
+    if !are_same(*accept, *reject) {
+        return false;
+    }
+    match shaped_of(*accept) {
+        Some(shaped) => is_of_value(shaped.shape) && is_condition(*condition, shaped.shape),
+        None => false,
+    }
+}
+
+/// Whether a condition chooses from two values.
+///
+/// # Errors
+///
+/// [`ExpressionError::Other`] where it does not.
+#[tactic(auto, using(function_statement_checks::proofs::Refusals::by_test))]
+pub fn check_select(
+    context: &CheckContext<'_>,
+    condition: Handle<key::Expression>,
+    accept: Handle<key::Expression>,
+    reject: Handle<key::Expression>,
+) -> Result<(), ExpressionError>
+    ensures { MatchResult result
+        (λ _. SelectOK (form_at (scene_in context.now).forms condition) (form_at (scene_in context.now).forms accept) (form_at (scene_in context.now).forms reject))
+        (IsRefused (SelectOK (form_at (scene_in context.now).forms condition) (form_at (scene_in context.now).forms accept) (form_at (scene_in context.now).forms reject))) }
+{
+    let condition = context.form_at(condition);
+    let accept = context.form_at(accept);
+    let reject = context.form_at(reject);
+    refused_unless(is_selection(&condition, &accept, &reject))
+}
+
+// ---- relational functions
+
+// Whether a shape is that of a vector.
+const fn is_row(shape: Shape) -> bool
+    ensures { IsTrue result ↔ IsRow shape }
+{
+    match shape {
+        Shape::Row(_) => true,
+        Shape::One | Shape::Grid { .. } | Shape::Shared { .. } => false,
+    }
+}
+
+// Whether a type is that of a vector of truth values.
+fn is_row_of_truths(of: Form) -> bool
+    ensures { IsTrue result ↔ IsMadeOf IsRow IsTruth of }
+{
+    match shaped_of(of) {
+        Some(shaped) => is_row(shaped.shape) && is_truth(shaped.scalar.kind),
+        None => false,
+    }
+}
+
+// Whether a type is one of floats alone or in a row.
+fn is_of_floats(of: Form) -> bool
+    ensures { IsTrue result ↔ IsMadeOf IsOfValue IsFloating of }
+{
+    match shaped_of(of) {
+        Some(shaped) => is_of_value(shaped.shape) && is_floating(shaped.scalar.kind),
+        None => false,
+    }
+}
+
+// Whether a relational function takes a value of a type.
+fn relates(fun: RelationalFunction, of: Form) -> bool
+    ensures { IsTrue result ↔ RelationalOK fun of }
+{
+    match fun {
+        RelationalFunction::All | RelationalFunction::Any => is_row_of_truths(of),
+        RelationalFunction::IsNan | RelationalFunction::IsInf => is_of_floats(of),
+    }
+}
+
+/// Whether a relational function takes its argument.
+///
+/// # Errors
+///
+/// [`ExpressionError::Other`] where it does not.
+#[tactic(auto, using(function_statement_checks::proofs::Refusals::by_test))]
+pub fn check_relational(
+    context: &CheckContext<'_>,
+    fun: RelationalFunction,
+    argument: Handle<key::Expression>,
+) -> Result<(), ExpressionError>
+    ensures { MatchResult result
+        (λ _. RelationalOK fun (form_at (scene_in context.now).forms argument))
+        (IsRefused (RelationalOK fun (form_at (scene_in context.now).forms argument))) }
+{
+    refused_unless(relates(fun, context.form_at(argument)))
+}

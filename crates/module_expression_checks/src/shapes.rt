@@ -1,0 +1,38 @@
+//! Shapes that several families ask for.
+
+ghost use Rattle.std.specs.Prelude.{◌↔◌, IsTrue};
+ghost use Rattle.spec_statements.specs.Shapes.{IsAlone, IsOfValue, IsTruth, IsMadeOf};
+
+use spec_statements::Shape;
+use function_statement_checks::{is_truth, shaped_of};
+use typing_forms::Form;
+
+/// Whether a shape is that of one scalar.
+pub const fn is_alone(shape: Shape) -> bool
+    ensures { IsTrue result ↔ IsAlone shape }
+{
+    match shape {
+        Shape::One => true,
+        Shape::Row(_) | Shape::Grid { .. } | Shape::Shared { .. } => false,
+    }
+}
+
+/// Whether a shape is that of a value: one scalar, or a vector.
+pub const fn is_of_value(shape: Shape) -> bool
+    ensures { IsTrue result ↔ IsOfValue shape }
+{
+    match shape {
+        Shape::One | Shape::Row(_) => true,
+        Shape::Grid { .. } | Shape::Shared { .. } => false,
+    }
+}
+
+/// Whether a type is one truth value.
+pub(crate) fn is_one_truth(of: Form) -> bool
+    ensures { IsTrue result ↔ IsMadeOf IsAlone IsTruth of }
+{
+    match shaped_of(of) {
+        Some(shaped) => is_alone(shaped.shape) && is_truth(shaped.scalar.kind),
+        None => false,
+    }
+}

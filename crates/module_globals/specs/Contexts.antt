@@ -1,0 +1,14 @@
+-- What the rules of a global variable may look at.
+use Rattle.std.specs.Prelude.{◌≡◌, length}
+use Rattle.module_globals.specs.declared.context.VariableContext.{VariableContext}
+use Rattle.ir_items.specs.Plain.{PlainModule}
+use Rattle.ir_items.specs.View.{module_view}
+use Rattle.module_type_checks.specs.Known.{AreInfos}
+
+abbrev pub module_of : VariableContext → PlainModule
+module_of c = module_view c.«module».now
+
+-- the infos are those of all types of the module
+pub record HasInfos (c : VariableContext) : Type 0 where
+  pub many : length c.infos.now ≡ length (module_of c).types
+  pub told : AreInfos (module_of c).types c.infos.now

@@ -1,0 +1,124 @@
+-- What is wrong with a global variable.
+use Rattle.std.specs.Prelude.{◌≡◌, ◌≢◌, ◌↔◌, ◌⊎◌, ℕ, List, IsTrue, Option, Some, None, IsSome, Result, Err, slice_get}
+use Rattle.module_globals.specs.declared.error.GlobalVariableError.{GlobalVariableError}
+use Rattle.module_globals.specs.declared.error.GlobalVariableError.TheVariants as error
+use Rattle.ir_flags.specs.Sets.{Has}
+use Rattle.ir_flags.specs.declared.memory.MemoryDecorations.{MemoryDecorations}
+use Rattle.ir_flags.specs.declared.memory.TheConstants.MemoryDecorations.{COHERENT, VOLATILE}
+use Rattle.ir_flags.specs.declared.memory.TheConstants.StorageAccess.{STORE}
+use Rattle.ir_flags.specs.declared.settings.Capabilities.{Capabilities}
+use Rattle.ir_flags.specs.declared.settings.TheConstants.Capabilities.{MEMORY_DECORATION_COHERENT, MEMORY_DECORATION_VOLATILE}
+use Rattle.ir_flags.specs.declared.settings.ValidationFlags.{ValidationFlags}
+use Rattle.ir_flags.specs.declared.settings.TheConstants.ValidationFlags.{BINDINGS, STRUCT_LAYOUTS}
+use Rattle.ir_items.specs.GlobalPlain.{PlainGlobal}
+use Rattle.ir_items.specs.Plain.{PlainModule}
+use Rattle.ir_kinds.specs.declared.spaces.AddressSpace.{AddressSpace}
+use Rattle.ir_kinds.specs.declared.spaces.AddressSpace.TheVariants.{Function, Private, WorkGroup, Uniform, Storage, Handle, Immediate, TaskPayload, RayPayload, IncomingRayPayload}
+use Rattle.ir_types.specs.Plain.{PlainInner, PlainType}
+use Rattle.spec_expressions.specs.Overrides.{IsKnownByOverrides}
+use Rattle.spec_expressions.specs.Typing.{HasGlobalType}
+use Rattle.spec_globals.specs.Handles.{is_handle}
+use Rattle.spec_globals.specs.Spaces.{array_base, counted, array_capability, space_capability, required, HasAll, is_resource, is_storage}
+use Rattle.typing_layout.specs.Layout.{size}
+use Rattle.typing_layout.specs.Tree.{Tree}
+use Rattle.typing_layout.specs.View.{type_tree}
+use Rattle.module_type_infos.specs.BufferFaults.{BreaksStorage, BreaksUniform, IsBroken, IsUnfit}
+use Rattle.module_type_infos.specs.Infos.{AreFlags}
+use Rattle.module_type_infos.specs.declared.error.Disalignment.{Disalignment}
+use Rattle.typing_forms.specs.Forms.{form_of_type}
+use Rattle.typing_forms.specs.declared.form.Form.{Form}
+use Rattle.typing_forms.specs.Resolutions.{inner_at}
+
+-- it is a binding array of this type
+abbrev pub IsArrayOf : List PlainType → (type base : ℕ) → Type 0
+IsArrayOf types type base = array_base (inner_at types type) ≡ Some base
+
+-- what the type that counts is made of, and its tree
+abbrev pub counted_inner : PlainModule → PlainGlobal → Option PlainInner
+counted_inner m v = inner_at m.types (counted m.types v.ty)
+
+abbrev pub counted_tree : PlainModule → PlainGlobal → Tree
+counted_tree m v = type_tree m.types (counted m.types v.ty)
+
+-- the variable needs this capability
+abbrev pub Needs : PlainModule → PlainGlobal → Capabilities → Type 0
+Needs m v c =
+    ((base : ℕ) × IsArrayOf m.types v.ty base × (array_capability v.space (inner_at m.types base) ≡ Some c))
+    ⊎ (space_capability v.space (counted_inner m v) ≡ Some c)
+
+-- it is a binding array in a space where there is none
+abbrev pub IsUnboundArray : PlainModule → PlainGlobal → Type 0
+IsUnboundArray m v = (base : ℕ) × IsArrayOf m.types v.ty base × (v.space ≢ Handle) × (array_capability v.space (inner_at m.types base) ≡ None)
+
+-- why there is no binding array of a type, made of this, in a space
+abbrev pub IsArrayRefusal : AddressSpace → (base : ℕ) → Option PlainInner → GlobalVariableError → Type 0
+IsArrayRefusal space base i (error.InvalidUsage s) = (s ≡ space) × (space ≢ Handle)
+IsArrayRefusal space base i (error.InvalidType s) = (s ≡ space) × (space ≡ Handle) × ¬ IsTrue (is_handle i)
+IsArrayRefusal space base i (error.InvalidBindingArray b) = (b ≡ base) × (space ≡ Handle)
+IsArrayRefusal space base i _ = ⊥
+
+-- what a space asks of types, as the number of a set
+abbrev pub required_bits : AddressSpace → ℕ
+required_bits Function = 0
+required_bits Private = 160
+required_bits WorkGroup = 3
+required_bits Uniform = 55
+required_bits (Storage access) = 49
+required_bits Handle = 0
+required_bits Immediate = 23
+required_bits TaskPayload = 3
+required_bits RayPayload = 3
+required_bits IncomingRayPayload = 3
+
+-- ---- of a layout, of what is said of the memory, and of what a variable begins as
+
+-- a host does not lay out a buffer so, where that is asked
+abbrev pub IsLayoutFault : ValidationFlags → AddressSpace → Result ℕ (ℕ × Disalignment) → GlobalVariableError → Type 0
+IsLayoutFault flags space layout (error.Alignment s type d) = (s ≡ space) × Has flags.0 STRUCT_LAYOUTS.0 × (layout ≡ Err (type, d))
+IsLayoutFault flags space layout _ = ⊥
+
+abbrev pub IsDecorationFault : Capabilities → AddressSpace → MemoryDecorations → GlobalVariableError → Type 0
+IsDecorationFault capabilities space decorations error.InvalidMemoryDecorationsAddressSpace = (decorations.0 ≢ 0) × ¬ IsTrue (is_storage space)
+IsDecorationFault capabilities space decorations error.CoherentNotSupported = Has decorations.0 COHERENT.0 × ¬ Has capabilities.0 MEMORY_DECORATION_COHERENT.0
+IsDecorationFault capabilities space decorations error.VolatileNotSupported = Has decorations.0 VOLATILE.0 × ¬ Has capabilities.0 MEMORY_DECORATION_VOLATILE.0
+IsDecorationFault capabilities space decorations _ = ⊥
+
+-- by a typing of global expressions
+abbrev pub IsBeginFault : (HasForm : (expression : ℕ) → Form → Type 0) → PlainModule → AddressSpace → (type init : ℕ) → GlobalVariableError → Type 0
+IsBeginFault HasForm m space type init error.InitializerExprType = ¬ IsKnownByOverrides m init
+IsBeginFault HasForm m space type init error.InitializerType = ¬ HasForm init (form_of_type m.types type)
+IsBeginFault HasForm m space type init (error.InitializerNotAllowed s) = (s ≡ space) × (space ≢ Private)
+IsBeginFault HasForm m space type init _ = ⊥
+
+-- ---- of a variable
+
+-- by a typing of global expressions
+abbrev pub IsWrongBy : (HasForm : (expression : ℕ) → Form → Type 0) → ValidationFlags → Capabilities → PlainModule → PlainGlobal → GlobalVariableError → Type 0
+IsWrongBy HasForm flags capabilities m v (error.InvalidUsage s) = (s ≡ v.space) × ((v.space ≡ Function) ⊎ IsUnboundArray m v)
+IsWrongBy HasForm flags capabilities m v (error.InvalidType s) = (s ≡ v.space) × (v.space ≡ Handle) × ¬ IsTrue (is_handle (counted_inner m v))
+IsWrongBy HasForm flags capabilities m v (error.InvalidBindingArray base) = (v.space ≡ Handle) × IsArrayOf m.types v.ty base × (array_capability Handle (inner_at m.types base) ≡ None)
+IsWrongBy HasForm flags capabilities m v (error.MissingTypeFlags asked seen) = (asked.0 ≡ required_bits v.space) × AreFlags seen (counted_tree m v) × ¬ HasAll (required v.space) (counted_tree m v)
+IsWrongBy HasForm flags capabilities m v (error.UnsupportedCapability c) = Needs m v c × ¬ Has capabilities.0 c.0
+IsWrongBy HasForm flags capabilities m v error.InvalidBinding = Has flags.0 BINDINGS.0 × ¬ (IsTrue (is_resource v.space) ↔ IsSome v.binding)
+IsWrongBy HasForm flags capabilities m v (error.Alignment s type d) =
+    (s ≡ v.space) × Has flags.0 STRUCT_LAYOUTS.0
+    × ((IsTrue (is_storage v.space) × IsBroken BreaksStorage m.types (counted_tree m v) (type, d)) ⊎ ((v.space ≡ Uniform) × IsBroken BreaksUniform m.types (counted_tree m v) (type, d)))
+IsWrongBy HasForm flags capabilities m v error.InitializerExprType = (e : ℕ) × (v.init ≡ Some e) × IsBeginFault HasForm m v.space v.ty e error.InitializerExprType
+IsWrongBy HasForm flags capabilities m v error.InitializerType = (e : ℕ) × (v.init ≡ Some e) × IsBeginFault HasForm m v.space v.ty e error.InitializerType
+IsWrongBy HasForm flags capabilities m v (error.InitializerNotAllowed s) = (e : ℕ) × (v.init ≡ Some e) × IsBeginFault HasForm m v.space v.ty e (error.InitializerNotAllowed s)
+IsWrongBy HasForm flags capabilities m v error.StorageAddressSpaceWriteOnlyNotSupported = v.space ≡ Storage STORE
+IsWrongBy HasForm flags capabilities m v (error.InvalidImmediateType e) = (v.space ≡ Immediate) × IsUnfit (counted_tree m v) e
+IsWrongBy HasForm flags capabilities m v error.ZeroSizedTaskPayload = (v.space ≡ TaskPayload) × (size (counted_tree m v) ≡ 0)
+IsWrongBy HasForm flags capabilities m v error.InvalidMemoryDecorationsAddressSpace = IsDecorationFault capabilities v.space v.decorations error.InvalidMemoryDecorationsAddressSpace
+IsWrongBy HasForm flags capabilities m v error.CoherentNotSupported = IsDecorationFault capabilities v.space v.decorations error.CoherentNotSupported
+IsWrongBy HasForm flags capabilities m v error.VolatileNotSupported = IsDecorationFault capabilities v.space v.decorations error.VolatileNotSupported
+
+-- by the types of global expressions
+abbrev pub IsWrong : ValidationFlags → Capabilities → PlainModule → PlainGlobal → GlobalVariableError → Type 0
+IsWrong flags capabilities m = IsWrongBy (HasGlobalType m) flags capabilities m
+
+-- The global variable at a handle has the fault.
+pub record IsGlobalFault (flags : ValidationFlags) (capabilities : Capabilities) (m : PlainModule) (handle : ℕ) (e : GlobalVariableError) : Type 0 where
+  pub variable : PlainGlobal
+  pub at : slice_get m.globals handle ≡ Some variable
+  pub wrong : IsWrong flags capabilities m variable e

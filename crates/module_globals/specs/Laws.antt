@@ -1,0 +1,12 @@
+-- What is known of the faults of global variables.
+use Rattle.std.specs.Prelude.{ℕ}
+use Rattle.module_globals.specs.Faults.{IsGlobalFault}
+use Rattle.module_globals.specs.declared.error.GlobalVariableError.{GlobalVariableError}
+use Rattle.ir_flags.specs.declared.settings.Capabilities.{Capabilities}
+use Rattle.ir_flags.specs.declared.settings.ValidationFlags.{ValidationFlags}
+use Rattle.ir_items.specs.Plain.{PlainModule}
+use Rattle.spec_globals.specs.Globals.{GlobalOK}
+
+-- a module may not have a variable that has a fault
+abbrev pub FaultRefutes : Type 0
+FaultRefutes = (flags : ValidationFlags) (capabilities : Capabilities) (m : PlainModule) (handle : ℕ) (e : GlobalVariableError) → IsGlobalFault flags capabilities m handle e → ¬ GlobalOK flags capabilities m handle

@@ -1,6 +1,0 @@
--- The uses that were passed are included.
-use Rattle.module_info.proofs.UseBits.{DominatesBelow}
-use Rattle.module_info.proofs.uses.dominates.Given as goal
-
-abbrev pub invariant-loop-index : goal.invariant-loop-index
-invariant-loop-index l = DominatesBelow l.uses l.others l.index

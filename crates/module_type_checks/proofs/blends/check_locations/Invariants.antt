@@ -1,0 +1,8 @@
+-- The members that were passed have no other locations.
+use Rattle.std.proofs.Common.{map}
+use Rattle.ir_types.specs.Plain.{member_view}
+use Rattle.module_type_checks.proofs.Sources.{LocatedBelow}
+use Rattle.module_type_checks.proofs.blends.check_locations.Given as goal
+
+abbrev pub invariant-loop-place : goal.invariant-loop-place
+invariant-loop-place l = LocatedBelow (map member_view l.members) l.place

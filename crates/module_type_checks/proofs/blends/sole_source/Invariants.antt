@@ -1,0 +1,8 @@
+-- What was found is the only one that was passed.
+use Rattle.std.proofs.Common.{map}
+use Rattle.ir_types.specs.Plain.{member_view}
+use Rattle.module_type_checks.specs.Blends.{IsSoleBelow}
+use Rattle.module_type_checks.proofs.blends.sole_source.Given as goal
+
+abbrev pub invariant-loop-place : goal.invariant-loop-place
+invariant-loop-place l = IsSoleBelow (map member_view l.members) l.blend_src l.found l.place

@@ -1,0 +1,30 @@
+-- What is asked of a type, from what it is made of.
+use Rattle.std.specs.Prelude.{◌≡◌, ◌⊎◌, ℕ, List, Some}
+use Rattle.ir_types.specs.Plain.{PlainInner, PlainMember}
+use Rattle.typing_layout.specs.Blends.{HasSource, BlendOK, BlendsOK}
+use Rattle.typing_layout.specs.Rules.{ShapeOK}
+use Rattle.typing_layout.specs.Structs.{StructOK}
+use Rattle.typing_layout.specs.View.{tree_by}
+use Rattle.module_type_checks.specs.Known.{types_in, tree_in}
+use Rattle.module_type_checks.specs.Placed.{parts_in}
+use Rattle.module_type_checks.specs.declared.context.TypeContext.{TypeContext}
+use Rattle.module_type_infos.specs.BlendFaults.{IsBlendFault}
+use Rattle.module_type_infos.specs.Faults.{IsInnerFault}
+use Rattle.module_type_infos.specs.MemberFaults.{IsStructFault}
+use Rattle.module_type_infos.specs.declared.error.TypeError.{TypeError}
+use Rattle.typing_forms.specs.Resolutions.{inner_at}
+
+abbrev pub IsInnerOK : TypeContext → PlainInner → Type 0
+IsInnerOK c i = ShapeOK c.capabilities c.overrides_resolved (tree_by (tree_in c) i) × BlendsOK c.capabilities (types_in c) (Some i)
+
+abbrev pub AreMembersOK : TypeContext → List PlainMember → (span : ℕ) → Type 0
+AreMembersOK c members span = StructOK (parts_in c members) span × (HasSource members → BlendOK c.capabilities (types_in c) members)
+
+abbrev pub AreMembersRefused : TypeContext → List PlainMember → (span : ℕ) → TypeError → Type 0
+AreMembersRefused c members span e = IsStructFault (types_in c) members span e ⊎ IsBlendFault c.capabilities (types_in c) members e
+
+-- the type at a handle is refused for a fault of its own
+pub record IsTypeFault (c : TypeContext) (handle : ℕ) (e : TypeError) : Type 0 where
+  pub i : PlainInner
+  pub at : inner_at (types_in c) handle ≡ Some i
+  pub fault : IsInnerFault c.capabilities c.overrides_resolved (types_in c) handle i e

@@ -1,0 +1,41 @@
+-- What is known of the types before one.
+use Rattle.std.specs.Prelude.{◌≡◌, ◌≤◌, ℕ, List, Some, length, slice_get, if◌then◌else◌}
+use Rattle.ir_types.specs.Plain.{PlainType}
+use Rattle.typing_layout.specs.Buffers.{uniform_alignment, free_behind}
+use Rattle.typing_layout.specs.Parts.{Part, end_of}
+use Rattle.typing_layout.specs.Layout.{size, alignment}
+use Rattle.typing_layout.specs.Tree.{Tree}
+use Rattle.typing_layout.specs.View.{type_tree}
+use Rattle.module_type_checks.specs.declared.context.TypeContext.{TypeContext}
+use Rattle.module_type_checks.specs.declared.facts.Facts.{Facts}
+use Rattle.module_type_infos.specs.Infos.{HasInfo}
+use Rattle.module_type_infos.specs.declared.info.TypeInfo.{TypeInfo}
+use Rattle.typing_forms.specs.Order.{TypesGoBack}
+use Rattle.typing_forms.specs.Resolutions.{types_view}
+use Rattle.typing_layout.specs.Held.{AreLayouts}
+use Rattle.typing_forms.specs.Sizes.{rounded_up}
+
+abbrev pub types_in : TypeContext → List PlainType
+types_in c = types_view c.types.now
+
+abbrev pub tree_in : TypeContext → (handle : ℕ) → Tree
+tree_in c handle = type_tree (types_in c) handle
+
+-- each is the info of the module's type at its index
+pub record AreInfos (types : List PlainType) (infos : List TypeInfo) : Type 0 where
+  pub each : (handle : ℕ) (i : TypeInfo) → slice_get infos handle ≡ Some i → HasInfo types (type_tree types handle) i
+
+-- types go back, and the layouts and the infos of the first ones are known
+pub record IsKnown (c : TypeContext) : Type 0 where
+  pub back : TypesGoBack (types_in c)
+  pub held : AreLayouts (types_in c) c.layouter.now
+  pub told : AreInfos (types_in c) c.infos.now
+  pub laid : length c.infos.now ≤ length c.layouter.now
+
+-- what is known of a type with this tree
+pub record AreFacts (c : TypeContext) (t : Tree) (f : Facts) : Type 0 where
+  pub bytes : f.size ≡ size t
+  pub aligned : f.alignment ≡ alignment t
+  pub uniform : f.uniform_alignment ≡ uniform_alignment t
+  pub behind : (p : Part) → free_behind p t ≡ (if f.is_struct then rounded_up 16 (end_of p) else 0)
+  pub info : HasInfo (types_in c) t f.info

@@ -1,0 +1,54 @@
+-- Members at their places.
+use Rattle.std.specs.Prelude.{◌≡◌, ◌<◌, ℕ, List, Option, Some, None, slice_get}
+use Rattle.ir_types.specs.Plain.{PlainMember}
+use Rattle.typing_layout.specs.Parts.{Part, listed, before, end_of}
+use Rattle.typing_layout.specs.Structs.{MemberOK}
+use Rattle.typing_layout.specs.Tree.{Tree}
+use Rattle.typing_layout.specs.View.{members_by}
+use Rattle.module_type_checks.specs.Known.{tree_in, AreFacts}
+use Rattle.module_type_checks.specs.declared.context.TypeContext.{TypeContext}
+use Rattle.module_type_checks.specs.declared.members.Placed.{Placed}
+
+abbrev pub parts_in : TypeContext → List PlainMember → List Part
+parts_in c members = listed (members_by (tree_in c) members)
+
+-- a member with the tree of its type
+abbrev pub part_of : (tree : ℕ → Tree) → PlainMember → Part
+part_of tree m = record { of_type = tree m.ty; binding = m.binding; offset = m.offset }
+
+-- what is told of a member
+pub record IsTold (c : TypeContext) (m : PlainMember) (placed : Placed) : Type 0 where
+  pub of : placed.ty ≡ m.ty
+  pub begins : placed.offset ≡ m.offset
+  pub facts : AreFacts c (tree_in c m.ty) placed.facts
+
+-- what is told of the member at a place
+pub record IsPlaced (c : TypeContext) (members : List PlainMember) (place : ℕ) (placed : Placed) : Type 0 where
+  pub m : PlainMember
+  pub at : slice_get members place ≡ Some m
+  pub part : slice_get (parts_in c members) place ≡ Some (part_of (tree_in c) m)
+  pub told : IsTold c m placed
+
+-- what is told of the member before a place
+pub record IsBefore (c : TypeContext) (members : List PlainMember) (place : ℕ) (placed : Placed) : Type 0 where
+  pub m : PlainMember
+  pub at : before members place ≡ Some m
+  pub part : before (parts_in c members) place ≡ Some (part_of (tree_in c) m)
+  pub told : IsTold c m placed
+
+-- where it ends, and 0 where there is none
+abbrev pub end_behind : Option Part → ℕ
+end_behind None = 0
+end_behind (Some p) = end_of p
+
+-- P holds of whatever stands at a place
+abbrev pub AtPlace : (P : ℕ → Part → Type 0) → List Part → (place : ℕ) → Type 0
+AtPlace P ps place = (p : Part) → slice_get ps place ≡ Some p → P place p
+
+-- P holds of whatever stands before a place
+pub record Below (P : ℕ → Part → Type 0) (ps : List Part) (place : ℕ) : Type 0 where
+  pub each : (k : ℕ) → k < place → AtPlace P ps k
+
+-- the member may stand at its place
+abbrev pub PlacedOK : TypeContext → List PlainMember → (span place : ℕ) → Type 0
+PlacedOK c members span place = AtPlace (MemberOK (parts_in c members) span) (parts_in c members) place

@@ -1,0 +1,27 @@
+-- Parts of the rules of scalars.
+use Rattle.std.specs.Prelude.{◌≡◌, ◌≢◌}
+use Rattle.ir_flags.specs.declared.settings.Capabilities.{Capabilities}
+use Rattle.ir_kinds.specs.Values.{literal_scalar}
+use Rattle.ir_kinds.specs.declared.scalars.Scalar.{Scalar}
+use Rattle.ir_kinds.specs.declared.values.Literal.{Literal}
+use Rattle.module_type_infos.specs.Faults.{IsNoWidth, AsksFor, Lacks, IsWidthFault, LacksWideAtomics}
+use Rattle.module_type_infos.specs.declared.error.LiteralError.{LiteralError}
+use Rattle.module_type_infos.specs.declared.error.LiteralError.TheVariants as literal_error
+use Rattle.module_type_infos.specs.declared.error.TypeError.{TypeError}
+use Rattle.module_type_infos.specs.declared.error.TypeError.TheVariants as error
+use Rattle.module_type_infos.specs.declared.error.WidthError.{WidthError}
+use Rattle.module_type_infos.specs.declared.error.WidthError.TheVariants as width
+
+-- a number of no width that there is, or without the capability of its width
+abbrev pub IsWideFault : Capabilities → (two eight : Capabilities) → Scalar → WidthError → Type 0
+IsWideFault capabilities two eight s (width.Invalid k bytes) = (k ≡ s.kind) × (bytes ≡ s.width) × IsNoWidth s.width
+IsWideFault capabilities two eight s (width.MissingCapability c) = AsksFor two eight s.width c × Lacks capabilities c
+IsWideFault capabilities two eight s width.Abstract = ⊥
+
+abbrev pub IsLiteralFault : Capabilities → Literal → LiteralError → Type 0
+IsLiteralFault capabilities literal (literal_error.Width e) = IsWidthFault capabilities (literal_scalar literal) e
+
+abbrev pub IsAtomicIntegerFault : Capabilities → Scalar → TypeError → Type 0
+IsAtomicIntegerFault capabilities s (error.InvalidAtomicWidth k bytes) = (k ≡ s.kind) × (bytes ≡ s.width) × (s.width ≢ 4) × (s.width ≢ 8)
+IsAtomicIntegerFault capabilities s (error.MissingCapability c) = LacksWideAtomics capabilities s.width c
+IsAtomicIntegerFault capabilities s _ = ⊥

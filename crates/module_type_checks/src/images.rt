@@ -1,0 +1,100 @@
+//! Which images, and what traces rays, there are.
+
+ghost use Rattle.std.specs.Prelude.{MatchResult};
+ghost use Rattle.typing_layout.specs.Images.{ImageOK, VerticesOK, StructureOK, QueryOK};
+ghost use Rattle.module_type_checks.specs.Images.{IsVerticesFault};
+ghost use Rattle.module_type_infos.specs.Faults.{IsImageFault, IsStructureFault, IsQueryFault};
+
+use bitflags::Flags;
+use ir_flags::Capabilities;
+use ir_kinds::{ImageClass, ImageDimension};
+use module_type_infos::TypeError;
+
+// Whether there is an image that comes from outside.
+fn check_external(
+    capabilities: Capabilities,
+    dim: ImageDimension,
+    arrayed: bool,
+) -> Result<(), TypeError>
+    ensures { MatchResult result (λ _. ImageOK capabilities dim arrayed ImageClass.External) (IsImageFault capabilities dim arrayed ImageClass.External) }
+{
+    if dim != ImageDimension::D2 || arrayed {
+        return Err(TypeError::UnsupportedImageType {
+            dim,
+            arrayed,
+            class: ImageClass::External,
+        });
+    }
+    if !capabilities.contains(Capabilities::TEXTURE_EXTERNAL) {
+        return Err(TypeError::MissingCapability(Capabilities::TEXTURE_EXTERNAL));
+    }
+    Ok(())
+}
+
+/// Whether there is an image.
+pub(crate) fn check_image(
+    capabilities: Capabilities,
+    dim: ImageDimension,
+    arrayed: bool,
+    class: ImageClass,
+) -> Result<(), TypeError>
+    ensures { MatchResult result (λ _. ImageOK capabilities dim arrayed class) (IsImageFault capabilities dim arrayed class) }
+{
+    if class == ImageClass::External {
+        return check_external(capabilities, dim, arrayed);
+    }
+    match dim {
+        ImageDimension::Cube => {
+            if arrayed && !capabilities.contains(Capabilities::CUBE_ARRAY_TEXTURES) {
+                return Err(TypeError::MissingCapability(Capabilities::CUBE_ARRAY_TEXTURES));
+            }
+            Ok(())
+        }
+        ImageDimension::D3 => {
+            if arrayed || class.is_depth() {
+                return Err(TypeError::UnsupportedImageType {
+                    dim,
+                    arrayed,
+                    class,
+                });
+            }
+            Ok(())
+        }
+        ImageDimension::D1 | ImageDimension::D2 => Ok(()),
+    }
+}
+
+// Whether the vertices of a hit can be had, where they are asked for.
+fn check_vertices(capabilities: Capabilities, vertex_return: bool) -> Result<(), TypeError>
+    ensures { MatchResult result (λ _. VerticesOK capabilities vertex_return) (IsVerticesFault capabilities vertex_return) }
+{
+    if vertex_return && !capabilities.contains(Capabilities::RAY_HIT_VERTEX_POSITION) {
+        return Err(TypeError::MissingCapability(Capabilities::RAY_HIT_VERTEX_POSITION));
+    }
+    Ok(())
+}
+
+/// Whether there is what rays are traced in.
+pub(crate) fn check_structure(
+    capabilities: Capabilities,
+    vertex_return: bool,
+) -> Result<(), TypeError>
+    ensures { MatchResult result (λ _. StructureOK capabilities vertex_return) (IsStructureFault capabilities vertex_return) }
+{
+    if !capabilities.contains(Capabilities::RAY_QUERY)
+        && !capabilities.contains(Capabilities::RAY_TRACING_PIPELINE)
+    {
+        return Err(TypeError::MissingCapability(Capabilities::RAY_QUERY));
+    }
+    check_vertices(capabilities, vertex_return)
+}
+
+/// Whether there is a ray query.
+pub(crate) fn check_query(capabilities: Capabilities, vertex_return: bool) -> Result<(), TypeError>
+    ensures { MatchResult result (λ _. QueryOK capabilities vertex_return) (IsQueryFault capabilities vertex_return) }
+{
+    if !capabilities.contains(Capabilities::RAY_QUERY) {
+        return Err(TypeError::MissingCapability(Capabilities::RAY_QUERY));
+    }
+    check_vertices(capabilities, vertex_return)
+}

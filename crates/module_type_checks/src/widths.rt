@@ -1,0 +1,176 @@
+//! Which scalars there are.
+
+ghost use Rattle.std.specs.Prelude.{◌≡◌, IsOk, MatchResult};
+ghost use Rattle.ir_flags.specs.Sets.{Has};
+ghost use Rattle.ir_kinds.specs.Values.{literal_scalar};
+ghost use Rattle.typing_layout.specs.Rules.{CooperativeOK};
+ghost use Rattle.typing_layout.specs.Widths.{ScalarOK, AtomicOK, IsWidthAllowed, IsAtomicInteger};
+ghost use Rattle.module_type_checks.specs.Widths.{IsWideFault, IsLiteralFault, IsAtomicIntegerFault};
+ghost use Rattle.module_type_infos.specs.Faults.{IsWidthFault, IsScalarFault, IsMatrixFault, IsCooperativeFault, IsAtomicFault};
+
+use bitflags::Flags;
+use ir_flags::Capabilities;
+use ir_kinds::{Literal, Scalar, ScalarKind};
+use module_type_infos::{LiteralError, TypeError, WidthError};
+
+// Refuses where a capability is missing.
+fn needs_for_width(capabilities: Capabilities, needed: Capabilities) -> Result<(), WidthError>
+    ensures { MatchResult result (λ _. Has capabilities.0 needed.0) (λ e. (e ≡ WidthError.MissingCapability needed) × ¬ Has capabilities.0 needed.0) }
+{
+    if capabilities.contains(needed) {
+        Ok(())
+    } else {
+        Err(WidthError::MissingCapability(needed))
+    }
+}
+
+// Refuses a number of a width other than four bytes, or two or eight with a capability.
+fn check_wide(
+    capabilities: Capabilities,
+    scalar: Scalar,
+    two: Capabilities,
+    eight: Capabilities,
+) -> Result<(), WidthError>
+    ensures { MatchResult result (λ _. IsWidthAllowed capabilities two eight scalar.width) (IsWideFault capabilities two eight scalar) }
+{
+    match scalar.width {
+        4 => Ok(()),
+        2 => needs_for_width(capabilities, two),
+        8 => needs_for_width(capabilities, eight),
+        _ => Err(WidthError::Invalid(scalar.kind, scalar.width)),
+    }
+}
+
+/// Whether types and literals may have a scalar (naga's `check_width`).
+///
+/// # Errors
+///
+/// The scalar is abstract, no scalar of its kind has this width, or a capability that it asks for is missing.
+pub fn check_width(capabilities: Capabilities, scalar: Scalar) -> Result<(), WidthError>
+    ensures { MatchResult result (λ _. ScalarOK capabilities scalar) (IsWidthFault capabilities scalar) }
+{
+    match scalar.kind {
+        ScalarKind::Bool => {
+            if scalar.width == 1 {
+                Ok(())
+            } else {
+                Err(WidthError::Invalid(scalar.kind, scalar.width))
+            }
+        }
+        ScalarKind::Sint | ScalarKind::Uint => check_wide(
+            capabilities,
+            scalar,
+            Capabilities::SHADER_INT16,
+            Capabilities::SHADER_INT64,
+        ),
+        ScalarKind::Float => check_wide(
+            capabilities,
+            scalar,
+            Capabilities::SHADER_FLOAT16,
+            Capabilities::FLOAT64,
+        ),
+        ScalarKind::AbstractInt | ScalarKind::AbstractFloat => Err(WidthError::Abstract),
+    }
+}
+
+/// Whether the value of a literal is one that there is (naga's `check_literal_value`): all are, since floats are told by
+/// their bits, whatever these stand for.
+pub const fn check_literal_value(_literal: Literal) -> Result<(), LiteralError>
+    ensures { IsOk result }
+{
+    Ok(())
+}
+
+/// Whether expressions may have a literal (naga's `validate_literal`).
+///
+/// # Errors
+///
+/// That of [`check_width`] for its scalar.
+pub fn validate_literal(capabilities: Capabilities, literal: Literal) -> Result<(), LiteralError>
+    ensures { MatchResult result (λ _. ScalarOK capabilities (literal_scalar literal)) (IsLiteralFault capabilities literal) }
+{
+    match check_width(capabilities, literal.scalar()) {
+        Ok(()) => check_literal_value(literal),
+        Err(error) => Err(LiteralError::Width(error)),
+    }
+}
+
+/// Whether a scalar, a vector or a pointer to one may be of a scalar. The error is that of [`check_width`].
+pub fn check_scalar(capabilities: Capabilities, scalar: Scalar) -> Result<(), TypeError>
+    ensures { MatchResult result (λ _. ScalarOK capabilities scalar) (IsScalarFault capabilities scalar) }
+{
+    match check_width(capabilities, scalar) {
+        Ok(()) => Ok(()),
+        Err(error) => Err(TypeError::WidthError(error)),
+    }
+}
+
+/// Whether a matrix may be of a scalar.
+pub fn check_matrix(capabilities: Capabilities, scalar: Scalar) -> Result<(), TypeError>
+    ensures { MatchResult result (λ _. (scalar.kind ≡ ScalarKind.Float) × ScalarOK capabilities scalar) (IsMatrixFault capabilities scalar) }
+{
+    if scalar.kind != ScalarKind::Float {
+        return Err(TypeError::MatrixElementNotFloat);
+    }
+    match check_width(capabilities, scalar) {
+        Ok(()) => Ok(()),
+        Err(error) => Err(TypeError::WidthError(error)),
+    }
+}
+
+/// Whether a cooperative matrix may be of a scalar.
+pub fn check_cooperative(capabilities: Capabilities, scalar: Scalar) -> Result<(), TypeError>
+    ensures { MatchResult result (λ _. CooperativeOK capabilities scalar) (IsCooperativeFault capabilities scalar) }
+{
+    if !capabilities.contains(Capabilities::COOPERATIVE_MATRIX) {
+        return Err(TypeError::MissingCapability(Capabilities::COOPERATIVE_MATRIX));
+    }
+    if scalar != Scalar::F32 && scalar != Scalar::F16 {
+        return Err(TypeError::Other);
+    }
+    Ok(())
+}
+
+// Whether an atomic may be an integer of a width.
+fn check_atomic_integer(capabilities: Capabilities, scalar: Scalar) -> Result<(), TypeError>
+    ensures { MatchResult result (λ _. IsAtomicInteger capabilities scalar.width) (IsAtomicIntegerFault capabilities scalar) }
+{
+    match scalar.width {
+        4 => Ok(()),
+        8 => {
+            if capabilities.contains(Capabilities::SHADER_INT64_ATOMIC_MIN_MAX)
+                || capabilities.contains(Capabilities::SHADER_INT64_ATOMIC_ALL_OPS)
+            {
+                Ok(())
+            } else {
+                Err(TypeError::MissingCapability(Capabilities::SHADER_INT64_ATOMIC_ALL_OPS))
+            }
+        }
+        _ => Err(TypeError::InvalidAtomicWidth(scalar.kind, scalar.width)),
+    }
+}
+
+/// Whether an atomic may be of a scalar.
+///
+/// # Errors
+///
+/// No atomic is of a scalar of this kind and width, or a capability that it asks for is missing.
+pub fn check_atomic(capabilities: Capabilities, scalar: Scalar) -> Result<(), TypeError>
+    ensures { MatchResult result (λ _. AtomicOK capabilities scalar) (IsAtomicFault capabilities scalar) }
+{
+    match scalar.kind {
+        ScalarKind::Sint | ScalarKind::Uint => check_atomic_integer(capabilities, scalar),
+        ScalarKind::Float => {
+            if scalar.width != 4 {
+                Err(TypeError::InvalidAtomicWidth(scalar.kind, scalar.width))
+            } else if capabilities.contains(Capabilities::SHADER_FLOAT32_ATOMIC) {
+                Ok(())
+            } else {
+                Err(TypeError::MissingCapability(Capabilities::SHADER_FLOAT32_ATOMIC))
+            }
+        }
+        ScalarKind::Bool | ScalarKind::AbstractInt | ScalarKind::AbstractFloat => Err(
+            TypeError::InvalidAtomicWidth(scalar.kind, scalar.width),
+        ),
+    }
+}

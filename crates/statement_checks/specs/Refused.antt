@@ -1,8 +1,0 @@
--- How an expression is refused that breaks a rule without a name.
-use Rattle.std.specs.Prelude.{◌≡◌}
-use Rattle.error_functions.specs.declared.expressions.ExpressionError.{ExpressionError}
-use Rattle.error_functions.specs.declared.expressions.ExpressionError.TheVariants.{Other}
-
--- the rule does not hold
-abbrev pub IsRefused : (Rule : Type 0) → ExpressionError → Type 0
-IsRefused Rule e = (e ≡ Other) × ¬ Rule

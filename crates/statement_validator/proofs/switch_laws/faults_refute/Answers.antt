@@ -1,5 +1,0 @@
-use Rattle.statement_validator.proofs.SwitchRefuted.{faults_refute_lem}
-use Rattle.statement_validator.proofs.switch_laws.faults_refute.Goals as goal
-
-pub returns : goal.returns
-returns c = faults_refute_lem

@@ -1,9 +1,0 @@
-use Rattle.std.proofs.Common.{◌≡◌, drop}
-use Rattle.ir_items.specs.View.{function_view}
-use Rattle.body_checks.specs.Carried.{known, first_lacking}
-use Rattle.strict_checks.proofs.introducing.first_of.Given as goal
-
--- the first of the rest is the first of all
-abbrev pub invariant-loop-handle : goal.invariant-loop-handle
-invariant-loop-handle l =
-    first_lacking (known (function_view l.function) l.sure) (drop l.handle-index l.handles) ≡ first_lacking (known (function_view l.function) l.sure) l.handles

@@ -1,8 +1,0 @@
--- A fault of strict scope refutes what is asked.
-use Rattle.error_functions.specs.declared.error.FunctionError.{FunctionError}
-use Rattle.ir_items.specs.Plain.{PlainFunction}
-use Rattle.spec_statements.specs.Strict.{StrictOK}
-use Rattle.strict_checks.specs.Faults.{IsStrictFault}
-
-abbrev pub StrictFaultsRefute : Type 0
-StrictFaultsRefute = (f : PlainFunction) (e : FunctionError) → IsStrictFault f e → StrictOK f → ⊥

@@ -1,7 +1,0 @@
-//! A law of the faults of strict scope.
-ghost use Rattle.strict_checks.specs.Laws.{StrictFaultsRefute};
-
-/// A function with a fault of strict scope does not have what strict scope asks for.
-pub fn strict_faults_refute()
-    ensures { StrictFaultsRefute }
-{}

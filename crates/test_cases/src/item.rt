@@ -1,0 +1,177 @@
+// Items of the IR: how a line of the input gives them, how they are copied, and what is told of them.
+use crate::modules::document_of;
+use document_reader::{BodyForm, EntryForm, FunctionForm, LocalForm};
+use document_expressions::ExpressionForm;
+use ir_items::{
+    Block, Constant, DiagnosticFilterNode, EntryPoint, Expression, Function, GlobalVariable,
+    IrType, LocalVariable, Module, Override, SpecialTypes,
+};
+use document_items::{ConstantForm, FilterForm, GlobalForm, OverrideForm, SpecialForm, TypeForm};
+use serde_json::Value;
+use std::alloc::{AllocError, Global};
+use test_support::call::{no_call, told};
+use test_support::forms::found;
+
+/// What a line can give, and what can be copied.
+pub trait Item: PartialEq + Drop + Sized {
+    /// The item that is written so.
+    fn read(alloc: Global, value: &Value) -> Result<Option<Self>, AllocError>;
+
+    /// A copy of it.
+    fn copy(&self, alloc: Global) -> Result<Self, AllocError>;
+}
+
+/// The item at a place of a line, or `None` where none stands there.
+pub fn read_at<T: Item>(
+    alloc: Global,
+    call: &Value,
+    place: usize,
+) -> Result<Option<T>, AllocError> {
+    match call.get(place) {
+        Some(value) => T::read(alloc, value),
+        None => Ok(None),
+    }
+}
+
+// Whether a copy of an item equals it, and whether it equals another one.
+fn comparison<T: Item>(source: &T, copy: &T, other: &Option<T>) -> (bool, Option<bool>) {
+    match other {
+        Some(other) => (*copy == *source, Some(*copy == *other)),
+        None => (*copy == *source, None),
+    }
+}
+
+/// What is told of an item that is copied, and of another one.
+pub fn compared<T: Item>(alloc: Global, call: &Value) -> Result<String, AllocError> {
+    let Some(source): Option<T> = read_at(alloc, call, 1)? else {
+        return no_call(alloc);
+    };
+    let other: Option<T> = read_at(alloc, call, 2)?;
+    let copy = source.copy(alloc)?;
+    told(alloc, comparison(&source, &copy, &other))
+}
+
+impl Item for IrType {
+    fn read(alloc: Global, value: &Value) -> Result<Option<Self>, AllocError> {
+        found::<TypeForm>(alloc, value)
+    }
+
+    fn copy(&self, alloc: Global) -> Result<Self, AllocError> {
+        self.clone(alloc)
+    }
+}
+
+impl Item for Expression {
+    fn read(alloc: Global, value: &Value) -> Result<Option<Self>, AllocError> {
+        found::<ExpressionForm>(alloc, value)
+    }
+
+    fn copy(&self, alloc: Global) -> Result<Self, AllocError> {
+        self.clone(alloc)
+    }
+}
+
+impl Item for Block {
+    fn read(alloc: Global, value: &Value) -> Result<Option<Self>, AllocError> {
+        found::<BodyForm>(alloc, value)
+    }
+
+    fn copy(&self, alloc: Global) -> Result<Self, AllocError> {
+        self.clone(alloc)
+    }
+}
+
+impl Item for Constant {
+    fn read(alloc: Global, value: &Value) -> Result<Option<Self>, AllocError> {
+        found::<ConstantForm>(alloc, value)
+    }
+
+    fn copy(&self, alloc: Global) -> Result<Self, AllocError> {
+        self.clone(alloc)
+    }
+}
+
+impl Item for Override {
+    fn read(alloc: Global, value: &Value) -> Result<Option<Self>, AllocError> {
+        found::<OverrideForm>(alloc, value)
+    }
+
+    fn copy(&self, alloc: Global) -> Result<Self, AllocError> {
+        self.clone(alloc)
+    }
+}
+
+impl Item for GlobalVariable {
+    fn read(alloc: Global, value: &Value) -> Result<Option<Self>, AllocError> {
+        found::<GlobalForm>(alloc, value)
+    }
+
+    fn copy(&self, alloc: Global) -> Result<Self, AllocError> {
+        self.clone(alloc)
+    }
+}
+
+impl Item for LocalVariable {
+    fn read(alloc: Global, value: &Value) -> Result<Option<Self>, AllocError> {
+        found::<LocalForm>(alloc, value)
+    }
+
+    fn copy(&self, alloc: Global) -> Result<Self, AllocError> {
+        self.clone(alloc)
+    }
+}
+
+impl Item for DiagnosticFilterNode {
+    fn read(alloc: Global, value: &Value) -> Result<Option<Self>, AllocError> {
+        found::<FilterForm>(alloc, value)
+    }
+
+    fn copy(&self, alloc: Global) -> Result<Self, AllocError> {
+        self.clone(alloc)
+    }
+}
+
+impl Item for SpecialTypes {
+    fn read(alloc: Global, value: &Value) -> Result<Option<Self>, AllocError> {
+        found::<SpecialForm>(alloc, value)
+    }
+
+    fn copy(&self, alloc: Global) -> Result<Self, AllocError> {
+        self.clone(alloc)
+    }
+}
+
+impl Item for Function {
+    fn read(alloc: Global, value: &Value) -> Result<Option<Self>, AllocError> {
+        found::<FunctionForm>(alloc, value)
+    }
+
+    fn copy(&self, alloc: Global) -> Result<Self, AllocError> {
+        self.clone(alloc)
+    }
+}
+
+impl Item for EntryPoint {
+    fn read(alloc: Global, value: &Value) -> Result<Option<Self>, AllocError> {
+        found::<EntryForm>(alloc, value)
+    }
+
+    fn copy(&self, alloc: Global) -> Result<Self, AllocError> {
+        self.clone(alloc)
+    }
+}
+
+// A module is given as the text of its document.
+impl Item for Module {
+    fn read(alloc: Global, value: &Value) -> Result<Option<Self>, AllocError> {
+        let text = value.as_str().unwrap_or("");
+        match document_of(alloc, text.as_bytes())? {
+            Some(document) => Ok(Some(document.module)),
+            None => Ok(None),
+        }
+    }
+
+    fn copy(&self, alloc: Global) -> Result<Self, AllocError> {
+        self.clone(alloc)
+    }
+}

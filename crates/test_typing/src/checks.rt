@@ -1,0 +1,90 @@
+// Whether a module is accepted up to its overrides, and why it is not.
+use crate::handles::handle_fault;
+use document_reader::Document;
+use ir_faults::refusal::Refusal;
+use module_types::InvalidType;
+use module_validator::{ModuleError, ModuleInfo, ModuleValidator};
+use std::alloc::{AllocError, Global};
+use std::fmt::Debug;
+use module_type_infos::TypeError;
+
+/// Whether each override has to have its value.
+#[derive(Clone, Copy)]
+pub enum Overrides {
+    Open,
+    Resolved,
+}
+
+// The step that refuses an item, the item, and why.
+fn item_told<E: Debug>(
+    alloc: Global,
+    step: &str,
+    index: usize,
+    error: &E,
+) -> Result<String, AllocError> {
+    format!(in alloc; "{step} {index} {error:?}")
+}
+
+// The type that is refused, and why; which fault it is that sources of a blend have is not told.
+fn type_told(alloc: Global, refused: &InvalidType) -> Result<String, AllocError> {
+    let index = refused.ty.index();
+    if let TypeError::InvalidBlendSrc(_) = refused.error {
+        return format!(in alloc; "type {index} InvalidBlendSrc");
+    }
+    item_told(alloc, "type", index, &refused.error)
+}
+
+/// The step that refuses a module, and why.
+pub fn error_told(alloc: Global, error: &ModuleError) -> Result<String, AllocError> {
+    match error {
+        ModuleError::InvalidHandle(error) => {
+            format!(in alloc; "handles {}", handle_fault(error))
+        }
+        ModuleError::Layouter(error) => {
+            item_told(alloc, "layout", error.ty.index(), &error.inner)
+        }
+        ModuleError::Type(refused) => type_told(alloc, refused),
+        ModuleError::ConstExpression(refused) => item_told(
+            alloc,
+            "expression",
+            refused.expression.index(),
+            &refused.error,
+        ),
+        ModuleError::Constant(refused) => item_told(
+            alloc,
+            "constant",
+            refused.constant.index(),
+            &refused.error,
+        ),
+        ModuleError::Override(refused) => {
+            item_told(alloc, "override", refused.id.index(), &refused.error)
+        }
+    }
+}
+
+// What a validator answers.
+fn answer_told(
+    alloc: Global,
+    judged: Result<ModuleInfo, Refusal<ModuleError>>,
+) -> Result<String, AllocError> {
+    match judged {
+        Ok(_) => String::from_str(alloc, "accepted"),
+        Err(Refusal::Memory(error)) => Err(error),
+        Err(Refusal::Fault(fault)) => error_told(alloc, fault.as_inner()),
+    }
+}
+
+/// Whether the module of a document is accepted up to its overrides, or why it is not.
+pub fn checks_told(
+    alloc: Global,
+    document: &Document,
+    overrides: Overrides,
+) -> Result<String, AllocError> {
+    let settings = document.settings;
+    let mut validator = ModuleValidator::new(alloc, settings.flags, settings.capabilities);
+    let judged = match overrides {
+        Overrides::Open => validator.validate(&document.module),
+        Overrides::Resolved => validator.validate_resolved_overrides(&document.module),
+    };
+    answer_told(alloc, judged)
+}

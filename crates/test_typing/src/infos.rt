@@ -1,0 +1,99 @@
+// What is told of types, and why one is refused.
+ghost use Rattle.std.specs.Prelude.{◌≡◌, length};
+ghost use Rattle.typing_forms.specs.Order.{TypesGoBack};
+ghost use Rattle.typing_forms.specs.Resolutions.{types_view};
+ghost use Rattle.typing_layout.specs.Held.{AreLayouts};
+
+use ir_faults::refusal::Refusal;
+use ir_flags::Capabilities;
+use ir_types::{IrType, key};
+use ir_sets::unique_arena::UniqueArena;
+use module_types::{InvalidType, TypeSettings, validate_types};
+use std::alloc::{AllocError, Global};
+use module_type_infos::{TypeError, TypeInfo};
+use typing_forms::types_go_back;
+use typing_layout::Layouter;
+
+/// What is asked of the types of a module.
+#[derive(Clone, Copy)]
+pub enum Told {
+    /// What is told of each, or why the first that is refused is.
+    Infos,
+    /// Which is refused, if one is.
+    Refusal,
+}
+
+// The flags of a type, and whether it lies in storage buffers, in uniform buffers and in immediate data.
+fn info_told(alloc: Global, info: &TypeInfo) -> Result<String, AllocError> {
+    format!(in alloc;
+        "{} {} {} {};",
+        info.flags.0,
+        u32::from(info.storage_layout.is_ok()),
+        u32::from(info.uniform_layout.is_ok()),
+        u32::from(info.immediates_compatibility.is_ok())
+    )
+}
+
+// The infos of types.
+fn accepted_told(alloc: Global, asked: Told, infos: &[TypeInfo]) -> Result<String, AllocError> {
+    if let Told::Refusal = asked {
+        return String::from_str(alloc, "accepted");
+    }
+    let mut told = String::new(alloc);
+    for info in infos {
+        told.push_str(&info_told(alloc, info)?)?;
+    }
+    Ok(told)
+}
+
+// The first type that is refused, and why; which fault it is that sources of a blend have is not told.
+fn refused_told(alloc: Global, asked: Told, refused: InvalidType) -> Result<String, AllocError> {
+    if let Told::Refusal = asked {
+        return format!(in alloc; "refused {}", refused.ty.index());
+    }
+    if let TypeError::InvalidBlendSrc(_) = refused.error {
+        return format!(in alloc; "refused {} InvalidBlendSrc", refused.ty.index());
+    }
+    format!(in alloc; "refused {} {:?}", refused.ty.index(), refused.error)
+}
+
+// The infos of types that are laid out, or why one is refused.
+fn validated_told(
+    alloc: Global,
+    asked: Told,
+    settings: TypeSettings,
+    types: &UniqueArena<IrType, key::IrType>,
+    layouter: &Layouter,
+) -> Result<String, AllocError>
+    requires back { TypesGoBack (types_view types.now) }
+    requires held { AreLayouts (types_view types.now) layouter.now }
+    requires all { length layouter.now ≡ length types.now }
+{
+    match validate_types(alloc, settings, types, layouter) {
+        Ok(infos) => accepted_told(alloc, asked, infos.as_slice()),
+        Err(Refusal::Memory(error)) => Err(error),
+        Err(Refusal::Fault(fault)) => refused_told(alloc, asked, fault.into_inner()),
+    }
+}
+
+/// What is asked of the types.
+pub fn infos_told(
+    alloc: Global,
+    asked: Told,
+    capabilities: Capabilities,
+    types: &UniqueArena<IrType, key::IrType>,
+) -> Result<String, AllocError> {
+    if !types_go_back(types) {
+        return String::from_str(alloc, "types do not go back");
+    }
+    let settings = TypeSettings {
+        capabilities,
+        overrides_resolved: false,
+    };
+    let mut layouter = Layouter::new(alloc);
+    match layouter.update(types) {
+        Ok(()) => validated_told(alloc, asked, settings, types, &layouter),
+        Err(Refusal::Memory(error)) => Err(error),
+        Err(Refusal::Fault(_)) => String::from_str(alloc, "no layout"),
+    }
+}

@@ -1,0 +1,283 @@
+// What is found of functions, from their own bodies and from what is found of the functions that they call.
+ghost use Rattle.std.specs.Prelude.{IsTrue};
+ghost use Rattle.ir_items.specs.View.{function_view, module_view};
+ghost use Rattle.ir_proc.specs.Filters.{ParentsPrecede};
+ghost use Rattle.spec_handles.specs.Conditions.{HandlesInRange, OperandsPrecede};
+
+use analysis_forms::{ExpressionInfo, GlobalOrArgument, GlobalUse, SamplingPair};
+use typing_errors::{ExpressionError, FunctionError};
+use ir_faults::refusal::Refusal;
+use ir_flags::ValidationFlags;
+use ir_items::{Function, Module};
+use typing_infos::FunctionInfo;
+use function_real_lower::process_function;
+use std::alloc::{AllocError, Global};
+use typing_conditions::{
+    arities_match, callees_precede, filter_parents_precede, handles_in_range, operands_precede,
+};
+
+// Tells of an expression how often it is used, which global variable it starts at, whether it is the same in all invocations,
+// and what it asks for.
+fn tell_expression(
+    alloc: Global,
+    told: &mut String,
+    info: &ExpressionInfo,
+) -> Result<(), AllocError> {
+    told.push_str(&format!(in alloc; "{}", info.ref_count)?)?;
+    if let Some(global) = info.assignable_global {
+        told.push_str(&format!(in alloc; "g{}", global.index())?)?;
+    }
+    if info.uniformity.non_uniform_result.is_some() {
+        told.push_str("n")?;
+    }
+    told.push_str(&format!(in alloc; "r{};", info.uniformity.requirements.0)?)
+}
+
+// Tells the expressions of a function, a piece each.
+fn tell_expressions(
+    alloc: Global,
+    told: &mut String,
+    infos: &[ExpressionInfo],
+) -> Result<(), AllocError> {
+    for info in infos {
+        tell_expression(alloc, told, info)?;
+    }
+    Ok(())
+}
+
+// Tells the use of each global variable, as the number of its bits.
+fn tell_uses(alloc: Global, told: &mut String, uses: &[GlobalUse]) -> Result<(), AllocError> {
+    for kind in uses {
+        told.push_str(&format!(in alloc; "{}.", kind.0)?)?;
+    }
+    Ok(())
+}
+
+// The place of an image or a sampler in the row of all global variables and then all arguments.
+fn place_of(part: GlobalOrArgument, globals: usize) -> usize {
+    match part {
+        GlobalOrArgument::Global(global) => global.index(),
+        GlobalOrArgument::Argument(number) => globals.saturating_add(number as usize),
+    }
+}
+
+// Whether the image and the sampler at these places are a pair.
+fn is_pair(pairs: &[SamplingPair], image: usize, sampler: usize, globals: usize) -> bool {
+    for pair in pairs {
+        if place_of(pair.0, globals) == image && place_of(pair.1, globals) == sampler {
+            return true;
+        }
+    }
+    false
+}
+
+// Tells the pairs of the image at a place with each sampler.
+fn tell_pairs_of(
+    alloc: Global,
+    told: &mut String,
+    info: &FunctionInfo,
+    image: usize,
+    count: usize,
+) -> Result<(), AllocError> {
+    let globals = info.global_variable_count();
+    for sampler in 0..count {
+        if is_pair(info.pairs(), image, sampler, globals) {
+            told.push_str(&format!(in alloc; "{image}-{sampler}.")?)?;
+        }
+    }
+    Ok(())
+}
+
+// Tells the pairs of images and samplers, by their places.
+fn tell_pairs(
+    alloc: Global,
+    told: &mut String,
+    info: &FunctionInfo,
+    count: usize,
+) -> Result<(), AllocError> {
+    for image in 0..count {
+        tell_pairs_of(alloc, told, info, image, count)?;
+    }
+    Ok(())
+}
+
+// Tells what is kept of a function.
+fn tell_info(
+    alloc: Global,
+    told: &mut String,
+    function: &Function,
+    info: &FunctionInfo,
+) -> Result<(), AllocError> {
+    let count = info
+        .global_variable_count()
+        .saturating_add(function.arguments.len());
+    told.push_str(if info.may_kill { "kills " } else { "ends " })?;
+    tell_uses(alloc, told, info.uses())?;
+    told.push_str(" ")?;
+    tell_pairs(alloc, told, info, count)?;
+    told.push_str(" ")?;
+    tell_expressions(alloc, told, info.expressions())?;
+    told.push_str("\n")
+}
+
+// Tells why an expression is refused.
+fn tell_expression_error(
+    alloc: Global,
+    told: &mut String,
+    index: usize,
+    error: &ExpressionError,
+) -> Result<(), AllocError> {
+    match error {
+        ExpressionError::Typing(error) => {
+            told.push_str(&format!(in alloc; "untyped {index} {error:?}\n")?)
+        }
+        ExpressionError::ExpectedGlobalOrArgument => {
+            told.push_str(&format!(in alloc; "wrong form {index}\n")?)
+        }
+        _ => told.push_str("another fault\n"),
+    }
+}
+
+// Tells why a function is refused.
+fn tell_error(alloc: Global, told: &mut String, error: &FunctionError) -> Result<(), AllocError> {
+    match error {
+        FunctionError::Expression { handle, source } => {
+            tell_expression_error(alloc, told, handle.index(), source)
+        }
+        FunctionError::NonUniformControlFlow(asked, _, _) if asked.0 == 1 => {
+            told.push_str("not uniform 1\n")
+        }
+        FunctionError::NonUniformControlFlow(asked, handle, _) => {
+            told.push_str(&format!(in alloc; "not uniform {} {}\n", asked.0, handle.index())?)
+        }
+        _ => told.push_str("another fault\n"),
+    }
+}
+
+// Whether the handles of a function are in order, as its analysis asks it.
+fn is_in_order(function: &Function, module: &Module, before: usize) -> bool
+    ensures handles { IsTrue result → HandlesInRange (module_view «module».now) (function_view function.now) }
+    ensures precede { IsTrue result → OperandsPrecede (function_view function.now).expressions }
+    ensures parents { IsTrue result → ParentsPrecede (module_view «module».now).filters }
+{
+    handles_in_range(function, module)
+        && operands_precede(function, module)
+        && callees_precede(function, module, before)
+        && filter_parents_precede(function, module)
+        && arities_match(function, module)
+}
+
+// Tells what is found of a function, and answers what is kept of it.
+fn told_info(
+    alloc: Global,
+    told: &mut String,
+    module: &Module,
+    function: &Function,
+    callees: &[FunctionInfo],
+    flags: ValidationFlags,
+) -> Result<Option<FunctionInfo>, AllocError> {
+    if !is_in_order(function, module, callees.len()) {
+        told.push_str("out of order\n")?;
+        return Ok(None);
+    }
+    match process_function(alloc, module, function, callees, flags) {
+        Ok(info) => {
+            tell_info(alloc, told, function, &info)?;
+            Ok(Some(info))
+        }
+        Err(Refusal::Memory(error)) => Err(error),
+        Err(Refusal::Fault(fault)) => {
+            tell_error(alloc, told, fault.as_inner())?;
+            Ok(None)
+        }
+    }
+}
+
+// Tells what is found of the functions of a module, up to the first of which nothing is, and answers whether there is none.
+fn tell_functions(
+    alloc: Global,
+    told: &mut String,
+    module: &Module,
+    flags: ValidationFlags,
+    infos: &mut Vec<FunctionInfo>,
+) -> Result<bool, AllocError> {
+    for (_, function) in module.functions.iter() {
+        match told_info(alloc, told, module, function, infos, flags)? {
+            Some(info) => infos.push(info)?,
+            None => return Ok(false),
+        }
+    }
+    Ok(true)
+}
+
+// Tells what is found of the entry points of a module.
+fn tell_entries(
+    alloc: Global,
+    told: &mut String,
+    module: &Module,
+    flags: ValidationFlags,
+    infos: &[FunctionInfo],
+) -> Result<(), AllocError> {
+    for entry in module.entry_points.as_slice() {
+        told_info(alloc, told, module, &entry.function, infos, flags)?;
+    }
+    Ok(())
+}
+
+/// What is found of the functions of a module in order, up to the first of which nothing is, and then of its entry points.
+pub fn summaries_told(
+    alloc: Global,
+    module: &Module,
+    flags: ValidationFlags,
+) -> Result<String, AllocError> {
+    let mut told = String::new(alloc);
+    let mut infos: Vec<FunctionInfo> = Vec::new(alloc);
+    if tell_functions(alloc, &mut told, module, flags, &mut infos)? {
+        tell_entries(alloc, &mut told, module, flags, infos.as_slice())?;
+    }
+    Ok(told)
+}
+
+// What is kept of a function, or nothing where its handles are not in order or it is refused.
+fn kept_of(
+    alloc: Global,
+    module: &Module,
+    function: &Function,
+    callees: &[FunctionInfo],
+    flags: ValidationFlags,
+) -> Result<Option<FunctionInfo>, AllocError> {
+    if !is_in_order(function, module, callees.len()) {
+        return Ok(None);
+    }
+    match process_function(alloc, module, function, callees, flags) {
+        Ok(info) => Ok(Some(info)),
+        Err(Refusal::Memory(error)) => Err(error),
+        Err(Refusal::Fault(_)) => Ok(None),
+    }
+}
+
+/// Whether something is kept of each function, as a word.
+pub fn summarized(
+    alloc: Global,
+    module: &Module,
+    flags: ValidationFlags,
+) -> Result<&'static str, AllocError> {
+    let mut infos: Vec<FunctionInfo> = Vec::with_capacity(alloc, module.functions.len())?;
+    for (_, function) in module.functions.iter() {
+        match kept_of(alloc, module, function, infos.as_slice(), flags)? {
+            Some(info) => infos.push(info)?,
+            None => return Ok("not summarized"),
+        }
+    }
+    Ok("summarized")
+}
+
+/// Whether the handles of all functions are in order, as a word.
+pub fn ordered(module: &Module) -> &'static str {
+    for (handle, function) in module.functions.iter() {
+        if !is_in_order(function, module, handle.index()) {
+            return "not ordered";
+        }
+    }
+    "ordered"
+}

@@ -1,0 +1,59 @@
+// Whether a document is accepted, and why it is not.
+use crate::checks::error_told;
+use crate::refusals::refusal_told;
+use document_reader::Document;
+use function_entries::EntryPointError;
+use shader_check::{
+    Examined, Finding, InvalidEntryPoint, Named, ValidationError, examine_document, refused_by,
+};
+use std::alloc::{AllocError, Global};
+
+// Why an entry point is refused: what is wrong with its function in words, anything else by its name.
+fn entry_told(alloc: Global, refused: &InvalidEntryPoint) -> Result<String, AllocError> {
+    match &refused.error {
+        EntryPointError::Function(error) => refusal_told(alloc, "entry", refused.index, error),
+        error => format!(in alloc; "entry {} {error:?}", refused.index),
+    }
+}
+
+// Why a module is refused: what is wrong with a function in words.
+fn told_in_words(alloc: Global, error: &ValidationError) -> Result<String, AllocError> {
+    match error {
+        ValidationError::Module(error) => error_told(alloc, error),
+        ValidationError::GlobalVariable(refused) => {
+            format!(in alloc; "global {} {:?}", refused.global.index(), refused.error)
+        }
+        ValidationError::Function(refused) => {
+            refusal_told(alloc, "function", refused.function.index(), &refused.error)
+        }
+        ValidationError::EntryPoint(refused) => entry_told(alloc, refused),
+    }
+}
+
+// The verdict, and the error by its name with all that it holds.
+fn told_by_name(alloc: Global, error: &ValidationError) -> Result<String, AllocError> {
+    match refused_by(error) {
+        Finding::Refused(step, index) => {
+            format!(in alloc; "refused {step} {index}: {}", Named(error))
+        }
+        _ => format!(in alloc; "refused handles: {}", Named(error)),
+    }
+}
+
+/// Whether a document is accepted, or why it is not, with what is wrong with a function in words. Returns are put in where
+/// its settings ask for them.
+pub fn functions_told(alloc: Global, document: &mut Document) -> Result<String, AllocError> {
+    match examine_document(alloc, document)? {
+        Examined::Accepted { .. } => String::from_str(alloc, "accepted"),
+        Examined::Refused(error) => told_in_words(alloc, &error),
+    }
+}
+
+/// Whether a document is accepted, or the verdict and the error by its name. Returns are put in where its settings ask for
+/// them.
+pub fn refusals_told(alloc: Global, document: &mut Document) -> Result<String, AllocError> {
+    match examine_document(alloc, document)? {
+        Examined::Accepted { .. } => String::from_str(alloc, "accepted"),
+        Examined::Refused(error) => told_by_name(alloc, &error),
+    }
+}

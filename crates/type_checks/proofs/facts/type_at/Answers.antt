@@ -1,5 +1,0 @@
-use Rattle.typing_forms.proofs.Lookups.{inner_found}
-use Rattle.type_checks.proofs.facts.type_at.Goals as goal
-
-pub returns : goal.returns
-returns c = inner_found c.args.types.now c.args.ty c.index.result.now c.index.ensures

@@ -1,8 +1,0 @@
--- The flags that the members have that were passed.
-use Rattle.std.proofs.Common.{map}
-use Rattle.ir_types.specs.Plain.{member_view}
-use Rattle.type_checks.specs.Sets.{CommonBelow}
-use Rattle.type_checks.proofs.flags.common_flags.Given as goal
-
-abbrev pub invariant-loop-place : goal.invariant-loop-place
-invariant-loop-place l = CommonBelow l.context (map member_view l.members) l.common l.place

@@ -1,9 +1,0 @@
--- The members that were passed may stand at their places.
-use Rattle.std.proofs.Common.{map}
-use Rattle.ir_types.specs.Plain.{member_view}
-use Rattle.typing_layout.specs.Structs.{MemberOK}
-use Rattle.type_checks.specs.Placed.{parts_in, Below}
-use Rattle.type_checks.proofs.members.check_members.Given as goal
-
-abbrev pub invariant-loop-place : goal.invariant-loop-place
-invariant-loop-place l = Below (MemberOK (parts_in l.context (map member_view l.members)) l.span) (parts_in l.context (map member_view l.members)) l.place

@@ -1,0 +1,353 @@
+//! What a function samples, in memory that functions share.
+
+ghost use Rattle.std.specs.Prelude.{◌≡◌, ◌↔◌, ◌++◌, ◌∷◌, [], IfOk, IfSome, IsTrue, OnErr, OnOk, if◌then◌else◌, length};
+ghost use Rattle.std.specs.List.{flat_map, list_any};
+ghost use Rattle.analysis_forms.specs.Pairs.{pair_eq};
+ghost use Rattle.typing_infos.specs.Keys.{key_of};
+ghost use Rattle.typing_infos.specs.Marks.{EachOnce, Indexes, marks_of};
+
+use crate::keys::keys_of;
+use crate::marks::marks_of;
+use analysis_forms::{SamplingKey, SamplingPair};
+use std::alloc::{AllocError, Global};
+use std::collections::HashSet;
+use std::hash::Hash;
+use std::marker::Model;
+use std::rc::Rc;
+
+/// So many pairs are a list of each function's own; more are one table, which functions share.
+pub const FEW: usize = 8;
+
+// Many pairs, each once, and all of them by their hashes; those of two global variables, in the same order; and for each
+// argument whether it is among them.
+#[derive(Drop)]
+struct PairTable {
+    pairs: Vec<SamplingPair>,
+    index: HashSet<SamplingPair>,
+    keys: Vec<SamplingKey>,
+    marks: Vec<bool>,
+    ghost once: { EachOnce pairs.items },
+    ghost indexed: { Indexes pair_eq index.keys pairs.items },
+    ghost keyed: { keys.items ≡ flat_map key_of pairs.items },
+    ghost marked: { marks.items ≡ marks_of pairs.items },
+}
+
+// A function's pairs.
+#[derive(Drop)]
+enum HeldPairs {
+    Few(Vec<SamplingPair>),
+    Many(Rc<PairTable>),
+}
+
+// Those of two global variables.
+#[derive(Drop)]
+enum HeldKeys {
+    Few(Vec<SamplingKey>),
+    Many(Rc<PairTable>),
+}
+
+#[derive(Drop)]
+struct Pairs {
+    held: HeldPairs,
+}
+
+impl Model for Pairs {
+    ghost use Rattle.std.specs.Prelude.{List};
+    ghost use Rattle.analysis_forms.specs.Pairs.{SamplingPair};
+
+    ghost Value = { List SamplingPair };
+
+    ghost use Rattle.typing_infos.specs.Held.{pairs_held};
+
+    ghost view = { λ p. pairs_held p.held };
+}
+
+#[derive(Drop)]
+struct Keys {
+    held: HeldKeys,
+}
+
+impl Model for Keys {
+    ghost use Rattle.std.specs.Prelude.{List};
+    ghost use Rattle.analysis_forms.specs.declared.sampling.SamplingKey.{SamplingKey};
+
+    ghost Value = { List SamplingKey };
+
+    ghost use Rattle.typing_infos.specs.Held.{keys_held};
+
+    ghost view = { λ k. keys_held k.held };
+}
+
+/// The pairs of images and samplers of a function, in the order in which they were found. Many pairs are one table that
+/// functions share.
+#[derive(Drop)]
+pub struct SampledPairs {
+    items: Pairs,
+}
+
+/// The pairs of two global variables among them, in the same order, shared in the same way.
+#[derive(Drop)]
+pub struct SampledKeys {
+    items: Keys,
+}
+
+// These values behind others. The error is out of memory.
+fn append<T: Copy + Drop>(values: &mut Vec<T>, others: &[T]) -> Result<(), AllocError>
+    ensures { OnOk result (values.new.items ≡ values.old.items ++ others.now) }
+{
+    for value in others {
+        values.push(*value)?;
+    }
+    Ok(())
+}
+
+// A copy. The error is out of memory.
+fn copied<T: Copy + Drop>(values: &Vec<T>) -> Result<Vec<T>, AllocError>
+    ensures { IfOk result (λ copy. copy.items ≡ values.now.items) }
+{
+    let mut copy = Vec::new(*values.allocator());
+    append(&mut copy, values)?;
+    Ok(copy)
+}
+
+// Whether a value is equal to one of these.
+fn holds<T: PartialEq>(values: &[T], value: &T) -> bool
+    ensures { result ≡ list_any (T.eq value.now) values.now }
+{
+    for held in values {
+        if *value == *held {
+            return true;
+        }
+    }
+    false
+}
+
+// These values by their hashes. The error is out of memory.
+fn index_of<T: Copy + Eq + Hash + Drop>(
+    alloc: Global,
+    values: &[T],
+) -> Result<HashSet<T>, AllocError>
+    ensures { IfOk result (λ index. Indexes T.eq index.keys values.now) }
+{
+    let mut index = HashSet::new(alloc);
+    for value in values {
+        index.insert(*value)?;
+    }
+    Ok(index)
+}
+
+impl PairTable {
+    fn as_slice(&self) -> &[SamplingPair]
+        ensures { result.now ≡ self.now.pairs.items }
+    {
+        &self.pairs
+    }
+
+    fn keys(&self) -> &[SamplingKey]
+        ensures { result.now ≡ self.now.keys.items }
+    {
+        &self.keys
+    }
+
+    fn marks(&self) -> &[bool]
+        ensures marked { result.now ≡ marks_of self.now.pairs.items }
+        ensures once { EachOnce self.now.pairs.items }
+    {
+        &self.marks
+    }
+
+    fn contains(&self, pair: &SamplingPair) -> bool
+        ensures { result ≡ list_any (pair_eq pair.now) self.now.pairs.items }
+    {
+        self.index.contains(pair)
+    }
+}
+
+impl Pairs {
+    fn as_slice(&self) -> &[SamplingPair]
+        ensures { result.now ≡ self.now }
+    {
+        match &self.held {
+            HeldPairs::Few(pairs) => pairs,
+            HeldPairs::Many(table) => table.as_ref().as_slice(),
+        }
+    }
+
+    fn contains(&self, pair: &SamplingPair) -> bool
+        ensures { result ≡ list_any (pair_eq pair.now) self.now }
+    {
+        match &self.held {
+            HeldPairs::Few(pairs) => holds(pairs, pair),
+            HeldPairs::Many(table) => table.as_ref().contains(pair),
+        }
+    }
+
+    fn marks(&self) -> Option<&[bool]>
+        ensures marked { IfSome result (λ marks. marks.now ≡ marks_of self.now) }
+        ensures once { IfSome result (λ marks. EachOnce self.now) }
+    {
+        match &self.held {
+            HeldPairs::Few(_) => None,
+            HeldPairs::Many(table) => Some(table.as_ref().marks()),
+        }
+    }
+
+    fn share(&self) -> Result<Pairs, AllocError>
+        ensures { IfOk result (λ pairs. pairs ≡ self.now) }
+    {
+        match &self.held {
+            HeldPairs::Few(pairs) => {
+                let held = HeldPairs::Few(copied(pairs)?);
+                Ok(Pairs { held })
+            }
+            HeldPairs::Many(table) => {
+                let held = HeldPairs::Many(table.clone()?);
+                Ok(Pairs { held })
+            }
+        }
+    }
+
+    fn keys(&self, alloc: Global) -> Result<Keys, AllocError>
+        ensures { IfOk result (λ keys. keys ≡ flat_map key_of self.now) }
+    {
+        match &self.held {
+            HeldPairs::Few(pairs) => {
+                let held = HeldKeys::Few(keys_of(alloc, pairs)?);
+                Ok(Keys { held })
+            }
+            HeldPairs::Many(table) => {
+                let held = HeldKeys::Many(table.clone()?);
+                Ok(Keys { held })
+            }
+        }
+    }
+
+    fn push_few(&mut self, pair: SamplingPair) -> Result<bool, AllocError>
+        ensures added { IfOk result (λ added. self.new ≡ (if added then self.old ++ pair ∷ [] else self.old)) }
+        ensures err { OnErr result (self.new ≡ self.old) }
+    {
+        match &mut self.held {
+            HeldPairs::Few(pairs) => {
+                if pairs.len() < FEW {
+                    pairs.push(pair)?;
+                    Ok(true)
+                } else {
+                    Ok(false)
+                }
+            }
+            HeldPairs::Many(_) => Ok(false),
+        }
+    }
+}
+
+impl Keys {
+    fn as_slice(&self) -> &[SamplingKey]
+        ensures { result.now ≡ self.now }
+    {
+        match &self.held {
+            HeldKeys::Few(keys) => keys,
+            HeldKeys::Many(table) => table.as_ref().keys(),
+        }
+    }
+}
+
+impl SampledPairs {
+    /// No pair. It takes no memory.
+    pub fn new(alloc: Global) -> SampledPairs
+        ensures { result.items ≡ [] }
+    {
+        let held = HeldPairs::Few(Vec::new(alloc));
+        let items = Pairs { held };
+        SampledPairs { items }
+    }
+
+    /// These pairs, as a table that functions share. Asks that each is there once. The error is out of memory.
+    pub fn of_pairs(alloc: Global, pairs: Vec<SamplingPair>) -> Result<SampledPairs, AllocError>
+        requires { EachOnce pairs.items }
+        ensures { IfOk result (λ sampled. sampled.items ≡ pairs.items) }
+    {
+        let index = index_of(alloc, &pairs)?;
+        let keys = keys_of(alloc, &pairs)?;
+        let marks = marks_of(alloc, &pairs)?;
+        let table = PairTable {
+            pairs,
+            index,
+            keys,
+            marks,
+        };
+        let table = Rc::new(alloc, table)?;
+        let held = HeldPairs::Many(table);
+        let items = Pairs { held };
+        Ok(SampledPairs { items })
+    }
+
+    /// The pairs, in order.
+    pub fn as_slice(&self) -> &[SamplingPair]
+        ensures { result.now ≡ self.now.items }
+    {
+        self.items.as_slice()
+    }
+
+    /// How many there are.
+    pub fn len(&self) -> usize
+        ensures { result ≡ length self.now.items }
+    {
+        self.items.as_slice().len()
+    }
+
+    /// Whether there is none.
+    pub fn is_empty(&self) -> bool
+        ensures { IsTrue result ↔ (length self.now.items ≡ 0) }
+    {
+        self.items.as_slice().is_empty()
+    }
+
+    /// Whether a pair is among them.
+    pub fn contains(&self, pair: &SamplingPair) -> bool
+        ensures { result ≡ list_any (pair_eq pair.now) self.now.items }
+    {
+        self.items.contains(pair)
+    }
+
+    /// Where they are a table, for each argument whether it is among them, up to the last that is.
+    pub fn marks(&self) -> Option<&[bool]>
+        ensures marked { IfSome result (λ marks. marks.now ≡ marks_of self.now.items) }
+        ensures once { IfSome result (λ marks. EachOnce self.now.items) }
+    {
+        self.items.marks()
+    }
+
+    /// The same pairs, of which a table is shared and nothing of it copied. The error is out of memory.
+    pub fn share(&self) -> Result<SampledPairs, AllocError>
+        ensures { IfOk result (λ sampled. sampled.items ≡ self.now.items) }
+    {
+        let items = self.items.share()?;
+        Ok(SampledPairs { items })
+    }
+
+    /// Those of two global variables, of which a table is shared. The error is out of memory.
+    pub fn keys(&self, alloc: Global) -> Result<SampledKeys, AllocError>
+        ensures { IfOk result (λ keys. keys.items ≡ flat_map key_of self.now.items) }
+    {
+        let items = self.items.keys(alloc)?;
+        Ok(SampledKeys { items })
+    }
+
+    /// Adds a pair behind them where they are fewer than [`FEW`] and no table, and says whether it did. The error is out of
+    /// memory; the pairs are as they were then.
+    pub fn push_few(&mut self, pair: SamplingPair) -> Result<bool, AllocError>
+        ensures added { IfOk result (λ added. self.new.items ≡ (if added then self.old.items ++ pair ∷ [] else self.old.items)) }
+        ensures err { OnErr result (self.new.items ≡ self.old.items) }
+    {
+        self.items.push_few(pair)
+    }
+}
+
+impl SampledKeys {
+    /// The pairs, in order.
+    pub fn as_slice(&self) -> &[SamplingKey]
+        ensures { result.now ≡ self.now.items }
+    {
+        self.items.as_slice()
+    }
+}

@@ -1,0 +1,255 @@
+-- A callee that was joined for the same before adds nothing, and one that is joined is there.
+use Rattle.std.proofs.Common.{◌≡◌, ◌⊎◌, ℕ, ◌<◌, ◌≤◌, length, get_or, map, option_map, Option, Some, None, Bool, true, false, true≢false, ◌&&◌, ◌||◌, not, List, [], ◌∷◌, ◌++◌, refl, sym, ap, ◌∙◌, subst, inl, inr, slice_get}
+use Rattle.std.specs.Prelude.{if◌then◌else◌, eqb}
+use Rattle.std.specs.Cmp.Lexicographic.{pointwise}
+use Rattle.std.specs.List.{list_any}
+use Rattle.std.specs.Option.{option_eq}
+use Rattle.std.proofs.lemmas.Bool.{eqb-true}
+use Rattle.std.proofs.lemmas.Option.{slice_get-map, slice_get-get_or, slice_get_past}
+use Rattle.indexmap.specs.IndexSet.{insert_key}
+use Rattle.typing_rules.specs.Laws.{IsAmong}
+use Rattle.ir_types.specs.ExpressionPlain.{PlainExpression}
+use Rattle.analysis_forms.specs.declared.sampling.GlobalOrArgument.{GlobalOrArgument}
+use Rattle.analysis_forms.specs.declared.sampling.GlobalOrArgument.TheVariants.{Global, Argument}
+use Rattle.analysis_forms.specs.Pairs.{SamplingPair, pair_eq}
+use Rattle.typing_sampling.proofs.Equal.{both, part_same, pair_self}
+use Rattle.typing_sampling.proofs.Marked.{is_marked}
+use Rattle.typing_infos.specs.Infos.{summary_of}
+use Rattle.typing_infos.specs.Marks.{marks_of}
+use Rattle.typing_infos.specs.declared.function_info.FunctionInfo.{FunctionInfo}
+use Rattle.spec_analysis.specs.Chains.{place, seen_through, argument_means}
+use Rattle.spec_analysis.specs.Summaries.{Summary}
+use Rattle.spec_analysis.proofs.Members.{among-cases}
+use Rattle.typing_summaries.specs.Joined.{IsKept, IsWrong, IsCovered, AreJoined}
+use Rattle.typing_summaries.specs.Parts.{parts_of, AllStand}
+use Rattle.typing_summaries.specs.Tallies.{Known, Paired, with_pair, with_wrong, first_wrong, part_wrong, pair_one, passed_for, pass_up, pass_all_up}
+use Rattle.typing_summaries.specs.declared.passed.Passed.{Passed}
+use Rattle.analysis_forms.specs.contracts.sampling.GlobalOrArgumentPartialEq as each
+use Rattle.typing_summaries.specs.contracts.passed.PassedPartialEq as impl
+use Rattle.typing_summaries.proofs.PairLemmas.{some_is, none_some}
+use Rattle.typing_summaries.proofs.PartLemmas.{same_means, part_means}
+
+abbrev HasPair : SamplingPair → List SamplingPair → Type 0
+HasPair p held = list_any (pair_eq p) held ≡ true
+
+-- ---- pairs that are there stay
+
+or_left : (b c : Bool) → b ≡ true → (b || c) ≡ true
+or_left true c e = refl
+or_left false c e = absurd (true≢false (sym e))
+
+or_right : (b c : Bool) → c ≡ true → (b || c) ≡ true
+or_right true c e = refl
+or_right false c e = e
+
+any_append : (p : SamplingPair) (xs ys : List SamplingPair) → HasPair p xs → HasPair p (xs ++ ys)
+any_append p [] ys e = absurd (true≢false (sym e))
+any_append p (x ∷ xs) ys e = by (pair_eq p x) refl (λ h. any_append p xs ys h)
+  where
+    by : (b : Bool) → pair_eq p x ≡ b → (HasPair p xs → HasPair p (xs ++ ys)) → HasPair p (x ∷ (xs ++ ys))
+    by true is more = or_left (pair_eq p x) (list_any (pair_eq p) (xs ++ ys)) is
+    by false is more = or_right (pair_eq p x) (list_any (pair_eq p) (xs ++ ys)) (more (ap (λ b. b || list_any (pair_eq p) xs) (sym is) ∙ e))
+
+last_has : (xs : List SamplingPair) (p : SamplingPair) → HasPair p (xs ++ p ∷ [])
+last_has [] p = or_left (pair_eq p p) false (pair_self p)
+last_has (x ∷ xs) p = or_right (pair_eq p x) (list_any (pair_eq p) (xs ++ p ∷ [])) (last_has xs p)
+
+kept_has : (b : Bool) (held : List SamplingPair) (p q : SamplingPair) → HasPair p held → HasPair p (if b then held else held ++ q ∷ [])
+kept_has true held p q e = e
+kept_has false held p q e = any_append p held (q ∷ []) e
+
+insert_has : (held : List SamplingPair) (p q : SamplingPair) → HasPair p held → HasPair p (insert_key pair_eq held q)
+insert_has held p q e = kept_has (list_any (pair_eq q) held) held p q e
+
+own_has : (b : Bool) (held : List SamplingPair) (p : SamplingPair) → list_any (pair_eq p) held ≡ b → HasPair p (if b then held else held ++ p ∷ [])
+own_has true held p e = e
+own_has false held p e = last_has held p
+
+inserted_has : (held : List SamplingPair) (p : SamplingPair) → HasPair p (insert_key pair_eq held p)
+inserted_has held p = own_has (list_any (pair_eq p) held) held p refl
+
+part_has : (w : Option ℕ) (b : Option GlobalOrArgument) (t : Paired) (p : SamplingPair) → HasPair p t.pairs → HasPair p (part_wrong w b t).pairs
+part_has w None t p e = e
+part_has w (Some b) t p e = e
+
+one_has : (wi ws : Option ℕ) (a b : Option GlobalOrArgument) (t : Paired) (p : SamplingPair) → HasPair p t.pairs → HasPair p (pair_one wi ws a b t).pairs
+one_has wi ws (Some a) (Some b) t p e = insert_has t.pairs p (a, b) e
+one_has wi ws (Some a) None t p e = e
+one_has wi ws None b t p e = part_has ws b (with_wrong wi t) p e
+
+one_holds : (wi ws : Option ℕ) (a b : Option GlobalOrArgument) (x y : GlobalOrArgument) (t : Paired) → a ≡ Some x → b ≡ Some y → HasPair (x, y) (pair_one wi ws a b t).pairs
+one_holds wi ws a b x y t ea eb = subst (λ z. HasPair (x, y) (pair_one wi ws z b t).pairs) (sym ea) (subst (λ z. HasPair (x, y) (pair_one wi ws (Some x) z t).pairs) (sym eb) (inserted_has t.pairs (x, y)))
+
+module _ (expressions : List PlainExpression) (arguments : List ℕ) where
+  abbrev seen : GlobalOrArgument → Option GlobalOrArgument
+  seen part = seen_through (place expressions) arguments (Some part)
+
+  all_have : (pairs : List SamplingPair) (t : Paired) (p : SamplingPair) → HasPair p t.pairs → HasPair p (pass_all_up expressions arguments pairs t).pairs
+  all_have [] t p e = e
+  all_have (q ∷ pairs) t p e = all_have pairs (pass_up expressions arguments q t) p (one_has (passed_for arguments q.0) (passed_for arguments q.1) (seen q.0) (seen q.1) t p e)
+
+  covered : (pairs : List SamplingPair) (t : Paired) → IsCovered expressions arguments pairs (pass_all_up expressions arguments pairs t).pairs
+  covered [] t q among image sampler ei es = elim among [ ]
+  covered (r ∷ pairs) t q (inl is) image sampler ei es =
+      all_have pairs (pass_up expressions arguments r t) (image, sampler)
+      (one_holds (passed_for arguments r.0) (passed_for arguments r.1) (seen r.0) (seen r.1) image sampler t (ap (λ z. seen z.0) is ∙ ei) (ap (λ z. seen z.1) is ∙ es))
+  covered (r ∷ pairs) t q (inr among) image sampler ei es = covered pairs (pass_up expressions arguments r t) q among image sampler ei es
+
+-- ---- what is there adds nothing
+
+already : (held : List SamplingPair) (p : SamplingPair) → HasPair p held → insert_key pair_eq held p ≡ held
+already held p e = ap (λ b. if b then held else held ++ p ∷ []) e
+
+wrong_kept : (o w : Option ℕ) (e : ℕ) → o ≡ Some e → first_wrong o w ≡ o
+wrong_kept (Some x) w e is = refl
+wrong_kept None w e is = none_some is
+
+noted : (w : Option ℕ) (t : Paired) (e : ℕ) → t.wrong ≡ Some e → with_wrong w t ≡ t
+noted w t e is = λ i. record { pairs = t.pairs; wrong = wrong_kept t.wrong w e is i }
+
+part_noted : (w : Option ℕ) (b : Option GlobalOrArgument) (t : Paired) (e : ℕ) → t.wrong ≡ Some e → part_wrong w b t ≡ t
+part_noted w None t e is = noted w t e is
+part_noted w (Some b) t e is = refl
+
+-- it stands for something
+abbrev pub Means : Option GlobalOrArgument → Type 0
+Means a = (x : GlobalOrArgument) × (a ≡ Some x)
+
+-- something is wrong, or both stand for something
+abbrev pub Settled : Paired → Option GlobalOrArgument → Option GlobalOrArgument → Type 0
+Settled t a b = ((e : ℕ) × (t.wrong ≡ Some e)) ⊎ (Means a × Means b)
+
+one_stays : (wi ws : Option ℕ) (a b : Option GlobalOrArgument) (t : Paired) → ((x y : GlobalOrArgument) → a ≡ Some x → b ≡ Some y → HasPair (x, y) t.pairs) → Settled t a b → pair_one wi ws a b t ≡ t
+one_stays wi ws (Some a) (Some b) t has settled = λ i. record { pairs = already t.pairs (a, b) (has a b refl refl) i; wrong = t.wrong }
+one_stays wi ws (Some a) None t has (inl w) = noted ws t w.0 w.1
+one_stays wi ws (Some a) None t has (inr means) = none_some means.1.1
+one_stays wi ws None b t has (inl w) = ap (part_wrong ws b) (noted wi t w.0 w.1) ∙ part_noted ws b t w.0 w.1
+one_stays wi ws None b t has (inr means) = none_some means.0.1
+
+module _ (expressions : List PlainExpression) (arguments : List ℕ) where
+  all_stay : (pairs : List SamplingPair) (t : Paired) → IsCovered expressions arguments pairs t.pairs
+      → ((q : SamplingPair) → IsAmong q pairs → Settled t (seen expressions arguments q.0) (seen expressions arguments q.1)) → pass_all_up expressions arguments pairs t ≡ t
+  all_stay [] t holds settled = refl
+  all_stay (q ∷ pairs) t holds settled =
+      ap (pass_all_up expressions arguments pairs) (one_stays (passed_for arguments q.0) (passed_for arguments q.1) (seen expressions arguments q.0) (seen expressions arguments q.1) t (holds q (inl refl)) (settled q (inl refl)))
+      ∙ all_stay pairs t (λ r among. holds r (inr among)) (λ r among. settled r (inr among))
+
+-- ---- the same parts
+
+module _ (expressions : List PlainExpression) (pairs : List SamplingPair) where
+  seen_same : (xs ys : List ℕ) → parts_of (place expressions) (marks_of pairs) xs ≡ parts_of (place expressions) (marks_of pairs) ys → (part : GlobalOrArgument) → ((n : ℕ) → part ≡ Argument n → slice_get (marks_of pairs) n ≡ Some true)
+      → seen expressions xs part ≡ seen expressions ys part
+  seen_same xs ys same (Global g) marked = refl
+  seen_same xs ys same (Argument n) marked = same_means (place expressions) (marks_of pairs) xs ys n same (marked n refl)
+
+  covered_same : (xs ys : List ℕ) (held : List SamplingPair) → parts_of (place expressions) (marks_of pairs) xs ≡ parts_of (place expressions) (marks_of pairs) ys → IsCovered expressions xs pairs held → IsCovered expressions ys pairs held
+  covered_same xs ys held same holds = λ q among image sampler ei es.
+      holds q among image sampler (seen_same xs ys same q.0 (λ n is. is_marked pairs q n among (inl is)) ∙ ei) (seen_same xs ys same q.1 (λ n is. is_marked pairs q n among (inr is)) ∙ es)
+
+  part_stands : (xs : List ℕ) (parts : List (Option GlobalOrArgument)) → parts ≡ parts_of (place expressions) (marks_of pairs) xs → AllStand (marks_of pairs) parts → (part : GlobalOrArgument)
+      → ((n : ℕ) → part ≡ Argument n → slice_get (marks_of pairs) n ≡ Some true) → Means (seen expressions xs part)
+  part_stands xs parts are stand (Global g) marked = (Global g, refl)
+  part_stands xs parts are stand (Argument n) marked =
+      let s = stand n (marked n refl) in
+      (s.0, part_means (place expressions) (marks_of pairs) xs n s.0 (marked n refl) (ap (λ ps. slice_get ps n) (sym are) ∙ s.1))
+
+-- ---- what was joined
+
+same_parts : (a b : Option GlobalOrArgument) → option_eq each.TheImpl.ghosts.eq a b ≡ true → a ≡ b
+same_parts None None e = refl
+same_parts None (Some b) e = absurd (true≢false (sym e))
+same_parts (Some a) None e = absurd (true≢false (sym e))
+same_parts (Some a) (Some b) e = ap Some (part_same a b e)
+
+same_lists : (xs ys : List (Option GlobalOrArgument)) → pointwise (option_eq each.TheImpl.ghosts.eq) xs ys ≡ true → xs ≡ ys
+same_lists [] [] e = refl
+same_lists [] (y ∷ ys) e = absurd (true≢false (sym e))
+same_lists (x ∷ xs) [] e = absurd (true≢false (sym e))
+same_lists (x ∷ xs) (y ∷ ys) e = let h = both (option_eq each.TheImpl.ghosts.eq x y) (pointwise (option_eq each.TheImpl.ghosts.eq) xs ys) e in λ i. same_parts x y h.0 i ∷ same_lists xs ys h.1 i
+
+abbrev pub passed_eq : Passed → Passed → Bool
+passed_eq = impl.TheImpl.ghosts.eq
+
+-- they are of one callee and have the same parts
+abbrev IsSame : Passed → Passed → Type 0
+IsSame p q = (p.callee ≡ q.callee) × (p.parts.items ≡ q.parts.items)
+
+same_passed : (p q : Passed) → passed_eq p q ≡ true → IsSame p q
+same_passed p q e =
+    let h = both (eqb p.callee q.callee) (pointwise (option_eq each.TheImpl.ghosts.eq) p.parts.items q.parts.items) e in
+    (eqb-true p.callee q.callee h.0, same_lists p.parts.items q.parts.items h.1)
+
+-- one that is the same is among these
+abbrev Held : Passed → List Passed → Type 0
+Held p joined = (q : Passed) × IsAmong q joined × IsSame p q
+
+held : (p : Passed) (joined : List Passed) → list_any (passed_eq p) joined ≡ true → Held p joined
+held p [] e = absurd (true≢false (sym e))
+held p (q ∷ joined) e = by (passed_eq p q) refl (λ h. held p joined h)
+  where
+    by : (b : Bool) → passed_eq p q ≡ b → (list_any (passed_eq p) joined ≡ true → Held p joined) → Held p (q ∷ joined)
+    by true is rest = (q, inl refl, same_passed p q is)
+    by false is rest = let r = rest (ap (λ b. b || list_any (passed_eq p) joined) (sym is) ∙ e) in (r.0, inr r.1, r.2)
+
+among_kept : (b : Bool) (joined : List Passed) (p q : Passed) → IsAmong q (if b then joined else joined ++ p ∷ []) → IsAmong q joined ⊎ (p ≡ q)
+among_kept true joined p q among = inl among
+among_kept false joined p q among = elim (among-cases joined (p ∷ []) q among) [ inl l ↦ inl l | inr r ↦ elim r [ inl e ↦ inr e | inr n ↦ elim n [ ] ] ]
+
+module _ (k : Known) (callee : ℕ) (pairs : List SamplingPair) (kept : IsKept k callee pairs) (arguments : List ℕ) (marks : List Bool) (marked : marks ≡ marks_of pairs)
+    (p : Passed) (of : p.callee ≡ callee) (parts : p.parts.items ≡ parts_of (place k.expressions) marks arguments) where
+  by_marks : p.parts.items ≡ parts_of (place k.expressions) (marks_of pairs) arguments
+  by_marks = parts ∙ ap (λ ms. parts_of (place k.expressions) ms arguments) marked
+
+  pairs_of : (s : Summary) (c : ℕ) → c ≡ callee → slice_get k.summaries c ≡ Some s → s.pairs ≡ pairs
+  pairs_of s c is found = ap (λ z. z.pairs) (some_is (sym found ∙ ap (slice_get k.summaries) is ∙ kept.found)) ∙ kept.same
+
+  -- for what it was joined before it adds nothing
+  pub adds_nothing : (joined : List Passed) (t : Paired) → AreJoined k joined t.pairs → list_any (passed_eq p) joined ≡ true → IsWrong t ⊎ AllStand marks p.parts.items
+      → t ≡ pass_all_up k.expressions arguments pairs t
+  adds_nothing joined t are there settled =
+      let h = held p joined there in
+      let found : slice_get k.summaries h.0.callee ≡ Some kept.summary = ap (slice_get k.summaries) (sym h.2.0 ∙ of) ∙ kept.found in
+      let same : parts_of (place k.expressions) (marks_of kept.summary.pairs) arguments ≡ h.0.parts.items = ap (λ z. parts_of (place k.expressions) (marks_of z) arguments) kept.same ∙ (sym by_marks ∙ h.2.1) in
+      let all : IsCovered k.expressions arguments pairs t.pairs = subst (λ z. IsCovered k.expressions arguments z t.pairs) kept.same (are h.0 h.1 kept.summary found arguments same) in
+      sym (all_stay k.expressions arguments pairs t all (λ q among. elim settled [
+        | inl w ↦ inl w
+        | inr stand ↦ let stand_too = subst (λ ms. AllStand ms p.parts.items) marked stand in inr (
+          part_stands k.expressions pairs arguments p.parts.items by_marks stand_too q.0 (λ n is. is_marked pairs q n among (inl is)),
+          part_stands k.expressions pairs arguments p.parts.items by_marks stand_too q.1 (λ n is. is_marked pairs q n among (inr is)),
+        )
+      ]))
+
+  -- where it is joined, it and all that were joined before are there
+  pub one_joined : (joined : List Passed) (t : Paired) → AreJoined k joined t.pairs → AreJoined k (insert_key passed_eq joined p) (pass_all_up k.expressions arguments pairs t).pairs
+  one_joined joined t are = λ q among s found others same. elim (among_kept (list_any (passed_eq p) joined) joined p q among) [
+    | inl before ↦ λ r in_pairs image sampler ei es. all_have k.expressions arguments pairs t (image, sampler) (are q before s found others same r in_pairs image sampler ei es)
+    | inr is ↦
+        let own = pairs_of s q.callee (ap (λ z. z.callee) (sym is) ∙ of) found in
+        let alike : parts_of (place k.expressions) (marks_of pairs) arguments ≡ parts_of (place k.expressions) (marks_of pairs) others =
+        sym by_marks ∙ (ap (λ z. z.parts.items) is ∙ (sym same ∙ ap (λ z. parts_of (place k.expressions) (marks_of z) others) own)) in
+        subst (λ z. IsCovered k.expressions others z (pass_all_up k.expressions arguments pairs t).pairs) (sym own)
+        (covered_same k.expressions pairs arguments others (pass_all_up k.expressions arguments pairs t).pairs alike (covered k.expressions arguments pairs t))
+  ]
+
+-- one that was there leaves all as they were
+pub none_joined : (k : Known) (joined : List Passed) (p : Passed) (held : List SamplingPair) → AreJoined k joined held → list_any (passed_eq p) joined ≡ true → AreJoined k (insert_key passed_eq joined p) held
+none_joined k joined p held are there = subst (λ z. AreJoined k z held) (sym (ap (λ b. if b then joined else joined ++ p ∷ []) there)) are
+
+-- pairs that are joined of few leave what was joined before
+pub few_joined : (k : Known) (joined : List Passed) (arguments : List ℕ) (pairs : List SamplingPair) (t : Paired) → AreJoined k joined t.pairs → AreJoined k joined (pass_all_up k.expressions arguments pairs t).pairs
+few_joined k joined arguments pairs t are = λ q among s found others same r in_pairs image sampler ei es.
+    all_have k.expressions arguments pairs t (image, sampler) (are q among s found others same r in_pairs image sampler ei es)
+
+-- it was there
+pub was_there : (fresh there : Bool) → fresh ≡ not there → fresh ≡ false → there ≡ true
+was_there fresh true is old = refl
+was_there fresh false is old = absurd (true≢false (sym is ∙ old))
+
+-- ---- what is kept of a callee
+
+pub callee_there : (infos : List FunctionInfo) (callee place : ℕ) (info : FunctionInfo) → place < length infos → info ≡ get_or infos place info → place ≡ callee → slice_get (map summary_of infos) callee ≡ Some (summary_of info)
+callee_there infos callee place info lt at is =
+    ap (slice_get (map summary_of infos)) (sym is) ∙ (slice_get-map summary_of infos place ∙ ap (option_map summary_of) (slice_get-get_or infos place info lt ∙ ap Some (sym at)))
+
+pub callee_missing : (infos : List FunctionInfo) (callee place : ℕ) → length infos ≤ place → place ≡ callee → slice_get (map summary_of infos) callee ≡ None
+callee_missing infos callee place le is = ap (slice_get (map summary_of infos)) (sym is) ∙ (slice_get-map summary_of infos place ∙ ap (option_map summary_of) (slice_get_past infos place le))

@@ -1,0 +1,12 @@
+-- What was found with what the rest gives is what all give.
+use Rattle.std.proofs.Common.{◌≡◌, ◌++◌, drop, map}
+use Rattle.ir_types.specs.ExpressionPlain.{expression_view}
+use Rattle.ir_items.specs.GlobalView.{values_of}
+use Rattle.spec_analysis.specs.Chains.{place}
+use Rattle.typing_summaries.specs.Parts.{parts_of}
+use Rattle.typing_summaries.proofs.passed.parts_of.Given as goal
+
+abbrev pub invariant-loop-index : goal.invariant-loop-index
+invariant-loop-index l =
+    let meaning = place (map expression_view (values_of l.expressions)) in
+    (l.parts.items ++ parts_of meaning (drop l.index l.marks) (drop l.index l.arguments)) ≡ parts_of meaning l.marks l.arguments

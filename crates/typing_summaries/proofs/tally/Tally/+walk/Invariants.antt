@@ -1,0 +1,16 @@
+use Rattle.std.proofs.Common.{◌≡◌, drop, map}
+use Rattle.ir_blocks.specs.View.{statements_view, case_view, cases_of}
+use Rattle.typing_summaries.specs.Joined.{AreJoined}
+use Rattle.typing_summaries.specs.Tallies.{known, tallied, done_in, done_in_cases}
+use Rattle.typing_summaries.proofs.tally.Tally.+walk.Given as goal
+
+-- what the rest gives is what the whole gives, and what was joined is there
+abbrev pub invariant-add_all-loop-statement : goal.invariant-add_all-loop-statement
+invariant-add_all-loop-statement l =
+    (done_in (known l.context) (statements_view (drop l.statement-index l.statement-items)) (tallied l.self) ≡ done_in (known l.context) (statements_view l.statement-items) (tallied l.fn.self))
+    × AreJoined (known l.context) l.joined.keys (tallied l.self).paired.pairs
+
+abbrev pub invariant-add_cases-loop-case : goal.invariant-add_cases-loop-case
+invariant-add_cases-loop-case l =
+    (done_in_cases (known l.context) (cases_of (map case_view (drop l.case-index l.cases))) (tallied l.self) ≡ done_in_cases (known l.context) (cases_of (map case_view l.cases)) (tallied l.fn.self))
+    × AreJoined (known l.context) l.joined.keys (tallied l.self).paired.pairs

@@ -1,0 +1,35 @@
+-- What callees were joined for, whose pairs are there.
+use Rattle.std.specs.Prelude.{◌≡◌, ℕ, true, List, Some, slice_get}
+use Rattle.std.specs.List.{list_any}
+use Rattle.typing_rules.specs.Laws.{IsAmong}
+use Rattle.ir_types.specs.ExpressionPlain.{PlainExpression}
+use Rattle.analysis_forms.specs.declared.sampling.GlobalOrArgument.{GlobalOrArgument}
+use Rattle.analysis_forms.specs.Pairs.{SamplingPair, pair_eq}
+use Rattle.typing_infos.specs.Marks.{marks_of}
+use Rattle.spec_analysis.specs.Chains.{place, seen_through}
+use Rattle.spec_analysis.specs.Summaries.{Summary}
+use Rattle.typing_summaries.specs.Parts.{parts_of}
+use Rattle.typing_summaries.specs.Tallies.{Known, Paired}
+use Rattle.typing_summaries.specs.declared.passed.Passed.{Passed}
+
+-- a summary of the callee is kept, with these pairs
+pub record IsKept (k : Known) (callee : ℕ) (pairs : List SamplingPair) : Type 0 where
+  pub summary : Summary
+  pub found : slice_get k.summaries callee ≡ Some summary
+  pub same : summary.pairs ≡ pairs
+
+-- an expression is wrong
+abbrev pub IsWrong : Paired → Type 0
+IsWrong t = (e : ℕ) × (t.wrong ≡ Some e)
+
+-- each pair of a callee that is passed these arguments is held, as the caller sees it, where both parts stand for something there
+abbrev pub IsCovered : List PlainExpression → (arguments : List ℕ) → (pairs held : List SamplingPair) → Type 0
+IsCovered expressions arguments pairs held =
+    (q : SamplingPair) → IsAmong q pairs → (image sampler : GlobalOrArgument) → seen_through (place expressions) arguments (Some q.0) ≡ Some image
+    → seen_through (place expressions) arguments (Some q.1) ≡ Some sampler → list_any (pair_eq (image, sampler)) held ≡ true
+
+-- so for each callee with what it was joined for, whatever the arguments are for which that is passed
+abbrev pub AreJoined : Known → List Passed → List SamplingPair → Type 0
+AreJoined k joined held =
+    (p : Passed) → IsAmong p joined → (s : Summary) → slice_get k.summaries p.callee ≡ Some s → (arguments : List ℕ)
+    → parts_of (place k.expressions) (marks_of s.pairs) arguments ≡ p.parts.items → IsCovered k.expressions arguments s.pairs held

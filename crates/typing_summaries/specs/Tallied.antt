@@ -1,0 +1,20 @@
+-- What a tally of a function says.
+use Rattle.std.specs.Prelude.{◌≡◌, ◌↔◌, ℕ, ◌-◌, ◌^◌, ◌<◌, min, List, length, Option, Some, None, slice_index}
+use Rattle.ir_types.specs.ExpressionPlain.{PlainExpression}
+use Rattle.ir_items.specs.Plain.{PlainFunction}
+use Rattle.spec_analysis.specs.Effects.{effects_of, places_of}
+use Rattle.spec_analysis.specs.Summaries.{Summary, IsJoined, IsFormFault}
+use Rattle.typing_summaries.specs.Tallies.{Tallied}
+
+abbrev pub summary_in : Tallied → Summary
+summary_in t = record { uses = t.counted.uses; pairs = t.paired.pairs; may_kill = t.may_kill }
+
+-- The tally has what is joined of the function itself and of its callees, how often each expression is an operand, and an
+-- expression of a wrong form, if there is one.
+pub record IsTally (globals : ℕ) (f : PlainFunction) (summaries : List Summary) (t : Tallied) : Type 0 where
+  pub joined : IsJoined globals f summaries (summary_in t)
+  pub uses : length t.counted.uses ≡ globals
+  pub places : length t.counted.counts ≡ length f.expressions
+  pub counts : (e : ℕ) → e < length f.expressions → slice_index t.counted.counts e ≡ min (places_of e (effects_of f)) (2 ^ 64 - 1)
+  pub wrong : (e : ℕ) → t.paired.wrong ≡ Some e → IsFormFault f summaries e
+  pub clear : t.paired.wrong ≡ None → (e : ℕ) → IsFormFault f summaries e → ⊥

@@ -1,0 +1,157 @@
+//! How often expressions are operands, and how global variables are used.
+
+ghost use Rattle.std.specs.Prelude.{◌≡◌, Option, List, Some, map, IfOk, replicate, slice_index_or, ◌==◌};
+ghost use Rattle.spec_analysis.specs.Operands.{reads, reads_if};
+ghost use Rattle.spec_analysis.specs.Summaries.{no_use};
+ghost use Rattle.spec_analysis.specs.Values.{known_at};
+ghost use Rattle.typing_infos.specs.Infos.{marked, joined_use};
+ghost use Rattle.typing_summaries.specs.Tallies.{Counted, counted, bumped, take_one, take_all, merged, queried};
+
+use analysis_forms::GlobalUse;
+use bitflags::Flags;
+use ir_arena::handle::Handle;
+use ir_types::key;
+use typing_infos::mark_at;
+use std::alloc::{AllocError, Global};
+
+/// At how many places each expression is an operand, and the use of each global variable.
+#[derive(Drop)]
+pub struct Counts {
+    /// The number of places of each expression; at `usize::MAX` it stays.
+    pub counts: Vec<usize>,
+    /// The use of each global variable.
+    pub uses: Vec<GlobalUse>,
+}
+
+// The global variable that a chain of accesses starts at, if any.
+pub(crate) type Start = Option<Handle<key::GlobalVariable>>;
+
+// That of one expression.
+fn start_of(
+    globals: &[Start],
+    handle: Handle<key::Expression>,
+) -> Option<Handle<key::GlobalVariable>>
+    ensures { result ≡ known_at globals.now handle }
+{
+    match globals.get(handle.index()) {
+        Some(global) => *global,
+        None => None,
+    }
+}
+
+fn bump(counts: &mut Vec<usize>, handle: Handle<key::Expression>)
+    ensures { counts.new.items ≡ bumped counts.old.items handle }
+{
+    let index = handle.index();
+    if index < counts.len() {
+        counts[index] = counts[index].saturating_add(1);
+    }
+}
+
+fn mark(uses: &mut Vec<GlobalUse>, global: Option<Handle<key::GlobalVariable>>, kind: GlobalUse)
+    ensures { uses.new.items ≡ marked uses.old.items global kind.0 }
+{
+    if let Some(global) = global {
+        mark_at(uses, global.index(), kind);
+    }
+}
+
+impl Counts {
+    // Nothing counted.
+    pub(crate) fn new(
+        alloc: Global,
+        expressions: usize,
+        globals: usize,
+    ) -> Result<Counts, AllocError>
+        ensures counts { IfOk result (λ c. c.counts.items ≡ replicate expressions 0) }
+        ensures uses { IfOk result (λ c. c.uses.items ≡ replicate globals no_use) }
+    {
+        let counts = vec![in alloc; 0usize; expressions]?;
+        let uses = vec![in alloc; GlobalUse(0); globals]?;
+        Ok(Counts { counts, uses })
+    }
+
+    // What the lists take memory from.
+    pub(crate) fn allocator(&self) -> Global {
+        *self.counts.allocator()
+    }
+
+    // One operand, which makes this use of the global variable that it starts at.
+    pub(crate) fn take(
+        &mut self,
+        globals: &[Start],
+        handle: Handle<key::Expression>,
+        kind: GlobalUse,
+    )
+        ensures { counted self.new ≡ take_one globals.now (record { handle = handle; use_bits = kind.0 }) (counted self.old) }
+    {
+        bump(&mut self.counts, handle);
+        mark(&mut self.uses, start_of(globals, handle), kind);
+    }
+
+    pub(crate) fn read(&mut self, globals: &[Start], handle: Handle<key::Expression>)
+        ensures { counted self.new ≡ take_one globals.now (reads handle) (counted self.old) }
+    {
+        self.take(globals, handle, GlobalUse::READ);
+    }
+
+    pub(crate) fn read_if(&mut self, globals: &[Start], handle: Option<Handle<key::Expression>>)
+        ensures { counted self.new ≡ take_all globals.now (reads_if handle) (counted self.old) }
+    {
+        if let Some(handle) = handle {
+            self.read(globals, handle);
+        }
+    }
+
+    pub(crate) fn read_all(&mut self, globals: &[Start], handles: &[Handle<key::Expression>])
+        ensures { counted self.new ≡ take_all globals.now (map reads handles.now) (counted self.old) }
+    {
+        for handle in handles {
+            self.read(globals, *handle);
+        }
+    }
+
+    // The uses that a callee makes.
+    pub(crate) fn merge(&mut self, others: &[GlobalUse])
+        ensures { counted self.new ≡ record { counts = self.old.counts.items; uses = merged self.old.uses.items others.now } }
+    {
+        merge(self.uses.as_mut_slice(), others);
+    }
+}
+
+fn both(kind: GlobalUse, more: GlobalUse) -> GlobalUse
+    ensures { result ≡ joined_use kind more.0 }
+{
+    kind.union(more)
+}
+
+fn mark_in(uses: &mut [GlobalUse], index: usize, kind: GlobalUse)
+    ensures { uses.new ≡ marked uses.old (Some index) kind.0 }
+{
+    if index < uses.len() {
+        uses[index] = both(uses[index], kind);
+    }
+}
+
+// Each use with that of the same global variable among the others. The loop is so that many are joined at once.
+#[tactic(auto, using(crate::proofs::Merging::rest))]
+fn merge(uses: &mut [GlobalUse], others: &[GlobalUse])
+    ensures { uses.new ≡ merged uses.old others.now }
+{
+    let count = uses.len().min(others.len());
+    for index in 0..count {
+        mark_in(uses, index, others[index]);
+    }
+}
+
+// `QUERY` for a global variable that has no kind of use.
+pub(crate) fn name(uses: &mut Vec<GlobalUse>, global: Handle<key::GlobalVariable>)
+    ensures { uses.new.items ≡ queried ((slice_index_or uses.old.items global no_use).0 == 0) uses.old.items global }
+{
+    let index = global.index();
+    if index < uses.len() {
+        if uses[index].is_empty() {
+            mark_at(uses, index, GlobalUse::QUERY);
+        }
+    }
+}

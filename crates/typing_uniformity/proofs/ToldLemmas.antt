@@ -1,0 +1,54 @@
+-- What is put together of each expression is what the definitions say of it.
+use Rattle.std.proofs.Common.{◌≡◌, ℕ, zero, suc, ◌+◌, List, [], ◌∷◌, length, map, Option, Some, None, option_map, slice_get, refl, sym, ap, ◌∙◌, subst, arith}
+use Rattle.std.proofs.lemmas.Option.{slice_get-map, slice_get_within}
+use Rattle.ir_arena.specs.Handles.{handles_from}
+use Rattle.ir_arena.specs.declared.span.Span.{Span}
+use Rattle.ir_types.specs.ExpressionPlain.{PlainExpression, expression_view}
+use Rattle.ir_types.specs.declared.expressions.Expression.{Expression}
+use Rattle.ir_items.specs.GlobalView.{values_of}
+use Rattle.ir_items.specs.Plain.{PlainFunction, PlainModule}
+use Rattle.analysis_forms.specs.declared.uniformity.Uniformity.{Uniformity}
+use Rattle.spec_analysis.specs.Values.{ComesFrom, IsExact}
+use Rattle.typing_uniformity.specs.Facts.{AreSources, requirement_in, IsUniformity, AreUniformities}
+use Rattle.typing_uniformity.specs.Told.{Told, told, told_of, all_told}
+
+some_is : {X : Type 0} {a b : X} → Some a ≡ Some b → a ≡ b
+some_is e = cc (e)
+
+told_at : (sources : List (Option ℕ)) (n : ℕ) (entries : List (Expression × Span)) (i : ℕ)
+    → slice_get (all_told sources (handles_from n entries)) i ≡ option_map (told_of sources (n + i)) (slice_get (map expression_view (values_of entries)) i)
+told_at sources n [] i = refl
+told_at sources n (e ∷ es) zero = let same : n ≡ n + 0 = omega arith in ap (λ k. Some (told_of sources k (expression_view e.0))) same
+told_at sources n (e ∷ es) (suc i) =
+    let same : n + 1 + i ≡ n + suc i = omega arith in
+    told_at sources (n + 1) es i ∙ ap (λ k. option_map (told_of sources k) (slice_get (map expression_view (values_of es)) i)) same
+
+told_length : (sources : List (Option ℕ)) (n : ℕ) (entries : List (Expression × Span)) → length (all_told sources (handles_from n entries)) ≡ length (map expression_view (values_of entries))
+told_length sources n [] = refl
+told_length sources n (e ∷ es) = ap suc (told_length sources (n + 1) es)
+
+map_length : (us : List Uniformity) → length (map told us) ≡ length us
+map_length [] = refl
+map_length (u ∷ us) = ap suc (map_length us)
+
+module _ (m : PlainModule) (f : PlainFunction) (sources : List (Option ℕ)) (are : AreSources m f sources) where
+  told_is : (e : ℕ) (u : Uniformity) (o : Option PlainExpression) → slice_get f.expressions e ≡ o → Some (told u) ≡ option_map (told_of sources e) o → IsUniformity m f e u
+  told_is e u None there is = absurd (cc (is))
+  told_is e u (Some x) there is =
+      let same : told u ≡ told_of sources e x = some_is is in
+      record {
+        source = subst (λ s. IsExact s (ComesFrom m f e)) (sym (ap (λ (t : Told). t.source) same)) (are.each e (slice_get_within f.expressions e x there));
+        requirements = ap (λ (t : Told). t.requirement) same ∙ sym (ap requirement_in there);
+      }
+
+  pub are_uniformities : (entries : List (Expression × Span)) (all : List Uniformity) → f.expressions ≡ map expression_view (values_of entries) → map told all ≡ all_told sources (handles_from 0 entries) → AreUniformities m f all
+  are_uniformities entries all is tells =
+      let at : (e : ℕ) → option_map told (slice_get all e) ≡ option_map (told_of sources e) (slice_get f.expressions e) = λ e.
+      let zero_plus : 0 + e ≡ e = omega arith in
+      sym (slice_get-map told all e) ∙ ap (λ l. slice_get l e) tells ∙ told_at sources 0 entries e
+      ∙ ap (λ k. option_map (told_of sources k) (slice_get (map expression_view (values_of entries)) e)) zero_plus
+      ∙ ap (λ l. option_map (told_of sources e) (slice_get l e)) (sym is) in
+      record {
+        len = sym (map_length all) ∙ ap length tells ∙ told_length sources 0 entries ∙ ap length (sym is);
+        each = λ e u stands. told_is e u (slice_get f.expressions e) refl (sym (ap (option_map told) stands) ∙ at e);
+      }

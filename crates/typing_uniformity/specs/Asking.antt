@@ -1,0 +1,65 @@
+-- What is known of the uniformity of expressions, read from a list, and the expressions that ask for all invocations.
+use Rattle.std.specs.Prelude.{◌≡◌, ℕ, ◌<◌, ◌≤◌, Bool, true, false, IsTrue, ◌||◌, ◌&&◌, nat_lt, ◌==◌, List, length, Option, Some, None, is_some, option_and_then, slice_get, slice_index_or, if◌then◌else◌}
+use Rattle.ir_kinds.specs.declared.diagnostics.Severity.{Severity}
+use Rattle.ir_kinds.specs.declared.diagnostics.Severity.TheVariants.{Off, Info, Warning, Error}
+use Rattle.analysis_forms.specs.declared.uniformity.Uniformity.{Uniformity}
+use Rattle.analysis_forms.specs.declared.uniformity.TheConstants.UniformityRequirements.{DERIVATIVE, IMPLICIT_LEVEL, COOP_OPS}
+use Rattle.spec_bodies.specs.Uniformity.{Asked}
+use Rattle.typing_uniformity.specs.declared.fault.NonUniform.{NonUniform}
+
+abbrev pub source_in : Option Uniformity → Option ℕ
+source_in None = None
+source_in (Some u) = u.non_uniform_result
+
+-- the value of the expression may differ
+abbrev pub varies_of : List Uniformity → ℕ → Bool
+varies_of uniformities e = is_some (source_in (slice_get uniformities e))
+
+abbrev pub requirement_in : Option Uniformity → ℕ
+requirement_in None = 0
+requirement_in (Some u) = u.requirements.0
+
+-- what the expression asks for
+abbrev pub required_of : List Uniformity → ℕ → ℕ
+required_of uniformities e = requirement_in (slice_get uniformities e)
+
+abbrev pub is_error : Severity → Bool
+is_error Off = false
+is_error Info = false
+is_error Warning = false
+is_error Error = true
+
+-- what is asked for counts
+abbrev pub counts : Severity → ℕ → Bool
+counts severity bits = (bits == COOP_OPS.0) || (is_error severity && ((bits == DERIVATIVE.0) || (bits == IMPLICIT_LEVEL.0)))
+
+abbrev pub asks : Severity → List Uniformity → ℕ → Bool
+asks severity uniformities e = counts severity (required_of uniformities e)
+
+-- The place is that of the first expression from another one on that passes the test, or the end of all of them.
+pub record IsNext (test : ℕ → Bool) (count from place : ℕ) : Type 0 where
+  pub ahead : from ≤ place
+  pub within : place ≤ count
+  pub passes : place < count → test place ≡ true
+  pub between : (k : ℕ) → from ≤ k → k < place → test k ≡ false
+
+-- for each expression the first from it on
+pub record AreNext (test : ℕ → Bool) (count : ℕ) (next : List ℕ) : Type 0 where
+  pub len : length next ≡ count
+  pub each : (k : ℕ) → k < count → IsNext test count k (slice_index_or next k 0)
+
+-- a fault as what is asked
+abbrev pub asked_view : NonUniform → Asked
+asked_view f = record { requirement = f.requirements.0; expression = f.expression }
+
+abbrev pub asked_with : ℕ → ℕ → Option Uniformity → Option Asked
+asked_with end place None = None
+asked_with end place (Some u) = if nat_lt place end then Some (record { requirement = u.requirements.0; expression = place }) else None
+
+abbrev pub asked_from : List Uniformity → ℕ → Option ℕ → Option Asked
+asked_from uniformities end None = None
+asked_from uniformities end (Some place) = asked_with end place (slice_get uniformities place)
+
+-- what the first expression of a range that asks for something asks for
+abbrev pub look_of : List Uniformity → List ℕ → ℕ → ℕ → Option Asked
+look_of uniformities next first end = asked_from uniformities end (slice_get next first)

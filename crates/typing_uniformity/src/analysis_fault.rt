@@ -1,0 +1,51 @@
+//! The fault of uniformity of a function.
+
+ghost use Rattle.std.specs.Prelude.{◌≡◌, IfOk};
+ghost use Rattle.ir_items.specs.View.{function_view, module_view};
+ghost use Rattle.ir_proc.specs.Filters.{ParentsPrecede};
+ghost use Rattle.typing_uniformity.specs.Facts.{AreUniformities};
+ghost use Rattle.typing_uniformity.specs.Faults.{IsAnswer};
+ghost use Rattle.typing_uniformity.specs.Nearest.{AreNearest};
+
+use crate::{NonUniform, derivative_severity_by, find_fault};
+use analysis_forms::Uniformity;
+use ir_flags::ValidationFlags;
+use ir_items::{Function, Module};
+use ir_kinds::Severity;
+use std::alloc::{AllocError, Global};
+
+/// A fault of uniformity of a function of the module, or `None` where it has none (see [`find_fault`]). `uniformities` says of
+/// each of its expressions where its value comes from and what it asks for, and the parent of each diagnostic filter comes
+/// before it. The error is out of memory.
+pub fn uniformity_fault(
+    alloc: Global,
+    flags: ValidationFlags,
+    module: &Module,
+    function: &Function,
+    uniformities: &[Uniformity],
+) -> Result<Option<NonUniform>, AllocError>
+    requires uniformities { AreUniformities (module_view «module».now) (function_view function.now) uniformities.now }
+    requires parents { ParentsPrecede ((module_view «module».now).filters) }
+    ensures { IfOk result (IsAnswer flags (module_view «module».now) (function_view function.now)) }
+{
+    uniformity_fault_by(alloc, flags, &[], module, function, uniformities)
+}
+
+/// The same, where `known` is known of the module's diagnostic filters (see [`crate::severities_of`]), so that they are not gone
+/// through. The error is out of memory.
+pub fn uniformity_fault_by(
+    alloc: Global,
+    flags: ValidationFlags,
+    known: &[Option<Severity>],
+    module: &Module,
+    function: &Function,
+    uniformities: &[Uniformity],
+) -> Result<Option<NonUniform>, AllocError>
+    requires uniformities { AreUniformities (module_view «module».now) (function_view function.now) uniformities.now }
+    requires parents { ParentsPrecede ((module_view «module».now).filters) }
+    requires known { AreNearest (module_view «module».now).filters known.now }
+    ensures { IfOk result (IsAnswer flags (module_view «module».now) (function_view function.now)) }
+{
+    let severity = derivative_severity_by(known, function, module);
+    find_fault(alloc, flags, severity, uniformities, &function.body)
+}

@@ -1,0 +1,72 @@
+//! What is known of expressions.
+
+ghost use Rattle.std.specs.Prelude.{◌≡◌, is_some, option_map, slice_get};
+ghost use Rattle.spec_bodies.specs.Found.{where_disrupted};
+ghost use Rattle.typing_uniformity.specs.Asking.{varies_of, look_of, asked_with, asked_from, asked_view};
+
+use crate::fault::NonUniform;
+use analysis_forms::Uniformity;
+use typing_errors::UniformityDisruptor;
+use ir_arena::handle::Handle;
+use ir_items::key;
+
+// Whether the value of each expression differs and what it asks for, and for each the first from it on that asks for
+// something.
+#[derive(Drop)]
+pub(crate) struct Asking<'a> {
+    pub(crate) uniformities: &'a [Uniformity],
+    pub(crate) next: &'a [usize],
+}
+
+impl Asking<'_> {
+    // What makes invocations differ where a value chooses.
+    pub(crate) fn choice(&self, value: Handle<key::Expression>) -> Option<UniformityDisruptor>
+        ensures { is_some result ≡ varies_of self.now.uniformities.now value }
+    {
+        match self.uniformities.get(value.index()) {
+            Some(uniformity) => match uniformity.non_uniform_result {
+                Some(source) => Some(UniformityDisruptor::Expression(source)),
+                None => None,
+            },
+            None => None,
+        }
+    }
+
+    // The fault of an expression that asks for something, where it comes before the end.
+    fn asked_at(&self, place: usize, end: u32, disruptor: UniformityDisruptor) -> Option<NonUniform>
+        ensures { option_map asked_view result ≡ asked_with end place (slice_get self.now.uniformities.now place) }
+    {
+        match self.uniformities.get(place) {
+            Some(uniformity) => {
+                if place < end as usize {
+                    Some(NonUniform {
+                        requirements: uniformity.requirements,
+                        expression: Handle::at(place),
+                        disruptor,
+                    })
+                } else {
+                    None
+                }
+            }
+            None => None,
+        }
+    }
+
+    // The fault of the first expression of a range that asks for something, where invocations differ.
+    pub(crate) fn emitted(
+        &self,
+        first: u32,
+        end: u32,
+        disruptor: &Option<UniformityDisruptor>,
+    ) -> Option<NonUniform>
+        ensures { option_map asked_view result ≡ where_disrupted (is_some disruptor.now) (look_of self.now.uniformities.now self.now.next.now first end) }
+    {
+        match disruptor {
+            Some(disruptor) => match self.next.get(first as usize) {
+                Some(place) => self.asked_at(*place, end, *disruptor),
+                None => None,
+            },
+            None => None,
+        }
+    }
+}

@@ -1,0 +1,113 @@
+//! What is known of all expressions of a function.
+
+ghost use Rattle.std.specs.Prelude.{◌≡◌, ◌++◌, ◌∷◌, [], OnOk, IfOk};
+ghost use Rattle.ir_arena.specs.Handles.{handles_from};
+ghost use Rattle.ir_types.specs.ExpressionPlain.{expression_view};
+ghost use Rattle.ir_items.specs.View.{function_view, module_view};
+ghost use Rattle.spec_analysis.specs.Values.{AreStarts, OperandsPrecede, known_at};
+ghost use Rattle.typing_uniformity.specs.Facts.{source_if, source_of, start_of, sources_of, starts_of, AreUniformities};
+
+use crate::found::{known, source_below};
+use crate::sources::is_source;
+use crate::uniformities::uniformities_of;
+use analysis_forms::Uniformity;
+use ir_arena::handle::Handle;
+use ir_items::{Function, Module};
+use ir_types::{Expression, key};
+use std::alloc::{AllocError, Global};
+
+/// What is known of each expression of a function.
+#[derive(Drop)]
+pub struct Facts {
+    /// A source that its value comes from, if there is one, and what it asks for.
+    pub uniformities: Vec<Uniformity>,
+    /// The global variable that its chain of accesses starts at, if it starts at one.
+    pub globals: Vec<Option<Handle<key::GlobalVariable>>>,
+}
+
+fn source_of(
+    module: &Module,
+    function: &Function,
+    sources: &[Option<Handle<key::Expression>>],
+    handle: Handle<key::Expression>,
+    expression: &Expression,
+) -> Option<Handle<key::Expression>>
+    ensures { result ≡ source_of (module_view «module».now) (function_view function.now) sources.now handle (expression_view expression.now) }
+{
+    if is_source(module, function, expression) {
+        Some(handle)
+    } else {
+        source_below(sources, expression)
+    }
+}
+
+fn start_at(
+    globals: &[Option<Handle<key::GlobalVariable>>],
+    handle: Handle<key::Expression>,
+) -> Option<Handle<key::GlobalVariable>>
+    ensures { result ≡ known_at globals.now handle }
+{
+    match globals.get(handle.index()) {
+        Some(global) => *global,
+        None => None,
+    }
+}
+
+fn start_of(
+    globals: &[Option<Handle<key::GlobalVariable>>],
+    expression: &Expression,
+) -> Option<Handle<key::GlobalVariable>>
+    ensures { result ≡ start_of globals.now (expression_view expression.now) }
+{
+    match *expression {
+        Expression::GlobalVariable(global) => Some(global),
+        Expression::Access { base, .. } => start_at(globals, base),
+        Expression::AccessIndex { base, .. } => start_at(globals, base),
+        _ => None,
+    }
+}
+
+fn all_sources(
+    alloc: Global,
+    module: &Module,
+    function: &Function,
+) -> Result<Vec<Option<Handle<key::Expression>>>, AllocError>
+    ensures { IfOk result (λ v. v.items ≡ sources_of (module_view «module».now) (function_view function.now) [] (handles_from 0 function.now.expressions)) }
+{
+    let mut sources = Vec::with_capacity(alloc, function.expressions.len())?;
+    for (handle, expression) in function.expressions.iter() {
+        let source = source_of(module, function, &sources, handle, expression);
+        sources.push(source)?;
+    }
+    Ok(sources)
+}
+
+fn all_starts(
+    alloc: Global,
+    function: &Function,
+) -> Result<Vec<Option<Handle<key::GlobalVariable>>>, AllocError>
+    ensures { IfOk result (λ v. v.items ≡ starts_of [] (handles_from 0 function.now.expressions)) }
+{
+    let mut globals = Vec::with_capacity(alloc, function.expressions.len())?;
+    for (_, expression) in function.expressions.iter() {
+        let global = start_of(&globals, expression);
+        globals.push(global)?;
+    }
+    Ok(globals)
+}
+
+/// What is known of each expression of a function. Asks that each operand comes before what has it. The error is out of
+/// memory.
+pub fn facts_of(alloc: Global, module: &Module, function: &Function) -> Result<Facts, AllocError>
+    requires { OperandsPrecede (function_view function.now).expressions }
+    ensures uniformities { IfOk result (λ f. AreUniformities (module_view «module».now) (function_view function.now) f.uniformities.items) }
+    ensures starts { IfOk result (λ f. AreStarts (function_view function.now).expressions f.globals.items) }
+{
+    let sources = all_sources(alloc, module, function)?;
+    let uniformities = uniformities_of(alloc, function, &sources)?;
+    let globals = all_starts(alloc, function)?;
+    Ok(Facts {
+        uniformities,
+        globals,
+    })
+}

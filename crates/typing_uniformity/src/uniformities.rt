@@ -1,0 +1,46 @@
+//! The uniformity of each expression of a function.
+
+ghost use Rattle.std.specs.Prelude.{◌≡◌, map, IfOk};
+ghost use Rattle.ir_arena.specs.Handles.{handles_from};
+ghost use Rattle.spec_analysis.specs.Values.{known_at};
+ghost use Rattle.typing_uniformity.specs.Told.{told, all_told};
+
+use crate::requirements::requirements_of;
+use analysis_forms::Uniformity;
+use ir_arena::handle::Handle;
+use ir_items::Function;
+use ir_types::key;
+use std::alloc::{AllocError, Global};
+
+fn source_at(
+    sources: &[Option<Handle<key::Expression>>],
+    handle: Handle<key::Expression>,
+) -> Option<Handle<key::Expression>>
+    ensures { result ≡ known_at sources.now handle }
+{
+    match sources.get(handle.index()) {
+        Some(source) => *source,
+        None => None,
+    }
+}
+
+/// The uniformity of each expression of a function, in order: where its value comes from, as `sources` says, and what it asks
+/// for. The error is out of memory.
+pub(crate) fn uniformities_of(
+    alloc: Global,
+    function: &Function,
+    sources: &[Option<Handle<key::Expression>>],
+) -> Result<Vec<Uniformity>, AllocError>
+    ensures { IfOk result (λ all. map told all.items ≡ all_told sources.now (handles_from 0 function.now.expressions)) }
+{
+    let mut all = Vec::with_capacity(alloc, function.expressions.len())?;
+    for (handle, expression) in function.expressions.iter() {
+        let non_uniform_result = source_at(sources, handle);
+        let requirements = requirements_of(expression);
+        all.push(Uniformity {
+            non_uniform_result,
+            requirements,
+        })?;
+    }
+    Ok(all)
+}

@@ -1,5 +1,0 @@
-use Rattle.varying_checks.proofs.KnownLaws.{none_noted}
-use Rattle.varying_checks.proofs.known.KnownTypes.new.Goals as goal
-
-pub returns : goal.returns
-returns c = λ flags capabilities types. record { noted = none_noted flags capabilities types c.new.result c.new.ensures.empty; marked = c.new-2.ensures flags types }

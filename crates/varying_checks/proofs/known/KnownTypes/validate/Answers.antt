@@ -1,6 +1,0 @@
-use Rattle.std.proofs.Common.{refl}
-use Rattle.varying_checks.specs.View.{context_view}
-use Rattle.varying_checks.proofs.known.KnownTypes.validate.Goals as goal
-
-pub returns-in-Some-clause-fine : goal.returns-in-Some-clause-fine
-returns-in-Some-clause-fine c = c.requires.known.noted (context_view c.args.context.now) c.way_of.result c.args.ty c.in-Some.shown refl refl refl c.way_of.ensures c.in-Some.ensures

@@ -1,8 +1,0 @@
--- The marks of those before have numbers, which are found.
-use Rattle.std.proofs.Common.{ℕ, ◌<◌, Contains}
-use Rattle.varying_checks.specs.Marks.{IsNumber, KeepsNumbers, TakesAt}
-use Rattle.varying_checks.proofs.marks.numbers_of.Given as goal
-
-abbrev pub invariant-loop-place : goal.invariant-loop-place
-invariant-loop-place l = KeepsNumbers l.fn.numbers l.numbers
-    × ((place mark : ℕ) → place < l.place → TakesAt l.flags l.varyings place mark → (n : ℕ) × IsNumber l.numbers mark n × Contains l.found.items n)

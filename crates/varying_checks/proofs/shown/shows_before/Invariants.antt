@@ -1,7 +1,0 @@
--- None of those before shows it.
-use Rattle.std.proofs.Common.{ℕ, ◌<◌}
-use Rattle.spec_varyings.specs.Varyings.{ShowsAt, built_in_of, canonical}
-use Rattle.varying_checks.proofs.shown.shows_before.Given as goal
-
-abbrev pub invariant-loop-earlier : goal.invariant-loop-earlier
-invariant-loop-earlier l = (k : ℕ) → k < l.earlier → ¬ ShowsAt built_in_of l.varyings k (canonical l.built_in)

@@ -1,8 +1,0 @@
-//! What is known of the faults of varyings.
-
-ghost use Rattle.varying_checks.specs.Laws.{FaultRefutes};
-
-/// Varyings with a fault are not as they should be.
-pub fn fault_refutes()
-    ensures { FaultRefutes }
-{}
