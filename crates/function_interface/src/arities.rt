@@ -7,7 +7,7 @@ ghost use Rattle.spec_handles.specs.Conditions.{AritiesMatch, HandlesInRange};
 
 use typing_errors::{CallError, FunctionError};
 use ir_items::{Function, Module};
-use typing_conditions::arity_fault;
+use module_handles::arity_fault;
 
 /// Whether each call of a function passes as many arguments as the function called has. Asks that the functions called are
 /// there.

@@ -14,7 +14,7 @@ use Rattle.ir_flags.specs.declared.settings.ValidationFlags.{ValidationFlags}
 use Rattle.ir_flags.specs.declared.stages.ShaderStages.{ShaderStages}
 use Rattle.ir_items.specs.Plain.{PlainFunction, PlainModule}
 use Rattle.ir_types.specs.Plain.{plain, struct}
-use Rattle.module_conditions.proofs.Types.{order_gives_types}
+use Rattle.module_handles.proofs.OrderedTypes.{order_gives_types}
 use Rattle.function_real_lower.specs.Made.{types_of}
 use Rattle.function_real_lower.specs.Readings.{reading_of, faults_of}
 use Rattle.spec_analysis.specs.Summaries.{Summary}

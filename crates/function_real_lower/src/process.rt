@@ -85,8 +85,8 @@ fn check_uniformity(
 /// `ModuleInfo::process_function`). `infos` has what this call answered for the functions before it, in order; their stages and
 /// uses may have been noted since. Of these only those are read that a call statement of the function names.
 ///
-/// Asks what [`typing_conditions::handles_in_range`], [`typing_conditions::operands_precede`] and
-/// [`typing_conditions::filter_parents_precede`] test.
+/// Asks what [`module_handles::handles_in_range`], [`module_handles::operands_precede`] and
+/// [`module_handles::filter_parents_precede`] test.
 ///
 /// # Errors
 ///

@@ -4,3 +4,7 @@ pub mod InOrder
 pub mod Errors
 pub mod Conditions
 pub mod LookupFound
+pub mod Tests
+pub mod SameOperands
+pub mod Steps
+pub mod Types

@@ -23,7 +23,7 @@ pub use typing_infos::FunctionInfo;
 pub use typing_rules::{Arguments, Conclusion, ConstructorSize, Pattern, Rule, ValueType};
 pub use function_real_lower::process_function;
 pub use spec_expressions::{ConclusionExt, MissingSpecialType, TypingFault};
-pub use typing_conditions::{
+pub use module_handles::{
     arities_match, callees_precede, filter_parents_precede, handles_in_range, operands_precede,
 };
 pub use typing_expressions::{

@@ -15,7 +15,7 @@ use ir_items::{Function, Module};
 use shader_check::Validator;
 use std::alloc::{AllocError, Global};
 use function_tiny_lower::{TinyInfo, TinyLower};
-use typing_conditions::{filter_parents_precede, handles_in_range, operands_precede};
+use module_handles::{filter_parents_precede, handles_in_range, operands_precede};
 
 // Whether the handles of a function are in order.
 fn is_in_order(function: &Function, module: &Module) -> bool

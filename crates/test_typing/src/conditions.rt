@@ -1,7 +1,7 @@
 // Whether the handles of functions are in order.
 use ir_items::{Function, Module};
 use std::alloc::{AllocError, Global};
-use typing_conditions::{
+use module_handles::{
     arities_match, callees_precede, filter_parents_precede, handles_in_range, operands_precede,
 };
 

@@ -12,7 +12,7 @@ use ir_items::{Function, Module};
 use typing_infos::FunctionInfo;
 use function_real_lower::process_function;
 use std::alloc::{AllocError, Global};
-use typing_conditions::{
+use module_handles::{
     arities_match, callees_precede, filter_parents_precede, handles_in_range, operands_precede,
 };
 

@@ -2,7 +2,7 @@ use Rattle.std.proofs.Common.{map}
 use Rattle.ir_items.specs.View.{function_view, module_view}
 use Rattle.typing_infos.specs.Infos.{summary_of}
 use Rattle.spec_analysis.proofs.SummaryLaws.{summary_of_joined}
-use Rattle.typing_conditions.proofs.SameLemmas.{same_order}
+use Rattle.module_handles.proofs.SameLemmas.{same_order}
 use Rattle.function_real_lower.proofs.Joined.{is_analysed, analysed_agrees, refusal_agrees}
 use Rattle.function_real_lower.proofs.Named.{items_named}
 use Rattle.function_real_lower.proofs.process.process_by.Goals as goal

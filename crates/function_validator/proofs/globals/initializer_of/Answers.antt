@@ -4,7 +4,7 @@ use Rattle.module_globals.specs.Initializers.{IsInitializer, IsTypedBy}
 use Rattle.module_globals.specs.declared.context.Initializer.{Initializer}
 use Rattle.ir_items.specs.GlobalView.{global_view}
 use Rattle.ir_items.specs.View.{module_view}
-use Rattle.module_conditions.proofs.Origins.{order_gives_origins}
+use Rattle.module_handles.proofs.Origins.{order_gives_origins}
 use Rattle.typing_layout.specs.declared.constness.ExpressionKind.TheVariants.{Const}
 use Rattle.function_validator.proofs.GlobalLemmas.{value_there}
 use Rattle.function_validator.proofs.globals.initializer_of.Goals as goal

@@ -1,6 +1,6 @@
 use Rattle.ir_items.specs.View.{function_view}
 use Rattle.function_validator.proofs.Bases.{bases_precede}
-use Rattle.module_conditions.proofs.Origins.{origins}
+use Rattle.module_handles.proofs.Origins.{origins}
 use Rattle.function_validator.proofs.validate.judge.Goals as goal
 
 pub check_parts-requires-clause-precede : goal.check_parts-requires-clause-precede

@@ -1,6 +1,6 @@
 use Rattle.std.proofs.Common.{refl}
 use Rattle.ir_items.specs.View.{module_view}
-use Rattle.module_conditions.proofs.Expressions.{order_gives_expressions}
+use Rattle.module_handles.proofs.OrderedExpressions.{order_gives_expressions}
 use Rattle.module_validator.proofs.StepLemmas.{typed}
 use Rattle.spec_modules.proofs.Reached.{reach}
 use Rattle.spec_modules.specs.Steps as step
