@@ -15,7 +15,7 @@ ghost use Rattle.typing_forms.specs.Resolutions.{inner_at};
 use crate::atomics::is_extremum;
 use bitflags::Flags;
 use typing_errors::{ExpressionError, FunctionError};
-use expression_validator::is_texel;
+use module_expressions::is_texel;
 use ir_arena::handle::Handle;
 use ir_blocks::AtomicFunction;
 use ir_faults::refusal::Refusal;

@@ -1,8 +1,8 @@
 -- The laws of a lower layer, of the typing and the checks of this repository.
 use Rattle.std.proofs.Common.{◌≡◌, ◌<◌, ℕ, List, Some, length, slice_get, sym, ap, subst, ◌∙◌}
 use Rattle.typing_errors.specs.declared.expressions.ExpressionError.{ExpressionError}
-use Rattle.expression_validator.proofs.Refuted.{expression_refuted}
-use Rattle.expression_validator.specs.Faults.{IsExpressionFault}
+use Rattle.module_expressions.proofs.Refuted.{expression_refuted}
+use Rattle.module_expressions.specs.Faults.{IsExpressionFault}
 use Rattle.function_interface.specs.Question.{Question}
 use Rattle.ir_items.specs.GlobalPlain.{PlainGlobal}
 use Rattle.ir_items.specs.Plain.{PlainModule}

@@ -1,7 +1,7 @@
 -- What the analysis of functions and the checks of expressions say of a function.
 use Rattle.std.specs.Prelude.{ℕ}
 use Rattle.typing_errors.specs.declared.error.FunctionError.{FunctionError}
-use Rattle.expression_validator.specs.Faults.{IsExpressionFault}
+use Rattle.module_expressions.specs.Faults.{IsExpressionFault}
 use Rattle.function_interface.specs.Analysis.{Faults}
 use Rattle.function_interface.specs.Question.{Question}
 use Rattle.spec_statements.specs.Expressions.{ExpressionOK}

@@ -10,7 +10,7 @@ use crate::stages::stages_by;
 use typing_uniformity::severities_of;
 use analysis_forms::{GlobalUse, SamplingPair};
 use typing_errors::{ExpressionError, FunctionError};
-use expression_validator::validate_expression;
+use module_expressions::validate_expression;
 use function_interface::Lower;
 use ir_arena::handle::Handle;
 use ir_faults::refusal::Refusal;

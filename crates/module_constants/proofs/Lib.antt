@@ -3,3 +3,9 @@ pub mod FlagLemmas
 pub mod IdLemmas
 pub mod ScalarLemmas
 pub mod Told
+pub mod Forms
+pub mod Places
+pub mod Compositions
+pub mod GlobalExpressions
+pub mod Items
+pub mod Literals

@@ -1,12 +1,12 @@
 -- What is told of an item in a list is told of it at its handle.
 use Rattle.std.proofs.Common.{◌≡◌, ◌≢◌, inl, inr, ◌<◌, ◌+◌, ◌∙◌, ℕ, List, [], ◌∷◌, Some, Bool, Result, Ok, Err, MatchResult, length, map, slice_get, sym, subst, refl, arith}
-use Rattle.module_expressions.proofs.Expressions.{expression_refuted}
-use Rattle.module_expressions.proofs.Items.{constant_refuted, override_refuted}
-use Rattle.module_expressions.specs.Constants.{IsFaultOf, IsConstantFault}
-use Rattle.module_expressions.specs.Expressions.{IsConstExpressionFault}
-use Rattle.module_expressions.specs.Overrides.{IsFaultOf as IsOverrideFaultOf, IsOverrideFault}
-use Rattle.module_expressions.specs.declared.constants.ConstantError.{ConstantError}
-use Rattle.module_expressions.specs.declared.overrides.OverrideError.{OverrideError}
+use Rattle.module_constants.proofs.GlobalExpressions.{expression_refuted}
+use Rattle.module_constants.proofs.Items.{constant_refuted, override_refuted}
+use Rattle.module_constants.specs.Constants.{IsFaultOf, IsConstantFault}
+use Rattle.module_constants.specs.Expressions.{IsConstExpressionFault}
+use Rattle.module_constants.specs.Overrides.{IsFaultOf as IsOverrideFaultOf, IsOverrideFault}
+use Rattle.module_constants.specs.declared.constant_error.ConstantError.{ConstantError}
+use Rattle.module_constants.specs.declared.override_error.OverrideError.{OverrideError}
 use Rattle.typing_errors.specs.declared.const_expressions.ConstExpressionError.{ConstExpressionError}
 use Rattle.typing_errors.specs.declared.const_expressions.ConstExpressionError.TheVariants as error
 use Rattle.ir_arena.specs.declared.span.Span.{Span}

@@ -1,6 +1,6 @@
 -- What is asked of global expressions, where it is known when their values are known.
 use Rattle.std.specs.Prelude.{Bool}
-use Rattle.module_expressions.specs.Expressions.{IsComponentsFault}
+use Rattle.module_constants.specs.Expressions.{IsComponentsFault}
 use Rattle.typing_errors.specs.declared.const_expressions.ConstExpressionError.{ConstExpressionError}
 use Rattle.typing_errors.specs.declared.const_expressions.ConstExpressionError.TheVariants as error
 use Rattle.ir_flags.specs.declared.settings.Capabilities.{Capabilities}

@@ -4,3 +4,9 @@ pub mod Ids
 pub mod Kinds
 pub mod Known
 pub mod Refusals
+pub mod Composed
+pub mod Compositions
+pub mod Constants
+pub mod Expressions
+pub mod Laws
+pub mod Overrides

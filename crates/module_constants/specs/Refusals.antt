@@ -1,11 +1,11 @@
 -- Why constants, global expressions and overrides are refused.
 use Rattle.std.specs.Prelude.{◌≡◌, ◌≢◌, ◌⊎◌, ℕ, [], Option, Some, None, Bool, true, IsSome}
-use Rattle.module_expressions.specs.Constants.{IsConstantFault}
-use Rattle.module_expressions.specs.Expressions.{IsConstExpressionFault}
-use Rattle.module_expressions.specs.Overrides.{IsOverrideFault}
-use Rattle.module_expressions.specs.declared.constants.ConstantError.{ConstantError}
-use Rattle.module_expressions.specs.declared.overrides.OverrideError.{OverrideError}
-use Rattle.module_expressions.specs.declared.overrides.OverrideError.TheVariants as error
+use Rattle.module_constants.specs.Constants.{IsConstantFault}
+use Rattle.module_constants.specs.Expressions.{IsConstExpressionFault}
+use Rattle.module_constants.specs.Overrides.{IsOverrideFault}
+use Rattle.module_constants.specs.declared.constant_error.ConstantError.{ConstantError}
+use Rattle.module_constants.specs.declared.override_error.OverrideError.{OverrideError}
+use Rattle.module_constants.specs.declared.override_error.OverrideError.TheVariants as error
 use Rattle.typing_errors.specs.declared.const_expressions.ConstExpressionError.{ConstExpressionError}
 use Rattle.ir_faults.specs.Faults.{error_of, spans_of}
 use Rattle.ir_faults.specs.declared.refusal.Refusal.{Refusal}

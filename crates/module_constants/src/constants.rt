@@ -1,7 +1,7 @@
 //! Constants.
 
 ghost use Rattle.std.specs.Prelude.{◌<◌, length, MatchResult};
-ghost use Rattle.module_expressions.specs.Constants.{IsConstantFault, IsFaultOf};
+ghost use Rattle.module_constants.specs.Constants.{IsConstantFault, IsFaultOf};
 ghost use Rattle.ir_items.specs.GlobalView.{constant_view};
 ghost use Rattle.module_constants.specs.Firsts.{AreAccepted, IsFirstRefused};
 ghost use Rattle.module_constants.specs.Known.{IsKnown, module_in};
@@ -12,7 +12,7 @@ use crate::context::{GlobalContext, has_type, is_composed, known_kind};
 use ir_arena::handle::Handle;
 use ir_items::Constant;
 use ir_types::key;
-use module_expressions::ConstantError;
+use crate::ConstantError;
 use thiserror::Error;
 use typing_layout::ExpressionKind;
 

@@ -1,7 +1,7 @@
 //! Global expressions.
 
 ghost use Rattle.std.specs.Prelude.{◌≡◌, ◌<◌, Some, length, slice_get, MatchResult};
-ghost use Rattle.module_expressions.specs.Expressions.{IsComponentsFault, IsConstExpressionFault};
+ghost use Rattle.module_constants.specs.Expressions.{IsComponentsFault, IsConstExpressionFault};
 ghost use Rattle.ir_types.specs.ExpressionPlain.{compose, expression_view};
 ghost use Rattle.module_constants.specs.Asked.{IsLate, IsUnmet};
 ghost use Rattle.module_constants.specs.Firsts.{AreAccepted, IsFirstRefused};
@@ -17,7 +17,7 @@ use crate::context::{GlobalContext, known_kind};
 use typing_errors::{ComposeError, ConstExpressionError};
 use ir_arena::handle::Handle;
 use ir_types::{Expression, key};
-use module_expressions::{Components, check_composition};
+use crate::{Components, check_composition};
 use thiserror::Error;
 use module_type_checks::validate_literal;
 use typing_layout::ExpressionKind;

@@ -1,7 +1,7 @@
 //! Overrides, each alone.
 
 ghost use Rattle.std.specs.Prelude.{◌≡◌, ◌<◌, ◌+◌, ◌↔◌, ℕ, IsTrue, Contains, Some, length, IfOk, IfErr, OnOk, MatchResult};
-ghost use Rattle.module_expressions.specs.Overrides.{IsFaultOf};
+ghost use Rattle.module_constants.specs.Overrides.{IsFaultOf};
 ghost use Rattle.ir_items.specs.GlobalView.{override_view};
 ghost use Rattle.module_constants.specs.Ids.{AreIds, IsNotedIf};
 ghost use Rattle.module_constants.specs.Known.{IsKnown, module_in};
@@ -19,7 +19,7 @@ use ir_items::Override;
 use ir_kinds::Scalar;
 use ir_types::{IrType, TypeInner, key};
 use ir_sets::unique_arena::UniqueArena;
-use module_expressions::OverrideError;
+use crate::OverrideError;
 use std::alloc::{AllocError, Global};
 use typing_forms::inner_of;
 use typing_layout::ExpressionKind;

@@ -1,6 +1,6 @@
 -- How literals and compositions are refused.
 use Rattle.std.specs.Prelude.{ℕ, List}
-use Rattle.module_expressions.specs.Compositions.{IsComposeFault}
+use Rattle.module_constants.specs.Compositions.{IsComposeFault}
 use Rattle.typing_errors.specs.declared.expressions.ExpressionError.{ExpressionError}
 use Rattle.typing_errors.specs.declared.expressions.ExpressionError.TheVariants as error
 use Rattle.ir_flags.specs.declared.settings.Capabilities.{Capabilities}

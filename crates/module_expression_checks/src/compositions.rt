@@ -13,7 +13,7 @@ use typing_errors::ExpressionError;
 use ir_arena::handle::Handle;
 use ir_kinds::{SwizzleComponent, VectorSize};
 use ir_types::key;
-use module_expressions::{Components, check_composition};
+use module_constants::{Components, check_composition};
 use spec_statements::Shape;
 use function_statement_checks::{CheckContext, refused_unless, shaped_of};
 use typing_forms::Form;

@@ -1,7 +1,7 @@
 -- What is told of the first override that is refused.
 use Rattle.std.proofs.Common.{◌≡◌, ◌<◌, ℕ, Bool, length, sym, subst, arith}
-use Rattle.module_expressions.specs.Overrides.{IsOverrideFault}
-use Rattle.module_expressions.specs.declared.overrides.OverrideError.{OverrideError}
+use Rattle.module_constants.specs.Overrides.{IsOverrideFault}
+use Rattle.module_constants.specs.declared.override_error.OverrideError.{OverrideError}
 use Rattle.ir_faults.specs.Faults.{error_of}
 use Rattle.ir_faults.specs.declared.refusal.Refusal.{Refusal}
 use Rattle.ir_faults.specs.declared.refusal.Refusal.TheVariants as refusal

@@ -1,8 +1,8 @@
 -- Each refusal is of the step that is reached.
 use Rattle.std.proofs.Common.{◌≡◌, inl, inr, List, sym, subst}
-use Rattle.module_expressions.specs.Constants.{IsConstantFault}
-use Rattle.module_expressions.specs.Expressions.{IsConstExpressionFault, IsUntyped}
-use Rattle.module_expressions.specs.Overrides.{IsOverrideFault}
+use Rattle.module_constants.specs.Constants.{IsConstantFault}
+use Rattle.module_constants.specs.Expressions.{IsConstExpressionFault, IsUntyped}
+use Rattle.module_constants.specs.Overrides.{IsOverrideFault}
 use Rattle.typing_errors.specs.declared.const_expressions.ConstExpressionError.TheVariants as expression_error
 use Rattle.module_handles.specs.declared.error.InvalidHandleError.{InvalidHandleError}
 use Rattle.ir_faults.specs.Faults.{error_of}

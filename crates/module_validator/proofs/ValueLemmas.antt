@@ -1,8 +1,8 @@
 -- What the answers about values say of the steps.
 use Rattle.std.proofs.Common.{◌≡◌, ◌↔◌, ◌∙◌, ℕ, zero, suc, List, [], ◌∷◌, Some, Bool, false, IsTrue, length, map, slice_get, refl, sym, subst, true≢false, arith}
-use Rattle.module_expressions.specs.Constants.{IsConstantFault}
-use Rattle.module_expressions.specs.Expressions.{IsConstExpressionFault}
-use Rattle.module_expressions.specs.Overrides.{IsOverrideFault}
+use Rattle.module_constants.specs.Constants.{IsConstantFault}
+use Rattle.module_constants.specs.Expressions.{IsConstExpressionFault}
+use Rattle.module_constants.specs.Overrides.{IsOverrideFault}
 use Rattle.ir_flags.specs.Sets.{Has}
 use Rattle.ir_flags.specs.declared.settings.TheConstants.ValidationFlags.{CONSTANTS}
 use Rattle.ir_flags.specs.declared.settings.Capabilities.{Capabilities}

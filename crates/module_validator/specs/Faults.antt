@@ -1,8 +1,8 @@
 -- Why a module is refused.
 use Rattle.std.specs.Prelude.{◌≡◌, ◌⊎◌, ℕ, []}
-use Rattle.module_expressions.specs.Constants.{IsConstantFault}
-use Rattle.module_expressions.specs.Expressions.{IsUntyped, IsConstExpressionFault}
-use Rattle.module_expressions.specs.Overrides.{IsOverrideFault}
+use Rattle.module_constants.specs.Constants.{IsConstantFault}
+use Rattle.module_constants.specs.Expressions.{IsUntyped, IsConstExpressionFault}
+use Rattle.module_constants.specs.Overrides.{IsOverrideFault}
 use Rattle.typing_errors.specs.declared.const_expressions.ConstExpressionError.{ConstExpressionError}
 use Rattle.typing_errors.specs.declared.const_expressions.ConstExpressionError.TheVariants as constant
 use Rattle.ir_faults.specs.Faults.{error_of, spans_of}

@@ -1,7 +1,7 @@
 -- Why not all overrides of a module are accepted.
 use Rattle.std.specs.Prelude.{◌≡◌, ℕ, [], Bool, length}
-use Rattle.module_expressions.specs.Overrides.{IsOverrideFault}
-use Rattle.module_expressions.specs.declared.overrides.OverrideError.{OverrideError}
+use Rattle.module_constants.specs.Overrides.{IsOverrideFault}
+use Rattle.module_constants.specs.declared.override_error.OverrideError.{OverrideError}
 use Rattle.ir_faults.specs.Faults.{error_of, spans_of}
 use Rattle.ir_faults.specs.declared.refusal.Refusal.{Refusal}
 use Rattle.ir_faults.specs.declared.refusal.Refusal.TheVariants as refusal

@@ -18,7 +18,7 @@ use ir_flags::ValidationFlags;
 use ir_items::Module;
 use ir_types::key;
 use module_constants::GlobalContext;
-use module_expressions::forms_given;
+use module_constants::forms_given;
 use spec_modules::ModuleSettings;
 use std::alloc::Global;
 use thiserror::Error;

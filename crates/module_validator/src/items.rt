@@ -4,7 +4,7 @@
 
 ghost use Rattle.std.specs.Prelude.{◌<◌, ◌≤◌, length, MatchResult};
 ghost use Rattle.function_statement_checks.specs.OperandView.{IsKnown as IsKnownOfExpressions};
-ghost use Rattle.expression_validator.specs.Faults.{IsExpressionFault};
+ghost use Rattle.module_expressions.specs.Faults.{IsExpressionFault};
 ghost use Rattle.module_constants.specs.Known.{IsKnown as IsKnownOfValues, module_in};
 ghost use Rattle.module_constants.specs.Refusals.{IsExpressionRefused};
 ghost use Rattle.module_types.specs.Validated.{IsAccepted, IsRefusedFor};
@@ -16,7 +16,7 @@ ghost use Rattle.module_type_checks.specs.Known.{IsKnown as IsKnownOfTypes, type
 
 use crate::validator::ModuleValidator;
 use typing_errors::{ConstExpressionError, ExpressionError};
-use expression_validator::validate_expression;
+use module_expressions::validate_expression;
 use ir_arena::handle::Handle;
 use ir_flags::ShaderStages;
 use ir_types::key;

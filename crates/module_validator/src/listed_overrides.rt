@@ -11,7 +11,7 @@ use ir_faults::refusal::Refusal;
 use ir_faults::with_span::WithSpan;
 use ir_types::key;
 use module_constants::{GlobalContext, OverrideIds, validate_override};
-use module_expressions::OverrideError;
+use module_constants::OverrideError;
 use std::alloc::Global;
 use thiserror::Error;
 

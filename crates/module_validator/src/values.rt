@@ -20,7 +20,7 @@ use ir_faults::refusal::Refusal;
 use ir_flags::ValidationFlags;
 use ir_items::Module;
 use module_constants::{GlobalContext, validate_const_expressions, validate_constants};
-use module_expressions::forms_given;
+use module_constants::forms_given;
 use spec_modules::ModuleSettings;
 use std::alloc::Global;
 use module_type_infos::TypeInfo;

@@ -1,5 +1,5 @@
 use Rattle.std.proofs.Common.{refl, sym, subst, arith}
-use Rattle.module_expressions.specs.declared.overrides.OverrideError.TheVariants as error
+use Rattle.module_constants.specs.declared.override_error.OverrideError.TheVariants as error
 use Rattle.ir_items.specs.GlobalView.{override_view}
 use Rattle.module_constants.proofs.IdLemmas.{noted_ids, own_is, taken_is}
 use Rattle.module_constants.proofs.Told.{override_fine, override_wrong}

@@ -1,9 +1,0 @@
--- What has a fault is not accepted.
-use Rattle.std.specs.Prelude.{ℕ}
-use Rattle.typing_errors.specs.declared.expressions.ExpressionError.{ExpressionError}
-use Rattle.expression_validator.specs.Faults.{IsExpressionFault}
-use Rattle.spec_statements.specs.Expressions.{ExpressionOK}
-use Rattle.spec_statements.specs.Scene.{Scene}
-
-abbrev pub ExpressionRefuted : Type 0
-ExpressionRefuted = (s : Scene) (handle : ℕ) (e : ExpressionError) → IsExpressionFault s handle e → ¬ ExpressionOK s handle

@@ -1,8 +1,0 @@
--- A literal with a fault may not be used.
-use Rattle.module_expressions.specs.Laws.{LiteralRefuted}
-use Rattle.ir_kinds.specs.Values.{literal_scalar}
-use Rattle.module_type_checks.proofs.Scalars.{width_refuted}
-use Rattle.module_type_infos.specs.declared.error.LiteralError.TheVariants as literal_error
-
-pub literal_refuted : LiteralRefuted
-literal_refuted k value (literal_error.Width e) wrong ok = width_refuted k (literal_scalar value) e wrong ok

@@ -1,6 +1,0 @@
--- The components that were passed are of the form.
-use Rattle.module_expressions.specs.Composed.{FitBelow, IsForm, forms_of}
-use Rattle.module_expressions.proofs.compose.check_each.Given as goal
-
-abbrev pub invariant-loop-place : goal.invariant-loop-place
-invariant-loop-place l = FitBelow (IsForm l.wanted) (forms_of l.components) l.place

@@ -1,7 +1,0 @@
-use Rattle.std.proofs.Common.{arith}
-use Rattle.typing_forms.specs.Resolutions.{types_view}
-use Rattle.module_expressions.proofs.Places.{member_past}
-use Rattle.module_expressions.proofs.compose.fits_member.Goals as goal
-
-pub returns : goal.returns
-returns c = member_past (types_view c.args.types.now) c.args.members.now c.args.place c.args.form (omega arith)

@@ -1,5 +1,0 @@
-use Rattle.module_expressions.proofs.Compositions.{components_refuted as refuted}
-use Rattle.module_expressions.proofs.laws.components_refuted.Goals as goal
-
-pub returns : goal.returns
-returns c = refuted
