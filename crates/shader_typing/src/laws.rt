@@ -1,6 +1,6 @@
 //! What holds of types, forms, layouts, kinds of expressions and overload sets for all values.
 
-pub use constructor_sets::laws::{members_by_bits, named_sets, ones_of_a_number};
+pub use typing_rules::set_laws::{members_by_bits, named_sets, ones_of_a_number};
 pub use typing_rules::laws::{argument_counts, arguments_filter, preferred_is_best};
 pub use spec_analysis::laws::{by_calls, joined_by_callees, joined_is_summary};
 pub use spec_expressions::laws::{

@@ -14,7 +14,7 @@ pub use analysis_forms::{
     ExpressionInfo, GlobalOrArgument, GlobalUse, SamplingKey, SamplingPair, Uniformity,
     UniformityRequirements,
 };
-pub use constructor_sets::{ConstructorSet, Members, OneBitsIter, ScalarSet};
+pub use typing_rules::{ConstructorSet, Members, OneBitsIter, ScalarSet};
 pub use typing_errors::{
     AtomicError, CallError, ComposeError, ExpressionError, FunctionError, LocalVariableError,
     SubgroupError, UniformityDisruptor,

@@ -13,8 +13,8 @@ use Rattle.typing_rules.specs.declared.rules.ValueType.{ValueType}
 use Rattle.typing_rules.specs.Ranks.{rank_if, accepts, accepts_if, accepts_inner, is_abstract_kind, is_concrete}
 use Rattle.typing_rules.specs.Tables.{arguments_of, rule_of, row, rules_over}
 use Rattle.typing_rules.specs.Types.{constructor_place, listed, value_type_of}
-use Rattle.constructor_sets.specs.Bits.{marks}
-use Rattle.constructor_sets.specs.Members.{scalars, scalars_in, sizes, sizes_in}
+use Rattle.typing_rules.specs.Bits.{marks}
+use Rattle.typing_rules.specs.Members.{scalars, scalars_in, sizes, sizes_in}
 use Rattle.typing_overloads.specs.declared.asked.Asked.{Asked}
 use Rattle.typing_overloads.specs.Products.{asked_size, asked_scalar, asked_type, asked_by, all_concrete}
 use Rattle.typing_overloads.proofs.Masks.{chosen_by_both}

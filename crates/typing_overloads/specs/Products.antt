@@ -10,7 +10,7 @@ use Rattle.typing_rules.specs.declared.rules.ValueType.{ValueType}
 use Rattle.typing_rules.specs.Ranks.{is_abstract_kind}
 use Rattle.typing_rules.specs.Tables.{i32, u32, column_size, row_size, rules_over}
 use Rattle.typing_rules.specs.Types.{value_type}
-use Rattle.constructor_sets.specs.Members.{scalars_in, sizes_in}
+use Rattle.typing_rules.specs.Members.{scalars_in, sizes_in}
 use Rattle.typing_overloads.specs.declared.asked.Asked.{Asked}
 use Rattle.typing_overloads.specs.declared.asked.AskedScalar.{AskedScalar}
 use Rattle.typing_overloads.specs.declared.asked.AskedScalar.TheVariants as scalars

@@ -4,11 +4,11 @@ ghost use Rattle.std.specs.Prelude.{◌≡◌, ◌==◌, is_some, length, map, s
 ghost use Rattle.typing_rules.specs.Tables.{column_size, row_size};
 ghost use Rattle.typing_rules.specs.Types.{constructor_place};
 ghost use Rattle.typing_forms.specs.Ranks.{rank};
-ghost use Rattle.constructor_sets.specs.Bits.{marks};
-ghost use Rattle.constructor_sets.specs.Members.{scalars, sizes};
+ghost use Rattle.typing_rules.specs.Bits.{marks};
+ghost use Rattle.typing_rules.specs.Members.{scalars, sizes};
 ghost use Rattle.typing_overloads.specs.Products.{asked_size, asked_scalar, asked_by, all_concrete};
 
-use constructor_sets::{ConstructorSet, ScalarSet};
+use typing_rules::{ConstructorSet, ScalarSet};
 use ir_kinds::{Scalar, VectorSize};
 use typing_rules::{ConstructorSize, Pattern};
 use typing_forms::conversion_rank;

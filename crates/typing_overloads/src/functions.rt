@@ -10,7 +10,7 @@ use crate::list::List;
 use crate::product::Product;
 use crate::regular::Regular;
 use crate::rows::row_of;
-use constructor_sets::{ConstructorSet, ScalarSet};
+use typing_rules::{ConstructorSet, ScalarSet};
 use ir_kinds::MathFunction;
 use typing_rules::Pattern;
 use std::alloc::{AllocError, Global};

@@ -12,7 +12,7 @@ mod rows;
 mod rule_lists;
 
 pub use any::AnyOverloadSet;
-pub use constructor_sets::{ConstructorSet, Members, OneBitsIter, ScalarSet};
+pub use typing_rules::{ConstructorSet, Members, OneBitsIter, ScalarSet};
 pub use functions::MathFunctionExt;
 pub use list::List;
 pub use overload_set::OverloadSet;

@@ -6,12 +6,12 @@ ghost use Rattle.ir_types.specs.Plain.{inner_view};
 ghost use Rattle.typing_rules.specs.Laws.{arity};
 ghost use Rattle.typing_rules.specs.Ranks.{accepts_inner, is_concrete};
 ghost use Rattle.typing_rules.specs.Tables.{row};
-ghost use Rattle.constructor_sets.specs.Members.{scalars_in};
+ghost use Rattle.typing_rules.specs.Members.{scalars_in};
 ghost use Rattle.typing_overloads.specs.Products.{rules_of};
 ghost use Rattle.typing_overloads.specs.Sets.{one_or_none, arguments_at};
 
 use crate::asked::{asked_at, asked_by, concrete_scalars};
-use constructor_sets::{ConstructorSet, ScalarSet};
+use typing_rules::{ConstructorSet, ScalarSet};
 use ir_types::TypeInner;
 use typing_rules::{ConstructorSize, Pattern, Rule, ValueType};
 use std::alloc::AllocError;

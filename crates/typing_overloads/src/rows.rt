@@ -5,7 +5,7 @@ ghost use Rattle.typing_overloads.specs.Products.{rules_of};
 ghost use Rattle.typing_overloads.specs.Rows.{first_row};
 
 use crate::product::Product;
-use constructor_sets::{ConstructorSet as C, ScalarSet as S};
+use typing_rules::{ConstructorSet as C, ScalarSet as S};
 use ir_kinds::MathFunction as Mf;
 use typing_rules::Pattern;
 

@@ -1,6 +1,6 @@
 use Rattle.std.proofs.Common.{◌≡◌, length}
-use Rattle.constructor_sets.specs.Bits.{chosen}
-use Rattle.constructor_sets.proofs.one_bits.MembersIterator.next.Given as goal
+use Rattle.typing_rules.specs.Bits.{chosen}
+use Rattle.typing_rules.proofs.one_bits.MembersIterator.next.Given as goal
 
 abbrev pub invariant-loop-first : goal.invariant-loop-first
 invariant-loop-first g l = chosen l.self-inside.bits l.self-inside.items.now ≡ chosen l.initial.self-inside.bits l.initial.self-inside.items.now

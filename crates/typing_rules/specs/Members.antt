@@ -6,9 +6,9 @@ use Rattle.ir_kinds.specs.declared.scalars.VectorSize.TheVariants.{Bi, Tri, Quad
 use Rattle.typing_rules.specs.declared.rules.ConstructorSize.{ConstructorSize}
 use Rattle.typing_rules.specs.declared.rules.ConstructorSize.TheVariants as size
 use Rattle.typing_rules.specs.declared.rules.ValueType.{ValueType}
-use Rattle.constructor_sets.specs.Bits.{chosen, powers}
-use Rattle.constructor_sets.specs.declared.constructor_set.ConstructorSet.{ConstructorSet}
-use Rattle.constructor_sets.specs.declared.scalar_set.ScalarSet.{ScalarSet}
+use Rattle.typing_rules.specs.Bits.{chosen, powers}
+use Rattle.typing_rules.specs.declared.constructor_set.ConstructorSet.{ConstructorSet}
+use Rattle.typing_rules.specs.declared.scalar_set.ScalarSet.{ScalarSet}
 
 -- the twelve scalars, the lowest bit first
 abbrev pub scalars : List Scalar

@@ -1,5 +1,5 @@
-use Rattle.constructor_sets.proofs.Ones.{sum_of_ones, rising_ones, powers_of_ones}
-use Rattle.constructor_sets.proofs.laws.ones_of_a_number.Goals as goal
+use Rattle.typing_rules.proofs.Ones.{sum_of_ones, rising_ones, powers_of_ones}
+use Rattle.typing_rules.proofs.set_laws.ones_of_a_number.Goals as goal
 
 pub returns-clause-sum : goal.returns-clause-sum
 returns-clause-sum c = sum_of_ones c.args.bits c.ranges.bits.fits

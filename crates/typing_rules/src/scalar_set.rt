@@ -3,8 +3,8 @@
 ghost use Rattle.std.specs.Prelude.{◌≡◌, ◌<◌, Some, filter, is_some, length, map, slice_get};
 ghost use Rattle.ir_kinds.specs.Scalars.{is_scalar};
 ghost use Rattle.typing_forms.specs.Ranks.{rank};
-ghost use Rattle.constructor_sets.specs.Bits.{chosen, marks};
-ghost use Rattle.constructor_sets.specs.Members.{scalars, scalars_in, single_scalars};
+ghost use Rattle.typing_rules.specs.Bits.{chosen, marks};
+ghost use Rattle.typing_rules.specs.Members.{scalars, scalars_in, single_scalars};
 
 use crate::one_bits::Members;
 use bitflags::{Flag, Flags, bitflag_items};
@@ -49,7 +49,7 @@ bitflag_items! {
 
 impl Flags for ScalarSet {
     ghost use Rattle.std.specs.Prelude.{⊤};
-    ghost use Rattle.constructor_sets.specs.Words.{scalar_words};
+    ghost use Rattle.typing_rules.specs.Words.{scalar_words};
 
     type Bits = u16;
 

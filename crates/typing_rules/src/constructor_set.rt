@@ -3,14 +3,14 @@
 ghost use Rattle.std.specs.Prelude.{◌≡◌, ◌==◌, [], ◌∷◌, length};
 ghost use Rattle.ir_types.specs.Plain.{inner_view};
 ghost use Rattle.typing_rules.specs.Types.{value_type_of};
-ghost use Rattle.constructor_sets.specs.Bits.{chosen};
-ghost use Rattle.constructor_sets.specs.Members.{sizes_in, single_sizes, size_of};
+ghost use Rattle.typing_rules.specs.Bits.{chosen};
+ghost use Rattle.typing_rules.specs.Members.{sizes_in, single_sizes, size_of};
 
 use crate::one_bits::Members;
 use bitflags::{Flag, Flags, bitflag_items};
 use ir_kinds::VectorSize;
 use ir_types::TypeInner;
-use typing_rules::{ConstructorSize, ValueType};
+use crate::{ConstructorSize, ValueType};
 
 /// A set of shapes (naga's `ConstructorSet`). A contract sees the number of its bits, as `set.0`.
 #[derive(Clone, Copy, PartialEq, Eq, Debug)]
@@ -52,7 +52,7 @@ bitflag_items! {
 
 impl Flags for ConstructorSet {
     ghost use Rattle.std.specs.Prelude.{⊤};
-    ghost use Rattle.constructor_sets.specs.Words.{constructor_words};
+    ghost use Rattle.typing_rules.specs.Words.{constructor_words};
 
     type Bits = u16;
 

@@ -9,8 +9,8 @@ use Rattle.ir_flags.specs.Sets.{Has}
 use Rattle.ir_kinds.specs.Scalars.{is_scalar}
 use Rattle.ir_kinds.specs.declared.scalars.Scalar.{Scalar}
 use Rattle.typing_rules.specs.Types.{constructor_place}
-use Rattle.constructor_sets.specs.Bits.{put_if, chosen, MembersByBits}
-use Rattle.constructor_sets.specs.Members.{scalars, sizes}
+use Rattle.typing_rules.specs.Bits.{put_if, chosen, MembersByBits}
+use Rattle.typing_rules.specs.Members.{scalars, sizes}
 
 -- ---- one bit
 

@@ -1,2 +1,0 @@
-pub mod MemberBits
-pub mod Ones
