@@ -1,6 +1,6 @@
 -- When what is kept of an entry point is what the report reads.
 use Rattle.std.specs.Prelude.{◌≡◌, ◌<◌, ◌↔◌, ℕ, length}
-use Rattle.analysis_forms.specs.Pairs.{SamplingPair}
+use Rattle.spec_analysis.specs.Pairs.{SamplingPair}
 use Rattle.typing_infos.specs.declared.function_info.FunctionInfo.{FunctionInfo}
 use Rattle.ir_items.specs.Plain.{PlainEntry, PlainModule}
 use Rattle.check_report.specs.Told.{IsEntryInfo}

@@ -1,9 +1,9 @@
 -- What validation keeps of a module, so far as the report reads it.
 use Rattle.std.specs.Prelude.{◌≡◌, ◌<◌, ◌↔◌, ◌++◌, ℕ, List, None, Option, Some, length, slice_get, filter_map, flat_map}
 use Rattle.std.specs.List.Sorted.{IsStrictlySortedBy}
-use Rattle.analysis_forms.specs.Pairs.{SamplingPair}
-use Rattle.analysis_forms.specs.declared.sampling.GlobalOrArgument.{GlobalOrArgument}
-use Rattle.analysis_forms.specs.declared.sampling.GlobalOrArgument.TheVariants.{Argument, Global}
+use Rattle.spec_analysis.specs.Pairs.{SamplingPair}
+use Rattle.spec_analysis.specs.declared.sampling.GlobalOrArgument.{GlobalOrArgument}
+use Rattle.spec_analysis.specs.declared.sampling.GlobalOrArgument.TheVariants.{Argument, Global}
 use Rattle.typing_infos.specs.declared.function_info.FunctionInfo.{FunctionInfo}
 use Rattle.ir_items.specs.GlobalPlain.{PlainGlobal}
 use Rattle.ir_items.specs.Plain.{PlainEntry, PlainModule}

@@ -7,7 +7,7 @@ ghost use Rattle.spec_report.specs.Lines.{each_from, mesh_output, is_at, is_own,
 
 use crate::lines::{is_used, write_global, write_head, write_own};
 use crate::pairs::write_samples;
-use analysis_forms::GlobalUse;
+use spec_analysis::GlobalUse;
 use ir_arena::handle::Handle;
 use ir_items::{EntryPoint, Module};
 use ir_types::key;

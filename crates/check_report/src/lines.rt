@@ -3,7 +3,7 @@
 ghost use Rattle.std.specs.Prelude.{◌≡◌, ◌++◌, OnOk, string_bytes, codes, decimal};
 ghost use Rattle.spec_report.specs.Lines.{buffer_line, head_line, own_line, has, is_used, word_if, use_words, pair_line};
 
-use analysis_forms::GlobalUse;
+use spec_analysis::GlobalUse;
 use bitflags::Flags;
 use ir_arena::handle::Handle;
 use ir_types::key;

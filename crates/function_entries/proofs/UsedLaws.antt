@@ -4,7 +4,7 @@ use Rattle.std.specs.Prelude.{◌↔◌, IsTrue, MatchOption, option_and_then, s
 use Rattle.std.specs.Int.{bit_at}
 use Rattle.std.proofs.lemmas.Bool.{cases_eq}
 use Rattle.std.proofs.lemmas.Option.{slice_get_within, unwrap_or-slice_get}
-use Rattle.analysis_forms.specs.declared.global_use.GlobalUse.{GlobalUse}
+use Rattle.spec_analysis.specs.declared.global_use.GlobalUse.{GlobalUse}
 use Rattle.function_entries.proofs.Bits.{all_within, no_bit, some_bit, within_all}
 use Rattle.function_entries.specs.Faults.{IsVariableFault, of_uses, SharesBinding, UsesTwoImmediates}
 use Rattle.function_entries.specs.declared.error.EntryPointError.TheVariants as error

@@ -9,7 +9,7 @@ use Rattle.ir_flags.specs.declared.settings.ValidationFlags.{ValidationFlags}
 use Rattle.ir_items.specs.Plain.{PlainEntry, PlainModule}
 use Rattle.ir_items.specs.declared.entries.MeshStageInfo.{MeshStageInfo}
 use Rattle.spec_analysis.specs.Summaries.{HasUseBit}
-use Rattle.analysis_forms.specs.declared.global_use.GlobalUse.{GlobalUse}
+use Rattle.spec_analysis.specs.declared.global_use.GlobalUse.{GlobalUse}
 use Rattle.spec_entries.specs.Entries.{ConnectionsOK}
 use Rattle.spec_entries.specs.Meshes.{Implies}
 use Rattle.spec_entries.specs.Payloads.{PayloadOK}

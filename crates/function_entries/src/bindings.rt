@@ -10,7 +10,7 @@ ghost use Rattle.spec_entries.specs.Payloads.{binding_at};
 ghost use Rattle.spec_entries.specs.Variables.{BindingsApart, IsUsed};
 
 use crate::error::EntryPointError;
-use analysis_forms::GlobalUse;
+use spec_analysis::GlobalUse;
 use ir_arena::handle::Handle;
 use ir_faults::refusal::Refusal;
 use ir_faults::with_span::WithSpan;

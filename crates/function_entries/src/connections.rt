@@ -18,7 +18,7 @@ use crate::known::KnownInterfaces;
 use crate::outputs::check_mesh;
 use crate::variables::{check_each, check_immediates};
 use crate::varyings::{check_arguments, check_result};
-use analysis_forms::GlobalUse;
+use spec_analysis::GlobalUse;
 use bitflags::Flags;
 use ir_faults::refusal::Refusal;
 use ir_faults::with_span::WithSpan;

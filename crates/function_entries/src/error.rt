@@ -1,6 +1,6 @@
 //! Why an entry point is refused.
 
-use analysis_forms::GlobalUse;
+use spec_analysis::GlobalUse;
 use typing_errors::FunctionError;
 use ir_arena::handle::Handle;
 use ir_flags::Capabilities;

@@ -14,7 +14,7 @@ ghost use Rattle.typing_layout.specs.Layout.{size};
 ghost use Rattle.typing_layout.specs.View.{type_tree};
 
 use crate::error::EntryPointError;
-use analysis_forms::GlobalUse;
+use spec_analysis::GlobalUse;
 use bitflags::Flags;
 use ir_arena::handle::Handle;
 use ir_items::{EntryPoint, GlobalVariable, Module};

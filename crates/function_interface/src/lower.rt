@@ -23,7 +23,7 @@ ghost use Rattle.typing_forms.specs.declared.form.Form.{Form};
 ghost use Rattle.typing_forms.specs.declared.resolution.TypeResolution.{TypeResolution};
 ghost use Rattle.typing_operands.specs.Answers.{form_given};
 
-use analysis_forms::{GlobalUse, SamplingPair};
+use spec_analysis::{GlobalUse, SamplingPair};
 use typing_errors::{ExpressionError, FunctionError};
 use ir_arena::handle::Handle;
 use ir_faults::refusal::Refusal;

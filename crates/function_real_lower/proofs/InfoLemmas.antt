@@ -3,8 +3,8 @@ use Rattle.std.proofs.Common.{◌≡◌, ℕ, zero, suc, ◌+◌, ◌<◌, Optio
 use Rattle.std.specs.Prelude.{slice_index_or}
 use Rattle.std.proofs.lemmas.Option.{slice_get_within, slice_get-get_or}
 use Rattle.typing_uniformity.specs.Facts.{AreUniformities}
-use Rattle.analysis_forms.specs.declared.expression_info.ExpressionInfo.{ExpressionInfo}
-use Rattle.analysis_forms.specs.declared.uniformity.Uniformity.{Uniformity}
+use Rattle.spec_analysis.specs.declared.expression_info.ExpressionInfo.{ExpressionInfo}
+use Rattle.spec_analysis.specs.declared.uniformity.Uniformity.{Uniformity}
 use Rattle.typing_summaries.specs.Tallied.{IsTally}
 use Rattle.typing_summaries.specs.Tallies.{Tallied}
 use Rattle.ir_items.specs.Plain.{PlainFunction, PlainModule}

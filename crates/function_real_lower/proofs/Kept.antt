@@ -2,7 +2,7 @@
 use Rattle.std.proofs.Common.{◌≡◌, ℕ, List, Option, Some, None, Result, Ok, Err, IfOk, IfErr, map, option_map, length, slice_get, refl, sym, ap, subst, ◌∙◌}
 use Rattle.std.proofs.lemmas.List.{length-map}
 use Rattle.std.proofs.lemmas.Option.{slice_get-map}
-use Rattle.analysis_forms.specs.declared.expression_info.ExpressionInfo.{ExpressionInfo}
+use Rattle.spec_analysis.specs.declared.expression_info.ExpressionInfo.{ExpressionInfo}
 use Rattle.typing_infos.specs.Infos.{summary_of}
 use Rattle.typing_infos.specs.declared.function_info.FunctionInfo.{FunctionInfo}
 use Rattle.typing_errors.specs.declared.error.FunctionError.{FunctionError}

@@ -5,7 +5,7 @@ use Rattle.bitflags.specs.Sets.{known_bits}
 use Rattle.ir_flags.specs.Words.{shader_stages}
 use Rattle.ir_items.specs.Plain.{PlainFunction, PlainModule}
 use Rattle.typing_uniformity.specs.Facts.{IsUniformity}
-use Rattle.analysis_forms.specs.declared.expression_info.ExpressionInfo.{ExpressionInfo}
+use Rattle.spec_analysis.specs.declared.expression_info.ExpressionInfo.{ExpressionInfo}
 use Rattle.typing_infos.specs.Infos.{summary_of, key_of}
 use Rattle.typing_infos.specs.declared.function_info.FunctionInfo.{FunctionInfo}
 use Rattle.spec_analysis.specs.Effects.{effects_of, places_of}

@@ -1,7 +1,7 @@
 -- What is put together of each expression.
 use Rattle.std.specs.Prelude.{ℕ, ◌+◌, List, [], ◌∷◌, Option, None, slice_index_or}
-use Rattle.analysis_forms.specs.declared.expression_info.ExpressionInfo.{ExpressionInfo}
-use Rattle.analysis_forms.specs.declared.uniformity.Uniformity.{Uniformity}
+use Rattle.spec_analysis.specs.declared.expression_info.ExpressionInfo.{ExpressionInfo}
+use Rattle.spec_analysis.specs.declared.uniformity.Uniformity.{Uniformity}
 use Rattle.spec_analysis.specs.Values.{known_at}
 use Rattle.typing_forms.specs.declared.resolution.TypeResolution.{TypeResolution}
 

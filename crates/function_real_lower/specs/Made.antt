@@ -1,6 +1,6 @@
 -- What is kept of a module is that of this one, whose handles are in order.
 use Rattle.std.specs.Prelude.{List, map}
-use Rattle.analysis_forms.specs.declared.expression_info.ExpressionInfo.{ExpressionInfo}
+use Rattle.spec_analysis.specs.declared.expression_info.ExpressionInfo.{ExpressionInfo}
 use Rattle.typing_infos.specs.declared.function_info.FunctionInfo.{FunctionInfo}
 use Rattle.function_interface.specs.Told.{AreTold}
 use Rattle.ir_items.specs.Plain.{PlainModule}

@@ -1,8 +1,8 @@
 -- What is answered of a function: what is kept of it, or a fault.
 use Rattle.std.specs.Prelude.{◌≡◌, ℕ, List, [], Result, Ok, Err}
-use Rattle.analysis_forms.specs.declared.uniformity.UniformityRequirements.{UniformityRequirements}
+use Rattle.spec_analysis.specs.declared.uniformity.UniformityRequirements.{UniformityRequirements}
 use Rattle.typing_infos.specs.declared.function_info.FunctionInfo.{FunctionInfo}
-use Rattle.typing_uniformity.specs.Faults.{FunctionFault}
+use Rattle.spec_analysis.specs.Faults.{FunctionFault}
 use Rattle.typing_errors.specs.declared.expressions.ExpressionError.TheVariants.{Typing, ExpectedGlobalOrArgument}
 use Rattle.typing_errors.specs.declared.error.FunctionError.{FunctionError}
 use Rattle.typing_errors.specs.declared.error.FunctionError.TheVariants.{Expression, NonUniformControlFlow}

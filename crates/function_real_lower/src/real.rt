@@ -8,7 +8,7 @@ ghost use Rattle.function_real_lower.specs.Severities.{AreKnown, severities_in};
 use crate::process::process_by;
 use crate::stages::stages_by;
 use typing_uniformity::severities_of;
-use analysis_forms::{GlobalUse, SamplingPair};
+use spec_analysis::{GlobalUse, SamplingPair};
 use typing_errors::{ExpressionError, FunctionError};
 use module_expressions::validate_expression;
 use function_interface::Lower;

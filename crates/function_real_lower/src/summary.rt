@@ -16,7 +16,7 @@ ghost use Rattle.typing_expressions.specs.Types.{ItemsNamed, AreTypes, IsFirstUn
 
 use crate::infos::expression_infos;
 use typing_uniformity::facts_of;
-use analysis_forms::Uniformity;
+use spec_analysis::Uniformity;
 use typing_summaries::{Context, Counts, Sampled, Tally};
 use ir_arena::handle::Handle;
 use ir_items::{Function, Module};

@@ -1,7 +1,7 @@
 -- What is kept of a function is what is asked of a layer.
 use Rattle.std.proofs.Common.{◌≡◌, ℕ, zero, suc, Bool, List, [], ◌∷◌, Some, false, map, length, slice_get, refl, sym, ap, subst, ◌∙◌}
 use Rattle.std.specs.Option.{is_some}
-use Rattle.analysis_forms.specs.declared.global_use.GlobalUse.{GlobalUse}
+use Rattle.spec_analysis.specs.declared.global_use.GlobalUse.{GlobalUse}
 use Rattle.function_interface.specs.Analysis.{IsKept}
 use Rattle.function_interface.specs.Question.{question}
 use Rattle.ir_flags.specs.declared.settings.ValidationFlags.{ValidationFlags}

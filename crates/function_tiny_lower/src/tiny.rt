@@ -7,7 +7,7 @@ use crate::operations::fits;
 use crate::stages::stages_by;
 use crate::types::{resolutions_of, types_of};
 use crate::uses::mark_all;
-use analysis_forms::{GlobalUse, SamplingPair};
+use spec_analysis::{GlobalUse, SamplingPair};
 use bitflags::Flags;
 use typing_errors::{ExpressionError, FunctionError};
 use function_interface::Lower;

@@ -3,7 +3,7 @@
 ghost use Rattle.std.specs.Prelude.{◌≡◌};
 ghost use Rattle.typing_infos.specs.Infos.{with_uses};
 
-use analysis_forms::GlobalUse;
+use spec_analysis::GlobalUse;
 use ir_arena::handle::Handle;
 use ir_types::key;
 use typing_infos::mark_at;

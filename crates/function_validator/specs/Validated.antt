@@ -1,6 +1,6 @@
 -- What is kept of an entry point that is accepted, over what a lower layer says.
 use Rattle.std.specs.Prelude.{◌≡◌, ◌<◌, ◌↔◌, ℕ, Bool, IsTrue, List, Option, length}
-use Rattle.analysis_forms.specs.Pairs.{SamplingPair}
+use Rattle.spec_analysis.specs.Pairs.{SamplingPair}
 use Rattle.function_validator.specs.Settings.{settings_view}
 use Rattle.function_validator.specs.declared.settings.FunctionSettings.{FunctionSettings as OwnSettings}
 use Rattle.ir_flags.specs.Sets.{Has}

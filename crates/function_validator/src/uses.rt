@@ -6,7 +6,7 @@ ghost use Rattle.ir_items.specs.View.{entry_view};
 ghost use Rattle.spec_analysis.specs.Summaries.{HasUseBit};
 ghost use Rattle.spec_entries.specs.Uses.{OwnUse, mesh_output, own_payload_use};
 
-use analysis_forms::GlobalUse;
+use spec_analysis::GlobalUse;
 use function_interface::Lower;
 use ir_arena::handle::Handle;
 use ir_items::EntryPoint;

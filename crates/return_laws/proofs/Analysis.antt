@@ -9,9 +9,9 @@ use Rattle.spec_analysis.specs.Chains.{place}
 use Rattle.spec_analysis.specs.Effects.{samples}
 use Rattle.spec_analysis.specs.Summaries.{IsWrongArgument}
 use Rattle.spec_analysis.specs.Values.{is_source, ComesFrom, itself, through, NonUniform}
-use Rattle.spec_bodies.specs.Uniformity.{Asked}
-use Rattle.typing_uniformity.specs.Facts.{requirement_at}
-use Rattle.typing_uniformity.specs.Faults.{FunctionFault}
+use Rattle.spec_analysis.specs.Uniformity.{Asked}
+use Rattle.spec_analysis.specs.Faults.{requirement_at}
+use Rattle.spec_analysis.specs.Faults.{FunctionFault}
 use Rattle.spec_functions.specs.Analysis.{HasWrongForm, IsAnalysed}
 use Rattle.return_laws.specs.Alike.{Alike}
 use Rattle.return_laws.specs.Like.{LikeFunction, LikeModule}

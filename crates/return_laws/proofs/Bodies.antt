@@ -11,8 +11,8 @@ use Rattle.ir_blocks.specs.View.{HoldsNoBlock}
 use Rattle.ir_flags.specs.declared.settings.ValidationFlags.{ValidationFlags}
 use Rattle.ir_items.specs.Plain.{PlainFunction, PlainModule}
 use Rattle.ir_kinds.specs.declared.diagnostics.Severity.{Severity}
-use Rattle.spec_bodies.specs.Disruption.{chosen_by, is_end, Disrupted, already, chosen, after}
-use Rattle.spec_bodies.specs.Uniformity.{Asked, Asks, DisruptedAsk}
+use Rattle.spec_analysis.specs.Disruption.{chosen_by, is_end, Disrupted, already, chosen, after}
+use Rattle.spec_analysis.specs.Uniformity.{Asked, Asks, DisruptedAsk}
 use Rattle.spec_statements.specs.Payloads.{HasPayload}
 use Rattle.spec_statements.specs.Results.{answer_of, AnswersBy, AnsweredOnce}
 use Rattle.spec_statements.specs.Scope.{Introduces, Checks, InScope, ScopeOK}

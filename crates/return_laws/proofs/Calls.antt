@@ -4,8 +4,8 @@ use Rattle.ir_items.specs.Plain.{PlainFunction, PlainModule}
 use Rattle.ir_types.specs.ExpressionPlain.{plain}
 use Rattle.ir_types.specs.declared.expressions.Expression.TheVariants.{GlobalVariable}
 use Rattle.typing_rules.specs.Laws.{IsAmong}
-use Rattle.analysis_forms.specs.Pairs.{SamplingPair}
-use Rattle.analysis_forms.specs.declared.sampling.GlobalOrArgument.{GlobalOrArgument}
+use Rattle.spec_analysis.specs.Pairs.{SamplingPair}
+use Rattle.spec_analysis.specs.declared.sampling.GlobalOrArgument.{GlobalOrArgument}
 use Rattle.spec_analysis.specs.Effects.{takes, samples, runs, expressions_effects, effects_of}
 use Rattle.spec_analysis.specs.Chains.{place, Step, Calls, end_of, IsChain, seen_through, bound, Reaches, UsesDirectly, Names, IsUnusedFrom, HasUse, HasPair}
 use Rattle.spec_analysis.specs.Values.{StartsAt}

@@ -7,7 +7,7 @@ use Rattle.ir_blocks.specs.Control.{returns_in, parts_around}
 use Rattle.ir_blocks.specs.Tails.{Ends, IsTailPart, goes_on, IsOpenEnd, empty, behind_last, further, in_tail, head_of, ending, completed, finished, finished_cases}
 use Rattle.ir_blocks.proofs.TailLaws as tail
 use Rattle.spec_analysis.specs.Effects.{statement_effects, effects_in, effects_inside, effects_in_cases}
-use Rattle.spec_bodies.specs.Positions.{Holds, holds_later, holds_inside}
+use Rattle.spec_analysis.specs.Positions.{Holds, holds_later, holds_inside}
 use Rattle.return_laws.specs.Alike.{Carried, kept, extra, Alike}
 
 -- ---- parts of a finished statement (as in TailLaws, where these are not public)

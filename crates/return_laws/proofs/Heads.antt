@@ -9,8 +9,8 @@ use Rattle.ir_blocks.specs.Plain.{PlainStatement, block, if_, switch, loop, Plai
 use Rattle.ir_blocks.specs.Shapes.{exit_of, shape_of}
 use Rattle.ir_blocks.specs.Tails.{case_heads, head_of}
 use Rattle.ir_blocks.specs.View.{HoldsNoBlock}
-use Rattle.spec_bodies.specs.Disruption.{chosen_by, is_end}
-use Rattle.spec_bodies.specs.Uniformity.{Asked, Asks}
+use Rattle.spec_analysis.specs.Disruption.{chosen_by, is_end}
+use Rattle.spec_analysis.specs.Uniformity.{Asked, Asks}
 use Rattle.ir_kinds.specs.declared.diagnostics.Severity.{Severity}
 use Rattle.spec_handles.specs.Statements.{statement_operands, statement_result, statement_range, statement_callee}
 use Rattle.spec_statements.specs.BlockContext.{BlockContext, form_at}

@@ -5,7 +5,7 @@ use Rattle.ir_blocks.specs.Places.{Place, Before, nothing, loop_condition, spot_
 use Rattle.ir_blocks.specs.Control.{returns_in, parts_around}
 use Rattle.ir_blocks.specs.Tails.{head_of, completed}
 use Rattle.spec_analysis.specs.Effects.{effects_in}
-use Rattle.spec_bodies.specs.Positions.{Holds}
+use Rattle.spec_analysis.specs.Positions.{Holds}
 
 -- The statement of the body b at a place is in c at that place too, the blocks inside it aside; or it is a return without a value
 -- that c lacks, in no continuing part, and in b nothing comes after it or after a statement that it is inside.

@@ -2,8 +2,8 @@
 use Rattle.std.proofs.Common.{◌≡◌, ◌∙◌, ℕ, zero, suc, ℤ, ◌+◌, ◌<◌, length, List, [], ◌∷◌, ◌++◌, inl, map, Option, Some, None, slice_get, option_map, refl, sym, ap, subst, arith}
 use Rattle.std.specs.List.{AllByRecursion}
 use Rattle.std.proofs.lemmas.Option.{slice_get-map}
-use Rattle.analysis_forms.specs.declared.sampling.GlobalOrArgument.{GlobalOrArgument}
-use Rattle.analysis_forms.specs.declared.sampling.GlobalOrArgument.TheVariants.{Global, Argument}
+use Rattle.spec_analysis.specs.declared.sampling.GlobalOrArgument.{GlobalOrArgument}
+use Rattle.spec_analysis.specs.declared.sampling.GlobalOrArgument.TheVariants.{Global, Argument}
 use Rattle.ir_blocks.specs.Places.{Place, here, later, inside, condition, StandsAt}
 use Rattle.ir_blocks.specs.Plain.{PlainStatement, block, if_, switch, loop, call, PlainBlock, stop, next, PlainCases, no_case, case}
 use Rattle.ir_blocks.specs.Shapes.{Part, inner, accepting, rejecting, case_at, loop_body, loop_continuing, shape_of, part_of, case_body}

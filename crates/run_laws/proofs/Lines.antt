@@ -3,7 +3,7 @@ use Rattle.std.proofs.Common.{◌≡◌, ◌<◌, ◌⊎◌, inl, inr, ℕ, zero
 use Rattle.std.specs.Prelude.{codes, decimal, flat_map, slice_index_or}
 use Rattle.std.proofs.lemmas.Bool.{eqb-true}
 use Rattle.std.proofs.lemmas.Option.{slice_get_within}
-use Rattle.analysis_forms.specs.declared.global_use.GlobalUse.{GlobalUse}
+use Rattle.spec_analysis.specs.declared.global_use.GlobalUse.{GlobalUse}
 use Rattle.ir_items.specs.GlobalPlain.{PlainGlobal}
 use Rattle.ir_items.specs.Plain.{PlainEntry, PlainModule}
 use Rattle.ir_types.specs.Plain.{PlainType}

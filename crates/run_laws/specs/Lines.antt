@@ -1,6 +1,6 @@
 -- When the lines of a report tell of a global variable, and of a pair.
 use Rattle.std.specs.Prelude.{◌≡◌, ◌⊎◌, ◌<◌, ◌++◌, ℕ, List, [], length, IsTrue, Some, codes, decimal, slice_index_or, slice_get}
-use Rattle.analysis_forms.specs.declared.global_use.GlobalUse.{GlobalUse}
+use Rattle.spec_analysis.specs.declared.global_use.GlobalUse.{GlobalUse}
 use Rattle.ir_items.specs.GlobalPlain.{PlainGlobal}
 use Rattle.ir_items.specs.Plain.{PlainEntry, PlainModule}
 use Rattle.typing_rules.specs.Laws.{IsAmong}

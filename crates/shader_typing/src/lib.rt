@@ -10,7 +10,7 @@
 
 pub mod laws;
 
-pub use analysis_forms::{
+pub use spec_analysis::{
     ExpressionInfo, GlobalOrArgument, GlobalUse, SamplingKey, SamplingPair, Uniformity,
     UniformityRequirements,
 };

@@ -2,10 +2,10 @@
 use Rattle.std.proofs.Common.{◌≡◌, ◌⊎◌, ℕ, Option, Some, None, List, [], ◌∷◌, ◌++◌, refl, ap, sym, subst, ◌∙◌, inl, inr, ⊎_elim, slice_get}
 use Rattle.std.specs.Int.{bit_at}
 use Rattle.ir_items.specs.Plain.{PlainFunction, PlainModule}
-use Rattle.analysis_forms.specs.declared.global_use.TheConstants.GlobalUse.{QUERY}
-use Rattle.analysis_forms.specs.declared.sampling.GlobalOrArgument.{GlobalOrArgument}
-use Rattle.analysis_forms.specs.declared.sampling.GlobalOrArgument.TheVariants.{Global, Argument}
-use Rattle.analysis_forms.specs.Pairs.{SamplingPair}
+use Rattle.spec_analysis.specs.declared.global_use.TheConstants.GlobalUse.{QUERY}
+use Rattle.spec_analysis.specs.declared.sampling.GlobalOrArgument.{GlobalOrArgument}
+use Rattle.spec_analysis.specs.declared.sampling.GlobalOrArgument.TheVariants.{Global, Argument}
+use Rattle.spec_analysis.specs.Pairs.{SamplingPair}
 use Rattle.spec_analysis.specs.Chains.{place, Step, Calls, IsChain, end_of, bound, argument_means, seen_through, Reaches, UsesDirectly, Names, IsUnusedFrom, HasUse, Samples, HasPair}
 use Rattle.spec_analysis.specs.Summaries.{ComesUp}
 

@@ -6,8 +6,8 @@ use Rattle.std.proofs.lemmas.Bool.{cases_eq}
 use Rattle.std.proofs.lemmas.Nat.Bits.{bit_at-pow_other, bit_at-lt}
 use Rattle.ir_items.specs.Plain.{PlainFunction, PlainModule}
 use Rattle.typing_rules.specs.Laws.{IsAmong}
-use Rattle.analysis_forms.specs.declared.global_use.TheConstants.GlobalUse.{QUERY}
-use Rattle.analysis_forms.specs.Pairs.{SamplingPair}
+use Rattle.spec_analysis.specs.declared.global_use.TheConstants.GlobalUse.{QUERY}
+use Rattle.spec_analysis.specs.Pairs.{SamplingPair}
 use Rattle.spec_analysis.specs.Effects.{Effect, takes, samples, runs, discards, effects_of}
 use Rattle.spec_analysis.specs.Chains.{place, Step, Calls, Reaches, UsesDirectly, Names, IsUnusedFrom, HasUse, Samples, HasPair, Discards, MayKill}
 use Rattle.spec_analysis.specs.Summaries.{Summary, no_use, HasBit, IsSummary, CallsOne, ComesUp, JoinsUse, IsJoined, KnownCallee, CalleesKnown, AreSummaries, CallsBelow, AgreeOnCallees}

@@ -5,10 +5,10 @@ use Rattle.ir_types.specs.ExpressionPlain.{PlainExpression, plain}
 use Rattle.ir_types.specs.declared.expressions.Expression.TheVariants.{GlobalVariable, FunctionArgument, Access, AccessIndex}
 use Rattle.ir_items.specs.Plain.{PlainFunction, PlainModule}
 use Rattle.typing_rules.specs.Laws.{IsAmong}
-use Rattle.analysis_forms.specs.declared.global_use.TheConstants.GlobalUse.{QUERY}
-use Rattle.analysis_forms.specs.declared.sampling.GlobalOrArgument.{GlobalOrArgument}
-use Rattle.analysis_forms.specs.declared.sampling.GlobalOrArgument.TheVariants.{Global, Argument}
-use Rattle.analysis_forms.specs.Pairs.{SamplingPair}
+use Rattle.spec_analysis.specs.declared.global_use.TheConstants.GlobalUse.{QUERY}
+use Rattle.spec_analysis.specs.declared.sampling.GlobalOrArgument.{GlobalOrArgument}
+use Rattle.spec_analysis.specs.declared.sampling.GlobalOrArgument.TheVariants.{Global, Argument}
+use Rattle.spec_analysis.specs.Pairs.{SamplingPair}
 use Rattle.spec_analysis.specs.Operands.{Operand}
 use Rattle.spec_analysis.specs.Effects.{Effect, takes, samples, runs, discards, effects_of}
 use Rattle.spec_analysis.specs.Values.{StartsAt}

@@ -16,7 +16,7 @@ use Rattle.ir_blocks.specs.declared.operations.RayQueryFunction.{RayQueryFunctio
 use Rattle.ir_blocks.specs.declared.operations.RayQueryFunction.TheVariants as query
 use Rattle.ir_blocks.specs.declared.operations.RayPipelineFunction.{RayPipelineFunction}
 use Rattle.ir_blocks.specs.declared.operations.RayPipelineFunction.TheVariants as pipeline
-use Rattle.analysis_forms.specs.declared.global_use.TheConstants.GlobalUse.{READ, WRITE, QUERY, ATOMIC}
+use Rattle.spec_analysis.specs.declared.global_use.TheConstants.GlobalUse.{READ, WRITE, QUERY, ATOMIC}
 
 -- An expression as an operand, and the bits of the use that is made there of the global variable that its chain of
 -- accesses starts at, if it starts at one.

@@ -4,11 +4,11 @@ use Rattle.std.specs.Int.{bit_at}
 use Rattle.ir_types.specs.ExpressionPlain.{PlainExpression}
 use Rattle.ir_items.specs.Plain.{PlainFunction, PlainModule}
 use Rattle.typing_rules.specs.Laws.{IsAmong}
-use Rattle.analysis_forms.specs.declared.global_use.GlobalUse.{GlobalUse}
-use Rattle.analysis_forms.specs.declared.global_use.TheConstants.GlobalUse.{QUERY}
-use Rattle.analysis_forms.specs.declared.sampling.GlobalOrArgument.{GlobalOrArgument}
-use Rattle.analysis_forms.specs.declared.sampling.GlobalOrArgument.TheVariants.{Argument}
-use Rattle.analysis_forms.specs.Pairs.{SamplingPair}
+use Rattle.spec_analysis.specs.declared.global_use.GlobalUse.{GlobalUse}
+use Rattle.spec_analysis.specs.declared.global_use.TheConstants.GlobalUse.{QUERY}
+use Rattle.spec_analysis.specs.declared.sampling.GlobalOrArgument.{GlobalOrArgument}
+use Rattle.spec_analysis.specs.declared.sampling.GlobalOrArgument.TheVariants.{Argument}
+use Rattle.spec_analysis.specs.Pairs.{SamplingPair}
 use Rattle.spec_analysis.specs.Effects.{samples, runs, effects_of}
 use Rattle.spec_analysis.specs.Chains.{place, seen_through, UsesDirectly, Names, HasUse, Samples, HasPair, Discards, MayKill}
 

@@ -9,7 +9,7 @@ ghost use Rattle.spec_entries.specs.Members.{members_at, members_in};
 ghost use Rattle.spec_entries.specs.Payloads.{binding_at, space_at};
 ghost use Rattle.typing_forms.specs.Resolutions.{inner_at};
 
-use analysis_forms::GlobalUse;
+use spec_analysis::GlobalUse;
 use ir_arena::handle::Handle;
 use ir_items::Module;
 use ir_kinds::{AddressSpace, ResourceBinding};

@@ -8,7 +8,7 @@ ghost use Rattle.spec_globals.specs.Spaces.{array_base, counted};
 ghost use Rattle.typing_forms.specs.Resolutions.{inner_at};
 
 use crate::lookups::inner_at;
-use analysis_forms::GlobalUse;
+use spec_analysis::GlobalUse;
 use bitflags::Flags;
 use ir_arena::handle::Handle;
 use ir_flags::StorageAccess;

@@ -1,6 +1,6 @@
 -- Wrong forms by chains of calls are those by summaries of the callees.
 use Rattle.std.proofs.Common.{◌≡◌, ◌⊎◌, inl, inr, ℕ, List, Some, None, sym, ap, subst, ◌∙◌, slice_get}
-use Rattle.analysis_forms.specs.Pairs.{SamplingPair}
+use Rattle.spec_analysis.specs.Pairs.{SamplingPair}
 use Rattle.ir_items.specs.Plain.{PlainFunction, PlainModule}
 use Rattle.typing_rules.specs.Laws.{IsAmong}
 use Rattle.spec_analysis.proofs.Members.{among-get, get-among}

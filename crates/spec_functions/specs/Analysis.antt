@@ -1,14 +1,14 @@
 -- What the analysis asks of a function, by the chains of calls that begin at it.
 use Rattle.std.specs.Prelude.{◌≡◌, ◌⊎◌, ℕ, None}
-use Rattle.analysis_forms.specs.Pairs.{SamplingPair}
-use Rattle.typing_uniformity.specs.Faults.{FunctionFault}
+use Rattle.spec_analysis.specs.Pairs.{SamplingPair}
+use Rattle.spec_analysis.specs.Faults.{FunctionFault}
 use Rattle.ir_flags.specs.declared.settings.ValidationFlags.{ValidationFlags}
 use Rattle.ir_items.specs.Plain.{PlainFunction, PlainModule}
 use Rattle.typing_rules.specs.Laws.{IsAmong}
 use Rattle.spec_analysis.specs.Chains.{place, Step, Calls, HasPair}
 use Rattle.spec_analysis.specs.Effects.{samples, effects_of}
 use Rattle.spec_analysis.specs.Summaries.{IsWrongArgument}
-use Rattle.spec_bodies.specs.Uniformity.{Asked}
+use Rattle.spec_analysis.specs.Uniformity.{Asked}
 
 -- an image or a sampler of a sampling at e stands for neither a global variable nor an argument
 pub record SamplesWrongForm (f : PlainFunction) (e : ℕ) : Type 0 where

@@ -5,7 +5,7 @@ use Rattle.std.specs.Int.{bit_at}
 use Rattle.std.proofs.lemmas.Bool.{cases_eq, eqb-true}
 use Rattle.std.proofs.lemmas.Nat.Bits.{bit_at_lowest, bit_at-suc, bit_at-zero}
 use Rattle.ir_items.specs.Plain.{PlainFunction, PlainModule}
-use Rattle.analysis_forms.specs.declared.global_use.GlobalUse.{GlobalUse}
+use Rattle.spec_analysis.specs.declared.global_use.GlobalUse.{GlobalUse}
 use Rattle.spec_analysis.specs.Chains.{Step, Calls, IsChain, end_of, Reaches, UsesDirectly, Names, HasUse}
 use Rattle.spec_analysis.specs.Summaries.{no_use}
 use Rattle.spec_analysis.specs.Values.{StartsAt, is_global, accessed, accessed_index}

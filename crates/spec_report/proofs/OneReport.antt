@@ -1,7 +1,7 @@
 -- A module has one report at most.
 use Rattle.std.proofs.Common.{◌≡◌, ◌<◌, ◌+◌, ℕ, zero, suc, false, List, [], ◌∷◌, ◌++◌, length, slice_get, Some, refl, sym, ap, subst, ◌∙◌, arith}
 use Rattle.std.specs.Prelude.{slice_index_or, flat_map}
-use Rattle.analysis_forms.specs.declared.global_use.GlobalUse.{GlobalUse}
+use Rattle.spec_analysis.specs.declared.global_use.GlobalUse.{GlobalUse}
 use Rattle.ir_items.specs.Plain.{PlainEntry, PlainModule}
 use Rattle.spec_analysis.specs.Summaries.{no_use}
 use Rattle.spec_report.specs.Lines.{each_from, buffers, is_own, global_line, entry_lines}

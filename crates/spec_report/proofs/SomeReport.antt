@@ -1,10 +1,10 @@
 -- There is a report on each module whose handles are in order.
 use Rattle.std.proofs.Common.{◌≡◌, ◌<◌, ◌≤◌, inl, inr, ℕ, zero, suc, ◌+◌, List, [], ◌∷◌, ◌++◌, length, Option, Some, None, slice_get, refl, sym, ap, subst, ◌∙◌, arith}
 use Rattle.std.specs.Prelude.{◌↔◌, flat_map, slice_index_or}
-use Rattle.analysis_forms.specs.Pairs.{SamplingPair}
-use Rattle.analysis_forms.specs.declared.global_use.GlobalUse.{GlobalUse}
-use Rattle.analysis_forms.specs.declared.sampling.GlobalOrArgument.{GlobalOrArgument}
-use Rattle.analysis_forms.specs.declared.sampling.GlobalOrArgument.TheVariants.{Global, Argument}
+use Rattle.spec_analysis.specs.Pairs.{SamplingPair}
+use Rattle.spec_analysis.specs.declared.global_use.GlobalUse.{GlobalUse}
+use Rattle.spec_analysis.specs.declared.sampling.GlobalOrArgument.{GlobalOrArgument}
+use Rattle.spec_analysis.specs.declared.sampling.GlobalOrArgument.TheVariants.{Global, Argument}
 use Rattle.ir_types.specs.ExpressionPlain.{PlainExpression, plain}
 use Rattle.ir_types.specs.declared.expressions.Expression.TheVariants as x
 use Rattle.ir_items.specs.Plain.{PlainEntry, PlainFunction, PlainModule}

@@ -3,7 +3,7 @@
 //! The functions do nothing: their contracts are the examples.
 
 ghost use Rattle.std.specs.Prelude.{◌≡◌, false, true, codes};
-ghost use Rattle.analysis_forms.specs.declared.global_use.TheConstants.GlobalUse.{READ, WRITE, QUERY, ATOMIC};
+ghost use Rattle.spec_analysis.specs.declared.global_use.TheConstants.GlobalUse.{READ, WRITE, QUERY, ATOMIC};
 ghost use Rattle.ir_flags.specs.declared.memory.TheConstants.StorageAccess.{LOAD};
 ghost use Rattle.ir_kinds.specs.declared.spaces.AddressSpace.TheVariants.{Uniform, Storage, Handle, WorkGroup};
 ghost use Rattle.spec_analysis.specs.Summaries.{no_use};

@@ -5,7 +5,7 @@ use Rattle.ir_flags.specs.declared.stages.ShaderStages.{ShaderStages}
 use Rattle.ir_blocks.specs.Places.{StandsAt}
 use Rattle.ir_blocks.specs.Plain.{PlainStatement}
 use Rattle.ir_items.specs.Plain.{PlainArgument, PlainFunction, PlainModule}
-use Rattle.analysis_forms.specs.declared.sampling.GlobalOrArgument.TheVariants.{Global}
+use Rattle.spec_analysis.specs.declared.sampling.GlobalOrArgument.TheVariants.{Global}
 use Rattle.typing_forms.specs.Forms.{form_of_type}
 use Rattle.spec_analysis.specs.Chains.{Reaches, Names, HasPair}
 use Rattle.spec_expressions.specs.Typing.{HasType}

@@ -4,7 +4,7 @@ ghost use Rattle.ir_items.specs.View.{function_view, module_view};
 ghost use Rattle.ir_proc.specs.Filters.{ParentsPrecede};
 ghost use Rattle.spec_handles.specs.Conditions.{HandlesInRange, OperandsPrecede};
 
-use analysis_forms::{ExpressionInfo, GlobalOrArgument, GlobalUse, SamplingPair};
+use spec_analysis::{ExpressionInfo, GlobalOrArgument, GlobalUse, SamplingPair};
 use typing_errors::{ExpressionError, FunctionError};
 use ir_faults::refusal::Refusal;
 use ir_flags::ValidationFlags;

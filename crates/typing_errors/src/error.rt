@@ -3,7 +3,7 @@
 use crate::{
     AtomicError, CallError, ExpressionError, LocalVariableError, SubgroupError, UniformityDisruptor,
 };
-use analysis_forms::UniformityRequirements;
+use spec_analysis::UniformityRequirements;
 use ir_arena::handle::Handle;
 use ir_blocks::AtomicFunction;
 use ir_flags::Capabilities;

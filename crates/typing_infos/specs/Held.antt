@@ -1,7 +1,7 @@
 -- The pairs that are held, few or many.
 use Rattle.std.specs.Prelude.{List}
-use Rattle.analysis_forms.specs.Pairs.{SamplingPair}
-use Rattle.analysis_forms.specs.declared.sampling.SamplingKey.{SamplingKey}
+use Rattle.spec_analysis.specs.Pairs.{SamplingPair}
+use Rattle.spec_analysis.specs.declared.sampling.SamplingKey.{SamplingKey}
 use Rattle.typing_infos.specs.declared.sampled.HeldPairs.{HeldPairs}
 use Rattle.typing_infos.specs.declared.sampled.HeldPairs.TheVariants as pairs
 use Rattle.typing_infos.specs.declared.sampled.HeldKeys.{HeldKeys}

@@ -3,7 +3,7 @@ use Rattle.std.specs.Prelude.{◌≡◌, ℕ, List, [], ◌∷◌, Some, None, O
 use Rattle.std.specs.Int.{bit_at}
 use Rattle.typing_rules.specs.Laws.{IsAmong}
 use Rattle.ir_flags.specs.Sets.{Has}
-use Rattle.analysis_forms.specs.declared.global_use.GlobalUse.{GlobalUse}
+use Rattle.spec_analysis.specs.declared.global_use.GlobalUse.{GlobalUse}
 use Rattle.spec_analysis.specs.Summaries.{Summary, no_use}
 pub use Rattle.typing_infos.specs.Keys.{key_of_parts, key_of}
 use Rattle.typing_infos.specs.declared.function_info.FunctionInfo.{FunctionInfo}

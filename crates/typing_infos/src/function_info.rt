@@ -8,7 +8,7 @@ ghost use Rattle.spec_analysis.specs.Summaries.{HasUseBit};
 
 use crate::sampled::{SampledKeys, SampledPairs};
 use crate::uses::{dominates, mark_all};
-use analysis_forms::{ExpressionInfo, GlobalUse, SamplingPair};
+use spec_analysis::{ExpressionInfo, GlobalUse, SamplingPair};
 use bitflags::Flags;
 use ir_arena::handle::Handle;
 use ir_flags::ShaderStages;

@@ -5,7 +5,7 @@ ghost use Rattle.ir_flags.specs.Sets.{Has};
 ghost use Rattle.typing_infos.specs.Infos.{joined_use, marked, with_uses, Dominates};
 ghost use Rattle.spec_analysis.specs.Summaries.{no_use};
 
-use analysis_forms::GlobalUse;
+use spec_analysis::GlobalUse;
 use bitflags::Flags;
 use ir_arena::handle::Handle;
 use ir_types::key;

@@ -4,9 +4,9 @@ use Rattle.std.specs.List.{list_any}
 use Rattle.indexmap.specs.IndexSet.{insert_all, insert_key}
 use Rattle.typing_rules.specs.Laws.{IsAmong}
 use Rattle.ir_types.specs.ExpressionPlain.{PlainExpression}
-use Rattle.analysis_forms.specs.declared.sampling.GlobalOrArgument.{GlobalOrArgument}
-use Rattle.analysis_forms.specs.declared.sampling.GlobalOrArgument.TheVariants.{Global, Argument}
-use Rattle.analysis_forms.specs.Pairs.{SamplingPair, pair_eq}
+use Rattle.spec_analysis.specs.declared.sampling.GlobalOrArgument.{GlobalOrArgument}
+use Rattle.spec_analysis.specs.declared.sampling.GlobalOrArgument.TheVariants.{Global, Argument}
+use Rattle.spec_analysis.specs.Pairs.{SamplingPair, pair_eq}
 use Rattle.typing_infos.specs.Marks.{EachOnce, marks_of}
 use Rattle.spec_analysis.specs.Chains.{place, seen_through}
 use Rattle.typing_sampling.specs.Fronts.{BeginsWith}

@@ -3,9 +3,9 @@ use Rattle.std.specs.Prelude.{ℕ, List, [], ◌∷◌, Option, Some, None, slic
 use Rattle.indexmap.specs.IndexSet.{insert_key}
 use Rattle.ir_types.specs.ExpressionPlain.{PlainExpression, plain}
 use Rattle.ir_types.specs.declared.expressions.Expression.TheVariants.{ImageSample}
-use Rattle.analysis_forms.specs.declared.sampling.GlobalOrArgument.{GlobalOrArgument}
-use Rattle.analysis_forms.specs.declared.sampling.GlobalOrArgument.TheVariants.{Global, Argument}
-use Rattle.analysis_forms.specs.Pairs.{SamplingPair, pair_eq}
+use Rattle.spec_analysis.specs.declared.sampling.GlobalOrArgument.{GlobalOrArgument}
+use Rattle.spec_analysis.specs.declared.sampling.GlobalOrArgument.TheVariants.{Global, Argument}
+use Rattle.spec_analysis.specs.Pairs.{SamplingPair, pair_eq}
 use Rattle.spec_analysis.specs.Chains.{place, seen_through}
 use Rattle.typing_sampling.specs.Listed.{listed}
 use Rattle.typing_sampling.specs.declared.pairs.Sampled.{Sampled}

@@ -2,11 +2,11 @@
 
 ghost use Rattle.std.specs.Prelude.{◌≡◌, ◌++◌, [], IfOk, IsTrue, OnErr, OnOk};
 ghost use Rattle.indexmap.specs.IndexSet.{insert_key};
-ghost use Rattle.analysis_forms.specs.Pairs.{pair_eq};
+ghost use Rattle.spec_analysis.specs.Pairs.{pair_eq};
 ghost use Rattle.typing_infos.specs.Marks.{EachOnce};
 ghost use Rattle.typing_sampling.specs.Fronts.{BeginsWith};
 
-use analysis_forms::SamplingPair;
+use spec_analysis::SamplingPair;
 use indexmap::IndexSet;
 use typing_infos::SampledPairs;
 use std::alloc::{AllocError, Global};

@@ -11,7 +11,7 @@ ghost use Rattle.typing_sampling.specs.Passed.{PassesOn, PassesAllOn};
 
 use crate::list::PairList;
 use crate::places::{Expressions, place};
-use analysis_forms::{GlobalOrArgument, SamplingPair};
+use spec_analysis::{GlobalOrArgument, SamplingPair};
 use ir_arena::handle::Handle;
 use ir_types::key;
 use typing_infos::SampledPairs;

@@ -6,7 +6,7 @@ ghost use Rattle.ir_types.specs.ExpressionPlain.{expression_view};
 ghost use Rattle.ir_items.specs.GlobalView.{values_of};
 ghost use Rattle.spec_analysis.specs.Chains.{place, base_stands_for, stands_for};
 
-use analysis_forms::GlobalOrArgument;
+use spec_analysis::GlobalOrArgument;
 use ir_arena::arena::Arena;
 use ir_arena::handle::Handle;
 use ir_types::{Expression, key};

@@ -9,9 +9,9 @@ use Rattle.std.proofs.lemmas.Option.{slice_get-map, slice_get-get_or, slice_get_
 use Rattle.indexmap.specs.IndexSet.{insert_key}
 use Rattle.typing_rules.specs.Laws.{IsAmong}
 use Rattle.ir_types.specs.ExpressionPlain.{PlainExpression}
-use Rattle.analysis_forms.specs.declared.sampling.GlobalOrArgument.{GlobalOrArgument}
-use Rattle.analysis_forms.specs.declared.sampling.GlobalOrArgument.TheVariants.{Global, Argument}
-use Rattle.analysis_forms.specs.Pairs.{SamplingPair, pair_eq}
+use Rattle.spec_analysis.specs.declared.sampling.GlobalOrArgument.{GlobalOrArgument}
+use Rattle.spec_analysis.specs.declared.sampling.GlobalOrArgument.TheVariants.{Global, Argument}
+use Rattle.spec_analysis.specs.Pairs.{SamplingPair, pair_eq}
 use Rattle.typing_sampling.proofs.Equal.{both, part_same, pair_self}
 use Rattle.typing_sampling.proofs.Marked.{is_marked}
 use Rattle.typing_infos.specs.Infos.{summary_of}
@@ -24,7 +24,7 @@ use Rattle.typing_summaries.specs.Joined.{IsKept, IsWrong, IsCovered, AreJoined}
 use Rattle.typing_summaries.specs.Parts.{parts_of, AllStand}
 use Rattle.typing_summaries.specs.Tallies.{Known, Paired, with_pair, with_wrong, first_wrong, part_wrong, pair_one, passed_for, pass_up, pass_all_up}
 use Rattle.typing_summaries.specs.declared.passed.Passed.{Passed}
-use Rattle.analysis_forms.specs.contracts.sampling.GlobalOrArgumentPartialEq as each
+use Rattle.spec_analysis.specs.contracts.sampling.GlobalOrArgumentPartialEq as each
 use Rattle.typing_summaries.specs.contracts.passed.PassedPartialEq as impl
 use Rattle.typing_summaries.proofs.PairLemmas.{some_is, none_some}
 use Rattle.typing_summaries.proofs.PartLemmas.{same_means, part_means}

@@ -5,8 +5,8 @@ use Rattle.std.specs.Int.{bit_at}
 use Rattle.std.proofs.lemmas.Bool.{cases_eq, ne_eqb}
 use Rattle.std.proofs.lemmas.List.{get_or-set_same, get_or-set_other}
 use Rattle.typing_rules.specs.Laws.{IsAmong}
-use Rattle.analysis_forms.specs.declared.global_use.GlobalUse.{GlobalUse}
-use Rattle.analysis_forms.specs.Pairs.{SamplingPair}
+use Rattle.spec_analysis.specs.declared.global_use.GlobalUse.{GlobalUse}
+use Rattle.spec_analysis.specs.Pairs.{SamplingPair}
 use Rattle.spec_analysis.specs.Operands.{Operand}
 use Rattle.spec_analysis.specs.Effects.{Effect, takes, samples, runs, discards, places_of}
 use Rattle.spec_analysis.specs.Chains.{place}

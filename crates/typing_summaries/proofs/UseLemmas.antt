@@ -6,7 +6,7 @@ use Rattle.std.proofs.lemmas.Bool.{cases_eq, cases_lt, ne_eqb}
 use Rattle.std.proofs.lemmas.List.{get_or-set_same, get_or-set_other}
 use Rattle.std.proofs.lemmas.Nat.Bits.{bit_at_or, bit_at-lt, bit_at-zero, bit_at_lowest, bit_at-suc}
 use Rattle.typing_rules.specs.Laws.{IsAmong}
-use Rattle.analysis_forms.specs.declared.global_use.GlobalUse.{GlobalUse}
+use Rattle.spec_analysis.specs.declared.global_use.GlobalUse.{GlobalUse}
 use Rattle.spec_analysis.specs.Operands.{Operand}
 use Rattle.spec_analysis.specs.Effects.{Effect, takes, samples, runs, discards}
 use Rattle.spec_analysis.specs.Values.{known_at}

@@ -3,8 +3,8 @@ use Rattle.std.specs.Prelude.{◌≡◌, ℕ, true, List, Some, slice_get}
 use Rattle.std.specs.List.{list_any}
 use Rattle.typing_rules.specs.Laws.{IsAmong}
 use Rattle.ir_types.specs.ExpressionPlain.{PlainExpression}
-use Rattle.analysis_forms.specs.declared.sampling.GlobalOrArgument.{GlobalOrArgument}
-use Rattle.analysis_forms.specs.Pairs.{SamplingPair, pair_eq}
+use Rattle.spec_analysis.specs.declared.sampling.GlobalOrArgument.{GlobalOrArgument}
+use Rattle.spec_analysis.specs.Pairs.{SamplingPair, pair_eq}
 use Rattle.typing_infos.specs.Marks.{marks_of}
 use Rattle.spec_analysis.specs.Chains.{place, seen_through}
 use Rattle.spec_analysis.specs.Summaries.{Summary}

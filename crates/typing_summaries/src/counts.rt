@@ -7,7 +7,7 @@ ghost use Rattle.spec_analysis.specs.Values.{known_at};
 ghost use Rattle.typing_infos.specs.Infos.{marked, joined_use};
 ghost use Rattle.typing_summaries.specs.Tallies.{Counted, counted, bumped, take_one, take_all, merged, queried};
 
-use analysis_forms::GlobalUse;
+use spec_analysis::GlobalUse;
 use bitflags::Flags;
 use ir_arena::handle::Handle;
 use ir_types::key;

@@ -6,7 +6,7 @@ ghost use Rattle.spec_analysis.specs.Operands.{reads_if, level_operands, query_o
 ghost use Rattle.typing_summaries.specs.Tallies.{counted, take_all};
 
 use crate::counts::{Counts, Start};
-use analysis_forms::GlobalUse;
+use spec_analysis::GlobalUse;
 use ir_arena::handle::Handle;
 use ir_types::{Expression, ImageQuery, SampleLevel, key};
 

@@ -10,7 +10,7 @@ ghost use Rattle.typing_summaries.specs.Joined.{IsKept, IsWrong, AreJoined};
 ghost use Rattle.typing_summaries.specs.Tallies.{known, paired, pass_all_up};
 
 use crate::tally::Context;
-use analysis_forms::GlobalOrArgument;
+use spec_analysis::GlobalOrArgument;
 use typing_sampling::{Expressions, Sampled, place};
 use indexmap::IndexSet;
 use ir_arena::handle::Handle;

@@ -5,10 +5,10 @@ use Rattle.ir_flags.specs.declared.settings.ValidationFlags.{ValidationFlags}
 use Rattle.ir_flags.specs.declared.settings.TheConstants.ValidationFlags.{CONTROL_FLOW_UNIFORMITY}
 use Rattle.ir_kinds.specs.declared.diagnostics.Severity.{Severity}
 use Rattle.ir_blocks.specs.Plain.{PlainBlock}
-use Rattle.analysis_forms.specs.declared.uniformity.Uniformity.{Uniformity}
-use Rattle.spec_bodies.specs.Uniformity.{Asked}
-use Rattle.spec_bodies.specs.Found.{asked_in}
-use Rattle.spec_bodies.proofs.FoundLaws.{asked_sound, asked_complete}
+use Rattle.spec_analysis.specs.declared.uniformity.Uniformity.{Uniformity}
+use Rattle.spec_analysis.specs.Uniformity.{Asked}
+use Rattle.spec_analysis.specs.Found.{asked_in}
+use Rattle.spec_analysis.proofs.FoundLaws.{asked_sound, asked_complete}
 use Rattle.typing_uniformity.specs.Asking.{asks, AreNext, varies_of, required_of, look_of, asked_view}
 use Rattle.typing_uniformity.specs.Uniform.{IsAnswer}
 use Rattle.typing_uniformity.specs.declared.fault.NonUniform.{NonUniform}

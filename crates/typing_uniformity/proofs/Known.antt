@@ -6,13 +6,14 @@ use Rattle.ir_kinds.specs.declared.diagnostics.Severity.{Severity}
 use Rattle.ir_kinds.specs.declared.diagnostics.StandardFilterableTriggeringRule.TheVariants.{DerivativeUniformity}
 use Rattle.ir_types.specs.ExpressionPlain.{PlainExpression}
 use Rattle.ir_items.specs.Plain.{PlainFunction, PlainModule}
-use Rattle.analysis_forms.specs.declared.uniformity.Uniformity.{Uniformity}
+use Rattle.spec_analysis.specs.declared.uniformity.Uniformity.{Uniformity}
 use Rattle.spec_analysis.specs.Values.{ComesFrom, itself, through, NonUniform as Varies}
 use Rattle.spec_analysis.proofs.Members.{get-within}
-use Rattle.typing_uniformity.specs.Facts.{requirement_in, requirement_at, AreUniformities}
-use Rattle.spec_bodies.specs.Severity.{HasSeverity}
-use Rattle.spec_bodies.specs.Uniformity.{UniformityFault}
-use Rattle.spec_bodies.proofs.FoundLaws.{fault_as}
+use Rattle.typing_uniformity.specs.Facts.{AreUniformities}
+use Rattle.spec_analysis.specs.Faults.{requirement_in, requirement_at}
+use Rattle.spec_analysis.specs.Severity.{HasSeverity}
+use Rattle.spec_analysis.specs.Uniformity.{UniformityFault}
+use Rattle.spec_analysis.proofs.FoundLaws.{fault_as}
 use Rattle.typing_uniformity.specs.Asking.{source_in, requirement_in as requirement_known, required_of, asked_view}
 use Rattle.typing_uniformity.specs.Uniform.{VariesBy, IsAnswer as IsAnswerBy}
 use Rattle.typing_uniformity.specs.declared.fault.NonUniform.{NonUniform}

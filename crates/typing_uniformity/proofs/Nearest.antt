@@ -10,7 +10,7 @@ use Rattle.ir_kinds.specs.declared.diagnostics.StandardFilterableTriggeringRule.
 use Rattle.ir_items.specs.GlobalPlain.{PlainNode, standard}
 use Rattle.ir_proc.specs.Filters.{ParentsPrecede}
 use Rattle.ir_kinds.specs.declared.diagnostics.StandardFilterableTriggeringRule.TheVariants.{DerivativeUniformity}
-use Rattle.spec_bodies.specs.Severity.{IsTrail, IsFirst, IsNearest}
+use Rattle.spec_analysis.specs.Severity.{IsTrail, IsFirst, IsNearest}
 use Rattle.typing_uniformity.specs.Nearest.{AreNearest}
 
 -- the plain item at a handle

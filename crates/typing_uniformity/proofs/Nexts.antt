@@ -5,10 +5,10 @@ use Rattle.std.proofs.lemmas.Option.{get_or_from_slice_get, slice_get_within, sl
 use borrow.Author.Tests.{ltb-true, lt-ltb, eqb-true, eq-eqb}
 use Rattle.ir_kinds.specs.declared.diagnostics.Severity.{Severity}
 use Rattle.ir_kinds.specs.declared.diagnostics.Severity.TheVariants.{Off, Info, Warning, Error}
-use Rattle.analysis_forms.specs.declared.uniformity.Uniformity.{Uniformity}
-use Rattle.analysis_forms.specs.declared.uniformity.TheConstants.UniformityRequirements.{DERIVATIVE, IMPLICIT_LEVEL, COOP_OPS}
-use Rattle.spec_bodies.specs.Uniformity.{Counts, cooperative, derivative, implicit_level, Asked, EmitAsks}
-use Rattle.spec_bodies.specs.Found.{IsLook}
+use Rattle.spec_analysis.specs.declared.uniformity.Uniformity.{Uniformity}
+use Rattle.spec_analysis.specs.declared.uniformity.TheConstants.UniformityRequirements.{DERIVATIVE, IMPLICIT_LEVEL, COOP_OPS}
+use Rattle.spec_analysis.specs.Uniformity.{Counts, cooperative, derivative, implicit_level, Asked, EmitAsks}
+use Rattle.spec_analysis.specs.Found.{IsLook}
 use Rattle.typing_uniformity.specs.Asking.{required_of, requirement_in, is_error, counts, asks, IsNext, AreNext, asked_with, asked_from, look_of}
 
 -- ---- steps of the loop

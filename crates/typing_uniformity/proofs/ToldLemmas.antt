@@ -7,9 +7,10 @@ use Rattle.ir_types.specs.ExpressionPlain.{PlainExpression, expression_view}
 use Rattle.ir_types.specs.declared.expressions.Expression.{Expression}
 use Rattle.ir_items.specs.GlobalView.{values_of}
 use Rattle.ir_items.specs.Plain.{PlainFunction, PlainModule}
-use Rattle.analysis_forms.specs.declared.uniformity.Uniformity.{Uniformity}
+use Rattle.spec_analysis.specs.declared.uniformity.Uniformity.{Uniformity}
 use Rattle.spec_analysis.specs.Values.{ComesFrom, IsExact}
-use Rattle.typing_uniformity.specs.Facts.{AreSources, requirement_in, IsUniformity, AreUniformities}
+use Rattle.typing_uniformity.specs.Facts.{AreSources, IsUniformity, AreUniformities}
+use Rattle.spec_analysis.specs.Faults.{requirement_in}
 use Rattle.typing_uniformity.specs.Told.{Told, told, told_of, all_told}
 
 some_is : {X : Type 0} {a b : X} → Some a ≡ Some b → a ≡ b

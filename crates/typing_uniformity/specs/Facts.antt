@@ -4,9 +4,10 @@ use Rattle.ir_types.specs.ExpressionPlain.{PlainExpression, plain, expression_vi
 use Rattle.ir_types.specs.declared.expressions.Expression.{Expression}
 use Rattle.ir_types.specs.declared.expressions.Expression.TheVariants.{GlobalVariable, Access, AccessIndex}
 use Rattle.ir_items.specs.Plain.{PlainFunction, PlainModule}
-use Rattle.analysis_forms.specs.declared.uniformity.Uniformity.{Uniformity}
+use Rattle.spec_analysis.specs.declared.uniformity.Uniformity.{Uniformity}
 use Rattle.spec_analysis.specs.Operands.{Operand, expression_operands}
-use Rattle.spec_analysis.specs.Values.{known_at, is_source, ComesFrom, IsExact, requirements_of}
+use Rattle.spec_analysis.specs.Values.{known_at, is_source, ComesFrom, IsExact}
+use Rattle.spec_analysis.specs.Faults.{requirement_at}
 
 -- what is found already, or what is known of one more operand
 abbrev pub or_known : List (Option ℕ) → ℕ → Option ℕ → Option ℕ
@@ -45,16 +46,6 @@ starts_of known (h ∷ rest) = starts_of (known ++ start_of known (expression_vi
 pub record AreSources (m : PlainModule) (f : PlainFunction) (sources : List (Option ℕ)) : Type 0 where
   pub len : length sources ≡ length f.expressions
   pub each : (e : ℕ) → e < length f.expressions → IsExact (known_at sources e) (ComesFrom m f e)
-
--- ---- uniformities
-
-abbrev pub requirement_in : Option PlainExpression → ℕ
-requirement_in None = 0
-requirement_in (Some x) = requirements_of x
-
--- the bits of what the expression at a place asks for
-abbrev pub requirement_at : List PlainExpression → ℕ → ℕ
-requirement_at expressions e = requirement_in (slice_get expressions e)
 
 -- It tells a source of the value of the expression at a place, if there is one, and what the expression asks for.
 pub record IsUniformity (m : PlainModule) (f : PlainFunction) (e : ℕ) (u : Uniformity) : Type 0 where

@@ -3,8 +3,8 @@ use Rattle.std.specs.Prelude.{◌≡◌, ℕ, IsTrue, List, Option, Some, None}
 use Rattle.ir_flags.specs.declared.settings.ValidationFlags.{ValidationFlags}
 use Rattle.ir_kinds.specs.declared.diagnostics.Severity.{Severity}
 use Rattle.ir_blocks.specs.Plain.{PlainBlock}
-use Rattle.analysis_forms.specs.declared.uniformity.Uniformity.{Uniformity}
-use Rattle.spec_bodies.specs.Uniformity.{Asked, UniformityFault}
+use Rattle.spec_analysis.specs.declared.uniformity.Uniformity.{Uniformity}
+use Rattle.spec_analysis.specs.Uniformity.{Asked, UniformityFault}
 use Rattle.typing_uniformity.specs.Asking.{varies_of, required_of, asked_view}
 use Rattle.typing_uniformity.specs.declared.fault.NonUniform.{NonUniform}
 

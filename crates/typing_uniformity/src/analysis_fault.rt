@@ -8,7 +8,7 @@ ghost use Rattle.typing_uniformity.specs.Faults.{IsAnswer};
 ghost use Rattle.typing_uniformity.specs.Nearest.{AreNearest};
 
 use crate::{NonUniform, derivative_severity_by, find_fault};
-use analysis_forms::Uniformity;
+use spec_analysis::Uniformity;
 use ir_flags::ValidationFlags;
 use ir_items::{Function, Module};
 use ir_kinds::Severity;

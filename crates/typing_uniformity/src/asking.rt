@@ -1,11 +1,11 @@
 //! What is known of expressions.
 
 ghost use Rattle.std.specs.Prelude.{◌≡◌, is_some, option_map, slice_get};
-ghost use Rattle.spec_bodies.specs.Found.{where_disrupted};
+ghost use Rattle.spec_analysis.specs.Found.{where_disrupted};
 ghost use Rattle.typing_uniformity.specs.Asking.{varies_of, look_of, asked_with, asked_from, asked_view};
 
 use crate::fault::NonUniform;
-use analysis_forms::Uniformity;
+use spec_analysis::Uniformity;
 use typing_errors::UniformityDisruptor;
 use ir_arena::handle::Handle;
 use ir_items::key;

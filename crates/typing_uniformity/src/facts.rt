@@ -10,7 +10,7 @@ ghost use Rattle.typing_uniformity.specs.Facts.{source_if, source_of, start_of, 
 use crate::found::{known, source_below};
 use crate::sources::is_source;
 use crate::uniformities::uniformities_of;
-use analysis_forms::Uniformity;
+use spec_analysis::Uniformity;
 use ir_arena::handle::Handle;
 use ir_items::{Function, Module};
 use ir_types::{Expression, key};

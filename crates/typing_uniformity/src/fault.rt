@@ -5,14 +5,14 @@ ghost use Rattle.ir_flags.specs.Sets.{Has};
 ghost use Rattle.ir_flags.specs.declared.settings.TheConstants.ValidationFlags.{CONTROL_FLOW_UNIFORMITY};
 ghost use Rattle.ir_blocks.specs.View.{block_view};
 ghost use Rattle.typing_errors.specs.declared.error.FunctionError.TheVariants.{NonUniformControlFlow};
-ghost use Rattle.spec_bodies.specs.Found.{asked_in};
+ghost use Rattle.spec_analysis.specs.Found.{asked_in};
 ghost use Rattle.typing_uniformity.specs.Asking.{varies_of, look_of, asked_view};
 ghost use Rattle.typing_uniformity.specs.Uniform.{IsAnswer};
 
 use crate::asking::Asking;
 use crate::next::next_asking;
 use crate::walk::seen_in;
-use analysis_forms::{Uniformity, UniformityRequirements};
+use spec_analysis::{Uniformity, UniformityRequirements};
 use bitflags::Flags;
 use typing_errors::{FunctionError, UniformityDisruptor};
 use ir_arena::handle::Handle;

@@ -3,7 +3,7 @@
 ghost use Rattle.std.specs.Prelude.{◌≡◌, IfOk, length, slice_get};
 ghost use Rattle.typing_uniformity.specs.Asking.{is_error, counts, asks, AreNext};
 
-use analysis_forms::{Uniformity, UniformityRequirements};
+use spec_analysis::{Uniformity, UniformityRequirements};
 use ir_kinds::Severity;
 use std::alloc::{AllocError, Global};
 

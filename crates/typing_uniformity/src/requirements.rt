@@ -4,7 +4,7 @@ ghost use Rattle.std.specs.Prelude.{◌≡◌};
 ghost use Rattle.ir_types.specs.ExpressionPlain.{expression_view};
 ghost use Rattle.spec_analysis.specs.Values.{requirements_of};
 
-use analysis_forms::UniformityRequirements;
+use spec_analysis::UniformityRequirements;
 use ir_types::Expression;
 
 // What the expression itself asks of control flow, if anything.

@@ -6,7 +6,7 @@ ghost use Rattle.spec_analysis.specs.Values.{known_at};
 ghost use Rattle.typing_uniformity.specs.Told.{told, all_told};
 
 use crate::requirements::requirements_of;
-use analysis_forms::Uniformity;
+use spec_analysis::Uniformity;
 use ir_arena::handle::Handle;
 use ir_items::Function;
 use ir_types::key;

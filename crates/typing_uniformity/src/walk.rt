@@ -2,15 +2,15 @@
 
 ghost use Rattle.std.specs.Prelude.{◌≡◌, ◌||◌, false, is_some, option_map, map};
 ghost use Rattle.ir_blocks.specs.View.{statement_view, block_view, case_view, cases_of};
-ghost use Rattle.spec_bodies.specs.Disruption.{ends_in, ends_at, ends_in_cases};
-ghost use Rattle.spec_bodies.specs.Found.{first_asked, where_disrupted, asked_in, asked_at, asked_in_cases};
-ghost use Rattle.spec_bodies.specs.Uniformity.{Asked};
-ghost use Rattle.analysis_forms.specs.declared.uniformity.TheConstants.UniformityRequirements.{WORK_GROUP_BARRIER};
+ghost use Rattle.spec_analysis.specs.Disruption.{ends_in, ends_at, ends_in_cases};
+ghost use Rattle.spec_analysis.specs.Found.{first_asked, where_disrupted, asked_in, asked_at, asked_in_cases};
+ghost use Rattle.spec_analysis.specs.Uniformity.{Asked};
+ghost use Rattle.spec_analysis.specs.declared.uniformity.TheConstants.UniformityRequirements.{WORK_GROUP_BARRIER};
 ghost use Rattle.typing_uniformity.specs.Asking.{varies_of, look_of, asked_view};
 
 use crate::asking::Asking;
 use crate::fault::NonUniform;
-use analysis_forms::UniformityRequirements;
+use spec_analysis::UniformityRequirements;
 use typing_errors::UniformityDisruptor;
 use ir_arena::handle::Handle;
 use ir_items::{Block, Statement, SwitchCase, key};

@@ -1,6 +1,6 @@
 use Rattle.std.proofs.Common.{◌≡◌, subst, arith}
 use Rattle.std.specs.Int.{bit_at}
-use Rattle.analysis_forms.specs.declared.global_use.GlobalUse.{GlobalUse}
+use Rattle.spec_analysis.specs.declared.global_use.GlobalUse.{GlobalUse}
 use Rattle.spec_entries.proofs.Places.{found}
 use Rattle.function_entries.proofs.UsedLaws.{all_each, each_at, each_unused, unused_by, use_is, used_by}
 use Rattle.function_entries.specs.Faults.{IsVariableFault}

@@ -1,8 +1,8 @@
 use Rattle.std.proofs.Common.{◌≡◌, ◌⊎◌, ℕ, Option, Some, subst}
 use Rattle.std.specs.Int.{bit_at}
 use Rattle.std.specs.Prelude.{◌↔◌}
-use Rattle.analysis_forms.specs.declared.global_use.GlobalUse.{GlobalUse}
-use Rattle.analysis_forms.specs.declared.global_use.TheConstants.GlobalUse.{READ}
+use Rattle.spec_analysis.specs.declared.global_use.GlobalUse.{GlobalUse}
+use Rattle.spec_analysis.specs.declared.global_use.TheConstants.GlobalUse.{READ}
 use Rattle.function_validator.proofs.Noted.{put_both}
 use Rattle.spec_analysis.specs.Summaries.{HasUseBit}
 use Rattle.function_validator.proofs.uses.note_own.Goals as goal

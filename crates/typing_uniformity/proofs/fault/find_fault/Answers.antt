@@ -1,6 +1,6 @@
 use Rattle.std.proofs.Common.{ap, ◌∙◌, false}
 use Rattle.ir_blocks.specs.View.{block_view}
-use Rattle.spec_bodies.specs.Found.{asked_in}
+use Rattle.spec_analysis.specs.Found.{asked_in}
 use Rattle.typing_uniformity.specs.Asking.{varies_of, look_of}
 use Rattle.typing_uniformity.proofs.Answered.{answered}
 use Rattle.typing_uniformity.proofs.fault.find_fault.Goals as goal

@@ -5,11 +5,11 @@ use Rattle.ir_kinds.specs.declared.diagnostics.Severity.{Severity}
 use Rattle.ir_blocks.specs.Plain.{PlainOperation, control_barrier, memory_barrier, store, image_store, atomic, image_atomic, uniform_load, ray_query, ballot, collective, gather, cooperative_store, ray_pipeline, PlainStatement, emit, block, if_, switch, loop, break, continue, return, kill, operation, call, PlainBlock, stop, next, PlainCases, no_case, case}
 use Rattle.ir_blocks.specs.Shapes.{Part, inner, accepting, rejecting, case_at, loop_body, loop_continuing, shape_of, case_body, part_of}
 use Rattle.ir_blocks.specs.Places.{Place, here, later, inside, condition, statement, StandsAt}
-use Rattle.spec_bodies.specs.Disruption.{Disrupted, ends_in, ends_at, enter, disrupted_at}
-use Rattle.spec_bodies.specs.Uniformity.{Asked, OperationAsks, EmitAsks, Asks, DisruptedAsk, UniformityFault}
-use Rattle.spec_bodies.specs.Found.{first_asked, where_disrupted, operation_asked, asked_in, asked_at, asked_in_cases, IsLook}
-use Rattle.spec_bodies.proofs.EverywhereLaws.{none_in_stop}
-use Rattle.spec_bodies.proofs.DisruptionLaws.{found, from_found, disrupted_as}
+use Rattle.spec_analysis.specs.Disruption.{Disrupted, ends_in, ends_at, enter, disrupted_at}
+use Rattle.spec_analysis.specs.Uniformity.{Asked, OperationAsks, EmitAsks, Asks, DisruptedAsk, UniformityFault}
+use Rattle.spec_analysis.specs.Found.{first_asked, where_disrupted, operation_asked, asked_in, asked_at, asked_in_cases, IsLook}
+use Rattle.spec_analysis.proofs.EverywhereLaws.{none_in_stop}
+use Rattle.spec_analysis.proofs.DisruptionLaws.{found, from_found, disrupted_as}
 
 first_cases : (a b : Option Asked) (x : Asked) → first_asked a b ≡ Some x → (a ≡ Some x) ⊎ (b ≡ Some x)
 first_cases None b x e = inr e

@@ -7,8 +7,8 @@ use Rattle.ir_kinds.specs.declared.diagnostics.Severity.{Severity}
 use Rattle.ir_kinds.specs.declared.diagnostics.Severity.TheVariants.{Error}
 use Rattle.ir_blocks.specs.Plain.{PlainOperation, control_barrier, memory_barrier, store, image_store, atomic, image_atomic, uniform_load, ray_query, ballot, collective, gather, cooperative_store, ray_pipeline, PlainStatement, emit, block, if_, switch, loop, break, continue, return, kill, operation, call, PlainBlock}
 use Rattle.ir_blocks.specs.Places.{Place, StandsAt}
-use Rattle.analysis_forms.specs.declared.uniformity.TheConstants.UniformityRequirements.{WORK_GROUP_BARRIER, DERIVATIVE, IMPLICIT_LEVEL, COOP_OPS}
-use Rattle.spec_bodies.specs.Disruption.{Disrupted}
+use Rattle.spec_analysis.specs.declared.uniformity.TheConstants.UniformityRequirements.{WORK_GROUP_BARRIER, DERIVATIVE, IMPLICIT_LEVEL, COOP_OPS}
+use Rattle.spec_analysis.specs.Disruption.{Disrupted}
 
 -- What an expression asks for counts: for cooperative matrices always, for derivatives where the rule of derivatives is that
 -- severe. These are the bits of `UniformityRequirements`.

@@ -1,7 +1,7 @@
 -- Pairs of an image and a sampler.
 use Rattle.std.specs.Prelude.{Bool, ◌&&◌}
-use Rattle.analysis_forms.specs.declared.sampling.GlobalOrArgument.{GlobalOrArgument}
-use Rattle.analysis_forms.specs.contracts.sampling.GlobalOrArgumentPartialEq as each
+use Rattle.spec_analysis.specs.declared.sampling.GlobalOrArgument.{GlobalOrArgument}
+use Rattle.spec_analysis.specs.contracts.sampling.GlobalOrArgumentPartialEq as each
 
 -- the image and the sampler
 abbrev pub SamplingPair : Type 0

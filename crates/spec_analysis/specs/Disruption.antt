@@ -3,7 +3,7 @@ use Rattle.std.specs.Prelude.{◌≡◌, ℕ, Bool, true, false, ◌||◌, IsTru
 use Rattle.ir_blocks.specs.Plain.{PlainStatement, emit, block, if_, switch, loop, break, continue, return, kill, operation, call, PlainBlock, stop, next, PlainCases, no_case, case}
 use Rattle.ir_blocks.specs.Shapes.{Part, loop_continuing, shape_of, part_of}
 use Rattle.ir_blocks.specs.Places.{Place, here, later, inside, condition, Before, StandsAt}
-use Rattle.spec_bodies.specs.Positions.{Holds, Around}
+use Rattle.spec_analysis.specs.Positions.{Holds, Around}
 
 -- the value that chooses which of a statement's parts is run
 abbrev pub chosen_by : PlainStatement → Option ℕ

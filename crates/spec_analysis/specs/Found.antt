@@ -2,9 +2,9 @@
 use Rattle.std.specs.Prelude.{◌≡◌, ℕ, Bool, true, false, ◌||◌, Option, Some, None}
 use Rattle.ir_kinds.specs.declared.diagnostics.Severity.{Severity}
 use Rattle.ir_blocks.specs.Plain.{PlainOperation, control_barrier, memory_barrier, store, image_store, atomic, image_atomic, uniform_load, ray_query, ballot, collective, gather, cooperative_store, ray_pipeline, PlainStatement, emit, block, if_, switch, loop, break, continue, return, kill, operation, call, PlainBlock, stop, next, PlainCases, no_case, case}
-use Rattle.analysis_forms.specs.declared.uniformity.TheConstants.UniformityRequirements.{WORK_GROUP_BARRIER}
-use Rattle.spec_bodies.specs.Disruption.{ends_in, ends_at}
-use Rattle.spec_bodies.specs.Uniformity.{Asked, EmitAsks}
+use Rattle.spec_analysis.specs.declared.uniformity.TheConstants.UniformityRequirements.{WORK_GROUP_BARRIER}
+use Rattle.spec_analysis.specs.Disruption.{ends_in, ends_at}
+use Rattle.spec_analysis.specs.Uniformity.{Asked, EmitAsks}
 
 abbrev pub first_asked : Option Asked → Option Asked → Option Asked
 first_asked None b = b

@@ -1,3 +1,0 @@
-pub mod EverywhereLaws
-pub mod DisruptionLaws
-pub mod FoundLaws

@@ -1,6 +1,0 @@
-pub mod Everywhere
-pub mod Positions
-pub mod Disruption
-pub mod Severity
-pub mod Uniformity
-pub mod Found
