@@ -8,8 +8,8 @@ use Rattle.ir_items.specs.Plain.{PlainModule}
 use Rattle.ir_items.specs.Returned.{IsReturned}
 use Rattle.spec_entries.specs.Modules as entries
 use Rattle.spec_entries.specs.Modules.{EntriesOK}
-use Rattle.spec_functions.specs.Functions as functions
-use Rattle.spec_functions.specs.Functions.{FunctionsOK}
+use Rattle.spec_statements.specs.ModuleFunctions as functions
+use Rattle.spec_statements.specs.ModuleFunctions.{FunctionsOK}
 use Rattle.spec_globals.specs.Globals as globals
 use Rattle.spec_globals.specs.Globals.{GlobalsOK}
 use Rattle.spec_handles.specs.InOrder.{HandlesOK}

@@ -10,7 +10,7 @@ use Rattle.ir_flags.specs.Sets.{Has}
 use Rattle.ir_flags.specs.declared.settings.TheConstants.ValidationFlags.{BLOCKS, EXPRESSIONS}
 use Rattle.ir_items.specs.Plain.{PlainFunction, PlainModule}
 use Rattle.judgement_laws.specs.Laws.{IsCallOf, IsOperationOf, StandsOnce, EachAnswered, AnsweredByOne}
-use Rattle.spec_functions.specs.Functions.{FunctionAtOK}
+use Rattle.spec_statements.specs.ModuleFunctions.{FunctionAtOK}
 use Rattle.ir_kinds.specs.declared.scalars.Scalar.{Scalar}
 use Rattle.spec_handles.specs.Statements.{compared}
 use Rattle.spec_statements.specs.Atomics.{AnswerOK, AtomicAnswer, IsChangedAtOnce, changed_scalar, declared_answer}

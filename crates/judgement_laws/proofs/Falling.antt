@@ -6,7 +6,7 @@ use Rattle.judgement_laws.specs.Laws.{BeginsAt, at_function, at_entry, AreRun, R
 use Rattle.spec_analysis.proofs.Members.{among-get}
 use Rattle.spec_analysis.specs.Chains.{Step, Calls, IsChain, end_of}
 use Rattle.spec_analysis.specs.Effects.{runs, effects_of}
-use Rattle.spec_functions.proofs.CallLaws.{calls_precede}
+use Rattle.spec_statements.proofs.CallLaws.{calls_precede}
 use Rattle.spec_handles.specs.Conditions.{CalleesPrecede}
 use Rattle.spec_handles.specs.InOrder.{HandlesOK}
 

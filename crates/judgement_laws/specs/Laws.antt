@@ -13,7 +13,7 @@ use Rattle.spec_analysis.specs.Effects.{runs, effects_of}
 use Rattle.spec_analysis.specs.Summaries.{no_use}
 use Rattle.spec_entries.specs.Modules.{EntriesOK}
 use Rattle.spec_entries.specs.Payloads.{binding_at}
-use Rattle.spec_functions.specs.Functions.{FunctionsOK}
+use Rattle.spec_statements.specs.ModuleFunctions.{FunctionsOK}
 use Rattle.spec_handles.specs.InOrder.{HandlesOK}
 use Rattle.spec_report.specs.Lines.{is_own, is_used}
 use Rattle.spec_report.specs.Reports.{IsEntryReport}

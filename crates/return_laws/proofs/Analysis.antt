@@ -12,7 +12,7 @@ use Rattle.spec_analysis.specs.Values.{is_source, ComesFrom, itself, through, No
 use Rattle.spec_analysis.specs.Uniformity.{Asked}
 use Rattle.spec_analysis.specs.Faults.{requirement_at}
 use Rattle.spec_analysis.specs.Faults.{FunctionFault}
-use Rattle.spec_functions.specs.Analysis.{HasWrongForm, IsAnalysed}
+use Rattle.spec_statements.specs.Analysis.{HasWrongForm, IsAnalysed}
 use Rattle.return_laws.specs.Alike.{Alike}
 use Rattle.return_laws.specs.Like.{LikeFunction, LikeModule}
 use Rattle.return_laws.proofs.Bodies.{asks_move}

@@ -25,7 +25,7 @@ use Rattle.spec_entries.specs.Payloads.{PayloadOK}
 use Rattle.spec_entries.specs.Stages.{StageOK}
 use Rattle.spec_entries.specs.Uses.{OwnUse, EntryUses}
 use Rattle.spec_entries.specs.Variables.{OwnPayloadOK, VariableOK, VariablesOK, IsUsed}
-use Rattle.spec_functions.specs.Held.{HasPayloadBefore}
+use Rattle.spec_statements.specs.Held.{HasPayloadBefore}
 use Rattle.return_laws.specs.Like.{LikeEntry, LikeModule}
 use Rattle.return_laws.proofs.Calls.{use_moves}
 use Rattle.return_laws.proofs.Functions.{payload_like, payload_before, function_moves, stage_moves}

@@ -15,9 +15,9 @@ use Rattle.spec_statements.specs.Functions.{FunctionSettings, AreFormsBy, block_
 use Rattle.spec_statements.specs.Payloads.{HasPayload}
 use Rattle.spec_statements.specs.Stages.{statement_stages}
 use Rattle.spec_statements.specs.Statements.{StatementOK}
-use Rattle.spec_functions.specs.Functions as functions
-use Rattle.spec_functions.specs.Functions.{settings_with, FunctionAtOK, FunctionsOK}
-use Rattle.spec_functions.specs.Held.{HasPayloadBefore, IsHeldBefore}
+use Rattle.spec_statements.specs.ModuleFunctions as functions
+use Rattle.spec_statements.specs.ModuleFunctions.{settings_with, FunctionAtOK, FunctionsOK}
+use Rattle.spec_statements.specs.Held.{HasPayloadBefore, IsHeldBefore}
 use Rattle.spec_entries.specs.Modules.{reading_with}
 use Rattle.return_laws.specs.Alike.{Carried, kept, extra}
 use Rattle.return_laws.specs.Like.{LikeFunction, LikeModule}

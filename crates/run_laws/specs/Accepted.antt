@@ -6,7 +6,7 @@ use Rattle.ir_blocks.specs.Plain.{PlainBlock}
 use Rattle.ir_blocks.specs.Tails.{IsCompleted}
 use Rattle.ir_items.specs.Plain.{PlainFunction, PlainEntry, PlainModule}
 use Rattle.spec_entries.specs.Modules.{EntryAtOK}
-use Rattle.spec_functions.specs.Functions.{FunctionsOK}
+use Rattle.spec_statements.specs.ModuleFunctions.{FunctionsOK}
 use Rattle.spec_handles.specs.InOrder.{HandlesOK}
 use Rattle.spec_statements.specs.Functions.{FunctionSettings}
 use Rattle.spec_varyings.specs.Contexts.{stage_set}

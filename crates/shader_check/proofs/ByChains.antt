@@ -16,10 +16,10 @@ use Rattle.spec_analysis.specs.Summaries.{Summary, CalleesKnown}
 use Rattle.spec_analysis.proofs.Members.{get-within}
 use Rattle.spec_expressions.specs.Context.{inside}
 use Rattle.spec_expressions.specs.declared.faults.TypingFault.{TypingFault}
-use Rattle.spec_functions.proofs.FormLaws.{wrong_by_summaries, wrong_by_chains}
-use Rattle.spec_functions.proofs.HeldLaws.{one_held}
-use Rattle.spec_functions.specs.Analysis.{IsAnalysed}
-use Rattle.spec_functions.specs.Functions.{reading_over, settings_with, FunctionAtOK}
+use Rattle.spec_statements.proofs.FormLaws.{wrong_by_summaries, wrong_by_chains}
+use Rattle.spec_statements.proofs.HeldLaws.{one_held}
+use Rattle.spec_statements.specs.Analysis.{IsAnalysed}
+use Rattle.spec_statements.specs.ModuleFunctions.{reading_over, settings_with, FunctionAtOK}
 use Rattle.spec_statements.specs.Functions.{FunctionSettings, FunctionOK, AreFormsBy}
 use Rattle.typing_forms.specs.declared.form.Form.{Form}
 use Rattle.function_real_lower.specs.Processed.{IsAnalysisFault, untyped, wrong_form, non_uniform}

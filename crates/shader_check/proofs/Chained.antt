@@ -19,10 +19,10 @@ use Rattle.module_handles.specs.Conditions.{FunctionConditions}
 use Rattle.spec_analysis.proofs.SummaryLaws.{callees_known}
 use Rattle.spec_analysis.specs.Summaries.{Summary, IsSummary, CalleesKnown, AreSummaries, CallsBelow}
 use Rattle.spec_statements.specs.ExpressionStages.{all_stages}
-use Rattle.spec_functions.proofs.CallLaws.{calls_precede}
-use Rattle.spec_functions.proofs.HeldLaws.{held_next}
-use Rattle.spec_functions.specs.Functions.{settings_with}
-use Rattle.spec_functions.specs.Held.{IsHeldBefore}
+use Rattle.spec_statements.proofs.CallLaws.{calls_precede}
+use Rattle.spec_statements.proofs.HeldLaws.{held_next}
+use Rattle.spec_statements.specs.ModuleFunctions.{settings_with}
+use Rattle.spec_statements.specs.Held.{IsHeldBefore}
 use Rattle.spec_handles.specs.InOrder.{HandlesOK}
 use Rattle.spec_statements.specs.Functions.{Reading, FunctionSettings, FunctionOK, AllowsStage}
 use Rattle.spec_statements.specs.Payloads.{IsHeldAfter}

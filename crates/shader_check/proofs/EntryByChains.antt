@@ -20,7 +20,7 @@ use Rattle.spec_analysis.specs.Summaries.{Summary, AreSummaries, CalleesKnown}
 use Rattle.spec_entries.proofs.OneStages.{all_agree, allows_other}
 use Rattle.spec_entries.specs.Entries.{EntryOK}
 use Rattle.spec_entries.specs.Modules.{reading_with, AreStages, entry_settings, EntryAtOK, IsConflict}
-use Rattle.spec_functions.specs.Functions.{reading_over}
+use Rattle.spec_statements.specs.ModuleFunctions.{reading_over}
 use Rattle.spec_handles.specs.InOrder.{HandlesOK}
 use Rattle.spec_statements.specs.Functions.{FunctionSettings, FunctionOK, AllowsStage}
 use Rattle.spec_varyings.specs.Contexts.{stage_set}

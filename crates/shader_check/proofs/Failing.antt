@@ -4,8 +4,8 @@ use Rattle.std.proofs.lemmas.Bool.{cases_lt}
 use Rattle.ir_items.specs.Plain.{PlainModule}
 use Rattle.spec_entries.specs.Modules as entries
 use Rattle.spec_entries.specs.Modules.{EntryAtOK, EntriesOK}
-use Rattle.spec_functions.specs.Functions as functions
-use Rattle.spec_functions.specs.Functions.{FunctionAtOK, FunctionsOK}
+use Rattle.spec_statements.specs.ModuleFunctions as functions
+use Rattle.spec_statements.specs.ModuleFunctions.{FunctionAtOK, FunctionsOK}
 use Rattle.spec_globals.specs.Globals as globals
 use Rattle.spec_globals.specs.Globals.{GlobalOK, GlobalsOK}
 use Rattle.spec_handles.specs.InOrder.{HandlesOK}

@@ -14,7 +14,7 @@ use Rattle.ir_items.specs.Plain.{PlainFunction, PlainModule}
 use Rattle.function_real_lower.specs.Readings.{reading_of}
 use Rattle.spec_analysis.specs.Summaries.{Summary}
 use Rattle.spec_entries.specs.Modules.{reading_with, AreStages}
-use Rattle.spec_functions.specs.Functions.{settings_with}
+use Rattle.spec_statements.specs.ModuleFunctions.{settings_with}
 use Rattle.spec_handles.specs.Conditions.{CalleesPrecede}
 use Rattle.spec_handles.specs.References.{computed, done, expression_names, statement_calls}
 use Rattle.spec_statements.specs.ExpressionStages.{all_stages, callee_stages, stages_in, stages_of}

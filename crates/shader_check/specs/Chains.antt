@@ -5,7 +5,7 @@ use Rattle.shader_check.specs.declared.functions.InvalidFunction.{InvalidFunctio
 use Rattle.ir_items.specs.Plain.{PlainModule}
 use Rattle.function_real_lower.specs.Readings.{reading_of, faults_of}
 use Rattle.spec_analysis.specs.Summaries.{Summary, AreSummaries}
-use Rattle.spec_functions.specs.Functions.{FunctionsOK, IsFirstFailing}
+use Rattle.spec_statements.specs.ModuleFunctions.{FunctionsOK, IsFirstFailing}
 use Rattle.spec_statements.specs.Functions.{FunctionSettings}
 
 -- All functions are accepted, and these are their summaries.

@@ -14,8 +14,8 @@ use Rattle.ir_flags.specs.declared.stages.ShaderStages.{ShaderStages}
 use Rattle.ir_items.specs.Plain.{PlainFunction, PlainModule}
 use Rattle.spec_analysis.specs.Summaries.{Summary, CalleesKnown, AreSummaries}
 use Rattle.spec_statements.specs.ExpressionStages.{all_stages}
-use Rattle.spec_functions.specs.Functions.{settings_with}
-use Rattle.spec_functions.specs.Held.{IsHeldBefore}
+use Rattle.spec_statements.specs.ModuleFunctions.{settings_with}
+use Rattle.spec_statements.specs.Held.{IsHeldBefore}
 use Rattle.spec_statements.specs.Functions.{Reading, FunctionSettings, FunctionOK, AllowsStage}
 
 -- What is known where the function at an index is judged: what its callees have over their chains, the stages of the functions

@@ -21,7 +21,7 @@ use Rattle.spec_analysis.specs.Summaries.{Summary, AreSummaries}
 use Rattle.spec_entries.specs.Modules as entries
 use Rattle.spec_entries.specs.Modules.{EntriesOK, AreStages, reading_with}
 use Rattle.spec_expressions.specs.Context.{outside}
-use Rattle.spec_functions.specs.Functions.{FunctionsOK}
+use Rattle.spec_statements.specs.ModuleFunctions.{FunctionsOK}
 use Rattle.spec_globals.specs.Globals.{GlobalsOK}
 use Rattle.spec_modules.specs.Steps.{ModuleOK}
 use Rattle.spec_modules.specs.declared.settings.ModuleSettings.{ModuleSettings}

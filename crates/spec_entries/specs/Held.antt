@@ -4,7 +4,7 @@ use Rattle.ir_flags.specs.Sets.{Has}
 use Rattle.ir_flags.specs.declared.settings.ValidationFlags.{ValidationFlags}
 use Rattle.ir_flags.specs.declared.settings.TheConstants.ValidationFlags.{BLOCKS}
 use Rattle.ir_items.specs.Plain.{PlainEntry, PlainModule}
-use Rattle.spec_functions.specs.Held.{HasPayloadBefore}
+use Rattle.spec_statements.specs.Held.{HasPayloadBefore}
 use Rattle.spec_statements.specs.Payloads.{HasPayload}
 
 -- a ray is traced with a payload of this type in one of the first so many entry points

@@ -6,7 +6,7 @@ use Rattle.ir_items.specs.Plain.{PlainEntry, PlainFunction, PlainModule}
 use Rattle.spec_analysis.specs.Chains.{HasUse}
 use Rattle.spec_entries.specs.Entries.{EntryOK}
 use Rattle.spec_entries.specs.Held.{IsHeldBeforeEntry}
-use Rattle.spec_functions.specs.Functions.{reading_over}
+use Rattle.spec_statements.specs.ModuleFunctions.{reading_over}
 use Rattle.spec_statements.specs.ExpressionStages.{all_stages, IsRunBy}
 use Rattle.spec_statements.specs.Functions.{Reading, FunctionSettings, AllowsStage}
 

@@ -6,9 +6,13 @@
 //! for each kind of statement, `specs/Checks.antt` one for each kind of expression that is no composition, which
 //! `specs/Expressions.antt` joins. The functions here do nothing: their contracts are what is known of the definitions
 //! ([`laws`], [`expression_laws`]), and what they say of small expressions ([`worked`]).
+//!
+//! `specs/ModuleFunctions.antt` says what is required of the functions of a module, one after the other: the rules of a function,
+//! read with the types, the analysis and the checks of expressions, and what the functions before it leave to it.
 #![tactic(auto)]
 
 pub mod expression_laws;
+pub mod function_laws;
 pub mod laws;
 mod shapes;
 pub mod worked;

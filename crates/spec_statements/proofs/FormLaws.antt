@@ -7,8 +7,8 @@ use Rattle.spec_analysis.proofs.Members.{among-get, get-among}
 use Rattle.spec_analysis.specs.Chains.{Step, Calls, HasPair}
 use Rattle.spec_analysis.specs.Effects.{runs, effects_of}
 use Rattle.spec_analysis.specs.Summaries.{Summary, CallsOne, CalleesKnown, IsWrongArgument, IsFormFault}
-use Rattle.spec_functions.specs.Analysis.{SamplesWrongForm, PassesWrongForm, HasWrongForm}
-use Rattle.spec_functions.specs.Laws.{FormsByCallees}
+use Rattle.spec_statements.specs.Analysis.{SamplesWrongForm, PassesWrongForm, HasWrongForm}
+use Rattle.spec_statements.specs.FunctionLaws.{FormsByCallees}
 
 some_is : {X : Type 0} {x y : X} → Some x ≡ Some y → x ≡ y
 some_is e = cc (e)

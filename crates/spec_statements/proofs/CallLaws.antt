@@ -10,7 +10,7 @@ use Rattle.typing_rules.specs.Laws.{IsAmong}
 use Rattle.spec_analysis.proofs.Members.{among-cases}
 use Rattle.spec_analysis.specs.Effects.{Effect, takes, samples, runs, discards, sampling_at, expression_effects, expressions_effects, leaving_effects, statement_effects, effects_in, effects_inside, effects_in_cases, effects_of}
 use Rattle.spec_analysis.specs.Operands.{Operand, expression_operands, statement_operands}
-use Rattle.spec_functions.specs.Laws.{CallsPrecede}
+use Rattle.spec_statements.specs.FunctionLaws.{CallsPrecede}
 use Rattle.spec_handles.specs.References.{done, statement_calls}
 
 -- a call of this function with these arguments stands in the block

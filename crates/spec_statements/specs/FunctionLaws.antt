@@ -3,8 +3,8 @@ use Rattle.std.specs.Prelude.{◌≡◌, ◌↔◌, ℕ, List, Option}
 use Rattle.ir_flags.specs.declared.settings.ValidationFlags.{ValidationFlags}
 use Rattle.ir_items.specs.Plain.{PlainFunction, PlainModule}
 use Rattle.spec_analysis.specs.Summaries.{Summary, CalleesKnown, CallsBelow, IsFormFault}
-use Rattle.spec_functions.specs.Analysis.{HasWrongForm}
-use Rattle.spec_functions.specs.Held.{IsHeldBefore}
+use Rattle.spec_statements.specs.Analysis.{HasWrongForm}
+use Rattle.spec_statements.specs.Held.{IsHeldBefore}
 use Rattle.spec_handles.specs.Conditions.{CalleesPrecede}
 
 -- at most one type is held

@@ -6,8 +6,8 @@ use Rattle.ir_flags.specs.Sets.{Has}
 use Rattle.ir_flags.specs.declared.settings.ValidationFlags.{ValidationFlags}
 use Rattle.ir_flags.specs.declared.settings.TheConstants.ValidationFlags.{BLOCKS}
 use Rattle.ir_items.specs.Plain.{PlainFunction, PlainModule}
-use Rattle.spec_functions.specs.Held.{HasPayloadBefore, IsHeldBefore}
-use Rattle.spec_functions.specs.Laws.{OneHeld}
+use Rattle.spec_statements.specs.Held.{HasPayloadBefore, IsHeldBefore}
+use Rattle.spec_statements.specs.FunctionLaws.{OneHeld}
 use Rattle.spec_statements.specs.Payloads.{HasPayload, PayloadsOK, IsHeldAfter}
 
 module _ (flags : ValidationFlags) (m : PlainModule) (count : ℕ) where

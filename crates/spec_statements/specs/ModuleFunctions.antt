@@ -5,8 +5,8 @@ use Rattle.spec_statements.specs.Expressions.{ExpressionOK}
 use Rattle.spec_statements.specs.Scene.{scene_of}
 use Rattle.spec_statements.specs.ExpressionStages.{IsRunBy}
 use Rattle.spec_expressions.specs.Typing.{HasType}
-use Rattle.spec_functions.specs.Analysis.{IsAnalysed}
-use Rattle.spec_functions.specs.Held.{IsHeldBefore}
+use Rattle.spec_statements.specs.Analysis.{IsAnalysed}
+use Rattle.spec_statements.specs.Held.{IsHeldBefore}
 use Rattle.spec_statements.specs.Functions.{Reading, FunctionSettings, FunctionOK}
 
 -- What is said of a function of a module: the types of its expressions by the rules of their kinds, the analysis by chains of

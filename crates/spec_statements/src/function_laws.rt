@@ -1,6 +1,6 @@
 //! What is known of the functions of a module.
 
-ghost use Rattle.spec_functions.specs.Laws.{OneHeld, FormsByCallees, CallsPrecede};
+ghost use Rattle.spec_statements.specs.FunctionLaws.{OneHeld, FormsByCallees, CallsPrecede};
 
 /// At most one type of payloads is held before a function.
 #[tactic(auto, using(crate::proofs::HeldLaws::one_held))]

@@ -1,3 +1,0 @@
-pub mod HeldLaws
-pub mod FormLaws
-pub mod CallLaws

@@ -1,4 +1,0 @@
-pub mod Held
-pub mod Analysis
-pub mod Functions
-pub mod Laws
