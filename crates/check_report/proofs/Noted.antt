@@ -3,7 +3,7 @@ use Rattle.std.proofs.Common.{◌≡◌, ◌⊎◌, ◌||◌, inl, inr, ℕ, Boo
 use Rattle.spec_analysis.specs.declared.sampling.GlobalOrArgument.TheVariants.{Global}
 use Rattle.ir_items.specs.Plain.{PlainEntry}
 use Rattle.check_report.specs.Laws.{NotedIsTold}
-use Rattle.spec_entries.specs.Uses.{OwnUse}
+use Rattle.spec_interface.specs.Uses.{OwnUse}
 use Rattle.spec_report.specs.Lines.{is_at, is_own, mesh_output}
 use Rattle.std.proofs.lemmas.Bool.{eq-eqb}
 

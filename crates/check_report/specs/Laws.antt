@@ -7,7 +7,7 @@ use Rattle.check_report.specs.Told.{IsEntryInfo}
 use Rattle.typing_rules.specs.Laws.{IsAmong}
 use Rattle.spec_analysis.specs.Chains.{HasUse, HasPair}
 use Rattle.spec_analysis.specs.Summaries.{HasUseBit}
-use Rattle.spec_entries.specs.Uses.{EntryUses}
+use Rattle.spec_interface.specs.Uses.{EntryUses}
 
 -- It has the uses of global variables that the entry point makes, over all chains of calls of its function and by its payload and
 -- its mesh output, and the pairs of its function.

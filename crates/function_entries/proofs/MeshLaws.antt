@@ -18,11 +18,11 @@ use Rattle.ir_kinds.specs.declared.stages.MeshOutputTopology.{MeshOutputTopology
 use Rattle.ir_kinds.specs.declared.stages.MeshOutputTopology.TheVariants.{Triangles}
 use Rattle.ir_types.specs.Plain.{PlainMember, PlainType}
 use Rattle.ir_types.specs.declared.types.ArraySize.{ArraySize}
-use Rattle.spec_entries.specs.Members.{members_at, topologies_at, types_bound}
-use Rattle.spec_entries.specs.Meshes.{AreParts, FieldsOK, HasParts, HoldsMost, Implies, IsCount, IsSaid, SaidBy, most, variable_members, without_overrides}
-use Rattle.spec_entries.specs.declared.parts.MeshPart.{MeshPart}
-use Rattle.spec_entries.specs.declared.parts.MeshPart.TheVariants.{VertexCount, Vertices, PrimitiveCount, Primitives}
-use Rattle.spec_entries.specs.declared.parts.MeshParts.{MeshParts}
+use Rattle.spec_interface.specs.Members.{members_at, topologies_at, types_bound}
+use Rattle.spec_interface.specs.Meshes.{AreParts, FieldsOK, HasParts, HoldsMost, Implies, IsCount, IsSaid, SaidBy, most, variable_members, without_overrides}
+use Rattle.spec_interface.specs.declared.parts.MeshPart.{MeshPart}
+use Rattle.spec_interface.specs.declared.parts.MeshPart.TheVariants.{VertexCount, Vertices, PrimitiveCount, Primitives}
+use Rattle.spec_interface.specs.declared.parts.MeshParts.{MeshParts}
 
 some_is : {A : Type 0} {x y : A} → Some x ≡ Some y → x ≡ y
 some_is e = cc (e)

@@ -2,7 +2,7 @@
 use Rattle.std.proofs.Common.{◌≡◌, ℕ, List, false, Option, Some, IfSome, sym, ap, subst, ◌∙◌, arith, true≢false}
 use Rattle.std.specs.Prelude.{IsSome, IsTrue, is_some}
 use Rattle.function_entries.proofs.MeshLaws.{said_refuted, same_implied}
-use Rattle.spec_entries.proofs.Places.{not_some_by}
+use Rattle.spec_interface.proofs.Places.{not_some_by}
 use Rattle.function_entries.specs.ConnectionFaults.{IsConnectionFault, of_arguments, of_result, of_answer, of_variables, of_mesh}
 use Rattle.function_entries.specs.Faults.{IsBindingFault, IsCapabilityFault, IsEarlyFault, IsFaultOfOne, IsImmediateFault, IsMeshInfoFault, IsPayloadUseFault, IsReachFault, IsSizeFault, IsStageFault, of_capability, of_early, of_sizes, of_mesh as of_mesh_info, IsUseFault, IsVariableFault, of_payload, of_stage, of_uses, IsVariablesFault, of_immediates, of_one, of_bindings}
 use Rattle.function_entries.specs.Laws.{ConnectionFaultRefutes, OneImplied, PayloadFaultRefutes, StageFaultRefutes}
@@ -23,18 +23,18 @@ use Rattle.ir_kinds.specs.declared.spaces.AddressSpace.TheVariants.{RayPayload, 
 use Rattle.ir_kinds.specs.declared.stages.ShaderStage.{ShaderStage}
 use Rattle.ir_types.specs.Plain.{PlainType}
 use Rattle.spec_analysis.specs.Summaries.{HasUseBit}
-use Rattle.spec_entries.specs.Entries.{ConnectionsOK}
-use Rattle.spec_entries.specs.Members.{members_at}
-use Rattle.spec_entries.specs.Meshes.{MeshOK}
-use Rattle.spec_entries.specs.Payloads.{space_at}
-use Rattle.spec_entries.specs.Results.{AnswerOK}
-use Rattle.spec_entries.specs.Stages.{StageOK, runs_in_workgroups}
-use Rattle.spec_entries.specs.Uses.{is_reached}
-use Rattle.spec_entries.specs.Variables.{VariableOK, VariablesOK}
-use Rattle.spec_varyings.specs.Contexts.{VaryingContext, context_of}
-use Rattle.spec_varyings.specs.Varyings.{VaryingsOK, argument_varyings, mesh_varyings, result_varyings}
-use Rattle.spec_varyings.specs.declared.varyings.Direction.TheVariants.{Input, Output, VertexOutput, PrimitiveOutput}
-use Rattle.spec_varyings.specs.declared.varyings.Varying.{Varying}
+use Rattle.spec_interface.specs.Entries.{ConnectionsOK}
+use Rattle.spec_interface.specs.Members.{members_at}
+use Rattle.spec_interface.specs.Meshes.{MeshOK}
+use Rattle.spec_interface.specs.Payloads.{space_at}
+use Rattle.spec_interface.specs.Results.{AnswerOK}
+use Rattle.spec_interface.specs.Stages.{StageOK, runs_in_workgroups}
+use Rattle.spec_interface.specs.Uses.{is_reached}
+use Rattle.spec_interface.specs.Variables.{VariableOK, VariablesOK}
+use Rattle.spec_interface.specs.Contexts.{VaryingContext, context_of}
+use Rattle.spec_interface.specs.Varyings.{VaryingsOK, argument_varyings, mesh_varyings, result_varyings}
+use Rattle.spec_interface.specs.declared.varyings.Direction.TheVariants.{Input, Output, VertexOutput, PrimitiveOutput}
+use Rattle.spec_interface.specs.declared.varyings.Varying.{Varying}
 use Rattle.function_varyings.proofs.Refuted.{fault_refutes}
 use Rattle.function_varyings.specs.declared.error.VaryingError.TheVariants as varying
 

@@ -12,8 +12,8 @@ use Rattle.ir_flags.specs.declared.settings.ValidationFlags.{ValidationFlags}
 use Rattle.ir_items.specs.Plain.{PlainEntry, PlainModule}
 use Rattle.ir_items.specs.declared.entries.MeshStageInfo.{MeshStageInfo}
 use Rattle.ir_types.specs.Plain.{PlainType}
-use Rattle.spec_varyings.specs.Contexts.{VaryingContext}
-use Rattle.spec_varyings.specs.declared.varyings.Varying.{Varying}
+use Rattle.spec_interface.specs.Contexts.{VaryingContext}
+use Rattle.spec_interface.specs.declared.varyings.Varying.{Varying}
 use Rattle.function_varyings.specs.Faults.{IsRefusal}
 use Rattle.function_varyings.specs.declared.error.VaryingRefusal.{VaryingRefusal}
 use Rattle.function_varyings.specs.declared.error.VaryingRefusal.TheVariants as varying

@@ -11,8 +11,8 @@ use Rattle.ir_flags.specs.declared.settings.Capabilities.{Capabilities}
 use Rattle.ir_flags.specs.declared.settings.ValidationFlags.{ValidationFlags}
 use Rattle.ir_items.specs.GlobalPlain.{PlainGlobal}
 use Rattle.ir_items.specs.Plain.{PlainEntry, PlainModule}
-use Rattle.spec_entries.specs.Entries.{ConnectionsOK}
-use Rattle.spec_entries.specs.Variables.{IsUsed, VariableOK, VariablesOK}
+use Rattle.spec_interface.specs.Entries.{ConnectionsOK}
+use Rattle.spec_interface.specs.Variables.{IsUsed, VariableOK, VariablesOK}
 
 module _ (m : PlainModule) (e : PlainEntry) (U V : ℕ → ℕ → Type 0) (same : (g k : ℕ) → g < length m.globals → U g k ↔ V g k) where
   used_to : (g : ℕ) → g < length m.globals → IsUsed U g → IsUsed V g

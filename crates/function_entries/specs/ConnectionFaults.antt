@@ -8,9 +8,9 @@ use Rattle.ir_flags.specs.declared.settings.Capabilities.{Capabilities}
 use Rattle.ir_flags.specs.declared.settings.ValidationFlags.{ValidationFlags}
 use Rattle.ir_items.specs.Plain.{PlainEntry, PlainModule}
 use Rattle.ir_items.specs.declared.entries.MeshStageInfo.{MeshStageInfo}
-use Rattle.spec_varyings.specs.Contexts.{context_of}
-use Rattle.spec_varyings.specs.Varyings.{result_varyings}
-use Rattle.spec_varyings.specs.declared.varyings.Direction.TheVariants.{Input, Output}
+use Rattle.spec_interface.specs.Contexts.{context_of}
+use Rattle.spec_interface.specs.Varyings.{result_varyings}
+use Rattle.spec_interface.specs.declared.varyings.Direction.TheVariants.{Input, Output}
 
 pub data IsConnectionFault (flags : ValidationFlags) (capabilities : Capabilities) (m : PlainModule) (e : PlainEntry) (Uses : ℕ → ℕ → Type 0) (x : EntryPointError) : Type 0 where
   of_arguments : IsArgumentFault (context_of flags capabilities m e Input) e.function.arguments x → IsConnectionFault flags capabilities m e Uses x

@@ -3,9 +3,9 @@ use Rattle.std.specs.Prelude.{◌≡◌, length}
 use Rattle.function_entries.specs.declared.context.EntryContext.{EntryContext}
 use Rattle.ir_items.specs.Plain.{PlainEntry, PlainModule}
 use Rattle.ir_items.specs.View.{entry_view, module_view}
-use Rattle.spec_varyings.specs.Contexts.{VaryingContext, context_of}
-use Rattle.spec_varyings.specs.declared.varyings.Direction.{Direction}
-use Rattle.spec_varyings.specs.declared.varyings.Direction.TheVariants.{Input}
+use Rattle.spec_interface.specs.Contexts.{VaryingContext, context_of}
+use Rattle.spec_interface.specs.declared.varyings.Direction.{Direction}
+use Rattle.spec_interface.specs.declared.varyings.Direction.TheVariants.{Input}
 use Rattle.module_type_checks.specs.Known.{AreInfos}
 use Rattle.function_entries.specs.Interfaces.{AreInterfacesKnown}
 use Rattle.function_entries.specs.declared.known.KnownInterfaces.{KnownInterfaces}

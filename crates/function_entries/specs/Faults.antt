@@ -19,10 +19,10 @@ use Rattle.ir_kinds.specs.declared.spaces.AddressSpace.{AddressSpace}
 use Rattle.ir_kinds.specs.declared.spaces.AddressSpace.TheVariants.{Immediate, TaskPayload, RayPayload, IncomingRayPayload}
 use Rattle.ir_kinds.specs.declared.stages.ShaderStage.{ShaderStage}
 use Rattle.ir_kinds.specs.declared.stages.ShaderStage.TheVariants.{Fragment, Mesh, Task}
-use Rattle.spec_entries.specs.Payloads.{space_at, binding_at, has_payload}
-use Rattle.spec_entries.specs.Stages.{runs_in_workgroups, stage_capability, SizeOK}
-use Rattle.spec_entries.specs.Uses.{traces_rays, is_run_for_rays}
-use Rattle.spec_entries.specs.Variables.{AllowsUses, IsUsed, least_payload}
+use Rattle.spec_interface.specs.Payloads.{space_at, binding_at, has_payload}
+use Rattle.spec_interface.specs.Stages.{runs_in_workgroups, stage_capability, SizeOK}
+use Rattle.spec_interface.specs.Uses.{traces_rays, is_run_for_rays}
+use Rattle.spec_interface.specs.Variables.{AllowsUses, IsUsed, least_payload}
 use Rattle.typing_layout.specs.Layout.{size}
 use Rattle.typing_layout.specs.View.{type_tree}
 use Rattle.function_varyings.specs.declared.error.VaryingError.{VaryingError}

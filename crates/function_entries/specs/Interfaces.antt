@@ -8,9 +8,9 @@ use Rattle.ir_flags.specs.declared.settings.Capabilities.{Capabilities}
 use Rattle.ir_flags.specs.declared.settings.ValidationFlags.{ValidationFlags}
 use Rattle.ir_kinds.specs.declared.stages.MeshOutputTopology.{MeshOutputTopology}
 use Rattle.ir_types.specs.Plain.{PlainMember, PlainType}
-use Rattle.spec_entries.specs.Members.{members_at, topologies_at}
-use Rattle.spec_entries.specs.Meshes.{AreParts}
-use Rattle.spec_entries.specs.declared.parts.MeshParts.{MeshParts}
+use Rattle.spec_interface.specs.Members.{members_at, topologies_at}
+use Rattle.spec_interface.specs.Meshes.{AreParts}
+use Rattle.spec_interface.specs.declared.parts.MeshParts.{MeshParts}
 use Rattle.function_varyings.specs.Known.{AreKnownOf}
 
 -- the type is a struct with these parts

@@ -10,10 +10,10 @@ use Rattle.ir_items.specs.Plain.{PlainEntry, PlainModule}
 use Rattle.ir_items.specs.declared.entries.MeshStageInfo.{MeshStageInfo}
 use Rattle.spec_analysis.specs.Summaries.{HasUseBit}
 use Rattle.spec_analysis.specs.declared.global_use.GlobalUse.{GlobalUse}
-use Rattle.spec_entries.specs.Entries.{ConnectionsOK}
-use Rattle.spec_entries.specs.Meshes.{Implies}
-use Rattle.spec_entries.specs.Payloads.{PayloadOK}
-use Rattle.spec_entries.specs.Stages.{StageOK}
+use Rattle.spec_interface.specs.Entries.{ConnectionsOK}
+use Rattle.spec_interface.specs.Meshes.{Implies}
+use Rattle.spec_interface.specs.Payloads.{PayloadOK}
+use Rattle.spec_interface.specs.Stages.{StageOK}
 
 abbrev pub StageFaultRefutes : Type 0
 StageFaultRefutes = (capabilities : Capabilities) (e : PlainEntry) (x : EntryPointError) → IsStageFault capabilities e x → ¬ StageOK capabilities e

@@ -5,9 +5,9 @@ use Rattle.function_entries.specs.declared.error.EntryPointError.TheVariants as 
 use Rattle.ir_items.specs.Plain.{PlainModule}
 use Rattle.ir_items.specs.declared.entries.MeshStageInfo.{MeshStageInfo}
 use Rattle.ir_kinds.specs.declared.stages.MeshOutputTopology.{MeshOutputTopology}
-use Rattle.spec_entries.specs.Members.{topologies_at}
-use Rattle.spec_entries.specs.Meshes.{FieldsOK, HasParts, Implies, IsSaid}
-use Rattle.spec_entries.specs.declared.parts.MeshParts.{MeshParts}
+use Rattle.spec_interface.specs.Members.{topologies_at}
+use Rattle.spec_interface.specs.Meshes.{FieldsOK, HasParts, Implies, IsSaid}
+use Rattle.spec_interface.specs.declared.parts.MeshParts.{MeshParts}
 
 -- both say the same, overrides and the variable aside
 pub record AreSame (i j : MeshStageInfo) : Type 0 where

@@ -2,8 +2,8 @@
 use Rattle.std.specs.Prelude.{ℕ}
 use Rattle.function_entries.specs.declared.meshes.Fields.{Fields}
 use Rattle.ir_items.specs.Plain.{PlainModule}
-use Rattle.spec_entries.specs.Meshes.{HasParts, HoldsMost, IsCount}
-use Rattle.spec_entries.specs.declared.parts.MeshParts.{MeshParts}
+use Rattle.spec_interface.specs.Meshes.{HasParts, HoldsMost, IsCount}
+use Rattle.spec_interface.specs.declared.parts.MeshParts.{MeshParts}
 
 -- the variable has parts, of which these are the vertices and the primitives
 pub record HasFields (m : PlainModule) (variable : ℕ) (f : Fields) : Type 0 where

@@ -13,10 +13,10 @@ use Rattle.ir_items.specs.declared.entries.MeshStageInfo.{MeshStageInfo}
 use Rattle.ir_kinds.specs.declared.bindings.BuiltIn.TheVariants.{Position}
 use Rattle.ir_kinds.specs.declared.spaces.AddressSpace.TheVariants.{WorkGroup}
 use Rattle.ir_kinds.specs.declared.stages.MeshOutputTopology.TheVariants.{Points}
-use Rattle.spec_entries.specs.Payloads.{space_at}
-use Rattle.spec_varyings.specs.Contexts.{context_of}
-use Rattle.spec_varyings.specs.Varyings.{HasBuiltIn, mesh_varyings}
-use Rattle.spec_varyings.specs.declared.varyings.Direction.TheVariants.{VertexOutput, PrimitiveOutput}
+use Rattle.spec_interface.specs.Payloads.{space_at}
+use Rattle.spec_interface.specs.Contexts.{context_of}
+use Rattle.spec_interface.specs.Varyings.{HasBuiltIn, mesh_varyings}
+use Rattle.spec_interface.specs.declared.varyings.Direction.TheVariants.{VertexOutput, PrimitiveOutput}
 
 -- points need a capability, which is not there
 abbrev pub IsPointFault : Capabilities → MeshStageInfo → EntryPointError → Type 0

@@ -11,11 +11,11 @@ use Rattle.ir_kinds.specs.declared.bindings.BuiltIn.TheVariants.{Position}
 use Rattle.ir_kinds.specs.declared.stages.ShaderStage.{ShaderStage}
 use Rattle.ir_kinds.specs.declared.stages.ShaderStage.TheVariants.{Vertex, Mesh, Task}
 use Rattle.ir_types.specs.Plain.{PlainType}
-use Rattle.spec_entries.specs.Members.{members_at}
-use Rattle.spec_entries.specs.Results.{GivesTaskSize}
-use Rattle.spec_varyings.specs.Contexts.{VaryingContext}
-use Rattle.spec_varyings.specs.Varyings.{HasBuiltIn, argument_varyings, mesh_varyings, result_varyings}
-use Rattle.spec_varyings.specs.declared.varyings.Varying.{Varying}
+use Rattle.spec_interface.specs.Members.{members_at}
+use Rattle.spec_interface.specs.Results.{GivesTaskSize}
+use Rattle.spec_interface.specs.Contexts.{VaryingContext}
+use Rattle.spec_interface.specs.Varyings.{HasBuiltIn, argument_varyings, mesh_varyings, result_varyings}
+use Rattle.spec_interface.specs.declared.varyings.Varying.{Varying}
 use Rattle.function_varyings.specs.Faults.{IsVaryingFault}
 use Rattle.function_varyings.specs.declared.error.VaryingRefusal.{VaryingRefusal}
 use Rattle.function_varyings.specs.declared.error.VaryingRefusal.TheVariants as varying

@@ -6,8 +6,8 @@ ghost use Rattle.function_entries.specs.Faults.{IsBindingFault, IsRefusedFor};
 ghost use Rattle.ir_items.specs.View.{module_view};
 ghost use Rattle.ir_kinds.specs.declared.bindings.ResourceBinding.{ResourceBinding};
 ghost use Rattle.spec_analysis.specs.Summaries.{HasUseBit};
-ghost use Rattle.spec_entries.specs.Payloads.{binding_at};
-ghost use Rattle.spec_entries.specs.Variables.{BindingsApart, IsUsed};
+ghost use Rattle.spec_interface.specs.Payloads.{binding_at};
+ghost use Rattle.spec_interface.specs.Variables.{BindingsApart, IsUsed};
 
 use crate::error::EntryPointError;
 use spec_analysis::GlobalUse;
@@ -17,7 +17,7 @@ use ir_faults::with_span::WithSpan;
 use ir_items::Module;
 use ir_kinds::ResourceBinding;
 use ir_types::key;
-use spec_entries::{binding_at, use_at};
+use spec_interface::{binding_at, use_at};
 use std::alloc::{AllocError, Global};
 use std::collections::BTreeSet;
 

@@ -7,9 +7,9 @@ ghost use Rattle.function_entries.specs.Faults.{IsRefusedFor, IsVariablesFault};
 ghost use Rattle.ir_items.specs.View.{entry_view, module_view};
 ghost use Rattle.ir_items.specs.declared.entries.MeshStageInfo.{MeshStageInfo};
 ghost use Rattle.spec_analysis.specs.Summaries.{HasUseBit};
-ghost use Rattle.spec_entries.specs.Entries.{ConnectionsOK};
-ghost use Rattle.spec_entries.specs.Variables.{VariablesOK};
-ghost use Rattle.spec_varyings.specs.Varyings.{HasBlendSources, result_varyings};
+ghost use Rattle.spec_interface.specs.Entries.{ConnectionsOK};
+ghost use Rattle.spec_interface.specs.Variables.{VariablesOK};
+ghost use Rattle.spec_interface.specs.Varyings.{HasBlendSources, result_varyings};
 
 use crate::bindings::check_bindings;
 use crate::context::EntryContext;

@@ -6,7 +6,7 @@ ghost use Rattle.function_varyings.specs.View.{IsTold, context_view};
 
 use ir_flags::{Capabilities, ValidationFlags};
 use ir_items::{EntryPoint, Module};
-use spec_varyings::Direction;
+use spec_interface::Direction;
 use module_type_infos::TypeInfo;
 use function_varyings::VaryingContext;
 

@@ -7,14 +7,14 @@ ghost use Rattle.ir_flags.specs.declared.settings.ValidationFlags.{ValidationFla
 ghost use Rattle.ir_items.specs.View.{module_view};
 ghost use Rattle.ir_kinds.specs.declared.stages.MeshOutputTopology.{MeshOutputTopology};
 ghost use Rattle.ir_types.specs.Plain.{PlainType};
-ghost use Rattle.spec_entries.specs.Members.{topologies_at};
-ghost use Rattle.spec_entries.specs.declared.parts.MeshParts.{MeshParts};
+ghost use Rattle.spec_interface.specs.Members.{topologies_at};
+ghost use Rattle.spec_interface.specs.declared.parts.MeshParts.{MeshParts};
 
 use ir_arena::handle::Handle;
 use ir_items::Module;
 use ir_kinds::MeshOutputTopology;
 use ir_types::key;
-use spec_entries::{MeshParts, members_at, parts_of, topology_at};
+use spec_interface::{MeshParts, members_at, parts_of, topology_at};
 use std::alloc::{AllocError, Global};
 use std::collections::BTreeMap;
 use function_varyings::KnownTypes;

@@ -4,7 +4,7 @@ ghost use Rattle.std.specs.Prelude.{◌<◌, MatchOption, None, length, slice_in
 ghost use Rattle.function_entries.specs.MeshFaults.{IsImpliedFault};
 ghost use Rattle.ir_faults.specs.Faults.{error_of};
 ghost use Rattle.ir_items.specs.Plain.{PlainModule};
-ghost use Rattle.spec_entries.specs.Meshes.{Implies};
+ghost use Rattle.spec_interface.specs.Meshes.{Implies};
 
 use crate::error::EntryPointError;
 use crate::meshes::implied_mesh;

@@ -9,9 +9,9 @@ ghost use Rattle.ir_flags.specs.Sets.{Has};
 ghost use Rattle.ir_flags.specs.declared.settings.TheConstants.Capabilities.{MESH_SHADER_POINT_TOPOLOGY};
 ghost use Rattle.ir_items.specs.View.{module_view};
 ghost use Rattle.ir_kinds.specs.declared.stages.MeshOutputTopology.TheVariants.{Points};
-ghost use Rattle.spec_entries.specs.Meshes.{IsSaid, MeshOK, VertexOK};
+ghost use Rattle.spec_interface.specs.Meshes.{IsSaid, MeshOK, VertexOK};
 ghost use Rattle.ir_kinds.specs.declared.spaces.AddressSpace.TheVariants.{WorkGroup};
-ghost use Rattle.spec_entries.specs.Payloads.{space_at};
+ghost use Rattle.spec_interface.specs.Payloads.{space_at};
 
 use crate::context::EntryContext;
 use crate::error::EntryPointError;
@@ -26,8 +26,8 @@ use ir_flags::Capabilities;
 use ir_items::{MeshStageInfo, Module};
 use ir_kinds::MeshOutputTopology;
 use ir_types::key;
-use spec_entries::{is_workgroup, space_at};
-use spec_varyings::Direction;
+use spec_interface::{is_workgroup, space_at};
+use spec_interface::Direction;
 use std::alloc::Global;
 use function_varyings::KnownTypes;
 

@@ -3,12 +3,12 @@
 ghost use Rattle.std.specs.Prelude.{◌≡◌, ◌<◌, IfSome, MatchResult, length};
 ghost use Rattle.function_entries.specs.Faults.{IsPayloadFault};
 ghost use Rattle.ir_items.specs.View.{entry_view, module_view};
-ghost use Rattle.spec_entries.specs.Payloads.{PayloadOK, has_payload};
+ghost use Rattle.spec_interface.specs.Payloads.{PayloadOK, has_payload};
 
 use crate::error::EntryPointError;
 use ir_items::{EntryPoint, Module};
 use ir_kinds::ShaderStage;
-use spec_entries::{is_task_payload, space_at};
+use spec_interface::{is_task_payload, space_at};
 
 // Whether a stage hands a payload on, or may be handed one.
 const fn has_payload(stage: ShaderStage) -> bool

@@ -5,15 +5,15 @@ ghost use Rattle.function_entries.specs.Faults.{IsCapabilityFault, IsEarlyFault,
 ghost use Rattle.ir_flags.specs.Sets.{Has};
 ghost use Rattle.ir_items.specs.View.{entry_view};
 ghost use Rattle.ir_kinds.specs.declared.stages.ShaderStage.TheVariants.{Mesh};
-ghost use Rattle.spec_entries.specs.Stages.{runs_in_workgroups, stage_capability, SizeOK, EarlyOK, StageOK};
-ghost use Rattle.spec_varyings.specs.Contexts.{stage_set};
+ghost use Rattle.spec_interface.specs.Stages.{runs_in_workgroups, stage_capability, SizeOK, EarlyOK, StageOK};
+ghost use Rattle.spec_interface.specs.Contexts.{stage_set};
 
 use crate::error::EntryPointError;
 use bitflags::Flags;
 use ir_flags::{Capabilities, ShaderStages};
 use ir_items::EntryPoint;
 use ir_kinds::ShaderStage;
-use spec_entries::MAX_WORKGROUP_SIZE;
+use spec_interface::MAX_WORKGROUP_SIZE;
 use function_varyings::VaryingError;
 
 /// The set of one stage.

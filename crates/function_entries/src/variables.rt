@@ -7,9 +7,9 @@ ghost use Rattle.ir_items.specs.GlobalView.{global_view};
 ghost use Rattle.ir_items.specs.View.{entry_view, module_view};
 ghost use Rattle.ir_kinds.specs.declared.spaces.AddressSpace.TheVariants.{Immediate, TaskPayload};
 ghost use Rattle.spec_analysis.specs.Summaries.{HasUseBit};
-ghost use Rattle.spec_entries.specs.Payloads.{space_at};
-ghost use Rattle.spec_entries.specs.Uses.{is_reached};
-ghost use Rattle.spec_entries.specs.Variables.{EachOK, IsUsed, OneImmediate, OwnPayloadOK, VariableOK};
+ghost use Rattle.spec_interface.specs.Payloads.{space_at};
+ghost use Rattle.spec_interface.specs.Uses.{is_reached};
+ghost use Rattle.spec_interface.specs.Variables.{EachOK, IsUsed, OneImmediate, OwnPayloadOK, VariableOK};
 ghost use Rattle.typing_layout.specs.Layout.{size};
 ghost use Rattle.typing_layout.specs.View.{type_tree};
 
@@ -20,7 +20,7 @@ use ir_arena::handle::Handle;
 use ir_items::{EntryPoint, GlobalVariable, Module};
 use ir_kinds::{AddressSpace, ShaderStage};
 use ir_types::key;
-use spec_entries::{
+use spec_interface::{
     allowed_uses, inner_at, is_immediate, is_run_for_rays, is_task_payload, space_at, traces_rays,
     use_at,
 };

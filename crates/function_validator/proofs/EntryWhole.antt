@@ -25,11 +25,11 @@ use Rattle.ir_kinds.specs.declared.stages.ShaderStage.TheVariants.{Vertex, Fragm
 use Rattle.typing_rules.specs.Laws.{IsAmong}
 use Rattle.spec_analysis.specs.Chains.{HasUse, HasPair, MayKill}
 use Rattle.spec_analysis.specs.Summaries.{HasUseBit, IsSummary, Summary}
-use Rattle.spec_entries.specs.Entries.{ConnectionsOK}
-use Rattle.spec_entries.specs.Uses.{EntryUses}
+use Rattle.spec_interface.specs.Entries.{ConnectionsOK}
+use Rattle.spec_interface.specs.Uses.{EntryUses}
 use Rattle.spec_statements.specs.ExpressionStages.{all_stages}
 use Rattle.spec_statements.specs.Functions.{AllowsStage, FunctionOK, FunctionSettings, Reading}
-use Rattle.spec_varyings.specs.Contexts.{stage_set}
+use Rattle.spec_interface.specs.Contexts.{stage_set}
 
 -- ---- refusals
 

@@ -9,13 +9,13 @@ use Rattle.ir_items.specs.Plain.{PlainEntry, PlainModule}
 use Rattle.typing_rules.specs.Laws.{IsAmong}
 use Rattle.spec_analysis.specs.Chains.{HasUse, HasPair, MayKill}
 use Rattle.spec_analysis.specs.Summaries.{Summary, HasUseBit}
-use Rattle.spec_entries.specs.Entries.{EntryOK}
-use Rattle.spec_entries.specs.Modules.{entry_settings}
-use Rattle.spec_entries.specs.Uses.{EntryUses}
+use Rattle.spec_interface.specs.Entries.{EntryOK}
+use Rattle.spec_interface.specs.Modules.{entry_settings}
+use Rattle.spec_interface.specs.Uses.{EntryUses}
 use Rattle.spec_statements.specs.ExpressionStages.{all_stages}
 use Rattle.spec_statements.specs.Functions.{Reading, FunctionSettings, AllowsStage}
 use Rattle.spec_statements.specs.Payloads.{IsHeldAfter}
-use Rattle.spec_varyings.specs.Varyings.{HasBlendSources, result_varyings}
+use Rattle.spec_interface.specs.Varyings.{HasBlendSources, result_varyings}
 
 -- The summary has the uses of global variables that the entry point makes, over all chains of calls of its function and by its
 -- payload and its mesh output, the pairs of its function, and whether that may end the fragment.

@@ -8,9 +8,9 @@ ghost use Rattle.function_validator.specs.Validated.{AddsOwnUses, TellsSame};
 ghost use Rattle.ir_items.specs.View.{entry_view, module_view};
 ghost use Rattle.ir_items.specs.declared.entries.MeshStageInfo.{MeshStageInfo};
 ghost use Rattle.spec_analysis.specs.Summaries.{HasUseBit};
-ghost use Rattle.spec_entries.specs.Entries.{ConnectionsOK};
-ghost use Rattle.spec_entries.specs.Uses.{EntryUses, mesh_output};
-ghost use Rattle.spec_varyings.specs.Varyings.{HasBlendSources, result_varyings};
+ghost use Rattle.spec_interface.specs.Entries.{ConnectionsOK};
+ghost use Rattle.spec_interface.specs.Uses.{EntryUses, mesh_output};
+ghost use Rattle.spec_interface.specs.Varyings.{HasBlendSources, result_varyings};
 
 use crate::settings::FunctionSettings;
 use crate::uses::{note_own, uses_of};

@@ -15,7 +15,7 @@ ghost use Rattle.ir_proc.specs.Filters.{ParentsPrecede};
 ghost use Rattle.spec_analysis.specs.Chains.{HasUse};
 ghost use Rattle.spec_analysis.specs.Summaries.{CalleesKnown};
 ghost use Rattle.spec_handles.specs.Conditions.{HandlesInRange, OperandsPrecede};
-ghost use Rattle.spec_varyings.specs.Contexts.{stage_set};
+ghost use Rattle.spec_interface.specs.Contexts.{stage_set};
 ghost use Rattle.function_statement_checks.specs.Descriptors.{AreDescriptors};
 
 use crate::connect::connect;

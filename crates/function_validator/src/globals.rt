@@ -6,7 +6,7 @@ ghost use Rattle.module_globals.specs.Faults.{IsWrongBy};
 ghost use Rattle.module_globals.specs.Initializers.{IsInitializer, IsTypedBy};
 ghost use Rattle.ir_items.specs.GlobalView.{global_view};
 ghost use Rattle.ir_items.specs.View.{module_view};
-ghost use Rattle.spec_globals.specs.Globals.{VariableBy};
+ghost use Rattle.spec_interface.specs.Globals.{VariableBy};
 ghost use Rattle.spec_handles.specs.InOrder.{HandlesOK};
 
 use function_interface::Lower;

@@ -4,7 +4,7 @@ ghost use Rattle.std.specs.Prelude.{◌≡◌, ◌<◌, ◌≤◌, ◌↔◌, �
 ghost use Rattle.std.specs.Int.{bit_at};
 ghost use Rattle.ir_items.specs.View.{entry_view};
 ghost use Rattle.spec_analysis.specs.Summaries.{HasUseBit};
-ghost use Rattle.spec_entries.specs.Uses.{OwnUse, mesh_output, own_payload_use};
+ghost use Rattle.spec_interface.specs.Uses.{OwnUse, mesh_output, own_payload_use};
 
 use spec_analysis::GlobalUse;
 use function_interface::Lower;

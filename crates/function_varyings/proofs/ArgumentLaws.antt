@@ -12,11 +12,11 @@ use Rattle.ir_kinds.specs.declared.bindings.BuiltIn.{BuiltIn}
 use Rattle.ir_kinds.specs.declared.bindings.BuiltIn.TheVariants.{Position, Barycentric}
 use Rattle.ir_sets.specs.Bits.{has_bit}
 use Rattle.ir_types.specs.Plain.{PlainType}
-use Rattle.spec_varyings.specs.Contexts.{VaryingContext}
-use Rattle.spec_varyings.specs.Varyings.{AreApart, BoundOK, ShowsAt, VaryingsOK, argument_varyings, argument_varyings_from, bounds, built_in_of, canonical, location_of, varying, varyings_of}
-use Rattle.spec_varyings.specs.declared.varyings.Bound.{Bound}
-use Rattle.spec_varyings.specs.declared.varyings.Bound.TheVariants.{BuiltIn as built_in, Location as at_location, BlendSources, Nothing, NoMember}
-use Rattle.spec_varyings.specs.declared.varyings.Varying.{Varying}
+use Rattle.spec_interface.specs.Contexts.{VaryingContext}
+use Rattle.spec_interface.specs.Varyings.{AreApart, BoundOK, ShowsAt, VaryingsOK, argument_varyings, argument_varyings_from, bounds, built_in_of, canonical, location_of, varying, varyings_of}
+use Rattle.spec_interface.specs.declared.varyings.Bound.{Bound}
+use Rattle.spec_interface.specs.declared.varyings.Bound.TheVariants.{BuiltIn as built_in, Location as at_location, BlendSources, Nothing, NoMember}
+use Rattle.spec_interface.specs.declared.varyings.Varying.{Varying}
 use Rattle.function_varyings.proofs.MarkLaws.{none_some}
 use Rattle.function_varyings.proofs.Places.{some_is}
 use Rattle.function_varyings.specs.Known.{IsNewlyGiven}

@@ -10,17 +10,17 @@ use Rattle.ir_flags.specs.declared.settings.ValidationFlags.{ValidationFlags}
 use Rattle.ir_kinds.specs.declared.stages.ShaderStage.{ShaderStage}
 use Rattle.ir_kinds.specs.declared.stages.ShaderStage.TheVariants.{Vertex, Fragment, Compute, Mesh, Task, RayGeneration, AnyHit, ClosestHit, Miss}
 use Rattle.ir_types.specs.Plain.{PlainType}
-use Rattle.spec_varyings.specs.BuiltIns.{AreRows, ExceptionOK, IsAhead}
-use Rattle.spec_varyings.specs.Contexts.{VaryingContext}
-use Rattle.spec_varyings.specs.Rows.{built_in_row}
-use Rattle.spec_varyings.specs.Varyings.{BoundOK, VaryingsOK, mesh_varyings}
-use Rattle.spec_varyings.specs.declared.rows.Exception.{Exception}
-use Rattle.spec_varyings.specs.declared.rows.Exception.TheVariants as exception
-use Rattle.spec_varyings.specs.declared.varyings.Bound.{Bound}
-use Rattle.spec_varyings.specs.declared.varyings.Bound.TheVariants.{BuiltIn as built_in, Location as location, BlendSources, Nothing, NoMember}
-use Rattle.spec_varyings.specs.declared.varyings.Direction.{Direction}
-use Rattle.spec_varyings.specs.declared.varyings.Direction.TheVariants.{Input, Output, VertexOutput, PrimitiveOutput}
-use Rattle.spec_varyings.specs.declared.varyings.Varying.{Varying}
+use Rattle.spec_interface.specs.BuiltIns.{AreRows, ExceptionOK, IsAhead}
+use Rattle.spec_interface.specs.Contexts.{VaryingContext}
+use Rattle.spec_interface.specs.Rows.{built_in_row}
+use Rattle.spec_interface.specs.Varyings.{BoundOK, VaryingsOK, mesh_varyings}
+use Rattle.spec_interface.specs.declared.rows.Exception.{Exception}
+use Rattle.spec_interface.specs.declared.rows.Exception.TheVariants as exception
+use Rattle.spec_interface.specs.declared.varyings.Bound.{Bound}
+use Rattle.spec_interface.specs.declared.varyings.Bound.TheVariants.{BuiltIn as built_in, Location as location, BlendSources, Nothing, NoMember}
+use Rattle.spec_interface.specs.declared.varyings.Direction.{Direction}
+use Rattle.spec_interface.specs.declared.varyings.Direction.TheVariants.{Input, Output, VertexOutput, PrimitiveOutput}
+use Rattle.spec_interface.specs.declared.varyings.Varying.{Varying}
 use Rattle.function_varyings.specs.Known.{AreNotedFor, IsShownBy, IsWayOf, digit, direction_number, number_of, pair_cmp, stage_number}
 use Rattle.function_varyings.specs.declared.known.Shown.{Shown}
 use Rattle.function_varyings.specs.declared.known.Way.{Way}

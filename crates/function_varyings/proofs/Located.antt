@@ -3,9 +3,9 @@ use Rattle.std.proofs.Common.{◌≡◌, ℕ, Some, Result, Ok, Err, MatchResult
 use Rattle.ir_flags.specs.Sets.{Has}
 use Rattle.ir_flags.specs.declared.settings.TheConstants.Capabilities.{MULTISAMPLED_SHADING}
 use Rattle.ir_kinds.specs.declared.bindings.Sampling.TheVariants.{Sample}
-use Rattle.spec_varyings.specs.Contexts.{VaryingContext}
-use Rattle.spec_varyings.specs.Locations.{LocationOK}
-use Rattle.spec_varyings.specs.declared.varyings.Location.{Location}
+use Rattle.spec_interface.specs.Contexts.{VaryingContext}
+use Rattle.spec_interface.specs.Locations.{LocationOK}
+use Rattle.spec_interface.specs.declared.varyings.Location.{Location}
 use Rattle.function_varyings.specs.Faults.{IsLocationFault}
 use Rattle.function_varyings.specs.Steps.{AreCombined, IsKept, IsSpread, ValueOK}
 use Rattle.function_varyings.specs.declared.error.VaryingError.{VaryingError}

@@ -11,20 +11,20 @@ use Rattle.ir_kinds.specs.declared.stages.ShaderStage.{ShaderStage}
 use Rattle.ir_kinds.specs.declared.stages.ShaderStage.TheVariants.{Fragment}
 use Rattle.typing_layout.specs.Flags.{HasFlag, IoShareable}
 use Rattle.typing_layout.specs.View.{type_tree}
-use Rattle.spec_varyings.specs.BuiltIns.{BuiltInOK, ExceptionOK, IsFree, RowOK}
-use Rattle.spec_varyings.specs.Contexts.{VaryingContext}
-use Rattle.spec_varyings.specs.Locations.{IsBetween, IsFound, LocationOK, PrimitiveOK, counted, kind_of}
-use Rattle.spec_varyings.specs.Rows.{built_in_row}
-use Rattle.spec_varyings.specs.Varyings.{AreApart, BoundOK, VaryingsOK, built_in_of, canonical, location_of}
-use Rattle.spec_varyings.specs.declared.rows.BuiltInRow.{BuiltInRow}
-use Rattle.spec_varyings.specs.declared.rows.Exception.{Exception}
-use Rattle.spec_varyings.specs.declared.rows.Exception.TheVariants.{NotBehindTasks, RowsOnly}
-use Rattle.spec_varyings.specs.declared.varyings.Bound.{Bound}
-use Rattle.spec_varyings.specs.declared.varyings.Bound.TheVariants.{BuiltIn as built_in, Location as at_location, BlendSources, Nothing, NoMember}
-use Rattle.spec_varyings.specs.declared.varyings.Direction.{Direction}
-use Rattle.spec_varyings.specs.declared.varyings.Direction.TheVariants.{Input, Output, VertexOutput, PrimitiveOutput}
-use Rattle.spec_varyings.specs.declared.varyings.Location.{Location}
-use Rattle.spec_varyings.specs.declared.varyings.Varying.{Varying}
+use Rattle.spec_interface.specs.BuiltIns.{BuiltInOK, ExceptionOK, IsFree, RowOK}
+use Rattle.spec_interface.specs.Contexts.{VaryingContext}
+use Rattle.spec_interface.specs.Locations.{IsBetween, IsFound, LocationOK, PrimitiveOK, counted, kind_of}
+use Rattle.spec_interface.specs.Rows.{built_in_row}
+use Rattle.spec_interface.specs.Varyings.{AreApart, BoundOK, VaryingsOK, built_in_of, canonical, location_of}
+use Rattle.spec_interface.specs.declared.rows.BuiltInRow.{BuiltInRow}
+use Rattle.spec_interface.specs.declared.rows.Exception.{Exception}
+use Rattle.spec_interface.specs.declared.rows.Exception.TheVariants.{NotBehindTasks, RowsOnly}
+use Rattle.spec_interface.specs.declared.varyings.Bound.{Bound}
+use Rattle.spec_interface.specs.declared.varyings.Bound.TheVariants.{BuiltIn as built_in, Location as at_location, BlendSources, Nothing, NoMember}
+use Rattle.spec_interface.specs.declared.varyings.Direction.{Direction}
+use Rattle.spec_interface.specs.declared.varyings.Direction.TheVariants.{Input, Output, VertexOutput, PrimitiveOutput}
+use Rattle.spec_interface.specs.declared.varyings.Location.{Location}
+use Rattle.spec_interface.specs.declared.varyings.Varying.{Varying}
 use Rattle.typing_forms.specs.Forms.{form_of_type}
 use Rattle.function_varyings.specs.Faults.{IsAstray, IsBlendFault, IsBuiltIn, IsBuiltInFault, IsLocationFault, IsMemberFault, IsUnboundFault, IsOwnFault, IsRepeated, Lies, Needs, ShowsBefore}
 use Rattle.function_varyings.specs.Laws.{FaultRefutes}

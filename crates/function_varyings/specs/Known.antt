@@ -11,12 +11,12 @@ use Rattle.ir_kinds.specs.declared.bindings.BuiltIn.TheVariants.{Position}
 use Rattle.ir_kinds.specs.declared.stages.ShaderStage.{ShaderStage}
 use Rattle.ir_kinds.specs.declared.stages.ShaderStage.TheVariants.{Vertex, Fragment, Compute, Mesh, Task, RayGeneration, AnyHit, ClosestHit, Miss}
 use Rattle.ir_types.specs.Plain.{PlainType}
-use Rattle.spec_varyings.specs.BuiltIns.{AreRows, IsAhead}
-use Rattle.spec_varyings.specs.Contexts.{VaryingContext}
-use Rattle.spec_varyings.specs.Varyings.{HasBlendSources, HasBuiltIn, VaryingsOK, mesh_varyings, varyings_of}
-use Rattle.spec_varyings.specs.declared.varyings.Direction.{Direction}
-use Rattle.spec_varyings.specs.declared.varyings.Direction.TheVariants.{Input, Output, VertexOutput, PrimitiveOutput}
-use Rattle.spec_varyings.specs.declared.varyings.Varying.{Varying}
+use Rattle.spec_interface.specs.BuiltIns.{AreRows, IsAhead}
+use Rattle.spec_interface.specs.Contexts.{VaryingContext}
+use Rattle.spec_interface.specs.Varyings.{HasBlendSources, HasBuiltIn, VaryingsOK, mesh_varyings, varyings_of}
+use Rattle.spec_interface.specs.declared.varyings.Direction.{Direction}
+use Rattle.spec_interface.specs.declared.varyings.Direction.TheVariants.{Input, Output, VertexOutput, PrimitiveOutput}
+use Rattle.spec_interface.specs.declared.varyings.Varying.{Varying}
 use Rattle.function_varyings.specs.Marks.{AreMarksOf, AreNewlyTaken}
 use Rattle.function_varyings.specs.declared.known.KnownTypes.{KnownTypes}
 use Rattle.function_varyings.specs.declared.known.Shown.{Shown}

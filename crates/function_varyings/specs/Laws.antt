@@ -1,8 +1,8 @@
 -- What is known of the faults of varyings.
 use Rattle.std.specs.Prelude.{ℕ, List}
-use Rattle.spec_varyings.specs.Contexts.{VaryingContext}
-use Rattle.spec_varyings.specs.Varyings.{VaryingsOK}
-use Rattle.spec_varyings.specs.declared.varyings.Varying.{Varying}
+use Rattle.spec_interface.specs.Contexts.{VaryingContext}
+use Rattle.spec_interface.specs.Varyings.{VaryingsOK}
+use Rattle.spec_interface.specs.declared.varyings.Varying.{Varying}
 use Rattle.function_varyings.specs.Faults.{IsVaryingFault}
 use Rattle.function_varyings.specs.declared.error.VaryingError.{VaryingError}
 

@@ -5,10 +5,10 @@ use Rattle.std.specs.BTreeSet.{BTreeSet, contains}
 use Rattle.ir_flags.specs.Sets.{Has}
 use Rattle.ir_flags.specs.declared.settings.TheConstants.ValidationFlags.{BINDINGS}
 use Rattle.ir_kinds.specs.declared.bindings.BuiltIn.{BuiltIn}
-use Rattle.spec_varyings.specs.Contexts.{VaryingContext}
-use Rattle.spec_varyings.specs.Varyings.{BoundOK, ShowsAt, built_in_of, canonical, location_of}
-use Rattle.spec_varyings.specs.declared.varyings.Bound.{Bound}
-use Rattle.spec_varyings.specs.declared.varyings.Varying.{Varying}
+use Rattle.spec_interface.specs.Contexts.{VaryingContext}
+use Rattle.spec_interface.specs.Varyings.{BoundOK, ShowsAt, built_in_of, canonical, location_of}
+use Rattle.spec_interface.specs.declared.varyings.Bound.{Bound}
+use Rattle.spec_interface.specs.declared.varyings.Varying.{Varying}
 use Rattle.function_varyings.specs.Faults.{IsBuiltIn, IsOwnFault, IsRepeated, ShowsBefore}
 use Rattle.function_varyings.specs.declared.error.VaryingError.{VaryingError}
 

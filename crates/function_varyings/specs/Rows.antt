@@ -2,11 +2,11 @@
 use Rattle.std.specs.Prelude.{◌≡◌, ℕ, List, Some, None}
 use Rattle.ir_kinds.specs.declared.bindings.BuiltIn.{BuiltIn}
 use Rattle.ir_types.specs.Plain.{PlainType, inner_view}
-use Rattle.spec_varyings.specs.BuiltIns.{AreRows, IsAhead, IsOfType}
-use Rattle.spec_varyings.specs.Contexts.{VaryingContext}
-use Rattle.spec_varyings.specs.declared.rows.BuiltInRow.{BuiltInRow}
-use Rattle.spec_varyings.specs.declared.rows.Exception.{Exception}
-use Rattle.spec_varyings.specs.declared.rows.Exception.TheVariants.{NotBehindTasks, RowsOnly}
+use Rattle.spec_interface.specs.BuiltIns.{AreRows, IsAhead, IsOfType}
+use Rattle.spec_interface.specs.Contexts.{VaryingContext}
+use Rattle.spec_interface.specs.declared.rows.BuiltInRow.{BuiltInRow}
+use Rattle.spec_interface.specs.declared.rows.Exception.{Exception}
+use Rattle.spec_interface.specs.declared.rows.Exception.TheVariants.{NotBehindTasks, RowsOnly}
 use Rattle.function_varyings.specs.Faults.{IsAstray, Misses}
 use Rattle.typing_forms.specs.Resolutions.{inner_at}
 use Rattle.function_varyings.specs.declared.error.VaryingError.{VaryingError}

@@ -11,11 +11,11 @@ use Rattle.ir_kinds.specs.declared.stages.ShaderStage.{ShaderStage}
 use Rattle.ir_kinds.specs.declared.stages.ShaderStage.TheVariants.{Fragment}
 use Rattle.typing_layout.specs.Flags.{HasFlag, IoShareable}
 use Rattle.typing_layout.specs.View.{type_tree}
-use Rattle.spec_varyings.specs.Contexts.{VaryingContext}
-use Rattle.spec_varyings.specs.Locations.{IsBetween, IsValue, PrimitiveOK, VerticesOK, counted, goes_with}
-use Rattle.spec_varyings.specs.declared.varyings.Direction.{Direction}
-use Rattle.spec_varyings.specs.declared.varyings.Direction.TheVariants.{Input, PrimitiveOutput}
-use Rattle.spec_varyings.specs.declared.varyings.Location.{Location}
+use Rattle.spec_interface.specs.Contexts.{VaryingContext}
+use Rattle.spec_interface.specs.Locations.{IsBetween, IsValue, PrimitiveOK, VerticesOK, counted, goes_with}
+use Rattle.spec_interface.specs.declared.varyings.Direction.{Direction}
+use Rattle.spec_interface.specs.declared.varyings.Direction.TheVariants.{Input, PrimitiveOutput}
+use Rattle.spec_interface.specs.declared.varyings.Location.{Location}
 use Rattle.typing_forms.specs.Forms.{form_of_type}
 use Rattle.function_varyings.specs.declared.error.VaryingError.{VaryingError}
 use Rattle.function_varyings.specs.declared.error.VaryingError.TheVariants as error

@@ -1,6 +1,6 @@
 -- What the rules look at, as plain data.
 use Rattle.std.specs.Prelude.{◌≡◌, length}
-use Rattle.spec_varyings.specs.Contexts.{VaryingContext as PlainContext}
+use Rattle.spec_interface.specs.Contexts.{VaryingContext as PlainContext}
 use Rattle.module_type_checks.specs.Known.{AreInfos}
 use Rattle.typing_forms.specs.Resolutions.{types_view}
 use Rattle.function_varyings.specs.declared.context.VaryingContext.{VaryingContext}

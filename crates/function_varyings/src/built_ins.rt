@@ -2,9 +2,9 @@
 
 ghost use Rattle.std.specs.Prelude.{◌≡◌, ◌≤◌, ◌↔◌, ◌⊎◌, ℕ, IfOk, IfSome, IsTrue, MatchOption, MatchResult};
 ghost use Rattle.ir_flags.specs.Sets.{Has};
-ghost use Rattle.spec_varyings.specs.BuiltIns.{AreDistances, AreRows, BuiltInOK, ExceptionOK, IsAhead, IsCounted, IsFree, IsOfType, RowOK, StandsAt};
-ghost use Rattle.spec_varyings.specs.Contexts.{stage_set};
-ghost use Rattle.spec_varyings.specs.Rows.{built_in_row};
+ghost use Rattle.spec_interface.specs.BuiltIns.{AreDistances, AreRows, BuiltInOK, ExceptionOK, IsAhead, IsCounted, IsFree, IsOfType, RowOK, StandsAt};
+ghost use Rattle.spec_interface.specs.Contexts.{stage_set};
+ghost use Rattle.spec_interface.specs.Rows.{built_in_row};
 ghost use Rattle.typing_forms.specs.Resolutions.{types_view};
 ghost use Rattle.function_varyings.specs.Faults.{IsBuiltInFault};
 ghost use Rattle.function_varyings.specs.Rows.{IsExcepted, IsRowFault, IsTypeError};
@@ -19,7 +19,7 @@ use ir_flags::{Capabilities, ShaderStages};
 use ir_kinds::{BuiltIn, Scalar, ShaderStage};
 use ir_types::{ArraySize, IrType, key};
 use ir_sets::unique_arena::UniqueArena;
-use spec_varyings::{BuiltInRow, BuiltInType, Direction, Exception, built_in_row};
+use spec_interface::{BuiltInRow, BuiltInType, Direction, Exception, built_in_row};
 use std::alloc::{AllocError, Global};
 use typing_forms::laws::form_equality;
 use typing_forms::{Form, form_of_type, inner_of};

@@ -5,7 +5,7 @@ use ir_flags::{Capabilities, ValidationFlags};
 use ir_kinds::ShaderStage;
 use ir_types::{IrType, key};
 use ir_sets::unique_arena::UniqueArena;
-use spec_varyings::Direction;
+use spec_interface::Direction;
 use module_type_infos::TypeInfo;
 
 /// What the rules of varyings may look at (naga's `VaryingContext`, without what changes).

@@ -3,8 +3,8 @@
 ghost use Rattle.std.specs.Prelude.{◌≡◌, ◌<◌, ◌↔◌, IsTrue, length};
 ghost use Rattle.typing_layout.specs.Flags.{HasFlag, IoShareable};
 ghost use Rattle.typing_layout.specs.View.{type_tree};
-ghost use Rattle.spec_varyings.specs.BuiltIns.{array_of};
-ghost use Rattle.spec_varyings.specs.Locations.{kind_of, of_three, three};
+ghost use Rattle.spec_interface.specs.BuiltIns.{array_of};
+ghost use Rattle.spec_interface.specs.Locations.{kind_of, of_three, three};
 ghost use Rattle.function_varyings.specs.View.{IsTold, context_view};
 
 use crate::context::VaryingContext;

@@ -5,7 +5,7 @@ ghost use Rattle.ir_flags.specs.declared.settings.Capabilities.{Capabilities};
 ghost use Rattle.ir_flags.specs.declared.settings.ValidationFlags.{ValidationFlags};
 ghost use Rattle.ir_items.specs.View.{argument_view};
 ghost use Rattle.ir_types.specs.Plain.{PlainType};
-ghost use Rattle.spec_varyings.specs.Varyings.{VaryingsOK, argument_varyings, varyings_of};
+ghost use Rattle.spec_interface.specs.Varyings.{VaryingsOK, argument_varyings, varyings_of};
 ghost use Rattle.function_varyings.specs.Faults.{IsRefusal};
 ghost use Rattle.function_varyings.specs.Known.{AreKnown, AreKnownOf, AreNotedIn, IsNewlyGiven, IsNoted, IsShownBy, IsWayOf, digit, direction_number, number_of, stage_number};
 ghost use Rattle.function_varyings.specs.Marks.{KeepsBits, KeepsNumbers};
@@ -21,7 +21,7 @@ use ir_arena::handle::Handle;
 use ir_items::FunctionArgument;
 use ir_kinds::{Binding, BuiltIn, ShaderStage};
 use ir_types::key;
-use spec_varyings::{Direction, Varying};
+use spec_interface::{Direction, Varying};
 use std::alloc::{AllocError, Global};
 use std::collections::BTreeSet;
 

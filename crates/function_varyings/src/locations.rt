@@ -6,8 +6,8 @@ ghost use Rattle.ir_flags.specs.declared.settings.TheConstants.Capabilities.{MES
 ghost use Rattle.ir_kinds.specs.declared.bindings.Interpolation.TheVariants.{Flat, PerVertex};
 ghost use Rattle.ir_kinds.specs.declared.bindings.Sampling.TheVariants.{Center, Sample};
 ghost use Rattle.ir_kinds.specs.declared.stages.ShaderStage.TheVariants.{Fragment, Mesh, Vertex};
-ghost use Rattle.spec_varyings.specs.Contexts.{VaryingContext as PlainContext};
-ghost use Rattle.spec_varyings.specs.Locations.{IsBetween, IsFound, LocationOK, PrimitiveOK, VerticesOK, counted, goes_with, is_of_vertex};
+ghost use Rattle.spec_interface.specs.Contexts.{VaryingContext as PlainContext};
+ghost use Rattle.spec_interface.specs.Locations.{IsBetween, IsFound, LocationOK, PrimitiveOK, VerticesOK, counted, goes_with, is_of_vertex};
 ghost use Rattle.function_varyings.specs.Faults.{IsLocationFault};
 ghost use Rattle.function_varyings.specs.Steps.{AreCombined, IsKept, IsPrimitiveFault, IsSpread, IsUnfound, ValueOK};
 ghost use Rattle.function_varyings.specs.View.{IsTold, context_view};
@@ -20,7 +20,7 @@ use ir_arena::handle::Handle;
 use ir_flags::Capabilities;
 use ir_kinds::{Interpolation, Sampling, ScalarKind, ShaderStage};
 use ir_types::key;
-use spec_varyings::{Direction, Location};
+use spec_interface::{Direction, Location};
 use typing_forms::form_of_type;
 
 // Whether every vertex gives its own value.

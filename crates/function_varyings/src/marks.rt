@@ -10,7 +10,7 @@ ghost use Rattle.ir_flags.specs.declared.settings.ValidationFlags.{ValidationFla
 ghost use Rattle.ir_flags.specs.declared.settings.TheConstants.ValidationFlags.{BINDINGS};
 ghost use Rattle.ir_sets.specs.Bits.{has_bit};
 ghost use Rattle.ir_types.specs.Plain.{PlainType};
-ghost use Rattle.spec_varyings.specs.Varyings.{mesh_varyings};
+ghost use Rattle.spec_interface.specs.Varyings.{mesh_varyings};
 ghost use Rattle.typing_forms.specs.Resolutions.{types_view};
 ghost use Rattle.function_varyings.specs.Marks.{AreMarksOf, AreNewlyTaken, IsAmong, IsIn, IsNumber, IsPartOf, KeepsBits, KeepsNumbers, KeepsWords, Takes, TakesAt, built_in_number};
 
@@ -22,7 +22,7 @@ use ir_kinds::BuiltIn;
 use ir_sets::bits;
 use ir_types::{IrType, key};
 use ir_sets::unique_arena::UniqueArena;
-use spec_varyings::{Bound, Varying};
+use spec_interface::{Bound, Varying};
 use std::alloc::{AllocError, Global};
 use std::collections::BTreeMap;
 

@@ -1,12 +1,12 @@
 //! What varyings show.
 
 ghost use Rattle.std.specs.Prelude.{◌≡◌, ◌↔◌, ◌≤◌, IsTrue, Some, length};
-ghost use Rattle.spec_varyings.specs.Varyings.{HasBlendSources, HasBuiltIn, built_in_of, canonical, location_of};
-ghost use Rattle.spec_varyings.specs.declared.varyings.Bound.TheVariants.{BlendSources};
+ghost use Rattle.spec_interface.specs.Varyings.{HasBlendSources, HasBuiltIn, built_in_of, canonical, location_of};
+ghost use Rattle.spec_interface.specs.declared.varyings.Bound.TheVariants.{BlendSources};
 ghost use Rattle.function_varyings.specs.Faults.{ShowsBefore};
 
 use ir_kinds::BuiltIn;
-use spec_varyings::{Bound, Varying, are_same};
+use spec_interface::{Bound, Varying, are_same};
 
 /// The location that is taken, if one is; sources of a blend take the first one.
 pub(crate) const fn location_of(bound: &Bound) -> Option<u32>

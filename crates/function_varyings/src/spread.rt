@@ -4,7 +4,7 @@ ghost use Rattle.std.specs.Prelude.{◌≡◌, ◌++◌, IfOk, OnOk, is_some, ma
 ghost use Rattle.ir_items.specs.View.{argument_view};
 ghost use Rattle.ir_types.specs.Plain.{member_view};
 ghost use Rattle.typing_layout.specs.Flags.{blend_source};
-ghost use Rattle.spec_varyings.specs.Varyings.{argument_varyings, bound_member, bound_members, bound_value, has_source, unbound, varying, varyings_of};
+ghost use Rattle.spec_interface.specs.Varyings.{argument_varyings, bound_member, bound_members, bound_value, has_source, unbound, varying, varyings_of};
 ghost use Rattle.typing_forms.specs.Resolutions.{inner_at, types_view};
 
 use ir_arena::handle::Handle;
@@ -12,7 +12,7 @@ use ir_items::FunctionArgument;
 use ir_kinds::Binding;
 use ir_types::{IrType, StructMember, TypeInner, key};
 use ir_sets::unique_arena::UniqueArena;
-use spec_varyings::{Bound, Location, Varying};
+use spec_interface::{Bound, Location, Varying};
 use std::alloc::{AllocError, Global};
 use typing_forms::inner_of;
 

@@ -4,10 +4,10 @@ ghost use Rattle.std.specs.Prelude.{◌≡◌, ◌<◌, ◌+◌, ◌↔◌, IfOk
 ghost use Rattle.ir_flags.specs.Sets.{Has};
 ghost use Rattle.ir_flags.specs.declared.settings.TheConstants.ValidationFlags.{BINDINGS};
 ghost use Rattle.ir_items.specs.View.{argument_view};
-ghost use Rattle.spec_varyings.specs.Locations.{LocationOK};
-ghost use Rattle.spec_varyings.specs.Varyings.{BoundOK, VaryingsOK, argument_varyings, built_in_of, location_of, varyings_of};
-ghost use Rattle.spec_varyings.specs.declared.varyings.Bound.TheVariants.{BlendSources};
-ghost use Rattle.spec_varyings.specs.declared.varyings.Direction.TheVariants.{Output};
+ghost use Rattle.spec_interface.specs.Locations.{LocationOK};
+ghost use Rattle.spec_interface.specs.Varyings.{BoundOK, VaryingsOK, argument_varyings, built_in_of, location_of, varyings_of};
+ghost use Rattle.spec_interface.specs.declared.varyings.Bound.TheVariants.{BlendSources};
+ghost use Rattle.spec_interface.specs.declared.varyings.Direction.TheVariants.{Output};
 ghost use Rattle.function_varyings.specs.Faults.{IsBlendFault, IsLocationFault, IsMemberFault, IsOwnFault, IsRefusal, IsUnboundFault};
 ghost use Rattle.function_varyings.specs.Places.{AreNoted, IsBuiltInAgain, IsFaultAt, IsFine, IsNew, IsTakenAgain};
 ghost use Rattle.function_varyings.specs.View.{IsTold, context_view};
@@ -24,7 +24,7 @@ use ir_flags::ValidationFlags;
 use ir_items::FunctionArgument;
 use ir_kinds::{Binding, BuiltIn};
 use ir_types::key;
-use spec_varyings::{Bound, Direction, Location, Varying};
+use spec_interface::{Bound, Direction, Location, Varying};
 use std::alloc::{AllocError, Global};
 use std::collections::BTreeSet;
 

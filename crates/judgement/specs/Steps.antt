@@ -6,12 +6,12 @@ use Rattle.ir_flags.specs.declared.settings.TheConstants.ValidationFlags.{BLOCKS
 use Rattle.ir_flags.specs.Settings.{PlainSettings}
 use Rattle.ir_items.specs.Plain.{PlainModule}
 use Rattle.ir_items.specs.Returned.{IsReturned}
-use Rattle.spec_entries.specs.Modules as entries
-use Rattle.spec_entries.specs.Modules.{EntriesOK}
+use Rattle.spec_interface.specs.Modules as entries
+use Rattle.spec_interface.specs.Modules.{EntriesOK}
 use Rattle.spec_statements.specs.ModuleFunctions as functions
 use Rattle.spec_statements.specs.ModuleFunctions.{FunctionsOK}
-use Rattle.spec_globals.specs.Globals as globals
-use Rattle.spec_globals.specs.Globals.{GlobalsOK}
+use Rattle.spec_interface.specs.Globals as globals
+use Rattle.spec_interface.specs.Globals.{GlobalsOK}
 use Rattle.spec_handles.specs.InOrder.{HandlesOK}
 use Rattle.spec_modules.specs.Steps as step
 use Rattle.spec_modules.specs.Steps.{ModuleOK, IsFirstFailing}

@@ -6,10 +6,10 @@ use Rattle.ir_items.specs.Plain.{PlainEntry, PlainModule}
 use Rattle.ir_kinds.specs.declared.bindings.ResourceBinding.{ResourceBinding}
 use Rattle.judgement_laws.specs.Laws.{IsTold, BindingsDiffer}
 use Rattle.spec_analysis.specs.Chains.{HasUse}
-use Rattle.spec_entries.specs.Modules.{EntryAtOK}
-use Rattle.spec_entries.specs.Payloads.{binding_at}
-use Rattle.spec_entries.specs.Uses.{EntryUses}
-use Rattle.spec_entries.specs.Variables.{IsUsed}
+use Rattle.spec_interface.specs.Modules.{EntryAtOK}
+use Rattle.spec_interface.specs.Payloads.{binding_at}
+use Rattle.spec_interface.specs.Uses.{EntryUses}
+use Rattle.spec_interface.specs.Variables.{IsUsed}
 use Rattle.spec_report.proofs.Named.{used_bit}
 use Rattle.spec_report.specs.Reports.{IsEntryReport}
 

@@ -11,8 +11,8 @@ use Rattle.ir_kinds.specs.declared.bindings.ResourceBinding.{ResourceBinding}
 use Rattle.spec_analysis.specs.Chains.{Step, IsChain, end_of}
 use Rattle.spec_analysis.specs.Effects.{runs, effects_of}
 use Rattle.spec_analysis.specs.Summaries.{no_use}
-use Rattle.spec_entries.specs.Modules.{EntriesOK}
-use Rattle.spec_entries.specs.Payloads.{binding_at}
+use Rattle.spec_interface.specs.Modules.{EntriesOK}
+use Rattle.spec_interface.specs.Payloads.{binding_at}
 use Rattle.spec_statements.specs.ModuleFunctions.{FunctionsOK}
 use Rattle.spec_handles.specs.InOrder.{HandlesOK}
 use Rattle.spec_report.specs.Lines.{is_own, is_used}

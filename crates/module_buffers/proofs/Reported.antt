@@ -10,7 +10,7 @@ use Rattle.module_buffers.specs.Lines.{described, leaf_lines, leaves_of}
 use Rattle.module_buffers.specs.Paths.{parts_at, path_along}
 use Rattle.spec_buffers.specs.Laws.{buffer_type}
 use Rattle.spec_buffers.specs.Leaves.{leaves}
-use Rattle.spec_globals.specs.Spaces.{array_base, counted}
+use Rattle.spec_interface.specs.Spaces.{array_base, counted}
 use Rattle.spec_report.specs.Lines.{each_from, is_buffer, buffer_line}
 use Rattle.typing_forms.specs.Order.{TypesGoBack}
 use Rattle.typing_forms.specs.Resolutions.{inner_at}

@@ -3,7 +3,7 @@
 ghost use Rattle.std.specs.Prelude.{◌≡◌, ◌<◌, IfOk, length};
 ghost use Rattle.ir_items.specs.View.{module_view};
 ghost use Rattle.module_buffers.specs.Rows.{AreLaid, AreLeavesOf};
-ghost use Rattle.spec_globals.specs.Spaces.{counted};
+ghost use Rattle.spec_interface.specs.Spaces.{counted};
 ghost use Rattle.spec_handles.specs.InOrder.{HandlesOK};
 ghost use Rattle.typing_forms.specs.Resolutions.{types_view};
 

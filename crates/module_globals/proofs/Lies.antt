@@ -16,7 +16,7 @@ use Rattle.ir_types.specs.Plain.{PlainInner}
 use Rattle.module_globals.proofs.SizeLemmas.{size_found}
 use Rattle.typing_layout.specs.Buffers.{IsStorage, IsUniform, uniform_alignment}
 use Rattle.typing_layout.specs.Immediates.{FitsImmediates}
-use Rattle.spec_globals.specs.Spaces.{LiesIn, counted, is_storage}
+use Rattle.spec_interface.specs.Spaces.{LiesIn, counted, is_storage}
 use Rattle.typing_layout.specs.Layout.{alignment}
 use Rattle.module_type_infos.specs.BufferFaults.{BreaksStorage, BreaksUniform, IsBroken, IsUnfit}
 use Rattle.module_type_infos.specs.Infos.{HasInfo}

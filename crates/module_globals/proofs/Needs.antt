@@ -9,7 +9,7 @@ use Rattle.ir_kinds.specs.declared.spaces.AddressSpace.{AddressSpace}
 use Rattle.ir_kinds.specs.declared.spaces.AddressSpace.TheVariants.{Function, Private, WorkGroup, Uniform, Storage, Handle, Immediate, TaskPayload, RayPayload, IncomingRayPayload}
 use Rattle.module_globals.specs.Faults.{required_bits}
 use Rattle.typing_layout.specs.Flags.{TypeFlag, bit, among, Data, Sized, Copy, IoShareable, HostShareable, CreationResolved, Argument, Constructible}
-use Rattle.spec_globals.specs.Spaces.{required, HasAll}
+use Rattle.spec_interface.specs.Spaces.{required, HasAll}
 use Rattle.typing_layout.specs.Tree.{Tree}
 use Rattle.module_type_infos.specs.Infos.{AreFlags}
 use Rattle.module_type_infos.specs.declared.flags.TypeFlags.{TypeFlags}

@@ -15,8 +15,8 @@ use Rattle.ir_kinds.specs.declared.spaces.AddressSpace.{AddressSpace}
 use Rattle.ir_kinds.specs.declared.spaces.AddressSpace.TheVariants.{Storage}
 use Rattle.ir_types.specs.Plain.{PlainInner}
 use Rattle.typing_layout.specs.Buffers.{IsStorage}
-use Rattle.spec_globals.specs.Globals.{BeginsOK, VariableOK}
-use Rattle.spec_globals.specs.Spaces.{array_capability, space_capability, BindingArrayOK, LiesIn, is_storage}
+use Rattle.spec_interface.specs.Globals.{BeginsOK, VariableOK}
+use Rattle.spec_interface.specs.Spaces.{array_capability, space_capability, BindingArrayOK, LiesIn, is_storage}
 use Rattle.typing_layout.specs.Tree.{Tree}
 use Rattle.typing_forms.specs.Resolutions.{inner_at}
 

@@ -16,8 +16,8 @@ use Rattle.ir_items.specs.GlobalView.{values_of}
 use Rattle.ir_items.specs.Plain.{PlainModule}
 use Rattle.ir_kinds.specs.declared.spaces.AddressSpace.{AddressSpace}
 use Rattle.ir_types.specs.Plain.{PlainType}
-use Rattle.spec_globals.specs.Globals.{BeginsBy, VariableBy, VariableOK, GlobalOK}
-use Rattle.spec_globals.specs.Spaces.{array_base, counted}
+use Rattle.spec_interface.specs.Globals.{BeginsBy, VariableBy, VariableOK, GlobalOK}
+use Rattle.spec_interface.specs.Spaces.{array_base, counted}
 use Rattle.typing_forms.specs.Forms.{form_of_type}
 use Rattle.typing_forms.specs.Order.{TypesGoBack}
 use Rattle.typing_forms.specs.Resolutions.{inner_at}

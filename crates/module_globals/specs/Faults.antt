@@ -17,8 +17,8 @@ use Rattle.ir_kinds.specs.declared.spaces.AddressSpace.TheVariants.{Function, Pr
 use Rattle.ir_types.specs.Plain.{PlainInner, PlainType}
 use Rattle.spec_expressions.specs.Overrides.{IsKnownByOverrides}
 use Rattle.spec_expressions.specs.Typing.{HasGlobalType}
-use Rattle.spec_globals.specs.Handles.{is_handle}
-use Rattle.spec_globals.specs.Spaces.{array_base, counted, array_capability, space_capability, required, HasAll, is_resource, is_storage}
+use Rattle.spec_interface.specs.Handles.{is_handle}
+use Rattle.spec_interface.specs.Spaces.{array_base, counted, array_capability, space_capability, required, HasAll, is_resource, is_storage}
 use Rattle.typing_layout.specs.Layout.{size}
 use Rattle.typing_layout.specs.Tree.{Tree}
 use Rattle.typing_layout.specs.View.{type_tree}

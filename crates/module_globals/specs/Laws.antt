@@ -5,7 +5,7 @@ use Rattle.module_globals.specs.declared.error.GlobalVariableError.{GlobalVariab
 use Rattle.ir_flags.specs.declared.settings.Capabilities.{Capabilities}
 use Rattle.ir_flags.specs.declared.settings.ValidationFlags.{ValidationFlags}
 use Rattle.ir_items.specs.Plain.{PlainModule}
-use Rattle.spec_globals.specs.Globals.{GlobalOK}
+use Rattle.spec_interface.specs.Globals.{GlobalOK}
 
 -- a module may not have a variable that has a fault
 abbrev pub FaultRefutes : Type 0

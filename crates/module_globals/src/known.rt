@@ -7,7 +7,7 @@ ghost use Rattle.module_globals.specs.There.{IsPlaced, IsThere};
 ghost use Rattle.ir_items.specs.GlobalView.{global_view};
 ghost use Rattle.module_constants.specs.Known.{IsKnown, module_in};
 ghost use Rattle.spec_expressions.specs.Typing.{HasGlobalType};
-ghost use Rattle.spec_globals.specs.Globals.{GlobalOK};
+ghost use Rattle.spec_interface.specs.Globals.{GlobalOK};
 
 use crate::context::{Initializer, VariableContext};
 use crate::error::GlobalVariableError;

@@ -6,7 +6,7 @@ ghost use Rattle.module_constants.specs.Known.{IsKnown, module_in};
 ghost use Rattle.module_validator.specs.Refusals.{IsVariableFault, IsRefusal};
 ghost use Rattle.module_types.specs.Validated.{AreAccepted};
 ghost use Rattle.spec_expressions.specs.Context.{outside};
-ghost use Rattle.spec_globals.specs.Globals.{GlobalsOK};
+ghost use Rattle.spec_interface.specs.Globals.{GlobalsOK};
 ghost use Rattle.spec_handles.specs.InOrder.{HandlesOK};
 ghost use Rattle.typing_expressions.specs.Types.{AreTypes};
 

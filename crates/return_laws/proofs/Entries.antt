@@ -14,17 +14,17 @@ use Rattle.ir_kinds.specs.declared.stages.ShaderStage.TheVariants.{Vertex, Fragm
 use Rattle.spec_analysis.specs.Chains.{HasUse}
 use Rattle.spec_statements.specs.ExpressionStages.{all_stages}
 use Rattle.spec_statements.specs.Functions.{FunctionSettings, AllowsStage}
-use Rattle.spec_varyings.specs.Contexts.{stage_set}
-use Rattle.spec_entries.specs.Entries.{ConnectionsOK, EntryOK}
-use Rattle.spec_entries.specs.Held.{HasEntryPayload, HasPayloadSoFar, IsHeldBeforeEntry}
-use Rattle.spec_entries.specs.declared.parts.MeshParts.{MeshParts}
-use Rattle.spec_entries.specs.Meshes.{HasParts, Implies, without_overrides, IsSaid, MeshOK}
-use Rattle.spec_entries.specs.Modules as entries
-use Rattle.spec_entries.specs.Modules.{IsConflict, reading_with, AreStages, entry_settings, EntryAtOK, EntriesOK}
-use Rattle.spec_entries.specs.Payloads.{PayloadOK}
-use Rattle.spec_entries.specs.Stages.{StageOK}
-use Rattle.spec_entries.specs.Uses.{OwnUse, EntryUses}
-use Rattle.spec_entries.specs.Variables.{OwnPayloadOK, VariableOK, VariablesOK, IsUsed}
+use Rattle.spec_interface.specs.Contexts.{stage_set}
+use Rattle.spec_interface.specs.Entries.{ConnectionsOK, EntryOK}
+use Rattle.spec_interface.specs.Held.{HasEntryPayload, HasPayloadSoFar, IsHeldBeforeEntry}
+use Rattle.spec_interface.specs.declared.parts.MeshParts.{MeshParts}
+use Rattle.spec_interface.specs.Meshes.{HasParts, Implies, without_overrides, IsSaid, MeshOK}
+use Rattle.spec_interface.specs.Modules as entries
+use Rattle.spec_interface.specs.Modules.{IsConflict, reading_with, AreStages, entry_settings, EntryAtOK, EntriesOK}
+use Rattle.spec_interface.specs.Payloads.{PayloadOK}
+use Rattle.spec_interface.specs.Stages.{StageOK}
+use Rattle.spec_interface.specs.Uses.{OwnUse, EntryUses}
+use Rattle.spec_interface.specs.Variables.{OwnPayloadOK, VariableOK, VariablesOK, IsUsed}
 use Rattle.spec_statements.specs.Held.{HasPayloadBefore}
 use Rattle.return_laws.specs.Like.{LikeEntry, LikeModule}
 use Rattle.return_laws.proofs.Calls.{use_moves}

@@ -18,7 +18,7 @@ use Rattle.spec_statements.specs.Statements.{StatementOK}
 use Rattle.spec_statements.specs.ModuleFunctions as functions
 use Rattle.spec_statements.specs.ModuleFunctions.{settings_with, FunctionAtOK, FunctionsOK}
 use Rattle.spec_statements.specs.Held.{HasPayloadBefore, IsHeldBefore}
-use Rattle.spec_entries.specs.Modules.{reading_with}
+use Rattle.spec_interface.specs.Modules.{reading_with}
 use Rattle.return_laws.specs.Alike.{Carried, kept, extra}
 use Rattle.return_laws.specs.Like.{LikeFunction, LikeModule}
 use Rattle.return_laws.proofs.Analysis.{analysed_moves}

@@ -13,8 +13,8 @@ use Rattle.spec_expressions.specs.Context.{outside}
 use Rattle.spec_expressions.specs.GlobalExpressions.{Asked, of_literal, of_composition, of_value, to_work_out, asked_of, IsMet, GlobalExpressionOK}
 use Rattle.spec_expressions.specs.Overrides.{DefaultOK, OverrideOK}
 use Rattle.spec_expressions.specs.Typing.{HasGlobalType}
-use Rattle.spec_globals.specs.Globals as globals
-use Rattle.spec_globals.specs.Globals.{BeginsOK, VariableOK, GlobalOK, GlobalsOK}
+use Rattle.spec_interface.specs.Globals as globals
+use Rattle.spec_interface.specs.Globals.{BeginsOK, VariableOK, GlobalOK, GlobalsOK}
 use Rattle.spec_modules.specs.Steps.{ModuleStep, layout, type, typing, expression, constant, override, item_count, StepOK, StepPasses, ModuleOK, IsFirstFailing}
 use Rattle.spec_modules.specs.declared.settings.ModuleSettings.{ModuleSettings}
 use Rattle.return_laws.specs.Like.{LikeModule}

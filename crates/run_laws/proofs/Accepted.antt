@@ -31,8 +31,8 @@ use Rattle.spec_statements.specs.Scope.{Introduces, ScopeOK}
 use Rattle.spec_statements.specs.Tables.{introduced, introduced_at}
 use Rattle.spec_statements.specs.Stages.{statement_stages}
 use Rattle.spec_statements.specs.ModuleFunctions.{reading_over, settings_with}
-use Rattle.spec_varyings.specs.Contexts.{stage_set}
-use Rattle.spec_entries.specs.Modules.{reading_with, entry_settings}
+use Rattle.spec_interface.specs.Contexts.{stage_set}
+use Rattle.spec_interface.specs.Modules.{reading_with, entry_settings}
 use Rattle.spec_runs.specs.Events.{Event, entered, executed, introduced_expression, named, sampled, used, passed, returned, fell_off, escaped}
 use Rattle.spec_runs.specs.Good.{ArgumentsOK, ValueOK, DepthOK, TypesOK, UsesOK, LiveOK, SurelyLiveOK, StagesOK, NoEscape}
 use Rattle.spec_runs.specs.Invariants.{IsInvariant}

@@ -14,7 +14,7 @@ use Rattle.spec_statements.specs.Shapes.{IsInteger, shaped_of}
 use Rattle.spec_statements.specs.Switches.{CasesOK, SwitchOK}
 use Rattle.spec_statements.specs.declared.shapes.Shaped.{Shaped}
 use Rattle.spec_statements.specs.ModuleFunctions.{settings_with}
-use Rattle.spec_entries.specs.Modules.{entry_settings}
+use Rattle.spec_interface.specs.Modules.{entry_settings}
 use Rattle.spec_runs.specs.Ended.{HasNoOpenEnd}
 use Rattle.run_laws.specs.Accepted.{HasReturns, RunsFallByBreaks}
 use Rattle.spec_runs.proofs.Falls.{Closed, CasesEnd, SwitchesEnd, falls_by_breaks}

@@ -10,7 +10,7 @@ use Rattle.ir_types.specs.Plain.{PlainType}
 use Rattle.typing_rules.specs.Laws.{IsAmong}
 use Rattle.spec_analysis.specs.Summaries.{no_use}
 use Rattle.run_laws.proofs.Texts.{whole_end, whole_append, whole_if, whole_each, whole_flat, has_itself, has_left, has_right, has_each, has_flat}
-use Rattle.spec_globals.specs.Spaces.{counted}
+use Rattle.spec_interface.specs.Spaces.{counted}
 use Rattle.typing_layout.specs.Layout.{size, alignment}
 use Rattle.typing_layout.specs.View.{type_tree}
 use Rattle.run_laws.specs.Lines.{AreWhole, HasLines, use_line, TellsGlobal, as_payload, as_mesh, as_used, TellsPair, LinesStand, EntriesAreTold, BuffersAreTold}

@@ -5,11 +5,11 @@ use Rattle.ir_flags.specs.declared.settings.TheConstants.ValidationFlags.{BLOCKS
 use Rattle.ir_blocks.specs.Plain.{PlainBlock}
 use Rattle.ir_blocks.specs.Tails.{IsCompleted}
 use Rattle.ir_items.specs.Plain.{PlainFunction, PlainEntry, PlainModule}
-use Rattle.spec_entries.specs.Modules.{EntryAtOK}
+use Rattle.spec_interface.specs.Modules.{EntryAtOK}
 use Rattle.spec_statements.specs.ModuleFunctions.{FunctionsOK}
 use Rattle.spec_handles.specs.InOrder.{HandlesOK}
 use Rattle.spec_statements.specs.Functions.{FunctionSettings}
-use Rattle.spec_varyings.specs.Contexts.{stage_set}
+use Rattle.spec_interface.specs.Contexts.{stage_set}
 use Rattle.spec_runs.specs.Good.{DepthOK, TypesOK, LiveOK, SurelyLiveOK, NamedOK, SampledOK, StagesOK, FallsOK, NoEscape}
 use Rattle.spec_runs.specs.Laws.{OnEveryRun, OnEveryRunOf}
 use Rattle.spec_runs.specs.Scoping.{UsedOperands, all_operands}

@@ -29,9 +29,9 @@ use Rattle.module_validator.specs.declared.validator.ModuleValidator.{ModuleVali
 use Rattle.function_real_lower.specs.Made.{IsMadeOf}
 use Rattle.function_real_lower.specs.Readings.{reading_of, faults_of}
 use Rattle.spec_analysis.specs.Summaries.{Summary}
-use Rattle.spec_entries.specs.Modules.{AreStages, reading_with}
+use Rattle.spec_interface.specs.Modules.{AreStages, reading_with}
 use Rattle.spec_expressions.specs.Context.{outside}
-use Rattle.spec_globals.specs.Globals.{GlobalsOK}
+use Rattle.spec_interface.specs.Globals.{GlobalsOK}
 use Rattle.spec_handles.specs.InOrder.{HandlesOK}
 use Rattle.spec_modules.specs.Steps.{ModuleOK}
 use Rattle.spec_modules.specs.declared.settings.ModuleSettings.{ModuleSettings}

@@ -17,13 +17,13 @@ use Rattle.module_handles.proofs.Whole.{order_gives_conditions}
 use Rattle.function_real_lower.specs.Readings.{reading_of, faults_of}
 use Rattle.spec_analysis.specs.Chains.{HasUse}
 use Rattle.spec_analysis.specs.Summaries.{Summary, AreSummaries, CalleesKnown}
-use Rattle.spec_entries.proofs.OneStages.{all_agree, allows_other}
-use Rattle.spec_entries.specs.Entries.{EntryOK}
-use Rattle.spec_entries.specs.Modules.{reading_with, AreStages, entry_settings, EntryAtOK, IsConflict}
+use Rattle.spec_interface.proofs.OneStages.{all_agree, allows_other}
+use Rattle.spec_interface.specs.Entries.{EntryOK}
+use Rattle.spec_interface.specs.Modules.{reading_with, AreStages, entry_settings, EntryAtOK, IsConflict}
 use Rattle.spec_statements.specs.ModuleFunctions.{reading_over}
 use Rattle.spec_handles.specs.InOrder.{HandlesOK}
 use Rattle.spec_statements.specs.Functions.{FunctionSettings, FunctionOK, AllowsStage}
-use Rattle.spec_varyings.specs.Contexts.{stage_set}
+use Rattle.spec_interface.specs.Contexts.{stage_set}
 
 -- ---- functions
 

@@ -6,7 +6,7 @@ use Rattle.ir_flags.specs.Sets.{Has}
 use Rattle.ir_flags.specs.declared.settings.ValidationFlags.{ValidationFlags}
 use Rattle.ir_flags.specs.declared.settings.TheConstants.ValidationFlags.{BLOCKS}
 use Rattle.ir_items.specs.Plain.{PlainEntry, PlainModule}
-use Rattle.spec_entries.specs.Held.{HasEntryPayload, HasPayloadSoFar, IsHeldBeforeEntry}
+use Rattle.spec_interface.specs.Held.{HasEntryPayload, HasPayloadSoFar, IsHeldBeforeEntry}
 use Rattle.spec_statements.specs.Held.{IsHeldBefore}
 use Rattle.spec_statements.specs.Payloads.{HasPayload, PayloadsOK, IsHeldAfter}
 

@@ -24,8 +24,8 @@ use Rattle.module_handles.specs.Conditions.{FunctionConditions}
 use Rattle.spec_analysis.proofs.SummaryLaws.{callees_known}
 use Rattle.spec_analysis.specs.Chains.{HasUse}
 use Rattle.spec_analysis.specs.Summaries.{Summary, AreSummaries, CalleesKnown, CallsBelow}
-use Rattle.spec_entries.specs.Held.{IsHeldBeforeEntry}
-use Rattle.spec_entries.specs.Modules.{IsConflict, entry_settings}
+use Rattle.spec_interface.specs.Held.{IsHeldBeforeEntry}
+use Rattle.spec_interface.specs.Modules.{IsConflict, entry_settings}
 use Rattle.spec_statements.proofs.CallLaws.{calls_precede}
 use Rattle.spec_handles.specs.InOrder.{HandlesOK}
 use Rattle.spec_handles.specs.Items.{entry_variables, mesh_variables}

@@ -2,12 +2,12 @@
 use Rattle.std.proofs.Common.{◌≡◌, inl, inr, ℕ, ◌<◌, refl, ap, arith}
 use Rattle.std.proofs.lemmas.Bool.{cases_lt}
 use Rattle.ir_items.specs.Plain.{PlainModule}
-use Rattle.spec_entries.specs.Modules as entries
-use Rattle.spec_entries.specs.Modules.{EntryAtOK, EntriesOK}
+use Rattle.spec_interface.specs.Modules as entries
+use Rattle.spec_interface.specs.Modules.{EntryAtOK, EntriesOK}
 use Rattle.spec_statements.specs.ModuleFunctions as functions
 use Rattle.spec_statements.specs.ModuleFunctions.{FunctionAtOK, FunctionsOK}
-use Rattle.spec_globals.specs.Globals as globals
-use Rattle.spec_globals.specs.Globals.{GlobalOK, GlobalsOK}
+use Rattle.spec_interface.specs.Globals as globals
+use Rattle.spec_interface.specs.Globals.{GlobalOK, GlobalsOK}
 use Rattle.spec_handles.specs.InOrder.{HandlesOK}
 use Rattle.spec_modules.proofs.Failures.{one_failure, none_fails}
 use Rattle.spec_modules.specs.Steps.{ModuleStep, IsFirstFailing, ModuleOK}

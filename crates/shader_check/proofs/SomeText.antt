@@ -22,9 +22,9 @@ use Rattle.judgement.specs.declared.finding.Step.TheVariants.{Layout, «Type», 
 use Rattle.judgement.specs.declared.finding.Finding.{Finding}
 use Rattle.judgement.specs.declared.finding.Finding.TheVariants.{Accepted, RefusedDocument, RefusedHandles, Refused}
 use Rattle.shader_check.specs.Theorem.{Judged, IsTold, SomeText}
-use Rattle.spec_entries.specs.Modules.{EntryAtOK, EntriesOK}
+use Rattle.spec_interface.specs.Modules.{EntryAtOK, EntriesOK}
 use Rattle.spec_statements.specs.ModuleFunctions.{FunctionAtOK, FunctionsOK}
-use Rattle.spec_globals.specs.Globals.{GlobalOK, GlobalsOK}
+use Rattle.spec_interface.specs.Globals.{GlobalOK, GlobalsOK}
 use Rattle.spec_report.proofs.SomeReport.{some_report_for}
 use Rattle.spec_report.specs.Reports.{IsReport}
 use Rattle.spec_report.proofs.Classical.{Holds, surely, then, either, Sought, all_or_first}

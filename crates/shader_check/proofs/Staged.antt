@@ -13,7 +13,7 @@ use Rattle.ir_flags.specs.declared.stages.ShaderStages.{ShaderStages}
 use Rattle.ir_items.specs.Plain.{PlainFunction, PlainModule}
 use Rattle.function_real_lower.specs.Readings.{reading_of}
 use Rattle.spec_analysis.specs.Summaries.{Summary}
-use Rattle.spec_entries.specs.Modules.{reading_with, AreStages}
+use Rattle.spec_interface.specs.Modules.{reading_with, AreStages}
 use Rattle.spec_statements.specs.ModuleFunctions.{settings_with}
 use Rattle.spec_handles.specs.Conditions.{CalleesPrecede}
 use Rattle.spec_handles.specs.References.{computed, done, expression_names, statement_calls}

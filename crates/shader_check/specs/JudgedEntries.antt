@@ -14,9 +14,9 @@ use Rattle.ir_flags.specs.declared.stages.ShaderStages.{ShaderStages}
 use Rattle.ir_items.specs.Plain.{PlainEntry, PlainModule}
 use Rattle.spec_analysis.specs.Chains.{HasUse}
 use Rattle.spec_analysis.specs.Summaries.{Summary}
-use Rattle.spec_entries.specs.Entries.{EntryOK}
-use Rattle.spec_entries.specs.Held.{IsHeldBeforeEntry}
-use Rattle.spec_entries.specs.Modules.{IsConflict, entry_settings}
+use Rattle.spec_interface.specs.Entries.{EntryOK}
+use Rattle.spec_interface.specs.Held.{IsHeldBeforeEntry}
+use Rattle.spec_interface.specs.Modules.{IsConflict, entry_settings}
 use Rattle.spec_statements.specs.Functions.{Reading, FunctionSettings}
 
 -- what is read of an entry point's function, where these are the summaries of the module's functions and these stages may run them

@@ -18,11 +18,11 @@ use Rattle.module_validator.specs.Faults.{IsModuleFault}
 use Rattle.module_validator.specs.Refusals.{IsVariableFault}
 use Rattle.function_real_lower.specs.Readings.{reading_of, faults_of}
 use Rattle.spec_analysis.specs.Summaries.{Summary, AreSummaries}
-use Rattle.spec_entries.specs.Modules as entries
-use Rattle.spec_entries.specs.Modules.{EntriesOK, AreStages, reading_with}
+use Rattle.spec_interface.specs.Modules as entries
+use Rattle.spec_interface.specs.Modules.{EntriesOK, AreStages, reading_with}
 use Rattle.spec_expressions.specs.Context.{outside}
 use Rattle.spec_statements.specs.ModuleFunctions.{FunctionsOK}
-use Rattle.spec_globals.specs.Globals.{GlobalsOK}
+use Rattle.spec_interface.specs.Globals.{GlobalsOK}
 use Rattle.spec_modules.specs.Steps.{ModuleOK}
 use Rattle.spec_modules.specs.declared.settings.ModuleSettings.{ModuleSettings}
 use Rattle.spec_statements.specs.Functions.{FunctionSettings}

@@ -8,8 +8,8 @@ ghost use Rattle.shader_check.specs.Settings.{settings_in};
 ghost use Rattle.ir_items.specs.Plain.{PlainEntry};
 ghost use Rattle.ir_items.specs.View.{module_view};
 ghost use Rattle.spec_analysis.specs.Summaries.{AreSummaries};
-ghost use Rattle.spec_entries.specs.Held.{IsHeldBeforeEntry};
-ghost use Rattle.spec_entries.specs.Modules.{IsConflict};
+ghost use Rattle.spec_interface.specs.Held.{IsHeldBeforeEntry};
+ghost use Rattle.spec_interface.specs.Modules.{IsConflict};
 ghost use Rattle.spec_handles.specs.InOrder.{HandlesOK};
 ghost use Rattle.function_statement_checks.specs.Descriptors.{AreDescriptors};
 

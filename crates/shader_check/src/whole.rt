@@ -13,7 +13,7 @@ ghost use Rattle.ir_proc.specs.Filters.{ParentsPrecede};
 ghost use Rattle.function_real_lower.specs.Made.{IsMadeOf};
 ghost use Rattle.function_real_lower.specs.Severities.{AreKnown};
 ghost use Rattle.spec_expressions.specs.Context.{outside};
-ghost use Rattle.spec_globals.specs.Globals.{GlobalsOK};
+ghost use Rattle.spec_interface.specs.Globals.{GlobalsOK};
 ghost use Rattle.spec_handles.specs.InOrder.{HandlesOK};
 ghost use Rattle.spec_modules.specs.Steps.{ModuleOK};
 ghost use Rattle.typing_expressions.specs.Types.{AreTypes};

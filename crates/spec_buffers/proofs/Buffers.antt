@@ -16,8 +16,8 @@ use Rattle.spec_buffers.proofs.Inside.{everywhere_inside}
 use Rattle.spec_buffers.proofs.Placed.{buffer_sound}
 use Rattle.spec_buffers.specs.Laws.{buffer_type, BuffersOK, TypesAreSound, BuffersAreSound}
 use Rattle.spec_buffers.specs.Sound.{StrideOK, ShapesOK, IsBuffer}
-use Rattle.spec_globals.specs.Globals.{VariableOK, GlobalsOK}
-use Rattle.spec_globals.specs.Spaces.{array_base, counted, LiesIn}
+use Rattle.spec_interface.specs.Globals.{VariableOK, GlobalsOK}
+use Rattle.spec_interface.specs.Spaces.{array_base, counted, LiesIn}
 use Rattle.spec_handles.specs.InOrder.{HandlesOK}
 use Rattle.spec_handles.specs.Order.{a_type, type_on_named}
 use Rattle.spec_handles.specs.Modules.{variable, variable_type}

@@ -6,8 +6,8 @@ use Rattle.ir_items.specs.GlobalPlain.{PlainGlobal}
 use Rattle.ir_items.specs.Plain.{PlainModule}
 use Rattle.ir_types.specs.Plain.{PlainType}
 use Rattle.spec_buffers.specs.Sound.{StrideOK, LeavesOK, IsBuffer}
-use Rattle.spec_globals.specs.Globals.{GlobalsOK}
-use Rattle.spec_globals.specs.Spaces.{counted}
+use Rattle.spec_interface.specs.Globals.{GlobalsOK}
+use Rattle.spec_interface.specs.Spaces.{counted}
 use Rattle.spec_modules.specs.Steps.{ModuleOK}
 use Rattle.spec_modules.specs.declared.settings.ModuleSettings.{ModuleSettings}
 use Rattle.spec_report.specs.Lines.{is_buffer, buffer_line, buffer_of}

@@ -8,7 +8,7 @@ use Rattle.ir_items.specs.declared.entries.MeshStageInfo.{MeshStageInfo}
 use Rattle.ir_kinds.specs.declared.spaces.AddressSpace.{AddressSpace}
 use Rattle.ir_kinds.specs.declared.spaces.AddressSpace.TheVariants.{Function, Private, WorkGroup, Uniform, Storage, Handle, Immediate, TaskPayload, RayPayload, IncomingRayPayload}
 use Rattle.ir_types.specs.Plain.{PlainType}
-use Rattle.spec_globals.specs.Spaces.{counted}
+use Rattle.spec_interface.specs.Spaces.{counted}
 use Rattle.typing_layout.specs.Layout.{size, alignment}
 use Rattle.typing_layout.specs.View.{type_tree}
 

@@ -1,5 +1,5 @@
 use Rattle.std.proofs.Common.{sym, subst}
-use Rattle.spec_entries.proofs.Places.{found}
+use Rattle.spec_interface.proofs.Places.{found}
 use Rattle.ir_items.specs.GlobalView.{global_view}
 use Rattle.ir_items.specs.View.{module_view}
 use Rattle.function_entries.proofs.MeshLaws.{no_parts, variable_parts}

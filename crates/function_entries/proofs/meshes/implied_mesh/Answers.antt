@@ -1,5 +1,5 @@
 use Rattle.std.proofs.Common.{◌≡◌, ◌∷◌, [], map, subst, sym}
-use Rattle.spec_entries.specs.Members.{topologies_at}
+use Rattle.spec_interface.specs.Members.{topologies_at}
 use Rattle.function_entries.proofs.MeshLaws.{bad_primitives_of}
 use Rattle.ir_items.specs.View.{module_view}
 use Rattle.ir_types.specs.Plain.{member_view}

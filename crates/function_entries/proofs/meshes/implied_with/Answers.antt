@@ -1,5 +1,5 @@
 use Rattle.std.proofs.Common.{◌≡◌, ◌∷◌, [], sym, subst}
-use Rattle.spec_entries.specs.Members.{topologies_at}
+use Rattle.spec_interface.specs.Members.{topologies_at}
 use Rattle.ir_items.specs.View.{module_view}
 use Rattle.function_entries.proofs.MeshLaws.{bad_primitives_by}
 use Rattle.function_entries.specs.MeshFaults.{IsImpliedFault}

@@ -5,8 +5,8 @@ use Rattle.function_entries.specs.Faults.{IsRefusedFor}
 use Rattle.function_entries.specs.VaryingFaults.{IsGivenFault}
 use Rattle.ir_items.specs.declared.functions.FunctionResult.{FunctionResult}
 use Rattle.ir_types.specs.Plain.{PlainType}
-use Rattle.spec_varyings.specs.Varyings.{result_varyings, varyings_of}
-use Rattle.spec_varyings.specs.declared.varyings.Direction.TheVariants.{Output}
+use Rattle.spec_interface.specs.Varyings.{result_varyings, varyings_of}
+use Rattle.spec_interface.specs.declared.varyings.Direction.TheVariants.{Output}
 use Rattle.function_varyings.specs.View.{context_view}
 use Rattle.function_entries.proofs.varyings.answered.Goals as goal
 

@@ -2,8 +2,8 @@ use Rattle.function_validator.proofs.EntryWhole.{adds_still, blending_is, refuse
 use Rattle.function_validator.specs.EntryFaults.{IsUnconnected}
 use Rattle.ir_items.specs.View.{entry_view, module_view}
 use Rattle.spec_analysis.specs.Summaries.{HasUseBit}
-use Rattle.spec_entries.specs.Uses.{EntryUses}
-use Rattle.spec_varyings.specs.Varyings.{HasBlendSources, result_varyings}
+use Rattle.spec_interface.specs.Uses.{EntryUses}
+use Rattle.spec_interface.specs.Varyings.{HasBlendSources, result_varyings}
 use Rattle.function_validator.proofs.connect.connect.Goals as goal
 
 pub returns-in-Ok-clause-judged : goal.returns-in-Ok-clause-judged

@@ -8,7 +8,7 @@ use Rattle.ir_arena.specs.Arenas.{value_of_entry}
 use Rattle.ir_items.specs.GlobalView.{global_view, values_of}
 use Rattle.ir_items.specs.View.{entry_view, module_view}
 use Rattle.spec_analysis.specs.Summaries.{HasUseBit}
-use Rattle.spec_entries.specs.Entries.{ConnectionsOK}
+use Rattle.spec_interface.specs.Entries.{ConnectionsOK}
 use Rattle.module_type_checks.specs.Known.{AreInfos}
 use Rattle.function_validator.proofs.connect.judge.Goals as goal
 

@@ -10,7 +10,7 @@ use Rattle.ir_flags.specs.Sets.{Has}
 use Rattle.ir_items.specs.View.{entry_view, module_view}
 use Rattle.spec_analysis.specs.Chains.{HasUse}
 use Rattle.spec_analysis.specs.Summaries.{HasUseBit}
-use Rattle.spec_entries.specs.Uses.{EntryUses}
+use Rattle.spec_interface.specs.Uses.{EntryUses}
 use Rattle.spec_statements.specs.ExpressionStages.{all_stages}
 use Rattle.spec_statements.specs.Functions.{AllowsStage, FunctionOK, FunctionSettings}
 use Rattle.spec_statements.specs.Payloads.{IsHeldAfter}

@@ -1,6 +1,6 @@
 use Rattle.std.proofs.Common.{◌≡◌, ◌++◌, ◌∙◌, List, Contains, length, ap, sym, subst, arith}
-use Rattle.spec_varyings.specs.Varyings.{mesh_varyings}
-use Rattle.spec_varyings.specs.declared.varyings.Varying.{Varying}
+use Rattle.spec_interface.specs.Varyings.{mesh_varyings}
+use Rattle.spec_interface.specs.declared.varyings.Varying.{Varying}
 use Rattle.typing_forms.specs.Resolutions.{types_view}
 use Rattle.function_varyings.proofs.MarkLaws.{part_made}
 use Rattle.function_varyings.specs.Marks.{IsPartOf}

@@ -1,7 +1,7 @@
 -- None of those before is the sources of a blend.
 use Rattle.std.proofs.Common.{◌≡◌, ℕ, ◌<◌, Some, slice_get}
-use Rattle.spec_varyings.specs.declared.varyings.Bound.TheVariants.{BlendSources}
-use Rattle.spec_varyings.specs.declared.varyings.Varying.{Varying}
+use Rattle.spec_interface.specs.declared.varyings.Bound.TheVariants.{BlendSources}
+use Rattle.spec_interface.specs.declared.varyings.Varying.{Varying}
 use Rattle.function_varyings.proofs.shown.has_blend_sources.Given as goal
 
 abbrev pub invariant-loop-place : goal.invariant-loop-place

@@ -1,7 +1,7 @@
 -- What was added with the rest is what all add.
 use Rattle.std.proofs.Common.{◌≡◌, ◌++◌, drop, map}
 use Rattle.ir_items.specs.View.{argument_view}
-use Rattle.spec_varyings.specs.Varyings.{argument_varyings, argument_varyings_from}
+use Rattle.spec_interface.specs.Varyings.{argument_varyings, argument_varyings_from}
 use Rattle.typing_forms.specs.Resolutions.{types_view}
 use Rattle.function_varyings.proofs.spread.argument_varyings.Given as goal
 

@@ -5,7 +5,7 @@ use Rattle.ir_flags.specs.Sets.{Has}
 use Rattle.ir_items.specs.GlobalView.{global_view}
 use Rattle.module_constants.proofs.FlagLemmas.{info_at}
 use Rattle.module_globals.specs.Contexts.{module_of}
-use Rattle.spec_globals.specs.Spaces.{space_capability, required, HasAll}
+use Rattle.spec_interface.specs.Spaces.{space_capability, required, HasAll}
 use Rattle.typing_layout.specs.View.{type_tree}
 use Rattle.module_type_infos.specs.Infos.{AreFlags}
 use Rattle.typing_forms.specs.Resolutions.{inner_at}

@@ -2,7 +2,7 @@ use Rattle.std.proofs.Common.{◌≡◌, ◌+◌, ◌<◌, ◌++◌, ◌∷◌, 
 use Rattle.std.proofs.lemmas.List.{map-append, take_more}
 use Rattle.ir_items.specs.View.{argument_view}
 use Rattle.ir_items.specs.declared.functions.FunctionArgument.{FunctionArgument}
-use Rattle.spec_varyings.specs.Varyings.{VaryingsOK, argument_varyings}
+use Rattle.spec_interface.specs.Varyings.{VaryingsOK, argument_varyings}
 use Rattle.function_varyings.proofs.ArgumentLaws.{fine_more, taken_more}
 use Rattle.function_varyings.specs.Marks.{AreTaken}
 use Rattle.function_varyings.specs.View.{context_view}

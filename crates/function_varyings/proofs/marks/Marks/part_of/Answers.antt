@@ -1,5 +1,5 @@
 use Rattle.std.proofs.Common.{sym, subst}
-use Rattle.spec_varyings.specs.Varyings.{mesh_varyings}
+use Rattle.spec_interface.specs.Varyings.{mesh_varyings}
 use Rattle.typing_forms.specs.Resolutions.{types_view}
 use Rattle.function_varyings.proofs.MarkLaws.{marks_still, one_more}
 use Rattle.function_varyings.specs.Marks.{IsPartOf}

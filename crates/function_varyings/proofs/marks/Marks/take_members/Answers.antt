@@ -1,6 +1,6 @@
 use Rattle.std.proofs.Common.{◌≡◌, ℕ, true, false, subst}
 use Rattle.ir_sets.specs.Bits.{has_bit}
-use Rattle.spec_varyings.specs.Varyings.{mesh_varyings}
+use Rattle.spec_interface.specs.Varyings.{mesh_varyings}
 use Rattle.typing_forms.specs.Resolutions.{types_view}
 use Rattle.function_varyings.proofs.MarkLaws.{newly_by_part}
 use Rattle.function_varyings.specs.Marks.{IsAmong}

@@ -1,3 +1,0 @@
-pub mod OneStages
-mod Finds
-pub mod Places

@@ -1,9 +1,0 @@
-use Rattle.std.proofs.Common.{sym, ap}
-use Rattle.std.specs.Prelude.{option_and_then}
-use Rattle.spec_entries.proofs.Places.{found}
-use Rattle.ir_items.specs.GlobalPlain.{PlainGlobal}
-use Rattle.ir_items.specs.GlobalView.{global_view}
-use Rattle.spec_entries.proofs.lookups.binding_at.Goals as goal
-
-pub returns : goal.returns
-returns c = sym (ap (option_and_then (λ (v : PlainGlobal). v.binding)) (found global_view c.args.«module».now.global_variables c.args.global c.index.result.now c.index.ensures))

@@ -1,9 +1,0 @@
-use Rattle.std.proofs.Common.{map, take}
-use Rattle.spec_entries.specs.Found.{Stands}
-use Rattle.ir_types.specs.Plain.{member_view}
-use Rattle.spec_entries.specs.Members.{topologies}
-use Rattle.spec_entries.proofs.members.only_topology.Given as goal
-
--- what is found among the members before this one
-abbrev pub invariant-loop-member : goal.invariant-loop-member
-invariant-loop-member l = Stands l.found (topologies (map member_view (take l.member-index l.members)))

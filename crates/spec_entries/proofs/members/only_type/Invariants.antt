@@ -1,9 +1,0 @@
-use Rattle.std.proofs.Common.{map, take}
-use Rattle.spec_entries.specs.Found.{Stands}
-use Rattle.ir_types.specs.Plain.{member_view}
-use Rattle.spec_entries.specs.Members.{types_bound}
-use Rattle.spec_entries.proofs.members.only_type.Given as goal
-
--- what is found among the members before this one
-abbrev pub invariant-loop-member : goal.invariant-loop-member
-invariant-loop-member l = Stands l.found (types_bound l.part (map member_view (take l.member-index l.members)))

@@ -1,3 +1,0 @@
-pub mod Handles
-pub mod Spaces
-pub mod Globals

@@ -1,0 +1,4 @@
+pub mod OneStages
+mod Finds
+pub mod Places
+pub mod Equal

@@ -1,0 +1,16 @@
+-- What is found of a kind of thing in a list.
+use Rattle.std.specs.Prelude.{◌≡◌, ◌≤◌, List, [], ◌∷◌, length, Option, Some, None}
+use Rattle.spec_interface.specs.declared.found.Found.{Found}
+use Rattle.spec_interface.specs.declared.found.Found.TheVariants.{Nothing, One, More}
+
+-- these are all that there are
+abbrev pub Stands : {T : Type 0} → Found T → List T → Type 0
+Stands Nothing xs = xs ≡ []
+Stands (One x) xs = xs ≡ x ∷ []
+Stands More xs = 2 ≤ length xs
+
+abbrev pub next : {T : Type 0} → Found T → Option T → Found T
+next found None = found
+next Nothing (Some x) = One x
+next (One x) (Some y) = More
+next More (Some y) = More

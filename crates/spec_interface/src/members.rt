@@ -1,0 +1,136 @@
+//! Members of structs by the built-in values that they are bound to.
+
+ghost use Rattle.std.specs.Prelude.{◌≡◌, ◌∷◌, ◌↔◌, [], ℕ, IsSome, IsTrue, MatchOption, Some, map};
+ghost use Rattle.ir_items.specs.View.{module_view};
+ghost use Rattle.ir_kinds.specs.declared.stages.MeshOutputTopology.{MeshOutputTopology};
+ghost use Rattle.ir_types.specs.Plain.{member_view};
+ghost use Rattle.spec_interface.specs.Members.{members_at, part_of, topologies, topologies_at, topology_of, type_bound, types_bound};
+ghost use Rattle.spec_interface.specs.Meshes.{AreParts};
+ghost use Rattle.spec_interface.specs.declared.parts.MeshParts.{MeshParts};
+
+use crate::found::{Found, next};
+use crate::lookups::members_at;
+use crate::{MeshPart, MeshParts};
+use ir_arena::handle::Handle;
+use ir_items::Module;
+use ir_kinds::{Binding, BuiltIn, MeshOutputTopology};
+use ir_types::{StructMember, key};
+
+// The part of what a mesh shader gives that is bound, if it is one.
+fn part_of(binding: &Option<Binding>) -> Option<MeshPart>
+    ensures { result ≡ part_of binding.now }
+{
+    match binding {
+        Some(Binding::BuiltIn(BuiltIn::VertexCount)) => Some(MeshPart::VertexCount),
+        Some(Binding::BuiltIn(BuiltIn::Vertices)) => Some(MeshPart::Vertices),
+        Some(Binding::BuiltIn(BuiltIn::PrimitiveCount)) => Some(MeshPart::PrimitiveCount),
+        Some(Binding::BuiltIn(BuiltIn::Primitives)) => Some(MeshPart::Primitives),
+        _ => None,
+    }
+}
+
+// The type of a member that is bound to a part; `None` of any other.
+fn type_bound(part: MeshPart, member: &StructMember) -> Option<Handle<key::IrType>>
+    ensures { result ≡ type_bound part (member_view member.now) }
+{
+    match part_of(&member.binding) {
+        Some(other) if part == other => Some(member.ty),
+        Some(_) | None => None,
+    }
+}
+
+// The type of the one member that is bound to a part; `None` where there is no such member, or several.
+fn only_type(part: MeshPart, members: &[StructMember]) -> Option<Handle<key::IrType>>
+    ensures { MatchOption result
+        ((t : ℕ) → types_bound part (map member_view members.now) ≡ t ∷ [] → ⊥)
+        (λ t. types_bound part (map member_view members.now) ≡ t ∷ []) }
+{
+    let mut found = Found::Nothing;
+    for member in members {
+        found = next(found, type_bound(part, member));
+    }
+    match found {
+        Found::One(ty) => Some(ty),
+        Found::Nothing | Found::More => None,
+    }
+}
+
+/// The types of the four parts among members; `None` where one is not bound once.
+pub fn parts_of(members: &[StructMember]) -> Option<MeshParts>
+    ensures { MatchOption result
+        ((t : MeshParts) → AreParts (map member_view members.now) t → ⊥)
+        (AreParts (map member_view members.now)) }
+{
+    let vertex_count = match only_type(MeshPart::VertexCount, members) {
+        Some(ty) => ty,
+        None => return None,
+    };
+    let vertices = match only_type(MeshPart::Vertices, members) {
+        Some(ty) => ty,
+        None => return None,
+    };
+    let primitive_count = match only_type(MeshPart::PrimitiveCount, members) {
+        Some(ty) => ty,
+        None => return None,
+    };
+    let primitives = match only_type(MeshPart::Primitives, members) {
+        Some(ty) => ty,
+        None => return None,
+    };
+    Some(MeshParts {
+        vertex_count,
+        vertices,
+        primitive_count,
+        primitives,
+    })
+}
+
+// The primitives whose vertices are named so, if any are.
+fn topology_of(binding: &Option<Binding>) -> Option<MeshOutputTopology>
+    ensures { result ≡ topology_of binding.now }
+{
+    match binding {
+        Some(Binding::BuiltIn(BuiltIn::PointIndex)) => Some(MeshOutputTopology::Points),
+        Some(Binding::BuiltIn(BuiltIn::LineIndices)) => Some(MeshOutputTopology::Lines),
+        Some(Binding::BuiltIn(BuiltIn::TriangleIndices)) => Some(MeshOutputTopology::Triangles),
+        _ => None,
+    }
+}
+
+// What the one member names that names vertices; `None` where there is no such member, or several.
+fn only_topology(members: &[StructMember]) -> Option<MeshOutputTopology>
+    ensures { MatchOption result
+        ((t : MeshOutputTopology) → topologies (map member_view members.now) ≡ t ∷ [] → ⊥)
+        (λ t. topologies (map member_view members.now) ≡ t ∷ []) }
+{
+    let mut found = Found::Nothing;
+    for member in members {
+        found = next(found, topology_of(&member.binding));
+    }
+    match found {
+        Found::One(topology) => Some(topology),
+        Found::Nothing | Found::More => None,
+    }
+}
+
+/// What primitives of a type are; `None` where they don't name their vertices once.
+pub fn topology_at(module: &Module, ty: Handle<key::IrType>) -> Option<MeshOutputTopology>
+    ensures { MatchOption result
+        ((t : MeshOutputTopology) → topologies_at (module_view «module».now).types ty ≡ t ∷ [] → ⊥)
+        (λ t. topologies_at (module_view «module».now).types ty ≡ t ∷ []) }
+{
+    match members_at(module, ty) {
+        Some(members) => only_topology(members),
+        None => None,
+    }
+}
+
+/// Whether a type is a struct.
+pub fn is_struct(module: &Module, ty: Handle<key::IrType>) -> bool
+    ensures { IsTrue result ↔ IsSome (members_at (module_view «module».now).types ty) }
+{
+    match members_at(module, ty) {
+        Some(_) => true,
+        None => false,
+    }
+}

@@ -1,0 +1,235 @@
+//! The table of built-in values.
+
+ghost use Rattle.std.specs.Prelude.{◌≡◌, None, false};
+ghost use Rattle.ir_kinds.specs.declared.bindings.BuiltIn.TheVariants.{PrimitiveIndex};
+ghost use Rattle.spec_interface.specs.Rows.{built_in_row, but, given, given_by, gives, gives_by, row, with_primitive};
+
+use crate::{BuiltInRow, BuiltInType, Exception};
+use ir_flags::{Capabilities as C, ShaderStages};
+use ir_kinds::{BuiltIn, Scalar, VectorSize};
+use typing_forms::Form;
+
+const NOWHERE: ShaderStages = BuiltInRow::NOWHERE;
+
+const VERTEX: ShaderStages = ShaderStages::VERTEX;
+
+const FRAGMENT: ShaderStages = ShaderStages::FRAGMENT;
+
+const WORKGROUPS: ShaderStages = ShaderStages::COMPUTE_LIKE;
+
+const SUBGROUPS: ShaderStages = BuiltInRow::SUBGROUPS;
+
+const HITS: ShaderStages = BuiltInRow::HITS;
+
+const ENDS: ShaderStages = BuiltInRow::ENDS;
+
+const RAYS: ShaderStages = BuiltInRow::RAYS;
+
+const DISTANCES: BuiltInType = BuiltInType::Distances;
+
+const UINT: BuiltInType = BuiltInType::Value(Form::Scalar(Scalar::U32));
+
+const FLOAT: BuiltInType = BuiltInType::Value(Form::Scalar(Scalar::F32));
+
+const TRUTH: BuiltInType = BuiltInType::Value(Form::Scalar(Scalar::BOOL));
+
+const TWO_UINTS: BuiltInType = BuiltInType::Value(Form::Vector {
+    size: VectorSize::Bi,
+    scalar: Scalar::U32,
+});
+
+const THREE_UINTS: BuiltInType = BuiltInType::Value(Form::Vector {
+    size: VectorSize::Tri,
+    scalar: Scalar::U32,
+});
+
+const TWO_FLOATS: BuiltInType = BuiltInType::Value(Form::Vector {
+    size: VectorSize::Bi,
+    scalar: Scalar::F32,
+});
+
+const THREE_FLOATS: BuiltInType = BuiltInType::Value(Form::Vector {
+    size: VectorSize::Tri,
+    scalar: Scalar::F32,
+});
+
+const FOUR_FLOATS: BuiltInType = BuiltInType::Value(Form::Vector {
+    size: VectorSize::Quad,
+    scalar: Scalar::F32,
+});
+
+const FOUR_BY_THREE: BuiltInType = BuiltInType::Value(Form::Matrix {
+    columns: VectorSize::Quad,
+    rows: VectorSize::Tri,
+    scalar: Scalar::F32,
+});
+
+// What is given by the stages before.
+const fn given(inputs: ShaderStages, ty: BuiltInType) -> BuiltInRow
+    ensures { result ≡ given inputs ty }
+{
+    BuiltInRow {
+        inputs,
+        outputs: NOWHERE,
+        primitive: false,
+        ty,
+        capability: None,
+        exception: Exception::None,
+    }
+}
+
+// What is given by the stages before, where a capability is there, but for an exception.
+const fn given_by(
+    capability: C,
+    inputs: ShaderStages,
+    ty: BuiltInType,
+    exception: Exception,
+) -> BuiltInRow
+    ensures { result ≡ but exception (given_by capability inputs ty) }
+{
+    BuiltInRow {
+        inputs,
+        outputs: NOWHERE,
+        primitive: false,
+        ty,
+        capability: Some(capability),
+        exception,
+    }
+}
+
+// What is given to the stages behind.
+const fn gives(outputs: ShaderStages, ty: BuiltInType) -> BuiltInRow
+    ensures { result ≡ gives outputs ty }
+{
+    BuiltInRow {
+        inputs: NOWHERE,
+        outputs,
+        primitive: false,
+        ty,
+        capability: None,
+        exception: Exception::None,
+    }
+}
+
+// What is given to the stages behind, where a capability is there.
+const fn gives_by(capability: C, outputs: ShaderStages, ty: BuiltInType) -> BuiltInRow
+    ensures { result ≡ gives_by capability outputs ty }
+{
+    BuiltInRow {
+        inputs: NOWHERE,
+        outputs,
+        primitive: false,
+        ty,
+        capability: Some(capability),
+        exception: Exception::None,
+    }
+}
+
+// What is both given and given on.
+const fn both(inputs: ShaderStages, outputs: ShaderStages, ty: BuiltInType) -> BuiltInRow
+    ensures { result ≡ row inputs outputs false ty None }
+{
+    BuiltInRow {
+        inputs,
+        outputs,
+        primitive: false,
+        ty,
+        capability: None,
+        exception: Exception::None,
+    }
+}
+
+// What a mesh shader gives with a primitive alone.
+const fn with_primitive(ty: BuiltInType) -> BuiltInRow
+    ensures { result ≡ with_primitive ty }
+{
+    BuiltInRow {
+        inputs: NOWHERE,
+        outputs: NOWHERE,
+        primitive: true,
+        ty,
+        capability: Some(C::MESH_SHADER),
+        exception: Exception::None,
+    }
+}
+
+// The index of a primitive, which a mesh shader gives with it.
+const fn primitive_index() -> BuiltInRow
+    ensures { result ≡ built_in_row PrimitiveIndex }
+{
+    BuiltInRow {
+        inputs: BuiltInRow::PRIMITIVES,
+        outputs: NOWHERE,
+        primitive: true,
+        ty: UINT,
+        capability: Some(C::PRIMITIVE_INDEX),
+        exception: Exception::FreeAtHits,
+    }
+}
+
+/// Where a built-in value stands, of which type it is, and what it needs.
+pub const fn built_in_row(built_in: BuiltIn) -> BuiltInRow
+    ensures { result ≡ built_in_row built_in }
+{
+    match built_in {
+        BuiltIn::PrimitiveIndex => primitive_index(),
+        BuiltIn::Position { .. } => both(FRAGMENT, BuiltInRow::RASTER, FOUR_FLOATS),
+        BuiltIn::ViewIndex => given_by(C::MULTIVIEW, BuiltInRow::VIEWS, UINT, Exception::None),
+        BuiltIn::BaseInstance | BuiltIn::BaseVertex | BuiltIn::VertexIndex => given(VERTEX, UINT),
+        BuiltIn::ClipDistances => gives_by(C::CLIP_DISTANCES, BuiltInRow::RASTER, DISTANCES),
+        BuiltIn::CullDistance => gives_by(C::CULL_DISTANCE, BuiltInRow::RASTER, DISTANCES),
+        BuiltIn::InstanceIndex => given(BuiltInRow::INSTANCES, UINT),
+        BuiltIn::PointSize => gives(BuiltInRow::RASTER, FLOAT),
+        BuiltIn::DrawIndex => {
+            given_by(
+                C::DRAW_INDEX,
+                BuiltInRow::DRAWS,
+                UINT,
+                Exception::NotBehindTasks,
+            )
+        }
+        BuiltIn::FragDepth => gives(FRAGMENT, FLOAT),
+        BuiltIn::PointCoord => given(FRAGMENT, TWO_FLOATS),
+        BuiltIn::FrontFacing => given(FRAGMENT, TRUTH),
+        BuiltIn::Barycentric { .. } => {
+            given_by(
+                C::SHADER_BARYCENTRICS,
+                FRAGMENT,
+                THREE_FLOATS,
+                Exception::None,
+            )
+        }
+        BuiltIn::SampleIndex => given_by(C::MULTISAMPLED_SHADING, FRAGMENT, UINT, Exception::None),
+        BuiltIn::SampleMask => both(FRAGMENT, FRAGMENT, UINT),
+        BuiltIn::LocalInvocationIndex => given(WORKGROUPS, UINT),
+        BuiltIn::GlobalInvocationId
+        | BuiltIn::LocalInvocationId
+        | BuiltIn::WorkGroupId
+        | BuiltIn::WorkGroupSize
+        | BuiltIn::NumWorkGroups => given(WORKGROUPS, THREE_UINTS),
+        BuiltIn::NumSubgroups => given_by(C::SUBGROUP, WORKGROUPS, UINT, Exception::None),
+        BuiltIn::SubgroupId => given_by(C::SUBGROUP, WORKGROUPS, UINT, Exception::RowsOnly),
+        BuiltIn::SubgroupSize => given_by(C::SUBGROUP, SUBGROUPS, UINT, Exception::None),
+        BuiltIn::SubgroupInvocationId => given_by(
+            C::SUBGROUP,
+            SUBGROUPS,
+            UINT,
+            Exception::RowsOnly,
+        ),
+        BuiltIn::MeshTaskSize => gives_by(C::MESH_SHADER, ShaderStages::TASK, THREE_UINTS),
+        BuiltIn::CullPrimitive => with_primitive(TRUTH),
+        BuiltIn::PointIndex => with_primitive(UINT),
+        BuiltIn::LineIndices => with_primitive(TWO_UINTS),
+        BuiltIn::TriangleIndices => with_primitive(THREE_UINTS),
+        BuiltIn::VertexCount | BuiltIn::Vertices | BuiltIn::PrimitiveCount | BuiltIn::Primitives =>
+            given(NOWHERE, UINT),
+        BuiltIn::RayInvocationId | BuiltIn::NumRayInvocations => both(RAYS, RAYS, THREE_UINTS),
+        BuiltIn::InstanceCustomData | BuiltIn::GeometryIndex | BuiltIn::HitKind => {
+            both(HITS, HITS, UINT)
+        }
+        BuiltIn::WorldRayOrigin | BuiltIn::WorldRayDirection => both(ENDS, ENDS, THREE_FLOATS),
+        BuiltIn::ObjectRayOrigin | BuiltIn::ObjectRayDirection => both(HITS, HITS, THREE_FLOATS),
+        BuiltIn::RayTmin | BuiltIn::RayTCurrentMax => both(ENDS, ENDS, FLOAT),
+        BuiltIn::ObjectToWorld | BuiltIn::WorldToObject => both(HITS, HITS, FOUR_BY_THREE),
+    }
+}

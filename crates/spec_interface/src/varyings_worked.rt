@@ -1,0 +1,67 @@
+//! What the definitions say of small interfaces, worked out by hand.
+//!
+//! The functions do nothing: their contracts are the examples.
+
+ghost use Rattle.std.specs.Prelude.{◌≡◌, [], ◌∷◌, None, Some, false, true};
+ghost use Rattle.ir_kinds.specs.declared.bindings.BuiltIn.TheVariants.{Barycentric, CullPrimitive, FragDepth, MeshTaskSize, Position, PrimitiveIndex, SampleMask, SubgroupSize, VertexCount, VertexIndex};
+ghost use Rattle.ir_kinds.specs.declared.bindings.Interpolation.TheVariants.{Flat, Linear, PerVertex, Perspective};
+ghost use Rattle.ir_kinds.specs.declared.bindings.Sampling.TheVariants.{Center, First, Sample};
+ghost use Rattle.ir_kinds.specs.declared.scalars.ScalarKind.TheVariants.{Float, Uint};
+ghost use Rattle.ir_kinds.specs.declared.stages.ShaderStage.TheVariants.{ClosestHit, Fragment, Mesh, Miss, Task, Vertex};
+ghost use Rattle.spec_interface.specs.BuiltIns.{IsFree, StandsAt};
+ghost use Rattle.spec_interface.specs.Locations.{IsBetween, IsFound, PrimitiveOK, goes_with};
+ghost use Rattle.spec_interface.specs.Rows.{built_in_row};
+ghost use Rattle.spec_interface.specs.Varyings.{canonical, location_of, varying, varyings_of};
+ghost use Rattle.spec_interface.specs.Worked.{bound_at, linear_at, small_types};
+ghost use Rattle.spec_interface.specs.declared.varyings.Bound.TheVariants.{BlendSources, BuiltIn, Location, NoMember, Nothing};
+ghost use Rattle.spec_interface.specs.declared.varyings.Direction.TheVariants.{Input, Output, PrimitiveOutput, VertexOutput};
+
+/// Where built-in values stand.
+pub fn built_ins()
+    ensures vertex_is_given_its_index { StandsAt Input Vertex (built_in_row VertexIndex) }
+    ensures and_does_not_give_it { ¬ StandsAt Output Vertex (built_in_row VertexIndex) }
+    ensures vertex_gives_its_position { StandsAt Output Vertex (built_in_row (Position true)) }
+    ensures mesh_gives_it_with_a_vertex { StandsAt VertexOutput Mesh (built_in_row (Position false)) }
+    ensures fragment_is_given_it { StandsAt Input Fragment (built_in_row (Position false)) }
+    ensures fragment_gives_its_depth { StandsAt Output Fragment (built_in_row FragDepth) }
+    ensures samples_go_in { StandsAt Input Fragment (built_in_row SampleMask) }
+    ensures samples_go_out { StandsAt Output Fragment (built_in_row SampleMask) }
+    ensures primitive_is_culled { StandsAt PrimitiveOutput Mesh (built_in_row CullPrimitive) }
+    ensures vertex_is_not { ¬ StandsAt VertexOutput Mesh (built_in_row CullPrimitive) }
+    ensures task_gives_its_size { StandsAt Output Task (built_in_row MeshTaskSize) }
+    ensures vertex_has_no_subgroup { ¬ StandsAt Input Vertex (built_in_row SubgroupSize) }
+    ensures miss_has_one { StandsAt Input Miss (built_in_row SubgroupSize) }
+    ensures count_of_vertices_goes_nowhere { ¬ StandsAt VertexOutput Mesh (built_in_row VertexCount) }
+    ensures hit_has_its_primitive_for_free { IsFree ClosestHit (built_in_row PrimitiveIndex).exception }
+    ensures fragment_has_not { ¬ IsFree Fragment (built_in_row PrimitiveIndex).exception }
+{}
+
+/// How values between vertices are found.
+pub fn between_vertices()
+    ensures at_each_sample { goes_with Linear Sample ≡ true }
+    ensures flat_at_a_vertex { goes_with Flat First ≡ true }
+    ensures flat_in_a_fragment { goes_with Flat Center ≡ false }
+    ensures perspective_at_a_vertex { goes_with Perspective First ≡ false }
+    ensures each_vertex_nowhere { goes_with PerVertex Center ≡ false }
+    ensures float_is_found { IsFound Float (Some Linear) }
+    ensures float_is_not { ¬ IsFound Float None }
+    ensures integer_is_flat { ¬ IsFound Uint (Some Perspective) }
+    ensures fragment_is_given_it { IsBetween Input Fragment false }
+    ensures not_with_a_primitive { ¬ IsBetween Input Fragment true }
+    ensures fragment_gives_none { ¬ IsBetween Output Fragment false }
+    ensures mesh_belongs_to_a_primitive { PrimitiveOK PrimitiveOutput Mesh true }
+    ensures vertex_does_not { ¬ PrimitiveOK Output Vertex true }
+    ensures fragment_may { PrimitiveOK Input Fragment true }
+{}
+
+/// Which varyings there are: of an argument by its index, of a result, and of structs that are not bound themselves.
+pub fn varyings()
+    ensures bound_argument { varyings_of small_types 2 0 (Some (bound_at 7 None)) ≡ varying 2 (Location 0 (linear_at 7 None)) ∷ [] }
+    ensures nothing_bound { varyings_of small_types 0 0 None ≡ varying 0 Nothing ∷ [] }
+    ensures members { varyings_of small_types 0 2 None ≡ varying 0 (BuiltIn 1 (Position false)) ∷ varying 0 (Location 0 (linear_at 3 None)) ∷ [] }
+    ensures two_sources { varyings_of small_types 0 3 None ≡ varying 0 BlendSources ∷ [] }
+    ensures member_that_is_not_bound { varyings_of small_types 1 4 None ≡ varying 1 (NoMember 0) ∷ varying 1 (Location 0 (linear_at 5 None)) ∷ [] }
+    ensures sources_take_the_first_location { location_of BlendSources ≡ Some 0 }
+    ensures one_position { canonical (Position true) ≡ canonical (Position false) }
+    ensures one_barycentric { canonical (Barycentric true) ≡ canonical (Barycentric false) }
+{}
