@@ -10,7 +10,7 @@ use Rattle.ir_items.specs.GlobalView.{values_of}
 use Rattle.ir_types.specs.Plain.{PlainInner, plain, PlainType}
 use Rattle.ir_types.specs.declared.types.TypeInner.TheVariants as inner
 use Rattle.spec_interface.specs.Spaces.{array_base, counted}
-use Rattle.spec_report.specs.Lines.{is_buffer, buffer_line, buffer_of}
+use Rattle.judgement.specs.Lines.{is_buffer, buffer_line, buffer_of}
 use Rattle.typing_layout.specs.Layout.{size, alignment}
 use Rattle.typing_layout.specs.View.{type_tree}
 use Rattle.typing_forms.specs.Order.{TypesGoBack}

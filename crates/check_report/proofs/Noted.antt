@@ -4,7 +4,7 @@ use Rattle.spec_analysis.specs.declared.sampling.GlobalOrArgument.TheVariants.{G
 use Rattle.ir_items.specs.Plain.{PlainEntry}
 use Rattle.check_report.specs.Laws.{NotedIsTold}
 use Rattle.spec_interface.specs.Uses.{OwnUse}
-use Rattle.spec_report.specs.Lines.{is_at, is_own, mesh_output}
+use Rattle.judgement.specs.Lines.{is_at, is_own, mesh_output}
 use Rattle.std.proofs.lemmas.Bool.{eq-eqb}
 
 at_itself : (own : Option ℕ) (g : ℕ) → own ≡ Some g → is_at own g ≡ true

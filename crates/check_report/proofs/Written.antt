@@ -10,8 +10,8 @@ use Rattle.typing_infos.specs.declared.function_info.FunctionInfo.{FunctionInfo}
 use Rattle.ir_items.specs.Plain.{PlainEntry, PlainModule}
 use Rattle.check_report.specs.Told.{numbers_in, numbers_of, IsEntryInfo, Tells, AreLinesOf, AreEntryLines}
 use Rattle.typing_rules.specs.Laws.{IsAmong}
-use Rattle.spec_report.specs.Lines.{each_from}
-use Rattle.spec_report.specs.Reports.{IsEntryReport}
+use Rattle.judgement.specs.Lines.{each_from}
+use Rattle.judgement.specs.Reports.{IsEntryReport}
 
 -- one piece more
 pub further : (before middle after a b : List ℕ) → middle ≡ before ++ a → after ≡ middle ++ b → after ≡ before ++ (a ++ b)

@@ -10,8 +10,8 @@ use Rattle.ir_items.specs.Plain.{PlainEntry, PlainModule}
 use Rattle.typing_infos.specs.declared.info.ModuleInfo.{ModuleInfo}
 use Rattle.typing_rules.specs.Laws.{IsAmong}
 use Rattle.spec_analysis.specs.Chains.{HasPair}
-use Rattle.spec_report.specs.Lines.{pair_line, entry_lines}
-use Rattle.spec_report.specs.Reports.{AreUses, pair_cmp, IsEntryReport}
+use Rattle.judgement.specs.Lines.{pair_line, entry_lines}
+use Rattle.judgement.specs.Reports.{AreUses, pair_cmp, IsEntryReport}
 use Rattle.typing_forms.specs.Order.{TypesGoBack}
 use Rattle.typing_layout.specs.Held.{AreLayouts}
 

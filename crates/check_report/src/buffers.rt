@@ -6,7 +6,7 @@ ghost use Rattle.ir_items.specs.View.{module_view};
 ghost use Rattle.ir_types.specs.Plain.{inner_view};
 ghost use Rattle.check_report.specs.Told.{AreLaid, IsReported};
 ghost use Rattle.spec_interface.specs.Spaces.{array_base, counted};
-ghost use Rattle.spec_report.specs.Lines.{is_buffer, buffer_of, buffers};
+ghost use Rattle.judgement.specs.Lines.{is_buffer, buffer_of, buffers};
 
 use crate::lines::write_buffer;
 use ir_arena::handle::Handle;

@@ -1,7 +1,7 @@
 //! Lines that are written behind a text.
 
 ghost use Rattle.std.specs.Prelude.{◌≡◌, ◌++◌, OnOk, string_bytes, codes, decimal};
-ghost use Rattle.spec_report.specs.Lines.{buffer_line, head_line, own_line, has, is_used, word_if, use_words, pair_line};
+ghost use Rattle.judgement.specs.Lines.{buffer_line, head_line, own_line, has, is_used, word_if, use_words, pair_line};
 
 use spec_analysis::GlobalUse;
 use bitflags::Flags;

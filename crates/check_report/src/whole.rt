@@ -3,7 +3,7 @@
 ghost use Rattle.std.specs.Prelude.{IfOk, string_bytes};
 ghost use Rattle.ir_items.specs.View.{module_view};
 ghost use Rattle.check_report.specs.Told.{IsReported};
-ghost use Rattle.spec_report.specs.Reports.{IsReport};
+ghost use Rattle.judgement.specs.Reports.{IsReport};
 
 use crate::buffers::write_buffers;
 use crate::entries::write_entries;

@@ -15,7 +15,7 @@ use Rattle.judgement.specs.Steps.{IsPrepared}
 use Rattle.shader_check.specs.Examined.{IsExaminedDocument}
 use Rattle.shader_check.specs.declared.examined.Examined.{Examined}
 use Rattle.shader_check.specs.declared.examined.Examined.TheVariants as examined
-use Rattle.spec_modules.specs.Steps.{layout}
+use Rattle.judgement.specs.ModuleSteps.{layout}
 
 pub told_if : (bytes : List ℕ) (d : PlainDocument) (f : Finding) (r : Result Explanation AllocError) → Reads bytes d → JudgedDocument d f → IfOk r (λ e. finding_of e ≡ f)
     → IfOk r (λ e. Judged bytes (finding_of e))

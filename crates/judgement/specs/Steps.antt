@@ -13,9 +13,9 @@ use Rattle.spec_statements.specs.ModuleFunctions.{FunctionsOK}
 use Rattle.spec_interface.specs.Globals as globals
 use Rattle.spec_interface.specs.Globals.{GlobalsOK}
 use Rattle.spec_handles.specs.InOrder.{HandlesOK}
-use Rattle.spec_modules.specs.Steps as step
-use Rattle.spec_modules.specs.Steps.{ModuleOK, IsFirstFailing}
-use Rattle.spec_modules.specs.declared.settings.ModuleSettings.{ModuleSettings}
+use Rattle.judgement.specs.ModuleSteps as step
+use Rattle.judgement.specs.ModuleSteps.{ModuleOK, IsFirstFailing}
+use Rattle.judgement.specs.declared.settings.ModuleSettings.{ModuleSettings}
 use Rattle.spec_statements.specs.Functions.{FunctionSettings}
 use Rattle.judgement.specs.declared.finding.Step.TheVariants.{Layout, «Type», Typing, Expression, Constant, Override, Global, Function, Entry}
 use Rattle.judgement.specs.declared.finding.Finding.{Finding}

@@ -1,6 +1,13 @@
-// What is found of a document, with its text; the definitions of the judgement stand in specs/.
+//! The judgement of a document: what a module has to meet up to its overrides, step by step, and which step fails first
+//! (`specs/ModuleSteps.antt`); all steps (`specs/Steps.antt`); the report of an accepted module, its buffers and what its entry
+//! points use, as lines (`specs/Lines.antt`, `Reports.antt`); and what is found of a document, with its text (`specs/Text.antt`).
 #![tactic(auto)]
 
 mod finding;
+pub mod module_laws;
+pub mod report_laws;
+pub mod report_worked;
+mod settings;
 
 pub use finding::{Finding, Step};
+pub use settings::ModuleSettings;

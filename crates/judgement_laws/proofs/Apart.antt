@@ -10,8 +10,8 @@ use Rattle.spec_interface.specs.Modules.{EntryAtOK}
 use Rattle.spec_interface.specs.Payloads.{binding_at}
 use Rattle.spec_interface.specs.Uses.{EntryUses}
 use Rattle.spec_interface.specs.Variables.{IsUsed}
-use Rattle.spec_report.proofs.Named.{used_bit}
-use Rattle.spec_report.specs.Reports.{IsEntryReport}
+use Rattle.judgement.proofs.Named.{used_bit}
+use Rattle.judgement.specs.Reports.{IsEntryReport}
 
 some_is : {A : Type 0} {x y : A} → Some x ≡ Some y → x ≡ y
 some_is e = cc (e)

@@ -15,8 +15,8 @@ use Rattle.spec_interface.specs.Modules.{EntriesOK}
 use Rattle.spec_interface.specs.Payloads.{binding_at}
 use Rattle.spec_statements.specs.ModuleFunctions.{FunctionsOK}
 use Rattle.spec_handles.specs.InOrder.{HandlesOK}
-use Rattle.spec_report.specs.Lines.{is_own, is_used}
-use Rattle.spec_report.specs.Reports.{IsEntryReport}
+use Rattle.judgement.specs.Lines.{is_own, is_used}
+use Rattle.judgement.specs.Reports.{IsEntryReport}
 use Rattle.spec_statements.specs.Functions.{FunctionSettings}
 use Rattle.spec_statements.specs.Results.{answer_of}
 

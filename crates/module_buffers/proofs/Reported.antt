@@ -11,7 +11,7 @@ use Rattle.module_buffers.specs.Paths.{parts_at, path_along}
 use Rattle.spec_buffers.specs.Laws.{buffer_type}
 use Rattle.spec_buffers.specs.Leaves.{leaves}
 use Rattle.spec_interface.specs.Spaces.{array_base, counted}
-use Rattle.spec_report.specs.Lines.{each_from, is_buffer, buffer_line}
+use Rattle.judgement.specs.Lines.{each_from, is_buffer, buffer_line}
 use Rattle.typing_forms.specs.Order.{TypesGoBack}
 use Rattle.typing_forms.specs.Resolutions.{inner_at}
 use Rattle.typing_layout.specs.Held.{IsLayoutOf}

@@ -7,7 +7,7 @@ use Rattle.module_buffers.specs.Paths.{path_along, parts_at}
 use Rattle.spec_buffers.specs.Laws.{buffer_type}
 use Rattle.spec_buffers.specs.Leaves.{Leaf, leaves}
 use Rattle.spec_interface.specs.Spaces.{counted}
-use Rattle.spec_report.specs.Lines.{each_from, is_buffer, buffer_line}
+use Rattle.judgement.specs.Lines.{each_from, is_buffer, buffer_line}
 use Rattle.typing_layout.specs.Layout.{size, alignment}
 
 -- a path of no steps is written as a dot

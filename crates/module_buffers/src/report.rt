@@ -6,7 +6,7 @@ ghost use Rattle.ir_items.specs.View.{module_view};
 ghost use Rattle.module_buffers.specs.Lines.{described, leaf_report};
 ghost use Rattle.module_buffers.specs.Rows.{AreLaid, AreLayoutsIn};
 ghost use Rattle.spec_handles.specs.InOrder.{HandlesOK};
-ghost use Rattle.spec_report.specs.Lines.{buffer_line, is_buffer};
+ghost use Rattle.judgement.specs.Lines.{buffer_line, is_buffer};
 
 use crate::buffers::counted;
 use crate::lines::write_along;

@@ -21,9 +21,9 @@ use Rattle.module_validator.proofs.StepLemmas.{not_laid, not_told, not_typed}
 use Rattle.module_validator.specs.Faults.{IsModuleFault, IsToldAs}
 use Rattle.module_validator.specs.declared.error.ModuleError.TheVariants as error
 use Rattle.spec_expressions.specs.Context.{outside}
-use Rattle.spec_modules.specs.Steps as step
-use Rattle.spec_modules.specs.Steps.{IsReached, FailsFirst}
-use Rattle.spec_modules.specs.declared.settings.ModuleSettings.{ModuleSettings}
+use Rattle.judgement.specs.ModuleSteps as step
+use Rattle.judgement.specs.ModuleSteps.{IsReached, FailsFirst}
+use Rattle.judgement.specs.declared.settings.ModuleSettings.{ModuleSettings}
 use Rattle.typing_expressions.specs.Types.{IsFirstUntyped}
 use Rattle.typing_expressions.specs.declared.refusal.TypingRefusal.{TypingRefusal}
 use Rattle.typing_expressions.specs.declared.refusal.TypingRefusal.TheVariants as typing

@@ -4,8 +4,8 @@ use Rattle.ir_items.specs.Plain.{PlainModule}
 use Rattle.module_types.specs.Validated.{AreAccepted, IsFirstRefused as IsTypeRefused}
 use Rattle.module_types.specs.declared.validate.InvalidType.{InvalidType}
 use Rattle.spec_expressions.specs.Context.{outside}
-use Rattle.spec_modules.specs.Steps.{layout, type, typing, StepPasses, FailsFirst}
-use Rattle.spec_modules.specs.declared.settings.ModuleSettings.{ModuleSettings}
+use Rattle.judgement.specs.ModuleSteps.{layout, type, typing, StepPasses, FailsFirst}
+use Rattle.judgement.specs.declared.settings.ModuleSettings.{ModuleSettings}
 use Rattle.typing_layout.specs.Layout.{LayoutOK}
 use Rattle.typing_layout.specs.Tree.{Tree}
 use Rattle.typing_layout.specs.View.{type_tree}

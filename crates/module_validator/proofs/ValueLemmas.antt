@@ -24,8 +24,8 @@ use Rattle.spec_expressions.specs.GlobalExpressions.{GlobalExpressionOK}
 use Rattle.spec_expressions.specs.Overrides.{OverrideOK}
 use Rattle.spec_expressions.specs.Context.{outside}
 use Rattle.spec_handles.specs.InOrder.{HandlesOK}
-use Rattle.spec_modules.specs.Steps.{expression, constant, override, item_count, StepPasses, IsReached, FailsFirst}
-use Rattle.spec_modules.specs.declared.settings.ModuleSettings.{ModuleSettings}
+use Rattle.judgement.specs.ModuleSteps.{expression, constant, override, item_count, StepPasses, IsReached, FailsFirst}
+use Rattle.judgement.specs.declared.settings.ModuleSettings.{ModuleSettings}
 use Rattle.spec_expressions.specs.Typing.{HasGlobalType}
 use Rattle.typing_expressions.specs.Types.{AreTypes}
 use Rattle.typing_forms.specs.declared.resolution.TypeResolution.{TypeResolution}

@@ -15,9 +15,9 @@ use Rattle.module_types.specs.Validated.{IsRefusedFor}
 use Rattle.module_validator.specs.declared.error.ModuleError.{ModuleError}
 use Rattle.module_validator.specs.declared.error.ModuleError.TheVariants as error
 use Rattle.spec_handles.specs.InOrder.{HandlesOK}
-use Rattle.spec_modules.specs.Steps as step
-use Rattle.spec_modules.specs.Steps.{IsFirstFailing}
-use Rattle.spec_modules.specs.declared.settings.ModuleSettings.{ModuleSettings}
+use Rattle.judgement.specs.ModuleSteps as step
+use Rattle.judgement.specs.ModuleSteps.{IsFirstFailing}
+use Rattle.judgement.specs.declared.settings.ModuleSettings.{ModuleSettings}
 use Rattle.typing_layout.specs.View.{type_tree}
 use Rattle.typing_expressions.specs.declared.refusal.TypingRefusal.{TypingRefusal}
 use Rattle.typing_expressions.specs.declared.refusal.TypingRefusal.TheVariants as typing

@@ -1,7 +1,7 @@
 -- By what values are judged.
 use Rattle.std.specs.Prelude.{◌≡◌}
 use Rattle.module_constants.specs.declared.context.GlobalContext.{GlobalContext}
-use Rattle.spec_modules.specs.declared.settings.ModuleSettings.{ModuleSettings}
+use Rattle.judgement.specs.declared.settings.ModuleSettings.{ModuleSettings}
 
 -- what is asked where values are judged is what is asked of the module
 pub record AreSettingsOf (s : ModuleSettings) (c : GlobalContext) : Type 0 where

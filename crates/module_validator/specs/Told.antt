@@ -5,7 +5,7 @@ use Rattle.typing_infos.specs.declared.info.ModuleInfo.{ModuleInfo}
 use Rattle.module_types.specs.Validated.{AreAccepted}
 use Rattle.module_validator.specs.declared.validator.ModuleValidator.{ModuleValidator}
 use Rattle.spec_expressions.specs.Context.{outside}
-use Rattle.spec_modules.specs.declared.settings.ModuleSettings.{ModuleSettings}
+use Rattle.judgement.specs.declared.settings.ModuleSettings.{ModuleSettings}
 use Rattle.typing_expressions.specs.Types.{AreTypes}
 use Rattle.typing_layout.specs.Held.{AreLayouts}
 

@@ -19,7 +19,7 @@ use ir_items::Module;
 use ir_types::key;
 use module_constants::GlobalContext;
 use module_constants::forms_given;
-use spec_modules::ModuleSettings;
+use judgement::ModuleSettings;
 use std::alloc::Global;
 use thiserror::Error;
 use module_type_infos::TypeInfo;

@@ -5,7 +5,7 @@ ghost use Rattle.ir_items.specs.View.{module_view};
 ghost use Rattle.module_types.specs.Validated.{AreAccepted};
 ghost use Rattle.module_validator.specs.Faults.{IsModuleFault, IsRefusal, IsToldAs, IsOutOfMemory};
 ghost use Rattle.spec_expressions.specs.Context.{outside};
-ghost use Rattle.spec_modules.specs.Steps.{IsReached, layout, type, typing, expression};
+ghost use Rattle.judgement.specs.ModuleSteps.{IsReached, layout, type, typing, expression};
 ghost use Rattle.typing_expressions.specs.Types.{AreTypes, IsFirstUntyped};
 ghost use Rattle.typing_layout.specs.Held.{AreLayouts};
 
@@ -17,7 +17,7 @@ use ir_items::Module;
 use module_constants::InvalidGlobalExpression;
 use module_handles::validate_module_handles;
 use module_types::{TypeSettings, validate_types};
-use spec_modules::ModuleSettings;
+use judgement::ModuleSettings;
 use std::alloc::{AllocError, Global};
 use module_type_infos::TypeInfo;
 use typing_expressions::{TypingRefusal, const_expression_types};

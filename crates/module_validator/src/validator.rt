@@ -6,7 +6,7 @@ ghost use Rattle.module_validator.specs.Faults.{IsRefusal};
 ghost use Rattle.module_validator.specs.Told.{IsInfoOf, settings_of};
 ghost use Rattle.typing_layout.specs.Widths.{ScalarOK};
 ghost use Rattle.spec_expressions.specs.ConstantLiterals.{LiteralOK};
-ghost use Rattle.spec_modules.specs.Steps.{ModuleOK};
+ghost use Rattle.judgement.specs.ModuleSteps.{ModuleOK};
 ghost use Rattle.module_type_infos.specs.Faults.{IsWidthFault};
 ghost use Rattle.module_type_checks.specs.Widths.{IsLiteralFault};
 
@@ -17,7 +17,7 @@ use ir_items::Module;
 use ir_kinds::{Literal, Scalar};
 use typing_infos::ModuleInfo;
 use module_types::{LiteralError, WidthError, check_width, validate_literal};
-use spec_modules::ModuleSettings;
+use judgement::ModuleSettings;
 use std::alloc::Global;
 use std::mem;
 use typing_layout::Layouter;

@@ -9,7 +9,7 @@ ghost use Rattle.module_types.specs.Validated.{AreAccepted};
 ghost use Rattle.module_validator.specs.Faults.{IsRefusal};
 ghost use Rattle.module_validator.specs.Settings.{AreSettingsOf};
 ghost use Rattle.spec_expressions.specs.Context.{outside};
-ghost use Rattle.spec_modules.specs.Steps.{IsReached, ModuleOK, expression, constant, override};
+ghost use Rattle.judgement.specs.ModuleSteps.{IsReached, ModuleOK, expression, constant, override};
 ghost use Rattle.typing_expressions.specs.Types.{AreTypes};
 
 use crate::error::ModuleError;
@@ -21,7 +21,7 @@ use ir_flags::ValidationFlags;
 use ir_items::Module;
 use module_constants::{GlobalContext, validate_const_expressions, validate_constants};
 use module_constants::forms_given;
-use spec_modules::ModuleSettings;
+use judgement::ModuleSettings;
 use std::alloc::Global;
 use module_type_infos::TypeInfo;
 use typing_forms::TypeResolution;

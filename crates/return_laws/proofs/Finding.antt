@@ -6,7 +6,7 @@ use Rattle.judgement.specs.Steps.{module_settings, function_settings, IsPrepared
 use Rattle.judgement.specs.declared.finding.Finding.{Finding}
 use Rattle.judgement.specs.declared.finding.Finding.TheVariants.{Accepted, RefusedDocument, RefusedHandles, Refused}
 use Rattle.judgement.specs.declared.finding.Step.TheVariants.{Layout, «Type», Typing, Expression, Constant, Override, Global, Function, Entry}
-use Rattle.spec_modules.specs.Steps as step
+use Rattle.judgement.specs.ModuleSteps as step
 use Rattle.return_laws.specs.Like.{HasNoResult, LikeModule}
 use Rattle.return_laws.specs.Laws.{ReturnsKeepFinding, AreJudgedAlike, ReturnsDontMatter}
 use Rattle.return_laws.proofs.Entries.{entries_move, first_entry_moves}

@@ -15,8 +15,8 @@ use Rattle.spec_expressions.specs.Overrides.{DefaultOK, OverrideOK}
 use Rattle.spec_expressions.specs.Typing.{HasGlobalType}
 use Rattle.spec_interface.specs.Globals as globals
 use Rattle.spec_interface.specs.Globals.{BeginsOK, VariableOK, GlobalOK, GlobalsOK}
-use Rattle.spec_modules.specs.Steps.{ModuleStep, layout, type, typing, expression, constant, override, item_count, StepOK, StepPasses, ModuleOK, IsFirstFailing}
-use Rattle.spec_modules.specs.declared.settings.ModuleSettings.{ModuleSettings}
+use Rattle.judgement.specs.ModuleSteps.{ModuleStep, layout, type, typing, expression, constant, override, item_count, StepOK, StepPasses, ModuleOK, IsFirstFailing}
+use Rattle.judgement.specs.declared.settings.ModuleSettings.{ModuleSettings}
 use Rattle.return_laws.specs.Like.{LikeModule}
 use Rattle.return_laws.proofs.Handles.{handles_move}
 use Rattle.return_laws.proofs.Likeness.{module_back}

@@ -2,8 +2,8 @@
 use Rattle.std.proofs.Common.{ℕ, List, sym, ap, subst, ◌∙◌}
 use Rattle.std.specs.Prelude.{◌<◌, ◌++◌, length, flat_map}
 use Rattle.ir_items.specs.Plain.{PlainEntry, PlainModule}
-use Rattle.spec_report.specs.Lines.{buffers, is_own, entry_lines}
-use Rattle.spec_report.specs.Reports.{AreUses, ArePairs, IsEntryReport, IsReport}
+use Rattle.judgement.specs.Lines.{buffers, is_own, entry_lines}
+use Rattle.judgement.specs.Reports.{AreUses, ArePairs, IsEntryReport, IsReport}
 use Rattle.return_laws.specs.Like.{LikeEntry, LikeModule}
 use Rattle.return_laws.specs.Laws.{ReturnsKeepReport}
 use Rattle.return_laws.proofs.Likeness.{function_back, module_back, like_returned}

@@ -6,7 +6,7 @@ use Rattle.ir_items.specs.Returned.{IsReturned}
 use Rattle.judgement.specs.declared.finding.Finding.{Finding}
 use Rattle.judgement.specs.Steps.{IsPrepared, IsFinding}
 use Rattle.spec_handles.specs.InOrder.{HandlesOK}
-use Rattle.spec_report.specs.Reports.{IsReport}
+use Rattle.judgement.specs.Reports.{IsReport}
 use Rattle.return_laws.specs.Like.{HasNoResult}
 
 -- the finding is the same

@@ -14,8 +14,8 @@ use Rattle.spec_interface.specs.Spaces.{counted}
 use Rattle.typing_layout.specs.Layout.{size, alignment}
 use Rattle.typing_layout.specs.View.{type_tree}
 use Rattle.run_laws.specs.Lines.{AreWhole, HasLines, use_line, TellsGlobal, as_payload, as_mesh, as_used, TellsPair, LinesStand, EntriesAreTold, BuffersAreTold}
-use Rattle.spec_report.specs.Lines.{each_from, is_buffer, buffer_line, buffer_of, buffers, mesh_output, is_at, is_own, own_line, is_used, use_words, global_line, pair_line, head_line, variable_lines, entry_lines}
-use Rattle.spec_report.specs.Reports.{IsEntryReport}
+use Rattle.judgement.specs.Lines.{each_from, is_buffer, buffer_line, buffer_of, buffers, mesh_output, is_at, is_own, own_line, is_used, use_words, global_line, pair_line, head_line, variable_lines, entry_lines}
+use Rattle.judgement.specs.Reports.{IsEntryReport}
 
 -- ---- each line is whole
 

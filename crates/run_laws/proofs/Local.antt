@@ -5,8 +5,8 @@ use Rattle.spec_analysis.specs.declared.sampling.GlobalOrArgument.TheVariants.{G
 use Rattle.ir_items.specs.Plain.{PlainEntry, PlainFunction, PlainModule}
 use Rattle.spec_analysis.specs.Chains.{Step, Calls, IsChain, end_of, Reaches, IsUnusedFrom, UsesDirectly, HasUse, HasPair}
 use Rattle.spec_analysis.specs.Effects.{effects_of}
-use Rattle.spec_report.proofs.OneReport.{one_entry_report}
-use Rattle.spec_report.specs.Reports.{IsEntryReport}
+use Rattle.judgement.proofs.OneReport.{one_entry_report}
+use Rattle.judgement.specs.Reports.{IsEntryReport}
 use Rattle.run_laws.proofs.Lines.{entries_are_told}
 use Rattle.run_laws.specs.Lines.{HasLines}
 use Rattle.run_laws.specs.Local.{AgreeFrom, DifferElsewhere, ReportsAreLocal}

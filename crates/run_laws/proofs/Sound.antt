@@ -10,9 +10,9 @@ use Rattle.judgement.specs.Steps.{IsPrepared, IsFinding, function_settings, modu
 use Rattle.judgement.specs.declared.finding.Finding.TheVariants.{Accepted}
 use Rattle.spec_analysis.specs.Summaries.{no_use}
 use Rattle.spec_buffers.proofs.Buffers.{buffers_are_sound}
-use Rattle.spec_report.proofs.Named.{named_are_told}
-use Rattle.spec_report.specs.Lines.{is_own, is_used}
-use Rattle.spec_report.specs.Reports.{IsEntryReport, IsReport}
+use Rattle.judgement.proofs.Named.{named_are_told}
+use Rattle.judgement.specs.Lines.{is_own, is_used}
+use Rattle.judgement.specs.Reports.{IsEntryReport, IsReport}
 use Rattle.spec_runs.specs.Events.{Event, entered, executed, introduced_expression, named, sampled, used, passed, returned, fell_off, escaped}
 use Rattle.spec_runs.specs.Good.{DepthOK, NamedOK, SampledOK}
 use Rattle.spec_runs.specs.Laws.{OnEveryRun}

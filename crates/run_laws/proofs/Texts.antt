@@ -3,7 +3,7 @@ use Rattle.std.proofs.Common.{◌≡◌, inl, inr, ℕ, zero, suc, ◌+◌, List
 use Rattle.std.specs.Prelude.{codes, flat_map}
 use Rattle.typing_rules.specs.Laws.{IsAmong}
 use Rattle.run_laws.specs.Lines.{AreWhole, HasLines}
-use Rattle.spec_report.specs.Lines.{each_from}
+use Rattle.judgement.specs.Lines.{each_from}
 
 pub whole_end : (front : List ℕ) → AreWhole (front ++ codes "\n")
 whole_end front = inr (front, refl)

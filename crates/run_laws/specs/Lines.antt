@@ -6,8 +6,8 @@ use Rattle.ir_items.specs.Plain.{PlainEntry, PlainModule}
 use Rattle.typing_rules.specs.Laws.{IsAmong}
 use Rattle.spec_analysis.specs.Summaries.{no_use}
 use Rattle.spec_buffers.specs.Laws.{buffer_type}
-use Rattle.spec_report.specs.Lines.{own_line, is_own, is_used, use_words, pair_line, is_buffer, buffer_line}
-use Rattle.spec_report.specs.Reports.{IsEntryReport, IsReport}
+use Rattle.judgement.specs.Lines.{own_line, is_own, is_used, use_words, pair_line, is_buffer, buffer_line}
+use Rattle.judgement.specs.Reports.{IsEntryReport, IsReport}
 use Rattle.typing_layout.specs.Layout.{size, alignment}
 use Rattle.spec_runs.specs.Events.{Event, named, sampled}
 

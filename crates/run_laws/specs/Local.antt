@@ -3,7 +3,7 @@ use Rattle.std.specs.Prelude.{◌≡◌, ℕ, List, Some, slice_get}
 use Rattle.ir_items.specs.Plain.{PlainEntry, PlainFunction, PlainModule}
 use Rattle.spec_analysis.specs.Chains.{Step, IsChain, end_of}
 use Rattle.spec_analysis.specs.Effects.{effects_of, runs}
-use Rattle.spec_report.specs.Reports.{IsEntryReport, IsReport}
+use Rattle.judgement.specs.Reports.{IsEntryReport, IsReport}
 use Rattle.run_laws.specs.Lines.{HasLines}
 
 -- each function that is called at the end of a chain of calls from f is the same in both modules

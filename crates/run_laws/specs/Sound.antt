@@ -11,8 +11,8 @@ use Rattle.judgement.specs.declared.finding.Finding.TheVariants.{Accepted}
 use Rattle.spec_buffers.specs.Laws.{buffer_type}
 use Rattle.spec_buffers.specs.Sound.{StrideOK, LeavesOK}
 use Rattle.spec_interface.specs.Modules.{AreStages}
-use Rattle.spec_report.specs.Lines.{is_buffer}
-use Rattle.spec_report.specs.Reports.{IsReport}
+use Rattle.judgement.specs.Lines.{is_buffer}
+use Rattle.judgement.specs.Reports.{IsReport}
 use Rattle.spec_interface.specs.Contexts.{stage_set}
 use Rattle.typing_layout.specs.Parts.{Everywhere}
 use Rattle.spec_runs.specs.Good.{DepthOK, TypesOK, LiveOK, SurelyLiveOK, StagesOK, FallsOK, NoEscape}

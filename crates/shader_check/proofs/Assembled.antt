@@ -33,8 +33,8 @@ use Rattle.spec_interface.specs.Modules.{AreStages, reading_with}
 use Rattle.spec_expressions.specs.Context.{outside}
 use Rattle.spec_interface.specs.Globals.{GlobalsOK}
 use Rattle.spec_handles.specs.InOrder.{HandlesOK}
-use Rattle.spec_modules.specs.Steps.{ModuleOK}
-use Rattle.spec_modules.specs.declared.settings.ModuleSettings.{ModuleSettings}
+use Rattle.judgement.specs.ModuleSteps.{ModuleOK}
+use Rattle.judgement.specs.declared.settings.ModuleSettings.{ModuleSettings}
 use Rattle.spec_statements.specs.Functions.{FunctionSettings}
 use Rattle.typing_expressions.specs.Types.{AreTypes}
 use Rattle.typing_layout.specs.Held.{AreLayouts}

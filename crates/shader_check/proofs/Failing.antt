@@ -9,9 +9,9 @@ use Rattle.spec_statements.specs.ModuleFunctions.{FunctionAtOK, FunctionsOK}
 use Rattle.spec_interface.specs.Globals as globals
 use Rattle.spec_interface.specs.Globals.{GlobalOK, GlobalsOK}
 use Rattle.spec_handles.specs.InOrder.{HandlesOK}
-use Rattle.spec_modules.proofs.Failures.{one_failure, none_fails}
-use Rattle.spec_modules.specs.Steps.{ModuleStep, IsFirstFailing, ModuleOK}
-use Rattle.spec_modules.specs.declared.settings.ModuleSettings.{ModuleSettings}
+use Rattle.judgement.proofs.Failures.{one_failure, none_fails}
+use Rattle.judgement.specs.ModuleSteps.{ModuleStep, IsFirstFailing, ModuleOK}
+use Rattle.judgement.specs.declared.settings.ModuleSettings.{ModuleSettings}
 use Rattle.spec_statements.specs.Functions.{FunctionSettings}
 
 -- the first that is not such is one

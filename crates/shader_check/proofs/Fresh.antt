@@ -17,8 +17,8 @@ use Rattle.shader_check.specs.Validated.{IsValidated, IsValidationFault, module_
 use Rattle.shader_check.specs.declared.error.ValidationError.{ValidationError}
 use Rattle.shader_check.specs.declared.error.ValidationError.TheVariants as validation
 use Rattle.spec_handles.specs.InOrder.{HandlesOK}
-use Rattle.spec_modules.specs.Steps as step
-use Rattle.spec_modules.specs.Steps.{ModuleStep, IsFirstFailing}
+use Rattle.judgement.specs.ModuleSteps as step
+use Rattle.judgement.specs.ModuleSteps.{ModuleStep, IsFirstFailing}
 use Rattle.spec_statements.specs.Functions.{FunctionSettings}
 
 -- the step and the item of a refusal; none of one for a handle

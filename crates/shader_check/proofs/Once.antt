@@ -12,9 +12,9 @@ use Rattle.judgement.specs.declared.finding.Step.TheVariants.{Layout, «Type», 
 use Rattle.judgement.specs.declared.finding.Finding.{Finding}
 use Rattle.judgement.specs.declared.finding.Finding.TheVariants.{Accepted, RefusedDocument, RefusedHandles, Refused}
 use Rattle.spec_handles.specs.InOrder.{HandlesOK}
-use Rattle.spec_modules.specs.Steps as step
-use Rattle.spec_report.proofs.OneReport.{one_report}
-use Rattle.spec_report.specs.Reports.{IsReport}
+use Rattle.judgement.specs.ModuleSteps as step
+use Rattle.judgement.proofs.OneReport.{one_report}
+use Rattle.judgement.specs.Reports.{IsReport}
 use Rattle.shader_check.proofs.Failing.{Family, up_to_overrides, at_variables, at_functions, at_entries, IsFailing, in_order, none_failing, failing_once}
 use Rattle.shader_check.specs.Theorem.{Finds, FindsIn, Judged, OneText, IsReportOn, IsTold}
 

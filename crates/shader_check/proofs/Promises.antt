@@ -9,7 +9,7 @@ use Rattle.judgement.specs.declared.finding.Finding.{Finding}
 use Rattle.judgement.specs.declared.finding.Finding.TheVariants.{Accepted, RefusedDocument, RefusedHandles, Refused}
 use Rattle.run_laws.proofs.Local.{reports_are_local}
 use Rattle.run_laws.proofs.Sound.{accepted_is_sound}
-use Rattle.spec_report.specs.Reports.{IsReport}
+use Rattle.judgement.specs.Reports.{IsReport}
 use Rattle.shader_check.proofs.Once.{prepared_once}
 use Rattle.shader_check.proofs.Returns.{returns_dont_show_lem}
 use Rattle.shader_check.specs.Theorem.{Finds, Judged, IsReportOn, IsReportFor, IsTold, IsExpected, SoundText, AcceptedTextsAreSound}

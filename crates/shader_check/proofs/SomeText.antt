@@ -14,8 +14,8 @@ use Rattle.document_reader.specs.Distinct.{AreDistinct}
 use Rattle.document_reader.specs.Form.{Reads}
 use Rattle.document_reader.proofs.Candidates.{IsCandidate, candidate}
 use Rattle.spec_handles.specs.InOrder.{HandlesOK}
-use Rattle.spec_modules.proofs.Reached.{reach_first, reach, all_passed}
-use Rattle.spec_modules.specs.Steps.{ModuleStep, layout, type, typing, expression, constant, override, item_count, StepOK, StepPasses, IsReached, IsFirstFailing, ModuleOK}
+use Rattle.judgement.proofs.Reached.{reach_first, reach, all_passed}
+use Rattle.judgement.specs.ModuleSteps.{ModuleStep, layout, type, typing, expression, constant, override, item_count, StepOK, StepPasses, IsReached, IsFirstFailing, ModuleOK}
 use Rattle.judgement.specs.Steps.{IsFinding, IsPrepared, IsScopeStrict, module_settings, function_settings}
 use Rattle.judgement.specs.Text.{text_of}
 use Rattle.judgement.specs.declared.finding.Step.TheVariants.{Layout, «Type», Typing, Expression, Constant, Override, Global, Function, Entry}
@@ -25,9 +25,9 @@ use Rattle.shader_check.specs.Theorem.{Judged, IsTold, SomeText}
 use Rattle.spec_interface.specs.Modules.{EntryAtOK, EntriesOK}
 use Rattle.spec_statements.specs.ModuleFunctions.{FunctionAtOK, FunctionsOK}
 use Rattle.spec_interface.specs.Globals.{GlobalOK, GlobalsOK}
-use Rattle.spec_report.proofs.SomeReport.{some_report_for}
-use Rattle.spec_report.specs.Reports.{IsReport}
-use Rattle.spec_report.proofs.Classical.{Holds, surely, then, either, Sought, all_or_first}
+use Rattle.judgement.proofs.SomeReport.{some_report_for}
+use Rattle.judgement.specs.Reports.{IsReport}
+use Rattle.judgement.proofs.Classical.{Holds, surely, then, either, Sought, all_or_first}
 use Rattle.shader_check.proofs.JudgedLaws.{found_in, judged}
 
 -- ---- of a module

@@ -21,7 +21,7 @@ use Rattle.module_validator.specs.declared.error.ModuleError.{ModuleError}
 use Rattle.module_validator.specs.declared.error.ModuleError.TheVariants as module_error
 use Rattle.shader_check.specs.declared.examined.Examined.{Examined}
 use Rattle.shader_check.specs.declared.examined.Examined.TheVariants as examined
-use Rattle.spec_report.specs.Reports.{IsReport}
+use Rattle.judgement.specs.Reports.{IsReport}
 
 -- the step that refuses a global expression so
 abbrev pub step_of : ConstExpressionError → Step

@@ -19,7 +19,7 @@ use Rattle.judgement.specs.declared.finding.Finding.TheVariants as finding
 use Rattle.return_laws.specs.Like.{HasNoResult}
 use Rattle.run_laws.specs.Local.{EntryIsLocal}
 use Rattle.run_laws.specs.Sound.{AreChecked, ModuleIsSound}
-use Rattle.spec_report.specs.Reports.{IsReport}
+use Rattle.judgement.specs.Reports.{IsReport}
 use Rattle.shader_check.specs.declared.check.TheConstants.{MAX_TAKEN}
 use Rattle.shader_check.specs.declared.check.Verdict.{Verdict}
 use Rattle.shader_check.specs.declared.check.Verdict.TheVariants.{Accepted, Refused}

@@ -15,7 +15,7 @@ ghost use Rattle.function_real_lower.specs.Severities.{AreKnown};
 ghost use Rattle.spec_expressions.specs.Context.{outside};
 ghost use Rattle.spec_interface.specs.Globals.{GlobalsOK};
 ghost use Rattle.spec_handles.specs.InOrder.{HandlesOK};
-ghost use Rattle.spec_modules.specs.Steps.{ModuleOK};
+ghost use Rattle.judgement.specs.ModuleSteps.{ModuleOK};
 ghost use Rattle.typing_expressions.specs.Types.{AreTypes};
 
 use crate::entries::{InvalidEntryPoint, judge_entries};
@@ -28,7 +28,7 @@ use ir_items::Module;
 use typing_infos::ModuleInfo;
 use module_validator::{InvalidGlobalVariable, ModuleError, ModuleValidator, validate_globals};
 use function_real_lower::RealLower;
-use spec_modules::ModuleSettings;
+use judgement::ModuleSettings;
 use function_statement_checks::descriptors_of;
 use std::alloc::{AllocError, Global};
 

@@ -23,9 +23,9 @@ use Rattle.spec_handles.specs.Order.{a_type, type_on_named}
 use Rattle.spec_handles.specs.Modules.{variable, variable_type}
 use Rattle.spec_handles.specs.References.{item}
 use Rattle.spec_handles.specs.declared.target.Target.TheVariants as target
-use Rattle.spec_modules.specs.Steps.{layout, type, ModuleOK}
-use Rattle.spec_modules.specs.declared.settings.ModuleSettings.{ModuleSettings}
-use Rattle.spec_report.specs.Lines.{is_buffer, buffer_line, buffer_of}
+use Rattle.judgement.specs.ModuleSteps.{layout, type, ModuleOK}
+use Rattle.judgement.specs.declared.settings.ModuleSettings.{ModuleSettings}
+use Rattle.judgement.specs.Lines.{is_buffer, buffer_line, buffer_of}
 use Rattle.typing_forms.specs.Order.{named_types, TypesGoBack}
 use Rattle.typing_forms.specs.Resolutions.{inner_at}
 use Rattle.typing_layout.specs.Buffers.{IsStorage, IsUniform}

@@ -8,9 +8,9 @@ use Rattle.ir_types.specs.Plain.{PlainType}
 use Rattle.spec_buffers.specs.Sound.{StrideOK, LeavesOK, IsBuffer}
 use Rattle.spec_interface.specs.Globals.{GlobalsOK}
 use Rattle.spec_interface.specs.Spaces.{counted}
-use Rattle.spec_modules.specs.Steps.{ModuleOK}
-use Rattle.spec_modules.specs.declared.settings.ModuleSettings.{ModuleSettings}
-use Rattle.spec_report.specs.Lines.{is_buffer, buffer_line, buffer_of}
+use Rattle.judgement.specs.ModuleSteps.{ModuleOK}
+use Rattle.judgement.specs.declared.settings.ModuleSettings.{ModuleSettings}
+use Rattle.judgement.specs.Lines.{is_buffer, buffer_line, buffer_of}
 use Rattle.typing_layout.specs.Layout.{size, alignment}
 use Rattle.typing_layout.specs.Parts.{Everywhere}
 use Rattle.typing_layout.specs.Tree.{Tree}

@@ -4,7 +4,7 @@ use Rattle.ir_items.specs.GlobalView.{global_view}
 use Rattle.ir_items.specs.View.{module_view}
 use Rattle.check_report.proofs.Counted.{global_found}
 use Rattle.check_report.proofs.Written.{each_more}
-use Rattle.spec_report.specs.Lines.{buffer_of, buffers}
+use Rattle.judgement.specs.Lines.{buffer_of, buffers}
 use Rattle.check_report.proofs.buffers.write_buffers.Goals as goal
 
 pub write_variable-requires-clause-typed : goal.write_variable-requires-clause-typed

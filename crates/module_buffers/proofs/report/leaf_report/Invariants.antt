@@ -2,7 +2,7 @@
 use Rattle.std.proofs.Common.{◌≡◌, ◌++◌, drop, string_bytes}
 use Rattle.ir_items.specs.View.{module_view}
 use Rattle.module_buffers.specs.Lines.{described, leaf_report}
-use Rattle.spec_report.specs.Lines.{each_from}
+use Rattle.judgement.specs.Lines.{each_from}
 use Rattle.module_buffers.proofs.report.leaf_report.Given as goal
 
 abbrev pub invariant-loop-number : goal.invariant-loop-number

@@ -5,8 +5,8 @@ use Rattle.module_constants.proofs.Told.{many_viewed}
 use Rattle.module_handles.proofs.Whole.{order_gives_conditions}
 use Rattle.module_validator.proofs.Refusals.{by_told}
 use Rattle.module_validator.proofs.StepLemmas.{laid}
-use Rattle.spec_modules.proofs.Reached.{reach}
-use Rattle.spec_modules.specs.Steps as step
+use Rattle.judgement.proofs.Reached.{reach}
+use Rattle.judgement.specs.ModuleSteps as step
 use Rattle.module_validator.proofs.steps.lay_out.Goals as goal
 
 pub update-requires-clause-back : goal.update-requires-clause-back

@@ -1,6 +1,6 @@
 use Rattle.module_constants.specs.Known.{module_in}
 use Rattle.module_validator.proofs.ValueLemmas.{overrides_accepted}
-use Rattle.spec_modules.proofs.Reached.{all_passed}
+use Rattle.judgement.proofs.Reached.{all_passed}
 use Rattle.module_validator.proofs.values.check_overrides.Goals as goal
 
 pub returns-in-Ok-clause-accepted : goal.returns-in-Ok-clause-accepted

@@ -6,8 +6,8 @@ use Rattle.ir_items.specs.View.{module_view}
 use Rattle.module_validator.specs.Faults as items
 use Rattle.module_validator.specs.Faults.{IsModuleFault}
 use Rattle.module_validator.specs.Told.{IsInfoOf}
-use Rattle.spec_modules.specs.Steps.{ModuleOK}
-use Rattle.spec_modules.specs.declared.settings.ModuleSettings.{ModuleSettings}
+use Rattle.judgement.specs.ModuleSteps.{ModuleOK}
+use Rattle.judgement.specs.declared.settings.ModuleSettings.{ModuleSettings}
 use Rattle.shader_check.proofs.whole.judge_items.Goals as goal
 
 pub returns-then-resolved-clause-accepted : goal.returns-then-resolved-clause-accepted

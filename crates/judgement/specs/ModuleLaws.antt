@@ -2,8 +2,8 @@
 use Rattle.std.specs.Prelude.{◌≡◌, ℕ}
 use Rattle.ir_flags.specs.Sets.{IsWithin}
 use Rattle.ir_items.specs.Plain.{PlainModule}
-use Rattle.spec_modules.specs.Steps.{ModuleStep, ModuleOK, IsFirstFailing}
-use Rattle.spec_modules.specs.declared.settings.ModuleSettings.{ModuleSettings}
+use Rattle.judgement.specs.ModuleSteps.{ModuleStep, ModuleOK, IsFirstFailing}
+use Rattle.judgement.specs.declared.settings.ModuleSettings.{ModuleSettings}
 
 -- the same checks and overrides, and what shaders may use in the one they may use in the other
 pub record MayUseMore (few many : ModuleSettings) : Type 0 where

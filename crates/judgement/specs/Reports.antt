@@ -9,7 +9,7 @@ use Rattle.ir_items.specs.Plain.{PlainEntry, PlainModule}
 use Rattle.typing_rules.specs.Laws.{IsAmong}
 use Rattle.spec_analysis.specs.Chains.{HasUse, HasPair}
 use Rattle.spec_analysis.specs.Summaries.{HasUseBit}
-use Rattle.spec_report.specs.Lines.{buffers, is_own, entry_lines}
+use Rattle.judgement.specs.Lines.{buffers, is_own, entry_lines}
 
 -- These are the uses of the module's global variables by what is reached from the entry point, one for each in order. Of the
 -- entry point's payload and mesh output they may say anything.

@@ -4,11 +4,11 @@ use Rattle.std.specs.Prelude.{slice_index_or, flat_map}
 use Rattle.spec_analysis.specs.declared.global_use.GlobalUse.{GlobalUse}
 use Rattle.ir_items.specs.Plain.{PlainEntry, PlainModule}
 use Rattle.spec_analysis.specs.Summaries.{no_use}
-use Rattle.spec_report.specs.Lines.{each_from, buffers, is_own, global_line, entry_lines}
-use Rattle.spec_report.specs.Reports.{AreUses, ArePairs}
-use Rattle.spec_report.specs.Laws.{OneEntryReport, OneReport}
-use Rattle.spec_report.proofs.Pairs.{one_order}
-use Rattle.spec_report.proofs.Uses.{SameBits, same_line}
+use Rattle.judgement.specs.Lines.{each_from, buffers, is_own, global_line, entry_lines}
+use Rattle.judgement.specs.Reports.{AreUses, ArePairs}
+use Rattle.judgement.specs.ReportLaws.{OneEntryReport, OneReport}
+use Rattle.judgement.proofs.Pairs.{one_order}
+use Rattle.judgement.proofs.Uses.{SameBits, same_line}
 
 -- ---- lists
 

@@ -4,9 +4,9 @@ use Rattle.ir_flags.specs.Sets.{Has}
 use Rattle.ir_flags.specs.declared.settings.TheConstants.ValidationFlags.{CONSTANTS}
 use Rattle.ir_items.specs.Plain.{PlainModule}
 use Rattle.spec_handles.specs.InOrder.{HandlesOK}
-use Rattle.spec_modules.proofs.Failures.{same_rank}
-use Rattle.spec_modules.specs.declared.settings.ModuleSettings.{ModuleSettings}
-use Rattle.spec_modules.specs.Steps.{ModuleStep, layout, type, typing, expression, constant, override, rank, StepPasses, IsReached, ModuleOK}
+use Rattle.judgement.proofs.Failures.{same_rank}
+use Rattle.judgement.specs.declared.settings.ModuleSettings.{ModuleSettings}
+use Rattle.judgement.specs.ModuleSteps.{ModuleStep, layout, type, typing, expression, constant, override, rank, StepPasses, IsReached, ModuleOK}
 
 below_or_same : (a b : ℕ) → a < suc b → (a < b) ⊎ (a ≡ b)
 below_or_same a b lt = search rules

@@ -9,9 +9,9 @@ use Rattle.spec_expressions.specs.GlobalExpressions.{GlobalExpressionOK}
 use Rattle.spec_expressions.specs.Overrides.{OverrideOK}
 use Rattle.typing_layout.proofs.Capable.{more_capabilities as types_more}
 use Rattle.typing_layout.specs.Rules.{TypeOK}
-use Rattle.spec_modules.specs.Laws.{MayUseMore, MoreCapabilities}
-use Rattle.spec_modules.specs.declared.settings.ModuleSettings.{ModuleSettings}
-use Rattle.spec_modules.specs.Steps.{ModuleStep, layout, type, typing, expression, constant, override, StepOK}
+use Rattle.judgement.specs.ModuleLaws.{MayUseMore, MoreCapabilities}
+use Rattle.judgement.specs.declared.settings.ModuleSettings.{ModuleSettings}
+use Rattle.judgement.specs.ModuleSteps.{ModuleStep, layout, type, typing, expression, constant, override, StepOK}
 
 asked_too : (few many : ModuleSettings) → MayUseMore few many → Has many.flags.0 CONSTANTS.0 → Has few.flags.0 CONSTANTS.0
 asked_too few many more has = subst (λ (f : ValidationFlags). Has f.0 CONSTANTS.0) (sym more.flags) has

@@ -1,3 +1,6 @@
+pub mod Capable
+pub mod Failures
+pub mod Reached
 pub mod Pairs
 pub mod Uses
 pub mod OneReport

@@ -9,7 +9,7 @@ use Rattle.spec_expressions.specs.Overrides.{OverrideOK}
 use Rattle.spec_expressions.specs.Typing.{HasGlobalType}
 use Rattle.typing_layout.specs.Rules.{TypeOK}
 use Rattle.spec_handles.specs.InOrder.{HandlesOK}
-use Rattle.spec_modules.specs.declared.settings.ModuleSettings.{ModuleSettings}
+use Rattle.judgement.specs.declared.settings.ModuleSettings.{ModuleSettings}
 use Rattle.typing_layout.specs.Layout.{LayoutOK}
 use Rattle.typing_layout.specs.View.{type_tree}
 use Rattle.typing_forms.specs.declared.form.Form.{Form}

@@ -9,8 +9,8 @@ use Rattle.spec_analysis.specs.declared.global_use.GlobalUse.{GlobalUse}
 use Rattle.spec_analysis.specs.Chains.{Step, Calls, IsChain, end_of, Reaches, UsesDirectly, Names, HasUse}
 use Rattle.spec_analysis.specs.Summaries.{no_use}
 use Rattle.spec_analysis.specs.Values.{StartsAt, is_global, accessed, accessed_index}
-use Rattle.spec_report.specs.Laws.{NamedAreTold}
-use Rattle.spec_report.specs.Lines.{is_used}
+use Rattle.judgement.specs.ReportLaws.{NamedAreTold}
+use Rattle.judgement.specs.Lines.{is_used}
 
 -- ---- chains one behind another
 

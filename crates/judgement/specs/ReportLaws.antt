@@ -4,8 +4,8 @@ use Rattle.ir_items.specs.Plain.{PlainEntry, PlainModule}
 use Rattle.spec_analysis.specs.Chains.{Names, Reaches}
 use Rattle.spec_analysis.specs.Summaries.{no_use}
 use Rattle.spec_handles.specs.InOrder.{HandlesOK}
-use Rattle.spec_report.specs.Lines.{is_own, is_used}
-use Rattle.spec_report.specs.Reports.{IsEntryReport, IsReport}
+use Rattle.judgement.specs.Lines.{is_own, is_used}
+use Rattle.judgement.specs.Reports.{IsEntryReport, IsReport}
 
 -- an entry point has one report at most
 abbrev pub OneEntryReport : Type 0

@@ -1,6 +1,6 @@
 //! Laws of reports.
 
-ghost use Rattle.spec_report.specs.Laws.{OneEntryReport, OneReport, SomeReport, NamedAreTold};
+ghost use Rattle.judgement.specs.ReportLaws.{OneEntryReport, OneReport, SomeReport, NamedAreTold};
 
 /// A module has one report at most, and so has each of its entry points.
 pub fn one_report()

@@ -1,5 +1,5 @@
-use Rattle.spec_report.proofs.OneReport.{one_entry_report, one_report}
-use Rattle.spec_report.proofs.laws.one_report.Goals as goal
+use Rattle.judgement.proofs.OneReport.{one_entry_report, one_report}
+use Rattle.judgement.proofs.report_laws.one_report.Goals as goal
 
 pub returns-clause-entry : goal.returns-clause-entry
 returns-clause-entry c = one_entry_report

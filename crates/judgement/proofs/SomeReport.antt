@@ -15,13 +15,13 @@ use Rattle.spec_handles.specs.Conditions.{HandlesInRange}
 use Rattle.spec_handles.specs.InOrder.{HandlesOK}
 use Rattle.spec_handles.specs.References.{computed, item, expression_names}
 use Rattle.spec_handles.specs.declared.target.Target.TheVariants as target
-use Rattle.spec_report.proofs.Numbers.{HasBits, some_number, HasItems, some_list}
-use Rattle.spec_report.proofs.Classical.{Holds, surely, then}
-use Rattle.spec_report.proofs.FourKinds.{use_kind}
-use Rattle.spec_report.proofs.Ordered.{some_ordered}
-use Rattle.spec_report.specs.Laws.{SomeReport}
-use Rattle.spec_report.specs.Lines.{buffers, entry_lines}
-use Rattle.spec_report.specs.Reports.{AreUses, ArePairs, IsEntryReport, AreEntryReports, IsReport}
+use Rattle.judgement.proofs.Numbers.{HasBits, some_number, HasItems, some_list}
+use Rattle.judgement.proofs.Classical.{Holds, surely, then}
+use Rattle.judgement.proofs.FourKinds.{use_kind}
+use Rattle.judgement.proofs.Ordered.{some_ordered}
+use Rattle.judgement.specs.ReportLaws.{SomeReport}
+use Rattle.judgement.specs.Lines.{buffers, entry_lines}
+use Rattle.judgement.specs.Reports.{AreUses, ArePairs, IsEntryReport, AreEntryReports, IsReport}
 
 -- ---- pairs are of global variables that are there
 

@@ -1,3 +1,0 @@
-pub mod Capable
-pub mod Failures
-pub mod Reached
