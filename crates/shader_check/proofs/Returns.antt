@@ -9,9 +9,9 @@ use Rattle.document_reader.proofs.Seam.{one_document_lem}
 use Rattle.judgement.specs.Steps.{IsPrepared}
 use Rattle.judgement.specs.declared.finding.Finding.{Finding}
 use Rattle.judgement.specs.declared.finding.Finding.TheVariants.{Accepted, RefusedDocument, RefusedHandles, Refused}
-use Rattle.return_laws.specs.Like.{HasNoResult}
-use Rattle.return_laws.specs.Laws.{AreJudgedAlike}
-use Rattle.return_laws.proofs.Finding.{returns_dont_matter}
+use Rattle.judgement_returns.specs.Like.{HasNoResult}
+use Rattle.judgement_returns.specs.Laws.{AreJudgedAlike}
+use Rattle.judgement_returns.proofs.Finding.{returns_dont_matter}
 use Rattle.shader_check.specs.Theorem.{FindsIn, Finds, JudgedDocument, Judged, IsReportOn, IsToldOf, IsTold, with_returns, ReturnsDontShow}
 
 -- there is a module that is judged, whatever the settings say of returns

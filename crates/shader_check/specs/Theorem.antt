@@ -16,9 +16,9 @@ use Rattle.judgement.specs.Steps.{IsFinding, IsPrepared}
 use Rattle.judgement.specs.Text.{text_of}
 use Rattle.judgement.specs.declared.finding.Finding.{Finding}
 use Rattle.judgement.specs.declared.finding.Finding.TheVariants as finding
-use Rattle.return_laws.specs.Like.{HasNoResult}
-use Rattle.run_laws.specs.Local.{EntryIsLocal}
-use Rattle.run_laws.specs.Sound.{AreChecked, ModuleIsSound}
+use Rattle.judgement_returns.specs.Like.{HasNoResult}
+use Rattle.judgement_runs.specs.Local.{EntryIsLocal}
+use Rattle.judgement_runs.specs.Sound.{AreChecked, ModuleIsSound}
 use Rattle.judgement.specs.Reports.{IsReport}
 use Rattle.shader_check.specs.declared.check.TheConstants.{MAX_TAKEN}
 use Rattle.shader_check.specs.declared.check.Verdict.{Verdict}

@@ -1,7 +1,7 @@
 // Laws of the judgement over bytes, and what is asked of an accepted module.
 ghost use Rattle.std.specs.Prelude.{◌≡◌, false, length, true};
 ghost use Rattle.ir_items.specs.View.{module_view};
-ghost use Rattle.run_laws.specs.Sound.{BoundsDepth};
+ghost use Rattle.judgement_runs.specs.Sound.{BoundsDepth};
 ghost use Rattle.shader_check.specs.Fresh.{AnswersAreAlike};
 ghost use Rattle.shader_check.specs.Theorem.{AcceptedTextsAreSound, OneText, SomeText, ReturnsDontShow};
 
