@@ -21,7 +21,8 @@ use ir_blocks::AtomicFunction;
 use ir_flags::Capabilities;
 use ir_kinds::{AddressSpace, Scalar};
 use ir_types::{Expression, TypeInner, key};
-use function_statement_checks::{StatementContext, are_same, pointer_space};
+use function_statement_checks::{StatementContext, pointer_space};
+use module_context::are_same;
 use typing_forms::Form;
 
 // ---- what is changed

@@ -24,9 +24,8 @@ use ir_flags::{Capabilities, StorageAccess};
 use ir_kinds::{AddressSpace, ImageClass, ImageDimension, Scalar, StorageFormat, VectorSize};
 use ir_types::{TypeInner, key};
 use spec_statements::Picture;
-use function_statement_checks::{
-    StatementContext, accessed_at, are_same, is_integer_scalar, named_at, picture_of, variable_at,
-};
+use function_statement_checks::{StatementContext, accessed_at, named_at, variable_at};
+use module_context::{are_same, is_integer_scalar, picture_of};
 use std::alloc::{AllocError, Global};
 use typing_forms::Form;
 

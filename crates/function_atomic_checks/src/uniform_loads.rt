@@ -15,7 +15,8 @@ use typing_errors::FunctionError;
 use ir_arena::handle::Handle;
 use ir_kinds::AddressSpace;
 use ir_types::{Expression, TypeInner, key};
-use function_statement_checks::{StatementContext, are_same, pointer_space};
+use function_statement_checks::{StatementContext, pointer_space};
+use module_context::are_same;
 use typing_forms::Form;
 
 // Whether a type is a pointer into workgroup memory.

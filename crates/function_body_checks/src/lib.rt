@@ -24,7 +24,7 @@ mod operands;
 mod statement;
 mod walk;
 
-pub use test_cases::cases_fault;
+pub use cases::cases_fault;
 pub use control_function::check_control;
 pub use function::check_scope;
 pub use list::ExpressionList;

@@ -15,7 +15,8 @@ use module_expression_checks::{is_alone, query_of};
 use ir_arena::handle::Handle;
 use ir_blocks::RayQueryFunction;
 use ir_types::{Expression, key};
-use function_statement_checks::{StatementContext, is_floating, shaped_of};
+use function_statement_checks::StatementContext;
+use module_context::{is_floating, shaped_of};
 use typing_forms::Form;
 
 // ---- the query

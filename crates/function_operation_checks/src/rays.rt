@@ -5,7 +5,8 @@ ghost use Rattle.spec_statements.specs.RayQueries.{structure_of, IsMadeAs, IsRay
 
 use ir_arena::handle::Handle;
 use ir_types::key;
-use function_statement_checks::{StatementContext, are_same};
+use function_statement_checks::StatementContext;
+use module_context::are_same;
 use typing_forms::Form;
 
 /// Whether the acceleration structure that a type is gives the vertices of a hit.

@@ -19,7 +19,8 @@ use ir_flags::{Capabilities, SubgroupOperationSet};
 use ir_kinds::{CollectiveOperation, Scalar, ScalarKind, SubgroupOperation};
 use ir_types::{Expression, key};
 use spec_statements::Shape;
-use function_statement_checks::{StatementContext, are_same, is_integer, is_truth, shaped_of};
+use function_statement_checks::StatementContext;
+use module_context::{are_same, is_integer, is_truth, shaped_of};
 use typing_forms::Form;
 
 // ---- what is needed

@@ -8,5 +8,3 @@ pub mod Emits
 pub mod Returns
 pub mod Stores
 pub mod Laws
-pub mod Refused
-pub mod OperandView

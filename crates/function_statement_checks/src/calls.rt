@@ -7,7 +7,7 @@ ghost use Rattle.ir_items.specs.View.{argument_view, function_view};
 ghost use Rattle.spec_statements.specs.Calls.{CallOK, CallResultOK};
 ghost use Rattle.function_statement_checks.specs.Calls.{PassesAt, IsCallError, IsCallFault};
 
-use crate::are_same;
+use module_context::are_same;
 use crate::context::StatementContext;
 use typing_errors::{CallError, FunctionError};
 use ir_arena::handle::Handle;

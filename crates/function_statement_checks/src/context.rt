@@ -160,7 +160,7 @@ impl<'a> StatementContext for BlockContext<'a> {
         &self.module.types
     }
 
-    #[tactic(auto, using(crate::proofs::Lookups::found, crate::proofs::Lookups::missing))]
+    #[tactic(auto, using(module_context::proofs::Lookups::found, module_context::proofs::Lookups::missing))]
     fn global_at(&self, handle: Handle<key::GlobalVariable>) -> Option<&GlobalVariable> {
         match self.module.global_variables.try_get(handle) {
             Ok(global) => Some(global),
@@ -168,7 +168,7 @@ impl<'a> StatementContext for BlockContext<'a> {
         }
     }
 
-    #[tactic(auto, using(crate::proofs::Lookups::found, crate::proofs::Lookups::missing))]
+    #[tactic(auto, using(module_context::proofs::Lookups::found, module_context::proofs::Lookups::missing))]
     fn function_at(&self, handle: Handle<key::Function>) -> Option<&Function> {
         match self.module.functions.try_get(handle) {
             Ok(function) => Some(function),
@@ -187,7 +187,7 @@ impl<'a> StatementContext for BlockContext<'a> {
         }
     }
 
-    #[tactic(auto, using(crate::proofs::Lookups::found, crate::proofs::Lookups::missing))]
+    #[tactic(auto, using(module_context::proofs::Lookups::found, module_context::proofs::Lookups::missing))]
     fn expression_at(&self, handle: Handle<key::Expression>) -> Option<&Expression> {
         match self.function.expressions.try_get(handle) {
             Ok(expression) => Some(expression),
@@ -203,7 +203,7 @@ impl<'a> StatementContext for BlockContext<'a> {
         answer_of(self.answers, range)
     }
 
-    #[tactic(auto, using(crate::proofs::Lookups::found, crate::proofs::Lookups::missing))]
+    #[tactic(auto, using(module_context::proofs::Lookups::found, module_context::proofs::Lookups::missing))]
     fn local_type(&self, handle: Handle<key::LocalVariable>) -> Option<Handle<key::IrType>> {
         match self.function.local_variables.try_get(handle) {
             Ok(variable) => Some(variable.ty),

@@ -8,7 +8,7 @@ ghost use Rattle.spec_expressions.specs.Loads.{loaded, loaded_value};
 ghost use Rattle.spec_statements.specs.Stores.{base_at, BeginsAt, IsVariable, IsVariableOf, IsVariableAt, pointer_space, IsWritable, FitsAt};
 ghost use Rattle.typing_forms.specs.Resolutions.{inner_at};
 
-use crate::are_same;
+use module_context::are_same;
 use crate::context::StatementContext;
 use bitflags::Flags;
 use ir_arena::handle::Handle;

@@ -4,7 +4,7 @@ ghost use Rattle.std.specs.Prelude.{◌≡◌, ◌↔◌, IsTrue, MatchResult};
 ghost use Rattle.spec_statements.specs.Returns.{ReturnOK};
 ghost use Rattle.function_statement_checks.specs.Returns.{IsReturnFault};
 
-use crate::are_same;
+use module_context::are_same;
 use crate::context::StatementContext;
 use typing_errors::FunctionError;
 use ir_arena::handle::Handle;

@@ -37,7 +37,7 @@ impl PlaceTest for AnswerTest<'_> {
 
     ghost passes = { λ t. is_answer_at (function_view t.function.now).expressions };
 
-    #[tactic(auto, using(function_statement_checks::proofs::Lookups::found, function_statement_checks::proofs::Lookups::missing))]
+    #[tactic(auto, using(module_context::proofs::Lookups::found, module_context::proofs::Lookups::missing))]
     fn passes(&self, place: usize) -> bool {
         match self.function.expressions.try_get(Handle::at(place)) {
             Ok(expression) => is_answer(expression),

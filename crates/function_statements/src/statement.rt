@@ -24,10 +24,7 @@ use ir_types::key;
 use function_operation_checks::{
     check_ballot, check_collective, check_gather, check_ray_pipeline, check_ray_query,
 };
-use function_statement_checks::{
-    StatementContext, check_barrier, check_call, check_condition, check_cooperative_store,
-    check_emit, check_return, check_store,
-};
+use function_statement_checks::{StatementContext, check_barrier, check_call, check_condition, check_cooperative_store, check_emit, check_return, check_store};
 use std::alloc::Global;
 
 // A switch.

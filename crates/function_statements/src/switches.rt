@@ -14,7 +14,8 @@ use ir_faults::refusal::Refusal;
 use ir_faults::with_span::WithSpan;
 use ir_kinds::ScalarKind;
 use ir_types::key;
-use function_statement_checks::{StatementContext, is_integer, shaped_of};
+use function_statement_checks::StatementContext;
+use module_context::{is_integer, shaped_of};
 use std::alloc::Global;
 
 // The kind of the integers that a selector is made of.

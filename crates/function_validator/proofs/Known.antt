@@ -1,7 +1,7 @@
 -- Flags of types that may not be there, and when values are known.
 use Rattle.std.proofs.Common.{◌≡◌, ◌≤◌, ◌<◌, ◌↔◌, ◌⊎◌, inl, inr, ◌∙◌, ℕ, zero, suc, List, [], ◌∷◌, Some, IsTrue, true, length, slice_get, refl, sym, ap, subst, arith}
 use Rattle.std.proofs.lemmas.Option.{slice_get_within}
-use Rattle.function_statement_checks.proofs.Absent.{none_there}
+use Rattle.module_context.proofs.Absent.{none_there}
 use Rattle.ir_types.specs.ExpressionPlain.{PlainExpression}
 use Rattle.ir_types.specs.Plain.{PlainType}
 use Rattle.typing_layout.specs.Flags.{HasFlag, Argument}

@@ -20,7 +20,8 @@ use ir_faults::refusal::Refusal;
 use ir_faults::with_span::WithSpan;
 use ir_items::LocalVariable;
 use ir_types::key;
-use function_statement_checks::{BlockContext, StatementContext, are_same};
+use function_statement_checks::{BlockContext, StatementContext};
+use module_context::are_same;
 use std::alloc::Global;
 use module_type_infos::TypeInfo;
 

@@ -1,8 +1,8 @@
 //! Indexes of accesses.
 
 ghost use Rattle.std.specs.Prelude.{◌≡◌, ◌<◌, ◌↔◌, IfSome, IsTrue, MatchResult, Some, option_and_then, slice_get};
-ghost use Rattle.function_statement_checks.specs.Refused.{IsRefused};
-ghost use Rattle.function_statement_checks.specs.OperandView.{scene_in, types_in, expressions_in};
+ghost use Rattle.module_context.specs.Refused.{IsRefused};
+ghost use Rattle.module_context.specs.OperandView.{scene_in, types_in, expressions_in};
 ghost use Rattle.ir_types.specs.Plain.{inner_view};
 ghost use Rattle.spec_statements.specs.Access.{element_count, pointed_count, row_count, known_length, literal_of, index_of, IsIndexOf, AccessOK, AccessIndexOK};
 ghost use Rattle.spec_statements.specs.Scene.{form_at};
@@ -12,7 +12,7 @@ use typing_errors::ExpressionError;
 use ir_arena::handle::Handle;
 use ir_kinds::{Literal, VectorSize};
 use ir_types::{ArraySize, TypeInner, key};
-use function_statement_checks::{CheckContext, is_integer_scalar, refused_unless};
+use module_context::{CheckContext, is_integer_scalar, refused_unless};
 use typing_forms::{Form, inner_of};
 
 // ---- how many parts there are, where the module says it
@@ -157,7 +157,7 @@ fn is_access(context: &CheckContext<'_>, base: Form, index: Handle<key::Expressi
 /// # Errors
 ///
 /// [`ExpressionError::Other`] where it is not.
-#[tactic(auto, using(function_statement_checks::proofs::Refusals::by_test))]
+#[tactic(auto, using(module_context::proofs::Refusals::by_test))]
 pub fn check_access(
     context: &CheckContext<'_>,
     base: Handle<key::Expression>,
@@ -184,7 +184,7 @@ fn is_part(context: &CheckContext<'_>, base: Form, index: u32) -> bool
 /// # Errors
 ///
 /// [`ExpressionError::Other`] where it is not.
-#[tactic(auto, using(function_statement_checks::proofs::Refusals::by_test))]
+#[tactic(auto, using(module_context::proofs::Refusals::by_test))]
 pub fn check_access_index(
     context: &CheckContext<'_>,
     base: Handle<key::Expression>,

@@ -1,8 +1,8 @@
 //! Values that are composed, and components of vectors in another order.
 
 ghost use Rattle.std.specs.Prelude.{◌↔◌, IsTrue, MatchResult, map};
-ghost use Rattle.function_statement_checks.specs.Refused.{IsRefused};
-ghost use Rattle.function_statement_checks.specs.OperandView.{scene_in, types_in};
+ghost use Rattle.module_context.specs.Refused.{IsRefused};
+ghost use Rattle.module_context.specs.OperandView.{scene_in, types_in};
 ghost use Rattle.module_expression_checks.specs.Faults.{IsBadComposition};
 ghost use Rattle.module_expression_checks.specs.Letters.{MayStand};
 ghost use Rattle.spec_statements.specs.Compositions.{AreComponents, SwizzleOK};
@@ -15,7 +15,7 @@ use ir_kinds::{SwizzleComponent, VectorSize};
 use ir_types::key;
 use module_constants::{Components, check_composition};
 use spec_statements::Shape;
-use function_statement_checks::{CheckContext, refused_unless, shaped_of};
+use module_context::{CheckContext, refused_unless, shaped_of};
 use typing_forms::Form;
 
 /// Whether components make a value of a type (naga's `validate_compose`).
@@ -81,7 +81,7 @@ fn is_swizzle(size: VectorSize, pattern: [SwizzleComponent; 4], of: Form) -> boo
 /// # Errors
 ///
 /// [`ExpressionError::Other`] where it does not: one of the letters that count is that of no component.
-#[tactic(auto, using(function_statement_checks::proofs::Refusals::by_test))]
+#[tactic(auto, using(module_context::proofs::Refusals::by_test))]
 pub fn check_swizzle(
     context: &CheckContext<'_>,
     size: VectorSize,

@@ -1,8 +1,8 @@
 //! Which conversions there are.
 
 ghost use Rattle.std.specs.Prelude.{◌↔◌, IsTrue, MatchResult};
-ghost use Rattle.function_statement_checks.specs.Refused.{IsRefused};
-ghost use Rattle.function_statement_checks.specs.OperandView.{scene_in};
+ghost use Rattle.module_context.specs.Refused.{IsRefused};
+ghost use Rattle.module_context.specs.OperandView.{scene_in};
 ghost use Rattle.spec_statements.specs.Conversions.{IsConverted, AsOK};
 ghost use Rattle.spec_statements.specs.Scene.{form_at};
 ghost use Rattle.typing_layout.specs.Widths.{ScalarOK};
@@ -12,7 +12,7 @@ use ir_arena::handle::Handle;
 use ir_flags::Capabilities;
 use ir_kinds::{Bytes, Scalar, ScalarKind};
 use ir_types::key;
-use function_statement_checks::{CheckContext, refused_unless, shaped_of};
+use module_context::{CheckContext, refused_unless, shaped_of};
 use module_type_checks::check_width;
 use typing_forms::Form;
 
@@ -54,7 +54,7 @@ fn converts(capabilities: Capabilities, kind: ScalarKind, convert: Option<Bytes>
 /// # Errors
 ///
 /// [`ExpressionError::Other`] where it is not.
-#[tactic(auto, using(function_statement_checks::proofs::Refusals::by_test))]
+#[tactic(auto, using(module_context::proofs::Refusals::by_test))]
 pub fn check_as(
     context: &CheckContext<'_>,
     expr: Handle<key::Expression>,

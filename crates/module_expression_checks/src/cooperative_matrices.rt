@@ -1,8 +1,8 @@
 //! Which cooperative matrices are loaded and multiplied.
 
 ghost use Rattle.std.specs.Prelude.{◌↔◌, IsTrue, MatchResult};
-ghost use Rattle.function_statement_checks.specs.Refused.{IsRefused};
-ghost use Rattle.function_statement_checks.specs.OperandView.{scene_in};
+ghost use Rattle.module_context.specs.Refused.{IsRefused};
+ghost use Rattle.module_context.specs.OperandView.{scene_in};
 ghost use Rattle.spec_statements.specs.CooperativeMatrices.{CooperativeLoadOK, IsAddend, IsRightFactor, AreFactors, MultiplyAddOK};
 ghost use Rattle.spec_statements.specs.Scene.{form_at};
 
@@ -11,7 +11,7 @@ use ir_arena::handle::Handle;
 use ir_kinds::{CooperativeRole, CooperativeSize, Scalar};
 use ir_types::key;
 use spec_statements::Shape;
-use function_statement_checks::{CheckContext, are_same, refused_unless, shaped_of};
+use module_context::{CheckContext, are_same, refused_unless, shaped_of};
 use typing_forms::Form;
 
 // ---- loads
@@ -28,7 +28,7 @@ fn is_stride(of: Form) -> bool
 /// # Errors
 ///
 /// [`ExpressionError::Other`] where it is not.
-#[tactic(auto, using(function_statement_checks::proofs::Refusals::by_test))]
+#[tactic(auto, using(module_context::proofs::Refusals::by_test))]
 pub fn check_cooperative_load(
     context: &CheckContext<'_>,
     stride: Handle<key::Expression>,
@@ -112,7 +112,7 @@ fn is_product(a: &Form, b: &Form, c: &Form) -> bool
 /// # Errors
 ///
 /// [`ExpressionError::Other`] where they are not.
-#[tactic(auto, using(function_statement_checks::proofs::Refusals::by_test))]
+#[tactic(auto, using(module_context::proofs::Refusals::by_test))]
 pub fn check_multiply_add(
     context: &CheckContext<'_>,
     a: Handle<key::Expression>,

@@ -1,15 +1,15 @@
 //! What changes from fragment to fragment.
 
 ghost use Rattle.std.specs.Prelude.{◌↔◌, IsTrue, MatchResult};
-ghost use Rattle.function_statement_checks.specs.Refused.{IsRefused};
-ghost use Rattle.function_statement_checks.specs.OperandView.{scene_in};
+ghost use Rattle.module_context.specs.Refused.{IsRefused};
+ghost use Rattle.module_context.specs.OperandView.{scene_in};
 ghost use Rattle.spec_statements.specs.Derivatives.{DerivativeOK};
 ghost use Rattle.spec_statements.specs.Scene.{form_at};
 
 use typing_errors::ExpressionError;
 use ir_arena::handle::Handle;
 use ir_types::key;
-use function_statement_checks::{CheckContext, is_floating, refused_unless};
+use module_context::{CheckContext, is_floating, refused_unless};
 use typing_forms::Form;
 
 // Whether a type is one of floats alone or in a row.
@@ -39,7 +39,7 @@ fn is_slope(of: Form) -> bool
 /// # Errors
 ///
 /// [`ExpressionError::Other`] where it has none.
-#[tactic(auto, using(function_statement_checks::proofs::Refusals::by_test))]
+#[tactic(auto, using(module_context::proofs::Refusals::by_test))]
 pub fn check_derivative(
     context: &CheckContext<'_>,
     expr: Handle<key::Expression>,

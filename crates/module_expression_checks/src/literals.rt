@@ -1,8 +1,8 @@
 //! Which literals there are, and which types have a zero.
 
 ghost use Rattle.std.specs.Prelude.{MatchResult};
-ghost use Rattle.function_statement_checks.specs.Refused.{IsRefused};
-ghost use Rattle.function_statement_checks.specs.OperandView.{types_in, IsKnown};
+ghost use Rattle.module_context.specs.Refused.{IsRefused};
+ghost use Rattle.module_context.specs.OperandView.{types_in, IsKnown};
 ghost use Rattle.module_expression_checks.specs.Faults.{IsBadLiteral};
 ghost use Rattle.spec_statements.specs.Literals.{ZeroOK};
 ghost use Rattle.spec_expressions.specs.ConstantLiterals.{LiteralOK};
@@ -12,7 +12,7 @@ use ir_arena::handle::Handle;
 use ir_flags::Capabilities;
 use ir_kinds::Literal;
 use ir_types::key;
-use function_statement_checks::{CheckContext, refused_unless};
+use module_context::{CheckContext, refused_unless};
 use module_type_checks::validate_literal;
 
 /// Whether a literal may be used.
@@ -34,7 +34,7 @@ pub fn check_literal(capabilities: Capabilities, value: Literal) -> Result<(), E
 /// # Errors
 ///
 /// [`ExpressionError::Other`] where it has none.
-#[tactic(auto, using(function_statement_checks::proofs::Refusals::by_test))]
+#[tactic(auto, using(module_context::proofs::Refusals::by_test))]
 pub fn check_zero(
     context: &CheckContext<'_>,
     ty: Handle<key::IrType>,

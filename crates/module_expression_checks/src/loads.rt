@@ -1,8 +1,8 @@
 //! What is loaded, and what has a length.
 
 ghost use Rattle.std.specs.Prelude.{◌↔◌, IsTrue, MatchResult, Some};
-ghost use Rattle.function_statement_checks.specs.Refused.{IsRefused};
-ghost use Rattle.function_statement_checks.specs.OperandView.{scene_in, types_in, IsKnown};
+ghost use Rattle.module_context.specs.Refused.{IsRefused};
+ghost use Rattle.module_context.specs.OperandView.{scene_in, types_in, IsKnown};
 ghost use Rattle.ir_types.specs.Plain.{inner_view};
 ghost use Rattle.spec_statements.specs.Loads.{LoadOK, IsDynamic, IsRuntimeArray, ArrayLengthOK};
 ghost use Rattle.spec_statements.specs.Scene.{form_at};
@@ -10,7 +10,7 @@ ghost use Rattle.spec_statements.specs.Scene.{form_at};
 use typing_errors::ExpressionError;
 use ir_arena::handle::Handle;
 use ir_types::{ArraySize, TypeInner, key};
-use function_statement_checks::{CheckContext, refused_unless};
+use module_context::{CheckContext, refused_unless};
 use typing_forms::Form;
 
 // ---- loads
@@ -44,7 +44,7 @@ fn is_loaded(context: &CheckContext<'_>, pointer: Form) -> bool
 /// # Errors
 ///
 /// [`ExpressionError::Other`] where it is not.
-#[tactic(auto, using(function_statement_checks::proofs::Refusals::by_test))]
+#[tactic(auto, using(module_context::proofs::Refusals::by_test))]
 pub fn check_load(
     context: &CheckContext<'_>,
     pointer: Handle<key::Expression>,
@@ -106,7 +106,7 @@ fn has_length(context: &CheckContext<'_>, array: Form) -> bool
 /// # Errors
 ///
 /// [`ExpressionError::Other`] where it has none.
-#[tactic(auto, using(function_statement_checks::proofs::Refusals::by_test))]
+#[tactic(auto, using(module_context::proofs::Refusals::by_test))]
 pub fn check_array_length(
     context: &CheckContext<'_>,
     array: Handle<key::Expression>,

@@ -1,8 +1,8 @@
 //! Operands of operations on one value and on two.
 
 ghost use Rattle.std.specs.Prelude.{◌≡◌, ◌↔◌, IsTrue, MatchResult};
-ghost use Rattle.function_statement_checks.specs.Refused.{IsRefused};
-ghost use Rattle.function_statement_checks.specs.OperandView.{scene_in};
+ghost use Rattle.module_context.specs.Refused.{IsRefused};
+ghost use Rattle.module_context.specs.OperandView.{scene_in};
 ghost use Rattle.spec_statements.specs.Operators.{IsSigned, IsBits, TakesKind, IsAdded, AreMultiplied, UnaryOK, SumOK, ProductOK, ShiftOK, BinaryOK};
 ghost use Rattle.spec_statements.specs.Scene.{form_at};
 ghost use Rattle.spec_statements.specs.Shapes.{AnyShape, IsAlone, IsOfValue, IsInteger, IsNumeric, IsTruth, IsMadeOf, IsValue};
@@ -13,10 +13,7 @@ use ir_arena::handle::Handle;
 use ir_kinds::{BinaryOperator, Scalar, ScalarKind, UnaryOperator, VectorSize};
 use ir_types::key;
 use spec_statements::Shape;
-use function_statement_checks::{
-    CheckContext, are_same, form_of_shape, is_integer, is_numeric, is_truth, refused_unless,
-    shaped_of,
-};
+use module_context::{CheckContext, are_same, form_of_shape, is_integer, is_numeric, is_truth, refused_unless, shaped_of};
 use typing_forms::Form;
 
 // ---- on one value
@@ -58,7 +55,7 @@ fn takes(op: UnaryOperator, of: Form) -> bool
 /// # Errors
 ///
 /// [`ExpressionError::Other`] where it does not.
-#[tactic(auto, using(function_statement_checks::proofs::Refusals::by_test))]
+#[tactic(auto, using(module_context::proofs::Refusals::by_test))]
 pub fn check_unary(
     context: &CheckContext<'_>,
     op: UnaryOperator,
@@ -235,7 +232,7 @@ fn take(op: BinaryOperator, left: &Form, right: &Form) -> bool
 /// # Errors
 ///
 /// [`ExpressionError::Other`] where it does not.
-#[tactic(auto, using(function_statement_checks::proofs::Refusals::by_test))]
+#[tactic(auto, using(module_context::proofs::Refusals::by_test))]
 pub fn check_binary(
     context: &CheckContext<'_>,
     op: BinaryOperator,

@@ -1,8 +1,8 @@
 //! Which ray queries are asked.
 
 ghost use Rattle.std.specs.Prelude.{◌≡◌, ◌↔◌, IsTrue, MatchResult, Some};
-ghost use Rattle.function_statement_checks.specs.Refused.{IsRefused};
-ghost use Rattle.function_statement_checks.specs.OperandView.{scene_in, types_in};
+ghost use Rattle.module_context.specs.Refused.{IsRefused};
+ghost use Rattle.module_context.specs.OperandView.{scene_in, types_in};
 ghost use Rattle.ir_types.specs.Plain.{inner_view};
 ghost use Rattle.spec_statements.specs.ExpressionRayQueries.{query_of, VertexPositionsOK, IntersectionOK};
 ghost use Rattle.spec_statements.specs.Scene.{form_at};
@@ -11,7 +11,7 @@ ghost use Rattle.spec_statements.specs.Shapes.{pointed_in};
 use typing_errors::ExpressionError;
 use ir_arena::handle::Handle;
 use ir_types::{TypeInner, key};
-use function_statement_checks::{CheckContext, refused_unless};
+use module_context::{CheckContext, refused_unless};
 use typing_forms::Form;
 
 /// Whether the ray query that a type is gives the vertices of a hit.
@@ -68,7 +68,7 @@ fn gives_intersection(context: &CheckContext<'_>, query: Form) -> bool
 /// # Errors
 ///
 /// [`ExpressionError::Other`] where it does not.
-#[tactic(auto, using(function_statement_checks::proofs::Refusals::by_test))]
+#[tactic(auto, using(module_context::proofs::Refusals::by_test))]
 pub fn check_vertex_positions(
     context: &CheckContext<'_>,
     query: Handle<key::Expression>,
@@ -85,7 +85,7 @@ pub fn check_vertex_positions(
 /// # Errors
 ///
 /// [`ExpressionError::Other`] where it does not.
-#[tactic(auto, using(function_statement_checks::proofs::Refusals::by_test))]
+#[tactic(auto, using(module_context::proofs::Refusals::by_test))]
 pub fn check_intersection(
     context: &CheckContext<'_>,
     query: Handle<key::Expression>,

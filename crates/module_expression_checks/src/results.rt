@@ -1,8 +1,8 @@
 //! What statements may answer.
 
 ghost use Rattle.std.specs.Prelude.{◌↔◌, IsTrue, MatchResult};
-ghost use Rattle.function_statement_checks.specs.Refused.{IsRefused};
-ghost use Rattle.function_statement_checks.specs.OperandView.{types_in, IsKnown};
+ghost use Rattle.module_context.specs.Refused.{IsRefused};
+ghost use Rattle.module_context.specs.OperandView.{types_in, IsKnown};
 ghost use Rattle.spec_statements.specs.ExpressionResults.{IsAtomicValue, IsExchange, AtomicResultOK, UniformLoadOK};
 ghost use Rattle.typing_layout.specs.Widths.{AtomicOK};
 ghost use Rattle.typing_forms.specs.Resolutions.{inner_at};
@@ -14,7 +14,7 @@ use ir_arena::handle::Handle;
 use ir_flags::Capabilities;
 use ir_kinds::Scalar;
 use ir_types::key;
-use function_statement_checks::{CheckContext, refused_unless, shaped_of};
+use module_context::{CheckContext, refused_unless, shaped_of};
 use module_type_checks::check_atomic;
 use typing_forms::{Form, form_of_type};
 
@@ -64,7 +64,7 @@ fn is_atomic_result(context: &CheckContext<'_>, ty: Handle<key::IrType>, compari
 /// # Errors
 ///
 /// [`ExpressionError::Other`] where it may not.
-#[tactic(auto, using(function_statement_checks::proofs::Refusals::by_test))]
+#[tactic(auto, using(module_context::proofs::Refusals::by_test))]
 pub fn check_atomic_result(
     context: &CheckContext<'_>,
     ty: Handle<key::IrType>,
@@ -92,7 +92,7 @@ fn is_loaded_uniformly(context: &CheckContext<'_>, ty: Handle<key::IrType>) -> b
 /// # Errors
 ///
 /// [`ExpressionError::Other`] where it may not.
-#[tactic(auto, using(function_statement_checks::proofs::Refusals::by_test))]
+#[tactic(auto, using(module_context::proofs::Refusals::by_test))]
 pub fn check_uniform_load(
     context: &CheckContext<'_>,
     ty: Handle<key::IrType>,

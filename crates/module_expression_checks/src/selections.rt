@@ -1,8 +1,8 @@
 //! Which values are chosen from, by which condition; of which values something is asked.
 
 ghost use Rattle.std.specs.Prelude.{◌↔◌, IsTrue, MatchResult};
-ghost use Rattle.function_statement_checks.specs.Refused.{IsRefused};
-ghost use Rattle.function_statement_checks.specs.OperandView.{scene_in};
+ghost use Rattle.module_context.specs.Refused.{IsRefused};
+ghost use Rattle.module_context.specs.OperandView.{scene_in};
 ghost use Rattle.spec_statements.specs.Scene.{form_at};
 ghost use Rattle.spec_statements.specs.Selections.{ChoosesFrom, IsCondition, SelectOK, RelationalOK};
 ghost use Rattle.spec_statements.specs.Shapes.{IsRow, IsOfValue, IsFloating, IsTruth, IsMadeOf};
@@ -13,7 +13,7 @@ use ir_arena::handle::Handle;
 use ir_kinds::{RelationalFunction, VectorSize};
 use ir_types::key;
 use spec_statements::Shape;
-use function_statement_checks::{CheckContext, are_same, is_floating, is_truth, refused_unless, shaped_of};
+use module_context::{CheckContext, are_same, is_floating, is_truth, refused_unless, shaped_of};
 use typing_forms::Form;
 
 // ---- selections
@@ -67,7 +67,7 @@ fn is_selection(condition: &Form, accept: &Form, reject: &Form) -> bool
 /// # Errors
 ///
 /// [`ExpressionError::Other`] where it does not.
-#[tactic(auto, using(function_statement_checks::proofs::Refusals::by_test))]
+#[tactic(auto, using(module_context::proofs::Refusals::by_test))]
 pub fn check_select(
     context: &CheckContext<'_>,
     condition: Handle<key::Expression>,
@@ -131,7 +131,7 @@ fn relates(fun: RelationalFunction, of: Form) -> bool
 /// # Errors
 ///
 /// [`ExpressionError::Other`] where it does not.
-#[tactic(auto, using(function_statement_checks::proofs::Refusals::by_test))]
+#[tactic(auto, using(module_context::proofs::Refusals::by_test))]
 pub fn check_relational(
     context: &CheckContext<'_>,
     fun: RelationalFunction,

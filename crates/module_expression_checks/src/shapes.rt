@@ -4,7 +4,7 @@ ghost use Rattle.std.specs.Prelude.{◌↔◌, IsTrue};
 ghost use Rattle.spec_statements.specs.Shapes.{IsAlone, IsOfValue, IsTruth, IsMadeOf};
 
 use spec_statements::Shape;
-use function_statement_checks::{is_truth, shaped_of};
+use module_context::{is_truth, shaped_of};
 use typing_forms::Form;
 
 /// Whether a shape is that of one scalar.

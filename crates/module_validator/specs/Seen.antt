@@ -1,6 +1,6 @@
 -- What expressions are judged by.
-use Rattle.function_statement_checks.specs.OperandView.{scene_in}
-use Rattle.function_statement_checks.specs.declared.check_context.CheckContext.{CheckContext}
+use Rattle.module_context.specs.OperandView.{scene_in}
+use Rattle.module_context.specs.declared.check_context.CheckContext.{CheckContext}
 use Rattle.ir_flags.specs.declared.settings.Capabilities.{Capabilities}
 use Rattle.spec_statements.specs.Scene.{Scene}
 

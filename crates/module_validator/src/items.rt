@@ -3,7 +3,7 @@
 //! What a context says of capabilities does not count: they are the validator's.
 
 ghost use Rattle.std.specs.Prelude.{◌<◌, ◌≤◌, length, MatchResult};
-ghost use Rattle.function_statement_checks.specs.OperandView.{IsKnown as IsKnownOfExpressions};
+ghost use Rattle.module_context.specs.OperandView.{IsKnown as IsKnownOfExpressions};
 ghost use Rattle.module_expressions.specs.Faults.{IsExpressionFault};
 ghost use Rattle.module_constants.specs.Known.{IsKnown as IsKnownOfValues, module_in};
 ghost use Rattle.module_constants.specs.Refusals.{IsExpressionRefused};
@@ -22,7 +22,7 @@ use ir_flags::ShaderStages;
 use ir_types::key;
 use module_constants::{GlobalContext, validate_const_expression};
 use module_types::validate_type;
-use function_statement_checks::CheckContext;
+use module_context::CheckContext;
 use module_type_checks::TypeContext;
 use module_type_infos::{TypeError, TypeInfo};
 

@@ -1,6 +1,5 @@
-//! The rules of built-in math functions: which types they take together, and what they give.
-//!
-//! Sets of scalars and of shapes, each with one bit for a member, and the one bits of a number.
+//! The rules of built-in math functions: which types they take together, and what they give; sets of scalars and of shapes,
+//! each with one bit for a member, and the one bits of a number.
 #![tactic(auto)]
 
 mod constructor_set;
@@ -12,7 +11,6 @@ mod scalar_set;
 pub mod set_laws;
 
 pub use constructor_set::ConstructorSet;
-pub use crate::ConstructorSize;
 pub use one_bits::{Members, OneBitsIter};
 pub use patterns::Pattern;
 pub use rules::{Arguments, Conclusion, ConstructorSize, Rule, ValueType};

@@ -1,5 +1,5 @@
 use Rattle.std.proofs.Common.{◌≡◌, Some, slice_get, sym, subst, arith}
-use Rattle.function_statement_checks.proofs.Lookups.{found, many_viewed}
+use Rattle.module_context.proofs.Lookups.{found, many_viewed}
 use Rattle.function_interface.proofs.AnsweredLemmas.{one_unanswered, answered_more, answered_all}
 use Rattle.function_interface.specs.Answered.{IsUnanswered}
 use Rattle.ir_types.specs.ExpressionPlain.{expression_view}

@@ -1,5 +1,5 @@
 use Rattle.std.proofs.Common.{arith, refl}
-use Rattle.function_statement_checks.proofs.Absent.{known_flag}
+use Rattle.module_context.proofs.Absent.{known_flag}
 use Rattle.function_validator.proofs.Known.{taken_past}
 use Rattle.typing_layout.specs.Flags.{Argument}
 use Rattle.function_validator.proofs.flags.is_argument.Goals as goal

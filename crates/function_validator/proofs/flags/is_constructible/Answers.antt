@@ -1,5 +1,5 @@
 use Rattle.std.proofs.Common.{arith, refl}
-use Rattle.function_statement_checks.proofs.Absent.{known_flag, absent_flag, none_composed}
+use Rattle.module_context.proofs.Absent.{known_flag, absent_flag, none_composed}
 use Rattle.typing_layout.specs.Flags.{Constructible}
 use Rattle.function_validator.proofs.flags.is_constructible.Goals as goal
 

@@ -1,5 +1,5 @@
 use Rattle.std.proofs.Common.{◌≡◌, Some, slice_get, refl, sym, subst, arith}
-use Rattle.function_statement_checks.proofs.Lookups.{found, many_viewed}
+use Rattle.module_context.proofs.Lookups.{found, many_viewed}
 use Rattle.function_interface.proofs.Below.{one_more, all_below}
 use Rattle.function_interface.specs.Items.{EachBelow}
 use Rattle.ir_items.specs.View.{local_view}

@@ -1,6 +1,6 @@
 use Rattle.std.proofs.Common.{◌≡◌, arith, length}
-use Rattle.function_statement_checks.proofs.Constness.{past_the_last}
-use Rattle.function_statement_checks.proofs.Lookups.{many_viewed}
+use Rattle.module_context.proofs.Constness.{past_the_last}
+use Rattle.module_context.proofs.Lookups.{many_viewed}
 use Rattle.function_validator.proofs.Known.{known_early, unknown_past}
 use Rattle.ir_types.specs.ExpressionPlain.{expression_view}
 use Rattle.function_statement_checks.specs.View.{context_view}

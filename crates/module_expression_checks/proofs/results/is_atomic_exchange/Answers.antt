@@ -1,4 +1,4 @@
-use Rattle.function_statement_checks.specs.OperandView.{types_in}
+use Rattle.module_context.specs.OperandView.{types_in}
 use Rattle.module_expression_checks.proofs.OldValues.{by_test}
 use Rattle.spec_statements.specs.ExpressionResults.{IsAtomicValue}
 use Rattle.typing_forms.specs.Resolutions.{inner_at}

@@ -1,5 +1,5 @@
 use Rattle.std.proofs.Common.{◌≡◌, [], sym, ap, ◌∙◌}
-use Rattle.function_statement_checks.proofs.Lookups.{found}
+use Rattle.module_context.proofs.Lookups.{found}
 use Rattle.ir_types.specs.ExpressionPlain.{PlainExpression, expression_view}
 use Rattle.spec_statements.specs.ExpressionStages.{stages_of}
 use Rattle.function_real_lower.proofs.real.RealLowerLower.check_expression.Goals as goal

@@ -1,7 +1,7 @@
 //! At which level of detail an image is sampled, what is gathered, and what is clamped.
 
 ghost use Rattle.std.specs.Prelude.{◌≡◌, ◌↔◌, IsTrue, IfSome, Bool};
-ghost use Rattle.function_statement_checks.specs.OperandView.{scene_in};
+ghost use Rattle.module_context.specs.OperandView.{scene_in};
 ghost use Rattle.spec_statements.specs.ImageSamples.{IsFloat32, HasNeighbours, IsGathered, IsLevel, IsClamped, ClampOK, OutsideOK};
 ghost use Rattle.spec_statements.specs.Scene.{form_at};
 
@@ -9,7 +9,7 @@ use ir_arena::handle::Handle;
 use ir_kinds::{ImageClass, ImageDimension, Scalar, ScalarKind, SwizzleComponent};
 use ir_types::{SampleLevel, key};
 use spec_statements::Picture;
-use function_statement_checks::{CheckContext, are_same, is_integer_scalar};
+use module_context::{CheckContext, are_same, is_integer_scalar};
 use typing_forms::Form;
 
 /// Whether a type is that of a 32-bit float.

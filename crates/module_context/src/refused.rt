@@ -1,7 +1,7 @@
 //! How an expression is refused that breaks a rule without a name.
 
 ghost use Rattle.std.specs.Prelude.{IsTrue, MatchResult};
-ghost use Rattle.function_statement_checks.specs.Refused.{IsRefused};
+ghost use Rattle.module_context.specs.Refused.{IsRefused};
 
 use typing_errors::ExpressionError;
 

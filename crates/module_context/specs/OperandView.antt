@@ -7,7 +7,7 @@ use Rattle.spec_statements.specs.Scene.{Scene}
 use Rattle.module_type_checks.specs.Known.{AreInfos}
 use Rattle.typing_forms.specs.Resolutions.{types_view}
 use Rattle.typing_layout.specs.Constness.{AreKinds}
-use Rattle.function_statement_checks.specs.declared.check_context.CheckContext.{CheckContext}
+use Rattle.module_context.specs.declared.check_context.CheckContext.{CheckContext}
 
 abbrev pub types_in : CheckContext → List PlainType
 types_in c = types_view c.types.now

@@ -1,9 +1,9 @@
 use Rattle.std.proofs.Common.{◌≡◌, arith, length}
-use Rattle.function_statement_checks.proofs.Constness.{constant_at, none_past, past_the_last}
-use Rattle.function_statement_checks.proofs.Lookups.{many_viewed}
+use Rattle.module_context.proofs.Constness.{constant_at, none_past, past_the_last}
+use Rattle.module_context.proofs.Lookups.{many_viewed}
 use Rattle.ir_types.specs.ExpressionPlain.{expression_view}
-use Rattle.function_statement_checks.specs.OperandView.{expressions_in}
-use Rattle.function_statement_checks.proofs.check_context.CheckContext.is_const.Goals as goal
+use Rattle.module_context.specs.OperandView.{expressions_in}
+use Rattle.module_context.proofs.check_context.CheckContext.is_const.Goals as goal
 
 pub returns-then-index-len : goal.returns-then-index-len
 returns-then-index-len c =

@@ -1,8 +1,8 @@
 //! How images are sampled.
 
 ghost use Rattle.std.specs.Prelude.{◌≡◌, ◌↔◌, IsTrue, IfSome, IsSomeAnd, MatchResult, true, false, is_some};
-ghost use Rattle.function_statement_checks.specs.Refused.{IsRefused};
-ghost use Rattle.function_statement_checks.specs.OperandView.{scene_in, expressions_in, IsKnown};
+ghost use Rattle.module_context.specs.Refused.{IsRefused};
+ghost use Rattle.module_context.specs.OperandView.{scene_in, expressions_in, IsKnown};
 ghost use Rattle.ir_kinds.specs.Images.{is_depth, is_multisampled};
 ghost use Rattle.ir_kinds.specs.Scalars.{floating};
 ghost use Rattle.spec_statements.specs.ImageSamples.{IsFloat32, IsFiltered, IsOffset, IsGathered, IsLevel, ClampOK, OutsideOK, IsSampled, ImageSampleOK};
@@ -16,7 +16,7 @@ use ir_arena::handle::Handle;
 use ir_kinds::{ImageClass, ImageDimension, Scalar, ScalarKind, SwizzleComponent};
 use ir_types::key;
 use spec_statements::{Picture, Sampling};
-use function_statement_checks::{CheckContext, are_same, picture_of, refused_unless, sampler_of};
+use module_context::{CheckContext, are_same, picture_of, refused_unless, sampler_of};
 use typing_forms::Form;
 
 // ---- samplers
@@ -182,7 +182,7 @@ fn is_image_sample(context: &CheckContext<'_>, image: Form, by: &Sampling) -> bo
 /// # Errors
 ///
 /// [`ExpressionError::Other`] where it is not.
-#[tactic(auto, using(function_statement_checks::proofs::Refusals::by_test))]
+#[tactic(auto, using(module_context::proofs::Refusals::by_test))]
 pub fn check_image_sample(
     context: &CheckContext<'_>,
     image: Handle<key::Expression>,

@@ -1,6 +1,6 @@
 -- How an answer about a test is one about a rule.
 use Rattle.std.proofs.Common.{◌↔◌, Bool, IsTrue, Result, Ok, Err, MatchResult}
-use Rattle.function_statement_checks.specs.Refused.{IsRefused}
+use Rattle.module_context.specs.Refused.{IsRefused}
 use Rattle.typing_errors.specs.declared.expressions.ExpressionError.{ExpressionError}
 
 -- a test that holds exactly where the rule does refuses for the rule

@@ -1,6 +1,6 @@
 -- Why an expression is refused.
 use Rattle.std.specs.Prelude.{◌≡◌, ℕ, Option, Some, None, map, slice_get}
-use Rattle.function_statement_checks.specs.Refused.{IsRefused}
+use Rattle.module_context.specs.Refused.{IsRefused}
 use Rattle.typing_errors.specs.declared.expressions.ExpressionError.{ExpressionError}
 use Rattle.module_expression_checks.specs.Faults.{IsBadLiteral, IsBadComposition}
 use Rattle.ir_types.specs.ExpressionPlain.{PlainExpression, compose, plain}

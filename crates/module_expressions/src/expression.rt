@@ -1,7 +1,7 @@
 //! The checks of all kinds of expressions: one arm for each kind.
 
 ghost use Rattle.std.specs.Prelude.{◌<◌, length, MatchResult};
-ghost use Rattle.function_statement_checks.specs.OperandView.{scene_in, IsKnown};
+ghost use Rattle.module_context.specs.OperandView.{scene_in, IsKnown};
 ghost use Rattle.module_expressions.specs.Faults.{IsFaultOf, IsExpressionFault};
 ghost use Rattle.ir_types.specs.ExpressionPlain.{expression_view};
 ghost use Rattle.spec_statements.specs.Expressions.{AskedOf, ExpressionOK};
@@ -20,7 +20,7 @@ use ir_arena::handle::Handle;
 use ir_flags::ShaderStages;
 use ir_types::{Expression, key};
 use spec_statements::Sampling;
-use function_statement_checks::CheckContext;
+use module_context::CheckContext;
 
 // Whether what is asked of an expression is met.
 fn check_expression(

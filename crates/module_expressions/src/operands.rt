@@ -1,14 +1,14 @@
 //! Operands by which a texel is found.
 
 ghost use Rattle.std.specs.Prelude.{◌≡◌, ◌↔◌, IsTrue};
-ghost use Rattle.function_statement_checks.specs.OperandView.{scene_in};
+ghost use Rattle.module_context.specs.OperandView.{scene_in};
 ghost use Rattle.spec_statements.specs.Scene.{form_at};
 ghost use Rattle.spec_statements.specs.Shapes.{IsIntegerScalar, ExactlyIf, along};
 
 use ir_arena::handle::Handle;
 use ir_kinds::{ImageDimension, Scalar, VectorSize};
 use ir_types::key;
-use function_statement_checks::{CheckContext, is_integer_scalar};
+use module_context::{CheckContext, is_integer_scalar};
 use typing_forms::Form;
 
 /// The type of a place in an image of so many dimensions.

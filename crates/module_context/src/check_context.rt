@@ -3,7 +3,7 @@
 ghost use Rattle.std.specs.Prelude.{◌≡◌, ◌↔◌, IsTrue, option_and_then, option_map, slice_get};
 ghost use Rattle.ir_types.specs.ExpressionPlain.{expression_view};
 ghost use Rattle.ir_types.specs.Plain.{inner_view};
-ghost use Rattle.function_statement_checks.specs.OperandView.{scene_in, expressions_in, types_in, IsKnown};
+ghost use Rattle.module_context.specs.OperandView.{scene_in, expressions_in, types_in, IsKnown};
 ghost use Rattle.spec_statements.specs.Access.{literal_of};
 ghost use Rattle.spec_statements.specs.Scene.{form_at};
 ghost use Rattle.spec_statements.specs.Shapes.{pointed_in};

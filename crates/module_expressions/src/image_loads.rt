@@ -1,8 +1,8 @@
 //! How texels are loaded, and what is asked of images.
 
 ghost use Rattle.std.specs.Prelude.{◌↔◌, IsTrue, MatchResult};
-ghost use Rattle.function_statement_checks.specs.Refused.{IsRefused};
-ghost use Rattle.function_statement_checks.specs.OperandView.{scene_in};
+ghost use Rattle.module_context.specs.Refused.{IsRefused};
+ghost use Rattle.module_context.specs.OperandView.{scene_in};
 ghost use Rattle.spec_statements.specs.ImageLoads.{IsFlat, IsTexel, IsReadable, IsTexelLoad, ImageLoadOK, IsAnswered, ImageQueryOK};
 ghost use Rattle.spec_statements.specs.Scene.{form_at};
 
@@ -14,9 +14,7 @@ use ir_flags::StorageAccess;
 use ir_kinds::{ImageClass, ImageDimension};
 use ir_types::{ImageQuery, key};
 use spec_statements::Picture;
-use function_statement_checks::{
-    CheckContext, are_same, is_integer, is_integer_scalar, picture_of, refused_unless, shaped_of,
-};
+use module_context::{CheckContext, are_same, is_integer, is_integer_scalar, picture_of, refused_unless, shaped_of};
 use typing_forms::Form;
 
 // ---- loads
@@ -99,7 +97,7 @@ fn is_image_load(
 /// # Errors
 ///
 /// [`ExpressionError::Other`] where it is not.
-#[tactic(auto, using(function_statement_checks::proofs::Refusals::by_test))]
+#[tactic(auto, using(module_context::proofs::Refusals::by_test))]
 pub fn check_image_load(
     context: &CheckContext<'_>,
     image: Handle<key::Expression>,
@@ -160,7 +158,7 @@ fn is_image_query(context: &CheckContext<'_>, image: Form, query: ImageQuery) ->
 /// # Errors
 ///
 /// [`ExpressionError::Other`] where it has none.
-#[tactic(auto, using(function_statement_checks::proofs::Refusals::by_test))]
+#[tactic(auto, using(module_context::proofs::Refusals::by_test))]
 pub fn check_image_query(
     context: &CheckContext<'_>,
     image: Handle<key::Expression>,

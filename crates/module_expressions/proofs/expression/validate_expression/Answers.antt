@@ -1,4 +1,4 @@
-use Rattle.function_statement_checks.proofs.Lookups.{found}
+use Rattle.module_context.proofs.Lookups.{found}
 use Rattle.ir_types.specs.ExpressionPlain.{expression_view}
 use Rattle.module_expressions.proofs.expression.validate_expression.Goals as goal
 

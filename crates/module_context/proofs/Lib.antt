@@ -1,0 +1,4 @@
+pub mod Absent
+pub mod Constness
+pub mod Lookups
+pub mod Refusals

@@ -1,0 +1,14 @@
+//! What the checks of expressions and of statements look at: the types of a function's expressions and what these are made of
+//! ([`CheckContext`]), shapes of values and images, and how an expression is refused.
+#![tactic(auto)]
+
+mod check_context;
+mod refused;
+mod shapes;
+
+pub use check_context::CheckContext;
+pub use refused::refused_unless;
+pub use shapes::{
+    are_same, form_of_shape, is_floating, is_integer, is_integer_scalar, is_numeric, is_truth,
+    picture_of, pointee_of, sampler_of, shaped_of,
+};
