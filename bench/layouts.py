@@ -122,8 +122,8 @@ def times(room, asked, document, path, less="read"):
     """Milliseconds of what is asked, less those of something else, and of the reader."""
     runs = [(taken(room, asked, document), taken(room, less, document), run(ALONE, path, b"read\n")[0])
             for _ in range(RUNS)]
-    asked_for, read = (min(it[who] for it in runs) for who in (0, 1))
-    return max(asked_for - read, 0) * 1000, statistics.median(it[2] for it in runs) * 1000
+    required_for, read = (min(it[who] for it in runs) for who in (0, 1))
+    return max(required_for - read, 0) * 1000, statistics.median(it[2] for it in runs) * 1000
 
 
 def instructions(room, asked, document, path, less="read"):

@@ -6,7 +6,7 @@ use Rattle.std.specs.IoError.{error_kind}
 use Rattle.std.specs.declared.io.Error.{Error}
 use Rattle.std.specs.declared.io.ErrorKind.TheVariants.{Interrupted}
 use Rattle.check_ports.specs.Calls.{Call, passed, Made, Each, PassesSome}
-use Rattle.check_ports.specs.Source.{GoesOn, AsksFor, Reading, ReadsAll, ReadingFails, ReadingStops}
+use Rattle.check_ports.specs.Source.{GoesOn, RequiresFor, Reading, ReadsAll, ReadingFails, ReadingStops}
 use Rattle.check_ports.specs.Sink.{TakesNothing, Offers, WritesAll, WritingFails}
 
 -- So many calls of a reader were made, and gave these bytes. Another may follow.
@@ -14,7 +14,7 @@ pub record ReadsOn {R : Type 0} (reads : R → R → Call → Type 0) (old new :
   pub calls : List Call
   pub made : Made reads old new calls
   pub count_is : length calls ≡ count
-  pub asked : AsksFor most calls
+  pub asked : RequiresFor most calls
   pub going : Each GoesOn calls
   pub taken_is : taken ≡ passed calls
 

@@ -42,16 +42,16 @@ abbrev pub Fails : Call → Type 0
 Fails c = IsErrAnd c.answer (λ e. error_kind e ≢ Interrupted)
 
 -- each call had room for a byte, and for no more than `most` with those that the calls before it gave
-abbrev pub AsksFor : ℕ → List Call → Type 0
-AsksFor most [] = ⊤
-AsksFor most (c ∷ before) = AsksFor most before × (0 < length c.buffer) × (length (passed before) + length c.buffer ≤ most)
+abbrev pub RequiresFor : ℕ → List Call → Type 0
+RequiresFor most [] = ⊤
+RequiresFor most (c ∷ before) = RequiresFor most before × (0 < length c.buffer) × (length (passed before) + length c.buffer ≤ most)
 
 -- Calls of a reader that ask for no more than `most` bytes in all, made one after the other, and no more than `limit`.
 -- `reads` says what one call makes of the reader.
 pub record Reading {R : Type 0} (reads : R → R → Call → Type 0) (old new : R) (most limit : ℕ) (calls : List Call) : Type 0 where
   pub made : Made reads old new calls
   pub few : length calls ≤ limit
-  pub asked : AsksFor most calls
+  pub asked : RequiresFor most calls
 
 -- These are the bytes that the calls gave. The last call found the end, or all `most` are there. Each call before gave
 -- bytes or was interrupted.

@@ -2,7 +2,7 @@
 use Rattle.std.proofs.Common.{◌≡◌, ◌⊎◌, ◌||◌, inl, inr, ℕ, Bool, true, false, true≢false, Option, Some, refl, sym, ap, ◌∙◌}
 use Rattle.spec_analysis.specs.declared.sampling.GlobalOrArgument.TheVariants.{Global}
 use Rattle.ir_items.specs.Plain.{PlainEntry}
-use Rattle.check_report.specs.Laws.{NotedIsTold}
+use Rattle.check_report.specs.Laws.{NotedIsReported}
 use Rattle.spec_interface.specs.Uses.{OwnUse}
 use Rattle.judgement.specs.Lines.{is_at, is_own, mesh_output}
 use Rattle.std.proofs.lemmas.Bool.{eq-eqb}
@@ -19,8 +19,8 @@ own_is : (e : PlainEntry) (g k : ℕ) → OwnUse e g k → is_own e g ≡ true
 own_is e g k (inl payload) = either_true (is_at e.payload g) (is_at (mesh_output e) g) (inl (at_itself e.payload g payload.0))
 own_is e g k (inr output) = either_true (is_at e.payload g) (is_at (mesh_output e) g) (inr (at_itself (mesh_output e) g output.0))
 
-pub noted_is_told : NotedIsTold
-noted_is_told m e info is = record {
+pub noted_is_reported : NotedIsReported
+noted_is_reported m e info is = record {
   uses = record {
     many = is.many;
     exact = λ g k lt other. (

@@ -8,7 +8,7 @@ use Rattle.spec_analysis.specs.declared.sampling.GlobalOrArgument.{GlobalOrArgum
 use Rattle.spec_analysis.specs.declared.sampling.GlobalOrArgument.TheVariants.{Argument, Global}
 use Rattle.typing_infos.specs.declared.function_info.FunctionInfo.{FunctionInfo}
 use Rattle.ir_items.specs.Plain.{PlainEntry, PlainModule}
-use Rattle.check_report.specs.Told.{numbers_in, numbers_of, IsEntryInfo, Tells, AreLinesOf, AreEntryLines}
+use Rattle.check_report.specs.Reported.{numbers_in, numbers_of, IsEntryInfo, Tells, AreLinesOf, AreEntryLines}
 use Rattle.typing_rules.specs.Laws.{IsAmong}
 use Rattle.judgement.specs.Lines.{each_from}
 use Rattle.judgement.specs.Reports.{IsEntryReport}

@@ -3,7 +3,7 @@ use Rattle.std.specs.Prelude.{◌≡◌, ◌<◌, ◌↔◌, ℕ, length}
 use Rattle.spec_analysis.specs.Pairs.{SamplingPair}
 use Rattle.typing_infos.specs.declared.function_info.FunctionInfo.{FunctionInfo}
 use Rattle.ir_items.specs.Plain.{PlainEntry, PlainModule}
-use Rattle.check_report.specs.Told.{IsEntryInfo}
+use Rattle.check_report.specs.Reported.{IsEntryInfo}
 use Rattle.typing_rules.specs.Laws.{IsAmong}
 use Rattle.spec_analysis.specs.Chains.{HasUse, HasPair}
 use Rattle.spec_analysis.specs.Summaries.{HasUseBit}
@@ -17,5 +17,5 @@ pub record IsNotedOf (m : PlainModule) (e : PlainEntry) (info : FunctionInfo) : 
   pub pairs : (p : SamplingPair) → IsAmong p info.sampling.items ↔ HasPair m e.function p
 
 -- such an info is what the report reads
-abbrev pub NotedIsTold : Type 0
-NotedIsTold = (m : PlainModule) (e : PlainEntry) (info : FunctionInfo) → IsNotedOf m e info → IsEntryInfo m e info
+abbrev pub NotedIsReported : Type 0
+NotedIsReported = (m : PlainModule) (e : PlainEntry) (info : FunctionInfo) → IsNotedOf m e info → IsEntryInfo m e info

@@ -4,7 +4,7 @@ ghost use Rattle.std.specs.Prelude.{◌≡◌, ◌++◌, ◌<◌, OnOk, Some, le
 ghost use Rattle.ir_items.specs.GlobalView.{global_view};
 ghost use Rattle.ir_items.specs.View.{module_view};
 ghost use Rattle.ir_types.specs.Plain.{inner_view};
-ghost use Rattle.check_report.specs.Told.{AreLaid, IsReported};
+ghost use Rattle.check_report.specs.Reported.{AreLaid, IsReported};
 ghost use Rattle.spec_interface.specs.Spaces.{array_base, counted};
 ghost use Rattle.judgement.specs.Lines.{is_buffer, buffer_of, buffers};
 
@@ -13,8 +13,8 @@ use ir_arena::handle::Handle;
 use ir_items::{GlobalVariable, Module};
 use ir_kinds::AddressSpace;
 use ir_types::{TypeInner, key};
-use typing_infos::ModuleInfo;
 use std::alloc::AllocError;
+use typing_infos::ModuleInfo;
 
 // Whether a host fills it with bytes.
 const fn is_buffer(space: AddressSpace) -> bool

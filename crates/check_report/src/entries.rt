@@ -2,17 +2,17 @@
 
 ghost use Rattle.std.specs.Prelude.{◌≡◌, ◌++◌, OnOk, length, string_bytes};
 ghost use Rattle.ir_items.specs.View.{entry_view, module_view};
-ghost use Rattle.check_report.specs.Told.{IsReported, Tells, AreLinesOf, AreEntryLines};
+ghost use Rattle.check_report.specs.Reported.{IsReported, Tells, AreLinesOf, AreEntryLines};
 ghost use Rattle.judgement.specs.Lines.{each_from, mesh_output, is_at, is_own, global_line, variable_lines};
 
 use crate::lines::{is_used, write_global, write_head, write_own};
 use crate::pairs::write_samples;
-use spec_analysis::GlobalUse;
 use ir_arena::handle::Handle;
 use ir_items::{EntryPoint, Module};
 use ir_types::key;
-use typing_infos::{FunctionInfo, ModuleInfo};
+use spec_analysis::GlobalUse;
 use std::alloc::{AllocError, Global};
+use typing_infos::{FunctionInfo, ModuleInfo};
 
 // The variable that holds what a mesh shader gives.
 fn mesh_output(entry: &EntryPoint) -> Option<Handle<key::GlobalVariable>>

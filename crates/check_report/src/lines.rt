@@ -3,10 +3,10 @@
 ghost use Rattle.std.specs.Prelude.{◌≡◌, ◌++◌, OnOk, string_bytes, codes, decimal};
 ghost use Rattle.judgement.specs.Lines.{buffer_line, head_line, own_line, has, is_used, word_if, use_words, pair_line};
 
-use spec_analysis::GlobalUse;
 use bitflags::Flags;
 use ir_arena::handle::Handle;
 use ir_types::key;
+use spec_analysis::GlobalUse;
 use std::alloc::AllocError;
 
 /// That of a buffer, by its number, its size and its alignment in bytes.

@@ -2,14 +2,14 @@
 
 ghost use Rattle.std.specs.Prelude.{IfOk, string_bytes};
 ghost use Rattle.ir_items.specs.View.{module_view};
-ghost use Rattle.check_report.specs.Told.{IsReported};
+ghost use Rattle.check_report.specs.Reported.{IsReported};
 ghost use Rattle.judgement.specs.Reports.{IsReport};
 
 use crate::buffers::write_buffers;
 use crate::entries::write_entries;
 use ir_items::Module;
-use typing_infos::ModuleInfo;
 use std::alloc::{AllocError, Global};
+use typing_infos::ModuleInfo;
 
 /// The report of an accepted module, by what validation keeps of it: the size and the alignment of each buffer, and of each
 /// entry point its payload and mesh output, how what is reached from it uses each other global variable, and which images are

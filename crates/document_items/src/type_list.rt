@@ -4,8 +4,8 @@ ghost use Rattle.std.specs.Prelude.{◌≡◌, ◌∷◌, ◌++◌, [], OnOk, If
 use crate::types::TypeForm;
 use document_forms::{Grow, ReadError, Wanted};
 use ir_arena::span::Span;
-use ir_types::{IrType, key};
 use ir_sets::unique_arena::UniqueArena;
+use ir_types::{IrType, key};
 use std::alloc::{AllocError, Global};
 
 impl Grow<TypeForm> for UniqueArena<IrType, key::IrType> {

@@ -16,17 +16,17 @@ ghost use Rattle.document_reader.specs.Documents.{a_version, content_of, content
 use crate::first::take_first;
 use crate::model::{Document, Settings};
 use crate::{EntryForm, FunctionForm};
+use document_expressions::ExpressionForm;
 use document_forms::{
     At, Each, Form, InArena, InArray, Maybe, ReadError, SetOf, TakeRow, Truth, Wanted, Whole,
     take_into, take_part,
 };
-use document_expressions::ExpressionForm;
+use document_items::{ConstantForm, FilterForm, GlobalForm, OverrideForm, SpecialForm, TypeForm};
 use ir_flags::{Capabilities, ShaderStages, SubgroupOperationSet, ValidationFlags};
 use ir_items::Module;
-use ir_types::{IrType, key};
 use ir_sets::keyed::KeyedState;
 use ir_sets::unique_arena::UniqueArena;
-use document_items::{ConstantForm, FilterForm, GlobalForm, OverrideForm, SpecialForm, TypeForm};
+use ir_types::{IrType, key};
 use serde_json::Value;
 use std::alloc::Global;
 

@@ -6,13 +6,13 @@ ghost use Rattle.ir_items.specs.declared.functions.FunctionResult.{FunctionResul
 ghost use Rattle.document_reader.specs.Functions.{an_argument, a_result, a_local, a_function, an_entry};
 
 use crate::statements::BodyForm;
+use document_expressions::ExpressionForm;
 use document_forms::{
     At, Each, Form, InArena, Maybe, ReadError, Row, Take, Text, Whole, read_row, take_row,
 };
-use document_expressions::ExpressionForm;
+use document_items::{BindingForm, EarlyForm, MeshForm, SizesForm, StageForm};
 use ir_items::{EntryPoint, Function, FunctionArgument, FunctionResult, LocalVariable};
 use ir_types::key;
-use document_items::{BindingForm, EarlyForm, MeshForm, SizesForm, StageForm};
 use serde_json::Value;
 use std::alloc::Global;
 

@@ -8,17 +8,17 @@ ghost use Rattle.shader_check.specs.Examined.{finding_in};
 ghost use Rattle.shader_check.specs.Theorem.{Judged};
 
 use crate::names::refused_name;
-use crate::place::Told;
+use crate::place::Reported;
 use document_forms::Place;
 use document_reader::{DocumentError, MAX_LEN, read_document};
 use ir_items::Module;
 use module_buffers::leaf_report;
-use typing_infos::ModuleInfo;
 use shader_check::{
     Examined, Finding, ModuleError, Named, ValidationError, examine_document, refused_by,
 };
 use std::alloc::{AllocError, Global};
 use std::fmt::{self, Display};
+use typing_infos::ModuleInfo;
 
 /// What is found of a document, and where that shows.
 #[derive(Debug, Drop)]
@@ -104,7 +104,7 @@ fn write_place<W: fmt::Write>(f: &mut fmt::Formatter<W>, place: &Place) -> fmt::
     if steps.is_empty() {
         return Ok(());
     }
-    write!(f, "{}: ", Told(steps))
+    write!(f, "{}: ", Reported(steps))
 }
 
 // Why the bytes spell no document.

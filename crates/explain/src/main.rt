@@ -7,8 +7,8 @@ mod names;
 mod parts;
 mod place;
 
-use explanation::{Explanation, explain};
 use check_ports::{Source, TakeError};
+use explanation::{Explanation, explain};
 use shader_check::MAX_TAKEN;
 use std::env::args;
 use std::process::ExitCode;

@@ -5,7 +5,7 @@ use std::fmt::{self, Display};
 
 /// The indexes that lead to a place of a document, from the outermost on, as the names of the parts that have one.
 #[derive(Clone, Copy)]
-pub struct Told<'a>(pub &'a [u32]);
+pub struct Reported<'a>(pub &'a [u32]);
 
 // One step into a part, and what is there.
 fn write_step<W: fmt::Write>(
@@ -22,7 +22,7 @@ fn write_step<W: fmt::Write>(
     Ok(inside)
 }
 
-impl<'a> Display for Told<'a> {
+impl<'a> Display for Reported<'a> {
     fn fmt<W: fmt::Write>(&self, f: &mut fmt::Formatter<W>) -> fmt::Result {
         let mut part = Part::Row(Row::Document);
         let mut dot = "";

@@ -14,7 +14,7 @@ use Rattle.ir_blocks.specs.declared.operations.AtomicFunction.{AtomicFunction}
 use Rattle.ir_flags.specs.declared.settings.Capabilities.{Capabilities}
 use Rattle.ir_kinds.specs.declared.scalars.Scalar.{Scalar}
 use Rattle.spec_handles.specs.Statements.{compared}
-use Rattle.spec_statements.specs.Atomics.{changed_scalar, WideOK, FloatOK, ScalarAllows, AtomicAnswer, declared_answer, AnswerOK, AtomicResultOK, IsChangedAtOnce, AtomicStatementOK}
+use Rattle.spec_statements.specs.Atomics.{changed_scalar, WideOK, FloatOK, ScalarAllows, AtomicAnswer, declared_answer, AnswerOK, AtomicResultOK, AtomicChangeOK, AtomicStatementOK}
 use Rattle.spec_statements.specs.BlockContext.{BlockContext, form_at}
 use Rattle.spec_statements.specs.UniformLoads.{UniformLoadStatementOK}
 use Rattle.typing_forms.specs.declared.form.Form.{Form}
@@ -83,12 +83,12 @@ answer_refuted c s done (Some result) e (inr wrong) ok =
 -- ---- the whole
 
 value_refuted : (c : BlockContext) (pointer : ℕ) (done : AtomicFunction) (value : ℕ) (result : Option ℕ) (s : Scalar) (e : AtomicError)
-    → IsValueFault c value s e → IsChangedAtOnce c pointer done value result s → ⊥
+    → IsValueFault c value s e → AtomicChangeOK c pointer done value result s → ⊥
 value_refuted c pointer done value result s (fault.InvalidOperand x) wrong ok = wrong.1 ok.fits
 value_refuted c pointer done value result s _ wrong ok = wrong
 
 changed_refuted : (c : BlockContext) (pointer : ℕ) (done : AtomicFunction) (value : ℕ) (result : Option ℕ) (e : AtomicError) (s : Scalar)
-    → IsChangeFault c pointer done value result s e → IsChangedAtOnce c pointer done value result s → ⊥
+    → IsChangeFault c pointer done value result s e → AtomicChangeOK c pointer done value result s → ⊥
 changed_refuted c pointer done value result e s (inl wrong) ok = value_refuted c pointer done value result s e wrong ok
 changed_refuted c pointer done value result e s (inr (inl wrong)) ok = scalar_refuted c.capabilities s (form_at c pointer) done result e wrong ok.allowed
 changed_refuted c pointer done value result e s (inr (inr wrong)) ok = answer_refuted c s done result e wrong ok.answered

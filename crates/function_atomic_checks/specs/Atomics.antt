@@ -12,7 +12,7 @@ use Rattle.ir_kinds.specs.Scalars.{floating, signed, unsigned}
 use Rattle.ir_kinds.specs.declared.scalars.Scalar.{Scalar}
 use Rattle.spec_statements.specs.ExpressionResults.{IsExchangeOf}
 use Rattle.spec_handles.specs.Statements.{compared}
-use Rattle.spec_statements.specs.Atomics.{changed_scalar, IsInStorage, IsKeptExtremum, IsDoneWithFloats, AtomicAnswer, declared_answer, MayBeUnanswered}
+use Rattle.spec_statements.specs.Atomics.{changed_scalar, IsInStorage, IsStorageMinMaxWithoutResult, IsDoneWithFloats, AtomicAnswer, declared_answer, MayBeUnanswered}
 use Rattle.spec_statements.specs.BlockContext.{BlockContext, form_at}
 use Rattle.spec_statements.specs.Stores.{pointer_space}
 use Rattle.typing_forms.specs.Forms.{form_of_type}
@@ -29,8 +29,8 @@ IsWide s = (s ≡ signed 8) ⊎ (s ≡ unsigned 8)
 abbrev pub IsMissingWide : Capabilities → (pointer : Form) → AtomicFunction → (result : Option ℕ) → (missing : Capabilities) → Type 0
 IsMissingWide capabilities pointer done result missing =
     (¬ Has capabilities.0 SHADER_INT64_ATOMIC_ALL_OPS.0)
-    × (((missing ≡ SHADER_INT64_ATOMIC_ALL_OPS) × ¬ IsKeptExtremum pointer done result)
-    ⊎ ((missing ≡ SHADER_INT64_ATOMIC_MIN_MAX) × IsKeptExtremum pointer done result × ¬ Has capabilities.0 SHADER_INT64_ATOMIC_MIN_MAX.0))
+    × (((missing ≡ SHADER_INT64_ATOMIC_ALL_OPS) × ¬ IsStorageMinMaxWithoutResult pointer done result)
+    ⊎ ((missing ≡ SHADER_INT64_ATOMIC_MIN_MAX) × IsStorageMinMaxWithoutResult pointer done result × ¬ Has capabilities.0 SHADER_INT64_ATOMIC_MIN_MAX.0))
 
 abbrev pub IsWideFault : Capabilities → (pointer : Form) → AtomicFunction → (result : Option ℕ) → AtomicError → Type 0
 IsWideFault capabilities pointer done result (fault.MissingCapability missing) = IsMissingWide capabilities pointer done result missing

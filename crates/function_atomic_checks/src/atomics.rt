@@ -7,22 +7,22 @@ ghost use Rattle.function_atomic_checks.specs.Atomics.{IsWide, IsWideFault, IsFl
 ghost use Rattle.function_atomic_checks.specs.View.{answer_view};
 ghost use Rattle.spec_statements.specs.ExpressionResults.{IsExchangeOf};
 ghost use Rattle.spec_handles.specs.Statements.{compared};
-ghost use Rattle.spec_statements.specs.Atomics.{atomic_of, changed_scalar, IsStorage, IsInStorage, IsKeptExtremum, WideOK, IsDoneWithFloats, FloatOK, ScalarAllows, declared_answer, AnswerOK, MayBeUnanswered, AtomicResultOK, IsChangedAtOnce, AtomicStatementOK};
+ghost use Rattle.spec_statements.specs.Atomics.{atomic_of, changed_scalar, IsStorage, IsInStorage, IsStorageMinMaxWithoutResult, WideOK, IsDoneWithFloats, FloatOK, ScalarAllows, declared_answer, AnswerOK, MayBeUnanswered, AtomicResultOK, AtomicChangeOK, AtomicStatementOK};
 ghost use Rattle.spec_statements.specs.BlockContext.{form_at};
 ghost use Rattle.spec_statements.specs.StorageImages.{IsExtremum};
 ghost use Rattle.spec_statements.specs.Stores.{pointer_space};
 ghost use Rattle.typing_forms.specs.Resolutions.{inner_at};
 
 use bitflags::Flags;
-use typing_errors::{AtomicError, FunctionError};
-use module_expression_checks::exchanged_value;
+use function_statement_checks::{StatementContext, pointer_space};
 use ir_arena::handle::Handle;
 use ir_blocks::AtomicFunction;
 use ir_flags::Capabilities;
 use ir_kinds::{AddressSpace, Scalar};
 use ir_types::{Expression, TypeInner, key};
-use function_statement_checks::{StatementContext, pointer_space};
 use module_context::are_same;
+use module_expression_checks::exchanged_value;
+use typing_errors::{AtomicError, FunctionError};
 use typing_forms::Form;
 
 // ---- what is changed
@@ -169,7 +169,7 @@ fn is_kept_extremum(
     fun: &AtomicFunction,
     answer: &Option<Handle<key::Expression>>,
 ) -> bool
-    ensures { IsTrue result ↔ IsKeptExtremum pointer.now fun.now answer.now }
+    ensures { IsTrue result ↔ IsStorageMinMaxWithoutResult pointer.now fun.now answer.now }
 {
     is_extremum(fun) && is_in_storage(pointer) && answer.is_none()
 }
@@ -452,7 +452,7 @@ fn check_change<C: StatementContext>(
 ) -> Result<(), AtomicError>
     requires { pointer_space (form_at (C.seen context.now) pointer) ≡ Some changed.space }
     ensures { MatchResult result
-        (λ _. IsChangedAtOnce (C.seen context.now) pointer fun.now value answer.now changed.scalar)
+        (λ _. AtomicChangeOK (C.seen context.now) pointer fun.now value answer.now changed.scalar)
         (IsChangeFault (C.seen context.now) pointer fun.now value answer.now changed.scalar) }
 {
     if !are_same(context.form_at(value), Form::Scalar(changed.scalar)) {

@@ -14,8 +14,7 @@ ghost use Rattle.typing_forms.specs.Resolutions.{inner_at};
 
 use crate::atomics::is_extremum;
 use bitflags::Flags;
-use typing_errors::{ExpressionError, FunctionError};
-use module_expressions::is_texel;
+use function_statement_checks::{StatementContext, accessed_at, named_at, variable_at};
 use ir_arena::handle::Handle;
 use ir_blocks::AtomicFunction;
 use ir_faults::refusal::Refusal;
@@ -23,10 +22,11 @@ use ir_faults::with_span::WithSpan;
 use ir_flags::{Capabilities, StorageAccess};
 use ir_kinds::{AddressSpace, ImageClass, ImageDimension, Scalar, StorageFormat, VectorSize};
 use ir_types::{TypeInner, key};
-use spec_statements::Picture;
-use function_statement_checks::{StatementContext, accessed_at, named_at, variable_at};
 use module_context::{are_same, is_integer_scalar, picture_of};
+use module_expressions::is_texel;
+use spec_statements::Picture;
 use std::alloc::{AllocError, Global};
+use typing_errors::{ExpressionError, FunctionError};
 use typing_forms::Form;
 
 // ---- the image

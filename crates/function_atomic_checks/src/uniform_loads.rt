@@ -11,12 +11,12 @@ ghost use Rattle.spec_statements.specs.UniformLoads.{loaded_type, LeadsTo, Unifo
 ghost use Rattle.typing_forms.specs.Forms.{form_of_type};
 
 use crate::atomics::changed_scalar;
-use typing_errors::FunctionError;
+use function_statement_checks::{StatementContext, pointer_space};
 use ir_arena::handle::Handle;
 use ir_kinds::AddressSpace;
 use ir_types::{Expression, TypeInner, key};
-use function_statement_checks::{StatementContext, pointer_space};
 use module_context::are_same;
+use typing_errors::FunctionError;
 use typing_forms::Form;
 
 // Whether a type is a pointer into workgroup memory.

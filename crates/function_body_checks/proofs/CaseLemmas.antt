@@ -18,7 +18,7 @@ use Rattle.ir_kinds.specs.declared.scalars.ScalarKind.{ScalarKind}
 use Rattle.ir_kinds.specs.declared.values.SwitchValue.{SwitchValue}
 use Rattle.ir_kinds.specs.declared.values.SwitchValue.TheVariants.{I32, U32, Default}
 use Rattle.spec_statements.specs.Switches.{case_values, FitsKind}
-use Rattle.function_body_checks.specs.Cases.{StandsTwice, AreApart}
+use Rattle.function_body_checks.specs.Cases.{OccursTwice, AreApart}
 use Rattle.function_body_checks.specs.CaseValues.{value_key}
 use Rattle.function_body_checks.proofs.CaseLists.{contains_cons, contains_first, contains_later, image_at, image_before}
 
@@ -116,10 +116,10 @@ all_apart kind cs i past differ fit =
 
 -- a value that stood before stands twice
 pub stands_twice : (cs : List SwitchCase) (i : ℕ) (c : SwitchCase) → i < length cs → c ≡ get_or cs i c → Contains (map value_of (take i cs)) (value_of c)
-    → StandsTwice (case_values (cases_of (map case_view cs))) (value_of c)
+    → OccursTwice (case_values (cases_of (map case_view cs))) (value_of c)
 stands_twice cs i c lt here there =
     let first = image_before value_of cs i c lt there in
-    subst (λ vs. StandsTwice vs (value_of c)) (sym (values_are cs)) (record {
+    subst (λ vs. OccursTwice vs (value_of c)) (sym (values_are cs)) (record {
       first = first.0;
       again = i;
       behind = first.1;

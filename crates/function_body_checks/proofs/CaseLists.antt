@@ -44,8 +44,8 @@ module _ {X : Type 0} where
       ]
 
   -- what stands at a place stands there
-  stands_at : (xs : List X) (i : ℕ) (x : X) → i < length xs → get_or xs i x ≡ x → slice_get xs i ≡ Some x
-  stands_at xs i x lt e = slice_get-get_or xs i x lt ∙ ap Some e
+  occurs_at : (xs : List X) (i : ℕ) (x : X) → i < length xs → get_or xs i x ≡ x → slice_get xs i ≡ Some x
+  occurs_at xs i x lt e = slice_get-get_or xs i x lt ∙ ap Some e
 
   -- what is among the first stands before
   pub stands_before : (xs : List X) (i : ℕ) (x : X) → Contains (take i xs) x → i ≤ length xs → (k : ℕ) × (k < i) × (slice_get xs k ≡ Some x)
@@ -53,7 +53,7 @@ module _ {X : Type 0} where
       let size : length (take i xs) ≤ i = omega (arith, length-take i xs) in
       let lt = c.1 in
       let before : c.0 < i = omega arith in
-      (c.0, before, stands_at xs c.0 x (omega arith) (sym (get_or-take i xs c.0 x before) ∙ c.2))
+      (c.0, before, occurs_at xs c.0 x (omega arith) (sym (get_or-take i xs c.0 x before) ∙ c.2))
 
 -- the same of the images of a list, at its place i
 module _ {X Y : Type 0} (f : X → Y) where
@@ -74,7 +74,7 @@ module _ {X Y : Type 0} (f : X → Y) where
 
   -- one of all, at its place
   pub image_at : (xs : List X) (i : ℕ) (x : X) → i < length xs → x ≡ get_or xs i x → slice_get (map f xs) i ≡ Some (f x)
-  image_at xs i x lt here = stands_at (map f xs) i (f x) (omega (arith, length-map xs f)) (get_or-map f xs i x (f x) lt ∙ ap f (sym here))
+  image_at xs i x lt here = occurs_at (map f xs) i (f x) (omega (arith, length-map xs f)) (get_or-map f xs i x (f x) lt ∙ ap f (sym here))
 
   -- it stood before
   pub image_before : (xs : List X) (i : ℕ) (x : X) → i < length xs → Contains (map f (take i xs)) (f x) → (k : ℕ) × (k < i) × (slice_get (map f xs) k ≡ Some (f x))

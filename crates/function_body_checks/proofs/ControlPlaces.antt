@@ -3,7 +3,7 @@ use Rattle.std.proofs.Common.{◌≡◌, zero, suc, ℕ, inl, inr, false, List, 
 use Rattle.typing_errors.specs.declared.error.FunctionError.{FunctionError}
 use Rattle.typing_errors.specs.declared.error.FunctionError.TheVariants as error
 use Rattle.ir_blocks.specs.Control.{breaks_in, continues_in, returns_in, may_leave, parts_around, ControlOK}
-use Rattle.ir_blocks.specs.Places.{Place, here, later, condition, spot_at, StandsAt, statement}
+use Rattle.ir_blocks.specs.Places.{Place, here, later, condition, spot_at, OccursAt, statement}
 use Rattle.ir_blocks.specs.Places as at
 use Rattle.ir_blocks.specs.Plain.{PlainStatement, emit, block, if_, switch, loop, break, continue, return, kill, operation, call, PlainBlock, stop, next, PlainCases, no_case, case}
 use Rattle.ir_blocks.specs.Shapes.{Exit, breaks, continues, returns, kills, exit_of, shape_of, Part, inner, accepting, rejecting, case_at, loop_body, loop_continuing, case_body, part_of}
@@ -88,13 +88,13 @@ part_leaves m kill part h = tt
 part_leaves m (operation a) part h = tt
 part_leaves m (call function arguments answer) part h = tt
 
-none_in_stop : {A : Type 0} (p : Place) (s : PlainStatement) → StandsAt stop p s → A
+none_in_stop : {A : Type 0} (p : Place) (s : PlainStatement) → OccursAt stop p s → A
 none_in_stop here s e = let x = e in absurd (cc)
 none_in_stop (later p) s e = let x = e in absurd (cc)
 none_in_stop (at.inside part p) s e = let x = e in absurd (cc)
 none_in_stop condition s e = let x = e in absurd (cc)
 
-leaves_at : (p : Place) (m : MayLeave) (b : PlainBlock) → AllLeave m b → (s : PlainStatement) (exit : Exit) → StandsAt b p s → exit_of (shape_of s) ≡ Some exit → IsTrue (allows (at_place m p) exit)
+leaves_at : (p : Place) (m : MayLeave) (b : PlainBlock) → AllLeave m b → (s : PlainStatement) (exit : Exit) → OccursAt b p s → exit_of (shape_of s) ≡ Some exit → IsTrue (allows (at_place m p) exit)
 leaves_at p m stop h s exit stands is = none_in_stop p s stands
 leaves_at here m (next u rest) h s exit stands is =
     let same : u ≡ s = (let x = stands in cc) in own_leaves m u exit h.0 (ap (λ x. exit_of (shape_of x)) same ∙ is)
@@ -111,7 +111,7 @@ pub record LeftAt (e : FunctionError) (m : MayLeave) (b : PlainBlock) : Type 0 w
   pub place : Place
   pub by : PlainStatement
   pub exit : Exit
-  pub stands : StandsAt b place by
+  pub stands : OccursAt b place by
   pub leaves : exit_of (shape_of by) ≡ Some exit
   pub told : IsExitError exit e
   pub refused : allows (at_place m place) exit ≡ false

@@ -93,19 +93,19 @@ module _ (flags : ValidationFlags) (f : PlainFunction) (asked : Bool) (unasked :
       let by = answers_at (spot_at p f.body) e h.0 in record { place = p; other = other; answers = (by.0, by.1, by.2); again = populated p e h.1 }
   atomic_error_at p _ other h = absurd h
 
-  fault_told : (p : Place) (e : FunctionError) → IsFaultHere f asked (spot_at p f.body) (visible [] p f.body) (answered_before [] p f.body) e → IsScopeFault flags f e
-  fault_told p (error.Expression e source) h = (h.1, record { place = p; other = h.0; used = h.2.0; unknown = not_in_scope p e h.2.1 })
-  fault_told p (error.ExpressionAlreadyInScope e) h = record { place = p; other = h.0; brought = h.1; known = in_scope p e h.2 }
-  fault_told p (error.InvalidCall g e) h =
+  fault_reported : (p : Place) (e : FunctionError) → IsFaultHere f asked (spot_at p f.body) (visible [] p f.body) (answered_before [] p f.body) e → IsScopeFault flags f e
+  fault_reported p (error.Expression e source) h = (h.1, record { place = p; other = h.0; used = h.2.0; unknown = not_in_scope p e h.2.1 })
+  fault_reported p (error.ExpressionAlreadyInScope e) h = record { place = p; other = h.0; brought = h.1; known = in_scope p e h.2 }
+  fault_reported p (error.InvalidCall g e) h =
       let found = call_at (spot_at p f.body) g h.0 in
       record { place = p; arguments = found.arguments; answer = found.answer; stands = found.is; wrong = call_error_at p g found e h.1 }
-  fault_told p (error.InvalidAtomic e) h = atomic_error_at p e h.0 h.1
-  fault_told p _ h = absurd h
+  fault_reported p (error.InvalidAtomic e) h = atomic_error_at p e h.0 h.1
+  fault_reported p _ h = absurd h
 
-  pub told_in_body : (e : FunctionError) (scope answered : List ℕ) → scope ≡ [] → answered ≡ [] → FaultIn f asked e scope answered f.body → IsScopeFault flags f e
-  told_in_body e scope answered none silent wrong =
+  pub reported_in_body : (e : FunctionError) (scope answered : List ℕ) → scope ≡ [] → answered ≡ [] → FaultIn f asked e scope answered f.body → IsScopeFault flags f e
+  reported_in_body e scope answered none silent wrong =
       let start : FaultIn f asked e [] [] f.body = subst (λ xs. FaultIn f asked e xs [] f.body) none (subst (λ xs. FaultIn f asked e scope xs f.body) silent wrong) in
-      let found = fault_in f asked e [] [] f.body start in fault_told found.place e found.wrong
+      let found = fault_in f asked e [] [] f.body start in fault_reported found.place e found.wrong
 
 -- ---- fine bodies
 

@@ -45,14 +45,14 @@ module _ (f : PlainFunction) (next : List ℕ) (are : AreAlways f next) (range :
         | inr past ↦ true≢false (sym yes_ ∙ always_past f e (omega (arith, are.len)))
       ])
 
-  pub always_told : (r : Option ℕ) (b : Bool) → is_some r ≡ b
+  pub always_reported : (r : Option ℕ) (b : Bool) → is_some r ≡ b
       → IfNone r ((test : ℕ → Bool) → AreNext test (length next) next → NoneBetween test range.0 (min range.1 (length next)))
       → IfSome r (λ n. (test : ℕ → Bool) → AreNext test (length next) next → IsFirst test range.0 (min range.1 (length next)) n)
       → MatchBool b ((e : ℕ) × Contains (handles_between range) e × PreEmitted f e) (All (λ e. ¬ PreEmitted f e) (handles_between range))
-  always_told None true is none found = absurd (true≢false (sym is))
-  always_told None false is none found = none_always (none (always_in f) counted)
-  always_told (Some n) false is none found = absurd (true≢false is)
-  always_told (Some n) true is none found =
+  always_reported None true is none found = absurd (true≢false (sym is))
+  always_reported None false is none found = none_always (none (always_in f) counted)
+  always_reported (Some n) false is none found = absurd (true≢false is)
+  always_reported (Some n) true is none found =
       let first = found (always_in f) counted in
       let reached : range.0 ≤ n = first.reached in
       let low : n < min range.1 (length next) = first.within in

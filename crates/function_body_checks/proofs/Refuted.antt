@@ -6,7 +6,7 @@ use Rattle.typing_errors.specs.declared.atomics.AtomicError.{AtomicError}
 use Rattle.typing_errors.specs.declared.atomics.AtomicError.TheVariants as atomic_error
 use Rattle.typing_errors.specs.declared.calls.CallError.{CallError}
 use Rattle.typing_errors.specs.declared.calls.CallError.TheVariants as call_error
-use Rattle.ir_blocks.specs.Places.{Place, StandsAt}
+use Rattle.ir_blocks.specs.Places.{Place, OccursAt}
 use Rattle.ir_blocks.specs.Plain.{call}
 use Rattle.ir_flags.specs.Sets.{Has}
 use Rattle.ir_flags.specs.declared.settings.ValidationFlags.{ValidationFlags}
@@ -25,7 +25,7 @@ module _ (flags : ValidationFlags) (f : PlainFunction) (scope : ScopeOK f) (once
   again p x by (inl unasked) = unasked (asked p x by)
   again p x by (inr other) = other.2 (once other.0 p x other.1 by)
 
-  in_call : (e : CallError) (p : Place) (function : ℕ) (arguments : List ℕ) (answer : Option ℕ) → StandsAt f.body p (call function arguments answer) → IsCallErrorAt flags f p arguments answer e → ⊥
+  in_call : (e : CallError) (p : Place) (function : ℕ) (arguments : List ℕ) (answer : Option ℕ) → OccursAt f.body p (call function arguments answer) → IsCallErrorAt flags f p arguments answer e → ⊥
   in_call (call_error.Argument place source) p function arguments answer stands h =
       h.1.2 (scope.in_scope p h.1.0 (subst (λ spot. Contains (checked_at spot) h.1.0) (sym stands) (contains_at arguments place h.1.0 h.1.1)))
   in_call (call_error.ResultAlreadyInScope x) p function arguments answer stands h =

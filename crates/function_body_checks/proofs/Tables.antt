@@ -116,11 +116,11 @@ true_known f scope e h = elim h [
 ]
 
 -- an expression that the test tells
-pub told_known : (f : PlainFunction) (scope : List ℕ) (e : ℕ) (b : Bool) → b ≡ known f scope e → b ≡ true → Known f scope e
-told_known f scope e b is yes_ = known_true f scope e (sym is ∙ yes_)
+pub reported_known : (f : PlainFunction) (scope : List ℕ) (e : ℕ) (b : Bool) → b ≡ known f scope e → b ≡ true → Known f scope e
+reported_known f scope e b is yes_ = known_true f scope e (sym is ∙ yes_)
 
-pub told_unknown : (f : PlainFunction) (scope : List ℕ) (e : ℕ) (b : Bool) → b ≡ known f scope e → b ≡ false → ¬ Known f scope e
-told_unknown f scope e b is no_ h = true≢false (sym (true_known f scope e h) ∙ (sym is ∙ no_))
+pub reported_unknown : (f : PlainFunction) (scope : List ℕ) (e : ℕ) (b : Bool) → b ≡ known f scope e → b ≡ false → ¬ Known f scope e
+reported_unknown f scope e b is no_ h = true≢false (sym (true_known f scope e h) ∙ (sym is ∙ no_))
 
 module _ (f : PlainFunction) (scope : List ℕ) where
   none_lacks : (e : ℕ) (es : List ℕ) (b : Bool) → known f scope e ≡ b → None ≡ (if b then first_lacking (known f scope) es else Some e) → Known f scope e × (None ≡ first_lacking (known f scope) es)
@@ -138,7 +138,7 @@ module _ (f : PlainFunction) (scope : List ℕ) where
   pub not_known : (xs : List ℕ) (e : ℕ) → Some e ≡ first_lacking (known f scope) xs → Contains xs e × ¬ Known f scope e
   not_known [] e h = let x = h in absurd (cc)
   not_known (x ∷ es) e h = elim (one_lacks x e es (known f scope x) refl h) [
-    | inl here ↦ (subst (Contains (x ∷ es)) here.0 (head_held x es), told_unknown f scope e (known f scope x) (ap (known f scope) here.0) here.1)
+    | inl here ↦ (subst (Contains (x ∷ es)) here.0 (head_held x es), reported_unknown f scope e (known f scope x) (ap (known f scope) here.0) here.1)
     | inr more ↦ (let rest = not_known es e more in (Contains-append_right (x ∷ []) es e rest.0, rest.1))
   ]
 
@@ -160,7 +160,7 @@ module _ (f : PlainFunction) (scope : List ℕ) where
   placed_from : (n : ℕ) (xs : List ℕ) (p : ℕ) → Some p ≡ place_lacking (known f scope) n xs → (k : ℕ) × (p ≡ n + k) × ((e : ℕ) × (slice_get xs k ≡ Some e) × ¬ Known f scope e)
   placed_from n [] p h = let x = h in absurd (cc)
   placed_from n (x ∷ es) p h = elim (one_placed n p x es (known f scope x) refl h) [
-    | inl here ↦ (0, (let e = here.0 in omega (arith, e)), (x, refl, told_unknown f scope x (known f scope x) refl here.1))
+    | inl here ↦ (0, (let e = here.0 in omega (arith, e)), (x, refl, reported_unknown f scope x (known f scope x) refl here.1))
     | inr more ↦ (let rest = placed_from (n + 1) es p more in (suc rest.0, (let e = rest.1 in omega (arith, e)), rest.2))
   ]
 

@@ -10,7 +10,7 @@ use Rattle.ir_kinds.specs.declared.values.SwitchValue.TheVariants.{Default}
 use Rattle.spec_statements.specs.Switches.{case_values, FitsKind, falls_at_end}
 
 -- A value stands at two places.
-pub record StandsTwice (values : List SwitchValue) (v : SwitchValue) : Type 0 where
+pub record OccursTwice (values : List SwitchValue) (v : SwitchValue) : Type 0 where
   pub first : ℕ
   pub again : ℕ
   pub behind : first < again
@@ -20,8 +20,8 @@ pub record StandsTwice (values : List SwitchValue) (v : SwitchValue) : Type 0 wh
 -- one is of another kind, or stands twice
 abbrev pub IsValueFault : ScalarKind → List SwitchValue → FunctionError → Type 0
 IsValueFault kind values error.ConflictingCaseType = (v : SwitchValue) × Contains values v × ¬ FitsKind kind v
-IsValueFault kind values (error.ConflictingSwitchCase v) = StandsTwice values v × (v ≢ Default)
-IsValueFault kind values error.MultipleDefaultCases = StandsTwice values Default
+IsValueFault kind values (error.ConflictingSwitchCase v) = OccursTwice values v × (v ≢ Default)
+IsValueFault kind values error.MultipleDefaultCases = OccursTwice values Default
 IsValueFault kind values _ = ⊥
 
 -- The values are of this kind and differ.

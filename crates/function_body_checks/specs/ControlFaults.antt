@@ -3,7 +3,7 @@ use Rattle.std.specs.Prelude.{◌≡◌, false, [], Some}
 use Rattle.typing_errors.specs.declared.error.FunctionError.{FunctionError}
 use Rattle.typing_errors.specs.declared.error.FunctionError.TheVariants as error
 use Rattle.ir_blocks.specs.Control.{may_leave, parts_around}
-use Rattle.ir_blocks.specs.Places.{Place, StandsAt}
+use Rattle.ir_blocks.specs.Places.{Place, OccursAt}
 use Rattle.ir_blocks.specs.Plain.{PlainStatement, PlainBlock}
 use Rattle.ir_blocks.specs.Shapes.{Exit, breaks, continues, returns, exit_of, shape_of}
 
@@ -11,7 +11,7 @@ use Rattle.ir_blocks.specs.Shapes.{Exit, breaks, continues, returns, exit_of, sh
 pub record IsLeftWrongly (b : PlainBlock) (exit : Exit) : Type 0 where
   pub place : Place
   pub statement : PlainStatement
-  pub stands : StandsAt b place statement
+  pub stands : OccursAt b place statement
   pub leaves : exit_of (shape_of statement) ≡ Some exit
   pub refused : may_leave exit (parts_around [] place) ≡ false
 

@@ -7,7 +7,7 @@ use Rattle.typing_errors.specs.declared.atomics.AtomicError.{AtomicError}
 use Rattle.typing_errors.specs.declared.atomics.AtomicError.TheVariants as atomic_error
 use Rattle.typing_errors.specs.declared.calls.CallError.{CallError}
 use Rattle.typing_errors.specs.declared.calls.CallError.TheVariants as call_error
-use Rattle.ir_blocks.specs.Places.{Place, StandsAt, spot_at}
+use Rattle.ir_blocks.specs.Places.{Place, OccursAt, spot_at}
 use Rattle.ir_blocks.specs.Plain.{call}
 use Rattle.ir_faults.specs.Faults.{error_of}
 use Rattle.ir_faults.specs.declared.refusal.Refusal.{Refusal}
@@ -53,7 +53,7 @@ pub record IsBadCall (flags : ValidationFlags) (f : PlainFunction) (function : �
   pub place : Place
   pub arguments : List ℕ
   pub answer : Option ℕ
-  pub stands : StandsAt f.body place (call function arguments answer)
+  pub stands : OccursAt f.body place (call function arguments answer)
   pub wrong : IsCallErrorAt flags f place arguments answer e
 
 -- an atomic operation answers by what is answered by already

@@ -20,7 +20,7 @@ use ir_references::{callee_of, range_of, result_of};
 use std::alloc::AllocError;
 
 // Brings an expression into scope, and answers whether it was not there. The error is out of memory.
-#[tactic(auto, using(crate::proofs::Tables::told_known, crate::proofs::Tables::told_unknown, crate::proofs::Tables::added_known))]
+#[tactic(auto, using(crate::proofs::Tables::reported_known, crate::proofs::Tables::reported_unknown, crate::proofs::Tables::added_known))]
 fn bring_one(
     function: &Function,
     scope: &mut ExpressionList,

@@ -6,14 +6,14 @@ ghost use Rattle.ir_kinds.specs.declared.scalars.ScalarKind.TheVariants.{Sint, U
 ghost use Rattle.ir_kinds.specs.declared.values.SwitchValue.{SwitchValue as Value};
 ghost use Rattle.ir_kinds.specs.declared.values.SwitchValue.TheVariants.{Default};
 ghost use Rattle.spec_statements.specs.Switches.{case_values, FitsKind, falls_at_end, CasesOK};
-ghost use Rattle.function_body_checks.specs.Cases.{StandsTwice, IsValueFault, AreApart, IsCaseFault};
+ghost use Rattle.function_body_checks.specs.Cases.{OccursTwice, IsValueFault, AreApart, IsCaseFault};
 ghost use Rattle.function_body_checks.specs.CaseValues.{value_key};
 
-use typing_errors::FunctionError;
 use ir_blocks::SwitchCase;
 use ir_kinds::{ScalarKind, SwitchValue};
 use std::alloc::{AllocError, Global};
 use std::collections::BTreeSet;
+use typing_errors::FunctionError;
 
 // Whether a kind of scalar is one of integers with a sign.
 const fn is_signed(kind: ScalarKind) -> bool
@@ -67,7 +67,7 @@ const fn value_key(value: SwitchValue) -> (u8, i64)
 
 // That a value stands twice.
 const fn repeated(kind: ScalarKind, value: SwitchValue) -> FunctionError
-    ensures { (values : List Value) → StandsTwice values value → IsValueFault kind values result }
+    ensures { (values : List Value) → OccursTwice values value → IsValueFault kind values result }
 {
     match value {
         SwitchValue::Default => FunctionError::MultipleDefaultCases,

@@ -7,8 +7,8 @@ ghost use Rattle.function_body_checks.specs.ControlFaults.{IsControlFault};
 
 use crate::control::{Allowed, Wrong};
 use crate::control_walk::check_block;
-use typing_errors::FunctionError;
 use ir_items::Block;
+use typing_errors::FunctionError;
 
 /// Whether each statement of a function's body that leaves its block may do so where it stands (naga's `ControlFlowAbility`).
 ///

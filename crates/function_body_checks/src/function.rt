@@ -20,13 +20,13 @@ use crate::list::ExpressionList;
 use crate::statement::Carried;
 use crate::walk::check_block;
 use bitflags::Flags;
-use typing_errors::{AtomicError, CallError, ExpressionError, FunctionError};
 use ir_arena::handle::Handle;
 use ir_faults::refusal::Refusal;
 use ir_faults::with_span::WithSpan;
 use ir_flags::ValidationFlags;
 use ir_items::{Function, key};
 use std::alloc::{AllocError, Global};
+use typing_errors::{AtomicError, CallError, ExpressionError, FunctionError};
 
 // Nothing is in scope, and nothing has been answered by. The error is out of memory.
 fn beginning(alloc: Global, count: usize) -> Result<Carried, AllocError>
@@ -84,7 +84,7 @@ fn refused(alloc: Global, error: ScopeError) -> Refusal<FunctionError>
 }
 
 // Whether statements may answer by expressions.
-fn asks_answers(flags: ValidationFlags) -> bool
+fn requires_results(flags: ValidationFlags) -> bool
     ensures { IsTrue result ↔ Has flags.0 EXPRESSIONS.0 }
 {
     flags.contains(ValidationFlags::EXPRESSIONS)
@@ -111,7 +111,7 @@ pub fn check_scope(
     ensures answered { IfOk result (λ answered. (e : ℕ) → Contains answered e ↔ ((p : Place) × AnswersBy (function_view function.now).body p e)) }
     ensures fault { IfErr result (IsScopeRefusal flags (function_view function.now)) }
 {
-    let asked = asks_answers(flags);
+    let asked = requires_results(flags);
     let always = next_always(alloc, function)?;
     let outline = Outline {
         function,

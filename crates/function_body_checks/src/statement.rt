@@ -113,7 +113,7 @@ pub fn check_used(
 }
 
 /// Whether a loop's condition is in scope, if it has one.
-#[tactic(auto, using(crate::proofs::Tables::told_known, crate::proofs::Tables::told_unknown))]
+#[tactic(auto, using(crate::proofs::Tables::reported_known, crate::proofs::Tables::reported_unknown))]
 pub fn check_condition(
     function: &Function,
     asked: bool,

@@ -1,7 +1,7 @@
 mod Bits
 mod UsedLaws
 mod SeenLaws
-mod Told
+mod Reported
 pub mod MeshLaws
 pub mod Refuted
 pub mod Transport

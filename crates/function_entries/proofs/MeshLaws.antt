@@ -19,7 +19,7 @@ use Rattle.ir_kinds.specs.declared.stages.MeshOutputTopology.TheVariants.{Triang
 use Rattle.ir_types.specs.Plain.{PlainMember, PlainType}
 use Rattle.ir_types.specs.declared.types.ArraySize.{ArraySize}
 use Rattle.spec_interface.specs.Members.{members_at, topologies_at, types_bound}
-use Rattle.spec_interface.specs.Meshes.{AreParts, FieldsOK, HasParts, HoldsMost, Implies, IsCount, IsSaid, SaidBy, most, variable_members, without_overrides}
+use Rattle.spec_interface.specs.Meshes.{AreParts, FieldsOK, HasParts, HoldsMost, ImpliesMeshInfo, IsCount, IsSaid, GivenByOverride, most, variable_members, without_overrides}
 use Rattle.spec_interface.specs.declared.parts.MeshPart.{MeshPart}
 use Rattle.spec_interface.specs.declared.parts.MeshPart.TheVariants.{VertexCount, Vertices, PrimitiveCount, Primitives}
 use Rattle.spec_interface.specs.declared.parts.MeshParts.{MeshParts}
@@ -84,7 +84,7 @@ pub record AreSameImplied (i j : MeshStageInfo) (vb pb wb qb : Option ℕ) : Typ
   pub vertices_by : vb ≡ wb
   pub primitives_by : pb ≡ qb
 
-module _ (m : PlainModule) (variable : ℕ) (i j : MeshStageInfo) (vb pb wb qb : Option ℕ) (a : Implies m variable i vb pb) (b : Implies m variable j wb qb) where
+module _ (m : PlainModule) (variable : ℕ) (i j : MeshStageInfo) (vb pb wb qb : Option ℕ) (a : ImpliesMeshInfo m variable i vb pb) (b : ImpliesMeshInfo m variable j wb qb) where
   f : FieldsOK m.types b.types i vb pb
   f = fields_as m.types a.types b.types (same_parts m variable a.types b.types a.parts b.parts) i vb pb a.fields
 
@@ -105,8 +105,8 @@ module _ (m : PlainModule) (variable : ℕ) (i j : MeshStageInfo) (vb pb wb qb :
   }
 
 -- what is implied, said otherwise where that is the same
-module _ (m : PlainModule) (variable : ℕ) (i j : MeshStageInfo) (vb pb : Option ℕ) (a : Implies m variable i vb pb) (same : AreSame i j) where
-  pub implied_as : j.output_variable ≡ variable → j.max_vertices_override ≡ None → j.max_primitives_override ≡ None → Implies m variable j vb pb
+module _ (m : PlainModule) (variable : ℕ) (i j : MeshStageInfo) (vb pb : Option ℕ) (a : ImpliesMeshInfo m variable i vb pb) (same : AreSame i j) where
+  pub implied_as : j.output_variable ≡ variable → j.max_vertices_override ≡ None → j.max_primitives_override ≡ None → ImpliesMeshInfo m variable j vb pb
   implied_as held no_vertices no_primitives = record {
     types = a.types;
     parts = a.parts;
@@ -124,9 +124,9 @@ module _ (m : PlainModule) (variable : ℕ) (i j : MeshStageInfo) (vb pb : Optio
 
 -- ---- what is said
 
-module _ (m : PlainModule) (i said : MeshStageInfo) (vb pb : Option ℕ) (a : Implies m said.output_variable i vb pb) where
+module _ (m : PlainModule) (i said : MeshStageInfo) (vb pb : Option ℕ) (a : ImpliesMeshInfo m said.output_variable i vb pb) where
   -- all is said as it is implied
-  pub is_said : AreSame i said → SaidBy m said.max_vertices_override vb → SaidBy m said.max_primitives_override pb → IsSaid m said
+  pub is_said : AreSame i said → GivenByOverride m said.max_vertices_override vb → GivenByOverride m said.max_primitives_override pb → IsSaid m said
   is_said same vertices primitives = record {
     vertices_by = vb;
     primitives_by = pb;
@@ -143,11 +143,11 @@ module _ (m : PlainModule) (i said : MeshStageInfo) (vb pb : Option ℕ) (a : Im
   unlike differ s = let e = (as_said s).info in
       differ (record { topology = e.topology; vertices = e.vertices; primitives = e.primitives; vertex = e.vertex; primitive = e.primitive })
 
-  pub vertices_unlike : (SaidBy m said.max_vertices_override vb → ⊥) → IsSaid m said → ⊥
-  vertices_unlike differ s = differ (subst (SaidBy m said.max_vertices_override) (sym (as_said s).vertices_by) s.vertices)
+  pub vertices_unlike : (GivenByOverride m said.max_vertices_override vb → ⊥) → IsSaid m said → ⊥
+  vertices_unlike differ s = differ (subst (GivenByOverride m said.max_vertices_override) (sym (as_said s).vertices_by) s.vertices)
 
-  pub primitives_unlike : (SaidBy m said.max_primitives_override pb → ⊥) → IsSaid m said → ⊥
-  primitives_unlike differ s = differ (subst (SaidBy m said.max_primitives_override) (sym (as_said s).primitives_by) s.primitives)
+  pub primitives_unlike : (GivenByOverride m said.max_primitives_override pb → ⊥) → IsSaid m said → ⊥
+  primitives_unlike differ s = differ (subst (GivenByOverride m said.max_primitives_override) (sym (as_said s).primitives_by) s.primitives)
 
   -- something else is implied
   pub otherwise : (IsSaid m said → ⊥) → IsSaidFault m said error.BadMeshOutputVariableType

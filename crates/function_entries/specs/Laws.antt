@@ -11,7 +11,7 @@ use Rattle.ir_items.specs.declared.entries.MeshStageInfo.{MeshStageInfo}
 use Rattle.spec_analysis.specs.Summaries.{HasUseBit}
 use Rattle.spec_analysis.specs.declared.global_use.GlobalUse.{GlobalUse}
 use Rattle.spec_interface.specs.Entries.{ConnectionsOK}
-use Rattle.spec_interface.specs.Meshes.{Implies}
+use Rattle.spec_interface.specs.Meshes.{ImpliesMeshInfo}
 use Rattle.spec_interface.specs.Payloads.{PayloadOK}
 use Rattle.spec_interface.specs.Stages.{StageOK}
 
@@ -29,5 +29,5 @@ ConnectionFaultRefutes = (flags : ValidationFlags) (capabilities : Capabilities)
 -- a variable implies one thing, with the same overrides
 abbrev pub OneImplied : Type 0
 OneImplied = (m : PlainModule) (variable : ℕ) (i j : MeshStageInfo) (vertices_by primitives_by vertices_by_other primitives_by_other : Option ℕ)
-    → Implies m variable i vertices_by primitives_by → Implies m variable j vertices_by_other primitives_by_other
+    → ImpliesMeshInfo m variable i vertices_by primitives_by → ImpliesMeshInfo m variable j vertices_by_other primitives_by_other
     → AreSame i j × (vertices_by ≡ vertices_by_other) × (primitives_by ≡ primitives_by_other)

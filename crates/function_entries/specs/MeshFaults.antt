@@ -6,7 +6,7 @@ use Rattle.ir_items.specs.Plain.{PlainModule}
 use Rattle.ir_items.specs.declared.entries.MeshStageInfo.{MeshStageInfo}
 use Rattle.ir_kinds.specs.declared.stages.MeshOutputTopology.{MeshOutputTopology}
 use Rattle.spec_interface.specs.Members.{topologies_at}
-use Rattle.spec_interface.specs.Meshes.{FieldsOK, HasParts, Implies, IsSaid}
+use Rattle.spec_interface.specs.Meshes.{FieldsOK, HasParts, ImpliesMeshInfo, IsSaid}
 use Rattle.spec_interface.specs.declared.parts.MeshParts.{MeshParts}
 
 -- both say the same, overrides and the variable aside
@@ -45,7 +45,7 @@ pub record IsSaidOtherwise (m : PlainModule) (i : MeshStageInfo) : Type 0 where
   pub info : MeshStageInfo
   pub vertices_by : Option ℕ
   pub primitives_by : Option ℕ
-  pub implied : Implies m i.output_variable info vertices_by primitives_by
+  pub implied : ImpliesMeshInfo m i.output_variable info vertices_by primitives_by
   pub differs : ¬ IsSaid m i
 
 -- this is wrong with what is said

@@ -23,18 +23,18 @@ use Rattle.function_varyings.specs.declared.error.VaryingRefusal.TheVariants as 
 -- ---- refusals
 
 -- a refusal of varyings, told as one of an argument
-abbrev pub IsToldOfArgument : VaryingRefusal → Refusal EntryPointError → Type 0
-IsToldOfArgument (varying.Memory a) (refusal.Memory b) = Unit {0}
-IsToldOfArgument (varying.Memory a) (refusal.Fault f) = ⊥
-IsToldOfArgument (varying.Fault index e) (refusal.Memory b) = ⊥
-IsToldOfArgument (varying.Fault index e) (refusal.Fault f) = error_of f ≡ error.Argument (min index 4294967295) e
+abbrev pub IsReportedOfArgument : VaryingRefusal → Refusal EntryPointError → Type 0
+IsReportedOfArgument (varying.Memory a) (refusal.Memory b) = Unit {0}
+IsReportedOfArgument (varying.Memory a) (refusal.Fault f) = ⊥
+IsReportedOfArgument (varying.Fault index e) (refusal.Memory b) = ⊥
+IsReportedOfArgument (varying.Fault index e) (refusal.Fault f) = error_of f ≡ error.Argument (min index 4294967295) e
 
 -- and as one of what is given
-abbrev pub IsToldOfResult : VaryingRefusal → Refusal EntryPointError → Type 0
-IsToldOfResult (varying.Memory a) (refusal.Memory b) = Unit {0}
-IsToldOfResult (varying.Memory a) (refusal.Fault f) = ⊥
-IsToldOfResult (varying.Fault index e) (refusal.Memory b) = ⊥
-IsToldOfResult (varying.Fault index e) (refusal.Fault f) = error_of f ≡ error.Result e
+abbrev pub IsReportedOfResult : VaryingRefusal → Refusal EntryPointError → Type 0
+IsReportedOfResult (varying.Memory a) (refusal.Memory b) = Unit {0}
+IsReportedOfResult (varying.Memory a) (refusal.Fault f) = ⊥
+IsReportedOfResult (varying.Fault index e) (refusal.Memory b) = ⊥
+IsReportedOfResult (varying.Fault index e) (refusal.Fault f) = error_of f ≡ error.Result e
 
 -- ---- varyings
 

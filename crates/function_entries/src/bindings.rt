@@ -10,13 +10,13 @@ ghost use Rattle.spec_interface.specs.Payloads.{binding_at};
 ghost use Rattle.spec_interface.specs.Variables.{BindingsApart, IsUsed};
 
 use crate::error::EntryPointError;
-use spec_analysis::GlobalUse;
 use ir_arena::handle::Handle;
 use ir_faults::refusal::Refusal;
 use ir_faults::with_span::WithSpan;
 use ir_items::Module;
 use ir_kinds::ResourceBinding;
 use ir_types::key;
+use spec_analysis::GlobalUse;
 use spec_interface::{binding_at, use_at};
 use std::alloc::{AllocError, Global};
 use std::collections::BTreeSet;

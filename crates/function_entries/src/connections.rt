@@ -18,12 +18,12 @@ use crate::known::KnownInterfaces;
 use crate::outputs::check_mesh;
 use crate::variables::{check_each, check_immediates};
 use crate::varyings::{check_arguments, check_result};
-use spec_analysis::GlobalUse;
 use bitflags::Flags;
 use ir_faults::refusal::Refusal;
 use ir_faults::with_span::WithSpan;
 use ir_flags::ValidationFlags;
 use ir_items::{EntryPoint, Module};
+use spec_analysis::GlobalUse;
 use std::alloc::Global;
 
 // Whether an entry point may use the variables that it uses.
@@ -59,7 +59,7 @@ fn check_variables(
 /// Whether what connects an entry point with other stages and with hosts is as it may be, where its global variables are used in
 /// these ways; then whether two sources of a blend are among what it answers.
 ///
-/// Asks that the uses are told of all global variables, and that the output of a mesh shader is there.
+/// Requires that the uses are told of all global variables, and that the output of a mesh shader is there.
 ///
 /// # Errors
 ///

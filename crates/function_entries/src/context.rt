@@ -2,13 +2,13 @@
 
 ghost use Rattle.std.specs.Prelude.{◌≡◌};
 ghost use Rattle.function_entries.specs.Contexts.{IsKnown, varying_context};
-ghost use Rattle.function_varyings.specs.View.{IsTold, context_view};
+ghost use Rattle.function_varyings.specs.View.{IsReported, context_view};
 
+use function_varyings::VaryingContext;
 use ir_flags::{Capabilities, ValidationFlags};
 use ir_items::{EntryPoint, Module};
-use spec_interface::Direction;
 use module_type_infos::TypeInfo;
-use function_varyings::VaryingContext;
+use spec_interface::Direction;
 
 /// What the rules of entry points may look at.
 #[derive(Clone, Copy)]
@@ -32,7 +32,7 @@ pub(crate) fn varying_context<'a>(
 ) -> VaryingContext<'a>
     requires { IsKnown context.now }
     ensures view { context_view result ≡ varying_context context.now direction }
-    ensures told { IsTold result }
+    ensures told { IsReported result }
 {
     VaryingContext {
         flags: context.flags,

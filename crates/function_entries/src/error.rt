@@ -1,13 +1,13 @@
 //! Why an entry point is refused.
 
-use spec_analysis::GlobalUse;
-use typing_errors::FunctionError;
+use function_varyings::VaryingError;
 use ir_arena::handle::Handle;
 use ir_flags::Capabilities;
 use ir_kinds::ShaderStage;
 use ir_types::key;
+use spec_analysis::GlobalUse;
 use thiserror::Error;
-use function_varyings::VaryingError;
+use typing_errors::FunctionError;
 
 /// Why an entry point is refused (naga's `EntryPointError`).
 #[derive(Debug, Drop, Error)]

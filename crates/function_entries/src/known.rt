@@ -10,6 +10,7 @@ ghost use Rattle.ir_types.specs.Plain.{PlainType};
 ghost use Rattle.spec_interface.specs.Members.{topologies_at};
 ghost use Rattle.spec_interface.specs.declared.parts.MeshParts.{MeshParts};
 
+use function_varyings::KnownTypes;
 use ir_arena::handle::Handle;
 use ir_items::Module;
 use ir_kinds::MeshOutputTopology;
@@ -17,7 +18,6 @@ use ir_types::key;
 use spec_interface::{MeshParts, members_at, parts_of, topology_at};
 use std::alloc::{AllocError, Global};
 use std::collections::BTreeMap;
-use function_varyings::KnownTypes;
 
 /// What is known of what mesh shaders give: the parts of outputs, and what primitives are, by their types.
 #[derive(Drop)]

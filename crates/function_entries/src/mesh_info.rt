@@ -4,7 +4,7 @@ ghost use Rattle.std.specs.Prelude.{◌<◌, MatchOption, None, length, slice_in
 ghost use Rattle.function_entries.specs.MeshFaults.{IsImpliedFault};
 ghost use Rattle.ir_faults.specs.Faults.{error_of};
 ghost use Rattle.ir_items.specs.Plain.{PlainModule};
-ghost use Rattle.spec_interface.specs.Meshes.{Implies};
+ghost use Rattle.spec_interface.specs.Meshes.{ImpliesMeshInfo};
 
 use crate::error::EntryPointError;
 use crate::meshes::implied_mesh;
@@ -29,7 +29,7 @@ pub trait MeshInfo {
     ghost module_of: { Self → PlainModule };
 
     /// What a variable implies that holds what a mesh shader gives, no override said (naga's `Module::analyze_mesh_shader_info`).
-    /// Where something is wrong with the variable, that is told, and the rest says nothing. Asks that the variable is there.
+    /// Where something is wrong with the variable, that is told, and the rest says nothing. Requires that the variable is there.
     fn analyze_mesh_shader_info(
         &self,
         alloc: Global,
@@ -37,7 +37,7 @@ pub trait MeshInfo {
     ) -> MeshAnalysis
         requires { variable < length (module_of self.now).globals }
         ensures { MatchOption result.2
-            (Implies (module_of self.now) variable result.0 (slice_index_or result.1 0 None) (slice_index_or result.1 1 None))
+            (ImpliesMeshInfo (module_of self.now) variable result.0 (slice_index_or result.1 0 None) (slice_index_or result.1 1 None))
             (λ f. IsImpliedFault (module_of self.now) variable (error_of f)) };
 }
 

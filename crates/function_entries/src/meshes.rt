@@ -11,7 +11,7 @@ ghost use Rattle.ir_types.specs.ExpressionPlain.{expression_view};
 ghost use Rattle.ir_types.specs.Plain.{inner_view, member_view};
 ghost use Rattle.typing_forms.specs.Resolutions.{inner_at};
 ghost use Rattle.spec_interface.specs.Members.{topologies_at};
-ghost use Rattle.spec_interface.specs.Meshes.{FieldsOK, HoldsMost, Implies, IsCount, IsSaid, SaidBy, array_of, most, override_at, override_of, variable_members};
+ghost use Rattle.spec_interface.specs.Meshes.{FieldsOK, HoldsMost, ImpliesMeshInfo, IsCount, IsSaid, GivenByOverride, array_of, most, override_at, override_of, variable_members};
 ghost use Rattle.ir_items.specs.declared.entries.MeshStageInfo.{MeshStageInfo};
 
 use crate::error::EntryPointError;
@@ -170,7 +170,7 @@ fn implied_by(
     fields: &Fields,
     topology: MeshOutputTopology,
 ) -> Implied
-    ensures { (m : PlainModule) → HasFields m variable fields.now → topologies_at m.types fields.now.primitives.element ≡ topology ∷ [] → Implies m variable result.info result.vertices_by result.primitives_by }
+    ensures { (m : PlainModule) → HasFields m variable fields.now → topologies_at m.types fields.now.primitives.element ≡ topology ∷ [] → ImpliesMeshInfo m variable result.info result.vertices_by result.primitives_by }
 {
     let vertices = fields.vertices;
     let primitives = fields.primitives;
@@ -197,7 +197,7 @@ pub(crate) fn implied_mesh(
 ) -> Result<Implied, EntryPointError>
     requires { variable < length (module_view «module».now).globals }
     ensures { MatchResult result
-        (λ i. Implies (module_view «module».now) variable i.info i.vertices_by i.primitives_by)
+        (λ i. ImpliesMeshInfo (module_view «module».now) variable i.info i.vertices_by i.primitives_by)
         (IsImpliedFault (module_view «module».now) variable) }
 {
     let members = match variable_members(module, variable) {
@@ -261,7 +261,7 @@ fn implied_with(
     requires known { AreMeshesKnown (module_view «module».now).types known.old }
     ensures known { OnOk result (AreMeshesKnown (module_view «module».now).types known.new) }
     ensures fine { MatchResult result
-        (λ i. Implies (module_view «module».now) variable i.info i.vertices_by i.primitives_by)
+        (λ i. ImpliesMeshInfo (module_view «module».now) variable i.info i.vertices_by i.primitives_by)
         (IsRefusedFor (IsImpliedFault (module_view «module».now) variable)) }
 {
     let fields = match fields_with(alloc, module, known, variable) {
@@ -307,7 +307,7 @@ fn is_said_by(
     given: Option<Handle<key::Expression>>,
     by: Option<Handle<key::Override>>,
 ) -> bool
-    ensures { IsTrue result ↔ SaidBy (module_view «module».now) given by }
+    ensures { IsTrue result ↔ GivenByOverride (module_view «module».now) given by }
 {
     let Some(expression) = given else {
         return true;
@@ -338,7 +338,7 @@ fn check_implied(
     mesh: &MeshStageInfo,
     implied: &Implied,
 ) -> Result<(), EntryPointError>
-    requires { Implies (module_view «module».now) mesh.now.output_variable implied.now.info implied.now.vertices_by implied.now.primitives_by }
+    requires { ImpliesMeshInfo (module_view «module».now) mesh.now.output_variable implied.now.info implied.now.vertices_by implied.now.primitives_by }
     ensures { MatchResult result
         (λ _. IsSaid (module_view «module».now) mesh.now)
         (IsSaidFault (module_view «module».now) mesh.now) }

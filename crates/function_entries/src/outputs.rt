@@ -19,6 +19,7 @@ use crate::known::{KnownInterfaces, KnownMeshes};
 use crate::meshes::check_said;
 use crate::varyings::check_output;
 use bitflags::Flags;
+use function_varyings::KnownTypes;
 use ir_arena::handle::Handle;
 use ir_faults::refusal::Refusal;
 use ir_faults::with_span::WithSpan;
@@ -26,10 +27,8 @@ use ir_flags::Capabilities;
 use ir_items::{MeshStageInfo, Module};
 use ir_kinds::MeshOutputTopology;
 use ir_types::key;
-use spec_interface::{is_workgroup, space_at};
-use spec_interface::Direction;
+use spec_interface::{Direction, is_workgroup, space_at};
 use std::alloc::Global;
-use function_varyings::KnownTypes;
 
 // Whether the output of a mesh shader is memory of its workgroup.
 fn check_space(module: &Module, mesh: &MeshStageInfo) -> Result<(), EntryPointError>

@@ -10,11 +10,11 @@ ghost use Rattle.spec_interface.specs.Contexts.{stage_set};
 
 use crate::error::EntryPointError;
 use bitflags::Flags;
+use function_varyings::VaryingError;
 use ir_flags::{Capabilities, ShaderStages};
 use ir_items::EntryPoint;
 use ir_kinds::ShaderStage;
 use spec_interface::MAX_WORKGROUP_SIZE;
-use function_varyings::VaryingError;
 
 /// The set of one stage.
 pub const fn stage_set(stage: ShaderStage) -> ShaderStages

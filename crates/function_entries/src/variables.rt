@@ -14,12 +14,12 @@ ghost use Rattle.typing_layout.specs.Layout.{size};
 ghost use Rattle.typing_layout.specs.View.{type_tree};
 
 use crate::error::EntryPointError;
-use spec_analysis::GlobalUse;
 use bitflags::Flags;
 use ir_arena::handle::Handle;
 use ir_items::{EntryPoint, GlobalVariable, Module};
 use ir_kinds::{AddressSpace, ShaderStage};
 use ir_types::key;
+use spec_analysis::GlobalUse;
 use spec_interface::{
     allowed_uses, inner_at, is_immediate, is_run_for_rays, is_task_payload, space_at, traces_rays,
     use_at,

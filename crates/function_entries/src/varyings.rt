@@ -3,7 +3,7 @@
 ghost use Rattle.std.specs.Prelude.{◌≡◌, ◌⊎◌, ◌↔◌, IsSome, IsTrue, MatchResult, OnOk, false, min};
 ghost use Rattle.function_entries.specs.Contexts.{AreKnownIn, IsKnown, entry_in, module_in, varying_context};
 ghost use Rattle.function_entries.specs.Faults.{IsRefusedFor};
-ghost use Rattle.function_entries.specs.VaryingFaults.{IsAnswerFault, IsArgumentFault, IsGivenFault, IsOutputFault, IsToldOfArgument, IsToldOfResult};
+ghost use Rattle.function_entries.specs.VaryingFaults.{IsAnswerFault, IsArgumentFault, IsGivenFault, IsOutputFault, IsReportedOfArgument, IsReportedOfResult};
 ghost use Rattle.ir_items.specs.View.{module_view};
 ghost use Rattle.ir_kinds.specs.declared.bindings.BuiltIn.TheVariants.{Position};
 ghost use Rattle.spec_interface.specs.Members.{members_at};
@@ -13,18 +13,17 @@ ghost use Rattle.function_varyings.specs.Known.{IsShownBy};
 
 use crate::context::{EntryContext, varying_context};
 use crate::error::EntryPointError;
+use function_varyings::{KnownTypes, Shown, VaryingRefusal};
 use ir_arena::handle::Handle;
 use ir_faults::refusal::Refusal;
 use ir_faults::with_span::WithSpan;
 use ir_items::{FunctionResult, Module};
 use ir_kinds::{Scalar, ShaderStage, VectorSize};
 use ir_types::key;
-use spec_interface::is_struct;
-use spec_interface::Direction;
+use spec_interface::{Direction, is_struct};
 use std::alloc::Global;
 use typing_forms::laws::form_equality;
 use typing_forms::{Form, form_of_type};
-use function_varyings::{KnownTypes, Shown, VaryingRefusal};
 
 // An index as a number of four bytes, as far as it goes.
 const fn short(index: usize) -> u32
@@ -39,7 +38,7 @@ const fn short(index: usize) -> u32
 
 // A refusal of varyings, as one of an argument.
 fn argument_refusal(alloc: Global, refusal: VaryingRefusal) -> Refusal<EntryPointError>
-    ensures { IsToldOfArgument refusal result }
+    ensures { IsReportedOfArgument refusal result }
 {
     match refusal {
         VaryingRefusal::Memory(error) => Refusal::Memory(error),
@@ -52,7 +51,7 @@ fn argument_refusal(alloc: Global, refusal: VaryingRefusal) -> Refusal<EntryPoin
 
 // A refusal of varyings, as one of what is given.
 fn result_refusal(alloc: Global, refusal: VaryingRefusal) -> Refusal<EntryPointError>
-    ensures { IsToldOfResult refusal result }
+    ensures { IsReportedOfResult refusal result }
 {
     match refusal {
         VaryingRefusal::Memory(error) => Refusal::Memory(error),

@@ -5,20 +5,20 @@ use Rattle.function_interface.proofs.Below.{below_or_same}
 use Rattle.function_interface.specs.Answered.{Stands, IsAnswered, AllAnswered, AnsweredBelow, IsUnanswered}
 use Rattle.ir_types.specs.ExpressionPlain.{PlainExpression, plain}
 use Rattle.ir_types.specs.declared.expressions.Expression.TheVariants as x
-use Rattle.spec_statements.specs.Results.{StandsForAnswer, of_call, of_atomic}
+use Rattle.spec_statements.specs.Results.{DenotesResult, of_call, of_atomic}
 
 some_is : {A : Type 0} (a b : A) → Some a ≡ Some b → a ≡ b
 some_is a b e = cc
 
-stands_at : (xs : List PlainExpression) (e : ℕ) (x : PlainExpression) → slice_get xs e ≡ Some x → StandsForAnswer xs e → Stands x
-stands_at xs e x at (of_call is) = subst Stands (some_is _ x (sym is ∙ at)) tt
-stands_at xs e x at (of_atomic is) = subst Stands (some_is _ x (sym is ∙ at)) tt
+occurs_at : (xs : List PlainExpression) (e : ℕ) (x : PlainExpression) → slice_get xs e ≡ Some x → DenotesResult xs e → Stands x
+occurs_at xs e x at (of_call is) = subst Stands (some_is _ x (sym is ∙ at)) tt
+occurs_at xs e x at (of_atomic is) = subst Stands (some_is _ x (sym is ∙ at)) tt
 
-there : (xs : List PlainExpression) (e : ℕ) → StandsForAnswer xs e → e < length xs
+there : (xs : List PlainExpression) (e : ℕ) → DenotesResult xs e → e < length xs
 there xs e (of_call is) = slice_get_within xs e _ is
 there xs e (of_atomic is) = slice_get_within xs e _ is
 
-at_stands : (xs : List PlainExpression) (e : ℕ) (x : PlainExpression) → slice_get xs e ≡ Some x → Stands x → StandsForAnswer xs e
+at_stands : (xs : List PlainExpression) (e : ℕ) (x : PlainExpression) → slice_get xs e ≡ Some x → Stands x → DenotesResult xs e
 at_stands xs e (plain (x.CallResult function)) at s = of_call at
 at_stands xs e (plain (x.AtomicResult type comparison)) at s = of_atomic at
 at_stands xs e _ at s = absurd s
@@ -47,7 +47,7 @@ pub answered_more : (xs : List PlainExpression) (answered : List Bool) (end : �
 answered_more xs answered end x before at is = record {
   each = λ e lt. elim (below_or_same e end lt) [
     | inl less ↦ before.each e less
-    | inr same ↦ subst (IsAnswered xs answered) (sym same) (λ stands. is (stands_at xs end x at stands))
+    | inr same ↦ subst (IsAnswered xs answered) (sym same) (λ stands. is (occurs_at xs end x at stands))
   ];
 }
 

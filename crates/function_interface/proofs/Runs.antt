@@ -1,7 +1,7 @@
 -- A bit is left by a body exactly where it was there, and each statement has it.
 use Rattle.std.proofs.Common.{◌≡◌, ◌↔◌, ℕ, zero, suc, List, refl, sym, subst}
 use Rattle.std.specs.Int.RustNames.{bit_and}
-use Rattle.ir_blocks.specs.Places.{Place, here, later, inside, condition, StandsAt}
+use Rattle.ir_blocks.specs.Places.{Place, here, later, inside, condition, OccursAt}
 use Rattle.ir_blocks.specs.Plain.{PlainStatement, emit, block, if_, switch, loop, break, continue, return, kill, operation, call, PlainBlock, stop, next, PlainCases, no_case, case}
 use Rattle.ir_blocks.specs.Shapes.{shape_of, Part, inner, accepting, rejecting, case_at, loop_body, loop_continuing, case_body, part_of}
 use Rattle.ir_flags.proofs.SetLaws.{within-intersection, within-over, intersection-within_left, intersection-within_right}
@@ -21,7 +21,7 @@ right_has a b x h = within-over x (bit_and a b) b h (intersection-within_right a
 both : (a b x : ℕ) → Has a x → Has b x → Has (bit_and a b) x
 both a b x h g = within-intersection a b x h g
 
-none_in_stop : (p : Place) (s : PlainStatement) → StandsAt stop p s → ⊥
+none_in_stop : (p : Place) (s : PlainStatement) → OccursAt stop p s → ⊥
 none_in_stop here s e = let x = e in cc
 none_in_stop (later p) s e = let x = e in cc
 none_in_stop (inside part p) s e = let x = e in cc
@@ -29,7 +29,7 @@ none_in_stop condition s e = let x = e in cc
 
 module _ (set : PlainStatement → ℕ) (x : ℕ) where
   abbrev EachHas : PlainBlock → Type 0
-  EachHas b = (p : Place) (u : PlainStatement) → StandsAt b p u → Has (set u) x
+  EachHas b = (p : Place) (u : PlainStatement) → OccursAt b p u → Has (set u) x
 
   -- what is left was there
   mutual
@@ -82,7 +82,7 @@ module _ (set : PlainStatement → ℕ) (x : ℕ) where
   part_left left (operation a) part h = (left, h)
   part_left left (call function arguments result) part h = (left, h)
 
-  each_has : (p : Place) (left : ℕ) (b : PlainBlock) → Has (left_in set left b) x → (u : PlainStatement) → StandsAt b p u → Has (set u) x
+  each_has : (p : Place) (left : ℕ) (b : PlainBlock) → Has (left_in set left b) x → (u : PlainStatement) → OccursAt b p u → Has (set u) x
   each_has p left stop h u at = absurd (none_in_stop p u at)
   each_has here left (next s rest) h u at =
       let same : s ≡ u = (let e = at in cc) in

@@ -4,7 +4,7 @@ use Rattle.typing_errors.specs.declared.error.FunctionError.{FunctionError}
 use Rattle.typing_errors.specs.declared.error.FunctionError.TheVariants as error
 use Rattle.ir_types.specs.ExpressionPlain.{PlainExpression, plain}
 use Rattle.ir_types.specs.declared.expressions.Expression.TheVariants as x
-use Rattle.spec_statements.specs.Results.{StandsForAnswer}
+use Rattle.spec_statements.specs.Results.{DenotesResult}
 
 -- an expression stands for the answer of a call or of an atomic operation
 abbrev pub Stands : PlainExpression → Type 0
@@ -14,7 +14,7 @@ Stands _ = ⊥
 
 -- one that stands for an answer has been answered
 abbrev pub IsAnswered : List PlainExpression → List Bool → ℕ → Type 0
-IsAnswered expressions answered e = StandsForAnswer expressions e → slice_get answered e ≡ Some true
+IsAnswered expressions answered e = DenotesResult expressions e → slice_get answered e ≡ Some true
 
 -- so has each
 abbrev pub AllAnswered : List PlainExpression → List Bool → Type 0
@@ -25,7 +25,7 @@ pub record AnsweredBelow (expressions : List PlainExpression) (answered : List B
 
 -- one stands for an answer and has not been answered, while those before it have
 pub record IsUnanswered (expressions : List PlainExpression) (answered : List Bool) (e : ℕ) : Type 0 where
-  pub stands : StandsForAnswer expressions e
+  pub stands : DenotesResult expressions e
   pub unanswered : ¬ (slice_get answered e ≡ Some true)
   pub before : AnsweredBelow expressions answered e
 

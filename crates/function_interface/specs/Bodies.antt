@@ -1,6 +1,6 @@
 -- Which stages may run a body.
 use Rattle.std.specs.Prelude.{ℕ, List}
-use Rattle.ir_blocks.specs.Places.{Place, StandsAt}
+use Rattle.ir_blocks.specs.Places.{Place, OccursAt}
 use Rattle.ir_blocks.specs.Plain.{PlainBlock, PlainStatement}
 use Rattle.ir_flags.specs.Sets.{Has}
 use Rattle.ir_flags.specs.declared.stages.ShaderStages.{ShaderStages}
@@ -10,4 +10,4 @@ use Rattle.spec_statements.specs.Stages.{statement_stages}
 -- the stage is one that there is, and may run each statement of the body, wherever it stands
 pub record MayRun (subgroups : ShaderStages) (callees : List ShaderStages) (body : PlainBlock) (stage : ℕ) : Type 0 where
   pub known : Has all_stages.0 stage
-  pub each : (p : Place) (u : PlainStatement) → StandsAt body p u → Has (statement_stages subgroups callees u).0 stage
+  pub each : (p : Place) (u : PlainStatement) → OccursAt body p u → Has (statement_stages subgroups callees u).0 stage

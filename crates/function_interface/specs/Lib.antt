@@ -1,4 +1,4 @@
-pub mod Told
+pub mod Reported
 pub mod Items
 pub mod Answered
 pub mod Callees

@@ -9,15 +9,15 @@ ghost use Rattle.spec_handles.specs.Conditions.{AritiesMatch, HandlesInRange, Op
 
 use crate::arities::check_arities;
 use crate::lower::Lower;
-use typing_errors::FunctionError;
 use ir_faults::refusal::Refusal;
 use ir_faults::with_span::WithSpan;
 use ir_flags::ValidationFlags;
 use ir_items::{Function, Module};
 use std::alloc::Global;
+use typing_errors::FunctionError;
 
 /// What the layer keeps of a function, once the arity of its calls was asked, under any flags. `callees` has what was kept of
-/// the functions before it, where stages and uses may have been noted since. Asks that the layer was made for the module, and
+/// the functions before it, where stages and uses may have been noted since. Requires that the layer was made for the module, and
 /// that the handles of the function are in order.
 ///
 /// # Errors

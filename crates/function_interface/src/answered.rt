@@ -5,10 +5,10 @@ ghost use Rattle.function_interface.specs.Answered.{Stands, AllAnswered, IsUnans
 ghost use Rattle.ir_types.specs.ExpressionPlain.{expression_view};
 ghost use Rattle.ir_items.specs.View.{function_view};
 
-use typing_errors::FunctionError;
 use ir_arena::handle::Handle;
 use ir_items::Function;
 use ir_types::Expression;
+use typing_errors::FunctionError;
 
 // Whether an expression stands for the answer of a call or of an atomic operation.
 const fn stands_for_answer(expression: &Expression) -> bool

@@ -5,11 +5,11 @@ ghost use Rattle.function_interface.specs.Arities.{IsArityFault};
 ghost use Rattle.ir_items.specs.View.{function_view, module_view};
 ghost use Rattle.spec_handles.specs.Conditions.{AritiesMatch, HandlesInRange};
 
-use typing_errors::{CallError, FunctionError};
 use ir_items::{Function, Module};
 use module_handles::arity_fault;
+use typing_errors::{CallError, FunctionError};
 
-/// Whether each call of a function passes as many arguments as the function called has. Asks that the functions called are
+/// Whether each call of a function passes as many arguments as the function called has. Requires that the functions called are
 /// there.
 ///
 /// # Errors

@@ -6,7 +6,7 @@ ghost use Rattle.typing_errors.specs.declared.expressions.ExpressionError.{Expre
 ghost use Rattle.typing_errors.specs.declared.error.FunctionError.{FunctionError};
 ghost use Rattle.function_interface.specs.Analysis.{Faults, IsKept, IsRefusedFor};
 ghost use Rattle.function_interface.specs.Question.{Question, question};
-ghost use Rattle.function_interface.specs.Told.{AreTold};
+ghost use Rattle.function_interface.specs.Reported.{AreReported};
 ghost use Rattle.ir_flags.specs.declared.settings.Capabilities.{Capabilities};
 ghost use Rattle.ir_flags.specs.declared.settings.ValidationFlags.{ValidationFlags};
 ghost use Rattle.ir_flags.specs.declared.stages.ShaderStages.{ShaderStages};
@@ -23,16 +23,16 @@ ghost use Rattle.typing_forms.specs.declared.form.Form.{Form};
 ghost use Rattle.typing_forms.specs.declared.resolution.TypeResolution.{TypeResolution};
 ghost use Rattle.typing_operands.specs.Answers.{form_given};
 
-use spec_analysis::{GlobalUse, SamplingPair};
-use typing_errors::{ExpressionError, FunctionError};
+use function_statement_checks::BlockContext;
 use ir_arena::handle::Handle;
 use ir_faults::refusal::Refusal;
 use ir_flags::{ShaderStages, ValidationFlags};
 use ir_items::{Function, Module};
 use ir_types::key;
-use function_statement_checks::BlockContext;
-use std::alloc::Global;
 use module_type_infos::TypeInfo;
+use spec_analysis::{GlobalUse, SamplingPair};
+use std::alloc::Global;
+use typing_errors::{ExpressionError, FunctionError};
 use typing_forms::TypeResolution;
 
 /// What types the expressions of a module's functions, analyses its functions, and tells of its types. The rules of functions
@@ -75,18 +75,18 @@ pub trait Lower {
     fn type_infos(&self) -> &[TypeInfo]
         ensures { result.now ≡ told self.now };
 
-    /// What is told of a type. Asks that it is there.
+    /// What is told of a type. Requires that it is there.
     fn type_info(&self, ty: Handle<key::IrType>) -> &TypeInfo
         requires { ty < length (told self.now) }
         ensures { slice_get (told self.now) ty ≡ Some result.now };
 
-    /// The type of a global expression. Asks that it is there.
+    /// The type of a global expression. Requires that it is there.
     fn global_resolution(&self, expression: Handle<key::Expression>) -> &TypeResolution
         requires { expression < length (global_types self.now) }
         ensures { slice_get (global_types self.now) expression ≡ Some result.now };
 
     /// What is kept of a function, or of an entry point's. `callees` has what was kept of the functions before it, where stages
-    /// and uses may have been noted since. Asks that the function's handles are in order.
+    /// and uses may have been noted since. Requires that the function's handles are in order.
     ///
     /// # Errors
     ///
@@ -109,7 +109,7 @@ pub trait Lower {
         ensures fault { (others : List Summary) → AgreeOnCallees (function_view function.now) (map (summary self.now) callees.now) others
             → IfErr result (IsRefusedFor ((faults self.now (question (module_view «module».now) (function_view function.now) others (map (noted self.now) callees.now))).IsAnalysisFault flags)) };
 
-    /// The type of an expression. Asks that it is there.
+    /// The type of an expression. Requires that it is there.
     fn resolution<'a>(
         &self,
         info: &'a Self::Info,
@@ -118,7 +118,7 @@ pub trait Lower {
         requires { expression < length (types self.now info.now) }
         ensures { slice_get (types self.now info.now) expression ≡ Some result.now };
 
-    /// Whether an expression is accepted, and which stages may run it. `callees` has what was kept of the functions before. Asks
+    /// Whether an expression is accepted, and which stages may run it. `callees` has what was kept of the functions before. Requires
     /// that the expression is there.
     ///
     /// # Errors
@@ -142,7 +142,7 @@ pub trait Lower {
     fn stages(&self, info: &Self::Info) -> ShaderStages
         ensures { result ≡ noted self.now info.now };
 
-    /// How a global variable is used. Asks that it is there.
+    /// How a global variable is used. Requires that it is there.
     fn uses(&self, info: &Self::Info, global: Handle<key::GlobalVariable>) -> GlobalUse
         requires { global < length (summary self.now info.now).uses }
         ensures { slice_get (summary self.now info.now).uses global ≡ Some result };
@@ -151,7 +151,7 @@ pub trait Lower {
     fn pairs<'a>(&self, info: &'a Self::Info) -> &'a [SamplingPair]
         ensures { result.now ≡ (summary self.now info.now).pairs };
 
-    /// Notes stages, of which the common ones are left, further uses, and whether two sources are blended. Asks that the
+    /// Notes stages, of which the common ones are left, further uses, and whether two sources are blended. Requires that the
     /// variables are there. No memory is taken.
     fn note(
         &self,
@@ -170,7 +170,7 @@ pub trait Lower {
         ensures types { types self.now info.new ≡ types self.now info.old };
 
     /// What it tells of types is told of all types of its module.
-    ghost told_of_all: { (l : Self) (m : PlainModule) → is_for l m → AreTold m.types (told l) };
+    ghost told_of_all: { (l : Self) (m : PlainModule) → is_for l m → AreReported m.types (told l) };
 
     /// The types of global expressions are as it says.
     ghost global_typed: { (l : Self) (m : PlainModule) → is_for l m → (e : ℕ) (r : TypeResolution) → slice_get (global_types l) e ≡ Some r → has_global_form l m e (form_given m.types r) };

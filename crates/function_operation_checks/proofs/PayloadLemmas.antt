@@ -4,7 +4,7 @@ use Rattle.std.specs.Prelude.{option_map}
 use Rattle.std.specs.Option.{MatchOption}
 use Rattle.std.proofs.lemmas.Bool.{eq-eqb, eqb-true}
 use Rattle.typing_errors.specs.declared.error.FunctionError.TheVariants as error
-use Rattle.ir_blocks.specs.Places.{StandsAt}
+use Rattle.ir_blocks.specs.Places.{OccursAt}
 use Rattle.ir_blocks.specs.Plain.{PlainStatement, operation, ray_pipeline}
 use Rattle.ir_blocks.specs.declared.operations.RayPipelineFunction.TheVariants.{TraceRay}
 use Rattle.ir_flags.specs.Sets.{Has}
@@ -15,7 +15,7 @@ use Rattle.ir_references.specs.First.{first_in}
 use Rattle.ir_references.proofs.FirstLaws.{none_at, place_found}
 use Rattle.function_operation_checks.specs.Payloads.{payload_type, unlike, AreOfOneType}
 use Rattle.spec_statements.specs.BlockContext.{BlockContext}
-use Rattle.spec_statements.specs.Payloads.{HasPayload, PayloadsOK, IsHeldAfter}
+use Rattle.spec_statements.specs.Payloads.{HasPayload, PayloadsOK, IsPayloadAfter}
 use Rattle.spec_statements.specs.Variables.{variable_at}
 
 -- ---- one payload
@@ -62,7 +62,7 @@ first_found c type e =
       acceleration_structure = ray.structure;
       descriptor = ray.descriptor;
       payload = ray.payload;
-      stands = subst (StandsAt c.f.body found.0) ray.is found.2;
+      stands = subst (OccursAt c.f.body found.0) ray.is found.2;
       declared = ray.declared;
     }
 
@@ -79,7 +79,7 @@ other_found c held type e =
         acceleration_structure = ray.structure;
         descriptor = ray.descriptor;
         payload = ray.payload;
-        stands = subst (StandsAt c.f.body found.0) ray.is found.2;
+        stands = subst (OccursAt c.f.body found.0) ray.is found.2;
         declared = ray.declared;
       },
       one.1,
@@ -137,10 +137,10 @@ none_held m f never = record {
 
 -- ---- what is told
 
-pub first_told : (c : BlockContext) (found : Option ℕ) → found ≡ first_in (payload_type c) c.f.body
+pub first_reported : (c : BlockContext) (found : Option ℕ) → found ≡ first_in (payload_type c) c.f.body
     → MatchOption found ((type : ℕ) → HasPayload c.m c.f type → ⊥) (HasPayload c.m c.f)
-first_told c None e = none_found c (sym e)
-first_told c (Some type) e = first_found c type (sym e)
+first_reported c None e = none_found c (sym e)
+first_reported c (Some type) e = first_found c type (sym e)
 
 pub other_told : (c : BlockContext) (held : ℕ) (found : Option ℕ) → found ≡ first_in (λ s. unlike held (payload_type c s)) c.f.body
     → MatchOption found ((type : ℕ) → HasPayload c.m c.f type → type ≡ held) (λ type. HasPayload c.m c.f type × (type ≢ held))

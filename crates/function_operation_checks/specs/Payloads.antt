@@ -9,7 +9,7 @@ use Rattle.ir_flags.specs.declared.settings.ValidationFlags.{ValidationFlags}
 use Rattle.ir_flags.specs.declared.settings.TheConstants.ValidationFlags.{BLOCKS}
 use Rattle.ir_items.specs.Plain.{PlainFunction, PlainModule}
 use Rattle.spec_statements.specs.BlockContext.{BlockContext}
-use Rattle.spec_statements.specs.Payloads.{HasPayload, PayloadsOK, IsHeldAfter}
+use Rattle.spec_statements.specs.Payloads.{HasPayload, PayloadsOK, IsPayloadAfter}
 use Rattle.spec_statements.specs.Variables.{variable_at}
 
 -- ---- one payload
@@ -39,4 +39,4 @@ IsPayloadsFault m f held _ = ⊥
 -- The payloads are of one type, and this is held after them under BLOCKS.
 pub record AreOfOneType (m : PlainModule) (f : PlainFunction) (held after : Option ℕ) : Type 0 where
   pub payloads : PayloadsOK m f held
-  pub held_after : (flags : ValidationFlags) → Has flags.0 BLOCKS.0 → IsHeldAfter flags m f held after
+  pub held_after : (flags : ValidationFlags) → Has flags.0 BLOCKS.0 → IsPayloadAfter flags m f held after

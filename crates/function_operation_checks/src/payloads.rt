@@ -8,12 +8,12 @@ ghost use Rattle.function_operation_checks.specs.Payloads.{payload_type, unlike,
 ghost use Rattle.spec_statements.specs.Payloads.{HasPayload};
 ghost use Rattle.spec_statements.specs.Variables.{variable_at};
 
-use typing_errors::FunctionError;
+use function_statement_checks::{StatementContext, variable_at};
 use ir_arena::handle::Handle;
 use ir_blocks::{RayPipelineFunction, Statement};
 use ir_references::{StatementLook, first_in};
 use ir_types::key;
-use function_statement_checks::{StatementContext, variable_at};
+use typing_errors::FunctionError;
 
 // ---- one payload
 

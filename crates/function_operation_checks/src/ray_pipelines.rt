@@ -5,12 +5,12 @@ ghost use Rattle.function_operation_checks.specs.RayPipelines.{IsPayload, IsPayl
 ghost use Rattle.spec_statements.specs.RayPipelines.{IsPayloadSpace, TraceOK, RayPipelineOK};
 
 use crate::rays::{is_ray_descriptor, structure_of};
-use typing_errors::FunctionError;
+use function_statement_checks::{StatementContext, pointer_space, variable_at};
 use ir_arena::handle::Handle;
 use ir_blocks::RayPipelineFunction;
 use ir_kinds::AddressSpace;
 use ir_types::key;
-use function_statement_checks::{StatementContext, pointer_space, variable_at};
+use typing_errors::FunctionError;
 
 // Whether a space is one of payloads.
 const fn is_payload_space(space: AddressSpace) -> bool

@@ -10,13 +10,13 @@ ghost use Rattle.spec_statements.specs.RayQueries.{local_of, local_type_at, Give
 ghost use Rattle.typing_forms.specs.Resolutions.{inner_at};
 
 use crate::rays::{is_ray_descriptor, structure_of};
-use typing_errors::FunctionError;
-use module_expression_checks::{is_alone, query_of};
+use function_statement_checks::StatementContext;
 use ir_arena::handle::Handle;
 use ir_blocks::RayQueryFunction;
 use ir_types::{Expression, key};
-use function_statement_checks::StatementContext;
 use module_context::{is_floating, shaped_of};
+use module_expression_checks::{is_alone, query_of};
+use typing_errors::FunctionError;
 use typing_forms::Form;
 
 // ---- the query

@@ -3,9 +3,9 @@
 ghost use Rattle.std.specs.Prelude.{◌≡◌, ◌↔◌, IsTrue, Some};
 ghost use Rattle.spec_statements.specs.RayQueries.{structure_of, IsMadeAs, IsRayDescriptor};
 
+use function_statement_checks::StatementContext;
 use ir_arena::handle::Handle;
 use ir_types::key;
-use function_statement_checks::StatementContext;
 use module_context::are_same;
 use typing_forms::Form;
 

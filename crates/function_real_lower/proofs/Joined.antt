@@ -12,13 +12,13 @@ use Rattle.ir_items.specs.Plain.{PlainFunction, PlainModule}
 use Rattle.spec_analysis.proofs.Members.{get-within}
 use Rattle.spec_analysis.proofs.SummaryLaws.{joined_by_callees}
 use Rattle.spec_analysis.specs.Summaries.{Summary, CallsOne, IsFormFault, AgreeOnCallees}
-use Rattle.spec_analysis.specs.Uniformity.{Asked}
+use Rattle.spec_analysis.specs.Uniformity.{Required}
 use Rattle.spec_expressions.specs.Context.{inside}
 use Rattle.spec_expressions.specs.declared.faults.TypingFault.{TypingFault}
 use Rattle.std.proofs.lemmas.Option.{slice_get_within}
 use Rattle.function_real_lower.specs.Infos.{IsFunctionInfo, AreExpressionInfos}
 use Rattle.function_real_lower.specs.Processed.{IsAnalysisFault, untyped, wrong_form, non_uniform, IsAnalysisRefusal, IsAnalysed}
-use Rattle.typing_operands.specs.Answers.{fault_of, TellsFault}
+use Rattle.typing_operands.specs.Answers.{fault_of, ReportsFault}
 
 -- ---- the summaries of callees alone count
 
@@ -62,18 +62,18 @@ module _ (flags : ValidationFlags) (m : PlainModule) (f : PlainFunction) (summar
 -- ---- no fault stands
 
 module _ (flags : ValidationFlags) (m : PlainModule) (f : PlainFunction) (summaries : List Summary) (info : FunctionInfo) (infos : AreExpressionInfos m f info.expressions.items) where
-  typed_clear : (e : ℕ) (o : Option TypingFault) → TellsFault (inside m f) f.expressions e o → ⊥
+  typed_clear : (e : ℕ) (o : Option TypingFault) → ReportsFault (inside m f) f.expressions e o → ⊥
   typed_clear e None tells = tells
   typed_clear e (Some fault) tells =
       let w = get-within info.expressions.items e (subst (λ n. e < n) (sym infos.len) (slice_get_within f.expressions e tells.faulty.expression tells.faulty.stands)) in
       tells.none _ (infos.each e w.0 w.1).ty
 
-  all_clear : ((e : ℕ) → IsFormFault f summaries e → ⊥) → ((x : Asked) → FunctionFault flags m f x → ⊥) → (e : FunctionError) → IsAnalysisFault flags m f summaries e → ⊥
+  all_clear : ((e : ℕ) → IsFormFault f summaries e → ⊥) → ((x : Required) → FunctionFault flags m f x → ⊥) → (e : FunctionError) → IsAnalysisFault flags m f summaries e → ⊥
   all_clear forms uniform _ (untyped {e = e} {error = error} tells) = typed_clear e (fault_of error) tells
   all_clear forms uniform _ (wrong_form {e = e} fault) = forms e fault
   all_clear forms uniform _ (non_uniform {r = r} {e = e} fault) = uniform (record { requirement = r.0; expression = e }) fault
 
 -- what is kept of a function in which no operand is of a wrong form, and nothing asks for all invocations in vain
 module _ (flags : ValidationFlags) (m : PlainModule) (f : PlainFunction) (summaries : List Summary) (info : FunctionInfo) (is : IsFunctionInfo m f summaries info) where
-  pub is_analysed : ((e : ℕ) → IsFormFault f summaries e → ⊥) → ((x : Asked) → FunctionFault flags m f x → ⊥) → IsAnalysed flags m f summaries info
+  pub is_analysed : ((e : ℕ) → IsFormFault f summaries e → ⊥) → ((x : Required) → FunctionFault flags m f x → ⊥) → IsAnalysed flags m f summaries info
   is_analysed forms uniform = record { info = is; clear = all_clear flags m f summaries info is.expressions forms uniform }

@@ -2,7 +2,7 @@
 use Rattle.std.specs.Prelude.{List, map}
 use Rattle.spec_analysis.specs.declared.expression_info.ExpressionInfo.{ExpressionInfo}
 use Rattle.typing_infos.specs.declared.function_info.FunctionInfo.{FunctionInfo}
-use Rattle.function_interface.specs.Told.{AreTold}
+use Rattle.function_interface.specs.Reported.{AreReported}
 use Rattle.ir_items.specs.Plain.{PlainModule}
 use Rattle.typing_infos.specs.declared.info.ModuleInfo.{ModuleInfo}
 use Rattle.spec_expressions.specs.Context.{outside}
@@ -13,7 +13,7 @@ use Rattle.typing_forms.specs.declared.resolution.TypeResolution.{TypeResolution
 -- the handles of the module are in order; it tells of all types of the module, and has the types of all its global expressions
 pub record IsMadeOf (m : PlainModule) (info : ModuleInfo) : Type 0 where
   pub handles : HandlesOK m
-  pub told : AreTold m.types info.types.items
+  pub told : AreReported m.types info.types.items
   pub typed : AreTypes (outside m) m.global_expressions info.const_expression_types.items
 
 -- the types of the expressions of a function

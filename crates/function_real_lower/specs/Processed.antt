@@ -15,14 +15,14 @@ use Rattle.ir_items.specs.Plain.{PlainFunction, PlainModule}
 use Rattle.spec_analysis.specs.Summaries.{Summary, IsFormFault}
 use Rattle.spec_expressions.specs.Context.{inside}
 use Rattle.function_real_lower.specs.Infos.{IsFunctionInfo}
-use Rattle.typing_operands.specs.Answers.{fault_of, TellsFault}
+use Rattle.typing_operands.specs.Answers.{fault_of, ReportsFault}
 use Rattle.typing_operands.specs.declared.error.ResolveError.{ResolveError}
 
 -- The faults that the analysis of a function finds, where it calls functions of which these summaries are kept: an expression
 -- has no type, as the error tells; an operand that stands for an image or a sampler is of a wrong form; something asks that
 -- all invocations arrive together where they may not.
 pub data IsAnalysisFault (flags : ValidationFlags) (m : PlainModule) (f : PlainFunction) (summaries : List Summary) : FunctionError → Type 0 where
-  untyped : {e : ℕ} {error : ResolveError} → TellsFault (inside m f) f.expressions e (fault_of error) → IsAnalysisFault flags m f summaries (Expression e (Typing error))
+  untyped : {e : ℕ} {error : ResolveError} → ReportsFault (inside m f) f.expressions e (fault_of error) → IsAnalysisFault flags m f summaries (Expression e (Typing error))
   wrong_form : {e : ℕ} → IsFormFault f summaries e → IsAnalysisFault flags m f summaries (Expression e ExpectedGlobalOrArgument)
   non_uniform : {r : UniformityRequirements} {e : ℕ} {d : UniformityDisruptor} → FunctionFault flags m f (record { requirement = r.0; expression = e }) → IsAnalysisFault flags m f summaries (NonUniformControlFlow r e d)
 

@@ -4,9 +4,9 @@ ghost use Rattle.std.specs.Prelude.{◌≡◌, IfOk, slice_index_or};
 ghost use Rattle.spec_analysis.specs.Values.{known_at};
 ghost use Rattle.function_real_lower.specs.Kept.{unknown, infos_from};
 
-use spec_analysis::{ExpressionInfo, Uniformity, UniformityRequirements};
 use ir_arena::handle::Handle;
 use ir_types::key;
+use spec_analysis::{ExpressionInfo, Uniformity, UniformityRequirements};
 use std::alloc::{AllocError, Global};
 use typing_forms::TypeResolution;
 

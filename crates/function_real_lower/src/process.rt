@@ -11,15 +11,12 @@ ghost use Rattle.typing_uniformity.specs.Nearest.{AreNearest};
 ghost use Rattle.typing_infos.specs.Infos.{summary_of};
 ghost use Rattle.spec_analysis.specs.Faults.{FunctionFault};
 ghost use Rattle.spec_analysis.specs.Summaries.{Summary, IsSummary, CalleesKnown, AgreeOnCallees};
-ghost use Rattle.spec_analysis.specs.Uniformity.{Asked};
+ghost use Rattle.spec_analysis.specs.Uniformity.{Required};
 ghost use Rattle.spec_handles.specs.Conditions.{HandlesInRange, OperandsPrecede};
 ghost use Rattle.function_real_lower.specs.Faults.{IsSummaryFault};
 ghost use Rattle.function_real_lower.specs.Processed.{IsAnalysisFault, IsAnalysisRefusal, IsProcessed};
 
 use crate::{SummaryError, summarize};
-use typing_uniformity::uniformity_fault_by;
-use spec_analysis::Uniformity;
-use typing_errors::{ExpressionError, FunctionError};
 use ir_arena::handle::Handle;
 use ir_faults::refusal::Refusal;
 use ir_faults::with_span::WithSpan;
@@ -27,8 +24,11 @@ use ir_flags::ValidationFlags;
 use ir_items::{Function, Module};
 use ir_kinds::Severity;
 use ir_types::key;
-use typing_infos::FunctionInfo;
+use spec_analysis::Uniformity;
 use std::alloc::Global;
+use typing_errors::{ExpressionError, FunctionError};
+use typing_infos::FunctionInfo;
+use typing_uniformity::uniformity_fault_by;
 
 // The refusal of an expression.
 fn refused_at(
@@ -71,7 +71,7 @@ fn check_uniformity(
     requires uniformities { AreUniformities (module_view «module».now) (function_view function.now) uniformities.now }
     requires parents { ParentsPrecede (module_view «module».now).filters }
     requires known { AreNearest (module_view «module».now).filters known.now }
-    ensures clear { OnOk result ((x : Asked) → FunctionFault flags (module_view «module».now) (function_view function.now) x → ⊥) }
+    ensures clear { OnOk result ((x : Required) → FunctionFault flags (module_view «module».now) (function_view function.now) x → ⊥) }
     ensures fault { IfErr result (λ r. (summaries : List Summary) → IsAnalysisRefusal flags (module_view «module».now) (function_view function.now) summaries r) }
 {
     match uniformity_fault_by(alloc, flags, known, module, function, uniformities) {
@@ -85,7 +85,7 @@ fn check_uniformity(
 /// `ModuleInfo::process_function`). `infos` has what this call answered for the functions before it, in order; their stages and
 /// uses may have been noted since. Of these only those are read that a call statement of the function names.
 ///
-/// Asks what [`module_handles::handles_in_range`], [`module_handles::operands_precede`] and
+/// Requires what [`module_handles::handles_in_range`], [`module_handles::operands_precede`] and
 /// [`module_handles::filter_parents_precede`] test.
 ///
 /// # Errors

@@ -7,23 +7,23 @@ ghost use Rattle.function_real_lower.specs.Severities.{AreKnown, severities_in};
 
 use crate::process::process_by;
 use crate::stages::stages_by;
-use typing_uniformity::severities_of;
-use spec_analysis::{GlobalUse, SamplingPair};
-use typing_errors::{ExpressionError, FunctionError};
-use module_expressions::validate_expression;
 use function_interface::Lower;
+use function_statement_checks::BlockContext;
 use ir_arena::handle::Handle;
 use ir_faults::refusal::Refusal;
 use ir_flags::{ShaderStages, ValidationFlags};
 use ir_items::{Function, Module};
 use ir_kinds::Severity;
 use ir_types::key;
-use typing_infos::{FunctionInfo, ModuleInfo};
-use function_statement_checks::BlockContext;
 use module_context::CheckContext;
-use std::alloc::{AllocError, Global};
+use module_expressions::validate_expression;
 use module_type_infos::TypeInfo;
+use spec_analysis::{GlobalUse, SamplingPair};
+use std::alloc::{AllocError, Global};
+use typing_errors::{ExpressionError, FunctionError};
 use typing_forms::TypeResolution;
+use typing_infos::{FunctionInfo, ModuleInfo};
+use typing_uniformity::severities_of;
 
 /// What is kept of a module, and with it the typing of its expressions, the analysis of its functions and the checks of their
 /// expressions. It may know how severe faults of derivatives are at each node of the module's diagnostic filters; where it
@@ -46,7 +46,7 @@ impl RealLower {
         }
     }
 
-    /// The same, where the severities at the nodes of the module's diagnostic filters are found, once for all functions. Asks
+    /// The same, where the severities at the nodes of the module's diagnostic filters are found, once for all functions. Requires
     /// that the parent of each comes before it. The error is out of memory.
     pub fn with_severities(
         alloc: Global,

@@ -15,18 +15,18 @@ ghost use Rattle.function_real_lower.specs.Summarized.{IsSummarized};
 ghost use Rattle.typing_expressions.specs.Types.{ItemsNamed, AreTypes, IsFirstUntyped};
 
 use crate::infos::expression_infos;
-use typing_uniformity::facts_of;
-use spec_analysis::Uniformity;
-use typing_summaries::{Context, Counts, Sampled, Tally};
 use ir_arena::handle::Handle;
 use ir_items::{Function, Module};
 use ir_types::key;
-use typing_infos::{FunctionInfo, FunctionParts};
+use spec_analysis::Uniformity;
 use std::alloc::{AllocError, Global};
 use typing_expressions::{TypingRefusal, types_of};
 use typing_forms::TypeResolution;
+use typing_infos::{FunctionInfo, FunctionParts};
 use typing_operands::ResolveError;
 use typing_resolve::ResolveContext;
+use typing_summaries::{Context, Counts, Sampled, Tally};
+use typing_uniformity::facts_of;
 
 /// Why a function has no summary.
 #[derive(Drop)]

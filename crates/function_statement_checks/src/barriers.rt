@@ -7,8 +7,8 @@ ghost use Rattle.function_statement_checks.specs.Barriers.{IsBarrierFault};
 
 use crate::context::StatementContext;
 use bitflags::Flags;
-use typing_errors::{FunctionError, SubgroupError};
 use ir_flags::{Barrier, Capabilities, SubgroupOperationSet};
+use typing_errors::{FunctionError, SubgroupError};
 
 // Whether subgroups may wait at barriers, as far as capabilities say.
 fn has_barriers(capabilities: Capabilities) -> bool

@@ -7,12 +7,12 @@ ghost use Rattle.ir_items.specs.View.{argument_view, function_view};
 ghost use Rattle.spec_statements.specs.Calls.{CallOK, CallResultOK};
 ghost use Rattle.function_statement_checks.specs.Calls.{PassesAt, IsCallError, IsCallFault};
 
-use module_context::are_same;
 use crate::context::StatementContext;
-use typing_errors::{CallError, FunctionError};
 use ir_arena::handle::Handle;
 use ir_items::{Function, FunctionArgument};
 use ir_types::{Expression, key};
+use module_context::are_same;
+use typing_errors::{CallError, FunctionError};
 
 // The argument that a function declares at a place.
 #[tactic(auto, using(crate::proofs::CallLemmas::declared))]

@@ -6,10 +6,10 @@ ghost use Rattle.spec_statements.specs.Conditions.{ConditionOK};
 ghost use Rattle.function_statement_checks.specs.Conditions.{IsConditionFault};
 
 use crate::context::StatementContext;
-use typing_errors::FunctionError;
 use ir_arena::handle::Handle;
 use ir_kinds::ScalarKind;
 use ir_types::key;
+use typing_errors::FunctionError;
 use typing_forms::Form;
 
 // Whether a type is that of a truth value alone.

@@ -20,8 +20,8 @@ use ir_arena::handle::Handle;
 use ir_arena::range::Range;
 use ir_flags::{Capabilities, SubgroupOperationSet};
 use ir_items::{Block, Function, FunctionResult, GlobalVariable, Module};
-use ir_types::{Expression, IrType, TypeInner, key};
 use ir_sets::unique_arena::UniqueArena;
+use ir_types::{Expression, IrType, TypeInner, key};
 use typing_forms::{Form, form_of_type, inner_of};
 use typing_layout::ExpressionKindTracker;
 

@@ -10,10 +10,10 @@ ghost use Rattle.typing_forms.specs.Parts.{scalar_of};
 
 use crate::context::StatementContext;
 use crate::pointers::is_writable;
-use typing_errors::FunctionError;
 use ir_arena::handle::Handle;
 use ir_kinds::Scalar;
 use ir_types::{CooperativeData, TypeInner, key};
+use typing_errors::FunctionError;
 use typing_forms::Form;
 
 // The scalar of a cooperative matrix.

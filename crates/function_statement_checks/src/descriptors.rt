@@ -6,8 +6,8 @@ ghost use Rattle.function_statement_checks.specs.Descriptors.{AreDescriptors, Is
 ghost use Rattle.typing_forms.specs.Resolutions.{inner_at, types_view};
 
 use ir_arena::handle::Handle;
-use ir_types::{IrType, TypeInner, key};
 use ir_sets::unique_arena::UniqueArena;
+use ir_types::{IrType, TypeInner, key};
 use std::alloc::{AllocError, Global};
 use typing_forms::inner_of;
 

@@ -6,11 +6,11 @@ ghost use Rattle.spec_statements.specs.Emits.{EmitOK};
 ghost use Rattle.function_statement_checks.specs.Emits.{AreAnswers, IsAnswerOf, IsEmitFault};
 
 use crate::context::StatementContext;
-use typing_errors::FunctionError;
 use ir_arena::handle::Handle;
 use ir_arena::range::Range;
 use ir_sets::next::first_passing;
 use ir_types::key;
+use typing_errors::FunctionError;
 
 // The first expression of a range that stands for the answer of a statement, where for each expression the first from it on that does is known.
 pub(crate) fn answer_of(

@@ -8,13 +8,13 @@ ghost use Rattle.spec_expressions.specs.Loads.{loaded, loaded_value};
 ghost use Rattle.spec_statements.specs.Stores.{base_at, BeginsAt, IsVariable, IsVariableOf, IsVariableAt, pointer_space, IsWritable, FitsAt};
 ghost use Rattle.typing_forms.specs.Resolutions.{inner_at};
 
-use module_context::are_same;
 use crate::context::StatementContext;
 use bitflags::Flags;
 use ir_arena::handle::Handle;
 use ir_flags::StorageAccess;
 use ir_kinds::{AddressSpace, Scalar, VectorSize};
 use ir_types::{Expression, TypeInner, key};
+use module_context::are_same;
 use typing_forms::Form;
 
 // ---- where a pointer begins
@@ -43,7 +43,7 @@ pub fn base_at<C: StatementContext>(
     }
 }
 
-/// What a chain of accesses begins at. Asks that the base of each access comes before it.
+/// What a chain of accesses begins at. Requires that the base of each access comes before it.
 pub(crate) fn beginning_of<C: StatementContext>(
     context: &C,
     pointer: Handle<key::Expression>,

@@ -4,11 +4,11 @@ ghost use Rattle.std.specs.Prelude.{◌≡◌, ◌↔◌, IsTrue, MatchResult};
 ghost use Rattle.spec_statements.specs.Returns.{ReturnOK};
 ghost use Rattle.function_statement_checks.specs.Returns.{IsReturnFault};
 
-use module_context::are_same;
 use crate::context::StatementContext;
-use typing_errors::FunctionError;
 use ir_arena::handle::Handle;
 use ir_types::key;
+use module_context::are_same;
+use typing_errors::FunctionError;
 
 // Whether what is returned is what the function answers.
 fn is_answer<C: StatementContext>(context: &C, value: &Option<Handle<key::Expression>>) -> bool

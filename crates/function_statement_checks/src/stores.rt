@@ -10,9 +10,9 @@ ghost use Rattle.typing_forms.specs.Forms.{form_in};
 
 use crate::context::StatementContext;
 use crate::pointers::{beginning_of, fits_at, is_variable_at, is_writable};
-use typing_errors::FunctionError;
 use ir_arena::handle::Handle;
 use ir_types::{TypeInner, key};
+use typing_errors::FunctionError;
 use typing_forms::Form;
 
 // The type of an image or a sampler, which are not stored.
@@ -73,7 +73,7 @@ fn check_target<C: StatementContext>(
 }
 
 /// Whether a value may be stored where a pointer leads: through a chain of accesses on a variable or an argument, of the type
-/// that would be loaded, and in a space that is written. Asks that the base of each access comes before it.
+/// that would be loaded, and in a space that is written. Requires that the base of each access comes before it.
 ///
 /// # Errors
 ///

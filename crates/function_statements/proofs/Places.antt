@@ -2,7 +2,7 @@
 use Rattle.std.proofs.Common.{◌≡◌, subst, sym}
 use Rattle.std.proofs.lemmas.Option.{slice_get_within}
 use Rattle.typing_errors.specs.declared.error.FunctionError.{FunctionError}
-use Rattle.ir_blocks.specs.Places.{Place, StandsAt}
+use Rattle.ir_blocks.specs.Places.{Place, OccursAt}
 use Rattle.ir_blocks.specs.Plain.{PlainStatement, emit, block, if_, switch, loop, break, continue, return, kill, operation, call, PlainBlock}
 use Rattle.ir_items.specs.Plain.{PlainFunction, PlainModule}
 use Rattle.spec_handles.specs.Conditions.{AritiesMatch}
@@ -12,7 +12,7 @@ use Rattle.function_statements.specs.Bodies.{HasCallee, Meets, IsWrong}
 use Rattle.function_statements.specs.Faults.{IsBodyFault}
 use Rattle.function_statements.specs.declared.error.StatementError.TheVariants.{Fault}
 
-callee_there : (m : PlainModule) (f : PlainFunction) → AritiesMatch m f → (p : Place) (u : PlainStatement) → StandsAt f.body p u → HasCallee m u
+callee_there : (m : PlainModule) (f : PlainFunction) → AritiesMatch m f → (p : Place) (u : PlainStatement) → OccursAt f.body p u → HasCallee m u
 callee_there m f ok p (emit first end) stands = tt
 callee_there m f ok p (block b) stands = tt
 callee_there m f ok p (if_ test accept reject) stands = tt
@@ -26,9 +26,9 @@ callee_there m f ok p (operation a) stands = tt
 callee_there m f ok p (call function arguments answer) stands =
     let found = ok p function arguments answer stands in slice_get_within m.functions function found.0 found.1
 
-pub all_fine : (c : BlockContext) → AritiesMatch c.m c.f → (b : PlainBlock) → b ≡ c.f.body → ((p : Place) (u : PlainStatement) → StandsAt b p u → Meets c u)
-    → (p : Place) (u : PlainStatement) → StandsAt c.f.body p u → StatementOK c u
-all_fine c ok b is h p u stands = h p u (subst (λ x. StandsAt x p u) (sym is) stands) (callee_there c.m c.f ok p u stands)
+pub all_fine : (c : BlockContext) → AritiesMatch c.m c.f → (b : PlainBlock) → b ≡ c.f.body → ((p : Place) (u : PlainStatement) → OccursAt b p u → Meets c u)
+    → (p : Place) (u : PlainStatement) → OccursAt c.f.body p u → StatementOK c u
+all_fine c ok b is h p u stands = h p u (subst (λ x. OccursAt x p u) (sym is) stands) (callee_there c.m c.f ok p u stands)
 
-pub one_wrong : (c : BlockContext) (e : FunctionError) (b : PlainBlock) → b ≡ c.f.body → (p : Place) × (u : PlainStatement) × StandsAt b p u × IsWrong c (Fault e) u → IsBodyFault c e
-one_wrong c e b is h = record { place = h.0; statement = h.1; stands = subst (λ x. StandsAt x h.0 h.1) is h.2; wrong = h.3 }
+pub one_wrong : (c : BlockContext) (e : FunctionError) (b : PlainBlock) → b ≡ c.f.body → (p : Place) × (u : PlainStatement) × OccursAt b p u × IsWrong c (Fault e) u → IsBodyFault c e
+one_wrong c e b is h = record { place = h.0; statement = h.1; stands = subst (λ x. OccursAt x h.0 h.1) is h.2; wrong = h.3 }

@@ -13,10 +13,10 @@ use Rattle.ir_kinds.specs.declared.values.SwitchValue.TheVariants.{Default}
 use Rattle.spec_statements.specs.BlockContext.{BlockContext, form_at}
 use Rattle.spec_statements.specs.Switches.{case_values, CasesOK, SwitchOK}
 use Rattle.function_statements.specs.SwitchLaws.{FaultsRefute}
-use Rattle.function_body_checks.specs.Cases.{StandsTwice, IsValueFault, IsEndFault, IsCaseFault}
+use Rattle.function_body_checks.specs.Cases.{OccursTwice, IsValueFault, IsEndFault, IsCaseFault}
 use Rattle.function_statements.specs.Switches.{IsSwitchFault}
 
-twice_refuted : (values : List SwitchValue) (v : SwitchValue) → StandsTwice values v → AllPairs (λ x y. x ≢ y) values → ⊥
+twice_refuted : (values : List SwitchValue) (v : SwitchValue) → OccursTwice values v → AllPairs (λ x y. x ≢ y) values → ⊥
 twice_refuted values v h apart =
     apart h.first h.again v h.behind (slice_get_within values h.again v h.stands_again)
     (get_or_from_slice_get values h.first v v h.stands ∙ sym (get_or_from_slice_get values h.again v v h.stands_again))

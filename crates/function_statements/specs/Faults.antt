@@ -1,7 +1,7 @@
 -- What is wrong with a statement, by its own rule: a row a kind.
 use Rattle.std.specs.Prelude.{IsSomeAnd}
 use Rattle.typing_errors.specs.declared.error.FunctionError.{FunctionError}
-use Rattle.ir_blocks.specs.Places.{Place, StandsAt}
+use Rattle.ir_blocks.specs.Places.{Place, OccursAt}
 use Rattle.ir_blocks.specs.Plain.{PlainOperation, control_barrier, memory_barrier, store, image_store, atomic, image_atomic, uniform_load, ray_query, ballot, collective, gather, cooperative_store, ray_pipeline, PlainStatement, emit, block, if_, switch, loop, break, continue, return, kill, operation, call}
 use Rattle.ir_faults.specs.Faults.{error_of}
 use Rattle.ir_faults.specs.declared.refusal.Refusal.{Refusal}
@@ -58,7 +58,7 @@ IsStatementFault c (call function arguments answer) e = IsCallFault c function a
 pub record IsBodyFault (c : BlockContext) (e : FunctionError) : Type 0 where
   pub place : Place
   pub statement : PlainStatement
-  pub stands : StandsAt c.f.body place statement
+  pub stands : OccursAt c.f.body place statement
   pub wrong : IsStatementFault c statement e
 
 -- memory ran out, or this is so of the fault that is told

@@ -1,6 +1,6 @@
 -- A body with a fault has a statement that does not meet its rule.
 use Rattle.typing_errors.specs.declared.error.FunctionError.{FunctionError}
-use Rattle.ir_blocks.specs.Places.{Place, StandsAt}
+use Rattle.ir_blocks.specs.Places.{Place, OccursAt}
 use Rattle.ir_blocks.specs.Plain.{PlainStatement}
 use Rattle.spec_statements.specs.BlockContext.{BlockContext}
 use Rattle.spec_statements.specs.Statements.{StatementOK}
@@ -8,7 +8,7 @@ use Rattle.function_statements.specs.Faults.{IsStatementFault, IsBodyFault}
 
 pub record Refuted (c : BlockContext) (e : FunctionError) : Type 0 where
   pub statement : (u : PlainStatement) → IsStatementFault c u e → StatementOK c u → ⊥
-  pub body : IsBodyFault c e → ((p : Place) (u : PlainStatement) → StandsAt c.f.body p u → StatementOK c u) → ⊥
+  pub body : IsBodyFault c e → ((p : Place) (u : PlainStatement) → OccursAt c.f.body p u → StatementOK c u) → ⊥
 
 abbrev pub FaultsRefute : Type 0
 FaultsRefute = (c : BlockContext) (e : FunctionError) → Refuted c e

@@ -1,7 +1,7 @@
 //! The statements of a function's body.
 
 ghost use Rattle.std.specs.Prelude.{MatchResult};
-ghost use Rattle.ir_blocks.specs.Places.{Place, StandsAt};
+ghost use Rattle.ir_blocks.specs.Places.{Place, OccursAt};
 ghost use Rattle.ir_blocks.specs.Plain.{PlainStatement};
 ghost use Rattle.ir_proc.specs.Bases.{BasesPrecede};
 ghost use Rattle.spec_handles.specs.Conditions.{AritiesMatch};
@@ -10,15 +10,15 @@ ghost use Rattle.function_statements.specs.Faults.{IsBodyRefusal};
 
 use crate::error::StatementError;
 use crate::rules::Rules;
-use typing_errors::FunctionError;
+use function_statement_checks::StatementContext;
 use ir_faults::refusal::Refusal;
 use ir_faults::with_span::WithSpan;
 use ir_references::check_each;
-use function_statement_checks::StatementContext;
 use std::alloc::Global;
+use typing_errors::FunctionError;
 
 /// Whether each statement of the context's function, at any depth, meets the rule of its kind (a part of naga's
-/// `validate_block_impl`). Scope, and how statements leave their blocks, are no part of it. Asks that the base of each access
+/// `validate_block_impl`). Scope, and how statements leave their blocks, are no part of it. Requires that the base of each access
 /// comes before it, that the functions called are there, and that what the context tells of constants is told of all of them.
 ///
 /// # Errors
@@ -34,7 +34,7 @@ pub fn validate_statements<C: StatementContext>(
     requires precede { BasesPrecede (C.seen context.now).f.expressions }
     requires arities { AritiesMatch (C.seen context.now).m (C.seen context.now).f }
     ensures { MatchResult result
-        (λ _. (p : Place) (u : PlainStatement) → StandsAt (C.seen context.now).f.body p u → StatementOK (C.seen context.now) u)
+        (λ _. (p : Place) (u : PlainStatement) → OccursAt (C.seen context.now).f.body p u → StatementOK (C.seen context.now) u)
         (IsBodyRefusal (C.seen context.now)) }
 {
     let rules = Rules { alloc, context };

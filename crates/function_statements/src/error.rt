@@ -1,7 +1,7 @@
 //! Why a walk over a body stops.
 
-use typing_errors::FunctionError;
 use std::alloc::AllocError;
+use typing_errors::FunctionError;
 
 /// There is no memory, or a statement has a fault.
 #[derive(Drop)]

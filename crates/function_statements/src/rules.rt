@@ -2,9 +2,9 @@
 
 use crate::error::StatementError;
 use crate::statement::check_own;
+use function_statement_checks::StatementContext;
 use ir_blocks::Statement;
 use ir_references::StatementRule;
-use function_statement_checks::StatementContext;
 use std::alloc::Global;
 
 /// The rule of each kind of statement, in a context.

@@ -15,17 +15,22 @@ ghost use Rattle.function_statements.specs.Switches.{IsSwitchFault};
 
 use crate::check_switch;
 use crate::error::StatementError;
-use function_atomic_checks::{check_atomic, check_image_atomic, check_image_store, check_uniform_load};
-use typing_errors::FunctionError;
+use function_atomic_checks::{
+    check_atomic, check_image_atomic, check_image_store, check_uniform_load,
+};
+use function_operation_checks::{
+    check_ballot, check_collective, check_gather, check_ray_pipeline, check_ray_query,
+};
+use function_statement_checks::{
+    StatementContext, check_barrier, check_call, check_condition, check_cooperative_store,
+    check_emit, check_return, check_store,
+};
 use ir_arena::handle::Handle;
 use ir_blocks::{Statement, SwitchCase};
 use ir_faults::refusal::Refusal;
 use ir_types::key;
-use function_operation_checks::{
-    check_ballot, check_collective, check_gather, check_ray_pipeline, check_ray_query,
-};
-use function_statement_checks::{StatementContext, check_barrier, check_call, check_condition, check_cooperative_store, check_emit, check_return, check_store};
 use std::alloc::Global;
+use typing_errors::FunctionError;
 
 // A switch.
 fn check_cases<C: StatementContext>(

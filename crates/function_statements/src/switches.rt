@@ -7,16 +7,16 @@ ghost use Rattle.spec_statements.specs.Switches.{SwitchOK};
 ghost use Rattle.function_statements.specs.Switches.{Selects, IsSelectorFault, IsSwitchRefusal};
 
 use function_body_checks::cases_fault;
-use typing_errors::FunctionError;
+use function_statement_checks::StatementContext;
 use ir_arena::handle::Handle;
 use ir_blocks::SwitchCase;
 use ir_faults::refusal::Refusal;
 use ir_faults::with_span::WithSpan;
 use ir_kinds::ScalarKind;
 use ir_types::key;
-use function_statement_checks::StatementContext;
 use module_context::{is_integer, shaped_of};
 use std::alloc::Global;
+use typing_errors::FunctionError;
 
 // The kind of the integers that a selector is made of.
 fn check_selector<C: StatementContext>(

@@ -11,7 +11,7 @@ use Rattle.std.specs.FinSet as set
 use Rattle.ir_arena.specs.Handles.{handles_between}
 use Rattle.ir_items.specs.Plain.{PlainFunction}
 use Rattle.function_body_checks.proofs.Lists.{contains_at}
-use Rattle.function_body_checks.proofs.Tables.{head_held, only, told_known, told_unknown}
+use Rattle.function_body_checks.proofs.Tables.{head_held, only, reported_known, reported_unknown}
 use Rattle.function_body_checks.specs.Carried.{Known, known}
 use Rattle.function_body_checks.specs.Lists.{listed}
 use Rattle.function_operand_index.specs.Index.{IsNeeded, ArePaired}
@@ -59,9 +59,9 @@ module _ (f : PlainFunction) (operands users : List ℕ) (lacking : set.FinSet n
 
   one_known : (now : List ℕ) (e o : ℕ) → r.0 ≤ e → e < r.1 → ((x : ℕ) → Contains sure x → Contains now x) → ((x : ℕ) → r.0 ≤ x → x < e → Contains now x) → Contains (operands_at f e) o
       → (b : Bool) → b ≡ known f now o → Known f now o
-  one_known now e o from below kept before held true is = told_known f now o true is refl
+  one_known now e o from below kept before held true is = reported_known f now o true is refl
   one_known now e o from below kept before held false is =
-      let unknown : ¬ Known f now o = told_unknown f now o false is refl in
+      let unknown : ¬ Known f now o = reported_unknown f now o false is refl in
       let found : (o < e) × ArePaired operands users o e = are.indexed e o held (λ pre. unknown (inl pre)) in
       absurd (unknown (inr (elim (cases_lt o r.0) [
         | inl outside ↦ kept o (paired_there e o from below outside found.1 (set.contains lacking found.1.place) refl)

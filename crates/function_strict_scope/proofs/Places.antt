@@ -209,8 +209,8 @@ module _ (f : PlainFunction) where
     range_end : (first end e : ℕ) → first ≤ e → e < first + (end - first) → e < end
     range_end first end e ge lt = omega (arith, ge, lt)
 
-    early_told : (p : Place) (o : ℕ) (spot : Spot) → spot_at p f.body ≡ spot → IsEarlyOperand f (carried p) (emitted_at spot) o → IsOperandOfEmitted f o
-    early_told p o (statement (emit first end)) is h =
+    early_reported : (p : Place) (o : ℕ) (spot : Spot) → spot_at p f.body ≡ spot → IsEarlyOperand f (carried p) (emitted_at spot) o → IsOperandOfEmitted f o
+    early_reported p o (statement (emit first end)) is h =
         let found = early_at f (end - first) first (carried p) o h in
         record {
           place = p;
@@ -226,9 +226,9 @@ module _ (f : PlainFunction) where
           later = found.later;
           unknown = not_in_scope p o found.unknown;
         }
-    early_told p o nothing is h = absurd h
-    early_told p o (loop_condition break_if) is h = absurd h
-    early_told p o (statement _) is h = absurd h
+    early_reported p o nothing is h = absurd h
+    early_reported p o (loop_condition break_if) is h = absurd h
+    early_reported p o (statement _) is h = absurd h
 
     other_told : (p : Place) (e : ℕ) (spot : Spot) → spot_at p f.body ≡ spot → IsOtherAnswer f spot e → IsOfOtherKind f e
     other_told p e nothing is h = absurd h
@@ -252,13 +252,13 @@ module _ (f : PlainFunction) where
         )
     call_told p g _ h = absurd h
 
-    fault_told : (p : Place) (e : FunctionError) → IsFaultHere f (spot_at p f.body) (carried p) e → IsStrictFault f e
-    fault_told p (error.Expression o source) h =
-        (h.0, ⊎_elim (λ own. inl (record { place = p; other = own.0; used = own.1.0; unknown = not_in_scope p o own.1.1 })) (λ early. inr (early_told p o (spot_at p f.body) refl early)) h.1)
-    fault_told p (error.ExpressionAlreadyInScope x) h = absurd (never_again p x (again_at (spot_at p f.body) (carried p) x h))
-    fault_told p (error.InvalidCall g e) h = call_told p g e h
-    fault_told p (error.StrictResultMismatch e) h = other_told p e (spot_at p f.body) refl h
-    fault_told p _ h = absurd h
+    fault_reported : (p : Place) (e : FunctionError) → IsFaultHere f (spot_at p f.body) (carried p) e → IsStrictFault f e
+    fault_reported p (error.Expression o source) h =
+        (h.0, ⊎_elim (λ own. inl (record { place = p; other = own.0; used = own.1.0; unknown = not_in_scope p o own.1.1 })) (λ early. inr (early_reported p o (spot_at p f.body) refl early)) h.1)
+    fault_reported p (error.ExpressionAlreadyInScope x) h = absurd (never_again p x (again_at (spot_at p f.body) (carried p) x h))
+    fault_reported p (error.InvalidCall g e) h = call_told p g e h
+    fault_reported p (error.StrictResultMismatch e) h = other_told p e (spot_at p f.body) refl h
+    fault_reported p _ h = absurd h
 
-    pub told_in_body : (e : FunctionError) (sure : List ℕ) → sure ≡ [] → FaultIn f e sure f.body → IsStrictFault f e
-    told_in_body e sure none wrong = let found = fault_in e [] f.body (subst (λ xs. FaultIn f e xs f.body) none wrong) in fault_told found.place e found.wrong
+    pub reported_in_body : (e : FunctionError) (sure : List ℕ) → sure ≡ [] → FaultIn f e sure f.body → IsStrictFault f e
+    reported_in_body e sure none wrong = let found = fault_in e [] f.body (subst (λ xs. FaultIn f e xs f.body) none wrong) in fault_reported found.place e found.wrong

@@ -6,7 +6,7 @@ use Rattle.typing_errors.specs.declared.error.FunctionError.{FunctionError}
 use Rattle.typing_errors.specs.declared.error.FunctionError.TheVariants as error
 use Rattle.typing_errors.specs.declared.calls.CallError.{CallError}
 use Rattle.typing_errors.specs.declared.calls.CallError.TheVariants as call_error
-use Rattle.ir_blocks.specs.Places.{Place, StandsAt}
+use Rattle.ir_blocks.specs.Places.{Place, OccursAt}
 use Rattle.ir_blocks.specs.Plain.{emit, operation, call, ray_query, ballot}
 use Rattle.ir_blocks.specs.declared.operations.RayQueryFunction.TheVariants.{Proceed}
 use Rattle.ir_faults.specs.Faults.{error_of}
@@ -30,7 +30,7 @@ pub record IsOperandOfEmitted (f : PlainFunction) (o : ℕ) : Type 0 where
   pub place : Place
   pub first : ℕ
   pub end : ℕ
-  pub stands : StandsAt f.body place (emit first end)
+  pub stands : OccursAt f.body place (emit first end)
   pub expression : ℕ
   pub from : first ≤ expression
   pub below : expression < end
@@ -45,15 +45,15 @@ pub record IsPassedUnsurely (f : PlainFunction) (function place_of_argument : �
   pub place : Place
   pub arguments : List ℕ
   pub answer : Option ℕ
-  pub stands : StandsAt f.body place (call function arguments answer)
+  pub stands : OccursAt f.body place (call function arguments answer)
   pub passed : ℕ
   pub is : slice_get arguments place_of_argument ≡ Some passed
   pub unknown : ¬ InStrictScope f place passed
 
 -- what stands for the answer of a `Proceed` or of a ballot is of another kind
 pub data IsOfOtherKind (f : PlainFunction) (e : ℕ) : Type 0 where
-  of_proceed : (p : Place) (query : ℕ) → StandsAt f.body p (operation (ray_query query (Proceed e))) → ¬ (slice_get f.expressions e ≡ Some (plain RayQueryProceedResult)) → IsOfOtherKind f e
-  of_ballot : (p : Place) (predicate : Option ℕ) → StandsAt f.body p (operation (ballot e predicate)) → ¬ (slice_get f.expressions e ≡ Some (plain SubgroupBallotResult)) → IsOfOtherKind f e
+  of_proceed : (p : Place) (query : ℕ) → OccursAt f.body p (operation (ray_query query (Proceed e))) → ¬ (slice_get f.expressions e ≡ Some (plain RayQueryProceedResult)) → IsOfOtherKind f e
+  of_ballot : (p : Place) (predicate : Option ℕ) → OccursAt f.body p (operation (ballot e predicate)) → ¬ (slice_get f.expressions e ≡ Some (plain SubgroupBallotResult)) → IsOfOtherKind f e
 
 abbrev pub IsStrictCallError : PlainFunction → (function : ℕ) → CallError → Type 0
 IsStrictCallError f function (call_error.Argument place source) = (source ≡ NotInScope) × IsPassedUnsurely f function place

@@ -12,11 +12,11 @@ use crate::error::StrictError;
 use crate::pairs::begin;
 use crate::walk::check_block;
 use function_body_checks::ExpressionList;
-use typing_errors::{CallError, ExpressionError, FunctionError};
 use ir_faults::refusal::Refusal;
 use ir_faults::with_span::WithSpan;
 use ir_items::Function;
 use std::alloc::Global;
+use typing_errors::{CallError, ExpressionError, FunctionError};
 
 // The refusal that tells an error.
 fn refused(alloc: Global, error: StrictError) -> Refusal<FunctionError>

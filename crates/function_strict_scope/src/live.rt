@@ -15,9 +15,9 @@ ghost use Rattle.function_strict_scope.specs.Live.{Follows};
 ghost use Rattle.function_strict_scope.specs.Walked.{EachKnown};
 
 use function_body_checks::ExpressionList;
+use function_operand_index::index::OperandIndex;
 use ir_arena::range::Range;
 use ir_types::key;
-use function_operand_index::index::OperandIndex;
 use std::alloc::Global;
 
 /// Which operands of a function's expressions are in scope.

@@ -12,10 +12,10 @@ ghost use Rattle.function_strict_scope.specs.Live.{IsPairedAt, IsWhole, Follows}
 use crate::expressions::list_operands;
 use crate::live::LiveOperands;
 use crate::long::emits_often;
-use ir_arena::handle::Handle;
-use ir_items::{Expression, Function, key};
 use function_operand_index::index::OperandIndex;
 use function_operand_index::pairs::{Pairs, in_strips};
+use ir_arena::handle::Handle;
+use ir_items::{Expression, Function, key};
 use std::alloc::{AllocError, Global};
 
 // Whether an expression is in scope everywhere.

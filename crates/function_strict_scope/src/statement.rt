@@ -107,7 +107,7 @@ pub fn check_needed(
 }
 
 /// Whether a loop's condition is in scope, if it has one.
-#[tactic(auto, using(function_body_checks::proofs::Tables::told_known, function_body_checks::proofs::Tables::told_unknown))]
+#[tactic(auto, using(function_body_checks::proofs::Tables::reported_known, function_body_checks::proofs::Tables::reported_unknown))]
 pub fn check_condition(
     function: &Function,
     sure: &ExpressionList,

@@ -17,7 +17,7 @@ use function_body_checks::ExpressionList;
 use ir_items::{Block, Function, Statement, SwitchCase};
 
 // Where more than what is left has come into scope, lets it go.
-fn cut_behind(live: &mut LiveOperands, sure: &mut ExpressionList, left: Option<usize>)
+fn cut_after(live: &mut LiveOperands, sure: &mut ExpressionList, left: Option<usize>)
     ensures cut { sure.new ≡ cut_to left sure.old }
     ensures live { (f : PlainFunction) → Follows f live.old sure.old → Follows f live.new sure.new }
 {
@@ -27,7 +27,7 @@ fn cut_behind(live: &mut LiveOperands, sure: &mut ExpressionList, left: Option<u
 }
 
 // How many are left behind a statement, with so many in scope there.
-fn left_behind(left: Option<usize>, continues: bool, count: usize) -> Option<usize>
+fn left_after(left: Option<usize>, continues: bool, count: usize) -> Option<usize>
     ensures { result ≡ first_left left (if continues then Some count else None) }
 {
     match left {
@@ -62,7 +62,7 @@ pub fn check_block(
     let mut left = None;
     for statement in block.as_slice() {
         let continues = check_statement(function, sure, live, statement)?;
-        left = left_behind(left, continues, sure.len());
+        left = left_after(left, continues, sure.len());
     }
     Ok(left)
 }
@@ -144,7 +144,7 @@ fn check_statement(
         } => {
             let count = sure.len();
             let left = check_block(function, sure, live, body)?;
-            cut_behind(live, sure, left);
+            cut_after(live, sure, left);
             check_block(function, sure, live, continuing)?;
             check_condition(function, sure, *break_if)?;
             cut(live, sure, count);

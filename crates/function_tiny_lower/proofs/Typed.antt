@@ -10,7 +10,7 @@ use Rattle.ir_items.specs.Plain.{PlainFunction, PlainModule}
 use Rattle.ir_references.proofs.Entries.{slice_get-entries}
 use Rattle.ir_types.specs.Plain.{PlainType}
 use Rattle.typing_rules.specs.Laws.{IsAmong}
-use Rattle.function_tiny_lower.specs.Typing.{earlier, expression_type, types_behind, types_of, HasForm, IsUntyped}
+use Rattle.function_tiny_lower.specs.Typing.{earlier, expression_type, types_after, types_of, HasForm, IsUntyped}
 use Rattle.function_tiny_lower.specs.Values.{form_of, resolution_of}
 use Rattle.function_tiny_lower.specs.declared.value_type.ValueType.{ValueType}
 use Rattle.typing_forms.specs.declared.form.Form.{Form}
@@ -39,8 +39,8 @@ module _ {A : Type 0} where
   next_dropped (y ∷ ys) (suc e) x at = next_dropped ys e x at
 
 -- what is read at a handle stands at its place
-pub stands_at : (entries : List (Expression × Span)) (handle place : ℕ) (expression : Expression) → Some expression ≡ value_at entries handle → handle ≡ place → slice_get (map expression_view (values_of entries)) place ≡ Some (expression_view expression)
-stands_at entries handle place expression is at =
+pub occurs_at : (entries : List (Expression × Span)) (handle place : ℕ) (expression : Expression) → Some expression ≡ value_at entries handle → handle ≡ place → slice_get (map expression_view (values_of entries)) place ≡ Some (expression_view expression)
+occurs_at entries handle place expression is at =
     subst (λ k. slice_get (map expression_view (values_of entries)) k ≡ Some (expression_view expression)) at
     (slice_get-entries expression_view entries handle ∙ sym (ap (option_map expression_view) is))
 
@@ -50,11 +50,11 @@ module _ (m : PlainModule) (f : PlainFunction) where
   abbrev Types : Type 0
   Types = List (Option ValueType)
 
-  kept_behind : (past : Types) (xs : List PlainExpression) (e : ℕ) (t : Option ValueType) → slice_get past e ≡ Some t → slice_get (types_behind m f past xs) e ≡ Some t
-  kept_behind past [] e t at = at
-  kept_behind past (x ∷ rest) e t at = kept_behind (past ++ expression_type m f past x ∷ []) rest e t (before_last past (expression_type m f past x) e t at)
+  kept_after : (past : Types) (xs : List PlainExpression) (e : ℕ) (t : Option ValueType) → slice_get past e ≡ Some t → slice_get (types_after m f past xs) e ≡ Some t
+  kept_after past [] e t at = at
+  kept_after past (x ∷ rest) e t at = kept_after (past ++ expression_type m f past x ∷ []) rest e t (before_last past (expression_type m f past x) e t at)
 
-  many_behind : (past : Types) (xs : List PlainExpression) → length (types_behind m f past xs) ≡ length past + length xs
+  many_behind : (past : Types) (xs : List PlainExpression) → length (types_after m f past xs) ≡ length past + length xs
   many_behind past [] = omega arith
   many_behind past (x ∷ rest) =
       let more = length-append past (expression_type m f past x ∷ []) in
@@ -63,12 +63,12 @@ module _ (m : PlainModule) (f : PlainFunction) where
 
   -- an expression among these has the type that those before it give
   pub typed_somewhere : (past : Types) (xs : List PlainExpression) (x : PlainExpression) → IsAmong x xs
-      → (e : ℕ) × (before : Types) × (slice_get (types_behind m f past xs) e ≡ Some (expression_type m f before x))
+      → (e : ℕ) × (before : Types) × (slice_get (types_after m f past xs) e ≡ Some (expression_type m f before x))
   typed_somewhere past [] x among = elim among [ ]
   typed_somewhere past (y ∷ rest) x (inl same) = (
     length past,
     past,
-    kept_behind (past ++ expression_type m f past y ∷ []) rest (length past) (expression_type m f past x)
+    kept_after (past ++ expression_type m f past y ∷ []) rest (length past) (expression_type m f past x)
         (subst (λ z. slice_get (past ++ expression_type m f past y ∷ []) (length past) ≡ Some (expression_type m f past z)) same (at_last past (expression_type m f past y))),
   )
   typed_somewhere past (y ∷ rest) x (inr among) = typed_somewhere (past ++ expression_type m f past y ∷ []) rest x among
@@ -76,31 +76,31 @@ module _ (m : PlainModule) (f : PlainFunction) where
   -- these are the types of the expressions before a place
   pub record AreFound (past : List ValueType) (place : ℕ) : Type 0 where
     pub many : length past ≡ place
-    pub rest : types_behind m f (map Some past) (drop place f.expressions) ≡ types_of m f
+    pub rest : types_after m f (map Some past) (drop place f.expressions) ≡ types_of m f
 
   module _ (past : List ValueType) (place : ℕ) (found : AreFound past place) where
     behind : (x : PlainExpression) → slice_get f.expressions place ≡ Some x
-        → types_behind m f (map Some past ++ expression_type m f (map Some past) x ∷ []) (drop (suc place) f.expressions) ≡ types_of m f
-    behind x at = sym (ap (types_behind m f (map Some past)) (next_dropped f.expressions place x at)) ∙ found.rest
+        → types_after m f (map Some past ++ expression_type m f (map Some past) x ∷ []) (drop (suc place) f.expressions) ≡ types_of m f
+    behind x at = sym (ap (types_after m f (map Some past)) (next_dropped f.expressions place x at)) ∙ found.rest
 
     pub found_more : (x : PlainExpression) (t : ValueType) → slice_get f.expressions place ≡ Some x → expression_type m f (map Some past) x ≡ Some t → AreFound (past ++ t ∷ []) (place + 1)
     found_more x t at is = record {
       many = (let more = length-append past (t ∷ []) in omega (arith, more, found.many));
       rest =
-          subst (λ n. types_behind m f (map Some (past ++ t ∷ [])) (drop n f.expressions) ≡ types_of m f) (let e : suc place ≡ place + 1 = omega arith in e)
-          (subst (λ ts. types_behind m f ts (drop (suc place) f.expressions) ≡ types_of m f) (sym (map-append Some past (t ∷ [])))
-          (subst (λ o. types_behind m f (map Some past ++ o ∷ []) (drop (suc place) f.expressions) ≡ types_of m f) is (behind x at)));
+          subst (λ n. types_after m f (map Some (past ++ t ∷ [])) (drop n f.expressions) ≡ types_of m f) (let e : suc place ≡ place + 1 = omega arith in e)
+          (subst (λ ts. types_after m f ts (drop (suc place) f.expressions) ≡ types_of m f) (sym (map-append Some past (t ∷ [])))
+          (subst (λ o. types_after m f (map Some past ++ o ∷ []) (drop (suc place) f.expressions) ≡ types_of m f) is (behind x at)));
     }
 
     pub found_untyped : (x : PlainExpression) → slice_get f.expressions place ≡ Some x → expression_type m f (map Some past) x ≡ None → IsUntyped m f place
     found_untyped x at is =
         let last : slice_get (map Some past ++ None ∷ []) (length (map Some past)) ≡ Some None = at_last (map Some past) None in
         let long : length (map Some past) ≡ place = length-map past Some ∙ found.many in
-        let kept = kept_behind (map Some past ++ None ∷ []) (drop (suc place) f.expressions) place None (subst (λ n. slice_get (map Some past ++ None ∷ []) n ≡ Some None) long last) in
-        subst (λ ts. slice_get ts place ≡ Some None) (subst (λ o. types_behind m f (map Some past ++ o ∷ []) (drop (suc place) f.expressions) ≡ types_of m f) is (behind x at)) kept
+        let kept = kept_after (map Some past ++ None ∷ []) (drop (suc place) f.expressions) place None (subst (λ n. slice_get (map Some past ++ None ∷ []) n ≡ Some None) long last) in
+        subst (λ ts. slice_get ts place ≡ Some None) (subst (λ o. types_after m f (map Some past ++ o ∷ []) (drop (suc place) f.expressions) ≡ types_of m f) is (behind x at)) kept
 
     pub found_all : length f.expressions ≤ place → map Some past ≡ types_of m f
-    found_all past_all = sym (ap (types_behind m f (map Some past)) (drop_all place f.expressions past_all)) ∙ found.rest
+    found_all past_all = sym (ap (types_after m f (map Some past)) (drop_all place f.expressions past_all)) ∙ found.rest
 
 -- ---- all of them
 

@@ -6,7 +6,7 @@ use Rattle.typing_errors.specs.declared.error.FunctionError.{FunctionError}
 use Rattle.typing_errors.specs.declared.error.FunctionError.TheVariants.{Expression}
 use Rattle.function_interface.specs.Analysis.{Faults}
 use Rattle.function_interface.specs.Question.{Question}
-use Rattle.function_interface.specs.Told.{AreTold}
+use Rattle.function_interface.specs.Reported.{AreReported}
 use Rattle.ir_types.specs.ExpressionPlain.{PlainExpression}
 use Rattle.ir_flags.specs.declared.stages.ShaderStages.{ShaderStages}
 use Rattle.ir_items.specs.Plain.{PlainFunction, PlainModule}
@@ -24,7 +24,7 @@ use Rattle.typing_operands.specs.Answers.{form_given}
 
 -- The module has no global variables, and of its types this is told.
 pub record IsMadeOf (m : PlainModule) (infos : List TypeInfo) : Type 0 where
-  pub told : AreTold m.types infos
+  pub told : AreReported m.types infos
   pub no_globals : m.globals ≡ []
 
 -- The form is that of the type which is given for the global expression.

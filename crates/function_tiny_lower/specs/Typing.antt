@@ -83,13 +83,13 @@ abbrev pub expression_type : PlainModule → PlainFunction → List (Option Valu
 expression_type m f past expression = option_and_then (type_in m f past) (known_of expression)
 
 -- these types, and then those of these expressions
-abbrev pub types_behind : PlainModule → PlainFunction → List (Option ValueType) → List PlainExpression → List (Option ValueType)
-types_behind m f past [] = past
-types_behind m f past (expression ∷ rest) = types_behind m f (past ++ expression_type m f past expression ∷ []) rest
+abbrev pub types_after : PlainModule → PlainFunction → List (Option ValueType) → List PlainExpression → List (Option ValueType)
+types_after m f past [] = past
+types_after m f past (expression ∷ rest) = types_after m f (past ++ expression_type m f past expression ∷ []) rest
 
 -- the type of each expression of a function, if it has one
 abbrev pub types_of : PlainModule → PlainFunction → List (Option ValueType)
-types_of m f = types_behind m f [] f.expressions
+types_of m f = types_after m f [] f.expressions
 
 -- the expression has a type of this form
 abbrev pub HasForm : PlainModule → PlainFunction → ℕ → Form → Type 0

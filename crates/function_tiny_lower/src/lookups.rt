@@ -8,8 +8,8 @@ ghost use Rattle.typing_forms.specs.Resolutions.{types_view};
 use crate::value_type::{ValueType, type_of_inner};
 use ir_arena::handle::Handle;
 use ir_items::{Function, FunctionArgument, FunctionResult, Module};
-use ir_types::{IrType, key};
 use ir_sets::unique_arena::UniqueArena;
+use ir_types::{IrType, key};
 use typing_forms::inner_of;
 
 /// The type of values of the type at a handle.

@@ -7,18 +7,18 @@ use crate::operations::fits;
 use crate::stages::stages_by;
 use crate::types::{resolutions_of, types_of};
 use crate::uses::mark_all;
-use spec_analysis::{GlobalUse, SamplingPair};
 use bitflags::Flags;
-use typing_errors::{ExpressionError, FunctionError};
 use function_interface::Lower;
+use function_statement_checks::BlockContext;
 use ir_arena::handle::Handle;
 use ir_faults::refusal::Refusal;
 use ir_flags::{ShaderStages, ValidationFlags};
 use ir_items::{Function, Module};
 use ir_types::key;
-use function_statement_checks::BlockContext;
-use std::alloc::Global;
 use module_type_infos::TypeInfo;
+use spec_analysis::{GlobalUse, SamplingPair};
+use std::alloc::Global;
+use typing_errors::{ExpressionError, FunctionError};
 use typing_forms::TypeResolution;
 
 /// What is kept of a function: the types of its expressions, whether it may end the fragment, and what is noted of it. Of uses

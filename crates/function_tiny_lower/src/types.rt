@@ -9,13 +9,13 @@ ghost use Rattle.function_tiny_lower.specs.Values.{resolution_of};
 
 use crate::expressions::expression_type;
 use crate::value_type::{ValueType, resolution_of};
-use typing_errors::{ExpressionError, FunctionError};
 use ir_arena::handle::Handle;
 use ir_faults::refusal::Refusal;
 use ir_faults::with_span::WithSpan;
 use ir_items::{Function, Module};
 use ir_types::key;
 use std::alloc::{AllocError, Global};
+use typing_errors::{ExpressionError, FunctionError};
 use typing_forms::TypeResolution;
 
 // The refusal of an expression without a type.

@@ -3,9 +3,9 @@
 ghost use Rattle.std.specs.Prelude.{◌≡◌};
 ghost use Rattle.typing_infos.specs.Infos.{with_uses};
 
-use spec_analysis::GlobalUse;
 use ir_arena::handle::Handle;
 use ir_types::key;
+use spec_analysis::GlobalUse;
 use typing_infos::mark_at;
 
 /// Further uses of global variables. Where there is no such variable, nothing changes.

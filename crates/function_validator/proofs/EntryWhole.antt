@@ -6,8 +6,8 @@ use Rattle.function_entries.specs.ConnectionFaults.{IsConnectionFault}
 use Rattle.function_entries.specs.Faults.{IsPayloadFault, IsRefusedFor, IsStageFault}
 use Rattle.function_entries.specs.declared.error.EntryPointError.{EntryPointError}
 use Rattle.function_entries.specs.declared.error.EntryPointError.TheVariants.{ForbiddenStageOperations}
-use Rattle.function_validator.specs.EntryFaults.{of_stage, of_function, of_payload, of_runs, of_connections, IsRefusedAs, IsToldAs, IsUnconnected}
-use Rattle.function_validator.specs.Validated.{AddsOwnUses, IsEntrySummary, TellsSame}
+use Rattle.function_validator.specs.EntryFaults.{of_stage, of_function, of_payload, of_runs, of_connections, IsRefusedAs, IsReportedAs, IsUnconnected}
+use Rattle.function_validator.specs.Validated.{AddsOwnUses, IsEntrySummary, ReportsSame}
 use Rattle.typing_errors.specs.declared.error.FunctionError.{FunctionError}
 use Rattle.function_validator.specs.Faults.{IsFunctionFault}
 use Rattle.function_interface.specs.Analysis.{Faults, IsRefusedFor as IsFunctionRefusedFor}
@@ -72,7 +72,7 @@ module _ (m : PlainModule) (e : PlainEntry) (before after : Summary) where
   }
 
   -- what is told in the same way
-  pub adds_still : (last : Summary) → AddsOwnUses e before after → TellsSame after last → AddsOwnUses e before last
+  pub adds_still : (last : Summary) → AddsOwnUses e before after → ReportsSame after last → AddsOwnUses e before last
   adds_still last adds same = record {
     many = same.many ∙ adds.many;
     uses = λ g k. (λ h. (adds.uses g k).0 ((same.uses g k).0 h), λ h. (same.uses g k).1 ((adds.uses g k).1 h));
@@ -111,7 +111,7 @@ module _ (R : Reading) (F : Faults) (callees : List ShaderStages) (s : FunctionS
   pub by_payload : (x : EntryPointError) → IsPayloadFault m e x → Refused x
   by_payload x fault = record { refused = λ ok. payload_fault_refutes m e x fault ok.payload; fault = of_payload fault }
 
-  pub by_function : (r : Refusal FunctionError) (t : Refusal EntryPointError) → IsToldAs r t → IsFunctionRefusedFor (λ y. FunctionOK R s m e.function → ⊥) r → IsFunctionRefusedFor (IsFunctionFault R F s m e.function) r
+  pub by_function : (r : Refusal FunctionError) (t : Refusal EntryPointError) → IsReportedAs r t → IsFunctionRefusedFor (λ y. FunctionOK R s m e.function → ⊥) r → IsFunctionRefusedFor (IsFunctionFault R F s m e.function) r
       → IsRefusedFor Refused t
   by_function (refusal.Memory a) (refusal.Memory b) told refused fault = tt
   by_function (refusal.Memory a) (refusal.Fault f) told refused fault = absurd told

@@ -8,7 +8,7 @@ use Rattle.function_interface.specs.Answered.{AllAnswered, IsUnansweredFault}
 use Rattle.ir_blocks.specs.Places.{Place}
 use Rattle.ir_types.specs.ExpressionPlain.{PlainExpression}
 use Rattle.spec_statements.specs.BlockContext.{BlockContext}
-use Rattle.spec_statements.specs.Results.{AnswersBy, StandsForAnswer, of_call, of_atomic}
+use Rattle.spec_statements.specs.Results.{AnswersBy, DenotesResult, of_call, of_atomic}
 use Rattle.function_validator.specs.Faults.{IsUnanswered}
 use Rattle.function_validator.specs.Judged.{AllAnswer}
 
@@ -54,15 +54,15 @@ one_marked answered marks n b many before is e lt = elim (below_or_same e n lt) 
 
 -- ---- by marks and by places
 
-stands_within : (xs : List PlainExpression) (e : ℕ) → StandsForAnswer xs e → e < length xs
-stands_within xs e (of_call at) = slice_get_within xs e _ at
-stands_within xs e (of_atomic at) = slice_get_within xs e _ at
+occurs_within : (xs : List PlainExpression) (e : ℕ) → DenotesResult xs e → e < length xs
+occurs_within xs e (of_call at) = slice_get_within xs e _ at
+occurs_within xs e (of_atomic at) = slice_get_within xs e _ at
 
 module _ (c : BlockContext) (answered : List ℕ) (marks : List Bool) (count : ℕ) (many : count ≡ length c.f.expressions)
     (each : (e : ℕ) → e < count → (slice_get marks e ≡ Some true) ↔ Contains answered e)
     (by : (e : ℕ) → Contains answered e ↔ ((p : Place) × AnswersBy c.f.body p e)) where
-  inside_count : (e : ℕ) → StandsForAnswer c.f.expressions e → e < count
-  inside_count e stands = subst (λ n. e < n) (let m = many in sym_of m) (stands_within c.f.expressions e stands)
+  inside_count : (e : ℕ) → DenotesResult c.f.expressions e → e < count
+  inside_count e stands = subst (λ n. e < n) (let m = many in sym_of m) (occurs_within c.f.expressions e stands)
     where
       sym_of : count ≡ length c.f.expressions → length c.f.expressions ≡ count
       sym_of m = cc

@@ -20,7 +20,7 @@ use Rattle.spec_statements.specs.Functions.{Reading, FunctionSettings}
 use Rattle.spec_statements.specs.Interfaces.{InterfaceOK}
 use Rattle.function_statements.specs.Faults.{IsBodyRefusal}
 use Rattle.function_validator.proofs.Below.{left_has, right_has, both_have}
-use Rattle.function_validator.specs.Faults.{AllAccepted, IsBodyInOrder, IsFaultOfBody, IsUnanswered, IsFaultBehind, in_body, unanswered, IsFunctionFault, in_arity, in_analysis}
+use Rattle.function_validator.specs.Faults.{AllAccepted, IsBodyInOrder, IsFaultOfBody, IsUnanswered, IsFaultAfter, in_body, unanswered, IsFunctionFault, in_arity, in_analysis}
 use Rattle.function_validator.specs.Judged.{AcceptedBelow, AreExpressionsMet, IsBodyMet, AllAnswer, AreBlocksMet, IsBlocksFault, ArePartsMet}
 
 -- ---- refusals
@@ -116,6 +116,6 @@ parts_met R s c callees body own held stages is interface expressions blocks = r
   held_after = blocks.held_after;
 }
 
-pub behind_blocks : (R : Reading) (F : Faults) (s : FunctionSettings) (c : BlockContext) → InterfaceOK c s.entry → AllAccepted R s c → (e : FunctionError) → IsBlocksFault s c e → IsFaultBehind R F s c e
+pub behind_blocks : (R : Reading) (F : Faults) (s : FunctionSettings) (c : BlockContext) → InterfaceOK c s.entry → AllAccepted R s c → (e : FunctionError) → IsBlocksFault s c e → IsFaultAfter R F s c e
 behind_blocks R F s c interface accepted e (asked, inl wrong) = in_body interface accepted asked wrong
 behind_blocks R F s c interface accepted e (asked, inr (ordered, expressions, wrong)) = unanswered interface accepted asked ordered expressions wrong

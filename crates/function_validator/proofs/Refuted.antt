@@ -25,7 +25,7 @@ use Rattle.typing_forms.specs.declared.form.Form.{Form}
 use Rattle.module_handles.proofs.OrderLaws.{wrong_refutes}
 use Rattle.module_handles.specs.Tests.{fault_at}
 use Rattle.function_interface.specs.Arities.{IsArityError, IsArityFault}
-use Rattle.function_validator.specs.Faults.{IsExpressionFault, IsFaultOfBody, IsUnanswered, IsFaultBehind, in_interface, in_expressions, in_body, unanswered, IsFunctionFault, in_arity, in_analysis, behind}
+use Rattle.function_validator.specs.Faults.{IsExpressionFault, IsFaultOfBody, IsUnanswered, IsFaultAfter, in_interface, in_expressions, in_body, unanswered, IsFunctionFault, in_arity, in_analysis, behind}
 
 -- ---- the forms of a function's expressions are one list
 
@@ -77,7 +77,7 @@ module _ (R : Reading) (F : Faults) (s : FunctionSettings) where
   unanswered_refuted f _ w m forms ok asked = absurd w
 
   behind_refuted : (m : PlainModule) (f : PlainFunction) (forms : List Form) (e : FunctionError) → ExpressionsRefute R F
-      → IsFaultBehind R F s (block_context s m f forms) e → (ok : FunctionOK R s m f) → ok.forms ≡ forms → ⊥
+      → IsFaultAfter R F s (block_context s m f forms) e → (ok : FunctionOK R s m f) → ok.forms ≡ forms → ⊥
   behind_refuted m f forms e refutes (in_interface w) ok same = (by_interface (block_context s m f forms) s.entry e).interface w (subst (λ (x : List Form). InterfaceOK (block_context s m f x) s.entry) same ok.interface)
   behind_refuted m f forms e refutes (in_expressions interface asked w) ok same = expressions_refuted (block_context s m f forms) e refutes w (λ k lt. subst (λ (x : List Form). R.IsAccepted s.capabilities x k) same (ok.expressions asked k lt))
   behind_refuted m f forms e refutes (in_body interface accepted asked w) ok same = body_refuted s (block_context s m f forms) e w (subst (λ (x : List Form). BodyOK s (block_context s m f x)) same (ok.body asked))

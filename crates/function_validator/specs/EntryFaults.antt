@@ -40,8 +40,8 @@ pub record IsUnconnected (flags : ValidationFlags) (capabilities : Capabilities)
   pub fault : IsConnectionFault flags capabilities m e Uses x
 
 -- what a function is refused for, as the error of its entry point
-abbrev pub IsToldAs : Refusal FunctionError → Refusal EntryPointError → Type 0
-IsToldAs (refusal.Memory e) (refusal.Memory d) = Unit {0}
-IsToldAs (refusal.Memory e) (refusal.Fault d) = ⊥
-IsToldAs (refusal.Fault e) (refusal.Memory d) = ⊥
-IsToldAs (refusal.Fault e) (refusal.Fault d) = error_of d ≡ Function (error_of e)
+abbrev pub IsReportedAs : Refusal FunctionError → Refusal EntryPointError → Type 0
+IsReportedAs (refusal.Memory e) (refusal.Memory d) = Unit {0}
+IsReportedAs (refusal.Memory e) (refusal.Fault d) = ⊥
+IsReportedAs (refusal.Fault e) (refusal.Memory d) = ⊥
+IsReportedAs (refusal.Fault e) (refusal.Fault d) = error_of d ≡ Function (error_of e)

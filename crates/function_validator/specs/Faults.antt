@@ -8,7 +8,7 @@ use Rattle.function_interface.specs.Analysis.{Faults}
 use Rattle.function_interface.specs.Arities.{IsArityFault}
 use Rattle.function_validator.specs.Interfaces.{IsInterfaceFault}
 use Rattle.ir_blocks.specs.Control.{ControlOK}
-use Rattle.ir_blocks.specs.Places.{Place, StandsAt}
+use Rattle.ir_blocks.specs.Places.{Place, OccursAt}
 use Rattle.ir_blocks.specs.Plain.{PlainStatement}
 use Rattle.ir_flags.specs.Sets.{Has}
 use Rattle.ir_flags.specs.declared.settings.TheConstants.ValidationFlags.{EXPRESSIONS, BLOCKS, STRICT_SCOPE}
@@ -21,7 +21,7 @@ use Rattle.spec_statements.specs.BlockContext.{BlockContext}
 use Rattle.spec_statements.specs.Functions.{Reading, FunctionSettings, AreFormsBy, block_context}
 use Rattle.spec_statements.specs.Interfaces.{InterfaceOK}
 use Rattle.spec_statements.specs.Payloads.{PayloadsOK}
-use Rattle.spec_statements.specs.Results.{AnswersBy, StandsForAnswer}
+use Rattle.spec_statements.specs.Results.{AnswersBy, DenotesResult}
 use Rattle.spec_statements.specs.Scope.{ScopeOK}
 use Rattle.spec_statements.specs.Statements.{StatementOK}
 use Rattle.spec_statements.specs.Strict.{StrictOK}
@@ -56,13 +56,13 @@ pub record IsBodyInOrder (s : FunctionSettings) (c : BlockContext) : Type 0 wher
   pub control : ControlOK c.f.body
   pub scope : ScopeOK c.f
   pub once : EachOnce c.f.body
-  pub statements : (p : Place) (u : PlainStatement) → StandsAt c.f.body p u → StatementOK c u
+  pub statements : (p : Place) (u : PlainStatement) → OccursAt c.f.body p u → StatementOK c u
   pub payloads : PayloadsOK c.m c.f s.held
   pub strict : Has s.flags.0 STRICT_SCOPE.0 → StrictOK c.f
 
 -- what stands for an answer is answered by no statement
 pub record IsNotAnswered (f : PlainFunction) (e : ℕ) : Type 0 where
-  pub stands : StandsForAnswer f.expressions e
+  pub stands : DenotesResult f.expressions e
   pub none : (p : Place) → AnswersBy f.body p e → ⊥
 
 abbrev pub IsUnanswered : PlainFunction → FunctionError → Type 0
@@ -72,15 +72,15 @@ IsUnanswered f _ = ⊥
 -- ---- all parts
 
 -- behind the arity of calls and the analysis
-pub data IsFaultBehind (reading : Reading) (faults : Faults) (s : FunctionSettings) (c : BlockContext) (e : FunctionError) : Type 0 where
-  in_interface : IsInterfaceFault c s.entry e → IsFaultBehind reading faults s c e
-  in_expressions : InterfaceOK c s.entry → Has s.flags.0 EXPRESSIONS.0 → IsExpressionFault reading faults c e → IsFaultBehind reading faults s c e
-  in_body : InterfaceOK c s.entry → AllAccepted reading s c → Has s.flags.0 BLOCKS.0 → IsFaultOfBody s c e → IsFaultBehind reading faults s c e
-  unanswered : InterfaceOK c s.entry → AllAccepted reading s c → Has s.flags.0 BLOCKS.0 → IsBodyInOrder s c → Has s.flags.0 EXPRESSIONS.0 → IsUnanswered c.f e → IsFaultBehind reading faults s c e
+pub data IsFaultAfter (reading : Reading) (faults : Faults) (s : FunctionSettings) (c : BlockContext) (e : FunctionError) : Type 0 where
+  in_interface : IsInterfaceFault c s.entry e → IsFaultAfter reading faults s c e
+  in_expressions : InterfaceOK c s.entry → Has s.flags.0 EXPRESSIONS.0 → IsExpressionFault reading faults c e → IsFaultAfter reading faults s c e
+  in_body : InterfaceOK c s.entry → AllAccepted reading s c → Has s.flags.0 BLOCKS.0 → IsFaultOfBody s c e → IsFaultAfter reading faults s c e
+  unanswered : InterfaceOK c s.entry → AllAccepted reading s c → Has s.flags.0 BLOCKS.0 → IsBodyInOrder s c → Has s.flags.0 EXPRESSIONS.0 → IsUnanswered c.f e → IsFaultAfter reading faults s c e
 
 -- The arity of calls, the analysis, the variables with the arguments and the result, the expressions, the body, and what stands
 -- for answers: the fault is one of the first of these with which something is wrong.
 pub data IsFunctionFault (reading : Reading) (faults : Faults) (s : FunctionSettings) (m : PlainModule) (f : PlainFunction) (e : FunctionError) : Type 0 where
   in_arity : IsArityFault m f e → IsFunctionFault reading faults s m f e
   in_analysis : AritiesMatch m f → faults.IsAnalysisFault s.flags e → IsFunctionFault reading faults s m f e
-  behind : AritiesMatch m f → reading.IsAnalysed s.flags → (forms : List Form) → AreFormsBy reading f forms → IsFaultBehind reading faults s (block_context s m f forms) e → IsFunctionFault reading faults s m f e
+  behind : AritiesMatch m f → reading.IsAnalysed s.flags → (forms : List Form) → AreFormsBy reading f forms → IsFaultAfter reading faults s (block_context s m f forms) e → IsFunctionFault reading faults s m f e

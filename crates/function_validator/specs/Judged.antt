@@ -3,7 +3,7 @@ use Rattle.std.specs.Prelude.{◌↔◌, ◌⊎◌, ◌<◌, ℕ, Contains, List
 use Rattle.function_validator.specs.Faults.{AllAccepted, IsBodyInOrder, IsFaultOfBody, IsUnanswered}
 use Rattle.typing_errors.specs.declared.error.FunctionError.{FunctionError}
 use Rattle.ir_blocks.specs.Control.{ControlOK}
-use Rattle.ir_blocks.specs.Places.{Place, StandsAt}
+use Rattle.ir_blocks.specs.Places.{Place, OccursAt}
 use Rattle.ir_blocks.specs.Plain.{PlainStatement}
 use Rattle.ir_flags.specs.Sets.{Has}
 use Rattle.ir_flags.specs.declared.settings.TheConstants.ValidationFlags.{EXPRESSIONS, BLOCKS, STRICT_SCOPE}
@@ -14,8 +14,8 @@ use Rattle.spec_statements.specs.Answered.{EachOnce}
 use Rattle.spec_statements.specs.BlockContext.{BlockContext}
 use Rattle.spec_statements.specs.Functions.{FunctionSettings, Reading, BodyOK, AllowsStage}
 use Rattle.spec_statements.specs.Interfaces.{InterfaceOK}
-use Rattle.spec_statements.specs.Payloads.{IsHeldAfter}
-use Rattle.spec_statements.specs.Results.{AnswersBy, StandsForAnswer}
+use Rattle.spec_statements.specs.Payloads.{IsPayloadAfter}
+use Rattle.spec_statements.specs.Results.{AnswersBy, DenotesResult}
 use Rattle.spec_statements.specs.Scope.{ScopeOK}
 use Rattle.spec_statements.specs.Stages.{statement_stages}
 use Rattle.spec_statements.specs.Statements.{StatementOK}
@@ -43,20 +43,20 @@ pub record IsBodyMet (s : FunctionSettings) (c : BlockContext) (answered : List 
   pub once : EachOnce c.f.body
   pub asked : (p : Place) (e : ℕ) → AnswersBy c.f.body p e → Has s.flags.0 EXPRESSIONS.0
   pub by : (e : ℕ) → Contains answered e ↔ ((p : Place) × AnswersBy c.f.body p e)
-  pub statements : (p : Place) (u : PlainStatement) → StandsAt c.f.body p u → StatementOK c u
+  pub statements : (p : Place) (u : PlainStatement) → OccursAt c.f.body p u → StatementOK c u
   pub payloads : AreOfOneType c.m c.f s.held held
   pub strict : Has s.flags.0 STRICT_SCOPE.0 → StrictOK c.f
 
 -- each that stands for an answer is answered by a statement
 abbrev pub AllAnswer : BlockContext → Type 0
-AllAnswer c = (e : ℕ) → StandsForAnswer c.f.expressions e → (p : Place) × AnswersBy c.f.body p e
+AllAnswer c = (e : ℕ) → DenotesResult c.f.expressions e → (p : Place) × AnswersBy c.f.body p e
 
 -- Where bodies are checked, all that is asked of this one is met, and these stages are those that may run all its statements;
 -- else any. This type of payloads is held after it.
 pub record AreBlocksMet (s : FunctionSettings) (c : BlockContext) (callees : List ShaderStages) (stages : ShaderStages) (held : Option ℕ) : Type 0 where
   pub body : Has s.flags.0 BLOCKS.0 → BodyOK s c
-  pub run : (stage : ℕ) → Has stages.0 stage ↔ (Has all_stages.0 stage × (Has s.flags.0 BLOCKS.0 → (p : Place) (u : PlainStatement) → StandsAt c.f.body p u → Has (statement_stages s.subgroup_stages callees u).0 stage))
-  pub held_after : IsHeldAfter s.flags c.m c.f s.held held
+  pub run : (stage : ℕ) → Has stages.0 stage ↔ (Has all_stages.0 stage × (Has s.flags.0 BLOCKS.0 → (p : Place) (u : PlainStatement) → OccursAt c.f.body p u → Has (statement_stages s.subgroup_stages callees u).0 stage))
+  pub held_after : IsPayloadAfter s.flags c.m c.f s.held held
 
 -- something is wrong with the body, or nothing is, and what stands for an answer is not answered
 abbrev pub IsBlocksFault : FunctionSettings → BlockContext → FunctionError → Type 0
@@ -70,4 +70,4 @@ pub record ArePartsMet (reading : Reading) (s : FunctionSettings) (c : BlockCont
   pub expressions : AllAccepted reading s c
   pub body : Has s.flags.0 BLOCKS.0 → BodyOK s c
   pub run : (stage : ℕ) → Has stages.0 stage ↔ (Has all_stages.0 stage × AllowsStage reading s callees c.f stage)
-  pub held_after : IsHeldAfter s.flags c.m c.f s.held held
+  pub held_after : IsPayloadAfter s.flags c.m c.f s.held held

@@ -14,7 +14,7 @@ use Rattle.spec_interface.specs.Modules.{entry_settings}
 use Rattle.spec_interface.specs.Uses.{EntryUses}
 use Rattle.spec_statements.specs.ExpressionStages.{all_stages}
 use Rattle.spec_statements.specs.Functions.{Reading, FunctionSettings, AllowsStage}
-use Rattle.spec_statements.specs.Payloads.{IsHeldAfter}
+use Rattle.spec_statements.specs.Payloads.{IsPayloadAfter}
 use Rattle.spec_interface.specs.Varyings.{HasBlendSources, result_varyings}
 
 -- The summary has the uses of global variables that the entry point makes, over all chains of calls of its function and by its
@@ -35,7 +35,7 @@ pub record IsEntryValidated (reading : Reading) (callees : List ShaderStages) (s
   pub ok : EntryOK reading callees (HasUse m e.function) s m e
   pub summary : IsEntrySummary m e t
   pub noted : IsEntryNoted reading callees s m e stages blending
-  pub after : IsHeldAfter s.flags m e.function s.held held
+  pub after : IsPayloadAfter s.flags m e.function s.held held
 
 -- with what the function of an entry point is judged
 abbrev pub own_settings : OwnSettings → FunctionSettings
@@ -51,7 +51,7 @@ pub record AddsOwnUses (e : PlainEntry) (s t : Summary) : Type 0 where
   pub may_kill : t.may_kill ≡ s.may_kill
 
 -- both tell the same
-pub record TellsSame (s t : Summary) : Type 0 where
+pub record ReportsSame (s t : Summary) : Type 0 where
   pub many : length t.uses ≡ length s.uses
   pub uses : (g k : ℕ) → HasUseBit t.uses g k ↔ HasUseBit s.uses g k
   pub pairs : t.pairs ≡ s.pairs

@@ -9,13 +9,13 @@ ghost use Rattle.spec_statements.specs.Results.{AnswersBy};
 ghost use Rattle.function_statement_checks.specs.View.{context_view};
 
 use function_body_checks::ExpressionList;
-use typing_errors::FunctionError;
 use function_interface::check_answered;
+use function_statement_checks::BlockContext;
 use ir_arena::handle::Handle;
 use ir_faults::refusal::Refusal;
 use ir_faults::with_span::WithSpan;
-use function_statement_checks::BlockContext;
 use std::alloc::{AllocError, Global};
+use typing_errors::FunctionError;
 
 // Of each of so many expressions, whether it is among these. The error is out of memory.
 fn marks_of(alloc: Global, answered: &ExpressionList, count: usize) -> Result<Vec<bool>, AllocError>

@@ -4,7 +4,7 @@ ghost use Rattle.std.specs.Prelude.{◌≡◌, ◌↔◌, Bool, IfOk, IsTrue, Ma
 ghost use Rattle.function_validator.specs.Arguments.{IsArgumentFault, IsArgumentsFault, IsNamed};
 ghost use Rattle.function_interface.specs.Items.{EachOK, IsFirstAt};
 ghost use Rattle.function_validator.specs.Refusals.{IsRefusal};
-ghost use Rattle.function_interface.specs.Told.{AreTold};
+ghost use Rattle.function_interface.specs.Reported.{AreReported};
 ghost use Rattle.ir_items.specs.View.{argument_view};
 ghost use Rattle.spec_statements.specs.BlockContext.{BlockContext as PlainContext};
 ghost use Rattle.spec_statements.specs.Interfaces.{ArgumentOK, IsGiven};
@@ -12,14 +12,14 @@ ghost use Rattle.function_statement_checks.specs.View.{context_view};
 
 use crate::flags::is_argument;
 use crate::item_names::name_of;
-use typing_errors::FunctionError;
+use function_statement_checks::{BlockContext, StatementContext, pointer_space};
 use ir_faults::refusal::Refusal;
 use ir_faults::with_span::WithSpan;
 use ir_items::FunctionArgument;
 use ir_kinds::AddressSpace;
-use function_statement_checks::{BlockContext, StatementContext, pointer_space};
-use std::alloc::{AllocError, Global};
 use module_type_infos::TypeInfo;
+use std::alloc::{AllocError, Global};
+use typing_errors::FunctionError;
 
 // Why a function may not be given something.
 #[derive(Clone, Copy)]
@@ -56,7 +56,7 @@ fn check_argument(
     entry: bool,
     argument: &FunctionArgument,
 ) -> Result<(), ArgumentFault>
-    requires { AreTold (context_view context.now).m.types infos.now }
+    requires { AreReported (context_view context.now).m.types infos.now }
     ensures { MatchResult result
         (λ _. ArgumentOK (context_view context.now).m entry (argument_view argument.now))
         (IsArgumentFault (context_view context.now).m entry (argument_view argument.now)) }
@@ -126,7 +126,7 @@ pub fn check_arguments(
     infos: &[TypeInfo],
     entry: bool,
 ) -> Result<(), Refusal<FunctionError>>
-    requires { AreTold (context_view context.now).m.types infos.now }
+    requires { AreReported (context_view context.now).m.types infos.now }
     ensures { MatchResult result
         (λ _. EachOK (ArgumentOK (context_view context.now).m entry) (context_view context.now).f.arguments)
         (IsRefusal (EachOK (ArgumentOK (context_view context.now).m entry) (context_view context.now).f.arguments) (IsArgumentsFault (context_view context.now) entry)) }

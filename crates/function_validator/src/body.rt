@@ -18,18 +18,18 @@ ghost use Rattle.function_strict_scope.specs.Faults.{IsStrictFault};
 use crate::settings::FunctionSettings;
 use bitflags::Flags;
 use function_body_checks::{ExpressionList, check_control, check_scope};
-use typing_errors::FunctionError;
+use function_operation_checks::payload_of;
+use function_statement_checks::BlockContext;
+use function_statements::validate_statements;
+use function_strict_scope::check_strict;
 use ir_arena::handle::Handle;
 use ir_faults::refusal::Refusal;
 use ir_faults::with_span::WithSpan;
 use ir_flags::ValidationFlags;
 use ir_items::Function;
 use ir_types::key;
-use function_operation_checks::payload_of;
-use function_statement_checks::BlockContext;
-use function_statements::validate_statements;
 use std::alloc::Global;
-use function_strict_scope::check_strict;
+use typing_errors::FunctionError;
 
 /// What is found of a body.
 #[derive(Drop)]

@@ -4,7 +4,7 @@ ghost use Rattle.std.specs.Prelude.{◌≡◌, ◌<◌, ◌↔◌, ◌||◌, IfO
 ghost use Rattle.function_entries.specs.Faults.{IsRefusedFor};
 ghost use Rattle.function_entries.specs.Interfaces.{AreInterfacesKnown};
 ghost use Rattle.function_validator.specs.EntryFaults.{IsUnconnected};
-ghost use Rattle.function_validator.specs.Validated.{AddsOwnUses, TellsSame};
+ghost use Rattle.function_validator.specs.Validated.{AddsOwnUses, ReportsSame};
 ghost use Rattle.ir_items.specs.View.{entry_view, module_view};
 ghost use Rattle.ir_items.specs.declared.entries.MeshStageInfo.{MeshStageInfo};
 ghost use Rattle.spec_analysis.specs.Summaries.{HasUseBit};
@@ -75,7 +75,7 @@ fn with_own<L: Lower>(lower: &L, info: L::Info, entry: &EntryPoint) -> L::Info
 
 // What is kept, with whether sources are blended noted.
 fn with_blending<L: Lower>(lower: &L, info: L::Info, blended: bool) -> L::Info
-    ensures same { TellsSame (L.summary lower.now info) (L.summary lower.now result) }
+    ensures same { ReportsSame (L.summary lower.now info) (L.summary lower.now result) }
     ensures stages { (L.noted lower.now result).0 ≡ (L.noted lower.now info).0 }
     ensures blending { L.blending lower.now result ≡ (L.blending lower.now info || blended) }
 {
@@ -88,7 +88,7 @@ fn with_blending<L: Lower>(lower: &L, info: L::Info, blended: bool) -> L::Info
 /// Whether what connects an entry point with other stages and with hosts is as it may be, where this is kept of its function; what
 /// is kept of it then, its own uses and whether sources are blended noted.
 ///
-/// Asks that the layer was made for the module, that the payload and the output of a mesh shader are there, that uses are told of
+/// Requires that the layer was made for the module, that the payload and the output of a mesh shader are there, that uses are told of
 /// all global variables, and that no blending is noted before.
 ///
 /// # Errors

@@ -3,7 +3,7 @@
 ghost use Rattle.std.specs.Prelude.{◌≡◌, ◌<◌, ◌↔◌, IfSome, IsTrue, MatchResult, OnOk, length, map};
 ghost use Rattle.function_entries.specs.Faults.{IsRefusedFor};
 ghost use Rattle.function_entries.specs.Interfaces.{AreInterfacesKnown};
-ghost use Rattle.function_validator.specs.EntryFaults.{IsRefusedAs, IsToldAs};
+ghost use Rattle.function_validator.specs.EntryFaults.{IsRefusedAs, IsReportedAs};
 ghost use Rattle.function_validator.specs.Validated.{IsEntryValidated, own_settings};
 ghost use Rattle.function_validator.specs.Settings.{settings_view};
 ghost use Rattle.function_interface.specs.Question.{question};
@@ -23,17 +23,17 @@ use crate::settings::FunctionSettings;
 use crate::validate::{Validated, validate_function_with};
 use bitflags::Flags;
 use function_entries::{EntryPointError, KnownInterfaces, check_payload, check_stage, stage_set};
-use typing_errors::FunctionError;
 use function_interface::Lower;
 use ir_faults::refusal::Refusal;
 use ir_faults::with_span::WithSpan;
 use ir_items::{EntryPoint, Module};
 use ir_kinds::ShaderStage;
 use std::alloc::Global;
+use typing_errors::FunctionError;
 
 // What a function is refused for, as the error of its entry point.
-fn told_of_function(alloc: Global, refusal: Refusal<FunctionError>) -> Refusal<EntryPointError>
-    ensures { IsToldAs refusal result }
+fn reported_of_function(alloc: Global, refusal: Refusal<FunctionError>) -> Refusal<EntryPointError>
+    ensures { IsReportedAs refusal result }
 {
     match refusal {
         Refusal::Memory(error) => Refusal::Memory(error),
@@ -69,7 +69,7 @@ fn allows_stage<L: Lower>(lower: &L, info: &L::Info, stage: ShaderStage) -> bool
 /// stage has its name is asked elsewhere. `callees` has what [`validate_function`](crate::validate_function) answered for the functions of the module, in
 /// order, where stages and uses may have been noted since. Its function is judged as an entry point's, whatever the settings say.
 ///
-/// Asks that the layer was made for the module, and that its handles are in order, as in a module that `validate_module_handles`
+/// Requires that the layer was made for the module, and that its handles are in order, as in a module that `validate_module_handles`
 /// accepts.
 ///
 /// # Errors
@@ -164,7 +164,7 @@ pub fn validate_entry_point_with<L: Lower>(
         descriptors,
     ) {
         Ok(validated) => validated,
-        Err(refusal) => return Err(told_of_function(alloc, refusal)),
+        Err(refusal) => return Err(reported_of_function(alloc, refusal)),
     };
     match check_payload(module, entry) {
         Ok(()) => {}

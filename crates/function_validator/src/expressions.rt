@@ -7,11 +7,11 @@ ghost use Rattle.function_interface.specs.Question.{question};
 ghost use Rattle.function_statement_checks.specs.View.{context_view, IsKnown};
 
 use bitflags::Flags;
-use typing_errors::FunctionError;
 use function_interface::Lower;
+use function_statement_checks::BlockContext;
 use ir_arena::handle::Handle;
 use ir_flags::ShaderStages;
-use function_statement_checks::BlockContext;
+use typing_errors::FunctionError;
 
 /// Whether all expressions of the context's function are accepted, and which stages may run them all.
 ///

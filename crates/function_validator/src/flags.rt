@@ -1,7 +1,7 @@
 //! What types may be used for.
 
 ghost use Rattle.std.specs.Prelude.{◌↔◌, IsTrue, List};
-ghost use Rattle.function_interface.specs.Told.{AreTold};
+ghost use Rattle.function_interface.specs.Reported.{AreReported};
 ghost use Rattle.ir_types.specs.Plain.{PlainType};
 ghost use Rattle.typing_layout.specs.Flags.{HasFlag, Argument, Constructible};
 ghost use Rattle.typing_layout.specs.View.{type_tree};
@@ -13,7 +13,7 @@ use module_type_infos::{TypeFlags, TypeInfo};
 
 /// Whether functions take values of a type. One that is not there is not refused here: that it is there is asked of handles.
 pub(crate) fn is_argument(infos: &[TypeInfo], ty: Handle<key::IrType>) -> bool
-    ensures { (types : List PlainType) → AreTold types infos.now → IsTrue result ↔ HasFlag Argument (type_tree types ty) }
+    ensures { (types : List PlainType) → AreReported types infos.now → IsTrue result ↔ HasFlag Argument (type_tree types ty) }
 {
     match infos.get(ty.index()) {
         Some(info) => info.flags.contains(TypeFlags::ARGUMENT),
@@ -23,7 +23,7 @@ pub(crate) fn is_argument(infos: &[TypeInfo], ty: Handle<key::IrType>) -> bool
 
 /// Whether values of a type can be composed.
 pub(crate) fn is_constructible(infos: &[TypeInfo], ty: Handle<key::IrType>) -> bool
-    ensures { (types : List PlainType) → AreTold types infos.now → IsTrue result ↔ HasFlag Constructible (type_tree types ty) }
+    ensures { (types : List PlainType) → AreReported types infos.now → IsTrue result ↔ HasFlag Constructible (type_tree types ty) }
 {
     match infos.get(ty.index()) {
         Some(info) => info.flags.contains(TypeFlags::CONSTRUCTIBLE),

@@ -6,8 +6,8 @@ ghost use Rattle.typing_operands.specs.Answers.{form_given};
 
 use function_interface::Lower;
 use ir_arena::handle::Handle;
-use ir_types::{IrType, key};
 use ir_sets::unique_arena::UniqueArena;
+use ir_types::{IrType, key};
 use std::alloc::{AllocError, Global};
 use typing_forms::{Form, form_of};
 

@@ -10,11 +10,11 @@ ghost use Rattle.spec_interface.specs.Globals.{VariableBy};
 ghost use Rattle.spec_handles.specs.InOrder.{HandlesOK};
 
 use function_interface::Lower;
-use module_globals::{GlobalVariableError, Initializer, VariableContext, validate_variable};
 use ir_faults::refusal::Refusal;
 use ir_faults::with_span::WithSpan;
 use ir_flags::{Capabilities, ValidationFlags};
 use ir_items::{GlobalVariable, Module};
+use module_globals::{GlobalVariableError, Initializer, VariableContext, validate_variable};
 use std::alloc::{AllocError, Global};
 use typing_forms::form_of;
 use typing_layout::ExpressionKindTracker;

@@ -3,19 +3,19 @@
 ghost use Rattle.std.specs.Prelude.{MatchResult};
 ghost use Rattle.function_validator.specs.Interfaces.{IsInterfaceFault};
 ghost use Rattle.function_validator.specs.Refusals.{IsRefusal};
-ghost use Rattle.function_interface.specs.Told.{AreTold};
+ghost use Rattle.function_interface.specs.Reported.{AreReported};
 ghost use Rattle.spec_statements.specs.Interfaces.{InterfaceOK};
 ghost use Rattle.function_statement_checks.specs.View.{context_view, IsKnown};
 
 use crate::arguments::check_arguments;
 use crate::locals::check_locals;
 use crate::results::check_result;
-use typing_errors::FunctionError;
+use function_statement_checks::BlockContext;
 use ir_faults::refusal::Refusal;
 use ir_faults::with_span::WithSpan;
-use function_statement_checks::BlockContext;
-use std::alloc::Global;
 use module_type_infos::TypeInfo;
+use std::alloc::Global;
+use typing_errors::FunctionError;
 
 /// Whether a function may have its variables, its arguments and its result, in this order (the first part of naga's
 /// `validate_function`). `infos` has what is told of the module's types; `entry` says that the function is an entry point's.
@@ -35,7 +35,7 @@ pub fn check_interface(
     entry: bool,
 ) -> Result<(), Refusal<FunctionError>>
     requires known { IsKnown context.now }
-    requires told { AreTold (context_view context.now).m.types infos.now }
+    requires told { AreReported (context_view context.now).m.types infos.now }
     ensures { MatchResult result
         (λ _. InterfaceOK (context_view context.now) entry)
         (IsRefusal (InterfaceOK (context_view context.now) entry) (IsInterfaceFault (context_view context.now) entry)) }

@@ -4,7 +4,7 @@ ghost use Rattle.std.specs.Prelude.{◌≡◌, ◌↔◌, ◌⊎◌, IsTrue, Mat
 ghost use Rattle.function_interface.specs.Items.{EachOK, IsFirstAt};
 ghost use Rattle.function_validator.specs.Locals.{IsBeginError, IsLocalError, IsLocalsFault};
 ghost use Rattle.function_validator.specs.Refusals.{IsRefusal};
-ghost use Rattle.function_interface.specs.Told.{AreTold};
+ghost use Rattle.function_interface.specs.Reported.{AreReported};
 ghost use Rattle.ir_items.specs.View.{local_view};
 ghost use Rattle.spec_statements.specs.BlockContext.{BlockContext as PlainContext};
 ghost use Rattle.spec_statements.specs.Interfaces.{BeginsAs, LocalOK};
@@ -14,16 +14,16 @@ ghost use Rattle.typing_layout.specs.declared.constness.ExpressionKind.TheVarian
 
 use crate::flags::is_constructible;
 use crate::item_names::name_of;
-use typing_errors::{FunctionError, LocalVariableError};
+use function_statement_checks::{BlockContext, StatementContext};
 use ir_arena::handle::Handle;
 use ir_faults::refusal::Refusal;
 use ir_faults::with_span::WithSpan;
 use ir_items::LocalVariable;
 use ir_types::key;
-use function_statement_checks::{BlockContext, StatementContext};
 use module_context::are_same;
-use std::alloc::Global;
 use module_type_infos::TypeInfo;
+use std::alloc::Global;
+use typing_errors::{FunctionError, LocalVariableError};
 
 // Whether the value of an expression is known before the shader runs.
 fn is_known(context: &BlockContext<'_>, handle: Handle<key::Expression>) -> bool
@@ -68,7 +68,7 @@ pub fn check_local(
     local: &LocalVariable,
 ) -> Result<(), LocalVariableError>
     requires known { IsKnown context.now }
-    requires told { AreTold (context_view context.now).m.types infos.now }
+    requires told { AreReported (context_view context.now).m.types infos.now }
     ensures { MatchResult result
         (λ _. LocalOK (context_view context.now) (local_view local.now))
         (IsLocalError (context_view context.now) (local_view local.now)) }
@@ -121,7 +121,7 @@ pub fn check_locals(
     infos: &[TypeInfo],
 ) -> Result<(), Refusal<FunctionError>>
     requires known { IsKnown context.now }
-    requires told { AreTold (context_view context.now).m.types infos.now }
+    requires told { AreReported (context_view context.now).m.types infos.now }
     ensures { MatchResult result
         (λ _. EachOK (LocalOK (context_view context.now)) (context_view context.now).f.locals)
         (IsRefusal (EachOK (LocalOK (context_view context.now)) (context_view context.now).f.locals) (IsLocalsFault (context_view context.now))) }

@@ -1,7 +1,7 @@
 //! The parts of a check of a function behind its analysis.
 
 ghost use Rattle.std.specs.Prelude.{◌↔◌, ℕ, Contains, IsTrue, MatchResult, map};
-ghost use Rattle.function_validator.specs.Faults.{IsExpressionFault, IsFaultBehind, IsUnanswered};
+ghost use Rattle.function_validator.specs.Faults.{IsExpressionFault, IsFaultAfter, IsUnanswered};
 ghost use Rattle.function_validator.specs.Judged.{AllAnswer, AreExpressionsMet, AreBlocksMet, ArePartsMet, IsBlocksFault};
 ghost use Rattle.function_validator.specs.Settings.{settings_view};
 ghost use Rattle.function_interface.specs.Analysis.{IsRefusedFor};
@@ -22,15 +22,15 @@ use crate::interface::check_interface;
 use crate::settings::FunctionSettings;
 use bitflags::Flags;
 use function_body_checks::ExpressionList;
-use typing_errors::FunctionError;
 use function_interface::{Lower, stages_of};
+use function_statement_checks::BlockContext;
 use ir_arena::handle::Handle;
 use ir_faults::refusal::Refusal;
 use ir_faults::with_span::WithSpan;
 use ir_flags::{ShaderStages, ValidationFlags};
 use ir_types::key;
-use function_statement_checks::BlockContext;
 use std::alloc::Global;
+use typing_errors::FunctionError;
 
 /// What is found of a function that is accepted.
 #[derive(Clone, Copy)]
@@ -42,14 +42,14 @@ pub(crate) struct Met {
 }
 
 // Whether expressions are checked.
-fn asks_expressions(flags: ValidationFlags) -> bool
+fn requires_expressions(flags: ValidationFlags) -> bool
     ensures { IsTrue result ↔ Has flags.0 EXPRESSIONS.0 }
 {
     flags.contains(ValidationFlags::EXPRESSIONS)
 }
 
 // Whether bodies are checked.
-fn asks_blocks(flags: ValidationFlags) -> bool
+fn requires_blocks(flags: ValidationFlags) -> bool
     ensures { IsTrue result ↔ Has flags.0 BLOCKS.0 }
 {
     flags.contains(ValidationFlags::BLOCKS)
@@ -70,7 +70,7 @@ fn expressions_met<L: Lower>(
         (AreExpressionsMet (L.reading lower.now q) (settings_view settings.now) (context_view context.now))
         (λ e. Has settings.now.flags.0 EXPRESSIONS.0 × IsExpressionFault (L.reading lower.now q) (L.faults lower.now q) (context_view context.now) e) }
 {
-    if !asks_expressions(settings.flags) {
+    if !requires_expressions(settings.flags) {
         return Ok(ShaderStages::all());
     }
     match check_expressions(lower, context, callees) {
@@ -92,7 +92,7 @@ fn answers_met(
         (λ _. Has settings.now.flags.0 EXPRESSIONS.0 → AllAnswer (context_view context.now))
         (IsRefusedFor (λ e. Has settings.now.flags.0 EXPRESSIONS.0 × IsUnanswered (context_view context.now).f e)) }
 {
-    if !asks_expressions(settings.flags) {
+    if !requires_expressions(settings.flags) {
         return Ok(());
     }
     match check_answers(alloc, context, answered) {
@@ -117,7 +117,7 @@ fn blocks_met<L: Lower>(
         (λ met. AreBlocksMet (settings_view settings.now) (context_view context.now) (map (L.noted lower.now) callees.now) met.stages met.held)
         (IsRefusedFor (IsBlocksFault (settings_view settings.now) (context_view context.now))) }
 {
-    if !asks_blocks(settings.flags) {
+    if !requires_blocks(settings.flags) {
         return Ok(Met {
             stages: ShaderStages::all(),
             held: settings.held,
@@ -162,7 +162,7 @@ pub(crate) fn check_parts<L: Lower>(
     ensures { let q = question (context_view context.now).m (context_view context.now).f (map (L.summary lower.now) callees.now) (map (L.noted lower.now) callees.now) in
         MatchResult result
         (λ met. ArePartsMet (L.reading lower.now q) (settings_view settings.now) (context_view context.now) (map (L.noted lower.now) callees.now) met.stages met.held)
-        (IsRefusedFor (IsFaultBehind (L.reading lower.now q) (L.faults lower.now q) (settings_view settings.now) (context_view context.now))) }
+        (IsRefusedFor (IsFaultAfter (L.reading lower.now q) (L.faults lower.now q) (settings_view settings.now) (context_view context.now))) }
 {
     match check_interface(alloc, context, lower.type_infos(), settings.entry) {
         Ok(()) => {}

@@ -2,14 +2,14 @@
 
 ghost use Rattle.std.specs.Prelude.{IfSome, MatchResult};
 ghost use Rattle.function_validator.specs.Results.{IsResultFault};
-ghost use Rattle.function_interface.specs.Told.{AreTold};
+ghost use Rattle.function_interface.specs.Reported.{AreReported};
 ghost use Rattle.spec_statements.specs.Interfaces.{ResultOK};
 ghost use Rattle.function_statement_checks.specs.View.{context_view};
 
 use crate::flags::is_constructible;
-use typing_errors::FunctionError;
 use function_statement_checks::BlockContext;
 use module_type_infos::TypeInfo;
+use typing_errors::FunctionError;
 
 /// Whether a function may answer what it answers, if it answers anything. `infos` has what is told of the module's types;
 /// `entry` says that the function is an entry point's, whose result alone is bound.
@@ -23,7 +23,7 @@ pub fn check_result(
     infos: &[TypeInfo],
     entry: bool,
 ) -> Result<(), FunctionError>
-    requires { AreTold (context_view context.now).m.types infos.now }
+    requires { AreReported (context_view context.now).m.types infos.now }
     ensures { MatchResult result
         (λ _. IfSome (context_view context.now).f.result (ResultOK (context_view context.now).m entry))
         (IsResultFault (context_view context.now) entry) }

@@ -6,12 +6,12 @@ ghost use Rattle.ir_items.specs.View.{entry_view};
 ghost use Rattle.spec_analysis.specs.Summaries.{HasUseBit};
 ghost use Rattle.spec_interface.specs.Uses.{OwnUse, mesh_output, own_payload_use};
 
-use spec_analysis::GlobalUse;
 use function_interface::Lower;
 use ir_arena::handle::Handle;
 use ir_items::EntryPoint;
 use ir_kinds::ShaderStage;
 use ir_types::key;
+use spec_analysis::GlobalUse;
 use std::alloc::{AllocError, Global};
 
 // How an entry point uses its payload.
@@ -66,7 +66,7 @@ fn note_use<L: Lower>(
     }
 }
 
-/// Notes how an entry point uses its payload and what a mesh shader gives. Asks that both are there. No memory is taken.
+/// Notes how an entry point uses its payload and what a mesh shader gives. Requires that both are there. No memory is taken.
 pub(crate) fn note_own<L: Lower>(lower: &L, info: &mut L::Info, entry: &EntryPoint)
     requires payload { IfSome entry.now.task_payload (λ g. g < length (L.summary lower.now info.old).uses) }
     requires output { IfSome (mesh_output (entry_view entry.now)) (λ g. g < length (L.summary lower.now info.old).uses) }
@@ -83,7 +83,7 @@ pub(crate) fn note_own<L: Lower>(lower: &L, info: &mut L::Info, entry: &EntryPoi
     note_use(lower, info, mesh_output(entry), GlobalUse::READ);
 }
 
-/// The uses of all global variables, in order. Asks that there are so many. The error is out of memory.
+/// The uses of all global variables, in order. Requires that there are so many. The error is out of memory.
 pub(crate) fn uses_of<L: Lower>(
     lower: &L,
     alloc: Global,

@@ -1,7 +1,7 @@
 //! Whether a function is accepted.
 
 ghost use Rattle.std.specs.Prelude.{◌≡◌, ◌↔◌, ◌||◌, ℕ, IfErr, IfOk, MatchResult, OnOk, bit_and, false, length, map};
-ghost use Rattle.function_validator.specs.Faults.{IsFaultBehind, IsFunctionFault};
+ghost use Rattle.function_validator.specs.Faults.{IsFaultAfter, IsFunctionFault};
 ghost use Rattle.function_validator.specs.Judged.{ArePartsMet};
 ghost use Rattle.function_validator.specs.Settings.{settings_view};
 ghost use Rattle.function_interface.specs.Analysis.{IsRefusedFor};
@@ -13,22 +13,22 @@ ghost use Rattle.spec_analysis.specs.Summaries.{CalleesKnown, HasUseBit, IsJoine
 ghost use Rattle.spec_statements.specs.ExpressionStages.{all_stages};
 ghost use Rattle.spec_handles.specs.Conditions.{AritiesMatch, HandlesInRange, OperandsPrecede};
 ghost use Rattle.spec_statements.specs.Functions.{FunctionOK, AllowsStage, block_context};
-ghost use Rattle.spec_statements.specs.Payloads.{IsHeldAfter};
+ghost use Rattle.spec_statements.specs.Payloads.{IsPayloadAfter};
 ghost use Rattle.function_statement_checks.specs.Descriptors.{AreDescriptors};
 ghost use Rattle.typing_operands.specs.Answers.{form_given};
 
 use crate::forms::forms_of;
 use crate::parts::{Met, check_parts};
 use crate::settings::FunctionSettings;
-use typing_errors::FunctionError;
 use function_interface::{Lower, analyse_function};
+use function_statement_checks::BlockContext;
+use function_statements::next_answers;
 use ir_arena::handle::Handle;
 use ir_faults::refusal::Refusal;
 use ir_items::{Function, Module};
 use ir_types::key;
-use function_statement_checks::BlockContext;
-use function_statements::next_answers;
 use std::alloc::Global;
+use typing_errors::FunctionError;
 use typing_layout::ExpressionKindTracker;
 
 /// What is kept of a function that is accepted.
@@ -60,7 +60,7 @@ fn judge<L: Lower>(
         let c = block_context (settings_view settings.now) q.m q.f (map (form_given q.m.types) (L.types lower.now info.now)) in
         MatchResult result
         (λ met. ArePartsMet (L.reading lower.now q) (settings_view settings.now) c q.stages met.stages met.held)
-        (IsRefusedFor (IsFaultBehind (L.reading lower.now q) (L.faults lower.now q) (settings_view settings.now) c)) }
+        (IsRefusedFor (IsFaultAfter (L.reading lower.now q) (L.faults lower.now q) (settings_view settings.now) c)) }
 {
     let count = function.expressions.len();
     let forms = match forms_of(lower, alloc, &module.types, info, count) {
@@ -113,7 +113,7 @@ fn noted<L: Lower>(lower: &L, info: L::Info, met: Met) -> Validated<L::Info>
 /// Whether a function is accepted, and what is kept of it (naga's `validate_function`). `callees` has what this call answered
 /// for the functions before it, in order, where stages and uses may have been noted since.
 ///
-/// Asks that the layer was made for the module, and that the handles of the function are in order, as those of a module are
+/// Requires that the layer was made for the module, and that the handles of the function are in order, as those of a module are
 /// that `validate_module_handles` accepts.
 ///
 /// # Errors
@@ -148,7 +148,7 @@ pub fn validate_function<L: Lower>(
         → IfOk result (λ v. IsSummary (module_view «module».now) (function_view function.now) (L.summary lower.now v.info)) }
     ensures globals { IfOk result (λ v. length (L.summary lower.now v.info).uses ≡ length (module_view «module».now).globals) }
     ensures unblended { IfOk result (λ v. L.blending lower.now v.info ≡ false) }
-    ensures held { IfOk result (λ v. IsHeldAfter settings.now.flags (module_view «module».now) (function_view function.now) settings.now.held v.held) }
+    ensures held { IfOk result (λ v. IsPayloadAfter settings.now.flags (module_view «module».now) (function_view function.now) settings.now.held v.held) }
 {
     validate_function_with(lower, alloc, settings, module, function, callees, &[])
 }
@@ -186,7 +186,7 @@ pub fn validate_function_with<L: Lower>(
         → IfOk result (λ v. IsSummary (module_view «module».now) (function_view function.now) (L.summary lower.now v.info)) }
     ensures globals { IfOk result (λ v. length (L.summary lower.now v.info).uses ≡ length (module_view «module».now).globals) }
     ensures unblended { IfOk result (λ v. L.blending lower.now v.info ≡ false) }
-    ensures held { IfOk result (λ v. IsHeldAfter settings.now.flags (module_view «module».now) (function_view function.now) settings.now.held v.held) }
+    ensures held { IfOk result (λ v. IsPayloadAfter settings.now.flags (module_view «module».now) (function_view function.now) settings.now.held v.held) }
 {
     let info = match analyse_function(lower, alloc, module, function, callees, settings.flags) {
         Ok(info) => info,

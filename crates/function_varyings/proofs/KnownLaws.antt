@@ -136,7 +136,7 @@ module _ (c d : VaryingContext) (ahead : IsAhead c → IsAhead d) (rows : AreRow
   besides : (x : Exception) → ExceptionOK between x → ExceptionOK d x
   besides exception.None h = tt
   besides exception.FreeAtHits h = tt
-  besides exception.NotBehindTasks h = ahead_between h
+  besides exception.NotAfterTasks h = ahead_between h
   besides exception.RowsOnly h = rows h
 
   bound_between : (b : Bound) → BoundOK between b → BoundOK d b

@@ -1,4 +1,4 @@
-mod Told
+mod Reported
 mod Places
 mod Located
 pub mod KnownLaws

@@ -13,12 +13,12 @@ use Rattle.typing_layout.specs.Flags.{HasFlag, IoShareable}
 use Rattle.typing_layout.specs.View.{type_tree}
 use Rattle.spec_interface.specs.BuiltIns.{BuiltInOK, ExceptionOK, IsFree, RowOK}
 use Rattle.spec_interface.specs.Contexts.{VaryingContext}
-use Rattle.spec_interface.specs.Locations.{IsBetween, IsFound, LocationOK, PrimitiveOK, counted, kind_of}
+use Rattle.spec_interface.specs.Locations.{NeedsInterpolation, InterpolationOK, LocationOK, PrimitiveOK, counted, kind_of}
 use Rattle.spec_interface.specs.Rows.{built_in_row}
 use Rattle.spec_interface.specs.Varyings.{AreApart, BoundOK, VaryingsOK, built_in_of, canonical, location_of}
 use Rattle.spec_interface.specs.declared.rows.BuiltInRow.{BuiltInRow}
 use Rattle.spec_interface.specs.declared.rows.Exception.{Exception}
-use Rattle.spec_interface.specs.declared.rows.Exception.TheVariants.{NotBehindTasks, RowsOnly}
+use Rattle.spec_interface.specs.declared.rows.Exception.TheVariants.{NotAfterTasks, RowsOnly}
 use Rattle.spec_interface.specs.declared.varyings.Bound.{Bound}
 use Rattle.spec_interface.specs.declared.varyings.Bound.TheVariants.{BuiltIn as built_in, Location as at_location, BlendSources, Nothing, NoMember}
 use Rattle.spec_interface.specs.declared.varyings.Direction.{Direction}
@@ -45,7 +45,7 @@ module _ (c : VaryingContext) (type : ℕ) (r : BuiltInRow) (ok : RowOK c type r
 
   row_astray : IsAstray c r → ⊥
   row_astray (inl astray) = astray ok.stands
-  row_astray (inr behind) = behind.1 (excepted NotBehindTasks behind.0)
+  row_astray (inr behind) = behind.1 (excepted NotAfterTasks behind.0)
 
 built_in_refuted : (c : VaryingContext) (type : ℕ) (b : BuiltIn) (e : VaryingError) → IsBuiltInFault c type b e → BuiltInOK c type b → ⊥
 built_in_refuted c type b (error.UnsupportedCapability x) w ok = w.2 (need_met c type (built_in_row b) ok x w.0 w.1)
@@ -75,11 +75,11 @@ module _ (c : VaryingContext) (type : ℕ) (l : Location) (ok : LocationOK c typ
   element_is : (t : ℕ) → counted c.types l.interpolation type ≡ Some t → ok.element ≡ t
   element_is t is = let e = sym ok.counts ∙ is in cc
 
-  found : (kind : ScalarKind) → l.interpolation ≢ Some PerVertex → Lies c type l kind → IsFound kind l.interpolation
-  found kind one lies = subst (λ o. IsSomeAnd o (λ k. IsBetween c.direction c.stage l.per_primitive → IsFound k l.interpolation)) lies.1 (ok.value one) lies.0
+  found : (kind : ScalarKind) → l.interpolation ≢ Some PerVertex → Lies c type l kind → InterpolationOK kind l.interpolation
+  found kind one lies = subst (λ o. IsSomeAnd o (λ k. NeedsInterpolation c.direction c.stage l.per_primitive → InterpolationOK k l.interpolation)) lies.1 (ok.value one) lies.0
 
   no_kind : l.interpolation ≢ Some PerVertex → kind_of (form_of_type c.types type) ≡ None → ⊥
-  no_kind one none = subst (λ o. IsSomeAnd o (λ k. IsBetween c.direction c.stage l.per_primitive → IsFound k l.interpolation)) none (ok.value one)
+  no_kind one none = subst (λ o. IsSomeAnd o (λ k. NeedsInterpolation c.direction c.stage l.per_primitive → InterpolationOK k l.interpolation)) none (ok.value one)
 
   met : (x : Capabilities) → Needs l x → Has c.capabilities.0 x.0
   met x (inl primitive) = subst (λ (y : Capabilities). Has c.capabilities.0 y.0) (sym primitive.1) (ok.capable primitive.0)

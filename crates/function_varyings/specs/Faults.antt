@@ -14,13 +14,13 @@ use Rattle.ir_kinds.specs.declared.stages.ShaderStage.TheVariants.{Fragment}
 use Rattle.ir_types.specs.Plain.{inner_view}
 use Rattle.typing_layout.specs.Flags.{HasFlag, IoShareable}
 use Rattle.typing_layout.specs.View.{type_tree}
-use Rattle.spec_interface.specs.BuiltIns.{AreRows, IsAhead, IsFree, IsOfType, StandsAt}
+use Rattle.spec_interface.specs.BuiltIns.{AreRows, IsAhead, IsFree, IsOfType, OccursAt}
 use Rattle.spec_interface.specs.Contexts.{VaryingContext}
-use Rattle.spec_interface.specs.Locations.{IsBetween, counted, goes_with, kind_of, of_three}
+use Rattle.spec_interface.specs.Locations.{NeedsInterpolation, counted, goes_with, kind_of, of_three}
 use Rattle.spec_interface.specs.Rows.{built_in_row}
 use Rattle.spec_interface.specs.Varyings.{ShowsAt, built_in_of, canonical, location_of}
 use Rattle.spec_interface.specs.declared.rows.BuiltInRow.{BuiltInRow}
-use Rattle.spec_interface.specs.declared.rows.Exception.TheVariants.{NotBehindTasks, RowsOnly}
+use Rattle.spec_interface.specs.declared.rows.Exception.TheVariants.{NotAfterTasks, RowsOnly}
 use Rattle.spec_interface.specs.declared.varyings.Bound.{Bound}
 use Rattle.spec_interface.specs.declared.varyings.Bound.TheVariants.{BuiltIn as built_in, Location as at_location, BlendSources, Nothing, NoMember}
 use Rattle.spec_interface.specs.declared.varyings.Direction.TheVariants.{Input, Output, PrimitiveOutput}
@@ -41,7 +41,7 @@ Misses c r x = (r.capability ≡ Some x) × (¬ IsFree c.stage r.exception) × �
 
 -- it does not go this way at this stage, or not behind a task
 abbrev pub IsAstray : VaryingContext → BuiltInRow → Type 0
-IsAstray c r = (¬ StandsAt c.direction c.stage r) ⊎ ((r.exception ≡ NotBehindTasks) × ¬ IsAhead c)
+IsAstray c r = (¬ OccursAt c.direction c.stage r) ⊎ ((r.exception ≡ NotAfterTasks) × ¬ IsAhead c)
 
 abbrev pub IsBuiltInFault : VaryingContext → (type : ℕ) → BuiltIn → VaryingError → Type 0
 IsBuiltInFault c type b (error.UnsupportedCapability x) = Misses c (built_in_row b) x
@@ -60,7 +60,7 @@ Needs l x = (IsTrue l.per_primitive × (x ≡ MESH_SHADER))
 
 -- it lies between vertices, and is made of this
 abbrev pub Lies : VaryingContext → (type : ℕ) → Location → ScalarKind → Type 0
-Lies c type l kind = IsBetween c.direction c.stage l.per_primitive × (kind_of (form_of_type c.types type) ≡ Some kind)
+Lies c type l kind = NeedsInterpolation c.direction c.stage l.per_primitive × (kind_of (form_of_type c.types type) ≡ Some kind)
 
 abbrev pub IsLocationFault : VaryingContext → (type : ℕ) → Location → VaryingError → Type 0
 IsLocationFault c type l (error.InvalidType t) = (t ≡ type) × (l.interpolation ≢ Some PerVertex) × (kind_of (form_of_type c.types type) ≡ None)

@@ -6,7 +6,7 @@ use Rattle.spec_interface.specs.BuiltIns.{AreRows, IsAhead, IsOfType}
 use Rattle.spec_interface.specs.Contexts.{VaryingContext}
 use Rattle.spec_interface.specs.declared.rows.BuiltInRow.{BuiltInRow}
 use Rattle.spec_interface.specs.declared.rows.Exception.{Exception}
-use Rattle.spec_interface.specs.declared.rows.Exception.TheVariants.{NotBehindTasks, RowsOnly}
+use Rattle.spec_interface.specs.declared.rows.Exception.TheVariants.{NotAfterTasks, RowsOnly}
 use Rattle.function_varyings.specs.Faults.{IsAstray, Misses}
 use Rattle.typing_forms.specs.Resolutions.{inner_at}
 use Rattle.function_varyings.specs.declared.error.VaryingError.{VaryingError}
@@ -18,7 +18,7 @@ use Rattle.function_varyings.specs.declared.built_ins.RowFault.TheVariants as fa
 abbrev pub IsExcepted : VaryingContext → Exception → RowFault → Type 0
 IsExcepted c e (fault.Capability x) = ⊥
 IsExcepted c e fault.Rows = (e ≡ RowsOnly) × ¬ AreRows c.sizes
-IsExcepted c e fault.Stage = (e ≡ NotBehindTasks) × ¬ IsAhead c
+IsExcepted c e fault.Stage = (e ≡ NotAfterTasks) × ¬ IsAhead c
 IsExcepted c e fault.Type = ⊥
 
 abbrev pub IsRowFault : VaryingContext → (type : ℕ) → BuiltInRow → RowFault → Type 0

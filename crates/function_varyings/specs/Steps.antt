@@ -12,7 +12,7 @@ use Rattle.ir_kinds.specs.declared.stages.ShaderStage.TheVariants.{Fragment}
 use Rattle.typing_layout.specs.Flags.{HasFlag, IoShareable}
 use Rattle.typing_layout.specs.View.{type_tree}
 use Rattle.spec_interface.specs.Contexts.{VaryingContext}
-use Rattle.spec_interface.specs.Locations.{IsBetween, IsValue, PrimitiveOK, VerticesOK, counted, goes_with}
+use Rattle.spec_interface.specs.Locations.{NeedsInterpolation, IsValue, PrimitiveOK, VerticesOK, counted, goes_with}
 use Rattle.spec_interface.specs.declared.varyings.Direction.{Direction}
 use Rattle.spec_interface.specs.declared.varyings.Direction.TheVariants.{Input, PrimitiveOutput}
 use Rattle.spec_interface.specs.declared.varyings.Location.{Location}
@@ -48,4 +48,4 @@ IsUnfound kind i error.MissingInterpolation = (kind ≡ Float) × (i ≡ None)
 IsUnfound kind i _ = ⊥
 
 abbrev pub ValueOK : VaryingContext → (type : ℕ) → Location → Type 0
-ValueOK c type l = l.interpolation ≢ Some PerVertex → IsValue (IsBetween c.direction c.stage l.per_primitive) l.interpolation (form_of_type c.types type)
+ValueOK c type l = l.interpolation ≢ Some PerVertex → IsValue (NeedsInterpolation c.direction c.stage l.per_primitive) l.interpolation (form_of_type c.types type)

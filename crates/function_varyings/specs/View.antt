@@ -17,6 +17,6 @@ context_view c = record {
 }
 
 -- what is told of the module's types is so, and told of all
-pub record IsTold (c : VaryingContext) : Type 0 where
+pub record IsReported (c : VaryingContext) : Type 0 where
   pub told : AreInfos (types_view c.types.now) c.infos.now
   pub many : length c.infos.now ≡ length (types_view c.types.now)

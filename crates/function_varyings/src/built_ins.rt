@@ -2,7 +2,7 @@
 
 ghost use Rattle.std.specs.Prelude.{◌≡◌, ◌≤◌, ◌↔◌, ◌⊎◌, ℕ, IfOk, IfSome, IsTrue, MatchOption, MatchResult};
 ghost use Rattle.ir_flags.specs.Sets.{Has};
-ghost use Rattle.spec_interface.specs.BuiltIns.{AreDistances, AreRows, BuiltInOK, ExceptionOK, IsAhead, IsCounted, IsFree, IsOfType, RowOK, StandsAt};
+ghost use Rattle.spec_interface.specs.BuiltIns.{AreDistances, AreRows, BuiltInOK, ExceptionOK, IsAhead, IsCounted, IsFree, IsOfType, RowOK, OccursAt};
 ghost use Rattle.spec_interface.specs.Contexts.{stage_set};
 ghost use Rattle.spec_interface.specs.Rows.{built_in_row};
 ghost use Rattle.typing_forms.specs.Resolutions.{types_view};
@@ -17,8 +17,8 @@ use bitflags::Flags;
 use ir_arena::handle::Handle;
 use ir_flags::{Capabilities, ShaderStages};
 use ir_kinds::{BuiltIn, Scalar, ShaderStage};
-use ir_types::{ArraySize, IrType, key};
 use ir_sets::unique_arena::UniqueArena;
+use ir_types::{ArraySize, IrType, key};
 use spec_interface::{BuiltInRow, BuiltInType, Direction, Exception, built_in_row};
 use std::alloc::{AllocError, Global};
 use typing_forms::laws::form_equality;
@@ -62,8 +62,8 @@ fn has_stage(set: ShaderStages, stage: ShaderStage) -> bool
 }
 
 // Whether a row says that it goes this way at a stage.
-fn stands_at(direction: Direction, stage: ShaderStage, row: &BuiltInRow) -> bool
-    ensures { IsTrue result ↔ StandsAt direction stage row.now }
+fn occurs_at(direction: Direction, stage: ShaderStage, row: &BuiltInRow) -> bool
+    ensures { IsTrue result ↔ OccursAt direction stage row.now }
 {
     match direction {
         Direction::Input => has_stage(row.inputs, stage),
@@ -78,7 +78,7 @@ fn is_free(stage: ShaderStage, exception: Exception) -> bool
 {
     match exception {
         Exception::FreeAtHits => has_stage(BuiltInRow::HITS, stage),
-        Exception::None | Exception::NotBehindTasks | Exception::RowsOnly => false,
+        Exception::None | Exception::NotAfterTasks | Exception::RowsOnly => false,
     }
 }
 
@@ -124,7 +124,7 @@ fn check_exception(context: &VaryingContext<'_>, exception: Exception) -> Result
         (IsExcepted (context_view context.now) exception) }
 {
     match exception {
-        Exception::NotBehindTasks => {
+        Exception::NotAfterTasks => {
             if is_ahead(context) {
                 Ok(())
             } else {
@@ -197,7 +197,7 @@ fn check_row(
         Ok(()) => {}
         Err(fault) => return Err(fault),
     }
-    if !stands_at(context.direction, context.stage, row) {
+    if !occurs_at(context.direction, context.stage, row) {
         return Err(RowFault::Stage);
     }
     if !is_of_type(context.types, &row.ty, ty) {

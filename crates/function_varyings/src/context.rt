@@ -3,10 +3,10 @@
 use ir_arena::handle::Handle;
 use ir_flags::{Capabilities, ValidationFlags};
 use ir_kinds::ShaderStage;
-use ir_types::{IrType, key};
 use ir_sets::unique_arena::UniqueArena;
-use spec_interface::Direction;
+use ir_types::{IrType, key};
 use module_type_infos::TypeInfo;
+use spec_interface::Direction;
 
 /// What the rules of varyings may look at (naga's `VaryingContext`, without what changes).
 #[derive(Clone, Copy)]

@@ -5,7 +5,7 @@ ghost use Rattle.typing_layout.specs.Flags.{HasFlag, IoShareable};
 ghost use Rattle.typing_layout.specs.View.{type_tree};
 ghost use Rattle.spec_interface.specs.BuiltIns.{array_of};
 ghost use Rattle.spec_interface.specs.Locations.{kind_of, of_three, three};
-ghost use Rattle.function_varyings.specs.View.{IsTold, context_view};
+ghost use Rattle.function_varyings.specs.View.{IsReported, context_view};
 
 use crate::context::VaryingContext;
 use bitflags::Flags;
@@ -83,7 +83,7 @@ pub(crate) fn kind_of(form: &Form) -> Option<ScalarKind>
 
 /// Whether values of a type go from one stage to the next. Those of one that is not there do not.
 pub(crate) fn is_shared(context: &VaryingContext<'_>, ty: Handle<key::IrType>) -> bool
-    requires { IsTold context.now }
+    requires { IsReported context.now }
     ensures { IsTrue result ↔ HasFlag IoShareable (type_tree (context_view context.now).types ty) }
 {
     match context.infos.get(ty.index()) {

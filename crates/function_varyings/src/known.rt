@@ -9,7 +9,7 @@ ghost use Rattle.spec_interface.specs.Varyings.{VaryingsOK, argument_varyings, v
 ghost use Rattle.function_varyings.specs.Faults.{IsRefusal};
 ghost use Rattle.function_varyings.specs.Known.{AreKnown, AreKnownOf, AreNotedIn, IsNewlyGiven, IsNoted, IsShownBy, IsWayOf, digit, direction_number, number_of, stage_number};
 ghost use Rattle.function_varyings.specs.Marks.{KeepsBits, KeepsNumbers};
-ghost use Rattle.function_varyings.specs.View.{IsTold, context_view};
+ghost use Rattle.function_varyings.specs.View.{IsReported, context_view};
 
 use crate::built_ins::{are_rows, is_ahead};
 use crate::context::VaryingContext;
@@ -227,7 +227,7 @@ impl KnownTypes {
         context: &VaryingContext<'_>,
         ty: Handle<key::IrType>,
     ) -> Result<Shown, VaryingRefusal>
-        requires told { IsTold context.now }
+        requires told { IsReported context.now }
         requires known { AreKnown (context_view context.now) self.old }
         ensures fine { MatchResult result
             (λ shown. VaryingsOK (context_view context.now) (varyings_of (context_view context.now).types 0 ty None) × IsShownBy (varyings_of (context_view context.now).types 0 ty None) shown)
@@ -260,7 +260,7 @@ impl KnownTypes {
         ty: Handle<key::IrType>,
         binding: Option<Binding>,
     ) -> Result<Shown, VaryingRefusal>
-        requires told { IsTold context.now }
+        requires told { IsReported context.now }
         requires known { AreKnown (context_view context.now) self.old }
         ensures fine { MatchResult result
             (λ shown. VaryingsOK (context_view context.now) (varyings_of (context_view context.now).types 0 ty binding) × IsShownBy (varyings_of (context_view context.now).types 0 ty binding) shown)
@@ -285,7 +285,7 @@ impl KnownTypes {
         taken: &mut Vec<u64>,
         ty: Handle<key::IrType>,
     ) -> Result<bool, AllocError>
-        requires told { IsTold context.now }
+        requires told { IsReported context.now }
         requires known { AreKnown (context_view context.now) self.old }
         ensures known { OnOk result (AreKnown (context_view context.now) self.new) }
         ensures kept { OnOk result (KeepsNumbers self.old.marks.numbers self.new.marks.numbers) }
@@ -311,7 +311,7 @@ impl KnownTypes {
         ty: Handle<key::IrType>,
         binding: Binding,
     ) -> Result<bool, AllocError>
-        requires told { IsTold context.now }
+        requires told { IsReported context.now }
         requires known { AreKnown (context_view context.now) self.old }
         ensures known { OnOk result (AreKnown (context_view context.now) self.new) }
         ensures kept { OnOk result (KeepsNumbers self.old.marks.numbers self.new.marks.numbers) }
@@ -334,7 +334,7 @@ impl KnownTypes {
         taken: &mut Vec<u64>,
         argument: &FunctionArgument,
     ) -> Result<bool, AllocError>
-        requires told { IsTold context.now }
+        requires told { IsReported context.now }
         requires known { AreKnown (context_view context.now) self.old }
         ensures known { OnOk result (AreKnown (context_view context.now) self.new) }
         ensures kept { OnOk result (KeepsNumbers self.old.marks.numbers self.new.marks.numbers) }
@@ -354,7 +354,7 @@ impl KnownTypes {
         context: &VaryingContext<'_>,
         arguments: &[FunctionArgument],
     ) -> Result<bool, AllocError>
-        requires told { IsTold context.now }
+        requires told { IsReported context.now }
         requires known { AreKnown (context_view context.now) self.old }
         ensures known { OnOk result (AreKnown (context_view context.now) self.new) }
         ensures fine { IfOk result (λ apart. IsTrue apart → VaryingsOK (context_view context.now) (argument_varyings (context_view context.now).types (map argument_view arguments.now))) }
@@ -378,7 +378,7 @@ impl KnownTypes {
         context: &VaryingContext<'_>,
         arguments: &[FunctionArgument],
     ) -> Result<(), VaryingRefusal>
-        requires told { IsTold context.now }
+        requires told { IsReported context.now }
         requires known { AreKnown (context_view context.now) self.old }
         ensures fine { MatchResult result
             (λ _. VaryingsOK (context_view context.now) (argument_varyings (context_view context.now).types (map argument_view arguments.now)))
@@ -409,7 +409,7 @@ impl KnownTypes {
         context: &VaryingContext<'_>,
         arguments: &[FunctionArgument],
     ) -> Result<(), VaryingRefusal>
-        requires told { IsTold context.now }
+        requires told { IsReported context.now }
         requires known { AreKnown (context_view context.now) self.old }
         ensures fine { MatchResult result
             (λ _. VaryingsOK (context_view context.now) (argument_varyings (context_view context.now).types (map argument_view arguments.now)))

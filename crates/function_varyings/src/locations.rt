@@ -7,10 +7,10 @@ ghost use Rattle.ir_kinds.specs.declared.bindings.Interpolation.TheVariants.{Fla
 ghost use Rattle.ir_kinds.specs.declared.bindings.Sampling.TheVariants.{Center, Sample};
 ghost use Rattle.ir_kinds.specs.declared.stages.ShaderStage.TheVariants.{Fragment, Mesh, Vertex};
 ghost use Rattle.spec_interface.specs.Contexts.{VaryingContext as PlainContext};
-ghost use Rattle.spec_interface.specs.Locations.{IsBetween, IsFound, LocationOK, PrimitiveOK, VerticesOK, counted, goes_with, is_of_vertex};
+ghost use Rattle.spec_interface.specs.Locations.{NeedsInterpolation, InterpolationOK, LocationOK, PrimitiveOK, VerticesOK, counted, goes_with, is_of_vertex};
 ghost use Rattle.function_varyings.specs.Faults.{IsLocationFault};
 ghost use Rattle.function_varyings.specs.Steps.{AreCombined, IsKept, IsPrimitiveFault, IsSpread, IsUnfound, ValueOK};
-ghost use Rattle.function_varyings.specs.View.{IsTold, context_view};
+ghost use Rattle.function_varyings.specs.View.{IsReported, context_view};
 
 use crate::context::VaryingContext;
 use crate::error::VaryingError;
@@ -175,7 +175,7 @@ fn check_kept(
     element: Handle<key::IrType>,
     at: &Location,
 ) -> Result<(), VaryingError>
-    requires told { IsTold context.now }
+    requires told { IsReported context.now }
     requires counts { counted (context_view context.now).types at.now.interpolation ty ≡ Some element }
     ensures { MatchResult result
         (λ _. IsKept (context_view context.now) element at.now)
@@ -278,7 +278,7 @@ const fn gives_vertices(stage: ShaderStage) -> bool
 
 // Whether a value between vertices has to be found.
 const fn is_between(direction: Direction, stage: ShaderStage, per_primitive: bool) -> bool
-    ensures { IsTrue result ↔ IsBetween direction stage per_primitive }
+    ensures { IsTrue result ↔ NeedsInterpolation direction stage per_primitive }
 {
     match direction {
         Direction::Input => is_fragment(stage) && !per_primitive,
@@ -303,7 +303,7 @@ const fn is_flat(interpolation: Option<Interpolation>) -> bool
 
 // Whether a value between vertices is found as those of its kind are.
 fn check_found(kind: ScalarKind, interpolation: Option<Interpolation>) -> Result<(), VaryingError>
-    ensures { MatchResult result (λ _. IsFound kind interpolation) (IsUnfound kind interpolation) }
+    ensures { MatchResult result (λ _. InterpolationOK kind interpolation) (IsUnfound kind interpolation) }
 {
     match kind {
         ScalarKind::Sint | ScalarKind::Uint => {
@@ -349,7 +349,7 @@ pub(crate) fn check_location(
     ty: Handle<key::IrType>,
     at: &Location,
 ) -> Result<(), VaryingError>
-    requires { IsTold context.now }
+    requires { IsReported context.now }
     ensures { MatchResult result
         (λ _. LocationOK (context_view context.now) ty at.now)
         (IsLocationFault (context_view context.now) ty at.now) }

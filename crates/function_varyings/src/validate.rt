@@ -10,7 +10,7 @@ ghost use Rattle.spec_interface.specs.declared.varyings.Bound.TheVariants.{Blend
 ghost use Rattle.spec_interface.specs.declared.varyings.Direction.TheVariants.{Output};
 ghost use Rattle.function_varyings.specs.Faults.{IsBlendFault, IsLocationFault, IsMemberFault, IsOwnFault, IsRefusal, IsUnboundFault};
 ghost use Rattle.function_varyings.specs.Places.{AreNoted, IsBuiltInAgain, IsFaultAt, IsFine, IsNew, IsTakenAgain};
-ghost use Rattle.function_varyings.specs.View.{IsTold, context_view};
+ghost use Rattle.function_varyings.specs.View.{IsReported, context_view};
 
 use crate::built_ins::built_in_fault;
 use crate::context::VaryingContext;
@@ -34,7 +34,7 @@ fn location_fault(
     ty: Handle<key::IrType>,
     at: &Location,
 ) -> Option<VaryingError>
-    requires { IsTold context.now }
+    requires { IsReported context.now }
     ensures { MatchOption result
         (LocationOK (context_view context.now) ty at.now)
         (IsLocationFault (context_view context.now) ty at.now) }
@@ -113,7 +113,7 @@ fn own_fault(
     context: &VaryingContext<'_>,
     bound: &Bound,
 ) -> Result<Option<VaryingError>, AllocError>
-    requires { IsTold context.now }
+    requires { IsReported context.now }
     ensures { IfOk result (λ found. MatchOption found
         (BoundOK (context_view context.now) bound.now)
         (IsOwnFault (context_view context.now) bound.now)) }
@@ -176,7 +176,7 @@ fn fault_at(
     varyings: &[Varying],
     place: usize,
 ) -> Result<Option<VaryingError>, AllocError>
-    requires told { IsTold context.now }
+    requires told { IsReported context.now }
     requires within { place < length varyings.now }
     requires noted { Has context.now.flags.0 BINDINGS.0 → AreNoted noted.old varyings.now place }
     ensures { IfOk result (λ found. MatchOption found
@@ -207,7 +207,7 @@ fn check_varyings(
     context: &VaryingContext<'_>,
     varyings: &[Varying],
 ) -> Result<(), VaryingRefusal>
-    requires { IsTold context.now }
+    requires { IsReported context.now }
     ensures { MatchResult result
         (λ _. VaryingsOK (context_view context.now) varyings.now)
         (IsRefusal (context_view context.now) varyings.now) }
@@ -234,7 +234,7 @@ fn accepted(
     context: &VaryingContext<'_>,
     varyings: Vec<Varying>,
 ) -> Result<Vec<Varying>, VaryingRefusal>
-    requires { IsTold context.now }
+    requires { IsReported context.now }
     ensures { MatchResult result
         (λ found. (found.items ≡ varyings.items) × VaryingsOK (context_view context.now) found.items)
         (IsRefusal (context_view context.now) varyings.items) }
@@ -258,7 +258,7 @@ pub fn validate_arguments(
     context: &VaryingContext<'_>,
     arguments: &[FunctionArgument],
 ) -> Result<Vec<Varying>, VaryingRefusal>
-    requires { IsTold context.now }
+    requires { IsReported context.now }
     ensures { MatchResult result
         (λ found. (found.items ≡ argument_varyings (context_view context.now).types (map argument_view arguments.now)) × VaryingsOK (context_view context.now) found.items)
         (IsRefusal (context_view context.now) (argument_varyings (context_view context.now).types (map argument_view arguments.now))) }
@@ -282,7 +282,7 @@ pub fn validate_value(
     ty: Handle<key::IrType>,
     binding: Option<Binding>,
 ) -> Result<Vec<Varying>, VaryingRefusal>
-    requires { IsTold context.now }
+    requires { IsReported context.now }
     ensures { MatchResult result
         (λ found. (found.items ≡ varyings_of (context_view context.now).types 0 ty binding) × VaryingsOK (context_view context.now) found.items)
         (IsRefusal (context_view context.now) (varyings_of (context_view context.now).types 0 ty binding)) }

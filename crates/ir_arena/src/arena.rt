@@ -352,7 +352,7 @@ impl<T, K> Arena<T, K> {
         &self.entries.spans()[places.start as usize..places.end as usize]
     }
 
-    /// Asks `keep` at each value in turn, with the handle that it has before the call, and keeps those
+    /// Requires `keep` at each value in turn, with the handle that it has before the call, and keeps those
     /// at which it answers true, in order, as it left them. The handles of the values after one that
     /// goes change.
     pub fn retain_mut<F: FnMut(Handle<K>, &mut T) -> bool>(&mut self, mut keep: F)

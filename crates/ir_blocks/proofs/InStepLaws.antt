@@ -3,7 +3,7 @@ use Rattle.std.proofs.Common.{◌≡◌, ℕ, zero, suc, List, [], ◌∷◌, Op
 use Rattle.ir_arena.specs.declared.span.Span.{Span}
 use Rattle.ir_blocks.specs.Plain.{PlainStatement, PlainBlock, stop}
 use Rattle.ir_blocks.specs.Shapes.{shape_of, Part, inner, accepting, rejecting, case_at, loop_body, loop_continuing, case_body, part_of}
-use Rattle.ir_blocks.specs.Places.{Place, here, later, inside, condition, StandsAt}
+use Rattle.ir_blocks.specs.Places.{Place, here, later, inside, condition, OccursAt}
 use Rattle.ir_blocks.specs.Spans.{BlockSpans, spans, StatementSpans, no_spans, tail_of, case_spans, spans_in, span_at, InStep}
 use Rattle.ir_blocks.specs.Padded.{first_kept, padded}
 use Rattle.ir_blocks.specs.View.{block_of, within_of, cases_of, case_spans_of, PlainCase, statement_step, block_step, case_step, statement_spans_step, block_spans_step, case_spans_step, spans_over, statement_view, block_view, case_view, statement_spans, block_spans, case_block_spans, statements_of, spans_of, AlwaysInStep}
@@ -40,13 +40,13 @@ before_rest : (x : Statement) (xs : List Statement) (y : Span) (own : List Span)
     → InStep (block_of (map statement_view (x ∷ xs))) (spans (y ∷ own) (within_of (map statement_spans (x ∷ xs))))
 before_rest x xs y own first rest = record { spanned = spanned; only = only_there }
   where
-    spanned : (p : Place) (s : PlainStatement) → StandsAt (block_of (map statement_view (x ∷ xs))) p s → (z : Span) × (span_at p (spans (y ∷ own) (within_of (map statement_spans (x ∷ xs)))) ≡ Some z)
+    spanned : (p : Place) (s : PlainStatement) → OccursAt (block_of (map statement_view (x ∷ xs))) p s → (z : Span) × (span_at p (spans (y ∷ own) (within_of (map statement_spans (x ∷ xs)))) ≡ Some z)
     spanned here s e = (y, refl)
     spanned (later p) s e = rest.spanned p s e
     spanned (inside part p) s e = (first part).spanned p s e
     spanned condition s e = let z = e in cc
 
-    only_there : (p : Place) (z : Span) → span_at p (spans (y ∷ own) (within_of (map statement_spans (x ∷ xs)))) ≡ Some z → (s : PlainStatement) × StandsAt (block_of (map statement_view (x ∷ xs))) p s
+    only_there : (p : Place) (z : Span) → span_at p (spans (y ∷ own) (within_of (map statement_spans (x ∷ xs)))) ≡ Some z → (s : PlainStatement) × OccursAt (block_of (map statement_view (x ∷ xs))) p s
     only_there here z e = (statement_view x, refl)
     only_there (later p) z e = rest.only p z e
     only_there (inside part p) z e = (first part).only p z e

@@ -3,8 +3,8 @@ use Rattle.std.proofs.Common.{◌≡◌, inl, inr, ℕ, zero, suc, Bool, true, f
 use Rattle.ir_kinds.specs.declared.values.SwitchValue.{SwitchValue}
 use Rattle.ir_blocks.specs.Plain.{PlainStatement, emit, block, if_, switch, loop, break, continue, return, kill, operation, call, PlainBlock, stop, next, PlainCases, no_case, case}
 use Rattle.ir_blocks.specs.Shapes.{shape_of, Part, inner, accepting, rejecting, case_at, loop_body, loop_continuing, case_body, part_of}
-use Rattle.ir_blocks.specs.Places.{Place, here, later, inside, StandsAt}
-use Rattle.ir_blocks.specs.Tails.{Ends, IsTailPart, goes_on, IsOpenEnd, empty, behind_last, further, in_tail, case_heads, head_of, IsCompleted, ending, completed, finished, finished_cases}
+use Rattle.ir_blocks.specs.Places.{Place, here, later, inside, OccursAt}
+use Rattle.ir_blocks.specs.Tails.{Ends, IsTailPart, goes_on, IsOpenEnd, empty, after_last, further, in_tail, case_heads, head_of, IsCompleted, ending, completed, finished, finished_cases}
 use Rattle.ir_blocks.specs.View.{HoldsNoBlock}
 use Rattle.ir_blocks.proofs.TailLaws.{none_in_stop}
 
@@ -12,14 +12,14 @@ use Rattle.ir_blocks.proofs.TailLaws.{none_in_stop}
 
 -- at each place of b's statements c has the same one, what is inside it aside, and c has no other
 record Same (b c : PlainBlock) : Type 0 where
-  kept : (p : Place) (s : PlainStatement) → StandsAt b p s → (t : PlainStatement) × StandsAt c p t × (head_of t ≡ head_of s)
-  only : (p : Place) (t : PlainStatement) → StandsAt c p t → (s : PlainStatement) × StandsAt b p s
+  kept : (p : Place) (s : PlainStatement) → OccursAt b p s → (t : PlainStatement) × OccursAt c p t × (head_of t ≡ head_of s)
+  only : (p : Place) (t : PlainStatement) → OccursAt c p t → (s : PlainStatement) × OccursAt b p s
 
-first_is : (s t : PlainStatement) (b : PlainBlock) → StandsAt (next s b) here t → s ≡ t
+first_is : (s t : PlainStatement) (b : PlainBlock) → OccursAt (next s b) here t → s ≡ t
 first_is s t b e = let x = e in cc
 
 -- a block at whose first place nothing stands
-no_first : (c : PlainBlock) → ((t : PlainStatement) → StandsAt c here t → ⊥) → c ≡ stop
+no_first : (c : PlainBlock) → ((t : PlainStatement) → OccursAt c here t → ⊥) → c ≡ stop
 no_first stop none = refl
 no_first (next t rest) none = absurd (none t refl)
 
@@ -103,7 +103,7 @@ open_inside : {s : PlainStatement} {part : Part} {p : Place} → IsOpenEnd (next
 open_inside (in_tail part tail o) = (tail, o)
 
 open_behind : {s : PlainStatement} → IsOpenEnd (next s stop) (later here) → goes_on (shape_of s) ≡ true
-open_behind (behind_last g) = g
+open_behind (after_last g) = g
 
 none_further : {s : PlainStatement} {p : Place} → IsOpenEnd (next s stop) (later (later p)) → ⊥
 none_further o = elim o [ ]
@@ -121,9 +121,9 @@ none_in_empty o = elim o [ ]
 
 -- what stands behind the last statement
 ends : (s t : PlainStatement) (more : PlainBlock) (g : Bool) → goes_on (shape_of s) ≡ g → IsCompleted (next s stop) (next t more) → more ≡ ending g
-ends s t stop true g h = absurd (none_in_stop here (return None) (h.added (later here) (behind_last g)))
+ends s t stop true g h = absurd (none_in_stop here (return None) (h.added (later here) (after_last g)))
 ends s t (next r rest) true g h =
-    let first : r ≡ return None = first_is r (return None) rest (h.added (later here) (behind_last g)) in
+    let first : r ≡ return None = first_is r (return None) rest (h.added (later here) (after_last g)) in
     let behind : rest ≡ stop = no_first rest (λ u e. elim (h.only (later (later here)) u e) [ inl o ↦ none_further o | inr x ↦ none_in_stop (later here) x.0 x.1 ]) in
     (λ i. next (first i) (behind i))
 ends s t more false g h = no_first more (λ u e. elim (h.only (later here) u e) [ inl o ↦ true≢false (sym (open_behind o) ∙ g) | inr x ↦ none_in_stop here x.0 x.1 ])

@@ -66,23 +66,23 @@ padded_whole (suc n) [] e = absurd (omega (arith, e))
 padded_whole (suc n) (x ∷ xs) e = ap (λ z. x ∷ z) (padded_whole n xs (omega (arith, e)))
 
 -- without a run of them
-behind_cut : (n e : ℕ) (kept : List Span) → padded (n - e) (drop e kept) ≡ drop e (padded n kept)
-behind_cut zero zero kept = ap (λ k. padded k kept) (no_rest zero)
-behind_cut zero (suc e) kept = ap (λ k. padded k (drop (suc e) kept)) (no_rest (suc e))
-behind_cut (suc n) zero kept = ap (λ k. padded k kept) (whole_rest (suc n))
-behind_cut (suc n) (suc e) [] = ap (λ k. padded k []) (next_rest n e) ∙ (nothing n e ∙ behind_cut n e [])
+after_cut : (n e : ℕ) (kept : List Span) → padded (n - e) (drop e kept) ≡ drop e (padded n kept)
+after_cut zero zero kept = ap (λ k. padded k kept) (no_rest zero)
+after_cut zero (suc e) kept = ap (λ k. padded k (drop (suc e) kept)) (no_rest (suc e))
+after_cut (suc n) zero kept = ap (λ k. padded k kept) (whole_rest (suc n))
+after_cut (suc n) (suc e) [] = ap (λ k. padded k []) (next_rest n e) ∙ (nothing n e ∙ after_cut n e [])
   where
     nothing : (n e : ℕ) → padded (n - e) [] ≡ padded (n - e) (drop e [])
     nothing n zero = refl
     nothing n (suc e) = refl
-behind_cut (suc n) (suc e) (x ∷ kept) = ap (λ k. padded k (drop e kept)) (next_rest n e) ∙ behind_cut n e kept
+after_cut (suc n) (suc e) (x ∷ kept) = ap (λ k. padded k (drop e kept)) (next_rest n e) ∙ after_cut n e kept
 
 -- the number of those that stay
 left_over : (n s e : ℕ) → suc s + (suc n - suc e) ≡ suc (s + (n - e))
 left_over n s e = omega arith
 
 pub padded_without : (n s e : ℕ) (kept : List Span) → s ≤ e → e ≤ n → padded (s + (n - e)) (remove_range kept s e) ≡ remove_range (padded n kept) s e
-padded_without n zero e kept p q = ap (λ k. padded k (drop e kept)) (no_sum (n - e)) ∙ behind_cut n e kept
+padded_without n zero e kept p q = ap (λ k. padded k (drop e kept)) (no_sum (n - e)) ∙ after_cut n e kept
 padded_without zero (suc s) e kept p q = absurd (omega (arith, p, q))
 padded_without (suc n) (suc s) zero kept p q = absurd (omega (arith, p))
 padded_without (suc n) (suc s) (suc e) [] p q =
@@ -108,9 +108,9 @@ padded_spliced n m s e kept other p q =
     padded_whole _ _ (length-spliced (padded n kept) (padded m other) s e n (length-padded n kept) p q ∙ ap (λ k. s + k + (n - e)) (length-padded m other))
 
 -- all of them undefined
-none_behind : (n m : ℕ) → padded (n + m) [] ≡ padded n [] ++ padded m []
-none_behind zero m = ap (λ k. padded k []) (no_sum m)
-none_behind (suc n) m = ap (λ k. padded k []) (next_sum n m) ∙ ap (λ z. undefined_span ∷ z) (none_behind n m)
+none_after : (n m : ℕ) → padded (n + m) [] ≡ padded n [] ++ padded m []
+none_after zero m = ap (λ k. padded k []) (no_sum m)
+none_after (suc n) m = ap (λ k. padded k []) (next_sum n m) ∙ ap (λ z. undefined_span ∷ z) (none_after n m)
 
 none_taken : (s n : ℕ) → s ≤ n → take s (padded n []) ≡ padded s []
 none_taken zero zero p = refl
@@ -119,7 +119,7 @@ none_taken (suc s) zero p = absurd (omega (arith, p))
 none_taken (suc s) (suc n) p = ap (λ z. undefined_span ∷ z) (none_taken s n (omega (arith, p)))
 
 none_dropped : (n e : ℕ) → drop e (padded n []) ≡ padded (n - e) []
-none_dropped n e = sym (behind_cut n e []) ∙ nothing e
+none_dropped n e = sym (after_cut n e []) ∙ nothing e
   where
     nothing : (e : ℕ) → padded (n - e) (drop e []) ≡ padded (n - e) []
     nothing zero = refl
@@ -127,7 +127,7 @@ none_dropped n e = sym (behind_cut n e []) ∙ nothing e
 
 pub none_spliced : (n m s e : ℕ) → s ≤ e → e ≤ n → padded (s + m + (n - e)) [] ≡ splice (padded n []) s e (padded m [])
 none_spliced n m s e p q =
-    let parts : padded (s + m + (n - e)) [] ≡ (padded s [] ++ padded m []) ++ padded (n - e) [] = none_behind (s + m) (n - e) ∙ ap (λ z. z ++ padded (n - e) []) (none_behind s m) in
+    let parts : padded (s + m + (n - e)) [] ≡ (padded s [] ++ padded m []) ++ padded (n - e) [] = none_after (s + m) (n - e) ∙ ap (λ z. z ++ padded (n - e) []) (none_after s m) in
     let front : take s (padded n []) ≡ padded s [] = none_taken s n (omega (arith, p, q)) in
     parts ∙ (append_assoc (padded s []) (padded m []) (padded (n - e) []) ∙ sym (λ i. front i ++ (padded m [] ++ none_dropped n e i)))
 

@@ -4,15 +4,15 @@ use Rattle.ir_arena.specs.declared.span.Span.{Span}
 use Rattle.ir_arena.specs.Spans.{undefined_span}
 use Rattle.ir_blocks.specs.Plain.{PlainStatement, block, if_, switch, return, PlainBlock, stop, next, PlainCases, no_case, case}
 use Rattle.ir_blocks.specs.Shapes.{shape_of, Part, inner, accepting, rejecting, case_at, loop_body, loop_continuing, case_body, part_of}
-use Rattle.ir_blocks.specs.Places.{Place, here, later, inside, condition, StandsAt}
-use Rattle.ir_blocks.specs.Spans.{BlockSpans, spans, in_next, StatementSpans, no_block, in_block, in_sides, in_cases, in_loop, CaseSpans, no_more, in_case, no_spans, own_spans, within_spans, first_of, first_within, behind_first, case_spans, spans_in, span_at, InStep}
-use Rattle.ir_blocks.specs.Tails.{IsCompleted, Ends, IsTailPart, goes_on, IsOpenEnd, empty, behind_last, further, in_tail, completed}
+use Rattle.ir_blocks.specs.Places.{Place, here, later, inside, condition, OccursAt}
+use Rattle.ir_blocks.specs.Spans.{BlockSpans, spans, in_next, StatementSpans, no_block, in_block, in_sides, in_cases, in_loop, CaseSpans, no_more, in_case, no_spans, own_spans, within_spans, first_of, first_within, after_first, case_spans, spans_in, span_at, InStep}
+use Rattle.ir_blocks.specs.Tails.{IsCompleted, Ends, IsTailPart, goes_on, IsOpenEnd, empty, after_last, further, in_tail, completed}
 use Rattle.ir_blocks.specs.TailSpans.{SpansCompleted, ending_span, ending_within, cases_within, completed_spans, finished_spans, finished_case_spans}
 use Rattle.ir_blocks.proofs.TailLaws.{added, kept, only, none_in_stop, is_completed}
 
 -- ---- spans in step with a body
 
-pub in_rest : {s : PlainStatement} {rest : PlainBlock} {own : BlockSpans} → InStep (next s rest) own → InStep rest (behind_first own)
+pub in_rest : {s : PlainStatement} {rest : PlainBlock} {own : BlockSpans} → InStep (next s rest) own → InStep rest (after_first own)
 in_rest h = record { spanned = λ p t e. h.spanned (later p) t e; only = λ p x e. h.only (later p) x e }
 
 pub in_part : {s : PlainStatement} {rest : PlainBlock} {own : BlockSpans} → InStep (next s rest) own → (part : Part) → InStep (part_of (shape_of s) part) (spans_in (first_within own) part)
@@ -110,7 +110,7 @@ span_tail _ own part h = absurd h
 
 -- ---- places
 
-pub span_kept : (p : Place) (b : PlainBlock) (own : BlockSpans) → InStep b own → (s : PlainStatement) → StandsAt b p s → span_at p (completed_spans b own) ≡ span_at p own
+pub span_kept : (p : Place) (b : PlainBlock) (own : BlockSpans) → InStep b own → (s : PlainStatement) → OccursAt b p s → span_at p (completed_spans b own) ≡ span_at p own
 span_kept p stop own h s e = absurd (none_in_stop p s e)
 span_kept condition (next u rest) own h s e = let x = e in cc
 span_kept p (next u rest) (spans [] within) h s e = let f = (first_has h).1 in cc
@@ -118,7 +118,7 @@ span_kept here (next u stop) (spans (x ∷ own) within) h s e = refl
 span_kept here (next u (next v rest)) (spans (x ∷ own) within) h s e = refl
 span_kept (later p) (next u stop) own h s e = absurd (none_in_stop p s e)
 span_kept (later p) (next u (next v rest)) (spans (x ∷ own) within) h s e =
-    ap (span_at p) (whole (completed_spans (next v rest) (behind_first (spans (x ∷ own) within)))) ∙ span_kept p (next v rest) (behind_first (spans (x ∷ own) within)) (in_rest h) s e
+    ap (span_at p) (whole (completed_spans (next v rest) (after_first (spans (x ∷ own) within)))) ∙ span_kept p (next v rest) (after_first (spans (x ∷ own) within)) (in_rest h) s e
 span_kept (inside part p) (next u (next v rest)) own h s e = refl
 span_kept (inside part p) (next u stop) own h s e =
     elim (span_part u (first_within own) part (in_part h)) [
@@ -129,16 +129,16 @@ span_kept (inside part p) (next u stop) own h s e =
 pub span_added : (b : PlainBlock) (p : Place) → IsOpenEnd b p → (own : BlockSpans) → InStep b own → span_at p (completed_spans b own) ≡ Some undefined_span
 span_added _ _ empty (spans [] within) h = refl
 span_added _ _ empty (spans (x ∷ own) within) h = let f = (h.only here x refl).1 in cc
-span_added _ _ (behind_last g) (spans [] within) h = let f = (first_has h).1 in cc
-span_added _ _ (behind_last {s = s} g) (spans (x ∷ []) within) h = ap (λ e. span_at (later here) (spans (x ∷ ending_span e) (in_next (finished_spans s (first_of within)) (ending_within e)))) g
-span_added _ _ (behind_last g) (spans (x ∷ y ∷ own) within) h = let f = (h.only (later here) y refl).1 in cc
+span_added _ _ (after_last g) (spans [] within) h = let f = (first_has h).1 in cc
+span_added _ _ (after_last {s = s} g) (spans (x ∷ []) within) h = ap (λ e. span_at (later here) (spans (x ∷ ending_span e) (in_next (finished_spans s (first_of within)) (ending_within e)))) g
+span_added _ _ (after_last g) (spans (x ∷ y ∷ own) within) h = let f = (h.only (later here) y refl).1 in cc
 span_added _ _ (further {s = s} {t = t} {rest = rest} {p = p} ends) (spans [] within) h = let f = (first_has h).1 in cc
 span_added _ _ (further {s = s} {t = t} {rest = rest} {p = p} ends) (spans (x ∷ own) within) h =
-    ap (span_at p) (whole (completed_spans (next t rest) (behind_first (spans (x ∷ own) within)))) ∙ span_added (next t rest) p ends (behind_first (spans (x ∷ own) within)) (in_rest h)
+    ap (span_at p) (whole (completed_spans (next t rest) (after_first (spans (x ∷ own) within)))) ∙ span_added (next t rest) p ends (after_first (spans (x ∷ own) within)) (in_rest h)
 span_added _ _ (in_tail {s = s} {p = p} part tail ends) own h =
     ap (span_at p) (span_tail s (first_within own) part tail) ∙ span_added (part_of (shape_of s) part) p ends (spans_in (first_within own) part) (in_part h part)
 
-pub span_only : (p : Place) (b : PlainBlock) (own : BlockSpans) → InStep b own → (x : Span) → span_at p (completed_spans b own) ≡ Some x → IsOpenEnd b p ⊎ ((s : PlainStatement) × StandsAt b p s)
+pub span_only : (p : Place) (b : PlainBlock) (own : BlockSpans) → InStep b own → (x : Span) → span_at p (completed_spans b own) ≡ Some x → IsOpenEnd b p ⊎ ((s : PlainStatement) × OccursAt b p s)
 span_only condition b own h x e = cc
 span_only here stop own h x e = inl empty
 span_only (later p) stop (spans [] within) h x e = absurd (no_span p x e)
@@ -150,13 +150,13 @@ span_only (later p) (next s stop) (spans (y ∷ z ∷ own) within) h x e = let f
 span_only (later p) (next s stop) (spans (y ∷ []) within) h x e = inl (behind (goes_on (shape_of s)) refl p e)
   where
     behind : (g : Bool) → goes_on (shape_of s) ≡ g → (p : Place) → span_at p (spans (ending_span g) (ending_within g)) ≡ Some x → IsOpenEnd (next s stop) (later p)
-    behind true is here e = behind_last is
+    behind true is here e = after_last is
     behind true is (later p) e = absurd (no_span p x e)
     behind true is (inside part p) e = absurd (no_span p x e)
     behind true is condition e = cc
     behind false is p e = absurd (no_span p x e)
 span_only (later p) (next s (next t rest)) (spans (y ∷ own) within) h x e =
-    elim (span_only p (next t rest) (behind_first (spans (y ∷ own) within)) (in_rest h) x (sym (ap (span_at p) (whole (completed_spans (next t rest) (behind_first (spans (y ∷ own) within))))) ∙ e)) [
+    elim (span_only p (next t rest) (after_first (spans (y ∷ own) within)) (in_rest h) x (sym (ap (span_at p) (whole (completed_spans (next t rest) (after_first (spans (y ∷ own) within))))) ∙ e)) [
       | inl ends ↦ inl (further ends)
       | inr stands ↦ inr stands
     ]

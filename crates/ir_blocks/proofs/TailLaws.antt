@@ -2,8 +2,8 @@
 use Rattle.std.proofs.Common.{◌≡◌, ◌⊎◌, inl, inr, ℕ, zero, suc, Bool, true, false, None, refl, sym, ap, subst, ◌∙◌}
 use Rattle.ir_blocks.specs.Plain.{PlainStatement, emit, block, if_, switch, loop, break, continue, return, kill, operation, call, PlainBlock, stop, next, PlainCases, no_case, case}
 use Rattle.ir_blocks.specs.Shapes.{shape_of, Part, inner, accepting, rejecting, case_at, case_body, part_of}
-use Rattle.ir_blocks.specs.Places.{Place, here, later, inside, condition, spot_at, StandsAt}
-use Rattle.ir_blocks.specs.Tails.{Ends, IsTailPart, goes_on, IsOpenEnd, empty, behind_last, further, in_tail, case_heads, head_of, IsCompleted, ending, completed, finished, finished_cases}
+use Rattle.ir_blocks.specs.Places.{Place, here, later, inside, condition, spot_at, OccursAt}
+use Rattle.ir_blocks.specs.Tails.{Ends, IsTailPart, goes_on, IsOpenEnd, empty, after_last, further, in_tail, case_heads, head_of, IsCompleted, ending, completed, finished, finished_cases}
 
 -- ---- parts of a finished statement
 
@@ -74,23 +74,23 @@ head_of-finished (call function arguments result) = refl
 
 -- ---- places
 
-pub none_in_stop : (p : Place) (s : PlainStatement) → StandsAt stop p s → ⊥
+pub none_in_stop : (p : Place) (s : PlainStatement) → OccursAt stop p s → ⊥
 none_in_stop here s e = let x = e in cc
 none_in_stop (later p) s e = let x = e in cc
 none_in_stop (inside part p) s e = let x = e in cc
 none_in_stop condition s e = let x = e in cc
 
-none_in_return : (part : Part) (p : Place) (s : PlainStatement) → StandsAt (part_of (shape_of (return None)) part) p s → ⊥
+none_in_return : (part : Part) (p : Place) (s : PlainStatement) → OccursAt (part_of (shape_of (return None)) part) p s → ⊥
 none_in_return part p s e = none_in_stop p s e
 
-pub added : (b : PlainBlock) (p : Place) → IsOpenEnd b p → StandsAt (completed b) p (return None)
+pub added : (b : PlainBlock) (p : Place) → IsOpenEnd b p → OccursAt (completed b) p (return None)
 added _ _ empty = refl
-added _ _ (behind_last {s = s} g) = ap (λ e. spot_at here (ending e)) g
+added _ _ (after_last {s = s} g) = ap (λ e. spot_at here (ending e)) g
 added _ _ (further {s = s} {t = t} {rest = rest} {p = p} h) = added (next t rest) p h
 added _ _ (in_tail {s = s} {p = p} part tail h) =
     ap (spot_at p) (part_tail s part tail) ∙ added (part_of (shape_of s) part) p h
 
-pub kept : (p : Place) (b : PlainBlock) (s : PlainStatement) → StandsAt b p s → (t : PlainStatement) × StandsAt (completed b) p t × (head_of t ≡ head_of s)
+pub kept : (p : Place) (b : PlainBlock) (s : PlainStatement) → OccursAt b p s → (t : PlainStatement) × OccursAt (completed b) p t × (head_of t ≡ head_of s)
 kept p stop s e = absurd (none_in_stop p s e)
 kept here (next u stop) s e =
     let u_is : u ≡ s = (let x = e in cc) in
@@ -108,7 +108,7 @@ kept (inside part p) (next u stop) s e =
       | inr same ↦ (s, ap (spot_at p) same ∙ e, refl)
     ]
 
-pub only : (p : Place) (b : PlainBlock) (t : PlainStatement) → StandsAt (completed b) p t → IsOpenEnd b p ⊎ ((s : PlainStatement) × StandsAt b p s)
+pub only : (p : Place) (b : PlainBlock) (t : PlainStatement) → OccursAt (completed b) p t → IsOpenEnd b p ⊎ ((s : PlainStatement) × OccursAt b p s)
 only here stop t e = inl empty
 only (later p) stop t e = absurd (none_in_stop p t e)
 only (inside part p) stop t e = absurd (none_in_return part p t e)
@@ -117,15 +117,15 @@ only here (next s stop) t e = inr (s, refl)
 only condition (next s stop) t e = let x = e in cc
 only (later p) (next s stop) t e = behind s p t e
   where
-    behind_if : (g : Bool) (s : PlainStatement) (p : Place) (t : PlainStatement) → goes_on (shape_of s) ≡ g → StandsAt (ending g) p t → IsOpenEnd (next s stop) (later p)
-    behind_if true s here t is e = behind_last is
-    behind_if true s (later p) t is e = absurd (none_in_stop p t e)
-    behind_if true s (inside part p) t is e = absurd (none_in_return part p t e)
-    behind_if true s condition t is e = let x = e in cc
-    behind_if false s p t is e = absurd (none_in_stop p t e)
+    after_if : (g : Bool) (s : PlainStatement) (p : Place) (t : PlainStatement) → goes_on (shape_of s) ≡ g → OccursAt (ending g) p t → IsOpenEnd (next s stop) (later p)
+    after_if true s here t is e = after_last is
+    after_if true s (later p) t is e = absurd (none_in_stop p t e)
+    after_if true s (inside part p) t is e = absurd (none_in_return part p t e)
+    after_if true s condition t is e = let x = e in cc
+    after_if false s p t is e = absurd (none_in_stop p t e)
 
-    behind : (s : PlainStatement) (p : Place) (t : PlainStatement) → StandsAt (ending (goes_on (shape_of s))) p t → IsOpenEnd (next s stop) (later p) ⊎ ((u : PlainStatement) × StandsAt (next s stop) (later p) u)
-    behind s p t e = inl (behind_if (goes_on (shape_of s)) s p t refl e)
+    behind : (s : PlainStatement) (p : Place) (t : PlainStatement) → OccursAt (ending (goes_on (shape_of s))) p t → IsOpenEnd (next s stop) (later p) ⊎ ((u : PlainStatement) × OccursAt (next s stop) (later p) u)
+    behind s p t e = inl (after_if (goes_on (shape_of s)) s p t refl e)
 only (inside part p) (next s stop) t e =
     elim (part_either s part) [
       | inl tail ↦ elim (only p (part_of (shape_of s) part) t (sym (ap (spot_at p) tail.1) ∙ e)) [

@@ -2,7 +2,7 @@
 use Rattle.std.specs.Prelude.{◌≡◌, Bool, true, false, IsTrue, List, [], ◌∷◌, Some}
 use Rattle.ir_blocks.specs.Plain.{PlainStatement, PlainBlock}
 use Rattle.ir_blocks.specs.Shapes.{Exit, breaks, continues, returns, kills, exit_of, shape_of, Part, inner, accepting, rejecting, case_at, loop_body, loop_continuing}
-use Rattle.ir_blocks.specs.Places.{Place, here, later, inside, condition, StandsAt}
+use Rattle.ir_blocks.specs.Places.{Place, here, later, inside, condition, OccursAt}
 
 -- the parts around a place, the innermost first
 abbrev pub parts_around : List Part → Place → List Part
@@ -50,4 +50,4 @@ may_leave kills outer = true
 
 -- each statement that leaves its block may do so where it stands
 abbrev pub ControlOK : PlainBlock → Type 0
-ControlOK b = (p : Place) (s : PlainStatement) (exit : Exit) → StandsAt b p s → exit_of (shape_of s) ≡ Some exit → IsTrue (may_leave exit (parts_around [] p))
+ControlOK b = (p : Place) (s : PlainStatement) (exit : Exit) → OccursAt b p s → exit_of (shape_of s) ≡ Some exit → IsTrue (may_leave exit (parts_around [] p))

@@ -48,5 +48,5 @@ spot_at condition stop = nothing
 spot_at condition (next s rest) = loop_condition (condition_of (shape_of s))
 
 -- the statement stands at the place
-abbrev pub StandsAt : PlainBlock → Place → PlainStatement → Type 0
-StandsAt b p s = spot_at p b ≡ statement s
+abbrev pub OccursAt : PlainBlock → Place → PlainStatement → Type 0
+OccursAt b p s = spot_at p b ≡ statement s

@@ -3,7 +3,7 @@ use Rattle.std.specs.Prelude.{◌≡◌, ℕ, zero, suc, List, [], ◌∷◌, Op
 use Rattle.ir_arena.specs.declared.span.Span.{Span}
 use Rattle.ir_blocks.specs.Plain.{PlainStatement, PlainBlock}
 use Rattle.ir_blocks.specs.Shapes.{Part, inner, accepting, rejecting, case_at, loop_body, loop_continuing}
-use Rattle.ir_blocks.specs.Places.{Place, here, later, inside, condition, StandsAt}
+use Rattle.ir_blocks.specs.Places.{Place, here, later, inside, condition, OccursAt}
 
 mutual
   -- a block's own spans in order, and what lies inside its statements
@@ -59,8 +59,8 @@ abbrev pub tail_within : InnerSpans → InnerSpans
 tail_within no_statement = no_statement
 tail_within (in_next s rest) = rest
 
-abbrev pub behind_first : BlockSpans → BlockSpans
-behind_first (spans own within) = spans (tail_of own) (tail_within within)
+abbrev pub after_first : BlockSpans → BlockSpans
+after_first (spans own within) = spans (tail_of own) (tail_within within)
 
 abbrev pub case_spans : CaseSpans → ℕ → BlockSpans
 case_spans no_more k = no_spans
@@ -80,12 +80,12 @@ spans_in _ _ = no_spans
 -- the span at a place, if one is kept for it
 abbrev pub span_at : Place → BlockSpans → Option Span
 span_at here b = first_span b
-span_at (later p) b = span_at p (behind_first b)
+span_at (later p) b = span_at p (after_first b)
 span_at (inside part p) b = span_at p (spans_in (first_within b) part)
 span_at condition b = None
 
 -- The spans are in step with the body at every depth: one is kept for each place where a statement stands, and for no
 -- other place.
 pub record InStep (b : PlainBlock) (kept : BlockSpans) : Type 0 where
-  pub spanned : (p : Place) (s : PlainStatement) → StandsAt b p s → (x : Span) × (span_at p kept ≡ Some x)
-  pub only : (p : Place) (x : Span) → span_at p kept ≡ Some x → (s : PlainStatement) × StandsAt b p s
+  pub spanned : (p : Place) (s : PlainStatement) → OccursAt b p s → (x : Span) × (span_at p kept ≡ Some x)
+  pub only : (p : Place) (x : Span) → span_at p kept ≡ Some x → (s : PlainStatement) × OccursAt b p s

@@ -4,15 +4,15 @@ use Rattle.ir_arena.specs.declared.span.Span.{Span}
 use Rattle.ir_arena.specs.Spans.{undefined_span}
 use Rattle.ir_blocks.specs.Plain.{PlainStatement, block, if_, switch, PlainBlock, stop, next, PlainCases, no_case, case}
 use Rattle.ir_blocks.specs.Shapes.{shape_of, inner, accepting, rejecting}
-use Rattle.ir_blocks.specs.Places.{Place, StandsAt}
-use Rattle.ir_blocks.specs.Spans.{BlockSpans, spans, InnerSpans, no_statement, in_next, StatementSpans, no_block, in_block, in_sides, in_cases, CaseSpans, no_more, in_case, no_spans, own_spans, within_spans, first_within, behind_first, spans_in, span_at, InStep}
+use Rattle.ir_blocks.specs.Places.{Place, OccursAt}
+use Rattle.ir_blocks.specs.Spans.{BlockSpans, spans, InnerSpans, no_statement, in_next, StatementSpans, no_block, in_block, in_sides, in_cases, CaseSpans, no_more, in_case, no_spans, own_spans, within_spans, first_within, after_first, spans_in, span_at, InStep}
 use Rattle.ir_blocks.specs.View.{PlainCase}
 use Rattle.ir_blocks.specs.Tails.{IsOpenEnd, goes_on, completed}
 
 -- The spans `after` are those of c, which is b completed with returns, where those of b are `before`: each statement
 -- that stood keeps its span at its place, each return that is added has the undefined span, and there is no other.
 pub record SpansCompleted (b c : PlainBlock) (before after : BlockSpans) : Type 0 where
-  pub kept : (p : Place) (s : PlainStatement) → StandsAt b p s → span_at p after ≡ span_at p before
+  pub kept : (p : Place) (s : PlainStatement) → OccursAt b p s → span_at p after ≡ span_at p before
   pub added : (p : Place) → IsOpenEnd b p → span_at p after ≡ Some undefined_span
   pub in_step : InStep c after
 
@@ -48,7 +48,7 @@ abbrev mutual
   completed_spans stop kept = spans (own_spans kept ++ undefined_span ∷ []) (in_next no_block no_statement)
   completed_spans (next s stop) kept =
       spans (own_spans kept ++ ending_span (goes_on (shape_of s))) (in_next (finished_spans s (first_within kept)) (ending_within (goes_on (shape_of s))))
-  completed_spans (next s (next t rest)) kept = with_first kept (completed_spans (next t rest) (behind_first kept))
+  completed_spans (next s (next t rest)) kept = with_first kept (completed_spans (next t rest) (after_first kept))
 
   -- of the last statement of a tail block, whose tail parts are completed
   pub finished_spans : PlainStatement → StatementSpans → StatementSpans

@@ -3,7 +3,7 @@ use Rattle.std.specs.Prelude.{◌≡◌, ◌⊎◌, ℕ, zero, suc, Bool, true, 
 use Rattle.ir_blocks.specs.Plain.{PlainStatement, emit, block, if_, switch, loop, break, continue, return, kill, operation, call, PlainBlock, stop, next, PlainCases, no_case, case}
 use Rattle.ir_blocks.specs.View.{PlainCase}
 use Rattle.ir_blocks.specs.Shapes.{Shape, simple, calls, nests, chooses, switches, loops, shape_of, Part, inner, accepting, rejecting, case_at, part_of}
-use Rattle.ir_blocks.specs.Places.{Place, here, later, inside, StandsAt}
+use Rattle.ir_blocks.specs.Places.{Place, here, later, inside, OccursAt}
 
 -- the case is there and doesn't fall through
 abbrev pub Ends : PlainCases → ℕ → Type 0
@@ -30,7 +30,7 @@ goes_on _ = false
 -- body is a tail block, and the tail parts of a tail block's last statement are tail blocks.
 pub data IsOpenEnd : PlainBlock → Place → Type 0 where
   empty : IsOpenEnd stop here
-  behind_last : {s : PlainStatement} → IsTrue (goes_on (shape_of s)) → IsOpenEnd (next s stop) (later here)
+  after_last : {s : PlainStatement} → IsTrue (goes_on (shape_of s)) → IsOpenEnd (next s stop) (later here)
   further : {s t : PlainStatement} {rest : PlainBlock} {p : Place} → IsOpenEnd (next t rest) p → IsOpenEnd (next s (next t rest)) (later p)
   in_tail : {s : PlainStatement} {p : Place} (part : Part) → IsTailPart (shape_of s) part → IsOpenEnd (part_of (shape_of s) part) p → IsOpenEnd (next s stop) (inside part p)
 
@@ -50,9 +50,9 @@ head_of other = other
 -- The body c is b completed with returns: it has a return without value at each open end of b, and at each place of
 -- b's statements the same statement, what is inside it aside; and it has no other statement.
 pub record IsCompleted (b c : PlainBlock) : Type 0 where
-  pub added : (p : Place) → IsOpenEnd b p → StandsAt c p (return None)
-  pub kept : (p : Place) (s : PlainStatement) → StandsAt b p s → (t : PlainStatement) × StandsAt c p t × (head_of t ≡ head_of s)
-  pub only : (p : Place) (t : PlainStatement) → StandsAt c p t → IsOpenEnd b p ⊎ ((s : PlainStatement) × StandsAt b p s)
+  pub added : (p : Place) → IsOpenEnd b p → OccursAt c p (return None)
+  pub kept : (p : Place) (s : PlainStatement) → OccursAt b p s → (t : PlainStatement) × OccursAt c p t × (head_of t ≡ head_of s)
+  pub only : (p : Place) (t : PlainStatement) → OccursAt c p t → IsOpenEnd b p ⊎ ((s : PlainStatement) × OccursAt b p s)
 
 -- ---- the completed body, found step by step
 

@@ -10,7 +10,7 @@ ghost use Rattle.ir_blocks.specs.SpanIters.{pairs_to_come};
 ghost use Rattle.ir_blocks.specs.View.{statements_of, spans_of, room_for_statements};
 
 use crate::kept::KeptSpans;
-use crate::runs::{cut, move_behind, put_in};
+use crate::runs::{cut, move_after, put_in};
 use crate::span_iter::{SpanIntoIter, SpanIter, SpanIterMut};
 use crate::statements::{Block, Statement};
 use ir_arena::span::Span;
@@ -183,7 +183,7 @@ impl Block {
         self.body.reserve(more)?;
         self.span_info
             .append(alloc, count, &mut other.span_info, more)?;
-        move_behind(&mut self.body, &mut other.body);
+        move_after(&mut self.body, &mut other.body);
         Ok(())
     }
 

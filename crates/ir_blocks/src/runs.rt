@@ -3,7 +3,7 @@ ghost use Rattle.std.specs.Prelude.{◌≡◌, ◌≤◌, ◌+◌, ◌++◌, [],
 ghost use Rattle.std.specs.List.{remove_range, splice};
 
 /// Moves the items of `other` to the end of `list`, which has room for them.
-pub fn move_behind<T>(list: &mut Vec<T>, other: &mut Vec<T>)
+pub fn move_after<T>(list: &mut Vec<T>, other: &mut Vec<T>)
     requires { vec_len list.old + vec_len other.old ≤ vec_capacity list.old }
     ensures list { list.new.items ≡ list.old.items ++ other.old.items }
     ensures other { other.new.items ≡ [] }
@@ -32,6 +32,6 @@ pub fn put_in<T: Drop>(list: &mut Vec<T>, start: usize, end: usize, other: Vec<T
     let count = other.len();
     cut(list, start, end);
     let start = start.min(list.len());
-    move_behind(list, &mut other);
+    move_after(list, &mut other);
     list[start..].rotate_right(count);
 }

@@ -12,8 +12,8 @@ use crate::module::Module;
 use crate::{Constant, DiagnosticFilterNode, GlobalVariable, Override, SpecialTypes};
 use ir_arena::arena::Arena;
 use ir_arena::copied::copy_list;
-use ir_types::{Expression, IrType, key};
 use ir_sets::unique_arena::UniqueArena;
+use ir_types::{Expression, IrType, key};
 use std::alloc::{AllocError, Global};
 
 // The types, and those that some expressions ask for.

@@ -1,12 +1,12 @@
 -- What holds along a body holds wherever a statement stands; and what holds of one holds of one that stands somewhere.
 use Rattle.std.proofs.Common.{◌≡◌, zero, suc, ℕ, ◌⊎◌, inl, inr, refl, subst}
-use Rattle.ir_blocks.specs.Places.{Place, here, later, condition, StandsAt}
+use Rattle.ir_blocks.specs.Places.{Place, here, later, condition, OccursAt}
 use Rattle.ir_blocks.specs.Places as at
 use Rattle.ir_blocks.specs.Plain.{PlainStatement, emit, block, if_, switch, loop, break, continue, return, kill, operation, call, PlainBlock, stop, next, PlainCases, no_case, case}
 use Rattle.ir_blocks.specs.Shapes.{shape_of, Part, inner, accepting, rejecting, case_at, loop_body, loop_continuing, case_body, part_of}
 use Rattle.ir_references.specs.Each.{AllAre, AllWithin, AllInCases, OneIs, OneWithin, OneInCases}
 
-none_in_stop : {A : Type 0} (p : Place) (s : PlainStatement) → StandsAt stop p s → A
+none_in_stop : {A : Type 0} (p : Place) (s : PlainStatement) → OccursAt stop p s → A
 none_in_stop here s e = let x = e in absurd (cc)
 none_in_stop (later p) s e = let x = e in absurd (cc)
 none_in_stop (at.inside part p) s e = let x = e in absurd (cc)
@@ -37,7 +37,7 @@ module _ (P : PlainStatement → Type 0) where
   part_is (operation a) part h = tt
   part_is (call function arguments answer) part h = tt
 
-  pub is_at : (p : Place) (b : PlainBlock) → AllAre P b → (s : PlainStatement) → StandsAt b p s → P s
+  pub is_at : (p : Place) (b : PlainBlock) → AllAre P b → (s : PlainStatement) → OccursAt b p s → P s
   is_at p stop h s stands = none_in_stop p s stands
   is_at here (next u rest) h s stands =
       let same : u ≡ s = (let x = stands in cc) in subst P same h.0
@@ -47,7 +47,7 @@ module _ (P : PlainStatement → Type 0) where
 
   -- it holds of one that stands in the body
   abbrev pub IsOfOne : PlainBlock → Type 0
-  IsOfOne b = (p : Place) × (s : PlainStatement) × StandsAt b p s × P s
+  IsOfOne b = (p : Place) × (s : PlainStatement) × OccursAt b p s × P s
 
   in_part : (s : PlainStatement) (rest : PlainBlock) (part : Part) → IsOfOne (part_of (shape_of s) part) → IsOfOne (next s rest)
   in_part s rest part found = (at.inside part found.0, found.1, found.2, found.3)

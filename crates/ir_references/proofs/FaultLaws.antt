@@ -5,7 +5,7 @@ use borrow.Author.Tests.{ltb-true, ltb-false, leb-true, leb-false}
 use Rattle.ir_arena.specs.Handles.{handles_from}
 use Rattle.ir_arena.specs.declared.span.Span.{Span}
 use Rattle.ir_blocks.specs.Plain.{PlainStatement}
-use Rattle.ir_blocks.specs.Places.{Place, StandsAt}
+use Rattle.ir_blocks.specs.Places.{Place, OccursAt}
 use Rattle.ir_types.specs.ExpressionPlain.{expression_view}
 use Rattle.ir_types.specs.declared.expressions.Expression.{Expression}
 use Rattle.ir_items.specs.GlobalView.{values_of, node_view}
@@ -150,10 +150,10 @@ module _ (m : PlainModule) (f : PlainFunction) where
     last : option_or (first_of (expression_missing (bounds_of m f)) f.expressions) (first_in (statement_missing (bounds_of m f)) f.body) ≡ None
     last = (or_none (first_of (local_missing (bounds_of m f)) f.locals) _ behind).1
 
-    at : (p : Place) (s : PlainStatement) → StandsAt f.body p s → statement_missing (bounds_of m f) s ≡ None
+    at : (p : Place) (s : PlainStatement) → OccursAt f.body p s → statement_missing (bounds_of m f) s ≡ None
     at p s stands = none_at (statement_missing (bounds_of m f)) p f.body (or_none (first_of (expression_missing (bounds_of m f)) f.expressions) _ last).1 s stands
 
-    calls : (p : Place) (s : PlainStatement) → StandsAt f.body p s → option_and_then (missing kind.Function (bounds_of m f).functions) (statement_callee s) ≡ None
+    calls : (p : Place) (s : PlainStatement) → OccursAt f.body p s → option_and_then (missing kind.Function (bounds_of m f).functions) (statement_callee s) ≡ None
     calls p s stands =
         let behind_answers = (or_none (answer_missing (bounds_of m f) s) _ (or_none (option_map absent (first_past (bounds_of m f).expressions (statement_operands s))) _ (at p s stands)).1).1 in
         (or_none (option_and_then (range_out (bounds_of m f).expressions) (statement_range s)) _ behind_answers).1
@@ -209,7 +209,7 @@ module _ (m : PlainModule) (f : PlainFunction) where
         | inr b ↦ (let s = operand_absent _ h b in absent_fault _ _ h (expression_reads r.2 s.1) s.2)
       ]
 
-  statement_fault : (p : Place) (s : PlainStatement) (h : HandleFault) → StandsAt f.body p s → statement_missing (bounds_of m f) s ≡ Some h → IsMissingFault m f h
+  statement_fault : (p : Place) (s : PlainStatement) (h : HandleFault) → OccursAt f.body p s → statement_missing (bounds_of m f) s ≡ Some h → IsMissingFault m f h
   statement_fault p s h stands e = elim (or_some _ _ h e) [
     | inl a ↦ (let r = operand_absent _ h a in absent_fault _ _ h (statement_reads stands r.1) r.2)
     | inr b ↦ elim (or_some _ _ h b) [

@@ -10,7 +10,7 @@ use Rattle.ir_arena.specs.Handles.{handles_from}
 use Rattle.ir_arena.specs.declared.span.Span.{Span}
 use Rattle.ir_blocks.specs.Plain.{PlainStatement, emit, block, if_, switch, loop, break, continue, return, kill, operation, call, PlainBlock, stop, next, PlainCases, no_case, case}
 use Rattle.ir_blocks.specs.Shapes.{shape_of, Part, inner, accepting, rejecting, case_at, loop_body, loop_continuing, case_body, part_of}
-use Rattle.ir_blocks.specs.Places.{Place, here, later, inside, condition, StandsAt}
+use Rattle.ir_blocks.specs.Places.{Place, here, later, inside, condition, OccursAt}
 use Rattle.ir_items.specs.GlobalView.{values_of}
 use Rattle.ir_references.specs.First.{first_past, first_of, first_in, first_at, first_in_cases}
 
@@ -98,7 +98,7 @@ module _ {T A F : Type 0} (view : T → A) (look : ℕ → A → Option F) where
 
 -- ---- statements of a body
 
-none_in_stop : (p : Place) (s : PlainStatement) → StandsAt stop p s → ⊥
+none_in_stop : (p : Place) (s : PlainStatement) → OccursAt stop p s → ⊥
 none_in_stop here s e = let x = e in cc
 none_in_stop (later p) s e = let x = e in cc
 none_in_stop (inside part p) s e = let x = e in cc
@@ -142,7 +142,7 @@ module _ {F : Type 0} (look : PlainStatement → Option F) where
   part_none (operation a) part e = refl
   part_none (call function arguments result) part e = refl
 
-  pub none_at : (p : Place) (b : PlainBlock) → first_in look b ≡ None → (s : PlainStatement) → StandsAt b p s → look s ≡ None
+  pub none_at : (p : Place) (b : PlainBlock) → first_in look b ≡ None → (s : PlainStatement) → OccursAt b p s → look s ≡ None
   none_at p stop e s at = absurd (none_in_stop p s at)
   none_at here (next u rest) e s at =
       let u_is : u ≡ s = (let x = at in cc) in
@@ -154,7 +154,7 @@ module _ {F : Type 0} (look : PlainStatement → Option F) where
 
   -- it stands at some place, in a body
   abbrev pub FoundIn : PlainBlock → F → Type 0
-  FoundIn b found = (p : Place) × (s : PlainStatement) × StandsAt b p s × (look s ≡ Some found)
+  FoundIn b found = (p : Place) × (s : PlainStatement) × OccursAt b p s × (look s ≡ Some found)
 
   -- in a statement, or in a part of it
   abbrev FoundAt : PlainStatement → F → Type 0

@@ -1,7 +1,7 @@
 //! What is asked of each statement of a body.
 
 ghost use Rattle.std.specs.Prelude.{MatchResult, map};
-ghost use Rattle.ir_blocks.specs.Places.{Place, StandsAt};
+ghost use Rattle.ir_blocks.specs.Places.{Place, OccursAt};
 ghost use Rattle.ir_blocks.specs.Plain.{PlainStatement};
 ghost use Rattle.ir_blocks.specs.View.{statement_view, block_view, case_view, cases_of};
 ghost use Rattle.ir_references.specs.Each.{AllAre, AllWithin, AllInCases, OneIs, OneWithin, OneInCases};
@@ -29,8 +29,8 @@ pub trait StatementRule<E> {
 pub fn check_each<E, T: StatementRule<E>>(rule: &T, block: &Block) -> Result<(), E>
     requires { T.fits rule.now }
     ensures { MatchResult result
-        (λ _. (p : Place) (s : PlainStatement) → StandsAt (block_view block.now) p s → T.meets rule.now s)
-        (λ e. (p : Place) × (s : PlainStatement) × StandsAt (block_view block.now) p s × T.wrong rule.now e s) }
+        (λ _. (p : Place) (s : PlainStatement) → OccursAt (block_view block.now) p s → T.meets rule.now s)
+        (λ e. (p : Place) × (s : PlainStatement) × OccursAt (block_view block.now) p s × T.wrong rule.now e s) }
 {
     match check_block(rule, block) {
         Ok(()) => Ok(()),

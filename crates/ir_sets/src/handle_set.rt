@@ -6,10 +6,10 @@ ghost use Rattle.ir_sets.specs.Bits.{bits_of, AreShown};
 ghost use Rattle.ir_sets.specs.Places.{ListsMembers};
 
 use crate::bits;
+use crate::unique_arena::UniqueArena;
 use ir_arena::arena::Arena;
 use ir_arena::handle::Handle;
 use ir_arena::range::Range;
-use crate::unique_arena::UniqueArena;
 use std::alloc::{AllocError, Global};
 use std::hash::Hash;
 use std::marker::{Model, PhantomData};

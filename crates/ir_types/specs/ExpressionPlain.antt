@@ -52,11 +52,11 @@ IsResult (CooperativeMultiplyAdd a b c) = Unit {0}
 IsResult _ = ⊥
 
 -- it is found in an image, or is one of the results below
-abbrev pub IsFound : Expression → Type 0
-IsFound (ImageSample image sampler gather coordinate array_index offset level depth_ref clamp_to_edge) = Unit {0}
-IsFound (ImageLoad image coordinate array_index sample level) = Unit {0}
-IsFound (ImageQuery image query) = Unit {0}
-IsFound other = IsResult other
+abbrev pub IsImageOrResult : Expression → Type 0
+IsImageOrResult (ImageSample image sampler gather coordinate array_index offset level depth_ref clamp_to_edge) = Unit {0}
+IsImageOrResult (ImageLoad image coordinate array_index sample level) = Unit {0}
+IsImageOrResult (ImageQuery image query) = Unit {0}
+IsImageOrResult other = IsResult other
 
 -- the level is found from neighbouring fragments
 abbrev pub implicit_derivatives : SampleLevel → Bool

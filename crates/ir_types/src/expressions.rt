@@ -1,6 +1,6 @@
 // Expressions.
 ghost use Rattle.std.specs.Prelude.{◌≡◌, IfOk};
-ghost use Rattle.ir_types.specs.ExpressionPlain.{expression_view, IsPlain, IsComputed, IsFound, IsResult, implicit_derivatives, always_in_scope, is_dynamic};
+ghost use Rattle.ir_types.specs.ExpressionPlain.{expression_view, IsPlain, IsComputed, IsImageOrResult, IsResult, implicit_derivatives, always_in_scope, is_dynamic};
 
 use crate::key;
 use ir_arena::copied::Copied;
@@ -430,7 +430,7 @@ impl Expression {
 
     // An equal expression that is found in an image.
     fn copy_found(&self) -> Expression
-        requires { IsFound self.now }
+        requires { IsImageOrResult self.now }
         ensures { expression_view result ≡ expression_view self.now }
     {
         match *self {

@@ -9,7 +9,7 @@ use Rattle.spec_analysis.specs.declared.global_use.GlobalUse.{GlobalUse}
 use Rattle.spec_analysis.specs.Chains.{Step, Calls, IsChain, end_of, Reaches, UsesDirectly, Names, HasUse}
 use Rattle.spec_analysis.specs.Summaries.{no_use}
 use Rattle.spec_analysis.specs.Values.{StartsAt, is_global, accessed, accessed_index}
-use Rattle.judgement.specs.ReportLaws.{NamedAreTold}
+use Rattle.judgement.specs.ReportLaws.{NamedAreReported}
 use Rattle.judgement.specs.Lines.{is_used}
 
 -- ---- chains one behind another
@@ -88,8 +88,8 @@ by_cases : (b : Bool) → (b ≡ false → ⊥) → b ≡ true
 by_cases true h = refl
 by_cases false h = absurd (h refl)
 
-pub named_are_told : NamedAreTold
-named_are_told m number e lines r g within other =
+pub named_are_reported : NamedAreReported
+named_are_reported m number e lines r g within other =
     let exact = r.are_uses.exact g in
     let u = slice_index_or r.uses g no_use in (
       λ used. (

@@ -9,7 +9,7 @@ use Rattle.ir_types.specs.ExpressionPlain.{PlainExpression, plain}
 use Rattle.ir_types.specs.declared.expressions.Expression.TheVariants as x
 use Rattle.ir_items.specs.Plain.{PlainEntry, PlainFunction, PlainModule}
 use Rattle.typing_rules.specs.Laws.{IsAmong}
-use Rattle.spec_analysis.specs.Chains.{base_stands_for, stands_for, place, Step, IsChain, end_of, bound, argument_means, seen_through, HasUse, HasPair}
+use Rattle.spec_analysis.specs.Chains.{base_denotes, denotes, place, Step, IsChain, end_of, bound, argument_means, seen_through, HasUse, HasPair}
 use Rattle.spec_analysis.specs.Summaries.{no_use}
 use Rattle.spec_handles.specs.Conditions.{HandlesInRange}
 use Rattle.spec_handles.specs.InOrder.{HandlesOK}
@@ -29,19 +29,19 @@ module _ (m : PlainModule) (f : PlainFunction) (ok : HandlesInRange m f) where
   variable_within : (h v g : ℕ) → slice_get f.expressions h ≡ Some (plain (x.GlobalVariable v)) → Some (Global v) ≡ Some (Global g) → g < length m.globals
   variable_within h v g at same = subst (λ n. n < length m.globals) (let e : v ≡ g = cc (same) in e) (ok (computed h) (item (target.GlobalVariable v)) (expression_names at refl))
 
-  base_within : (h g : ℕ) (o : Option PlainExpression) → slice_get f.expressions h ≡ o → base_stands_for o ≡ Some (Global g) → g < length m.globals
+  base_within : (h g : ℕ) (o : Option PlainExpression) → slice_get f.expressions h ≡ o → base_denotes o ≡ Some (Global g) → g < length m.globals
   base_within h g (Some (plain (x.GlobalVariable v))) at e = variable_within h v g at e
   base_within h g _ at e = absurd (let y = e in cc)
 
-  stands_within : (h g : ℕ) (o : Option PlainExpression) → slice_get f.expressions h ≡ o → stands_for f.expressions o ≡ Some (Global g) → g < length m.globals
-  stands_within h g (Some (plain (x.GlobalVariable v))) at e = variable_within h v g at e
-  stands_within h g (Some (plain (x.FunctionArgument number))) at e = absurd (let y = e in cc)
-  stands_within h g (Some (plain (x.Access base index))) at e = base_within base g (slice_get f.expressions base) refl e
-  stands_within h g (Some (plain (x.AccessIndex base index))) at e = base_within base g (slice_get f.expressions base) refl e
-  stands_within h g _ at e = absurd (let y = e in cc)
+  occurs_within : (h g : ℕ) (o : Option PlainExpression) → slice_get f.expressions h ≡ o → denotes f.expressions o ≡ Some (Global g) → g < length m.globals
+  occurs_within h g (Some (plain (x.GlobalVariable v))) at e = variable_within h v g at e
+  occurs_within h g (Some (plain (x.FunctionArgument number))) at e = absurd (let y = e in cc)
+  occurs_within h g (Some (plain (x.Access base index))) at e = base_within base g (slice_get f.expressions base) refl e
+  occurs_within h g (Some (plain (x.AccessIndex base index))) at e = base_within base g (slice_get f.expressions base) refl e
+  occurs_within h g _ at e = absurd (let y = e in cc)
 
   place_within : (h g : ℕ) → place f.expressions h ≡ Some (Global g) → g < length m.globals
-  place_within h g e = stands_within h g (slice_get f.expressions h) refl e
+  place_within h g e = occurs_within h g (slice_get f.expressions h) refl e
 
 -- where all that expressions of the caller mean is there, so is what a callee's are seen to be
 module _ (m : PlainModule) (meaning : ℕ → Option GlobalOrArgument) (within : (h g : ℕ) → meaning h ≡ Some (Global g) → g < length m.globals) where
@@ -103,15 +103,15 @@ some_is : {A : Type 0} {a b : A} → Some a ≡ Some b → a ≡ b
 some_is e = cc (e)
 
 module _ (m : PlainModule) where
-  first_told : (first : ℕ) (e : PlainEntry) (es : List PlainEntry) (lines : List ℕ) (told : List (List ℕ)) → IsEntryReport m first e lines → ReportsFrom m (suc first) es told
+  first_reported : (first : ℕ) (e : PlainEntry) (es : List PlainEntry) (lines : List ℕ) (told : List (List ℕ)) → IsEntryReport m first e lines → ReportsFrom m (suc first) es told
       → (i : ℕ) (d : PlainEntry) (ls : List ℕ) → slice_get (e ∷ es) i ≡ Some d → slice_get (lines ∷ told) i ≡ Some ls → IsEntryReport m (first + i) d ls
-  first_told first e es lines told is rest zero d ls a b =
+  first_reported first e es lines told is rest zero d ls a b =
       subst (λ n. IsEntryReport m n d ls) (let z : first ≡ first + 0 = omega arith in z) (subst (λ y. IsEntryReport m first y ls) (some_is a) (subst (λ y. IsEntryReport m first e y) (some_is b) is))
-  first_told first e es lines told is rest (suc i) d ls a b = subst (λ n. IsEntryReport m n d ls) (let z : suc first + i ≡ first + suc i = omega arith in z) (rest.each i d ls a b)
+  first_reported first e es lines told is rest (suc i) d ls a b = subst (λ n. IsEntryReport m n d ls) (let z : suc first + i ≡ first + suc i = omega arith in z) (rest.each i d ls a b)
 
   one_more : (first : ℕ) (e : PlainEntry) (es : List PlainEntry) → (lines : List ℕ) × IsEntryReport m first e lines → (told : List (List ℕ)) × ReportsFrom m (suc first) es told
       → (told : List (List ℕ)) × ReportsFrom m first (e ∷ es) told
-  one_more first e es lines rest = (lines.0 ∷ rest.0, record { many = ap suc rest.1.many; each = first_told first e es lines.0 rest.0 lines.1 rest.1 })
+  one_more first e es lines rest = (lines.0 ∷ rest.0, record { many = ap suc rest.1.many; each = first_reported first e es lines.0 rest.0 lines.1 rest.1 })
 
   some_entries : HandlesOK m → (first : ℕ) (es : List PlainEntry) → AreThere m first es → Holds ((told : List (List ℕ)) × ReportsFrom m first es told)
   some_entries handles first [] there = surely ([], record { many = refl; each = λ i e lines a b. absurd (let y = a in cc) })

@@ -17,8 +17,8 @@ OneReport = (m : PlainModule) (a b : List ℕ) → IsReport m a → IsReport m b
 
 -- the global variables that an entry point's lines tell, its own payload and mesh output aside, are those that something reached
 -- from it names
-abbrev pub NamedAreTold : Type 0
-NamedAreTold =
+abbrev pub NamedAreReported : Type 0
+NamedAreReported =
     (m : PlainModule) (number : ℕ) (e : PlainEntry) (lines : List ℕ) (r : IsEntryReport m number e lines) (g : ℕ) → g < length m.globals → is_own e g ≡ false
     → IsTrue (is_used (slice_index_or r.uses g no_use)) ↔ Reaches m e.function (Names g)
 

@@ -1,6 +1,6 @@
 //! Laws of reports.
 
-ghost use Rattle.judgement.specs.ReportLaws.{OneEntryReport, OneReport, SomeReport, NamedAreTold};
+ghost use Rattle.judgement.specs.ReportLaws.{OneEntryReport, OneReport, SomeReport, NamedAreReported};
 
 /// A module has one report at most, and so has each of its entry points.
 pub fn one_report()
@@ -15,6 +15,6 @@ pub fn some_report()
 
 /// Beside its payload and its mesh output, the lines of an entry point tell exactly the global variables that a function
 /// reached from it names.
-pub fn named_are_told()
-    ensures { NamedAreTold }
+pub fn named_are_reported()
+    ensures { NamedAreReported }
 {}

@@ -2,21 +2,21 @@
 use Rattle.std.proofs.Common.{◌≡◌, ◌∙◌, ℕ, Option, Some, None, option_and_then, slice_get, refl, sym, ap, subst, List}
 use Rattle.std.proofs.lemmas.Option.{slice_get_within}
 use Rattle.std.specs.Prelude.{IsSomeAnd}
-use Rattle.ir_blocks.specs.Places.{Place, StandsAt}
+use Rattle.ir_blocks.specs.Places.{Place, OccursAt}
 use Rattle.ir_blocks.specs.Plain.{PlainOperation, control_barrier, memory_barrier, store, image_store, atomic, image_atomic, uniform_load, ray_query, ballot, collective, gather, cooperative_store, ray_pipeline, PlainStatement, emit, block, if_, switch, loop, break, continue, return, kill, operation, call}
 use Rattle.ir_types.specs.ExpressionPlain.{PlainExpression, plain}
 use Rattle.ir_types.specs.declared.expressions.Expression.TheVariants as x
 use Rattle.ir_flags.specs.Sets.{Has}
 use Rattle.ir_flags.specs.declared.settings.TheConstants.ValidationFlags.{BLOCKS, EXPRESSIONS}
 use Rattle.ir_items.specs.Plain.{PlainFunction, PlainModule}
-use Rattle.judgement_laws.specs.Laws.{IsCallOf, IsOperationOf, StandsOnce, EachAnswered, AnsweredByOne}
+use Rattle.judgement_laws.specs.Laws.{IsCallOf, IsOperationOf, OccursOnce, EachAnswered, AnsweredByOne}
 use Rattle.spec_statements.specs.ModuleFunctions.{FunctionAtOK}
 use Rattle.ir_kinds.specs.declared.scalars.Scalar.{Scalar}
 use Rattle.spec_handles.specs.Statements.{compared}
-use Rattle.spec_statements.specs.Atomics.{AnswerOK, AtomicAnswer, IsChangedAtOnce, changed_scalar, declared_answer}
+use Rattle.spec_statements.specs.Atomics.{AnswerOK, AtomicAnswer, AtomicChangeOK, changed_scalar, declared_answer}
 use Rattle.spec_statements.specs.BlockContext.{BlockContext, form_at}
 use Rattle.spec_statements.specs.Functions.{FunctionSettings, BodyOK}
-use Rattle.spec_statements.specs.Results.{AnswersBy, StandsForAnswer, of_call, of_atomic, answer_of, operation_answer}
+use Rattle.spec_statements.specs.Results.{AnswersBy, DenotesResult, of_call, of_atomic, answer_of, operation_answer}
 use Rattle.spec_statements.specs.Statements.{OperationOK, StatementOK}
 
 some_is : {A : Type 0} {x y : A} → Some x ≡ Some y → x ≡ y
@@ -39,7 +39,7 @@ module _ (c : BlockContext) (e : ℕ) where
     no_operation (image_store image coordinate array_index value) ok is = cc (is)
     no_operation (atomic pointer done value None) ok is = cc (is)
     no_operation (atomic pointer done value (Some result)) ok is =
-        let changed : (s : Scalar) × IsChangedAtOnce c pointer done value (Some result) s = some_and (IsChangedAtOnce c pointer done value (Some result)) (changed_scalar c.m.types (form_at c pointer)) ok in
+        let changed : (s : Scalar) × AtomicChangeOK c pointer done value (Some result) s = some_and (AtomicChangeOK c pointer done value (Some result)) (changed_scalar c.m.types (form_at c pointer)) ok in
         undeclared (AnswerOK c changed.0 (compared done)) (slice_get c.f.expressions result) function (ap (slice_get c.f.expressions) (some_is is) ∙ at) changed.1.answered
     no_operation (image_atomic image coordinate array_index done value) ok is = cc (is)
     no_operation (uniform_load pointer result) ok is = cc (is)

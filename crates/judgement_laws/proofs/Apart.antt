@@ -4,7 +4,7 @@ use Rattle.std.proofs.lemmas.Option.{slice_get_within}
 use Rattle.ir_items.specs.GlobalPlain.{PlainGlobal}
 use Rattle.ir_items.specs.Plain.{PlainEntry, PlainModule}
 use Rattle.ir_kinds.specs.declared.bindings.ResourceBinding.{ResourceBinding}
-use Rattle.judgement_laws.specs.Laws.{IsTold, BindingsDiffer}
+use Rattle.judgement_laws.specs.Laws.{IsReported, BindingsDiffer}
 use Rattle.spec_analysis.specs.Chains.{HasUse}
 use Rattle.spec_interface.specs.Modules.{EntryAtOK}
 use Rattle.spec_interface.specs.Payloads.{binding_at}
@@ -21,7 +21,7 @@ bound_in : (m : PlainModule) (g : ℕ) (b : ResourceBinding) (o : Option PlainGl
 bound_in m g b None at e = absurd (let h = e in cc)
 bound_in m g b (Some v) at e = slice_get_within m.globals g v at
 
-module _ (m : PlainModule) (number : ℕ) (e : PlainEntry) (lines : List ℕ) (r : IsEntryReport m number e lines) (g : ℕ) (b : ResourceBinding) (told : IsTold m number e lines r g) (bound : binding_at m g ≡ Some b) where
+module _ (m : PlainModule) (number : ℕ) (e : PlainEntry) (lines : List ℕ) (r : IsEntryReport m number e lines) (g : ℕ) (b : ResourceBinding) (told : IsReported m number e lines r g) (bound : binding_at m g ≡ Some b) where
   pub told_is_used : IsUsed (EntryUses e (HasUse m e.function)) g
   told_is_used =
       let bit = used_bit r.uses g told.used in

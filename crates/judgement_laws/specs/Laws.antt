@@ -1,6 +1,6 @@
 -- What is known of every module that is accepted.
 use Rattle.std.specs.Prelude.{◌≡◌, ◌<◌, ◌++◌, ℕ, [], ◌∷◌, false, IsTrue, List, Option, Some, length, slice_get, slice_index_or}
-use Rattle.ir_blocks.specs.Places.{Place, StandsAt}
+use Rattle.ir_blocks.specs.Places.{Place, OccursAt}
 use Rattle.ir_blocks.specs.Plain.{PlainBlock, PlainStatement, call, operation}
 use Rattle.ir_types.specs.ExpressionPlain.{PlainExpression, plain}
 use Rattle.ir_types.specs.declared.expressions.Expression.TheVariants as x
@@ -52,14 +52,14 @@ CallsFall = (m : PlainModule) → HandlesOK m → (f : PlainFunction) (index : �
 -- ---- bindings
 
 -- the report of the entry point has a line of the variable, which is neither its payload nor its mesh output
-pub record IsTold (m : PlainModule) (number : ℕ) (e : PlainEntry) (lines : List ℕ) (r : IsEntryReport m number e lines) (g : ℕ) : Type 0 where
+pub record IsReported (m : PlainModule) (number : ℕ) (e : PlainEntry) (lines : List ℕ) (r : IsEntryReport m number e lines) (g : ℕ) : Type 0 where
   pub other : is_own e g ≡ false
   pub used : IsTrue (is_used (slice_index_or r.uses g no_use))
 
 abbrev pub BindingsDiffer : Type 0
 BindingsDiffer =
     (s : FunctionSettings) (m : PlainModule) → EntriesOK s m → Has s.flags.0 BINDINGS.0 → (number : ℕ) (e : PlainEntry) → slice_get m.entries number ≡ Some e → (lines : List ℕ) (r : IsEntryReport m number e lines)
-    → (g h : ℕ) (b : ResourceBinding) → IsTold m number e lines r g → IsTold m number e lines r h → binding_at m g ≡ Some b → binding_at m h ≡ Some b → g ≡ h
+    → (g h : ℕ) (b : ResourceBinding) → IsReported m number e lines r g → IsReported m number e lines r h → binding_at m g ≡ Some b → binding_at m h ≡ Some b → g ≡ h
 
 -- ---- answers
 
@@ -73,16 +73,16 @@ IsOperationOf e (operation a) = answer_of (operation a) ≡ Some e
 IsOperationOf e _ = ⊥
 
 -- such a statement stands at one place of the body
-pub record StandsOnce (body : PlainBlock) (IsOne : PlainStatement → Type 0) : Type 0 where
+pub record OccursOnce (body : PlainBlock) (IsOne : PlainStatement → Type 0) : Type 0 where
   pub place : Place
   pub statement : PlainStatement
-  pub stands : StandsAt body place statement
+  pub stands : OccursAt body place statement
   pub is : IsOne statement
-  pub alone : (other : Place) (s : PlainStatement) → StandsAt body other s → IsOne s → other ≡ place
+  pub alone : (other : Place) (s : PlainStatement) → OccursAt body other s → IsOne s → other ≡ place
 
 pub record EachAnswered (f : PlainFunction) : Type 0 where
-  pub calls : (e function : ℕ) → slice_get f.expressions e ≡ Some (plain (x.CallResult function)) → StandsOnce f.body (IsCallOf function e)
-  pub atomics : (e type : ℕ) (comparison : _) → slice_get f.expressions e ≡ Some (plain (x.AtomicResult type comparison)) → StandsOnce f.body (IsOperationOf e)
+  pub calls : (e function : ℕ) → slice_get f.expressions e ≡ Some (plain (x.CallResult function)) → OccursOnce f.body (IsCallOf function e)
+  pub atomics : (e type : ℕ) (comparison : _) → slice_get f.expressions e ≡ Some (plain (x.AtomicResult type comparison)) → OccursOnce f.body (IsOperationOf e)
 
 abbrev pub AnsweredByOne : Type 0
 AnsweredByOne =

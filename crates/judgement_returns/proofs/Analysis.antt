@@ -9,7 +9,7 @@ use Rattle.spec_analysis.specs.Chains.{place}
 use Rattle.spec_analysis.specs.Effects.{samples}
 use Rattle.spec_analysis.specs.Summaries.{IsWrongArgument}
 use Rattle.spec_analysis.specs.Values.{is_source, ComesFrom, itself, through, NonUniform}
-use Rattle.spec_analysis.specs.Uniformity.{Asked}
+use Rattle.spec_analysis.specs.Uniformity.{Required}
 use Rattle.spec_analysis.specs.Faults.{requirement_at}
 use Rattle.spec_analysis.specs.Faults.{FunctionFault}
 use Rattle.spec_statements.specs.Analysis.{HasWrongForm, IsAnalysed}
@@ -34,7 +34,7 @@ module _ (m : PlainModule) (functions : List PlainFunction) (entries : List Plai
   comes_from (itself x at source) = itself x at (subst IsTrue (sym (source_same x)) source)
   comes_from (through x operand at among more) = through x operand at among (comes_from more)
 
-  fault_with : (flags : ValidationFlags) (x : Asked) → Alike f.body b → FunctionFault flags m f x → FunctionFault flags n g x
+  fault_with : (flags : ValidationFlags) (x : Required) → Alike f.body b → FunctionFault flags m f x → FunctionFault flags n g x
   fault_with flags x alike h = record {
     severity = h.severity;
     severe = h.severe;
@@ -44,7 +44,7 @@ module _ (m : PlainModule) (functions : List PlainFunction) (entries : List Plai
     };
   }
 
-fault_moves : {m n : PlainModule} {f g : PlainFunction} → LikeModule m n → LikeFunction f g → (flags : ValidationFlags) (x : Asked) → FunctionFault flags m f x → FunctionFault flags n g x
+fault_moves : {m n : PlainModule} {f g : PlainFunction} → LikeModule m n → LikeFunction f g → (flags : ValidationFlags) (x : Required) → FunctionFault flags m f x → FunctionFault flags n g x
 fault_moves {m} {n} {f} {g} l k flags x h = over_like (λ a b. FunctionFault flags a b x) l k (fault_with m n.functions n.entries f g.body flags x k.body h)
 
 wrong_form_moves : {m n : PlainModule} {f g : PlainFunction} → LikeModule m n → LikeFunction f g → (e : ℕ) → HasWrongForm m f e → HasWrongForm n g e

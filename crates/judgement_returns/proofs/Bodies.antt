@@ -4,7 +4,7 @@ use Rattle.std.proofs.Common.{◌≡◌, ◌⊎◌, inl, inr, ℕ, Bool, false, 
 use Rattle.std.specs.Prelude.{Contains, ◌<◌}
 use Rattle.ir_blocks.specs.Plain.{PlainStatement, return, operation, PlainBlock}
 use Rattle.ir_blocks.specs.Shapes.{Exit, returns, exit_of, shape_of}
-use Rattle.ir_blocks.specs.Places.{Place, Spot, nothing, statement, loop_condition, spot_at, StandsAt}
+use Rattle.ir_blocks.specs.Places.{Place, Spot, nothing, statement, loop_condition, spot_at, OccursAt}
 use Rattle.ir_blocks.specs.Control.{may_leave, parts_around, ControlOK}
 use Rattle.ir_blocks.specs.Tails.{head_of}
 use Rattle.ir_blocks.specs.View.{HoldsNoBlock}
@@ -12,7 +12,7 @@ use Rattle.ir_flags.specs.declared.settings.ValidationFlags.{ValidationFlags}
 use Rattle.ir_items.specs.Plain.{PlainFunction, PlainModule}
 use Rattle.ir_kinds.specs.declared.diagnostics.Severity.{Severity}
 use Rattle.spec_analysis.specs.Disruption.{chosen_by, is_end, Disrupted, already, chosen, after}
-use Rattle.spec_analysis.specs.Uniformity.{Asked, Asks, DisruptedAsk}
+use Rattle.spec_analysis.specs.Uniformity.{Required, Requires, DisruptedRequirement}
 use Rattle.spec_statements.specs.Payloads.{HasPayload}
 use Rattle.spec_statements.specs.Results.{answer_of, AnswersBy, AnsweredOnce}
 use Rattle.spec_statements.specs.Scope.{Introduces, Checks, InScope, ScopeOK}
@@ -28,10 +28,10 @@ LooksAtHead P = (s t : PlainStatement) → head_of t ≡ head_of s → P s → P
 
 -- a statement with such a property, which no return without a value has, is in the other body too
 pub carry : {b c : PlainBlock} (P : PlainStatement → Type 0) → LooksAtHead P → (P (return None) → ⊥) → IsCarried b c
-    → (p : Place) (s : PlainStatement) → StandsAt b p s → P s → (t : PlainStatement) × StandsAt c p t × P t
+    → (p : Place) (s : PlainStatement) → OccursAt b p s → P s → (t : PlainStatement) × OccursAt c p t × P t
 carry {b} {c} P looks none h p s e holds = by_kind (h.statements p s e)
   where
-    by_kind : Carried b c p s → (t : PlainStatement) × StandsAt c p t × P t
+    by_kind : Carried b c p s → (t : PlainStatement) × OccursAt c p t × P t
     by_kind (kept t stands head) = (t, stands, looks s t head holds)
     by_kind (extra is rest r behind) = absurd (none (subst P is holds))
 
@@ -114,7 +114,7 @@ answered_moves flags f c a ok = record {
 -- ---- disruption
 
 pub disrupted_moves : {b c : PlainBlock} (V W : ℕ → Type 0) → ((e : ℕ) → V e → W e) → (outer : Bool) → IsCarried b c
-    → (p : Place) (s : PlainStatement) → StandsAt b p s → Disrupted V outer b p → Disrupted W outer c p
+    → (p : Place) (s : PlainStatement) → OccursAt b p s → Disrupted V outer b p → Disrupted W outer c p
 disrupted_moves V W map outer h p s stands (already o) = already o
 disrupted_moves V W map outer h p s stands (chosen {a = a} u e lies at by v) =
     let k = carry (λ x. chosen_by x ≡ Some e) (looks chosen_by chosen_head (λ x. x ≡ Some e)) (no_answer e) h a u at by in
@@ -128,13 +128,13 @@ disrupted_moves {b} {c} V W map outer h p s stands (after {q = q} {r = r} u befo
     by_kind (kept t stands_there head) there = after t before holds stands_there (subst IsTrue (by_head is_end end_head u t head) ends) there
     by_kind (extra is rest ret behind) there = stands_not (behind q p holds before)
 
-no_ask : (severity : Severity) (required : ℕ → ℕ) (x : Asked) → Asks severity required (return None) x → ⊥
+no_ask : (severity : Severity) (required : ℕ → ℕ) (x : Required) → Requires severity required (return None) x → ⊥
 no_ask severity required x h = h
 
 pub asks_move : {b c : PlainBlock} (severity : Severity) (required : ℕ → ℕ) (V W : ℕ → Type 0) → ((e : ℕ) → V e → W e) → IsCarried b c
-    → (x : Asked) → DisruptedAsk severity required V b x → DisruptedAsk severity required W c x
+    → (x : Required) → DisruptedRequirement severity required V b x → DisruptedRequirement severity required W c x
 asks_move severity required V W map h x d =
-    let k = carry (λ u. Asks severity required u x) (asks_by_head severity required x) (no_ask severity required x) h d.place d.statement d.stands d.asks in
+    let k = carry (λ u. Requires severity required u x) (asks_by_head severity required x) (no_ask severity required x) h d.place d.statement d.stands d.asks in
     record {
       place = d.place;
       statement = k.0;

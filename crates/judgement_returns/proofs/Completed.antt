@@ -2,9 +2,9 @@
 use Rattle.std.proofs.Common.{◌≡◌, ◌⊎◌, inl, inr, ℕ, zero, suc, Bool, true, false, Option, None, List, [], ◌∷◌, ◌++◌, refl, sym, ap, subst, ◌∙◌}
 use Rattle.ir_blocks.specs.Plain.{PlainStatement, block, if_, switch, return, PlainBlock, stop, next, PlainCases, no_case, case}
 use Rattle.ir_blocks.specs.Shapes.{Shape, leaves, nests, chooses, switches, shape_of, Part, inner, accepting, rejecting, case_at, loop_body, loop_continuing, case_body, part_of}
-use Rattle.ir_blocks.specs.Places.{Place, here, later, inside, condition, Before, earlier, both_later, both_inside, body_before_continuing, body_before_condition, continuing_before_condition, nothing, loop_condition, condition_of, spot_at, StandsAt}
+use Rattle.ir_blocks.specs.Places.{Place, here, later, inside, condition, Before, earlier, both_later, both_inside, body_before_continuing, body_before_condition, continuing_before_condition, nothing, loop_condition, condition_of, spot_at, OccursAt}
 use Rattle.ir_blocks.specs.Control.{returns_in, parts_around}
-use Rattle.ir_blocks.specs.Tails.{Ends, IsTailPart, goes_on, IsOpenEnd, empty, behind_last, further, in_tail, head_of, ending, completed, finished, finished_cases}
+use Rattle.ir_blocks.specs.Tails.{Ends, IsTailPart, goes_on, IsOpenEnd, empty, after_last, further, in_tail, head_of, ending, completed, finished, finished_cases}
 use Rattle.ir_blocks.proofs.TailLaws as tail
 use Rattle.spec_analysis.specs.Effects.{statement_effects, effects_in, effects_inside, effects_in_cases}
 use Rattle.spec_analysis.specs.Positions.{Holds, holds_later, holds_inside}
@@ -80,18 +80,18 @@ condition_kept (inside part p) (next u (next v rest)) e h = h
 condition_kept condition (next u stop) e h = ap loop_condition (condition_finished u) ∙ h
 condition_kept condition (next u (next v rest)) e h = h
 
-behind_condition : (g : Bool) (p : Place) (e : Option ℕ) → spot_at p (ending g) ≡ loop_condition e → e ≡ None
-behind_condition false p e h = absurd (no_condition_in_stop p e h)
-behind_condition true here e h = let x = h in cc
-behind_condition true (later p) e h = absurd (no_condition_in_stop p e h)
-behind_condition true (inside part p) e h = absurd (no_condition_in_stop p e h)
-behind_condition true condition e h = let x = h in cc
+after_condition : (g : Bool) (p : Place) (e : Option ℕ) → spot_at p (ending g) ≡ loop_condition e → e ≡ None
+after_condition false p e h = absurd (no_condition_in_stop p e h)
+after_condition true here e h = let x = h in cc
+after_condition true (later p) e h = absurd (no_condition_in_stop p e h)
+after_condition true (inside part p) e h = absurd (no_condition_in_stop p e h)
+after_condition true condition e h = let x = h in cc
 
 condition_back : (p : Place) (b : PlainBlock) (e : Option ℕ) → spot_at p (completed b) ≡ loop_condition e → (spot_at p b ≡ loop_condition e) ⊎ (e ≡ None)
-condition_back p stop e h = inr (behind_condition true p e h)
+condition_back p stop e h = inr (after_condition true p e h)
 condition_back here (next u stop) e h = let x = h in cc
 condition_back here (next u (next v rest)) e h = let x = h in cc
-condition_back (later p) (next u stop) e h = inr (behind_condition (goes_on (shape_of u)) p e h)
+condition_back (later p) (next u stop) e h = inr (after_condition (goes_on (shape_of u)) p e h)
 condition_back (later p) (next u (next v rest)) e h = condition_back p (next v rest) e h
 condition_back (inside part p) (next u stop) e h =
     elim (part_either u part) [
@@ -106,7 +106,7 @@ condition_back condition (next u (next v rest)) e h = inl h
 
 pub open_nothing : {b : PlainBlock} {p : Place} → IsOpenEnd b p → spot_at p b ≡ nothing
 open_nothing empty = refl
-open_nothing (behind_last goes) = refl
+open_nothing (after_last goes) = refl
 open_nothing (further e) = open_nothing e
 open_nothing (in_tail part t e) = open_nothing e
 
@@ -135,7 +135,7 @@ tail_returns x loop_continuing outer t h = absurd (not_loop_continuing x t)
 
 open_returns : {b : PlainBlock} {p : Place} (outer : List Part) → IsOpenEnd b p → returns_in outer ≡ true → returns_in (parts_around outer p) ≡ true
 open_returns outer empty h = h
-open_returns outer (behind_last goes) h = h
+open_returns outer (after_last goes) h = h
 open_returns outer (further e) h = open_returns outer e h
 open_returns outer (in_tail {s = s} part t e) h = open_returns (part ∷ outer) e (tail_returns (shape_of s) part outer t h)
 
@@ -152,19 +152,19 @@ open_closed empty here p h k = first_behind (next (return None) stop) (return No
 open_closed empty (later q) p h k = elim h [ ]
 open_closed empty (inside part q) p h k = elim h [ ]
 open_closed empty condition p h k = elim h [ ]
-open_closed (behind_last {s = s} goes) (later q) (later p) (holds_later h) (both_later k) = last_closed s goes q p h k
+open_closed (after_last {s = s} goes) (later q) (later p) (holds_later h) (both_later k) = last_closed s goes q p h k
   where
     last_closed : (s : PlainStatement) → goes_on (shape_of s) ≡ true → (q p : Place) → Holds q here → Before q p → spot_at p (ending (goes_on (shape_of s))) ≡ nothing
     last_closed s goes here p h k = first_behind (ending (goes_on (shape_of s))) (return None) (ap ending goes) k
     last_closed s goes (later q) p h k = elim h [ ]
     last_closed s goes (inside part q) p h k = elim h [ ]
     last_closed s goes condition p h k = elim h [ ]
-open_closed (behind_last goes) here p h k = elim h [ ]
-open_closed (behind_last goes) (later q) here h k = elim k [ ]
-open_closed (behind_last goes) (later q) (inside _ p) h k = elim k [ ]
-open_closed (behind_last goes) (later q) condition h k = elim k [ ]
-open_closed (behind_last goes) (inside part q) p h k = elim h [ ]
-open_closed (behind_last goes) condition p h k = elim h [ ]
+open_closed (after_last goes) here p h k = elim h [ ]
+open_closed (after_last goes) (later q) here h k = elim k [ ]
+open_closed (after_last goes) (later q) (inside _ p) h k = elim k [ ]
+open_closed (after_last goes) (later q) condition h k = elim k [ ]
+open_closed (after_last goes) (inside part q) p h k = elim h [ ]
+open_closed (after_last goes) condition p h k = elim h [ ]
 open_closed (further o) here p h k = elim h [ ]
 open_closed (further o) (later q) here h k = elim k [ ]
 open_closed (further o) (later q) (inside _ p) h k = elim k [ ]
@@ -215,13 +215,13 @@ mutual
 
 -- ---- the whole
 
-carried_there : (b : PlainBlock) (p : Place) (s : PlainStatement) → StandsAt b p s → Carried b (completed b) p s
+carried_there : (b : PlainBlock) (p : Place) (s : PlainStatement) → OccursAt b p s → Carried b (completed b) p s
 carried_there b p s e = let k = tail.kept p b s e in kept k.0 k.1 k.2
 
-is_same : (c : PlainBlock) (p : Place) (s t : PlainStatement) → StandsAt c p s → StandsAt c p t → s ≡ t
+is_same : (c : PlainBlock) (p : Place) (s t : PlainStatement) → OccursAt c p s → OccursAt c p t → s ≡ t
 is_same c p s t e d = let x = sym e ∙ d in cc
 
-carried_back : (b : PlainBlock) (p : Place) (t : PlainStatement) → StandsAt (completed b) p t → Carried (completed b) b p t
+carried_back : (b : PlainBlock) (p : Place) (t : PlainStatement) → OccursAt (completed b) p t → Carried (completed b) b p t
 carried_back b p t e =
     elim (tail.only p b t e) [
       | inl o ↦ extra (is_same (completed b) p t (return None) e (tail.added b p o)) (open_nothing o) (open_returns [] o refl) (λ q r h k. open_closed o q r h k)

@@ -16,16 +16,16 @@ use Rattle.spec_statements.specs.ExpressionStages.{all_stages}
 use Rattle.spec_statements.specs.Functions.{FunctionSettings, AllowsStage}
 use Rattle.spec_interface.specs.Contexts.{stage_set}
 use Rattle.spec_interface.specs.Entries.{ConnectionsOK, EntryOK}
-use Rattle.spec_interface.specs.Held.{HasEntryPayload, HasPayloadSoFar, IsHeldBeforeEntry}
+use Rattle.spec_interface.specs.EarlierPayloads.{HasEntryPayload, HasPayloadSoFar, IsPayloadBeforeEntry}
 use Rattle.spec_interface.specs.declared.parts.MeshParts.{MeshParts}
-use Rattle.spec_interface.specs.Meshes.{HasParts, Implies, without_overrides, IsSaid, MeshOK}
+use Rattle.spec_interface.specs.Meshes.{HasParts, ImpliesMeshInfo, without_overrides, IsSaid, MeshOK}
 use Rattle.spec_interface.specs.Modules as entries
 use Rattle.spec_interface.specs.Modules.{IsConflict, reading_with, AreStages, entry_settings, EntryAtOK, EntriesOK}
 use Rattle.spec_interface.specs.Payloads.{PayloadOK}
 use Rattle.spec_interface.specs.Stages.{StageOK}
 use Rattle.spec_interface.specs.Uses.{OwnUse, EntryUses}
 use Rattle.spec_interface.specs.Variables.{OwnPayloadOK, VariableOK, VariablesOK, IsUsed}
-use Rattle.spec_statements.specs.Held.{HasPayloadBefore}
+use Rattle.spec_statements.specs.EarlierPayloads.{HasPayloadBefore}
 use Rattle.judgement_returns.specs.Like.{LikeEntry, LikeModule}
 use Rattle.judgement_returns.proofs.Calls.{use_moves}
 use Rattle.judgement_returns.proofs.Functions.{payload_like, payload_before, function_moves, stage_moves}
@@ -44,7 +44,7 @@ module _ (m : PlainModule) (functions : List PlainFunction) (entries : List Plai
   parts : (variable : ℕ) (t : MeshParts) → HasParts m variable t → HasParts n variable t
   parts variable t h = record { members = h.members; struct = h.struct; parts = h.parts }
 
-  implied : (variable : ℕ) (i : MeshStageInfo) (vertices_by primitives_by : Option ℕ) → Implies m variable i vertices_by primitives_by → Implies n variable i vertices_by primitives_by
+  implied : (variable : ℕ) (i : MeshStageInfo) (vertices_by primitives_by : Option ℕ) → ImpliesMeshInfo m variable i vertices_by primitives_by → ImpliesMeshInfo n variable i vertices_by primitives_by
   implied variable i vertices_by primitives_by h = record {
     types = h.types;
     parts = parts variable h.types h.parts;
@@ -174,7 +174,7 @@ payload_so_far : {m n : PlainModule} → LikeModule m n → (count type : ℕ) �
 payload_so_far {m} {n} l count type (inl h) = inl (subst (λ k. HasPayloadBefore n k type) l.functions.many (payload_before l (length m.functions) type h))
 payload_so_far l count type (inr h) = inr (entry_payload l count type h)
 
-held_moves : {m n : PlainModule} → LikeModule m n → (flags : ValidationFlags) (count : ℕ) (held : Option ℕ) → IsHeldBeforeEntry flags m count held → IsHeldBeforeEntry flags n count held
+held_moves : {m n : PlainModule} → LikeModule m n → (flags : ValidationFlags) (count : ℕ) (held : Option ℕ) → IsPayloadBeforeEntry flags m count held → IsPayloadBeforeEntry flags n count held
 held_moves l flags count held h = record {
   some = λ type flag x. h.some type flag (payload_so_far (module_back l) count type x);
   none = λ no. h.none (λ type flag x. no type flag (payload_so_far l count type x));

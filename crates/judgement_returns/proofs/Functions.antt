@@ -1,7 +1,7 @@
 -- A function is accepted alike with other returns.
 use Rattle.std.proofs.Common.{◌≡◌, ℕ, Option, None, List, [], refl, sym, ap, subst, ◌∙◌}
 use Rattle.std.specs.Prelude.{◌<◌, length}
-use Rattle.ir_blocks.specs.Places.{Place, StandsAt}
+use Rattle.ir_blocks.specs.Places.{Place, OccursAt}
 use Rattle.ir_blocks.specs.Plain.{PlainStatement, return, call}
 use Rattle.ir_flags.specs.Sets.{Has}
 use Rattle.ir_flags.specs.declared.settings.ValidationFlags.{ValidationFlags}
@@ -17,7 +17,7 @@ use Rattle.spec_statements.specs.Stages.{statement_stages}
 use Rattle.spec_statements.specs.Statements.{StatementOK}
 use Rattle.spec_statements.specs.ModuleFunctions as functions
 use Rattle.spec_statements.specs.ModuleFunctions.{settings_with, FunctionAtOK, FunctionsOK}
-use Rattle.spec_statements.specs.Held.{HasPayloadBefore, IsHeldBefore}
+use Rattle.spec_statements.specs.EarlierPayloads.{HasPayloadBefore, IsPayloadBefore}
 use Rattle.spec_interface.specs.Modules.{reading_with}
 use Rattle.judgement_returns.specs.Alike.{Carried, kept, extra}
 use Rattle.judgement_returns.specs.Like.{LikeFunction, LikeModule}
@@ -37,7 +37,7 @@ no_call callee arguments result is = let x = is in cc
 arity_moves : {m n : PlainModule} {f g : PlainFunction} → LikeModule m n → LikeFunction f g → AritiesMatch m f → AritiesMatch n g
 arity_moves l k h p callee arguments result stands =
     let at = carry (λ s. s ≡ call callee arguments result) (is_same (call callee arguments result) tt refl) (no_call callee arguments result) k.body.back p _ stands refl in
-    let found = h p callee arguments result (subst (StandsAt _ p) at.2 at.1) in
+    let found = h p callee arguments result (subst (OccursAt _ p) at.2 at.1) in
     let moved = l.functions.there callee found.0 found.1 in
     (moved.0, moved.1, found.2 ∙ sym (ap (λ (z : PlainFunction). length z.arguments) moved.2.rest))
 
@@ -76,7 +76,7 @@ module _ {m n : PlainModule} {f g : PlainFunction} (l : LikeModule m n) (k : Lik
     each = λ e t at. typed_moves (inside m f) n.functions (same_results m.functions n.functions l.functions) f.expressions e t (h.each e t at);
   }
 
-  statement_moves : (forms : List Form) → ((p : Place) (u : PlainStatement) → StandsAt f.body p u → StatementOK (block_context s m f forms) u)
+  statement_moves : (forms : List Form) → ((p : Place) (u : PlainStatement) → OccursAt f.body p u → StatementOK (block_context s m f forms) u)
       → (p : Place) (u : PlainStatement) → Carried g.body f.body p u → StatementOK (block_context s other changed forms) u
   statement_moves forms h p u (kept t at head) =
       rule_moves (block_context s m f forms) n.functions n.entries g.body l.functions u (ok_by_head (block_context s m f forms) t u (sym head) (h p t at))
@@ -108,7 +108,7 @@ module _ {m n : PlainModule} {f g : PlainFunction} (l : LikeModule m n) (k : Lik
 
   -- ---- which stages may run it
 
-  stage_runs : (callees : List ShaderStages) (stage : ℕ) → Has all_stages.0 stage → ((p : Place) (u : PlainStatement) → StandsAt f.body p u → Has (statement_stages s.subgroup_stages callees u).0 stage)
+  stage_runs : (callees : List ShaderStages) (stage : ℕ) → Has all_stages.0 stage → ((p : Place) (u : PlainStatement) → OccursAt f.body p u → Has (statement_stages s.subgroup_stages callees u).0 stage)
       → (p : Place) (u : PlainStatement) → Carried g.body f.body p u → Has (statement_stages s.subgroup_stages callees u).0 stage
   stage_runs callees stage among h p u (kept t at head) =
       subst (λ (z : ShaderStages). Has z.0 stage) (sym (by_head (statement_stages s.subgroup_stages callees) (stages_head s.subgroup_stages callees) u t head)) (h p t at)
@@ -128,7 +128,7 @@ payload_before l count type h =
     let g = l.functions.there h.index h.function h.at in
     record { index = h.index; function = g.0; before = h.before; at = g.1; traced = payload_like l g.2 type h.traced }
 
-held_moves : {m n : PlainModule} → LikeModule m n → (flags : ValidationFlags) (count : ℕ) (held : Option ℕ) → IsHeldBefore flags m count held → IsHeldBefore flags n count held
+held_moves : {m n : PlainModule} → LikeModule m n → (flags : ValidationFlags) (count : ℕ) (held : Option ℕ) → IsPayloadBefore flags m count held → IsPayloadBefore flags n count held
 held_moves l flags count held h = record {
   some = λ type flag x. h.some type flag (payload_before (module_back l) count type x);
   none = λ no. h.none (λ type flag x. no type flag (payload_before l count type x));

@@ -10,7 +10,7 @@ use Rattle.ir_blocks.specs.Shapes.{exit_of, shape_of}
 use Rattle.ir_blocks.specs.Tails.{case_heads, head_of}
 use Rattle.ir_blocks.specs.View.{HoldsNoBlock}
 use Rattle.spec_analysis.specs.Disruption.{chosen_by, is_end}
-use Rattle.spec_analysis.specs.Uniformity.{Asked, Asks}
+use Rattle.spec_analysis.specs.Uniformity.{Required, Requires}
 use Rattle.ir_kinds.specs.declared.diagnostics.Severity.{Severity}
 use Rattle.spec_handles.specs.Statements.{statement_operands, statement_result, statement_range, statement_callee}
 use Rattle.spec_statements.specs.BlockContext.{BlockContext, form_at}
@@ -83,16 +83,16 @@ pub stages_head : (subgroups : ShaderStages) (callees : List ShaderStages) (s : 
 stages_head subgroups callees (block b) = refl
 stages_head subgroups callees s = refl
 
-asks_to_head : (severity : Severity) (required : ℕ → ℕ) (x : Asked) (s : PlainStatement) → Asks severity required s x → Asks severity required (head_of s) x
+asks_to_head : (severity : Severity) (required : ℕ → ℕ) (x : Required) (s : PlainStatement) → Requires severity required s x → Requires severity required (head_of s) x
 asks_to_head severity required x (block b) h = h
 asks_to_head severity required x s h = h
 
-asks_from_head : (severity : Severity) (required : ℕ → ℕ) (x : Asked) (s : PlainStatement) → Asks severity required (head_of s) x → Asks severity required s x
+asks_from_head : (severity : Severity) (required : ℕ → ℕ) (x : Required) (s : PlainStatement) → Requires severity required (head_of s) x → Requires severity required s x
 asks_from_head severity required x (block b) h = h
 asks_from_head severity required x s h = h
 
-pub asks_by_head : (severity : Severity) (required : ℕ → ℕ) (x : Asked) (s t : PlainStatement) → head_of t ≡ head_of s → Asks severity required s x → Asks severity required t x
-asks_by_head severity required x s t e h = asks_from_head severity required x t (subst (λ u. Asks severity required u x) (sym e) (asks_to_head severity required x s h))
+pub asks_by_head : (severity : Severity) (required : ℕ → ℕ) (x : Required) (s t : PlainStatement) → head_of t ≡ head_of s → Requires severity required s x → Requires severity required t x
+asks_by_head severity required x s t e h = asks_from_head severity required x t (subst (λ u. Requires severity required u x) (sym e) (asks_to_head severity required x s h))
 
 values_head : (cs : PlainCases) → case_values (case_heads cs) ≡ case_values cs
 values_head no_case = refl

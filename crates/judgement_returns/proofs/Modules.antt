@@ -10,7 +10,7 @@ use Rattle.typing_layout.specs.declared.constness.ExpressionKind.{ExpressionKind
 use Rattle.spec_expressions.specs.ConstantCompositions.{ComponentsOK}
 use Rattle.spec_expressions.specs.Constants.{ConstantOK}
 use Rattle.spec_expressions.specs.Context.{outside}
-use Rattle.spec_expressions.specs.GlobalExpressions.{Asked, of_literal, of_composition, of_value, to_work_out, asked_of, IsMet, GlobalExpressionOK}
+use Rattle.spec_expressions.specs.GlobalExpressions.{Required, of_literal, of_composition, of_value, to_work_out, required_of, IsMet, GlobalExpressionOK}
 use Rattle.spec_expressions.specs.Overrides.{DefaultOK, OverrideOK}
 use Rattle.spec_expressions.specs.Typing.{HasGlobalType}
 use Rattle.spec_interface.specs.Globals as globals
@@ -35,7 +35,7 @@ module _ (m : PlainModule) (functions : List PlainFunction) (entries : List Plai
   components : (t : ℕ) (parts : List ℕ) → ComponentsOK (outside m) m.global_expressions t parts → ComponentsOK (outside n) n.global_expressions t parts
   components t parts h = record { form = h.form; typed = λ e among. global_typed e (h.form e) (h.typed e among); made = h.made }
 
-  met : (capabilities : Capabilities) (resolved : Bool) (kind : ExpressionKind) (a : Asked) → IsMet capabilities resolved m kind a → IsMet capabilities resolved n kind a
+  met : (capabilities : Capabilities) (resolved : Bool) (kind : ExpressionKind) (a : Required) → IsMet capabilities resolved m kind a → IsMet capabilities resolved n kind a
   met capabilities resolved kind (of_literal value) h = h
   met capabilities resolved kind (of_composition t parts) h = components t parts h
   met capabilities resolved kind of_value h = h
@@ -43,7 +43,7 @@ module _ (m : PlainModule) (functions : List PlainFunction) (entries : List Plai
 
   expression_ok : (capabilities : Capabilities) (resolved : Bool) (i : ℕ) → GlobalExpressionOK capabilities resolved m i → GlobalExpressionOK capabilities resolved n i
   expression_ok capabilities resolved i h =
-      record { expression = h.expression; at = h.at; kind = h.kind; of_kind = h.of_kind; known = h.known; met = met capabilities resolved h.kind (asked_of h.expression) h.met }
+      record { expression = h.expression; at = h.at; kind = h.kind; of_kind = h.of_kind; known = h.known; met = met capabilities resolved h.kind (required_of h.expression) h.met }
 
   constant_ok : (i : ℕ) → ConstantOK m i → ConstantOK n i
   constant_ok i h = record { constant = h.constant; at = h.at; composed = h.composed; known = h.known; typed = global_typed _ _ h.typed }

@@ -12,7 +12,7 @@ use Rattle.ir_items.specs.Plain.{PlainFunction, PlainEntry, PlainLocal, PlainArg
 use Rattle.ir_items.specs.declared.functions.FunctionResult.{FunctionResult}
 use Rattle.ir_kinds.specs.declared.scalars.Scalar.{Scalar}
 use Rattle.spec_handles.specs.Statements.{compared}
-use Rattle.spec_statements.specs.Atomics.{AtomicAnswer, AnswerOK, AtomicResultOK, IsChangedAtOnce, changed_scalar}
+use Rattle.spec_statements.specs.Atomics.{AtomicAnswer, AnswerOK, AtomicResultOK, AtomicChangeOK, changed_scalar}
 use Rattle.spec_statements.specs.Barriers.{HasSubgroupBarriers}
 use Rattle.spec_statements.specs.BlockContext.{BlockContext, form_at}
 use Rattle.spec_statements.specs.Calls.{CallResultOK, CallOK}
@@ -49,7 +49,7 @@ module _ (c : BlockContext) (functions : List PlainFunction) (entries : List Pla
   atomic_result s done None h = h
   atomic_result s done (Some r) h = some_and (AnswerOK c s (compared done)) (AnswerOK d s (compared done)) _ (atomic_answer s (compared done)) h
 
-  changed : (pointer : ℕ) (done : AtomicFunction) (value : ℕ) (result : Option ℕ) (s : Scalar) → IsChangedAtOnce c pointer done value result s → IsChangedAtOnce d pointer done value result s
+  changed : (pointer : ℕ) (done : AtomicFunction) (value : ℕ) (result : Option ℕ) (s : Scalar) → AtomicChangeOK c pointer done value result s → AtomicChangeOK d pointer done value result s
   changed pointer done value result s h = record { fits = h.fits; allowed = h.allowed; answered = atomic_result s done result h.answered }
 
   query_step : (fun : RayQueryFunction) (vertices : Bool) → StepOK c vertices fun → StepOK d vertices fun
@@ -83,7 +83,7 @@ module _ (c : BlockContext) (functions : List PlainFunction) (entries : List Pla
       (λ p x. (texel p coordinate array_index x.0, x.1))
       h
   operation_moves (atomic pointer fun value result) h =
-      some_and (IsChangedAtOnce c pointer fun value result) (IsChangedAtOnce d pointer fun value result) (changed_scalar c.m.types (form_at c pointer)) (changed pointer fun value result) h
+      some_and (AtomicChangeOK c pointer fun value result) (AtomicChangeOK d pointer fun value result) (changed_scalar c.m.types (form_at c pointer)) (changed pointer fun value result) h
   operation_moves (image_atomic image coordinate array_index fun value) h =
       some_and
       (λ (p : Picture). IsTexelOf c p coordinate array_index × IsChanged c.capabilities p.class fun (form_at c value))

@@ -2,7 +2,7 @@
 use Rattle.std.proofs.Common.{◌≡◌, ◌⊎◌, inl, inr, ⊎_elim, ℕ, Option, None, refl, sym, ap, subst, ◌∙◌}
 use Rattle.std.specs.Prelude.{Contains}
 use Rattle.ir_blocks.specs.Plain.{PlainStatement, PlainOperation, emit, continue, return, operation, ray_query, ballot, PlainBlock}
-use Rattle.ir_blocks.specs.Places.{Place, Spot, nothing, statement, loop_condition, spot_at, StandsAt}
+use Rattle.ir_blocks.specs.Places.{Place, Spot, nothing, statement, loop_condition, spot_at, OccursAt}
 use Rattle.ir_blocks.specs.Tails.{head_of}
 use Rattle.ir_blocks.specs.View.{HoldsNoBlock}
 use Rattle.ir_blocks.specs.declared.operations.RayQueryFunction.TheVariants.{Proceed}
@@ -13,7 +13,7 @@ use Rattle.judgement_returns.proofs.Bodies.{carry, looks, is_same, none_containe
 use Rattle.judgement_returns.proofs.Heads.{needed_head}
 
 -- a statement that holds no blocks stands in the other body too
-stands_too : {b c : PlainBlock} (u : PlainStatement) → HoldsNoBlock u → head_of u ≡ u → (return None ≡ u → ⊥) → IsCarried b c → (p : Place) → StandsAt b p u → StandsAt c p u
+stands_too : {b c : PlainBlock} (u : PlainStatement) → HoldsNoBlock u → head_of u ≡ u → (return None ≡ u → ⊥) → IsCarried b c → (p : Place) → OccursAt b p u → OccursAt c p u
 stands_too u none own other h p stands = let k = carry (λ s. s ≡ u) (is_same u none own) other h p u stands refl in k.1 ∙ ap statement k.2
 
 skips : {b c : PlainBlock} → IsCarried b c → (q p : Place) → MaySkip b q p → MaySkip c q p

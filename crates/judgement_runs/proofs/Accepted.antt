@@ -9,7 +9,7 @@ use Rattle.ir_flags.specs.declared.settings.TheConstants.ValidationFlags.{STRICT
 use Rattle.ir_flags.specs.declared.stages.ShaderStages.{ShaderStages}
 use Rattle.ir_blocks.specs.Control.{ControlOK}
 use Rattle.ir_arena.specs.Handles.{handles_between}
-use Rattle.ir_blocks.specs.Places.{Place, Spot, nothing, statement, loop_condition, spot_at, StandsAt}
+use Rattle.ir_blocks.specs.Places.{Place, Spot, nothing, statement, loop_condition, spot_at, OccursAt}
 use Rattle.ir_blocks.specs.Plain.{PlainStatement, emit, block, if_, switch, loop, break, continue, return, kill, operation, call}
 use Rattle.ir_items.specs.Plain.{PlainFunction, PlainModule}
 use Rattle.ir_types.specs.ExpressionPlain.{PlainExpression, plain}
@@ -41,7 +41,7 @@ use Rattle.spec_runs.specs.Laws.{AnswersNameNothing}
 use Rattle.spec_statements.specs.Strict.{StrictOK}
 use Rattle.judgement_runs.proofs.AnswerKinds.{answers_name_nothing}
 use Rattle.judgement_runs.specs.Accepted.{IsAcceptedEntry, RunsNest, RunsPassTypes, RunsUseLive, StrictRunsUseLive, RunsKeepStage, RunsNeverEscape}
-use Rattle.spec_runs.specs.Machine.{Frame, stands_for, pair_of, mentioned_at, callee_frame, entry_frame, trace}
+use Rattle.spec_runs.specs.Machine.{Frame, denotes, pair_of, mentioned_at, callee_frame, entry_frame, trace}
 use Rattle.spec_runs.proofs.Invariance.{invariants_hold}
 use Rattle.spec_runs.proofs.Strict.{strict_is_lawful, strict_suffices}
 use Rattle.spec_runs.proofs.Scopes.{skipped_is_lawful, scope_suffices, known, introduced_known}
@@ -57,14 +57,14 @@ get_held [] i e at = absurd (cc (at))
 get_held (x ∷ xs) zero e at = subst (λ y. Contains (y ∷ xs) e) (sym (some_is at)) (first_held e xs)
 get_held (x ∷ xs) (suc i) e at = Contains-append_right (x ∷ []) xs e (get_held xs i e at)
 
-one_held : (e x : ℕ) → Contains (x ∷ []) e → e ≡ x
-one_held e x (zero, lt, is) = sym is
-one_held e x (suc k, lt, is) = absurd (omega (arith, lt))
+one_payload : (e x : ℕ) → Contains (x ∷ []) e → e ≡ x
+one_payload e x (zero, lt, is) = sym is
+one_payload e x (suc k, lt, is) = absurd (omega (arith, lt))
 
 in_range : (a n x : ℕ) → Contains (range_with_len a n) x → x < a + n
 in_range a zero x held = none_held x held
 in_range a (suc n) x held =
-    ⊎_elim (λ own. (let is = one_held x a own in omega (arith, is))) (λ more. (let below = in_range (a + 1) n x more in omega (arith, below))) (Contains-append_cases (a ∷ []) (range_with_len (a + 1) n) x held)
+    ⊎_elim (λ own. (let is = one_payload x a own in omega (arith, is))) (λ more. (let below = in_range (a + 1) n x more in omega (arith, below))) (Contains-append_cases (a ∷ []) (range_with_len (a + 1) n) x held)
 
 -- a handle of a range is below its end
 between_below : (first end e : ℕ) → first ≤ end → Contains (handles_between (first, end)) e → e < end
@@ -80,18 +80,18 @@ all_weaken P Q g (x ∷ xs) h = (g x h.0, all_weaken P Q g xs h.1)
 
 -- what a statement introduces is an expression of the function
 module _ (m : PlainModule) (f : PlainFunction) (handles : HandlesInRange m f) (p : Place) (e : ℕ) where
-  answer_there : (s : PlainStatement) → StandsAt f.body p s → (o : Option ℕ) → statement_result s ≡ o → Contains (option_to_list o) e → e < length f.expressions
+  answer_there : (s : PlainStatement) → OccursAt f.body p s → (o : Option ℕ) → statement_result s ≡ o → Contains (option_to_list o) e → e < length f.expressions
   answer_there s stands None is held = none_held e held
-  answer_there s stands (Some x) is held = handles (done p) (operand e) (statement_answers stands (is ∙ ap Some (sym (one_held e x held))))
+  answer_there s stands (Some x) is held = handles (done p) (operand e) (statement_answers stands (is ∙ ap Some (sym (one_payload e x held))))
 
-  range_there : (s : PlainStatement) → StandsAt f.body p s → (first end : ℕ) → statement_range s ≡ Some (record { first = first; end = end }) → Contains (handles_between (first, end)) e → e < length f.expressions
+  range_there : (s : PlainStatement) → OccursAt f.body p s → (first end : ℕ) → statement_range s ≡ Some (record { first = first; end = end }) → Contains (handles_between (first, end)) e → e < length f.expressions
   range_there s stands first end is held =
       let there = handles (done p) (range (record { first = first; end = end })) (statement_emits stands is) in
       let below = between_below first end e there.0 held in
       let le = there.1 in
       omega (arith, below, le)
 
-  statement_there : (s : PlainStatement) → StandsAt f.body p s → Contains (introduced s) e → e < length f.expressions
+  statement_there : (s : PlainStatement) → OccursAt f.body p s → Contains (introduced s) e → e < length f.expressions
   statement_there (emit first end) stands held = range_there (emit first end) stands first end refl held
   statement_there (block b) stands held = none_held e held
   statement_there (if_ test accept reject) stands held = none_held e held
@@ -124,10 +124,10 @@ pub record Fits (strictly : Type 0) (m : PlainModule) (subgroups : ShaderStages)
   pub scope : ScopeOK f
   pub strict : strictly → IsStrict f
   pub control : ControlOK f.body
-  pub below : (p : Place) (function : ℕ) (arguments : List ℕ) (result : Option ℕ) → StandsAt f.body p (call function arguments result) → function < k
-  pub passes : (p : Place) (function : ℕ) (arguments : List ℕ) (result : Option ℕ) (callee : PlainFunction) → StandsAt f.body p (call function arguments result) → slice_get m.functions function ≡ Some callee → ArgumentsOK m f callee arguments
-  pub returns : (p : Place) (value : Option ℕ) → StandsAt f.body p (return value) → ValueOK m f value
-  pub executes : (p : Place) (s : PlainStatement) → StandsAt f.body p s → Has (statement_stages subgroups stages s).0 stage
+  pub below : (p : Place) (function : ℕ) (arguments : List ℕ) (result : Option ℕ) → OccursAt f.body p (call function arguments result) → function < k
+  pub passes : (p : Place) (function : ℕ) (arguments : List ℕ) (result : Option ℕ) (callee : PlainFunction) → OccursAt f.body p (call function arguments result) → slice_get m.functions function ≡ Some callee → ArgumentsOK m f callee arguments
+  pub returns : (p : Place) (value : Option ℕ) → OccursAt f.body p (return value) → ValueOK m f value
+  pub executes : (p : Place) (s : PlainStatement) → OccursAt f.body p s → Has (statement_stages subgroups stages s).0 stage
   pub introduces : (p : Place) (e : ℕ) → Introduces f.body p e → IsSomeAnd (slice_get f.expressions e) (λ x. Has (stages_of stages x).0 stage)
 
 module _ (s : FunctionSettings) (m : PlainModule) (f : PlainFunction) (forms : List Form) (many : length forms ≡ length f.expressions)
@@ -140,7 +140,7 @@ module _ (s : FunctionSettings) (m : PlainModule) (f : PlainFunction) (forms : L
   has_this : (e : ℕ) (t : Form) → e < length f.expressions → form_at (block_context s m f forms) e ≡ t → HasType m f e t
   has_this e t lt is = subst (HasType m f e) is (has_form e lt)
 
-  passes_types : (p : Place) (function : ℕ) (arguments : List ℕ) (result : Option ℕ) (callee : PlainFunction) → StandsAt f.body p (call function arguments result) → slice_get m.functions function ≡ Some callee → ArgumentsOK m f callee arguments
+  passes_types : (p : Place) (function : ℕ) (arguments : List ℕ) (result : Option ℕ) (callee : PlainFunction) → OccursAt f.body p (call function arguments result) → slice_get m.functions function ≡ Some callee → ArgumentsOK m f callee arguments
   passes_types p function arguments result callee stands found =
       let ok = body.statements p (call function arguments result) stands in
       let fits = arity p function arguments result stands in
@@ -153,14 +153,14 @@ module _ (s : FunctionSettings) (m : PlainModule) (f : PlainFunction) (forms : L
             (ok.passed i e a at (subst (λ g. slice_get g.arguments i ≡ Some a) (sym same) declared));
       }
 
-  returns_type : (p : Place) (value : Option ℕ) → StandsAt f.body p (return value) → ValueOK m f value
+  returns_type : (p : Place) (value : Option ℕ) → OccursAt f.body p (return value) → ValueOK m f value
   returns_type p None stands = body.statements p (return None) stands
   returns_type p (Some e) stands =
       some_and_map _ _ (λ r is. has_this e (form_of_type m.types r.ty) (handles (done p) (operand e) (statement_reads stands (first_held e []))) is) f.result (body.statements p (return (Some e)) stands)
 
   fits_in : (subgroups : ShaderStages) (stages : List ShaderStages) (stage k : ℕ)
-      → ((p : Place) (function : ℕ) (arguments : List ℕ) (result : Option ℕ) → StandsAt f.body p (call function arguments result) → function < k)
-      → ((p : Place) (u : PlainStatement) → StandsAt f.body p u → Has (statement_stages subgroups stages u).0 stage)
+      → ((p : Place) (function : ℕ) (arguments : List ℕ) (result : Option ℕ) → OccursAt f.body p (call function arguments result) → function < k)
+      → ((p : Place) (u : PlainStatement) → OccursAt f.body p u → Has (statement_stages subgroups stages u).0 stage)
       → ((e : ℕ) (own : ShaderStages) → e < length f.expressions → IsRunBy stages f.expressions e own → Has own.0 stage)
       → Fits (Has s.flags.0 STRICT_SCOPE.0) m subgroups stages stage k f
   fits_in subgroups stages stage k below statements expressions = record {
@@ -217,7 +217,7 @@ module _ (s : FunctionSettings) (m : PlainModule) (number : ℕ) (a : IsAccepted
     pub deep : frame.depth + index ≤ length m.functions
     pub fits : FitsAt index frame.function
 
-  pub callee_fine : (frame : Frame) → Fine frame → (p : Place) (function : ℕ) (arguments : List ℕ) (result : Option ℕ) (callee : PlainFunction) → StandsAt frame.function.body p (call function arguments result) → slice_get m.functions function ≡ Some callee → Fine (callee_frame frame callee arguments)
+  pub callee_fine : (frame : Frame) → Fine frame → (p : Place) (function : ℕ) (arguments : List ℕ) (result : Option ℕ) (callee : PlainFunction) → OccursAt frame.function.body p (call function arguments result) → slice_get m.functions function ≡ Some callee → Fine (callee_frame frame callee arguments)
   callee_fine frame fine p function arguments result callee stands found =
       let lt : function < fine.index = fine.fits.below p function arguments result stands in
       let there : function < length m.functions = slice_get_within m.functions function callee found in
@@ -235,7 +235,7 @@ module _ (s : FunctionSettings) (m : PlainModule) (number : ℕ) (a : IsAccepted
   -- what is known of the events of its runs, whatever is used, global variables and ends of functions aside
   abbrev Holds : Event → Type 0
   Holds (entered depth) = depth ≤ length m.functions
-  Holds (executed f p) = (v : PlainStatement) × StandsAt f.body p v × Has (statement_stages s.subgroup_stages stages v).0 stage
+  Holds (executed f p) = (v : PlainStatement) × OccursAt f.body p v × Has (statement_stages s.subgroup_stages stages v).0 stage
   Holds (introduced_expression f e) = IsSomeAnd (slice_get f.expressions e) (λ x. Has (stages_of stages x).0 stage)
   Holds (named g) = Unit {0}
   Holds (sampled image sampler) = Unit {0}
@@ -252,7 +252,7 @@ module _ (s : FunctionSettings) (m : PlainModule) (number : ℕ) (a : IsAccepted
 
   any_mentioned : (frame : Frame) (o : Option PlainExpression) → AllByRecursion Holds (mentioned_at frame o)
   any_mentioned frame (Some (plain (GlobalVariable g))) = (tt, tt)
-  any_mentioned frame (Some (plain (ImageSample image sampler gathers coordinate array_index offset level depth_ref clamp_to_edge))) = any_pair (stands_for frame image) (stands_for frame sampler)
+  any_mentioned frame (Some (plain (ImageSample image sampler gathers coordinate array_index offset level depth_ref clamp_to_edge))) = any_pair (denotes frame image) (denotes frame sampler)
   any_mentioned frame _ = tt
 
   pub entry_fine : Fine (entry_frame a.entry.entry.function)
@@ -338,7 +338,7 @@ module _ (s : FunctionSettings) (m : PlainModule) (number : ℕ) (a : IsAccepted
 
     any_used_mention : (frame : Frame) (o : Option PlainExpression) → AllByRecursion (UsesOK g) (mentioned_at frame o)
     any_used_mention frame (Some (plain (GlobalVariable h))) = (tt, tt)
-    any_used_mention frame (Some (plain (ImageSample image sampler gathers coordinate array_index offset level depth_ref clamp_to_edge))) = any_used_pair (stands_for frame image) (stands_for frame sampler)
+    any_used_mention frame (Some (plain (ImageSample image sampler gathers coordinate array_index offset level depth_ref clamp_to_edge))) = any_used_pair (denotes frame image) (denotes frame sampler)
     any_used_mention frame _ = tt
 
     uses_kept : IsInvariant u g m Fine (UsesOK g)

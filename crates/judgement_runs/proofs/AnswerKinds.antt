@@ -1,6 +1,6 @@
 -- What stands for the answer of a statement has no operands, where strict scope is as it should be.
 use Rattle.std.proofs.Common.{◌≡◌, ℕ, [], Option, Some, None, IsSomeAnd, option_and_then, slice_get, refl, sym, ap, ◌∙◌, subst}
-use Rattle.ir_blocks.specs.Places.{Place, StandsAt}
+use Rattle.ir_blocks.specs.Places.{Place, OccursAt}
 use Rattle.ir_blocks.specs.Plain.{PlainOperation, control_barrier, memory_barrier, store, image_store, atomic, image_atomic, uniform_load, ray_query, ballot, collective, gather, cooperative_store, ray_pipeline, PlainStatement, emit, block, if_, switch, loop, break, continue, return, kill, operation, call}
 use Rattle.ir_blocks.specs.declared.operations.AtomicFunction.{AtomicFunction}
 use Rattle.ir_blocks.specs.declared.operations.RayQueryFunction.{RayQueryFunction}
@@ -10,7 +10,7 @@ use Rattle.ir_types.specs.ExpressionPlain.{PlainExpression, plain}
 use Rattle.ir_types.specs.declared.expressions.Expression.TheVariants as x
 use Rattle.spec_handles.specs.Expressions.{expression_operands}
 use Rattle.spec_handles.specs.Statements.{operation_result, ray_result}
-use Rattle.spec_statements.specs.Atomics.{AtomicResultOK, IsChangedAtOnce, changed_scalar, declared_answer}
+use Rattle.spec_statements.specs.Atomics.{AtomicResultOK, AtomicChangeOK, changed_scalar, declared_answer}
 use Rattle.spec_statements.specs.BlockContext.{BlockContext, form_at}
 use Rattle.spec_statements.specs.Calls.{CallResultOK}
 use Rattle.spec_statements.specs.Statements.{StatementOK}
@@ -50,7 +50,7 @@ subgroup_quiet _ a is = no_answer a is
 same : (o : Option PlainExpression) (v w : PlainExpression) → o ≡ Some v → o ≡ Some w → v ≡ w
 same o v w first second = cc (first, second)
 
-module _ (c : BlockContext) (statements : (p : Place) (u : PlainStatement) → StandsAt c.f.body p u → StatementOK c u) (strict : StrictOK c.f) where
+module _ (c : BlockContext) (statements : (p : Place) (u : PlainStatement) → OccursAt c.f.body p u → StatementOK c u) (strict : StrictOK c.f) where
   is_quiet : (e : ℕ) (w v : PlainExpression) → slice_get c.f.expressions e ≡ Some w → slice_get c.f.expressions e ≡ Some v → expression_operands w ≡ [] → expression_operands v ≡ []
   is_quiet e w v declared at quiet = ap expression_operands (sym (same (slice_get c.f.expressions e) w v declared at)) ∙ quiet
 
@@ -65,7 +65,7 @@ module _ (c : BlockContext) (statements : (p : Place) (u : PlainStatement) → S
   of_call function callee (Some r) e v ok is at =
       let there : r ≡ e = (let y = is in cc) in is_quiet e (plain (x.CallResult function)) v (subst (λ n. slice_get c.f.expressions n ≡ Some (plain (x.CallResult function))) there ok.1) at refl
 
-  of_step : (p : Place) (query : ℕ) (fun : RayQueryFunction) → StandsAt c.f.body p (operation (ray_query query fun)) → (e : ℕ) (v : PlainExpression) → ray_result fun ≡ Some e → slice_get c.f.expressions e ≡ Some v → expression_operands v ≡ []
+  of_step : (p : Place) (query : ℕ) (fun : RayQueryFunction) → OccursAt c.f.body p (operation (ray_query query fun)) → (e : ℕ) (v : PlainExpression) → ray_result fun ≡ Some e → slice_get c.f.expressions e ≡ Some v → expression_operands v ≡ []
   of_step p query (ray.Initialize acceleration_structure descriptor) stands e v is at = no_answer e is
   of_step p query (ray.Proceed result) stands e v is at =
       let there : result ≡ e = (let y = is in cc) in
@@ -74,13 +74,13 @@ module _ (c : BlockContext) (statements : (p : Place) (u : PlainStatement) → S
   of_step p query ray.ConfirmIntersection stands e v is at = no_answer e is
   of_step p query ray.Terminate stands e v is at = no_answer e is
 
-  of_operation : (p : Place) (a : PlainOperation) → StandsAt c.f.body p (operation a) → (e : ℕ) (v : PlainExpression) → operation_result a ≡ Some e → slice_get c.f.expressions e ≡ Some v → expression_operands v ≡ []
+  of_operation : (p : Place) (a : PlainOperation) → OccursAt c.f.body p (operation a) → (e : ℕ) (v : PlainExpression) → operation_result a ≡ Some e → slice_get c.f.expressions e ≡ Some v → expression_operands v ≡ []
   of_operation p (control_barrier barrier) stands e v is at = no_answer e is
   of_operation p (memory_barrier barrier) stands e v is at = no_answer e is
   of_operation p (store pointer value) stands e v is at = no_answer e is
   of_operation p (image_store image coordinate array_index value) stands e v is at = no_answer e is
   of_operation p (atomic pointer fun value result) stands e v is at =
-      let done = some_and (changed_scalar c.m.types (form_at c pointer)) (IsChangedAtOnce c pointer fun value result) (statements p (operation (atomic pointer fun value result)) stands) in of_atomic done.0 fun result e v done.1.answered is at
+      let done = some_and (changed_scalar c.m.types (form_at c pointer)) (AtomicChangeOK c pointer fun value result) (statements p (operation (atomic pointer fun value result)) stands) in of_atomic done.0 fun result e v done.1.answered is at
   of_operation p (image_atomic image coordinate array_index fun value) stands e v is at = no_answer e is
   of_operation p (uniform_load pointer result) stands e v is at =
       let there : result ≡ e = (let y = is in cc) in

@@ -4,7 +4,7 @@ use Rattle.std.specs.List.{AllByRecursion}
 use Rattle.std.proofs.lemmas.Option.{slice_get-map}
 use Rattle.spec_analysis.specs.declared.sampling.GlobalOrArgument.{GlobalOrArgument}
 use Rattle.spec_analysis.specs.declared.sampling.GlobalOrArgument.TheVariants.{Global, Argument}
-use Rattle.ir_blocks.specs.Places.{Place, here, later, inside, condition, StandsAt}
+use Rattle.ir_blocks.specs.Places.{Place, here, later, inside, condition, OccursAt}
 use Rattle.ir_blocks.specs.Plain.{PlainStatement, block, if_, switch, loop, call, PlainBlock, stop, next, PlainCases, no_case, case}
 use Rattle.ir_blocks.specs.Shapes.{Part, inner, accepting, rejecting, case_at, loop_body, loop_continuing, shape_of, part_of, case_body}
 use Rattle.ir_types.specs.ExpressionPlain.{PlainExpression, plain}
@@ -23,7 +23,7 @@ use Rattle.spec_runs.specs.Good.{NamedOK, SampledOK}
 use Rattle.spec_runs.specs.Invariants.{IsInvariant}
 use Rattle.spec_runs.specs.Scoping.{UsedOperands, with_skipped}
 use Rattle.judgement_runs.specs.Accepted.{IsAcceptedEntry, RunsNameReached, RunsSamplePairs}
-use Rattle.spec_runs.specs.Machine.{Frame, argument_global, global_meant, stands_for, pair_of, mentioned_at, callee_frame, entry_frame, trace}
+use Rattle.spec_runs.specs.Machine.{Frame, argument_global, global_meant, denotes, pair_of, mentioned_at, callee_frame, entry_frame, trace}
 use Rattle.judgement_runs.proofs.Accepted.{Fine, callee_fine, entry_fine, all_weaken}
 use Rattle.spec_runs.proofs.Invariance.{invariants_hold}
 use Rattle.spec_runs.proofs.Scopes.{skipped_is_lawful}
@@ -47,23 +47,23 @@ part_among (loop body continuing break_if) loop_body x h = among-left (effects_i
 part_among (loop body continuing break_if) loop_continuing x h = among-right (effects_in body) (effects_in continuing) x h
 part_among _ _ x h = elim h [ ]
 
-stands_among : (p : Place) (b : PlainBlock) (s : PlainStatement) (x : Effect) → StandsAt b p s → IsAmong x (statement_effects s) → IsAmong x (effects_in b)
-stands_among here stop s x stands h = absurd (cc (stands))
-stands_among here (next t rest) s x stands h =
+occurs_among : (p : Place) (b : PlainBlock) (s : PlainStatement) (x : Effect) → OccursAt b p s → IsAmong x (statement_effects s) → IsAmong x (effects_in b)
+occurs_among here stop s x stands h = absurd (cc (stands))
+occurs_among here (next t rest) s x stands h =
     let same : s ≡ t = cc (stands) in
     among-left (statement_effects t ++ effects_inside t) (effects_in rest) x (among-left (statement_effects t) (effects_inside t) x (subst (λ u. IsAmong x (statement_effects u)) same h))
-stands_among (later p) stop s x stands h = absurd (cc (stands))
-stands_among (later p) (next t rest) s x stands h = among-right (statement_effects t ++ effects_inside t) (effects_in rest) x (stands_among p rest s x stands h)
-stands_among (inside part p) stop s x stands h = absurd (cc (stands))
-stands_among (inside part p) (next t rest) s x stands h =
-    among-left (statement_effects t ++ effects_inside t) (effects_in rest) x (among-right (statement_effects t) (effects_inside t) x (part_among t part x (stands_among p (part_of (shape_of t) part) s x stands h)))
-stands_among condition stop s x stands h = absurd (cc (stands))
-stands_among condition (next t rest) s x stands h = absurd (cc (stands))
+occurs_among (later p) stop s x stands h = absurd (cc (stands))
+occurs_among (later p) (next t rest) s x stands h = among-right (statement_effects t ++ effects_inside t) (effects_in rest) x (occurs_among p rest s x stands h)
+occurs_among (inside part p) stop s x stands h = absurd (cc (stands))
+occurs_among (inside part p) (next t rest) s x stands h =
+    among-left (statement_effects t ++ effects_inside t) (effects_in rest) x (among-right (statement_effects t) (effects_inside t) x (part_among t part x (occurs_among p (part_of (shape_of t) part) s x stands h)))
+occurs_among condition stop s x stands h = absurd (cc (stands))
+occurs_among condition (next t rest) s x stands h = absurd (cc (stands))
 
-call_among : (f : PlainFunction) (p : Place) (function : ℕ) (arguments : List ℕ) (result : Option ℕ) → StandsAt f.body p (call function arguments result) → IsAmong (runs function arguments) (effects_of f)
+call_among : (f : PlainFunction) (p : Place) (function : ℕ) (arguments : List ℕ) (result : Option ℕ) → OccursAt f.body p (call function arguments result) → IsAmong (runs function arguments) (effects_of f)
 call_among f p function arguments result stands =
     among-right (expressions_effects 0 f.expressions) (effects_in f.body) _
-    (stands_among p f.body (call function arguments result) (runs function arguments) stands
+    (occurs_among p f.body (call function arguments result) (runs function arguments) stands
     (among-right (map takes (statement_operands (call function arguments result))) (runs function arguments ∷ []) _ (inl refl)))
 
 -- ---- so is a sampling among the expressions
@@ -91,7 +91,7 @@ record InChain (m : PlainModule) (f : PlainFunction) (frame : Frame) : Type 0 wh
   pub chain : List Step
   pub is_chain : IsChain m f chain
   pub ends : end_of f chain ≡ frame.function
-  pub means : (e g : ℕ) → stands_for frame e ≡ Some g → bound f chain e ≡ Some (Global g)
+  pub means : (e g : ℕ) → denotes frame e ≡ Some g → bound f chain e ≡ Some (Global g)
 
 entry_chain : (m : PlainModule) (f : PlainFunction) → InChain m f (entry_frame f)
 entry_chain m f = record { chain = []; is_chain = tt; ends = refl; means = λ e g is. by_place (place f.expressions e) g is }
@@ -101,20 +101,20 @@ entry_chain m f = record { chain = []; is_chain = tt; ends = refl; means = λ e 
     by_place (Some (Argument n)) g is = absurd (cc (is))
     by_place None g is = absurd (cc (is))
 
-callee_chain : (m : PlainModule) (f : PlainFunction) (frame : Frame) → InChain m f frame → (p : Place) (function : ℕ) (arguments : List ℕ) (result : Option ℕ) (callee : PlainFunction) → StandsAt frame.function.body p (call function arguments result) → slice_get m.functions function ≡ Some callee → InChain m f (callee_frame frame callee arguments)
+callee_chain : (m : PlainModule) (f : PlainFunction) (frame : Frame) → InChain m f frame → (p : Place) (function : ℕ) (arguments : List ℕ) (result : Option ℕ) (callee : PlainFunction) → OccursAt frame.function.body p (call function arguments result) → slice_get m.functions function ≡ Some callee → InChain m f (callee_frame frame callee arguments)
 callee_chain m f frame c p function arguments result callee stands found =
     let called = get-among (effects_of frame.function) (runs function arguments) (call_among frame.function p function arguments result stands) in
     let calls : Calls m (end_of f c.chain) (record { at = called.0; arguments = arguments; function = callee }) =
     record { callee = function; call = subst (λ h. slice_get (effects_of h) called.0 ≡ Some (runs function arguments)) (sym c.ends) called.1; found = found } in
     record { chain = record { at = called.0; arguments = arguments; function = callee } ∷ c.chain; is_chain = (calls, c.is_chain); ends = refl; means = λ e g is. by_place (place callee.expressions e) g is }
   where
-    by_argument : (o : Option ℕ) (g : ℕ) → argument_global (option_map (stands_for frame) o) ≡ Some g → argument_means (bound f c.chain) o ≡ Some (Global g)
+    by_argument : (o : Option ℕ) (g : ℕ) → argument_global (option_map (denotes frame) o) ≡ Some g → argument_means (bound f c.chain) o ≡ Some (Global g)
     by_argument (Some e) g is = c.means e g is
     by_argument None g is = absurd (cc (is))
 
-    by_place : (o : Option GlobalOrArgument) (g : ℕ) → global_meant (map (stands_for frame) arguments) o ≡ Some g → seen_through (bound f c.chain) arguments o ≡ Some (Global g)
+    by_place : (o : Option GlobalOrArgument) (g : ℕ) → global_meant (map (denotes frame) arguments) o ≡ Some g → seen_through (bound f c.chain) arguments o ≡ Some (Global g)
     by_place (Some (Global h)) g is = ap (λ x. Some (Global x)) (some_is is)
-    by_place (Some (Argument n)) g is = by_argument (slice_get arguments n) g (sym (ap argument_global (slice_get-map (stands_for frame) arguments n)) ∙ is)
+    by_place (Some (Argument n)) g is = by_argument (slice_get arguments n) g (sym (ap argument_global (slice_get-map (denotes frame) arguments n)) ∙ is)
     by_place None g is = absurd (cc (is))
 
 -- ---- runs
@@ -124,7 +124,7 @@ module _ (s : FunctionSettings) (m : PlainModule) (number : ℕ) (a : IsAccepted
   f = a.entry.entry.function
 
   -- the frames of its runs, with what they name in range
-  record Told (frame : Frame) : Type 0 where
+  record Reported (frame : Frame) : Type 0 where
     pub fine : Fine s m number a frame
     pub within : InChain m f frame
     pub handles : HandlesInRange m frame.function
@@ -141,17 +141,17 @@ module _ (s : FunctionSettings) (m : PlainModule) (number : ℕ) (a : IsAccepted
   Holds (fell_off g last) = Unit {0}
   Holds escaped = Unit {0}
 
-  names_hold : (frame : Frame) → Told frame → (e g : ℕ) → slice_get frame.function.expressions e ≡ Some (plain (GlobalVariable g)) → Holds (named g)
+  names_hold : (frame : Frame) → Reported frame → (e g : ℕ) → slice_get frame.function.expressions e ≡ Some (plain (GlobalVariable g)) → Holds (named g)
   names_hold frame t e g at = (
     t.handles (computed_site e) _ (expression_names at refl),
     record { chain = t.within.chain; is_chain = t.within.is_chain; holds = subst (Names g) (sym t.within.ends) (e, at) },
   )
 
   -- what an expression samples, where its image and its sampler stand for global variables
-  samples_hold : (frame : Frame) → Told frame → (e : ℕ) (x : PlainExpression) (image sampler : ℕ) → slice_get frame.function.expressions e ≡ Some x → sampling_at e x ≡ sampling e image sampler ∷ [] → AllByRecursion Holds (pair_of (stands_for frame image) (stands_for frame sampler))
-  samples_hold frame t e x image sampler at is = by_pair (stands_for frame image) (stands_for frame sampler) refl refl
+  samples_hold : (frame : Frame) → Reported frame → (e : ℕ) (x : PlainExpression) (image sampler : ℕ) → slice_get frame.function.expressions e ≡ Some x → sampling_at e x ≡ sampling e image sampler ∷ [] → AllByRecursion Holds (pair_of (denotes frame image) (denotes frame sampler))
+  samples_hold frame t e x image sampler at is = by_pair (denotes frame image) (denotes frame sampler) refl refl
     where
-      by_pair : (i j : Option ℕ) → stands_for frame image ≡ i → stands_for frame sampler ≡ j → AllByRecursion Holds (pair_of i j)
+      by_pair : (i j : Option ℕ) → denotes frame image ≡ i → denotes frame sampler ≡ j → AllByRecursion Holds (pair_of i j)
       by_pair (Some i) (Some j) image_is sampler_is = (
         record {
           chain = t.within.chain;
@@ -170,13 +170,13 @@ module _ (s : FunctionSettings) (m : PlainModule) (number : ℕ) (a : IsAccepted
       by_pair (Some i) None image_is sampler_is = tt
       by_pair None j image_is sampler_is = tt
 
-  mentions_hold : (frame : Frame) → Told frame → (e : ℕ) (o : Option PlainExpression) → slice_get frame.function.expressions e ≡ o → AllByRecursion Holds (mentioned_at frame o)
+  mentions_hold : (frame : Frame) → Reported frame → (e : ℕ) (o : Option PlainExpression) → slice_get frame.function.expressions e ≡ o → AllByRecursion Holds (mentioned_at frame o)
   mentions_hold frame t e (Some (plain (GlobalVariable g))) at = (names_hold frame t e g at, tt)
   mentions_hold frame t e (Some (plain (ImageSample image sampler gathers coordinate array_index offset level depth_ref clamp_to_edge))) at = samples_hold frame t e _ image sampler at refl
   mentions_hold frame t e _ at = tt
 
   module _ (u : UsedOperands) where
-    told_kept : IsInvariant u with_skipped m Told Holds
+    told_kept : IsInvariant u with_skipped m Reported Holds
     told_kept = record {
       control = λ frame t. t.fine.fits.control;
       calls = λ frame t p function arguments result callee stands found. (
@@ -197,8 +197,8 @@ module _ (s : FunctionSettings) (m : PlainModule) (number : ℕ) (a : IsAccepted
       falls = λ frame t last. tt;
     }
 
-    all_told : (answers : List ℤ) (n : ℕ) → AllByRecursion Holds (trace u m a.entry.entry answers n)
-    all_told = invariants_hold u with_skipped skipped_is_lawful m Told Holds told_kept f (record { fine = entry_fine s m number a; within = entry_chain m f; handles = a.handles.entries number a.entry.entry a.entry.at })
+    all_reported : (answers : List ℤ) (n : ℕ) → AllByRecursion Holds (trace u m a.entry.entry answers n)
+    all_reported = invariants_hold u with_skipped skipped_is_lawful m Reported Holds told_kept f (record { fine = entry_fine s m number a; within = entry_chain m f; handles = a.handles.entries number a.entry.entry a.entry.at })
 
   each_named : (x : Event) → Holds x → NamedOK m f x
   each_named (entered depth) h = tt
@@ -225,7 +225,7 @@ module _ (s : FunctionSettings) (m : PlainModule) (number : ℕ) (a : IsAccepted
   each_sampled escaped h = tt
 
 pub runs_name_reached : RunsNameReached
-runs_name_reached s m number a u answers n = all_weaken _ _ (each_named s m number a) _ (all_told s m number a u answers n)
+runs_name_reached s m number a u answers n = all_weaken _ _ (each_named s m number a) _ (all_reported s m number a u answers n)
 
 pub runs_sample_pairs : RunsSamplePairs
-runs_sample_pairs s m number a u answers n = all_weaken _ _ (each_sampled s m number a) _ (all_told s m number a u answers n)
+runs_sample_pairs s m number a u answers n = all_weaken _ _ (each_sampled s m number a) _ (all_reported s m number a u answers n)

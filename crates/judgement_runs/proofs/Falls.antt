@@ -2,9 +2,9 @@
 use Rattle.std.proofs.Common.{◌≡◌, ◌∙◌, ℕ, List, Option, Some, None, slice_get, refl, sym, subst}
 use Rattle.std.specs.Prelude.{IsSomeAnd}
 use Rattle.std.proofs.lemmas.Option.{slice_get_within}
-use Rattle.ir_blocks.specs.Places.{Place, nothing, statement, spot_at, StandsAt}
+use Rattle.ir_blocks.specs.Places.{Place, nothing, statement, spot_at, OccursAt}
 use Rattle.ir_blocks.specs.Plain.{PlainStatement, switch, return, PlainBlock}
-use Rattle.ir_blocks.specs.Tails.{IsOpenEnd, empty, behind_last, further, in_tail, completed}
+use Rattle.ir_blocks.specs.Tails.{IsOpenEnd, empty, after_last, further, in_tail, completed}
 use Rattle.ir_blocks.proofs.OneCompleted.{one_completed}
 use Rattle.ir_blocks.proofs.TailLaws.{added, completed_once}
 use Rattle.ir_items.specs.Plain.{PlainFunction, PlainModule}
@@ -25,12 +25,12 @@ some_is e = cc (e)
 -- nothing stands at an open end
 open_nothing : {b : PlainBlock} {p : Place} → IsOpenEnd b p → spot_at p b ≡ nothing
 open_nothing empty = refl
-open_nothing (behind_last goes) = refl
+open_nothing (after_last goes) = refl
 open_nothing (further e) = open_nothing e
 open_nothing (in_tail part tail e) = open_nothing e
 
 completed_closed : (b : PlainBlock) → HasNoOpenEnd (completed b)
-completed_closed b p e = nothing_stands (sym (open_nothing e) ∙ subst (λ c. StandsAt c p (return None)) (completed_once b) (added (completed b) p e))
+completed_closed b p e = nothing_stands (sym (open_nothing e) ∙ subst (λ c. OccursAt c p (return None)) (completed_once b) (added (completed b) p e))
   where
     nothing_stands : {s : PlainStatement} → nothing ≡ statement s → ⊥
     nothing_stands h = cc (h)

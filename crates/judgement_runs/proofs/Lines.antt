@@ -13,7 +13,7 @@ use Rattle.judgement_runs.proofs.Texts.{whole_end, whole_append, whole_if, whole
 use Rattle.spec_interface.specs.Spaces.{counted}
 use Rattle.typing_layout.specs.Layout.{size, alignment}
 use Rattle.typing_layout.specs.View.{type_tree}
-use Rattle.judgement_runs.specs.Lines.{AreWhole, HasLines, use_line, TellsGlobal, as_payload, as_mesh, as_used, TellsPair, LinesStand, EntriesAreTold, BuffersAreTold}
+use Rattle.judgement_runs.specs.Lines.{AreWhole, HasLines, use_line, ReportsGlobal, as_payload, as_mesh, as_used, ReportsPair, LinesStand, EntriesAreReported, BuffersAreReported}
 use Rattle.judgement.specs.Lines.{each_from, is_buffer, buffer_line, buffer_of, buffers, mesh_output, is_at, is_own, own_line, is_used, use_words, global_line, pair_line, head_line, variable_lines, entry_lines}
 use Rattle.judgement.specs.Reports.{IsEntryReport}
 
@@ -96,13 +96,13 @@ line_is true used line a b = absurd (true≢false a)
 line_is false false line a b = absurd (true≢false (sym b))
 
 module _ (m : PlainModule) (number : ℕ) (e : PlainEntry) (lines : List ℕ) (r : IsEntryReport m number e lines) (g : ℕ) where
-  own_stands : is_own e g ≡ true → TellsGlobal lines g
+  own_stands : is_own e g ≡ true → ReportsGlobal lines g
   own_stands owned = elim (either_true (is_at e.payload g) (is_at (mesh_output e) g) owned) [
     | inl payload ↦ as_payload (subst (λ o. HasLines (own_line (codes "payload") o) lines) (at_is e.payload g payload) (subst (HasLines _) (sym r.told) (payload_stands number e r.uses r.pairs)))
     | inr mesh ↦ as_mesh (subst (λ o. HasLines (own_line (codes "mesh") o) lines) (at_is (mesh_output e) g mesh) (subst (HasLines _) (sym r.told) (mesh_stands number e r.uses r.pairs)))
   ]
 
-  used_stands : (own : Bool) → is_own e g ≡ own → g < length m.globals → IsTrue (is_used (slice_index_or r.uses g no_use)) → TellsGlobal lines g
+  used_stands : (own : Bool) → is_own e g ≡ own → g < length m.globals → IsTrue (is_used (slice_index_or r.uses g no_use)) → ReportsGlobal lines g
   used_stands true owned within used = own_stands owned
   used_stands false other within used =
       let kinds = slice_index_or r.uses g no_use in
@@ -110,10 +110,10 @@ module _ (m : PlainModule) (number : ℕ) (e : PlainEntry) (lines : List ℕ) (r
       let stands : HasLines (global_line e g kinds) lines = subst (HasLines _) (sym r.told) (use_stands number e r.uses r.pairs g kinds there) in
       as_used kinds used (subst (λ line. HasLines line lines) (line_is (is_own e g) (is_used kinds) (use_line g kinds) other used) stands)
 
-  pub global_told : g < length m.globals → IsTrue (is_own e g) ⊎ IsTrue (is_used (slice_index_or r.uses g no_use)) → TellsGlobal lines g
+  pub global_told : g < length m.globals → IsTrue (is_own e g) ⊎ IsTrue (is_used (slice_index_or r.uses g no_use)) → ReportsGlobal lines g
   global_told within told = elim told [ inl owned ↦ own_stands owned | inr used ↦ used_stands (is_own e g) refl within used ]
 
-pub pair_told : (m : PlainModule) (number : ℕ) (e : PlainEntry) (lines : List ℕ) (r : IsEntryReport m number e lines) (image sampler : ℕ) → IsAmong (image, sampler) r.pairs → TellsPair lines image sampler
+pub pair_told : (m : PlainModule) (number : ℕ) (e : PlainEntry) (lines : List ℕ) (r : IsEntryReport m number e lines) (image sampler : ℕ) → IsAmong (image, sampler) r.pairs → ReportsPair lines image sampler
 pair_told m number e lines r image sampler among = subst (HasLines _) (sym r.told) (pair_stands number e r.uses r.pairs (image, sampler) among)
 
 pub lines_stand : LinesStand
@@ -131,8 +131,8 @@ there [] k lt = absurd (omega (arith, lt))
 there (x ∷ xs) zero lt = (x, refl)
 there (x ∷ xs) (suc k) lt = there xs k (omega (arith, lt))
 
-pub entries_are_told : EntriesAreTold
-entries_are_told m report r number e at =
+pub entries_are_reported : EntriesAreReported
+entries_are_reported m report r number e at =
     let within : number < length m.entries = slice_get_within m.entries number e at in
     let lines = there r.entries number (subst (λ n. number < n) (sym r.are_entries.many) within) in
     let whole : (j : ℕ) (y : List ℕ) → slice_get r.entries j ≡ Some y → AreWhole y = λ j y is.
@@ -150,8 +150,8 @@ if_holds : (b : Bool) (line : List ℕ) → b ≡ true → (if b then line else 
 if_holds true line e = refl
 if_holds false line e = absurd (true≢false (sym e))
 
-pub buffers_are_told : BuffersAreTold
-buffers_are_told m report r number v at b =
+pub buffers_are_reported : BuffersAreReported
+buffers_are_reported m report r number v at b =
     let line = buffer_line number (size (type_tree m.types (counted m.types v.ty))) (alignment (type_tree m.types (counted m.types v.ty))) in
     let n : 0 + number ≡ number = omega arith in
     let piece : HasLines (buffer_of m.types (0 + number) v) (buffers m) = has_each (buffer_of m.types) (buffer_whole m.types) 0 m.globals number v at in

@@ -7,23 +7,23 @@ use Rattle.spec_analysis.specs.Chains.{Step, Calls, IsChain, end_of, Reaches, Is
 use Rattle.spec_analysis.specs.Effects.{effects_of}
 use Rattle.judgement.proofs.OneReport.{one_entry_report}
 use Rattle.judgement.specs.Reports.{IsEntryReport}
-use Rattle.judgement_runs.proofs.Lines.{entries_are_told}
+use Rattle.judgement_runs.proofs.Lines.{entries_are_reported}
 use Rattle.judgement_runs.specs.Lines.{HasLines}
 use Rattle.judgement_runs.specs.Local.{AgreeFrom, DifferElsewhere, ReportsAreLocal}
 
 -- a chain behind a chain
-end_behind : (f : PlainFunction) (before after : List Step) → end_of f (after ++ before) ≡ end_of (end_of f before) after
-end_behind f before [] = refl
-end_behind f before (s ∷ after) = refl
+end_after : (f : PlainFunction) (before after : List Step) → end_of f (after ++ before) ≡ end_of (end_of f before) after
+end_after f before [] = refl
+end_after f before (s ∷ after) = refl
 
 chain_behind : (m : PlainModule) (f : PlainFunction) (before after : List Step) → IsChain m f before → IsChain m (end_of f before) after → IsChain m f (after ++ before)
 chain_behind m f before [] first rest = first
-chain_behind m f before (s ∷ after) first rest = (subst (λ h. Calls m h s) (sym (end_behind f before after)) rest.0, chain_behind m f before after first rest.1)
+chain_behind m f before (s ∷ after) first rest = (subst (λ h. Calls m h s) (sym (end_after f before after)) rest.0, chain_behind m f before after first rest.1)
 
 -- what is agreed on from f is from each function that it reaches
 agree_there : (m n : PlainModule) (f : PlainFunction) (chain : List Step) → IsChain m f chain → AgreeFrom m n f → AgreeFrom m n (end_of f chain)
 agree_there m n f chain is agree after rest at callee arguments call =
-    agree (after ++ chain) (chain_behind m f chain after is rest) at callee arguments (ap (λ h. slice_get (effects_of h) at) (end_behind f chain after) ∙ call)
+    agree (after ++ chain) (chain_behind m f chain after is rest) at callee arguments (ap (λ h. slice_get (effects_of h) at) (end_after f chain after) ∙ call)
 
 call_kept : (m n : PlainModule) (f : PlainFunction) (chain : List Step) (s : Step) → IsChain m f chain → AgreeFrom m n f → Calls m (end_of f chain) s → Calls n (end_of f chain) s
 call_kept m n f chain s is agree calls = record { callee = calls.callee; call = calls.call; found = sym (agree chain is s.at calls.callee s.arguments calls.call) ∙ calls.found }
@@ -88,7 +88,7 @@ module _ (m n : PlainModule) (e : PlainEntry) (differ : DifferElsewhere m n e) w
 
 pub reports_are_local : ReportsAreLocal
 reports_are_local m report is number e at n other differ told =
-    let here = entries_are_told m report is number e at in
-    let there = entries_are_told n other told number e (ap (λ x. slice_get x.entries number) differ.rest ∙ at) in
+    let here = entries_are_reported m report is number e at in
+    let there = entries_are_reported n other told number e (ap (λ x. slice_get x.entries number) differ.rest ∙ at) in
     let same = one_entry_report n number e there.lines here.lines there.are (lines_kept m n e differ number here.lines here.are) in
     (here.lines, record { are = here.are; stand = here.stand }, record { are = lines_kept m n e differ number here.lines here.are; stand = subst (λ lines. HasLines lines other) same there.stand })

@@ -10,7 +10,7 @@ use Rattle.judgement.specs.Steps.{IsPrepared, IsFinding, function_settings, modu
 use Rattle.judgement.specs.declared.finding.Finding.TheVariants.{Accepted}
 use Rattle.spec_analysis.specs.Summaries.{no_use}
 use Rattle.spec_buffers.proofs.Buffers.{buffers_are_sound}
-use Rattle.judgement.proofs.Named.{named_are_told}
+use Rattle.judgement.proofs.Named.{named_are_reported}
 use Rattle.judgement.specs.Lines.{is_own, is_used}
 use Rattle.judgement.specs.Reports.{IsEntryReport, IsReport}
 use Rattle.spec_runs.specs.Events.{Event, entered, executed, introduced_expression, named, sampled, used, passed, returned, fell_off, escaped}
@@ -18,12 +18,12 @@ use Rattle.spec_runs.specs.Good.{DepthOK, NamedOK, SampledOK}
 use Rattle.spec_runs.specs.Laws.{OnEveryRun}
 use Rattle.spec_runs.specs.Scoping.{checked_operands}
 use Rattle.judgement_runs.specs.Accepted.{IsAcceptedEntry, HaveReturns}
-use Rattle.judgement_runs.specs.Lines.{NamedIsTold, SampledIsTold}
+use Rattle.judgement_runs.specs.Lines.{NamedIsReported, SampledIsReported}
 use Rattle.judgement_runs.specs.Sound.{AreChecked, EntryIsSound, AcceptedIsSound, FunctionsBoundDepth}
 use Rattle.judgement_runs.proofs.Accepted.{all_weaken, runs_nest, runs_pass_types, runs_use_live, strict_runs_use_live, runs_keep_stage, runs_never_escape}
 use Rattle.judgement_runs.proofs.Chains.{runs_name_reached, runs_sample_pairs}
 use Rattle.judgement_runs.proofs.Falls.{runs_fall_by_breaks}
-use Rattle.judgement_runs.proofs.Lines.{global_told, pair_told, entries_are_told, buffers_are_told}
+use Rattle.judgement_runs.proofs.Lines.{global_told, pair_told, entries_are_reported, buffers_are_reported}
 
 some_is : {A : Type 0} {x y : A} → Some x ≡ Some y → x ≡ y
 some_is e = cc (e)
@@ -51,9 +51,9 @@ prepared_have false d m p is = absurd (true≢false (sym is))
 module _ (m : PlainModule) (number : ℕ) (e : PlainEntry) (lines : List ℕ) (r : IsEntryReport m number e lines) where
   uses_told : (g : ℕ) → NamedOK m e.function (named g) → (own : Bool) → is_own e g ≡ own → IsTrue (is_own e g) ⊎ IsTrue (is_used (slice_index_or r.uses g no_use))
   uses_told g h true is = inl is
-  uses_told g h false is = inr ((named_are_told m number e lines r g h.0 is).1 h.1)
+  uses_told g h false is = inr ((named_are_reported m number e lines r g h.0 is).1 h.1)
 
-  each_named : (x : Event) → NamedOK m e.function x → NamedIsTold lines x
+  each_named : (x : Event) → NamedOK m e.function x → NamedIsReported lines x
   each_named (entered depth) h = tt
   each_named (executed f p) h = tt
   each_named (introduced_expression f o) h = tt
@@ -65,7 +65,7 @@ module _ (m : PlainModule) (number : ℕ) (e : PlainEntry) (lines : List ℕ) (r
   each_named (fell_off f last) h = tt
   each_named escaped h = tt
 
-  each_sampled : (x : Event) → SampledOK m e.function x → SampledIsTold lines x
+  each_sampled : (x : Event) → SampledOK m e.function x → SampledIsReported lines x
   each_sampled (entered depth) h = tt
   each_sampled (executed f p) h = tt
   each_sampled (introduced_expression f o) h = tt
@@ -90,7 +90,7 @@ entry_is_sound returns s d m strict prepared found checked report is number e at
     let same : a.entry.entry ≡ e = some_is (sym a.entry.at ∙ at) in
     subst (EntryIsSound returns s m report number) same
     (let own = a.entry.entry in
-    let t = entries_are_told m report is number own a.entry.at in
+    let t = entries_are_reported m report is number own a.entry.at in
     record {
       depth = runs_nest f m number a checked_operands;
       types = runs_pass_types f m number a checked_operands;
@@ -107,7 +107,7 @@ entry_is_sound returns s d m strict prepared found checked report is number e at
 
 pub accepted_is_sound : AcceptedIsSound
 accepted_is_sound returns s d m strict prepared found checked report is = record {
-  buffers = λ number v at buffer. record { told = buffers_are_told m report is number v at buffer; leaves = (buffers_are_sound (module_settings s) m checked.layouts found.0 found.1 number v at buffer).leaves };
+  buffers = λ number v at buffer. record { told = buffers_are_reported m report is number v at buffer; leaves = (buffers_are_sound (module_settings s) m checked.layouts found.0 found.1 number v at buffer).leaves };
   entries = λ number e at. entry_is_sound returns s d m strict prepared found checked report is number e at;
 }
 

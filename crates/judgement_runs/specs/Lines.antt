@@ -27,24 +27,24 @@ abbrev pub use_line : (g : ℕ) → GlobalUse → List ℕ
 use_line g kinds = codes "global " ++ decimal g ++ use_words kinds ++ codes "\n"
 
 -- A line tells of the global variable: as the entry point's payload or mesh output, or as one that is used.
-pub data TellsGlobal (lines : List ℕ) (g : ℕ) : Type 0 where
-  as_payload : HasLines (own_line (codes "payload") (Some g)) lines → TellsGlobal lines g
-  as_mesh : HasLines (own_line (codes "mesh") (Some g)) lines → TellsGlobal lines g
-  as_used : (kinds : GlobalUse) → IsTrue (is_used kinds) → HasLines (use_line g kinds) lines → TellsGlobal lines g
+pub data ReportsGlobal (lines : List ℕ) (g : ℕ) : Type 0 where
+  as_payload : HasLines (own_line (codes "payload") (Some g)) lines → ReportsGlobal lines g
+  as_mesh : HasLines (own_line (codes "mesh") (Some g)) lines → ReportsGlobal lines g
+  as_used : (kinds : GlobalUse) → IsTrue (is_used kinds) → HasLines (use_line g kinds) lines → ReportsGlobal lines g
 
 -- a line tells that the image is sampled by the sampler
-abbrev pub TellsPair : List ℕ → (image sampler : ℕ) → Type 0
-TellsPair lines image sampler = HasLines (pair_line (image, sampler)) lines
+abbrev pub ReportsPair : List ℕ → (image sampler : ℕ) → Type 0
+ReportsPair lines image sampler = HasLines (pair_line (image, sampler)) lines
 
 -- a line tells of a global variable that is named
-abbrev pub NamedIsTold : (lines : List ℕ) → Event → Type 0
-NamedIsTold lines (named g) = TellsGlobal lines g
-NamedIsTold lines _ = Unit {0}
+abbrev pub NamedIsReported : (lines : List ℕ) → Event → Type 0
+NamedIsReported lines (named g) = ReportsGlobal lines g
+NamedIsReported lines _ = Unit {0}
 
 -- and of a pair that is sampled
-abbrev pub SampledIsTold : (lines : List ℕ) → Event → Type 0
-SampledIsTold lines (sampled image sampler) = TellsPair lines image sampler
-SampledIsTold lines _ = Unit {0}
+abbrev pub SampledIsReported : (lines : List ℕ) → Event → Type 0
+SampledIsReported lines (sampled image sampler) = ReportsPair lines image sampler
+SampledIsReported lines _ = Unit {0}
 
 -- ---- what is known of the lines of a report
 
@@ -52,23 +52,23 @@ SampledIsTold lines _ = Unit {0}
 abbrev pub LinesStand : Type 0
 LinesStand =
     (m : PlainModule) (number : ℕ) (e : PlainEntry) (lines : List ℕ) (r : IsEntryReport m number e lines)
-    → ((g : ℕ) → g < length m.globals → IsTrue (is_own e g) ⊎ IsTrue (is_used (slice_index_or r.uses g no_use)) → TellsGlobal lines g)
-    × ((image sampler : ℕ) → IsAmong (image, sampler) r.pairs → TellsPair lines image sampler)
+    → ((g : ℕ) → g < length m.globals → IsTrue (is_own e g) ⊎ IsTrue (is_used (slice_index_or r.uses g no_use)) → ReportsGlobal lines g)
+    × ((image sampler : ℕ) → IsAmong (image, sampler) r.pairs → ReportsPair lines image sampler)
 
 -- The lines of the entry point with this number, which stand in the report.
-pub record EntryIsTold (m : PlainModule) (report : List ℕ) (number : ℕ) (e : PlainEntry) : Type 0 where
+pub record EntryIsReported (m : PlainModule) (report : List ℕ) (number : ℕ) (e : PlainEntry) : Type 0 where
   pub lines : List ℕ
   pub are : IsEntryReport m number e lines
   pub stand : HasLines lines report
 
 -- each entry point has its lines in the report
-abbrev pub EntriesAreTold : Type 0
-EntriesAreTold = (m : PlainModule) (report : List ℕ) → IsReport m report → (number : ℕ) (e : PlainEntry) → slice_get m.entries number ≡ Some e → EntryIsTold m report number e
+abbrev pub EntriesAreReported : Type 0
+EntriesAreReported = (m : PlainModule) (report : List ℕ) → IsReport m report → (number : ℕ) (e : PlainEntry) → slice_get m.entries number ≡ Some e → EntryIsReported m report number e
 
 -- the line that tells the size and the alignment of the buffer stands in the report
-abbrev pub BufferIsTold : PlainModule → (report : List ℕ) → (number : ℕ) → PlainGlobal → Type 0
-BufferIsTold m report number v = HasLines (buffer_line number (size (buffer_type m.types v)) (alignment (buffer_type m.types v))) report
+abbrev pub BufferIsReported : PlainModule → (report : List ℕ) → (number : ℕ) → PlainGlobal → Type 0
+BufferIsReported m report number v = HasLines (buffer_line number (size (buffer_type m.types v)) (alignment (buffer_type m.types v))) report
 
 -- each buffer has its line in the report
-abbrev pub BuffersAreTold : Type 0
-BuffersAreTold = (m : PlainModule) (report : List ℕ) → IsReport m report → (number : ℕ) (v : PlainGlobal) → slice_get m.globals number ≡ Some v → IsTrue (is_buffer v.space) → BufferIsTold m report number v
+abbrev pub BuffersAreReported : Type 0
+BuffersAreReported = (m : PlainModule) (report : List ℕ) → IsReport m report → (number : ℕ) (v : PlainGlobal) → slice_get m.globals number ≡ Some v → IsTrue (is_buffer v.space) → BufferIsReported m report number v

@@ -18,7 +18,7 @@ use Rattle.typing_layout.specs.Parts.{Everywhere}
 use Rattle.spec_runs.specs.Good.{DepthOK, TypesOK, LiveOK, SurelyLiveOK, StagesOK, FallsOK, NoEscape}
 use Rattle.spec_runs.specs.Laws.{OnEveryRun, OnEveryRunOf}
 use Rattle.spec_runs.specs.Scoping.{all_operands}
-use Rattle.judgement_runs.specs.Lines.{EntryIsTold, BufferIsTold, NamedIsTold, SampledIsTold}
+use Rattle.judgement_runs.specs.Lines.{EntryIsReported, BufferIsReported, NamedIsReported, SampledIsReported}
 
 -- The stages that may run the functions of the module, each with its callees; and with these nothing is executed or introduced
 -- that the stage of the entry point may not run.
@@ -40,9 +40,9 @@ pub record EntryIsSound (returns : Bool) (s : PlainSettings) (m : PlainModule) (
   pub all_live : IsScopeStrict s.flags → OnEveryRunOf all_operands m e SurelyLiveOK
   pub surely_live : IsScopeStrict s.flags → OnEveryRun m e SurelyLiveOK
   -- names and samples only what the entry point's lines in the report tell,
-  pub told : EntryIsTold m report number e
-  pub named : OnEveryRun m e (NamedIsTold told.lines)
-  pub sampled : OnEveryRun m e (SampledIsTold told.lines)
+  pub told : EntryIsReported m report number e
+  pub named : OnEveryRun m e (NamedIsReported told.lines)
+  pub sampled : OnEveryRun m e (SampledIsReported told.lines)
   -- executes nothing that is forbidden at its stage,
   pub stage : StageIsKept s m e
   -- where returns are put in, falls off a function with a result only by a break out of a final switch,
@@ -53,7 +53,7 @@ pub record EntryIsSound (returns : Bool) (s : PlainSettings) (m : PlainModule) (
 -- What is promised of a buffer: a line of the report tells its size and its alignment, and, unless some stride inside it is shorter
 -- than its element, what lies in it is aligned, apart and within that size.
 pub record BufferIsSound (m : PlainModule) (report : List ℕ) (number : ℕ) (v : PlainGlobal) : Type 0 where
-  pub told : BufferIsTold m report number v
+  pub told : BufferIsReported m report number v
   pub leaves : Everywhere StrideOK (buffer_type m.types v) → LeavesOK (buffer_type m.types v)
 
 -- What is promised of a module: of each of its buffers, and of each of its entry points.

@@ -4,7 +4,7 @@
 #![tactic(auto)]
 
 ghost use Rattle.judgement_runs.specs.Accepted.{RunsNest, RunsPassTypes, RunsUseLive, StrictRunsUseLive, RunsNameReached, RunsSamplePairs, RunsKeepStage, RunsFallByBreaks, RunsNeverEscape};
-ghost use Rattle.judgement_runs.specs.Lines.{LinesStand, EntriesAreTold, BuffersAreTold};
+ghost use Rattle.judgement_runs.specs.Lines.{LinesStand, EntriesAreReported, BuffersAreReported};
 ghost use Rattle.judgement_runs.specs.Local.{ReportsAreLocal};
 ghost use Rattle.judgement_runs.specs.Sound.{AcceptedIsSound, FunctionsBoundDepth};
 
@@ -59,13 +59,13 @@ pub fn lines_stand()
 {}
 
 /// The lines of each entry point stand in the report.
-pub fn entries_are_told()
-    ensures { EntriesAreTold }
+pub fn entries_are_reported()
+    ensures { EntriesAreReported }
 {}
 
 /// The line of each buffer stands in the report.
-pub fn buffers_are_told()
-    ensures { BuffersAreTold }
+pub fn buffers_are_reported()
+    ensures { BuffersAreReported }
 {}
 
 /// The report tells of an entry point by the same lines as that on each module which differs only in functions that it doesn't

@@ -4,7 +4,7 @@ use Rattle.ir_blocks.specs.Places.{Place, here, later, inside, condition}
 use Rattle.ir_blocks.specs.Plain.{call, stop}
 use Rattle.spec_statements.proofs.AnswerLaws.{by_held}
 use Rattle.spec_statements.proofs.ScopeLaws.{none_held}
-use Rattle.spec_statements.specs.Results.{AnswersBy, StandsForAnswer, of_call, of_atomic, AnsweredOnce}
+use Rattle.spec_statements.specs.Results.{AnswersBy, DenotesResult, of_call, of_atomic, AnsweredOnce}
 use Rattle.judgement_worked.specs.Worked.{one, over_answer}
 
 pub none_answers : {A : Type 0} (p : Place) (e : ℕ) → AnswersBy stop p e → A
@@ -19,7 +19,7 @@ only_here condition e by = let x = by.1 in absurd (cc)
 answers_here : AnswersBy (one (call 0 [] (Some 0))) here 0
 answers_here = (call 0 [] (Some 0), refl, refl)
 
-only_first : (e : ℕ) → StandsForAnswer (over_answer stop).expressions e → (p : Place) × AnswersBy (one (call 0 [] (Some 0))) p e
+only_first : (e : ℕ) → DenotesResult (over_answer stop).expressions e → (p : Place) × AnswersBy (one (call 0 [] (Some 0))) p e
 only_first zero stands = (here, answers_here)
 only_first (suc e) (of_call at) = let x = at in absurd (cc)
 only_first (suc e) (of_atomic at) = let x = at in absurd (cc)

@@ -6,7 +6,7 @@ use Rattle.ir_types.specs.Plain.{PlainMember, PlainInner, PlainType, member_view
 use Rattle.ir_types.specs.declared.types.StructMember.{StructMember}
 use Rattle.module_buffers.proofs.Listed.{repeated_last, split_at}
 use Rattle.module_buffers.specs.Lines.{leaf_line, leaf_lines, path_word}
-use Rattle.module_buffers.specs.Paths.{dot_behind, named, numbered, parts_at, parts_found, parts_of_found, to_element, to_found, to_member, path_along}
+use Rattle.module_buffers.specs.Paths.{dot_after, named, numbered, parts_at, parts_found, parts_of_found, to_element, to_found, to_member, path_along}
 use Rattle.spec_buffers.specs.Leaves.{Leaf, leaf, inside, leaves, member_leaves, repeated}
 use Rattle.typing_forms.specs.Resolutions.{inner_at}
 use Rattle.typing_layout.specs.Tree.{Tree}
@@ -93,11 +93,11 @@ pub path_for_some : (path : List ℕ) → (length path == 0) ≡ false → path 
 path_for_some [] e = absurd (true≢false e)
 path_for_some (b ∷ bs) e = refl
 
-pub no_dot : (before : List ℕ) → (length before == 0) ≡ true → [] ≡ dot_behind before
+pub no_dot : (before : List ℕ) → (length before == 0) ≡ true → [] ≡ dot_after before
 no_dot [] e = refl
 no_dot (b ∷ bs) e = absurd (let n : length (b ∷ bs) ≡ 0 = eqb-true (length (b ∷ bs)) 0 e in omega (arith, n))
 
-pub a_dot : (before : List ℕ) → (length before == 0) ≡ false → codes "." ≡ dot_behind before
+pub a_dot : (before : List ℕ) → (length before == 0) ≡ false → codes "." ≡ dot_after before
 a_dot [] e = absurd (true≢false e)
 a_dot (b ∷ bs) e = refl
 

@@ -26,13 +26,13 @@ member_word None number = decimal number
 member_word (Some name) number = if is_word name then name else decimal number
 
 -- a dot behind what comes before, if anything does
-abbrev pub dot_behind : (before : List ℕ) → List ℕ
-dot_behind [] = []
-dot_behind (b ∷ bs) = codes "."
+abbrev pub dot_after : (before : List ℕ) → List ℕ
+dot_after [] = []
+dot_after (b ∷ bs) = codes "."
 
 -- a path with a step to a member behind it, and with a step to an element
 abbrev pub to_member : (before : List ℕ) → (name : Option (List ℕ)) → (number : ℕ) → List ℕ
-to_member before name number = before ++ dot_behind before ++ member_word name number
+to_member before name number = before ++ dot_after before ++ member_word name number
 
 abbrev pub to_element : (before : List ℕ) → (number : ℕ) → List ℕ
 to_element before number = before ++ (codes "[" ++ decimal number ++ codes "]")

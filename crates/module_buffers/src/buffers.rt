@@ -10,8 +10,8 @@ ghost use Rattle.typing_forms.specs.Resolutions.{types_view};
 use crate::leaves::{Leaf, add_along};
 use ir_arena::handle::Handle;
 use ir_items::Module;
-use ir_types::{IrType, TypeInner, key};
 use ir_sets::unique_arena::UniqueArena;
+use ir_types::{IrType, TypeInner, key};
 use std::alloc::{AllocError, Global};
 use typing_forms::inner_of;
 

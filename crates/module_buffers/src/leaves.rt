@@ -11,8 +11,8 @@ ghost use Rattle.typing_layout.specs.View.{members_by, tree_by, tree_along};
 
 use ir_arena::handle::Handle;
 use ir_kinds::VectorSize;
-use ir_types::{ArraySize, IrType, StructMember, TypeInner, key};
 use ir_sets::unique_arena::UniqueArena;
+use ir_types::{ArraySize, IrType, StructMember, TypeInner, key};
 use std::alloc::AllocError;
 use typing_forms::{TypeInnerExt, inner_of};
 

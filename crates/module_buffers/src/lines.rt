@@ -14,8 +14,8 @@ ghost use Rattle.typing_layout.specs.View.{members_by, tree_by, tree_along};
 use crate::leaves::{counted, vector_alignment};
 use crate::paths::{to_element, to_member};
 use ir_arena::handle::Handle;
-use ir_types::{IrType, StructMember, TypeInner, key};
 use ir_sets::unique_arena::UniqueArena;
+use ir_types::{IrType, StructMember, TypeInner, key};
 use std::alloc::{AllocError, Global};
 use typing_forms::{TypeInnerExt, inner_of};
 

@@ -1,7 +1,7 @@
 //! Paths of leaves, step by step.
 
 ghost use Rattle.std.specs.Prelude.{◌≡◌, ◌++◌, IfOk, OnOk, option_map, string_bytes};
-ghost use Rattle.module_buffers.specs.Paths.{are_word_bytes, dot_behind, is_word, is_word_byte, member_word, to_element, to_member};
+ghost use Rattle.module_buffers.specs.Paths.{are_word_bytes, dot_after, is_word, is_word_byte, member_word, to_element, to_member};
 
 use std::alloc::{AllocError, Global};
 
@@ -36,8 +36,8 @@ fn is_word(name: &str) -> bool
 }
 
 // A dot behind what comes before, if anything does.
-fn dot_behind(before: &str) -> &'static str
-    ensures { result.now ≡ dot_behind before.now }
+fn dot_after(before: &str) -> &'static str
+    ensures { result.now ≡ dot_after before.now }
 {
     if before.is_empty() { "" } else { "." }
 }
@@ -68,7 +68,7 @@ pub(crate) fn to_member(
     ensures { IfOk result (λ path. string_bytes path ≡ to_member before.now (option_map string_bytes name.now) number) }
 {
     let mut path = String::from_str(alloc, before)?;
-    path.push_str(dot_behind(before))?;
+    path.push_str(dot_after(before))?;
     write_word(&mut path, name, number)?;
     Ok(path)
 }

@@ -13,8 +13,8 @@ use crate::lines::write_along;
 use ir_arena::handle::Handle;
 use ir_items::{GlobalVariable, Module};
 use ir_kinds::AddressSpace;
-use typing_infos::ModuleInfo;
 use std::alloc::{AllocError, Global};
+use typing_infos::ModuleInfo;
 
 // Whether a host fills it with bytes.
 const fn is_buffer(space: AddressSpace) -> bool

@@ -7,14 +7,14 @@ use Rattle.typing_errors.specs.declared.const_expressions.ConstExpressionError.T
 use Rattle.ir_types.specs.ExpressionPlain.{PlainExpression}
 use Rattle.ir_flags.specs.declared.settings.Capabilities.{Capabilities}
 use Rattle.ir_items.specs.Plain.{PlainModule}
-use Rattle.spec_expressions.specs.GlobalExpressions.{Asked, of_literal, of_composition, to_work_out, asked_of, IsMet, MayWait}
+use Rattle.spec_expressions.specs.GlobalExpressions.{Required, of_literal, of_composition, to_work_out, required_of, IsMet, MayWait}
 use Rattle.spec_expressions.specs.Context.{outside}
 use Rattle.typing_layout.proofs.Latest.{one_kind}
 use Rattle.typing_layout.specs.declared.constness.ExpressionKind.{ExpressionKind}
 use Rattle.typing_layout.specs.declared.constness.ExpressionKind.TheVariants.{Runtime}
 
-met_as : (capabilities : Capabilities) (resolved : Bool) (m : PlainModule) (kind : ExpressionKind) (e d : PlainExpression) (a : Asked) → e ≡ d → asked_of d ≡ a → IsMet capabilities resolved m kind (asked_of e) → IsMet capabilities resolved m kind a
-met_as capabilities resolved m kind e d a same is met = subst (IsMet capabilities resolved m kind) (ap asked_of same ∙ is) met
+met_as : (capabilities : Capabilities) (resolved : Bool) (m : PlainModule) (kind : ExpressionKind) (e d : PlainExpression) (a : Required) → e ≡ d → required_of d ≡ a → IsMet capabilities resolved m kind (required_of e) → IsMet capabilities resolved m kind a
+met_as capabilities resolved m kind e d a same is met = subst (IsMet capabilities resolved m kind) (ap required_of same ∙ is) met
 
 pub expression_refuted : ExpressionRefuted
 expression_refuted capabilities resolved m handle error.NonConstOrOverride wrong ok =

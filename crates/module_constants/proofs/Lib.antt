@@ -2,7 +2,7 @@ pub mod Bits
 pub mod FlagLemmas
 pub mod IdLemmas
 pub mod ScalarLemmas
-pub mod Told
+pub mod Reported
 pub mod Forms
 pub mod Places
 pub mod Compositions

@@ -9,7 +9,7 @@ use Rattle.ir_flags.specs.declared.settings.Capabilities.{Capabilities}
 use Rattle.ir_items.specs.Plain.{PlainModule}
 use Rattle.ir_kinds.specs.declared.values.Literal.{Literal}
 use Rattle.typing_rules.specs.Laws.{IsAmong}
-use Rattle.spec_expressions.specs.GlobalExpressions.{of_literal, of_composition, to_work_out, asked_of, MayWait}
+use Rattle.spec_expressions.specs.GlobalExpressions.{of_literal, of_composition, to_work_out, required_of, MayWait}
 use Rattle.spec_expressions.specs.Context.{Context, outside}
 use Rattle.spec_expressions.specs.Typing.{HasTypeAmong}
 use Rattle.module_type_checks.specs.Widths.{IsLiteralFault}
@@ -18,7 +18,7 @@ use Rattle.typing_forms.specs.declared.form.Form.{Form}
 use Rattle.typing_layout.specs.Constness.{IsOfKind}
 use Rattle.typing_layout.specs.declared.constness.ExpressionKind.{ExpressionKind}
 use Rattle.typing_layout.specs.declared.constness.ExpressionKind.TheVariants.{Runtime}
-use Rattle.typing_operands.specs.Answers.{fault_of, TellsFault}
+use Rattle.typing_operands.specs.Answers.{fault_of, ReportsFault}
 
 -- the components of a composition have types whose forms don't make one of the type that it says
 pub record IsComponentsFault (context : Context) (expressions : List PlainExpression) (type : ℕ) (components : List ℕ) (e : ComposeError) : Type 0 where
@@ -32,7 +32,7 @@ pub record IsBadComposition (m : PlainModule) (handle : ℕ) (e : ComposeError) 
   pub at : slice_get m.global_expressions handle ≡ Some expression
   pub type : ℕ
   pub components : List ℕ
-  pub is : asked_of expression ≡ of_composition type components
+  pub is : required_of expression ≡ of_composition type components
   pub fault : IsComponentsFault (outside m) m.global_expressions type components e
 
 -- it is a literal that may not be used
@@ -40,14 +40,14 @@ pub record IsBadLiteral (capabilities : Capabilities) (m : PlainModule) (handle 
   pub expression : PlainExpression
   pub at : slice_get m.global_expressions handle ≡ Some expression
   pub value : Literal
-  pub is : asked_of expression ≡ of_literal value
+  pub is : required_of expression ≡ of_literal value
   pub fault : IsLiteralFault capabilities value e
 
 -- it was not worked out, and nothing keeps its value from being known
 pub record IsNotWorkedOut (resolved : Bool) (m : PlainModule) (handle : ℕ) : Type 0 where
   pub expression : PlainExpression
   pub at : slice_get m.global_expressions handle ≡ Some expression
-  pub is : asked_of expression ≡ to_work_out
+  pub is : required_of expression ≡ to_work_out
   pub kind : ExpressionKind
   pub of_kind : IsOfKind m.global_expressions handle kind
   pub known : kind ≢ Runtime
@@ -59,7 +59,7 @@ IsUntyped m handle error.NonConstOrOverride = ⊥
 IsUntyped m handle error.NonFullyEvaluatedConst = ⊥
 IsUntyped m handle (error.Compose e) = ⊥
 IsUntyped m handle (error.Literal e) = ⊥
-IsUntyped m handle (error.Typing e) = TellsFault (outside m) m.global_expressions handle (fault_of e)
+IsUntyped m handle (error.Typing e) = ReportsFault (outside m) m.global_expressions handle (fault_of e)
 IsUntyped m handle error.Other = ⊥
 
 -- where each has a type

@@ -1,4 +1,4 @@
-pub mod Asked
+pub mod Required
 pub mod Firsts
 pub mod Ids
 pub mod Kinds

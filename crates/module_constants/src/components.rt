@@ -7,8 +7,8 @@ ghost use Rattle.typing_operands.specs.Answers.{form_given};
 
 use ir_arena::handle::Handle;
 use ir_kinds::Scalar;
-use ir_types::{IrType, key};
 use ir_sets::unique_arena::UniqueArena;
+use ir_types::{IrType, key};
 use typing_forms::{Form, TypeResolution, form_of};
 
 /// The components of a composition, in order.

@@ -12,11 +12,11 @@ ghost use Rattle.typing_operands.specs.Answers.{form_given};
 ghost use Rattle.typing_forms.specs.Parts.{components_of};
 
 use crate::components::{Components, count_of, form_at, scalars_of};
-use typing_errors::ComposeError;
 use ir_arena::handle::Handle;
 use ir_kinds::Scalar;
-use ir_types::{IrType, StructMember, TypeInner, key};
 use ir_sets::unique_arena::UniqueArena;
+use ir_types::{IrType, StructMember, TypeInner, key};
+use typing_errors::ComposeError;
 use typing_forms::laws::form_equality;
 use typing_forms::{Form, TypeInnerExt, TypeResolution, form_of_type, inner_of};
 

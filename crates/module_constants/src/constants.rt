@@ -8,11 +8,11 @@ ghost use Rattle.module_constants.specs.Known.{IsKnown, module_in};
 ghost use Rattle.module_constants.specs.Refusals.{IsFineConstant, IsConstantRefused};
 ghost use Rattle.spec_expressions.specs.Constants.{ConstantOK};
 
+use crate::ConstantError;
 use crate::context::{GlobalContext, has_type, is_composed, known_kind};
 use ir_arena::handle::Handle;
 use ir_items::Constant;
 use ir_types::key;
-use crate::ConstantError;
 use thiserror::Error;
 use typing_layout::ExpressionKind;
 

@@ -3,23 +3,23 @@
 ghost use Rattle.std.specs.Prelude.{◌≡◌, ◌<◌, Some, length, slice_get, MatchResult};
 ghost use Rattle.module_constants.specs.Expressions.{IsComponentsFault, IsConstExpressionFault};
 ghost use Rattle.ir_types.specs.ExpressionPlain.{compose, expression_view};
-ghost use Rattle.module_constants.specs.Asked.{IsLate, IsUnmet};
+ghost use Rattle.module_constants.specs.Required.{IsLate, IsUnmet};
 ghost use Rattle.module_constants.specs.Firsts.{AreAccepted, IsFirstRefused};
 ghost use Rattle.module_constants.specs.Known.{IsKnown, module_in};
 ghost use Rattle.module_constants.specs.Refusals.{IsExpressionRefused};
 ghost use Rattle.spec_expressions.specs.ConstantCompositions.{ComponentsOK};
-ghost use Rattle.spec_expressions.specs.GlobalExpressions.{asked_of, IsMet, MayWait, GlobalExpressionOK};
+ghost use Rattle.spec_expressions.specs.GlobalExpressions.{required_of, IsMet, MayWait, GlobalExpressionOK};
 ghost use Rattle.spec_expressions.specs.ConstantLiterals.{LiteralOK};
 ghost use Rattle.spec_expressions.specs.Context.{outside};
 ghost use Rattle.module_type_checks.specs.Widths.{IsLiteralFault};
 
 use crate::context::{GlobalContext, known_kind};
-use typing_errors::{ComposeError, ConstExpressionError};
+use crate::{Components, check_composition};
 use ir_arena::handle::Handle;
 use ir_types::{Expression, key};
-use crate::{Components, check_composition};
-use thiserror::Error;
 use module_type_checks::validate_literal;
+use thiserror::Error;
+use typing_errors::{ComposeError, ConstExpressionError};
 use typing_layout::ExpressionKind;
 
 /// A global expression that is refused (naga's `ValidationError::ConstExpression`).
@@ -80,8 +80,8 @@ fn check_met(
     requires known { IsKnown context.now }
     requires stands { slice_get (module_in context.now).global_expressions handle ≡ Some (expression_view expression.now) }
     ensures { MatchResult result
-        (λ _. IsMet context.now.capabilities context.now.overrides_resolved (module_in context.now) kind (asked_of (expression_view expression.now)))
-        (IsUnmet context.now.capabilities context.now.overrides_resolved (module_in context.now) kind (asked_of (expression_view expression.now))) }
+        (λ _. IsMet context.now.capabilities context.now.overrides_resolved (module_in context.now) kind (required_of (expression_view expression.now)))
+        (IsUnmet context.now.capabilities context.now.overrides_resolved (module_in context.now) kind (required_of (expression_view expression.now))) }
 {
     match *expression {
         Expression::Literal(value) => match validate_literal(context.capabilities, value) {
@@ -138,7 +138,7 @@ fn check_met(
 ///
 /// Its value is known only when the shader runs, it was not worked out, it is a literal that may not be used, or a
 /// composition that can't be made: each is answered only where it stands.
-#[tactic(auto, using(crate::proofs::Told::expression_refused))]
+#[tactic(auto, using(crate::proofs::Reported::expression_refused))]
 pub fn validate_const_expression(
     context: &GlobalContext<'_>,
     handle: Handle<key::Expression>,

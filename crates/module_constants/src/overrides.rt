@@ -10,6 +10,7 @@ ghost use Rattle.module_constants.specs.Refusals.{IsDefaultFault, IsFineBesideId
 ghost use Rattle.spec_expressions.specs.Overrides.{override_scalars, IsOverrideType, DefaultOK, OverrideOK};
 ghost use Rattle.typing_forms.specs.Resolutions.{types_view};
 
+use crate::OverrideError;
 use crate::context::{GlobalContext, has_type, is_composed, known_kind};
 use crate::ids::OverrideIds;
 use ir_arena::handle::Handle;
@@ -17,9 +18,8 @@ use ir_faults::refusal::Refusal;
 use ir_faults::with_span::WithSpan;
 use ir_items::Override;
 use ir_kinds::Scalar;
-use ir_types::{IrType, TypeInner, key};
 use ir_sets::unique_arena::UniqueArena;
-use crate::OverrideError;
+use ir_types::{IrType, TypeInner, key};
 use std::alloc::{AllocError, Global};
 use typing_forms::inner_of;
 use typing_layout::ExpressionKind;

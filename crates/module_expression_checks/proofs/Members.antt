@@ -6,8 +6,8 @@ use Rattle.spec_statements.specs.ExpressionResults.{AreExchanged, AreExchangeMem
 use Rattle.typing_forms.specs.declared.form.Form.{Form}
 
 -- one answer about the first two members
-abbrev Told : List PlainType → (old exchanged : StructMember) → Option Form → Form → Type 0
-Told types old exchanged r of = (r ≡ Some of) ↔ AreExchanged (λ found. found ≡ of) types (member_view old) (member_view exchanged)
+abbrev Reported : List PlainType → (old exchanged : StructMember) → Option Form → Form → Type 0
+Reported types old exchanged r of = (r ≡ Some of) ↔ AreExchanged (λ found. found ≡ of) types (member_view old) (member_view exchanged)
 
 pub two : (types : List PlainType) (ms : List StructMember) (old exchanged : StructMember) (r : Option Form) (of : Form) → length ms ≡ 2
     → old ≡ get_or ms 0 old → exchanged ≡ get_or ms 1 exchanged
@@ -16,7 +16,7 @@ pub two : (types : List PlainType) (ms : List StructMember) (old exchanged : Str
 two types [] old exchanged r of many first second is = absurd (omega (arith, many))
 two types (a ∷ []) old exchanged r of many first second is = absurd (omega (arith, many))
 two types (a ∷ b ∷ []) old exchanged r of many first second is =
-    subst (λ x. Told types x b r of) first (subst (λ x. Told types old x r of) second is)
+    subst (λ x. Reported types x b r of) first (subst (λ x. Reported types old x r of) second is)
 two types (a ∷ b ∷ c ∷ rest) old exchanged r of many first second is = absurd (omega (arith, many))
 
 pub other : (types : List PlainType) (ms : List StructMember) → length ms ≢ 2

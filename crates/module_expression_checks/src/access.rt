@@ -8,11 +8,11 @@ ghost use Rattle.spec_statements.specs.Access.{element_count, pointed_count, row
 ghost use Rattle.spec_statements.specs.Scene.{form_at};
 ghost use Rattle.typing_forms.specs.Resolutions.{inner_at};
 
-use typing_errors::ExpressionError;
 use ir_arena::handle::Handle;
 use ir_kinds::{Literal, VectorSize};
 use ir_types::{ArraySize, TypeInner, key};
 use module_context::{CheckContext, is_integer_scalar, refused_unless};
+use typing_errors::ExpressionError;
 use typing_forms::{Form, inner_of};
 
 // ---- how many parts there are, where the module says it

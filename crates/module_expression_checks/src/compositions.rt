@@ -9,13 +9,13 @@ ghost use Rattle.spec_statements.specs.Compositions.{AreComponents, SwizzleOK};
 ghost use Rattle.spec_statements.specs.Scene.{form_at};
 ghost use Rattle.spec_expressions.specs.ConstantCompositions.{ComposeOK};
 
-use typing_errors::ExpressionError;
 use ir_arena::handle::Handle;
 use ir_kinds::{SwizzleComponent, VectorSize};
 use ir_types::key;
 use module_constants::{Components, check_composition};
-use spec_statements::Shape;
 use module_context::{CheckContext, refused_unless, shaped_of};
+use spec_statements::Shape;
+use typing_errors::ExpressionError;
 use typing_forms::Form;
 
 /// Whether components make a value of a type (naga's `validate_compose`).

@@ -7,13 +7,13 @@ ghost use Rattle.spec_statements.specs.Conversions.{IsConverted, AsOK};
 ghost use Rattle.spec_statements.specs.Scene.{form_at};
 ghost use Rattle.typing_layout.specs.Widths.{ScalarOK};
 
-use typing_errors::ExpressionError;
 use ir_arena::handle::Handle;
 use ir_flags::Capabilities;
 use ir_kinds::{Bytes, Scalar, ScalarKind};
 use ir_types::key;
 use module_context::{CheckContext, refused_unless, shaped_of};
 use module_type_checks::check_width;
+use typing_errors::ExpressionError;
 use typing_forms::Form;
 
 // Whether there is a scalar.

@@ -6,12 +6,12 @@ ghost use Rattle.module_context.specs.OperandView.{scene_in};
 ghost use Rattle.spec_statements.specs.CooperativeMatrices.{CooperativeLoadOK, IsAddend, IsRightFactor, AreFactors, MultiplyAddOK};
 ghost use Rattle.spec_statements.specs.Scene.{form_at};
 
-use typing_errors::ExpressionError;
 use ir_arena::handle::Handle;
 use ir_kinds::{CooperativeRole, CooperativeSize, Scalar};
 use ir_types::key;
-use spec_statements::Shape;
 use module_context::{CheckContext, are_same, refused_unless, shaped_of};
+use spec_statements::Shape;
+use typing_errors::ExpressionError;
 use typing_forms::Form;
 
 // ---- loads

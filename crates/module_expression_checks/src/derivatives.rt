@@ -6,10 +6,10 @@ ghost use Rattle.module_context.specs.OperandView.{scene_in};
 ghost use Rattle.spec_statements.specs.Derivatives.{DerivativeOK};
 ghost use Rattle.spec_statements.specs.Scene.{form_at};
 
-use typing_errors::ExpressionError;
 use ir_arena::handle::Handle;
 use ir_types::key;
 use module_context::{CheckContext, is_floating, refused_unless};
+use typing_errors::ExpressionError;
 use typing_forms::Form;
 
 // Whether a type is one of floats alone or in a row.

@@ -8,8 +8,8 @@ ghost use Rattle.typing_forms.specs.declared.form.Form.{Form};
 
 use crate::shapes::is_one_truth;
 use ir_arena::handle::Handle;
-use ir_types::{IrType, StructMember, TypeInner, key};
 use ir_sets::unique_arena::UniqueArena;
+use ir_types::{IrType, StructMember, TypeInner, key};
 use typing_forms::{Form, form_of_type, inner_of};
 
 // Whether a member has a name.

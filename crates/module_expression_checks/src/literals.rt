@@ -7,13 +7,13 @@ ghost use Rattle.module_expression_checks.specs.Faults.{IsBadLiteral};
 ghost use Rattle.spec_statements.specs.Literals.{ZeroOK};
 ghost use Rattle.spec_expressions.specs.ConstantLiterals.{LiteralOK};
 
-use typing_errors::ExpressionError;
 use ir_arena::handle::Handle;
 use ir_flags::Capabilities;
 use ir_kinds::Literal;
 use ir_types::key;
 use module_context::{CheckContext, refused_unless};
 use module_type_checks::validate_literal;
+use typing_errors::ExpressionError;
 
 /// Whether a literal may be used.
 ///

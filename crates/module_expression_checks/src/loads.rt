@@ -7,10 +7,10 @@ ghost use Rattle.ir_types.specs.Plain.{inner_view};
 ghost use Rattle.spec_statements.specs.Loads.{LoadOK, IsDynamic, IsRuntimeArray, ArrayLengthOK};
 ghost use Rattle.spec_statements.specs.Scene.{form_at};
 
-use typing_errors::ExpressionError;
 use ir_arena::handle::Handle;
 use ir_types::{ArraySize, TypeInner, key};
 use module_context::{CheckContext, refused_unless};
+use typing_errors::ExpressionError;
 use typing_forms::Form;
 
 // ---- loads

@@ -8,12 +8,15 @@ ghost use Rattle.spec_statements.specs.Scene.{form_at};
 ghost use Rattle.spec_statements.specs.Shapes.{AnyShape, IsAlone, IsOfValue, IsInteger, IsNumeric, IsTruth, IsMadeOf, IsValue};
 
 use crate::shapes::{is_alone, is_of_value, is_one_truth};
-use typing_errors::ExpressionError;
 use ir_arena::handle::Handle;
 use ir_kinds::{BinaryOperator, Scalar, ScalarKind, UnaryOperator, VectorSize};
 use ir_types::key;
+use module_context::{
+    CheckContext, are_same, form_of_shape, is_integer, is_numeric, is_truth, refused_unless,
+    shaped_of,
+};
 use spec_statements::Shape;
-use module_context::{CheckContext, are_same, form_of_shape, is_integer, is_numeric, is_truth, refused_unless, shaped_of};
+use typing_errors::ExpressionError;
 use typing_forms::Form;
 
 // ---- on one value

@@ -8,10 +8,10 @@ ghost use Rattle.spec_statements.specs.ExpressionRayQueries.{query_of, VertexPos
 ghost use Rattle.spec_statements.specs.Scene.{form_at};
 ghost use Rattle.spec_statements.specs.Shapes.{pointed_in};
 
-use typing_errors::ExpressionError;
 use ir_arena::handle::Handle;
 use ir_types::{TypeInner, key};
 use module_context::{CheckContext, refused_unless};
+use typing_errors::ExpressionError;
 use typing_forms::Form;
 
 /// Whether the ray query that a type is gives the vertices of a hit.

@@ -9,13 +9,13 @@ ghost use Rattle.typing_forms.specs.Resolutions.{inner_at};
 
 use crate::exchanges::exchanged_value;
 use crate::shapes::is_alone;
-use typing_errors::ExpressionError;
 use ir_arena::handle::Handle;
 use ir_flags::Capabilities;
 use ir_kinds::Scalar;
 use ir_types::key;
 use module_context::{CheckContext, refused_unless, shaped_of};
 use module_type_checks::check_atomic;
+use typing_errors::ExpressionError;
 use typing_forms::{Form, form_of_type};
 
 // ---- atomic operations

@@ -8,12 +8,12 @@ ghost use Rattle.spec_statements.specs.Selections.{ChoosesFrom, IsCondition, Sel
 ghost use Rattle.spec_statements.specs.Shapes.{IsRow, IsOfValue, IsFloating, IsTruth, IsMadeOf};
 
 use crate::shapes::is_of_value;
-use typing_errors::ExpressionError;
 use ir_arena::handle::Handle;
 use ir_kinds::{RelationalFunction, VectorSize};
 use ir_types::key;
-use spec_statements::Shape;
 use module_context::{CheckContext, are_same, is_floating, is_truth, refused_unless, shaped_of};
+use spec_statements::Shape;
+use typing_errors::ExpressionError;
 use typing_forms::Form;
 
 // ---- selections

@@ -3,8 +3,8 @@
 ghost use Rattle.std.specs.Prelude.{◌↔◌, IsTrue};
 ghost use Rattle.spec_statements.specs.Shapes.{IsAlone, IsOfValue, IsTruth, IsMadeOf};
 
-use spec_statements::Shape;
 use module_context::{is_truth, shaped_of};
+use spec_statements::Shape;
 use typing_forms::Form;
 
 /// Whether a shape is that of one scalar.

@@ -12,7 +12,7 @@ use Rattle.ir_types.specs.declared.expressions.Expression.TheVariants as x
 use Rattle.ir_kinds.specs.declared.values.Literal.{Literal}
 use Rattle.spec_statements.specs.Access.{literal_in}
 use Rattle.spec_statements.specs.Checks.{CheckOf}
-use Rattle.spec_statements.specs.Expressions.{AskedOf}
+use Rattle.spec_statements.specs.Expressions.{RequiredOf}
 use Rattle.spec_statements.specs.Scene.{Scene}
 use Rattle.spec_expressions.specs.ConstantLiterals.{LiteralOK}
 
@@ -26,7 +26,7 @@ literal_or s e None error is fault ok = fault.1 ok
 literal_or s e (Some value) (error.Literal f) is fault ok = literal_refuted s.capabilities value f fault (asked_literal s e value is ok)
 literal_or s e (Some value) _ is fault ok = fault
 
-fault_refuted : (s : Scene) (p : PlainExpression) (e : ExpressionError) → IsFaultOf s p e → AskedOf s p → ⊥
+fault_refuted : (s : Scene) (p : PlainExpression) (e : ExpressionError) → IsFaultOf s p e → RequiredOf s p → ⊥
 fault_refuted s (plain e) error fault ok = literal_or s e (literal_in e) error refl fault ok
 fault_refuted s (compose type components) (error.Compose f) fault ok = composition_refuted s.types type _ f fault ok
 fault_refuted s (compose type components) _ fault ok = fault

@@ -4,23 +4,23 @@ ghost use Rattle.std.specs.Prelude.{◌<◌, length, MatchResult};
 ghost use Rattle.module_context.specs.OperandView.{scene_in, IsKnown};
 ghost use Rattle.module_expressions.specs.Faults.{IsFaultOf, IsExpressionFault};
 ghost use Rattle.ir_types.specs.ExpressionPlain.{expression_view};
-ghost use Rattle.spec_statements.specs.Expressions.{AskedOf, ExpressionOK};
+ghost use Rattle.spec_statements.specs.Expressions.{RequiredOf, ExpressionOK};
 ghost use Rattle.spec_statements.specs.ExpressionStages.{IsRunBy};
 
 use crate::stages::stages_of;
 use crate::{check_image_load, check_image_query, check_image_sample};
-use typing_errors::ExpressionError;
+use ir_arena::handle::Handle;
+use ir_flags::ShaderStages;
+use ir_types::{Expression, key};
+use module_context::CheckContext;
 use module_expression_checks::{
     check_access, check_access_index, check_array_length, check_as, check_atomic_result,
     check_binary, check_compose, check_cooperative_load, check_derivative, check_intersection,
     check_literal, check_load, check_multiply_add, check_relational, check_select, check_swizzle,
     check_unary, check_uniform_load, check_vertex_positions, check_zero,
 };
-use ir_arena::handle::Handle;
-use ir_flags::ShaderStages;
-use ir_types::{Expression, key};
 use spec_statements::Sampling;
-use module_context::CheckContext;
+use typing_errors::ExpressionError;
 
 // Whether what is asked of an expression is met.
 fn check_expression(
@@ -29,7 +29,7 @@ fn check_expression(
 ) -> Result<(), ExpressionError>
     requires { IsKnown context.now }
     ensures { MatchResult result
-        (λ _. AskedOf (scene_in context.now) (expression_view expression.now))
+        (λ _. RequiredOf (scene_in context.now) (expression_view expression.now))
         (IsFaultOf (scene_in context.now) (expression_view expression.now)) }
 {
     match *expression {
@@ -115,7 +115,7 @@ fn check_expression(
 
 /// Whether the expression at a handle is accepted, and which stages may run it (naga's `validate_expression`).
 ///
-/// Asks that the handle is in, and that what the context holds of types and of constants is told of all of them.
+/// Requires that the handle is in, and that what the context holds of types and of constants is told of all of them.
 ///
 /// # Errors
 ///

@@ -8,13 +8,15 @@ ghost use Rattle.spec_statements.specs.Scene.{form_at};
 
 use crate::operands::{along, is_number_if};
 use bitflags::Flags;
-use typing_errors::ExpressionError;
 use ir_arena::handle::Handle;
 use ir_flags::StorageAccess;
 use ir_kinds::{ImageClass, ImageDimension};
 use ir_types::{ImageQuery, key};
+use module_context::{
+    CheckContext, are_same, is_integer, is_integer_scalar, picture_of, refused_unless, shaped_of,
+};
 use spec_statements::Picture;
-use module_context::{CheckContext, are_same, is_integer, is_integer_scalar, picture_of, refused_unless, shaped_of};
+use typing_errors::ExpressionError;
 use typing_forms::Form;
 
 // ---- loads

@@ -11,12 +11,12 @@ ghost use Rattle.spec_statements.specs.Shapes.{IsIntegerScalar, ExactlyIf, along
 
 use crate::levels::{gathers_if, is_clamp, is_float32, is_level, is_outside};
 use crate::operands::{along, is_number_if};
-use typing_errors::ExpressionError;
 use ir_arena::handle::Handle;
 use ir_kinds::{ImageClass, ImageDimension, Scalar, ScalarKind, SwizzleComponent};
 use ir_types::key;
-use spec_statements::{Picture, Sampling};
 use module_context::{CheckContext, are_same, picture_of, refused_unless, sampler_of};
+use spec_statements::{Picture, Sampling};
+use typing_errors::ExpressionError;
 use typing_forms::Form;
 
 // ---- samplers

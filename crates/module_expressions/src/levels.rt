@@ -8,8 +8,8 @@ ghost use Rattle.spec_statements.specs.Scene.{form_at};
 use ir_arena::handle::Handle;
 use ir_kinds::{ImageClass, ImageDimension, Scalar, ScalarKind, SwizzleComponent};
 use ir_types::{SampleLevel, key};
-use spec_statements::Picture;
 use module_context::{CheckContext, are_same, is_integer_scalar};
+use spec_statements::Picture;
 use typing_forms::Form;
 
 /// Whether a type is that of a 32-bit float.

@@ -2,14 +2,14 @@
 use Rattle.std.proofs.Common.{◌≡◌, ◌∙◌, ◌≤◌, ◌⊎◌, ◌≢◌, inl, inr, ℕ, List, Some, IfSome, sym, ap, subst, arith}
 use Rattle.std.specs.Int.{◌∣◌}
 use Rattle.ir_types.specs.Plain.{PlainType}
-use Rattle.typing_layout.specs.Buffers.{IsStorage, IsUniform, StorageAt, UniformAt, uniform_alignment, free_behind}
+use Rattle.typing_layout.specs.Buffers.{IsStorage, IsUniform, StorageAt, UniformAt, uniform_alignment, free_after}
 use Rattle.typing_layout.specs.Flags.{HasFlag, AllHave, HostShareable}
 use Rattle.typing_layout.specs.Immediates.{FitsImmediates, ImmediateAt, scalar_of}
 use Rattle.typing_layout.specs.Parts.{Part, Everywhere, EverywhereIn, Somewhere, SomewhereIn}
 use Rattle.typing_layout.specs.Layout.{alignment}
 use Rattle.typing_layout.specs.Tree.{Tree, scalar, vector, matrix, cooperative_matrix, atomic, pointer, value_pointer, array, struct, image, sampler, acceleration_structure, ray_query, binding_array, Members, no_members, member}
 use Rattle.typing_layout.specs.View.{type_tree}
-use Rattle.module_type_infos.specs.BufferFaults.{BreaksStorage, BreaksUniform, IsBroken, IsUnfit, IsBadStride, IsBadSpan, IsBadOffset, IsNearBehind}
+use Rattle.module_type_infos.specs.BufferFaults.{BreaksStorage, BreaksUniform, IsBroken, IsUnfit, IsBadStride, IsBadSpan, IsBadOffset, IsNearAfter}
 use Rattle.module_type_infos.specs.declared.error.Disalignment.{Disalignment}
 use Rattle.module_type_infos.specs.declared.error.Disalignment.TheVariants as fault
 use Rattle.module_type_infos.specs.declared.error.ImmediateError.{ImmediateError}
@@ -118,10 +118,10 @@ uniform_offset index offset a t s q =
     let begins : uniform_alignment q.p.of_type ∣ q.p.offset = at.0 index q.p q.at in
     q.broken (subst (λ o. a ∣ o) (sym q.begins) (subst (λ n. n ∣ q.p.offset) (sym q.asked) begins))
 
-uniform_near : (index offset expected : ℕ) (t : Tree) → UniformAt t → IsNearBehind index offset expected t → ⊥
+uniform_near : (index offset expected : ℕ) (t : Tree) → UniformAt t → IsNearAfter index offset expected t → ⊥
 uniform_near index offset expected t s q =
     let at : UniformAt (struct q.members q.span) = subst UniformAt q.is s in
-    let free : free_behind q.q q.q.of_type ≤ q.p.offset = subst (λ o. IfSome o (λ (a : Part). free_behind a a.of_type ≤ q.p.offset)) q.behind (at.2 index q.p q.at) in
+    let free : free_after q.q q.q.of_type ≤ q.p.offset = subst (λ o. IfSome o (λ (a : Part). free_after a a.of_type ≤ q.p.offset)) q.behind (at.2 index q.p q.at) in
     let begins = q.begins in
     let asked = q.asked in
     let near = q.near in

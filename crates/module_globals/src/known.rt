@@ -36,7 +36,7 @@ fn initializer_of(context: &GlobalContext<'_>, variable: &GlobalVariable) -> Opt
 
 /// Whether a module may have a global variable, of which types and global expressions are known (naga's `validate_global_var`).
 ///
-/// Asks that the variable is there with its type and what it begins as, and that types are made of earlier ones, as in a module
+/// Requires that the variable is there with its type and what it begins as, and that types are made of earlier ones, as in a module
 /// whose handles are in order.
 ///
 /// # Errors

@@ -12,8 +12,8 @@ ghost use Rattle.typing_forms.specs.Sizes.{counted, type_size};
 
 use crate::slots::ImmediateSlots;
 use ir_arena::handle::Handle;
-use ir_types::{ArraySize, IrType, StructMember, TypeInner, key};
 use ir_sets::unique_arena::UniqueArena;
+use ir_types::{ArraySize, IrType, StructMember, TypeInner, key};
 use typing_forms::{TypeInnerExt, inner_of};
 
 // A number of bytes, as far as it counts for slots.
@@ -151,7 +151,7 @@ impl ImmediateSlots {
     /// The slots that the leaves of a value meet, where the value begins at a byte. An array of which the number of elements
     /// isn't known counts one. What lies between the leaves counts for nothing.
     ///
-    /// Asks that types go back. Each leaf that begins in the first 256 bytes is looked at, as often as it stands in the value:
+    /// Requires that types go back. Each leaf that begins in the first 256 bytes is looked at, as often as it stands in the value:
     /// these are many where elements or members overlap, one in the other. The call goes as deep as types nest.
     pub fn from_type(ty: &TypeInner, offset: u32, types: &UniqueArena<IrType, key::IrType>) -> Self
         requires { TypesGoBack (types_view types.now) }

@@ -10,7 +10,7 @@ use Rattle.ir_references.specs.Faults.{outside_functions}
 use Rattle.ir_references.specs.declared.bounds.Bounds.{Bounds}
 use Rattle.ir_references.specs.declared.fault.HandleFault.{HandleFault}
 use Rattle.module_handles.proofs.OutsideFaults.{special_fault, leaf_fault, constant_fault, override_fault, variable_fault}
-use Rattle.module_handles.proofs.Viewed.{told_viewed}
+use Rattle.module_handles.proofs.Viewed.{reported_viewed}
 use Rattle.module_handles.specs.Found.{special_missing, leaf_missing, constant_missing, override_missing, variable_missing}
 use Rattle.module_handles.specs.InOrder.{IsFaultIn}
 use Rattle.module_handles.specs.Lists.{AllPass, SomeFails}
@@ -31,20 +31,20 @@ module _ (given : Module) (b : Bounds) (same : b ≡ outside_functions (module_v
   pub constants_told : (o : Option HandleFault) → MatchOption o (AllPass (λ i x. constant_missing b (constant_view x) ≡ None) (values_of given.constants)) (SomeFails (λ i x h. constant_missing b (constant_view x) ≡ Some h) (values_of given.constants))
       → MatchOption o ((i : ℕ) (x : PlainConstant) → slice_get (module_view given).constants i ≡ Some x → constant_missing (outside_functions (module_view given)) x ≡ None) (IsFaultIn (module_view given))
   constants_told o told =
-      told_viewed constant_view (λ i x. constant_missing (outside_functions (module_view given)) x ≡ None) (λ i x h. constant_missing (outside_functions (module_view given)) x ≡ Some h)
+      reported_viewed constant_view (λ i x. constant_missing (outside_functions (module_view given)) x ≡ None) (λ i x h. constant_missing (outside_functions (module_view given)) x ≡ Some h)
       (IsFaultIn (module_view given)) (values_of given.constants) (constant_fault (module_view given)) o
       (subst (λ c. MatchOption o (AllPass (λ i x. constant_missing c (constant_view x) ≡ None) (values_of given.constants)) (SomeFails (λ i x h. constant_missing c (constant_view x) ≡ Some h) (values_of given.constants))) same told)
 
   pub overrides_told : (o : Option HandleFault) → MatchOption o (AllPass (λ i x. override_missing b (override_view x) ≡ None) (values_of given.overrides)) (SomeFails (λ i x h. override_missing b (override_view x) ≡ Some h) (values_of given.overrides))
       → MatchOption o ((i : ℕ) (x : PlainOverride) → slice_get (module_view given).overrides i ≡ Some x → override_missing (outside_functions (module_view given)) x ≡ None) (IsFaultIn (module_view given))
   overrides_told o told =
-      told_viewed override_view (λ i x. override_missing (outside_functions (module_view given)) x ≡ None) (λ i x h. override_missing (outside_functions (module_view given)) x ≡ Some h)
+      reported_viewed override_view (λ i x. override_missing (outside_functions (module_view given)) x ≡ None) (λ i x h. override_missing (outside_functions (module_view given)) x ≡ Some h)
       (IsFaultIn (module_view given)) (values_of given.overrides) (override_fault (module_view given)) o
       (subst (λ c. MatchOption o (AllPass (λ i x. override_missing c (override_view x) ≡ None) (values_of given.overrides)) (SomeFails (λ i x h. override_missing c (override_view x) ≡ Some h) (values_of given.overrides))) same told)
 
-  pub variables_told : (o : Option HandleFault) → MatchOption o (AllPass (λ i x. variable_missing b (global_view x) ≡ None) (values_of given.global_variables)) (SomeFails (λ i x h. variable_missing b (global_view x) ≡ Some h) (values_of given.global_variables))
+  pub variables_reported : (o : Option HandleFault) → MatchOption o (AllPass (λ i x. variable_missing b (global_view x) ≡ None) (values_of given.global_variables)) (SomeFails (λ i x h. variable_missing b (global_view x) ≡ Some h) (values_of given.global_variables))
       → MatchOption o ((i : ℕ) (x : PlainGlobal) → slice_get (module_view given).globals i ≡ Some x → variable_missing (outside_functions (module_view given)) x ≡ None) (IsFaultIn (module_view given))
-  variables_told o told =
-      told_viewed global_view (λ i x. variable_missing (outside_functions (module_view given)) x ≡ None) (λ i x h. variable_missing (outside_functions (module_view given)) x ≡ Some h)
+  variables_reported o told =
+      reported_viewed global_view (λ i x. variable_missing (outside_functions (module_view given)) x ≡ None) (λ i x h. variable_missing (outside_functions (module_view given)) x ≡ Some h)
       (IsFaultIn (module_view given)) (values_of given.global_variables) (variable_fault (module_view given)) o
       (subst (λ c. MatchOption o (AllPass (λ i x. variable_missing c (global_view x) ≡ None) (values_of given.global_variables)) (SomeFails (λ i x h. variable_missing c (global_view x) ≡ Some h) (values_of given.global_variables))) same told)

@@ -2,7 +2,7 @@
 use Rattle.std.proofs.Common.{◌≡◌, ◌≢◌, ◌==◌, ℕ, List, length, Bool, true, false, true≢false, if◌then◌else◌, Option, Some, None, refl, sym, ap, ◌∙◌, subst, slice_get}
 use Rattle.std.proofs.lemmas.Bool.{eq-eqb, eqb-true}
 use Rattle.ir_blocks.specs.Plain.{PlainStatement, emit, block, if_, switch, loop, break, continue, return, kill, operation, call}
-use Rattle.ir_blocks.specs.Places.{StandsAt}
+use Rattle.ir_blocks.specs.Places.{OccursAt}
 use Rattle.ir_items.specs.Plain.{PlainFunction, PlainModule}
 use Rattle.ir_references.proofs.FirstLaws.{none_at, place_found}
 use Rattle.ir_references.specs.First.{first_in}
@@ -70,7 +70,7 @@ wrong_found m f x e =
       place = r.0;
       arguments = c.arguments;
       answer = c.answer;
-      stands = subst (λ s. StandsAt f.body r.0 s) c.is r.2;
+      stands = subst (λ s. OccursAt f.body r.0 s) c.is r.2;
       has = c.has;
       passed = c.passed;
       differs = c.differs;

@@ -24,7 +24,7 @@ module _ {T A : Type 0} (view : T → A) where
         subst (P i) (sym r.2) (all i r.0 r.1)
 
     -- what is told of the items is told of them as plain data
-    pub told_viewed : ((i : ℕ) (y : A) (h : HandleFault) → slice_get (map view items) i ≡ Some y → Q i y h → F h) → (o : Option HandleFault)
+    pub reported_viewed : ((i : ℕ) (y : A) (h : HandleFault) → slice_get (map view items) i ≡ Some y → Q i y h → F h) → (o : Option HandleFault)
         → MatchOption o (AllPass (λ i x. P i (view x)) items) (SomeFails (λ i x h. Q i (view x) h) items) → MatchOption o ((i : ℕ) (y : A) → slice_get (map view items) i ≡ Some y → P i y) F
-    told_viewed says o told =
+    reported_viewed says o told =
         weaker o all_viewed (λ h f. says f.0 (view f.1) h (slice_get-map view items f.0 ∙ ap (option_map view) f.2) f.3) told

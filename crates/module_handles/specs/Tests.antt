@@ -1,6 +1,6 @@
 -- Calls that pass another number of arguments than their functions have: the first, found step by step, and what is found.
 use Rattle.std.specs.Prelude.{◌≡◌, ◌≢◌, ◌==◌, ℕ, List, length, if◌then◌else◌, Option, Some, None, slice_get}
-use Rattle.ir_blocks.specs.Places.{Place, StandsAt}
+use Rattle.ir_blocks.specs.Places.{Place, OccursAt}
 use Rattle.ir_blocks.specs.Plain.{PlainStatement, emit, block, if_, switch, loop, break, continue, return, kill, operation, call}
 use Rattle.ir_items.specs.Plain.{PlainFunction, PlainModule}
 use Rattle.module_handles.specs.declared.arities.ArityFault.{ArityFault}
@@ -36,7 +36,7 @@ pub record PassesWrongCount (m : PlainModule) (f : PlainFunction) (x : ArityFaul
   pub place : Place
   pub arguments : List ℕ
   pub answer : Option ℕ
-  pub stands : StandsAt f.body place (call x.function arguments answer)
+  pub stands : OccursAt f.body place (call x.function arguments answer)
   pub has : x.required ≡ count_of (slice_get m.functions x.function)
   pub passed : x.seen ≡ length arguments
   pub differs : x.required ≢ Some x.seen

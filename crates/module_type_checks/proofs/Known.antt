@@ -2,7 +2,7 @@
 use Rattle.std.proofs.Common.{◌≡◌, ◌<◌, ◌↔◌, ℕ, Some, Bool, IsTrue, length, slice_get, get_or, sym, ap, subst, ◌∙◌, if◌then◌else◌}
 use Rattle.std.proofs.lemmas.Option.{slice_get-get_or}
 use Rattle.ir_types.specs.Plain.{PlainInner}
-use Rattle.typing_layout.specs.Buffers.{uniform_alignment, free_behind}
+use Rattle.typing_layout.specs.Buffers.{uniform_alignment, free_after}
 use Rattle.typing_layout.specs.Parts.{Part, end_of}
 use Rattle.typing_layout.specs.Rules.{IsBound}
 use Rattle.typing_layout.proofs.Trees.{tree_by_trees}
@@ -24,7 +24,7 @@ tree_of c handle i known at = tree_by_trees (types_in c) known.back handle i (sy
 pub facts_from : (c : TypeContext) (handle : ℕ) (i : PlainInner) (l : TypeLayout) (k : ℕ) (info : TypeInfo) (f : Facts) → IsKnown c → handle < length c.infos.now → Some i ≡ inner_at (types_in c) handle
     → slice_get c.layouter.now handle ≡ Some l → k ≡ handle → f.info ≡ get_or c.infos.now k info → f.size ≡ l.size → f.alignment ≡ l.alignment
     → ((tree : ℕ → Tree) → l.alignment ≡ alignment (tree_by tree i) → f.uniform_alignment ≡ uniform_alignment (tree_by tree i))
-    → ((tree : ℕ → Tree) (p : Part) → free_behind p (tree_by tree i) ≡ (if f.is_struct then rounded_up 16 (end_of p) else 0)) → AreFacts c (tree_in c handle) f
+    → ((tree : ℕ → Tree) (p : Part) → free_after p (tree_by tree i) ≡ (if f.is_struct then rounded_up 16 (end_of p) else 0)) → AreFacts c (tree_in c handle) f
 facts_from c handle i l k info f known lt at laid index told bytes aligned uniform behind =
     let step : tree_in c handle ≡ tree_by (tree_in c) i = tree_of c handle i known at in
     let has : IsLayoutOf (tree_in c handle) l = known.held.each handle l laid in
@@ -33,7 +33,7 @@ facts_from c handle i l k info f known lt at laid index told bytes aligned unifo
       bytes = bytes ∙ has.size;
       aligned = aligned ∙ has.alignment;
       uniform = uniform (tree_in c) (has.alignment ∙ ap alignment step) ∙ ap uniform_alignment (sym step);
-      behind = λ p. ap (free_behind p) step ∙ behind (tree_in c) p;
+      behind = λ p. ap (free_after p) step ∙ behind (tree_in c) p;
       info = known.told.each handle f.info (slice_get-get_or c.infos.now handle info lt ∙ ap Some (sym here));
     }
 

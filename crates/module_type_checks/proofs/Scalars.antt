@@ -7,7 +7,7 @@ use Rattle.ir_kinds.specs.declared.scalars.ScalarKind.{ScalarKind}
 use Rattle.ir_kinds.specs.declared.scalars.ScalarKind.TheVariants.{Sint, Uint, Float, AbstractInt, AbstractFloat}
 use Rattle.ir_kinds.specs.declared.scalars.ScalarKind.TheVariants as kind
 use Rattle.typing_layout.specs.Widths.{IsWidthAllowed, IsKindAllowed, IsAtomicInteger, IsAtomicKind}
-use Rattle.module_type_infos.specs.Faults.{IsNoWidth, IsNoScalar, AsksFor, KindAsksFor, Lacks, IsWidthFault, IsNoAtomic, LacksAtomic, LacksWideAtomics, IsAtomicFault}
+use Rattle.module_type_infos.specs.Faults.{IsNoWidth, IsNoScalar, RequiresFor, KindRequires, Lacks, IsWidthFault, IsNoAtomic, LacksAtomic, LacksWideAtomics, IsAtomicFault}
 use Rattle.module_type_infos.specs.declared.error.TypeError.{TypeError}
 use Rattle.module_type_infos.specs.declared.error.TypeError.TheVariants as error
 use Rattle.module_type_infos.specs.declared.error.WidthError.{WidthError}
@@ -21,7 +21,7 @@ no_width k two eight w wrong (inl e) = wrong.1 e
 no_width k two eight w wrong (inr (inl h)) = wrong.0 h.0
 no_width k two eight w wrong (inr (inr h)) = wrong.2 h.0
 
-lacks_width : (k two eight c : Capabilities) (w : ℕ) → AsksFor two eight w c → Lacks k c → IsWidthAllowed k two eight w → ⊥
+lacks_width : (k two eight c : Capabilities) (w : ℕ) → RequiresFor two eight w c → Lacks k c → IsWidthAllowed k two eight w → ⊥
 lacks_width k two eight c w (inl a) lacks (inl e) = absurd (omega (arith, a.0, e))
 lacks_width k two eight c w (inl a) lacks (inr (inl h)) = lacked k c two lacks a.1 h.1
 lacks_width k two eight c w (inl a) lacks (inr (inr h)) = absurd (omega (arith, a.0, h.0))
@@ -37,7 +37,7 @@ no_scalar k kind.Bool w wrong ok = wrong ok
 no_scalar k AbstractInt w wrong ok = wrong
 no_scalar k AbstractFloat w wrong ok = wrong
 
-lacks_scalar : (k c : Capabilities) (s : ScalarKind) (w : ℕ) → KindAsksFor s w c → Lacks k c → IsKindAllowed k s w → ⊥
+lacks_scalar : (k c : Capabilities) (s : ScalarKind) (w : ℕ) → KindRequires s w c → Lacks k c → IsKindAllowed k s w → ⊥
 lacks_scalar k c Sint w asks lacks ok = lacks_width k _ _ c w asks lacks ok
 lacks_scalar k c Uint w asks lacks ok = lacks_width k _ _ c w asks lacks ok
 lacks_scalar k c Float w asks lacks ok = lacks_width k _ _ c w asks lacks ok

@@ -17,7 +17,7 @@ abbrev pub part_of : (tree : ℕ → Tree) → PlainMember → Part
 part_of tree m = record { of_type = tree m.ty; binding = m.binding; offset = m.offset }
 
 -- what is told of a member
-pub record IsTold (c : TypeContext) (m : PlainMember) (placed : Placed) : Type 0 where
+pub record IsReported (c : TypeContext) (m : PlainMember) (placed : Placed) : Type 0 where
   pub of : placed.ty ≡ m.ty
   pub begins : placed.offset ≡ m.offset
   pub facts : AreFacts c (tree_in c m.ty) placed.facts
@@ -27,19 +27,19 @@ pub record IsPlaced (c : TypeContext) (members : List PlainMember) (place : ℕ)
   pub m : PlainMember
   pub at : slice_get members place ≡ Some m
   pub part : slice_get (parts_in c members) place ≡ Some (part_of (tree_in c) m)
-  pub told : IsTold c m placed
+  pub told : IsReported c m placed
 
 -- what is told of the member before a place
 pub record IsBefore (c : TypeContext) (members : List PlainMember) (place : ℕ) (placed : Placed) : Type 0 where
   pub m : PlainMember
   pub at : before members place ≡ Some m
   pub part : before (parts_in c members) place ≡ Some (part_of (tree_in c) m)
-  pub told : IsTold c m placed
+  pub told : IsReported c m placed
 
 -- where it ends, and 0 where there is none
-abbrev pub end_behind : Option Part → ℕ
-end_behind None = 0
-end_behind (Some p) = end_of p
+abbrev pub end_after : Option Part → ℕ
+end_after None = 0
+end_after (Some p) = end_of p
 
 -- P holds of whatever stands at a place
 abbrev pub AtPlace : (P : ℕ → Part → Type 0) → List Part → (place : ℕ) → Type 0

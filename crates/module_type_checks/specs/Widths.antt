@@ -4,7 +4,7 @@ use Rattle.ir_flags.specs.declared.settings.Capabilities.{Capabilities}
 use Rattle.ir_kinds.specs.Values.{literal_scalar}
 use Rattle.ir_kinds.specs.declared.scalars.Scalar.{Scalar}
 use Rattle.ir_kinds.specs.declared.values.Literal.{Literal}
-use Rattle.module_type_infos.specs.Faults.{IsNoWidth, AsksFor, Lacks, IsWidthFault, LacksWideAtomics}
+use Rattle.module_type_infos.specs.Faults.{IsNoWidth, RequiresFor, Lacks, IsWidthFault, LacksWideAtomics}
 use Rattle.module_type_infos.specs.declared.error.LiteralError.{LiteralError}
 use Rattle.module_type_infos.specs.declared.error.LiteralError.TheVariants as literal_error
 use Rattle.module_type_infos.specs.declared.error.TypeError.{TypeError}
@@ -15,7 +15,7 @@ use Rattle.module_type_infos.specs.declared.error.WidthError.TheVariants as widt
 -- a number of no width that there is, or without the capability of its width
 abbrev pub IsWideFault : Capabilities → (two eight : Capabilities) → Scalar → WidthError → Type 0
 IsWideFault capabilities two eight s (width.Invalid k bytes) = (k ≡ s.kind) × (bytes ≡ s.width) × IsNoWidth s.width
-IsWideFault capabilities two eight s (width.MissingCapability c) = AsksFor two eight s.width c × Lacks capabilities c
+IsWideFault capabilities two eight s (width.MissingCapability c) = RequiresFor two eight s.width c × Lacks capabilities c
 IsWideFault capabilities two eight s width.Abstract = ⊥
 
 abbrev pub IsLiteralFault : Capabilities → Literal → LiteralError → Type 0

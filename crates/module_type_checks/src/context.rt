@@ -1,8 +1,8 @@
 //! What the rules of a type may look at.
 
 use ir_flags::Capabilities;
-use ir_types::{IrType, key};
 use ir_sets::unique_arena::UniqueArena;
+use ir_types::{IrType, key};
 use module_type_infos::TypeInfo;
 use typing_layout::Layouter;
 

@@ -2,7 +2,7 @@
 
 ghost use Rattle.std.specs.Prelude.{◌≡◌, ◌<◌, ℕ, Some, length, max, if◌then◌else◌};
 ghost use Rattle.ir_types.specs.Plain.{inner_view};
-ghost use Rattle.typing_layout.specs.Buffers.{uniform_alignment, free_behind};
+ghost use Rattle.typing_layout.specs.Buffers.{uniform_alignment, free_after};
 ghost use Rattle.typing_layout.specs.Parts.{Part, end_of};
 ghost use Rattle.typing_layout.specs.Layout.{alignment};
 ghost use Rattle.typing_layout.specs.Tree.{Tree};
@@ -13,8 +13,8 @@ ghost use Rattle.typing_forms.specs.Sizes.{rounded_up};
 
 use crate::context::TypeContext;
 use ir_arena::handle::Handle;
-use ir_types::{IrType, TypeInner, key};
 use ir_sets::unique_arena::UniqueArena;
+use ir_types::{IrType, TypeInner, key};
 use module_type_infos::TypeInfo;
 use typing_layout::Alignment;
 
@@ -44,7 +44,7 @@ pub fn type_at(types: &UniqueArena<IrType, key::IrType>, ty: Handle<key::IrType>
 // Whether a type is a struct, so that what follows keeps away.
 fn is_struct(inner: &TypeInner) -> bool
     ensures { (tree : ℕ → Tree) (p : Part)
-        → free_behind p (tree_by tree (inner_view inner.now)) ≡ (if result then rounded_up 16 (end_of p) else 0) }
+        → free_after p (tree_by tree (inner_view inner.now)) ≡ (if result then rounded_up 16 (end_of p) else 0) }
 {
     match *inner {
         TypeInner::Struct { .. } => true,

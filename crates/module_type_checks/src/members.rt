@@ -6,7 +6,7 @@ ghost use Rattle.ir_types.specs.Plain.{member_view};
 ghost use Rattle.typing_layout.specs.Parts.{before};
 ghost use Rattle.typing_layout.specs.Structs.{StructOK};
 ghost use Rattle.module_type_checks.specs.Known.{IsKnown, types_in, tree_in};
-ghost use Rattle.module_type_checks.specs.Placed.{parts_in, IsPlaced, IsBefore, end_behind, PlacedOK};
+ghost use Rattle.module_type_checks.specs.Placed.{parts_in, IsPlaced, IsBefore, end_after, PlacedOK};
 ghost use Rattle.module_type_infos.specs.MemberFaults.{IsStructFault};
 
 use crate::context::TypeContext;
@@ -102,7 +102,7 @@ fn check_ordered(
     requires within { place < length members.now }
     requires placed { IsPlaced context.now (map member_view members.now) place member }
     ensures { (span : ℕ) → MatchResult result
-        (λ _. (member.offset ≡ 0) ⊎ (end_behind (before (parts_in context.now (map member_view members.now)) place) ≤ member.offset))
+        (λ _. (member.offset ≡ 0) ⊎ (end_after (before (parts_in context.now (map member_view members.now)) place) ≤ member.offset))
         (IsStructFault (types_in context.now) (map member_view members.now) span) }
 {
     if member.offset == 0 {

@@ -127,7 +127,7 @@ fn is_bound(inner: &TypeInner) -> bool
 }
 
 // Whether an earlier type stands in binding arrays.
-fn stands_in_array(context: &TypeContext<'_>, base: Handle<key::IrType>) -> bool
+fn is_in_array(context: &TypeContext<'_>, base: Handle<key::IrType>) -> bool
     requires known { IsKnown context.now }
     requires before { base < length context.now.infos.now }
     ensures { IsTrue result ↔ IsBound (tree_in context.now base) }
@@ -145,7 +145,7 @@ pub(crate) fn check_binding_array(
     requires before { base < length context.now.infos.now }
     ensures { MatchResult result (λ _. BindingArrayOK (tree_in context.now base) size) (IsBindingArrayFault (types_in context.now) base size) }
 {
-    if !stands_in_array(context, base) {
+    if !is_in_array(context, base) {
         return Err(TypeError::Other);
     }
     if !is_known_count(true, size) {

@@ -3,7 +3,7 @@ use Rattle.std.specs.Prelude.{◌≡◌, ◌<◌, ◌⊎◌, ℕ, List, Some, sl
 use Rattle.std.specs.Int.{◌∣◌}
 use Rattle.ir_types.specs.Plain.{PlainType}
 use Rattle.ir_types.specs.declared.types.ArraySize.{ArraySize}
-use Rattle.typing_layout.specs.Buffers.{uniform_alignment, free_behind}
+use Rattle.typing_layout.specs.Buffers.{uniform_alignment, free_after}
 use Rattle.typing_layout.specs.Flags.{HasFlag, HostShareable}
 use Rattle.typing_layout.specs.Immediates.{scalar_of}
 use Rattle.typing_layout.specs.Parts.{Part, listed, before, Somewhere}
@@ -42,7 +42,7 @@ pub record IsBadOffset (part : Tree → ℕ) (index offset a : ℕ) (t : Tree) :
   pub broken : ¬ (a ∣ offset)
 
 -- a struct with a member that begins too near behind a struct
-pub record IsNearBehind (index offset expected : ℕ) (t : Tree) : Type 0 where
+pub record IsNearAfter (index offset expected : ℕ) (t : Tree) : Type 0 where
   pub members : Members
   pub span : ℕ
   pub is : t ≡ struct members span
@@ -51,7 +51,7 @@ pub record IsNearBehind (index offset expected : ℕ) (t : Tree) : Type 0 where
   pub q : Part
   pub behind : before (listed members) index ≡ Some q
   pub begins : offset ≡ p.offset
-  pub asked : expected ≡ free_behind q q.of_type
+  pub asked : expected ≡ free_after q q.of_type
   pub near : offset < expected
 
 abbrev pub BreaksStorage : Disalignment → Tree → Type 0
@@ -65,7 +65,7 @@ abbrev pub BreaksUniform : Disalignment → Tree → Type 0
 BreaksUniform (fault.ArrayStride stride a) t = IsBadStride (λ base n. (n ≡ uniform_alignment base) ⊎ (n ≡ 16)) stride a t
 BreaksUniform (fault.StructSpan span a) t = IsBadSpan span a t
 BreaksUniform (fault.MemberOffset index offset a) t = IsBadOffset uniform_alignment index offset a t
-BreaksUniform (fault.MemberOffsetAfterStruct index offset expected) t = IsNearBehind index offset expected t
+BreaksUniform (fault.MemberOffsetAfterStruct index offset expected) t = IsNearAfter index offset expected t
 BreaksUniform fault.NonHostShareable t = ¬ HasFlag HostShareable t
 
 -- the fault stands at the type itself or at one inside, which is that at the handle

@@ -46,20 +46,20 @@ IsNoScalar AbstractInt bytes = ⊥
 IsNoScalar AbstractFloat bytes = ⊥
 
 -- a scalar of two or of eight bytes asks for its capability
-abbrev pub AsksFor : (two eight : Capabilities) → (bytes : ℕ) → Capabilities → Type 0
-AsksFor two eight bytes c = ((bytes ≡ 2) × (c ≡ two)) ⊎ ((bytes ≡ 8) × (c ≡ eight))
+abbrev pub RequiresFor : (two eight : Capabilities) → (bytes : ℕ) → Capabilities → Type 0
+RequiresFor two eight bytes c = ((bytes ≡ 2) × (c ≡ two)) ⊎ ((bytes ≡ 8) × (c ≡ eight))
 
-abbrev pub KindAsksFor : ScalarKind → (bytes : ℕ) → Capabilities → Type 0
-KindAsksFor Sint bytes c = AsksFor SHADER_INT16 SHADER_INT64 bytes c
-KindAsksFor Uint bytes c = AsksFor SHADER_INT16 SHADER_INT64 bytes c
-KindAsksFor Float bytes c = AsksFor SHADER_FLOAT16 FLOAT64 bytes c
-KindAsksFor kind.Bool bytes c = ⊥
-KindAsksFor AbstractInt bytes c = ⊥
-KindAsksFor AbstractFloat bytes c = ⊥
+abbrev pub KindRequires : ScalarKind → (bytes : ℕ) → Capabilities → Type 0
+KindRequires Sint bytes c = RequiresFor SHADER_INT16 SHADER_INT64 bytes c
+KindRequires Uint bytes c = RequiresFor SHADER_INT16 SHADER_INT64 bytes c
+KindRequires Float bytes c = RequiresFor SHADER_FLOAT16 FLOAT64 bytes c
+KindRequires kind.Bool bytes c = ⊥
+KindRequires AbstractInt bytes c = ⊥
+KindRequires AbstractFloat bytes c = ⊥
 
 abbrev pub IsWidthFault : Capabilities → Scalar → WidthError → Type 0
 IsWidthFault capabilities s (width.Invalid k bytes) = (k ≡ s.kind) × (bytes ≡ s.width) × IsNoScalar s.kind s.width
-IsWidthFault capabilities s (width.MissingCapability c) = KindAsksFor s.kind s.width c × Lacks capabilities c
+IsWidthFault capabilities s (width.MissingCapability c) = KindRequires s.kind s.width c × Lacks capabilities c
 IsWidthFault capabilities s width.Abstract = (s.kind ≡ AbstractInt) ⊎ (s.kind ≡ AbstractFloat)
 
 abbrev pub IsScalarFault : Capabilities → Scalar → TypeError → Type 0

@@ -6,7 +6,7 @@ use Rattle.ir_types.specs.declared.types.ArraySize.{ArraySize}
 use Rattle.ir_types.specs.declared.types.ArraySize.TheVariants.{Constant, Pending, Dynamic}
 use Rattle.module_types.proofs.Inside.{everywhere_in, somewhere_struct, somewhere_here}
 use Rattle.module_types.specs.Layouts.{IsStructOf, IsStructAt, IsArrayAt, StoragePart, UniformPart, FitsAt, free_before, IsUniformAlignment}
-use Rattle.typing_layout.specs.Buffers.{StorageAt, IsStorage, UniformAt, IsUniform, uniform_alignment, free_behind}
+use Rattle.typing_layout.specs.Buffers.{StorageAt, IsStorage, UniformAt, IsUniform, uniform_alignment, free_after}
 use Rattle.typing_layout.specs.Flags.{HasFlag, HostShareable}
 use Rattle.typing_layout.specs.Immediates.{ImmediateAt, FitsImmediates, scalar_of}
 use Rattle.typing_layout.specs.Parts.{Part, before, end_of, Somewhere}
@@ -18,7 +18,7 @@ use Rattle.module_type_checks.specs.Placed.{parts_in, part_of, IsPlaced, IsBefor
 use Rattle.module_type_checks.specs.declared.context.TypeContext.{TypeContext}
 use Rattle.module_type_checks.specs.declared.facts.Facts.{Facts}
 use Rattle.module_type_checks.specs.declared.members.Placed.{Placed}
-use Rattle.module_type_infos.specs.BufferFaults.{IsBadStride, IsBadSpan, IsBadOffset, IsNearBehind, IsBroken, IsUnfit}
+use Rattle.module_type_infos.specs.BufferFaults.{IsBadStride, IsBadSpan, IsBadOffset, IsNearAfter, IsBroken, IsUnfit}
 use Rattle.module_type_infos.specs.declared.error.Disalignment.{Disalignment}
 use Rattle.module_type_infos.specs.declared.error.ImmediateError.{ImmediateError}
 use Rattle.module_type_infos.specs.declared.error.ImmediateError.TheVariants as immediate
@@ -95,7 +95,7 @@ pub uniform_of_placed : (c : TypeContext) (ms : List PlainMember) (place a : ℕ
     → IsUniformAlignment c placed.ty a
 uniform_of_placed c ms place a placed at laid = subst (λ h. IsUniformAlignment c h a) (sym at.told.of) (record { laid = laid.0; aligned = laid.1 })
 
-free_within : (o : Option Part) (n : ℕ) → free_before o ≤ n → IfSome o (λ a. free_behind a a.of_type ≤ n)
+free_within : (o : Option Part) (n : ℕ) → free_before o ≤ n → IfSome o (λ a. free_after a a.of_type ≤ n)
 free_within None n le = tt
 free_within (Some a) n le = le
 
@@ -115,7 +115,7 @@ some_before None n lt = absurd (omega arith)
 some_before (Some q) n lt = (q, refl)
 
 pub near_behind : (c : TypeContext) (ms : List PlainMember) (handle place free : ℕ) (placed : Placed) (own : IsStructAt c ms handle) (at : IsPlaced c ms place placed)
-    → free ≡ free_before (before (parts_in c ms) place) → placed.offset < free → IsNearBehind place placed.offset free (tree_in c handle)
+    → free ≡ free_before (before (parts_in c ms) place) → placed.offset < free → IsNearAfter place placed.offset free (tree_in c handle)
 near_behind c ms handle place free placed own at is lt =
     let b = some_before (before (parts_in c ms) place) placed.offset (subst (λ n. placed.offset < n) is lt) in
     record {

@@ -4,7 +4,7 @@ use Rattle.std.specs.Int.{◌∣◌}
 use Rattle.ir_kinds.specs.declared.scalars.Scalar.{Scalar}
 use Rattle.ir_types.specs.Plain.{PlainMember}
 use Rattle.ir_types.specs.declared.types.ArraySize.{ArraySize}
-use Rattle.typing_layout.specs.Buffers.{IsStorage, IsUniform, uniform_alignment, free_behind}
+use Rattle.typing_layout.specs.Buffers.{IsStorage, IsUniform, uniform_alignment, free_after}
 use Rattle.typing_layout.specs.Immediates.{FitsImmediates}
 use Rattle.typing_layout.specs.Parts.{Part, before}
 use Rattle.typing_layout.specs.Layout.{alignment}
@@ -36,7 +36,7 @@ abbrev pub StoragePart : (place : ℕ) → Part → Type 0
 StoragePart place p = IsStorage p.of_type × (alignment p.of_type ∣ p.offset)
 
 abbrev pub UniformPart : List Part → (place : ℕ) → Part → Type 0
-UniformPart ps place p = IsUniform p.of_type × (uniform_alignment p.of_type ∣ p.offset) × IfSome (before ps place) (λ a. free_behind a a.of_type ≤ p.offset)
+UniformPart ps place p = IsUniform p.of_type × (uniform_alignment p.of_type ∣ p.offset) × IfSome (before ps place) (λ a. free_after a a.of_type ≤ p.offset)
 
 abbrev pub FitsAt : (place : ℕ) → Part → Type 0
 FitsAt place p = FitsImmediates p.of_type
@@ -44,7 +44,7 @@ FitsAt place p = FitsImmediates p.of_type
 -- where the member before lets the next one begin
 abbrev pub free_before : Option Part → ℕ
 free_before None = 0
-free_before (Some a) = free_behind a a.of_type
+free_before (Some a) = free_after a a.of_type
 
 -- an earlier type lies in uniform buffers, with this alignment
 pub record IsUniformAlignment (c : TypeContext) (ty a : ℕ) : Type 0 where

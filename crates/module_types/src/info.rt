@@ -20,7 +20,9 @@ use crate::{storage_of_array, storage_of_struct};
 use bitflags::Flags;
 use ir_arena::handle::Handle;
 use ir_types::{ArraySize, StructMember, TypeInner, key};
-use module_type_checks::{TypeContext, facts_of, flags_of_array, flags_of_struct, type_at, whole_flags};
+use module_type_checks::{
+    TypeContext, facts_of, flags_of_array, flags_of_struct, type_at, whole_flags,
+};
 use module_type_infos::{Disalignment, LayoutCompatibility, TypeFlags, TypeInfo};
 use typing_layout::Alignment;
 

@@ -9,7 +9,6 @@ mod uniform;
 mod validate;
 
 pub use info::info_of;
-pub use storage::{Broken, storage_of_array, storage_of_struct};
 pub use module_type_checks::{
     TypeContext, check_literal_value, check_type, check_width, validate_literal,
 };
@@ -17,4 +16,5 @@ pub use module_type_infos::{
     Disalignment, ImmediateError, LayoutCompatibility, LiteralError, TypeError, TypeFlags,
     TypeInfo, VaryingError, WidthError,
 };
+pub use storage::{Broken, storage_of_array, storage_of_struct};
 pub use validate::{InvalidType, TypeSettings, validate_type, validate_types};

@@ -12,12 +12,12 @@ use ir_arena::handle::Handle;
 use ir_faults::refusal::Refusal;
 use ir_faults::with_span::WithSpan;
 use ir_flags::Capabilities;
-use ir_types::{IrType, key};
 use ir_sets::unique_arena::UniqueArena;
-use std::alloc::Global;
-use thiserror::Error;
+use ir_types::{IrType, key};
 use module_type_checks::{TypeContext, check_type};
 use module_type_infos::{TypeError, TypeInfo};
+use std::alloc::Global;
+use thiserror::Error;
 use typing_layout::Layouter;
 
 /// A type that is refused (naga's `ValidationError::Type`).

@@ -7,17 +7,17 @@ use Rattle.ir_faults.specs.declared.refusal.Refusal.{Refusal}
 use Rattle.ir_faults.specs.declared.refusal.Refusal.TheVariants as refusal
 use Rattle.ir_items.specs.Plain.{PlainModule}
 use Rattle.module_constants.specs.Refusals.{IsOverrideRefusal}
-use Rattle.module_validator.specs.OverrideRefusals.{IsToldAt, IsRefusal}
+use Rattle.module_validator.specs.OverrideRefusals.{IsReportedAt, IsRefusal}
 use Rattle.module_validator.specs.declared.listed_overrides.InvalidOverride.{InvalidOverride}
 use Rattle.spec_expressions.specs.Overrides.{OverrideOK}
 
 -- the refusal of the first override that is not accepted, as one of all
-pub refusal_told : (resolved : Bool) (m : PlainModule) (place handle : ℕ) (r : Refusal OverrideError) (told : Refusal InvalidOverride) → handle ≡ place → place < length m.overrides
-    → ((earlier : ℕ) → earlier < place → OverrideOK resolved m earlier) → IsOverrideRefusal resolved m handle r → IsToldAt handle r told → IsRefusal resolved m told
-refusal_told resolved m place handle (refusal.Memory e) (refusal.Memory d) here lt before wrong same = tt
-refusal_told resolved m place handle (refusal.Memory e) (refusal.Fault g) here lt before wrong same = absurd same
-refusal_told resolved m place handle (refusal.Fault f) (refusal.Memory d) here lt before wrong same = absurd same
-refusal_told resolved m place handle (refusal.Fault f) (refusal.Fault g) here lt before wrong same =
+pub refusal_reported : (resolved : Bool) (m : PlainModule) (place handle : ℕ) (r : Refusal OverrideError) (told : Refusal InvalidOverride) → handle ≡ place → place < length m.overrides
+    → ((earlier : ℕ) → earlier < place → OverrideOK resolved m earlier) → IsOverrideRefusal resolved m handle r → IsReportedAt handle r told → IsRefusal resolved m told
+refusal_reported resolved m place handle (refusal.Memory e) (refusal.Memory d) here lt before wrong same = tt
+refusal_reported resolved m place handle (refusal.Memory e) (refusal.Fault g) here lt before wrong same = absurd same
+refusal_reported resolved m place handle (refusal.Fault f) (refusal.Memory d) here lt before wrong same = absurd same
+refusal_reported resolved m place handle (refusal.Fault f) (refusal.Fault g) here lt before wrong same =
     let at = same.0 in (
       record {
         within = omega (arith, at, here, lt);

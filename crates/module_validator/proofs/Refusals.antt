@@ -18,7 +18,7 @@ use Rattle.module_types.specs.Validated.{IsFirstRefused as IsTypeRefused}
 use Rattle.module_types.specs.declared.validate.InvalidType.{InvalidType}
 use Rattle.module_validator.proofs.Handles.{handle_refuted}
 use Rattle.module_validator.proofs.StepLemmas.{not_laid, not_told, not_typed}
-use Rattle.module_validator.specs.Faults.{IsModuleFault, IsToldAs}
+use Rattle.module_validator.specs.Faults.{IsModuleFault, IsReportedAs}
 use Rattle.module_validator.specs.declared.error.ModuleError.TheVariants as error
 use Rattle.spec_expressions.specs.Context.{outside}
 use Rattle.judgement.specs.ModuleSteps as step
@@ -56,7 +56,7 @@ by_told s m layouts r f e is same reached held told =
     let refused = subst (IsRefusal m.types layouts) is told in
     subst (λ d. IsModuleFault s m (error.Layouter d)) (sym same) (by_layout s m layouts (error_of f) reached held refused.0)
 
-pub by_refusal : (s : ModuleSettings) (m : PlainModule) (r : TypingRefusal) (x : InvalidGlobalExpression) → IsReached s m step.typing → IsFirstUntyped (outside m) m.global_expressions r → IsToldAs r x
+pub by_refusal : (s : ModuleSettings) (m : PlainModule) (r : TypingRefusal) (x : InvalidGlobalExpression) → IsReached s m step.typing → IsFirstUntyped (outside m) m.global_expressions r → IsReportedAs r x
     → IsModuleFault s m (error.ConstExpression x)
 by_refusal s m (typing.Memory e) x reached first told = absurd told
 by_refusal s m (typing.Fault expression e) x reached first told =

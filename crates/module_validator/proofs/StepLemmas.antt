@@ -16,7 +16,7 @@ use Rattle.typing_layout.specs.declared.error.LayoutError.{LayoutError}
 use Rattle.typing_layout.specs.declared.error.LayoutErrorInner.{LayoutErrorInner}
 use Rattle.typing_layout.specs.declared.error.LayoutErrorInner.TheVariants.{NonPowerOfTwoWidth, TooLarge}
 use Rattle.typing_layout.specs.declared.layout.TypeLayout.{TypeLayout}
-use Rattle.typing_operands.specs.Answers.{TellsFault, fault_of, form_given}
+use Rattle.typing_operands.specs.Answers.{ReportsFault, fault_of, form_given}
 use Rattle.typing_operands.specs.declared.error.ResolveError.{ResolveError}
 use Rattle.spec_expressions.specs.declared.faults.TypingFault.{TypingFault}
 use Rattle.spec_expressions.specs.Typing.{HasTypeAmong}
@@ -74,11 +74,11 @@ typed s m types are = record {
   each = λ index lt. let len = are.len in let here = there types index (omega (arith, lt, len)) in (form_given m.types here.0, are.each index here.0 here.1);
 }
 
-faulty_within : (m : PlainModule) (place : ℕ) (f : Option TypingFault) → TellsFault (outside m) m.global_expressions place f → place < length m.global_expressions
+faulty_within : (m : PlainModule) (place : ℕ) (f : Option TypingFault) → ReportsFault (outside m) m.global_expressions place f → place < length m.global_expressions
 faulty_within m place (Some f) tells = within m.global_expressions place tells.faulty.expression tells.faulty.stands
 faulty_within m place None tells = absurd tells
 
-faulty_has_none : (m : PlainModule) (place : ℕ) (f : Option TypingFault) → TellsFault (outside m) m.global_expressions place f → (t : Form) → HasTypeAmong (outside m) m.global_expressions place t → ⊥
+faulty_has_none : (m : PlainModule) (place : ℕ) (f : Option TypingFault) → ReportsFault (outside m) m.global_expressions place f → (t : Form) → HasTypeAmong (outside m) m.global_expressions place t → ⊥
 faulty_has_none m place (Some f) tells t typed = tells.none t typed
 faulty_has_none m place None tells t typed = absurd tells
 

@@ -13,7 +13,7 @@ use Rattle.module_constants.specs.declared.constants.InvalidConstant.{InvalidCon
 use Rattle.module_constants.specs.declared.context.GlobalContext.{GlobalContext}
 use Rattle.module_constants.specs.declared.expressions.InvalidGlobalExpression.{InvalidGlobalExpression}
 use Rattle.module_validator.specs.declared.listed_overrides.InvalidOverride.{InvalidOverride}
-use Rattle.module_types.specs.Validated.{AreAccepted as AreTold}
+use Rattle.module_types.specs.Validated.{AreAccepted as AreReported}
 use Rattle.module_validator.proofs.Handles.{named_are_there}
 use Rattle.module_validator.proofs.Refusals.{by_expression, by_constant, by_override}
 use Rattle.module_validator.specs.Faults.{IsModuleFault}
@@ -121,7 +121,7 @@ forms_typed m resolutions typed = record {
 
 pub known_in : (c : GlobalContext) (capabilities : Capabilities) (resolved : Bool) → HandlesOK (module_in c) → AreKinds (module_in c).global_expressions c.kinds.now
     → (resolutions : List TypeResolution) → AreTypes (outside (module_in c)) (module_in c).global_expressions resolutions → c.forms.now ≡ map (form_given (module_in c).types) resolutions
-    → AreTold capabilities resolved (module_in c).types c.infos.now → IsKnown c
+    → AreReported capabilities resolved (module_in c).types c.infos.now → IsKnown c
 known_in c capabilities resolved handles kinds resolutions typed forms told = record {
   there = named_are_there (module_in c) handles;
   kinds = kinds;

@@ -45,9 +45,9 @@ IsRefusal s m (refusal.Memory e) = Unit {0}
 IsRefusal s m (refusal.Fault f) = IsModuleFault s m (error_of f) × (spans_of f ≡ [])
 
 -- what the typing refuses, as the error of the global expression
-abbrev pub IsToldAs : TypingRefusal → InvalidGlobalExpression → Type 0
-IsToldAs (typing.Memory e) x = ⊥
-IsToldAs (typing.Fault expression e) x = (x.expression ≡ expression) × (x.error ≡ constant.Typing e)
+abbrev pub IsReportedAs : TypingRefusal → InvalidGlobalExpression → Type 0
+IsReportedAs (typing.Memory e) x = ⊥
+IsReportedAs (typing.Fault expression e) x = (x.expression ≡ expression) × (x.error ≡ constant.Typing e)
 
 -- it ran out of memory
 abbrev pub IsOutOfMemory : TypingRefusal → Type 0

@@ -1,5 +1,5 @@
 pub mod Seen
-pub mod Told
+pub mod Reported
 pub mod Faults
 pub mod Settings
 pub mod Refusals

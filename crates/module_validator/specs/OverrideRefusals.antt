@@ -11,11 +11,11 @@ use Rattle.module_validator.specs.declared.listed_overrides.InvalidOverride.{Inv
 use Rattle.spec_expressions.specs.Overrides.{OverrideOK}
 
 -- a refusal tells the same as that of the override at a handle
-abbrev pub IsToldAt : (handle : ℕ) → Refusal OverrideError → Refusal InvalidOverride → Type 0
-IsToldAt handle (refusal.Memory e) (refusal.Memory d) = Unit {0}
-IsToldAt handle (refusal.Memory e) (refusal.Fault g) = ⊥
-IsToldAt handle (refusal.Fault f) (refusal.Memory d) = ⊥
-IsToldAt handle (refusal.Fault f) (refusal.Fault g) = ((error_of g).id ≡ handle) × ((error_of g).error ≡ error_of f) × (spans_of g ≡ [])
+abbrev pub IsReportedAt : (handle : ℕ) → Refusal OverrideError → Refusal InvalidOverride → Type 0
+IsReportedAt handle (refusal.Memory e) (refusal.Memory d) = Unit {0}
+IsReportedAt handle (refusal.Memory e) (refusal.Fault g) = ⊥
+IsReportedAt handle (refusal.Fault f) (refusal.Memory d) = ⊥
+IsReportedAt handle (refusal.Fault f) (refusal.Fault g) = ((error_of g).id ≡ handle) × ((error_of g).error ≡ error_of f) × (spans_of g ≡ [])
 
 -- why not all overrides are accepted: one is refused, or there is no memory
 abbrev pub IsRefusal : (resolved : Bool) → PlainModule → Refusal InvalidOverride → Type 0

@@ -10,19 +10,18 @@ ghost use Rattle.spec_interface.specs.Globals.{GlobalsOK};
 ghost use Rattle.spec_handles.specs.InOrder.{HandlesOK};
 ghost use Rattle.typing_expressions.specs.Types.{AreTypes};
 
-use module_globals::{GlobalVariableError, validate_global_var};
 use ir_arena::handle::Handle;
 use ir_faults::refusal::Refusal;
 use ir_faults::with_span::WithSpan;
 use ir_flags::ValidationFlags;
 use ir_items::Module;
 use ir_types::key;
-use module_constants::GlobalContext;
-use module_constants::forms_given;
 use judgement::ModuleSettings;
+use module_constants::{GlobalContext, forms_given};
+use module_globals::{GlobalVariableError, validate_global_var};
+use module_type_infos::TypeInfo;
 use std::alloc::Global;
 use thiserror::Error;
-use module_type_infos::TypeInfo;
 use typing_forms::TypeResolution;
 use typing_layout::ExpressionKindTracker;
 
@@ -60,7 +59,7 @@ fn check_all(
 /// Whether a module may have its global variables (the part of naga's `Validator::validate` that speaks of them). Each is
 /// looked at once, and so is each global expression.
 ///
-/// Asks that the handles of the module are in order, and that this is told of its types and of its global expressions, as
+/// Requires that the handles of the module are in order, and that this is told of its types and of its global expressions, as
 /// `ModuleValidator::validate` answers.
 ///
 /// # Errors

@@ -15,22 +15,22 @@ ghost use Rattle.spec_expressions.specs.GlobalExpressions.{GlobalExpressionOK};
 ghost use Rattle.module_type_checks.specs.Known.{IsKnown as IsKnownOfTypes, types_in};
 
 use crate::validator::ModuleValidator;
-use typing_errors::{ConstExpressionError, ExpressionError};
-use module_expressions::validate_expression;
 use ir_arena::handle::Handle;
 use ir_flags::ShaderStages;
 use ir_types::key;
 use module_constants::{GlobalContext, validate_const_expression};
-use module_types::validate_type;
 use module_context::CheckContext;
+use module_expressions::validate_expression;
 use module_type_checks::TypeContext;
 use module_type_infos::{TypeError, TypeInfo};
+use module_types::validate_type;
+use typing_errors::{ConstExpressionError, ExpressionError};
 
 impl ModuleValidator {
     /// What is told of the type at a handle, if a module may have it, from what is told of the types before it (naga's
     /// `Validator::validate_type`).
     ///
-    /// Asks that types go back, that what the context tells of types and layouts is theirs, and that it tells of each type
+    /// Requires that types go back, that what the context tells of types and layouts is theirs, and that it tells of each type
     /// before this one.
     ///
     /// # Errors
@@ -61,7 +61,7 @@ impl ModuleValidator {
 
     /// Whether a module may have the global expression at a handle (naga's `Validator::validate_const_expression`).
     ///
-    /// Asks that what the module's constants, overrides and compositions name is there, and that what the context tells of
+    /// Requires that what the module's constants, overrides and compositions name is there, and that what the context tells of
     /// types and global expressions is told of all of them.
     ///
     /// # Errors
@@ -92,7 +92,7 @@ impl ModuleValidator {
 
     /// Whether the expression at a handle is accepted, and which stages may run it (naga's `Validator::validate_expression`).
     ///
-    /// Asks that what the context tells of types and of constants is told of all of them.
+    /// Requires that what the context tells of types and of constants is told of all of them.
     ///
     /// # Errors
     ///

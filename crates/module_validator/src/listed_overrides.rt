@@ -3,15 +3,14 @@
 ghost use Rattle.std.specs.Prelude.{length, IfOk, IfErr};
 ghost use Rattle.module_constants.specs.Firsts.{AreAccepted};
 ghost use Rattle.module_constants.specs.Known.{IsKnown, module_in};
-ghost use Rattle.module_validator.specs.OverrideRefusals.{IsToldAt, IsRefusal};
+ghost use Rattle.module_validator.specs.OverrideRefusals.{IsReportedAt, IsRefusal};
 ghost use Rattle.spec_expressions.specs.Overrides.{OverrideOK};
 
 use ir_arena::handle::Handle;
 use ir_faults::refusal::Refusal;
 use ir_faults::with_span::WithSpan;
 use ir_types::key;
-use module_constants::{GlobalContext, OverrideIds, validate_override};
-use module_constants::OverrideError;
+use module_constants::{GlobalContext, OverrideError, OverrideIds, validate_override};
 use std::alloc::Global;
 use thiserror::Error;
 
@@ -31,7 +30,7 @@ fn refusal_at(
     id: Handle<key::Override>,
     refusal: Refusal<OverrideError>,
 ) -> Refusal<InvalidOverride>
-    ensures { IsToldAt id refusal result }
+    ensures { IsReportedAt id refusal result }
 {
     match refusal {
         Refusal::Memory(error) => Refusal::Memory(error),

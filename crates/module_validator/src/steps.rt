@@ -3,23 +3,23 @@
 ghost use Rattle.std.specs.Prelude.{◌≡◌, [], IfOk, IfErr, OnErr, OnOk, length};
 ghost use Rattle.ir_items.specs.View.{module_view};
 ghost use Rattle.module_types.specs.Validated.{AreAccepted};
-ghost use Rattle.module_validator.specs.Faults.{IsModuleFault, IsRefusal, IsToldAs, IsOutOfMemory};
+ghost use Rattle.module_validator.specs.Faults.{IsModuleFault, IsRefusal, IsReportedAs, IsOutOfMemory};
 ghost use Rattle.spec_expressions.specs.Context.{outside};
 ghost use Rattle.judgement.specs.ModuleSteps.{IsReached, layout, type, typing, expression};
 ghost use Rattle.typing_expressions.specs.Types.{AreTypes, IsFirstUntyped};
 ghost use Rattle.typing_layout.specs.Held.{AreLayouts};
 
 use crate::error::ModuleError;
-use typing_errors::ConstExpressionError;
 use ir_faults::refusal::Refusal;
 use ir_faults::with_span::WithSpan;
 use ir_items::Module;
+use judgement::ModuleSettings;
 use module_constants::InvalidGlobalExpression;
 use module_handles::validate_module_handles;
-use module_types::{TypeSettings, validate_types};
-use judgement::ModuleSettings;
-use std::alloc::{AllocError, Global};
 use module_type_infos::TypeInfo;
+use module_types::{TypeSettings, validate_types};
+use std::alloc::{AllocError, Global};
+use typing_errors::ConstExpressionError;
 use typing_expressions::{TypingRefusal, const_expression_types};
 use typing_forms::TypeResolution;
 use typing_layout::Layouter;
@@ -37,7 +37,7 @@ pub(crate) fn refused(
     Refusal::Fault(WithSpan::new(alloc, error))
 }
 
-/// Asks that the handles of a module are in order.
+/// Requires that the handles of a module are in order.
 pub fn check_handles(
     alloc: Global,
     settings: ModuleSettings,
@@ -110,7 +110,7 @@ pub fn type_infos(
 
 // The refusal by the typing, as that of the global expression.
 fn as_error(refusal: TypingRefusal) -> Result<InvalidGlobalExpression, AllocError>
-    ensures told { IfOk result (IsToldAs refusal) }
+    ensures told { IfOk result (IsReportedAs refusal) }
     ensures memory { OnErr result (IsOutOfMemory refusal) }
 {
     match refusal {

@@ -3,7 +3,7 @@
 ghost use Rattle.std.specs.Prelude.{◌≡◌, [], MatchResult, IfOk, IfErr, OnOk, false, true};
 ghost use Rattle.ir_items.specs.View.{module_view};
 ghost use Rattle.module_validator.specs.Faults.{IsRefusal};
-ghost use Rattle.module_validator.specs.Told.{IsInfoOf, settings_of};
+ghost use Rattle.module_validator.specs.Reported.{IsInfoOf, settings_of};
 ghost use Rattle.typing_layout.specs.Widths.{ScalarOK};
 ghost use Rattle.spec_expressions.specs.ConstantLiterals.{LiteralOK};
 ghost use Rattle.judgement.specs.ModuleSteps.{ModuleOK};
@@ -15,11 +15,11 @@ use ir_faults::refusal::Refusal;
 use ir_flags::{Capabilities, ValidationFlags};
 use ir_items::Module;
 use ir_kinds::{Literal, Scalar};
-use typing_infos::ModuleInfo;
-use module_types::{LiteralError, WidthError, check_width, validate_literal};
 use judgement::ModuleSettings;
+use module_types::{LiteralError, WidthError, check_width, validate_literal};
 use std::alloc::Global;
 use std::mem;
+use typing_infos::ModuleInfo;
 use typing_layout::Layouter;
 
 /// What judges modules up to their overrides, one after the other (naga's `Validator`, as far as it speaks of what stands

@@ -19,22 +19,23 @@ use bitflags::Flags;
 use ir_faults::refusal::Refusal;
 use ir_flags::ValidationFlags;
 use ir_items::Module;
-use module_constants::{GlobalContext, validate_const_expressions, validate_constants};
-use module_constants::forms_given;
 use judgement::ModuleSettings;
-use std::alloc::Global;
+use module_constants::{
+    GlobalContext, forms_given, validate_const_expressions, validate_constants,
+};
 use module_type_infos::TypeInfo;
+use std::alloc::Global;
 use typing_forms::TypeResolution;
 use typing_layout::ExpressionKindTracker;
 
 // Whether values are asked of.
-fn asks_values(flags: ValidationFlags) -> bool
+fn requires_values(flags: ValidationFlags) -> bool
     ensures { IsTrue result ↔ Has flags.0 CONSTANTS.0 }
 {
     flags.contains(ValidationFlags::CONSTANTS)
 }
 
-// Asks that the module may have its global expressions.
+// Requires that the module may have its global expressions.
 fn check_expressions(
     alloc: Global,
     settings: ModuleSettings,
@@ -58,7 +59,7 @@ fn check_expressions(
     }
 }
 
-// Asks that the module may have its constants.
+// Requires that the module may have its constants.
 fn check_constants(
     alloc: Global,
     settings: ModuleSettings,
@@ -82,7 +83,7 @@ fn check_constants(
     }
 }
 
-// Asks that the module may have its overrides.
+// Requires that the module may have its overrides.
 fn check_overrides(
     alloc: Global,
     settings: ModuleSettings,
@@ -107,7 +108,7 @@ fn check_overrides(
     }
 }
 
-// Asks of the values of a module, where that is wanted.
+// Requires of the values of a module, where that is wanted.
 fn check_each(
     alloc: Global,
     settings: ModuleSettings,
@@ -125,7 +126,7 @@ fn check_each(
     check_overrides(alloc, settings, context)
 }
 
-/// Asks of the values of a module, where that is wanted.
+/// Requires of the values of a module, where that is wanted.
 pub fn check_values(
     alloc: Global,
     settings: ModuleSettings,
@@ -139,7 +140,7 @@ pub fn check_values(
     ensures accepted { OnOk result (ModuleOK settings (module_view «module».now)) }
     ensures refused { IfErr result (IsRefusal settings (module_view «module».now)) }
 {
-    if !asks_values(settings.flags) {
+    if !requires_values(settings.flags) {
         return Ok(());
     }
     let kinds = ExpressionKindTracker::from_arena(alloc, &module.global_expressions)?;

@@ -4,7 +4,7 @@ use Rattle.shader_check.proofs.EntryByChains.{accepted_at, entry_fault, noted_by
 use Rattle.shader_check.proofs.Staged.{are_stages}
 use Rattle.shader_check.specs.Judged.{AreJudged}
 use Rattle.shader_check.specs.JudgedEntries.{AreEntriesJudged, AreEntryNotes, IsEntryRefusal, Note}
-use Rattle.shader_check.specs.Validated.{AreEntriesKept, IsEntryFault, IsFaultBehind, IsKeptWith, IsRefusedWith, IsToldBy, IsValidated, IsValidationFault, module_settings}
+use Rattle.shader_check.specs.Validated.{AreEntriesKept, IsEntryFault, IsFaultAfter, IsKeptWith, IsRefusedWith, IsReportedBy, IsValidated, IsValidationFault, module_settings}
 use Rattle.shader_check.specs.declared.entries.InvalidEntryPoint.{InvalidEntryPoint}
 use Rattle.shader_check.specs.declared.error.ValidationError.{ValidationError}
 use Rattle.shader_check.specs.declared.error.ValidationError.TheVariants as error
@@ -22,7 +22,7 @@ use Rattle.module_validator.specs.Faults as items
 use Rattle.module_validator.specs.Faults.{IsModuleFault}
 use Rattle.module_validator.specs.Refusals as variables
 use Rattle.module_validator.specs.Refusals.{IsVariableFault}
-use Rattle.module_validator.specs.Told.{IsInfoOf, settings_of}
+use Rattle.module_validator.specs.Reported.{IsInfoOf, settings_of}
 use Rattle.module_validator.specs.declared.error.ModuleError.{ModuleError}
 use Rattle.module_validator.specs.declared.globals.InvalidGlobalVariable.{InvalidGlobalVariable}
 use Rattle.module_validator.specs.declared.validator.ModuleValidator.{ModuleValidator}
@@ -41,12 +41,12 @@ use Rattle.typing_layout.specs.Held.{AreLayouts}
 
 -- ---- refusals
 
-pub told_by : {E : Type 0} (of : E → ValidationError) (P : E → Type 0) (Q : ValidationError → Type 0) → ((x : E) → P x → Q (of x)) → (r : Refusal E) (t : Refusal ValidationError) → IsToldBy of r t → IsRefusedWith P r
+pub reported_by : {E : Type 0} (of : E → ValidationError) (P : E → Type 0) (Q : ValidationError → Type 0) → ((x : E) → P x → Q (of x)) → (r : Refusal E) (t : Refusal ValidationError) → IsReportedBy of r t → IsRefusedWith P r
     → IsRefusedWith Q t
-told_by of P Q widen (refusal.Memory a) (refusal.Memory b) told h = tt
-told_by of P Q widen (refusal.Memory a) (refusal.Fault g) told h = absurd told
-told_by of P Q widen (refusal.Fault f) (refusal.Memory b) told h = absurd told
-told_by of P Q widen (refusal.Fault f) (refusal.Fault g) told h = (subst Q (sym told.0) (widen (error_of f) h.0), told.1)
+reported_by of P Q widen (refusal.Memory a) (refusal.Memory b) told h = tt
+reported_by of P Q widen (refusal.Memory a) (refusal.Fault g) told h = absurd told
+reported_by of P Q widen (refusal.Fault f) (refusal.Memory b) told h = absurd told
+reported_by of P Q widen (refusal.Fault f) (refusal.Fault g) told h = (subst Q (sym told.0) (widen (error_of f) h.0), told.1)
 
 pub widened : (P Q : ValidationError → Type 0) → ((x : ValidationError) → P x → Q x) → (r : Refusal ValidationError) → IsRefusedWith P r → IsRefusedWith Q r
 widened P Q widen (refusal.Memory a) h = tt
@@ -84,11 +84,11 @@ module _ (s : FunctionSettings) (resolved : Bool) (m : PlainModule) where
   }
 
   module _ (ok : ModuleOK (module_settings s resolved) m) (globals : GlobalsOK s.flags s.capabilities m) where
-    pub fault_behind : (x : ValidationError) → IsFaultBehind s m x → IsValidationFault s resolved m x
-    fault_behind (error.Module e) h = absurd h
-    fault_behind (error.GlobalVariable e) h = absurd h
-    fault_behind (error.Function e) h = (ok, globals, h)
-    fault_behind (error.EntryPoint e) h = (ok, globals, h.0, h.1)
+    pub fault_after : (x : ValidationError) → IsFaultAfter s m x → IsValidationFault s resolved m x
+    fault_after (error.Module e) h = absurd h
+    fault_after (error.GlobalVariable e) h = absurd h
+    fault_after (error.Function e) h = (ok, globals, h)
+    fault_after (error.EntryPoint e) h = (ok, globals, h.0, h.1)
 
     pub validated : (before info : ModuleInfo) → IsInfoOf (module_settings s resolved) m before → IsKeptWith s m before info → IsValidated s resolved m info
     validated before info told kept = record {

@@ -17,13 +17,13 @@ use Rattle.spec_analysis.proofs.Members.{get-within}
 use Rattle.spec_expressions.specs.Context.{inside}
 use Rattle.spec_expressions.specs.declared.faults.TypingFault.{TypingFault}
 use Rattle.spec_statements.proofs.FormLaws.{wrong_by_summaries, wrong_by_chains}
-use Rattle.spec_statements.proofs.HeldLaws.{one_held}
+use Rattle.spec_statements.proofs.HeldLaws.{one_payload}
 use Rattle.spec_statements.specs.Analysis.{IsAnalysed}
 use Rattle.spec_statements.specs.ModuleFunctions.{reading_over, settings_with, FunctionAtOK}
 use Rattle.spec_statements.specs.Functions.{FunctionSettings, FunctionOK, AreFormsBy}
 use Rattle.typing_forms.specs.declared.form.Form.{Form}
 use Rattle.function_real_lower.specs.Processed.{IsAnalysisFault, untyped, wrong_form, non_uniform}
-use Rattle.typing_operands.specs.Answers.{fault_of, TellsFault}
+use Rattle.typing_operands.specs.Answers.{fault_of, ReportsFault}
 
 module _ (m : PlainModule) (f : PlainFunction) (summaries : List Summary) (stages : List ShaderStages) (known : CalleesKnown m f summaries) where
   analysed_by_chains : (flags : ValidationFlags) → ((e : FunctionError) → IsAnalysisFault flags m f summaries e → ⊥) → IsAnalysed flags m f
@@ -43,7 +43,7 @@ module _ (m : PlainModule) (f : PlainFunction) (summaries : List Summary) (stage
     body = ok.body;
   }
 
-  has_no_type : (forms : List Form) → AreFormsBy (reading_over m f) f forms → (e : ℕ) (o : Option TypingFault) → TellsFault (inside m f) f.expressions e o → ⊥
+  has_no_type : (forms : List Form) → AreFormsBy (reading_over m f) f forms → (e : ℕ) (o : Option TypingFault) → ReportsFault (inside m f) f.expressions e o → ⊥
   has_no_type forms typed e None tells = tells
   has_no_type forms typed e (Some fault) tells =
       let lt : e < length f.expressions = slice_get_within f.expressions e tells.faulty.expression tells.faulty.stands in
@@ -79,7 +79,7 @@ module _ (s : FunctionSettings) (m : PlainModule) (index : ℕ) where
   pub refused_at : (e : FunctionError) → IsRefusedAt reading_of faults_of s m index e → FunctionAtOK s m index → ⊥
   refused_at e r ok =
       let same : ok.function ≡ r.function = some_is (sym ok.at ∙ r.at) in
-      let held : ok.held ≡ r.given.held = one_held s.flags m index ok.held r.given.held ok.before r.given.before in
+      let held : ok.held ≡ r.given.held = one_payload s.flags m index ok.held r.given.held ok.before r.given.before in
       r.refused
       (ok_by_summaries m r.function r.given.summaries r.given.stages r.given.known (settings_with s r.given.held)
       (subst (λ h. FunctionOK (reading_over m r.function) (settings_with s h) m r.function) held

@@ -6,7 +6,7 @@ use Rattle.typing_errors.specs.declared.error.FunctionError.{FunctionError}
 use Rattle.function_validator.specs.Faults.{IsFunctionFault}
 use Rattle.function_interface.specs.Analysis.{Faults, IsRefusedFor}
 use Rattle.function_interface.specs.Question.{Question, question}
-use Rattle.shader_check.specs.Judged.{Preceding, IsAcceptedAt, IsRefusedAt, IsNotedAt, AreNoted, AreJudged, IsFirstRefused, IsToldAt, IsRefusal}
+use Rattle.shader_check.specs.Judged.{Preceding, IsAcceptedAt, IsRefusedAt, IsNotedAt, AreNoted, AreJudged, IsFirstRefused, IsReportedAt, IsRefusal}
 use Rattle.shader_check.specs.declared.functions.InvalidFunction.{InvalidFunction}
 use Rattle.ir_faults.specs.Faults.{error_of}
 use Rattle.ir_faults.specs.declared.refusal.Refusal.{Refusal}
@@ -22,10 +22,10 @@ use Rattle.spec_statements.specs.ExpressionStages.{all_stages}
 use Rattle.spec_statements.proofs.CallLaws.{calls_precede}
 use Rattle.spec_statements.proofs.HeldLaws.{held_next}
 use Rattle.spec_statements.specs.ModuleFunctions.{settings_with}
-use Rattle.spec_statements.specs.Held.{IsHeldBefore}
+use Rattle.spec_statements.specs.EarlierPayloads.{IsPayloadBefore}
 use Rattle.spec_handles.specs.InOrder.{HandlesOK}
 use Rattle.spec_statements.specs.Functions.{Reading, FunctionSettings, FunctionOK, AllowsStage}
-use Rattle.spec_statements.specs.Payloads.{IsHeldAfter}
+use Rattle.spec_statements.specs.Payloads.{IsPayloadAfter}
 
 -- ---- summaries
 
@@ -104,7 +104,7 @@ module _ (m : PlainModule) (handles : HandlesOK m) where
     ]
 
     pub judged_more : (t : Summary) (own : ShaderStages) (after : Option ℕ) → FunctionOK (reading (question m f summaries stages)) (settings_with s held) m f → (CalleesKnown m f summaries → IsSummary m f t) → Exact own
-        → IsHeldAfter s.flags m f held after → AreJudged reading s m (n + 1) (summaries ++ t ∷ []) (stages ++ own ∷ []) after
+        → IsPayloadAfter s.flags m f held after → AreJudged reading s m (n + 1) (summaries ++ t ∷ []) (stages ++ own ∷ []) after
     judged_more t own after ok is exact h = record {
       accepted = λ i lt. elim (below_or_here i n lt) [
         | inl before ↦ judged.accepted i before
@@ -114,7 +114,7 @@ module _ (m : PlainModule) (handles : HandlesOK m) where
       stages = noted_more own exact;
       counted = one_longer stages own n judged.counted;
       known = more_summaries m n f summaries t judged.many at judged.known (is given_here.known);
-      payloads = subst (λ k. IsHeldBefore s.flags m k after) (omega arith) (held_next s.flags m n f at held after judged.payloads (λ asked. (ok.body asked).payloads) h);
+      payloads = subst (λ k. IsPayloadBefore s.flags m k after) (omega arith) (held_next s.flags m n f at held after judged.payloads (λ asked. (ok.body asked).payloads) h);
     }
 
     pub refused_here : (faults : Question → Faults) (e : InvalidFunction) → e.function ≡ n → (FunctionOK (reading (question m f summaries stages)) (settings_with s held) m f → ⊥)
@@ -124,14 +124,14 @@ module _ (m : PlainModule) (handles : HandlesOK m) where
       here = subst (λ k. IsRefusedAt reading faults s m k e.error) (sym same) (record { function = f; at = at; given = given_here; refused = refused; fault = fault });
     }
 
-    pub told_refusal : (faults : Question → Faults) (o : Refusal FunctionError) (r : Refusal InvalidFunction) → IsToldAt n o r
+    pub reported_refusal : (faults : Question → Faults) (o : Refusal FunctionError) (r : Refusal InvalidFunction) → IsReportedAt n o r
         → IsRefusedFor (λ _. FunctionOK (reading (question m f summaries stages)) (settings_with s held) m f → ⊥) o
         → IsRefusedFor (IsFunctionFault (reading (question m f summaries stages)) (faults (question m f summaries stages)) (settings_with s held) m f) o
         → IsRefusal reading faults s m r
-    told_refusal faults (refusal.Memory d) (refusal.Memory e) told refused fault = tt
-    told_refusal faults (refusal.Memory d) (refusal.Fault e) told refused fault = absurd told
-    told_refusal faults (refusal.Fault d) (refusal.Memory e) told refused fault = absurd told
-    told_refusal faults (refusal.Fault d) (refusal.Fault e) told refused fault = (
+    reported_refusal faults (refusal.Memory d) (refusal.Memory e) told refused fault = tt
+    reported_refusal faults (refusal.Memory d) (refusal.Fault e) told refused fault = absurd told
+    reported_refusal faults (refusal.Fault d) (refusal.Memory e) told refused fault = absurd told
+    reported_refusal faults (refusal.Fault d) (refusal.Fault e) told refused fault = (
       refused_here faults (error_of e) told.0 refused
           (subst (IsFunctionFault (reading (question m f summaries stages)) (faults (question m f summaries stages)) (settings_with s held) m f) (sym told.1) fault),
       told.2,

@@ -6,12 +6,12 @@ use Rattle.ir_flags.specs.Sets.{Has}
 use Rattle.ir_flags.specs.declared.settings.ValidationFlags.{ValidationFlags}
 use Rattle.ir_flags.specs.declared.settings.TheConstants.ValidationFlags.{BLOCKS}
 use Rattle.ir_items.specs.Plain.{PlainEntry, PlainModule}
-use Rattle.spec_interface.specs.Held.{HasEntryPayload, HasPayloadSoFar, IsHeldBeforeEntry}
-use Rattle.spec_statements.specs.Held.{IsHeldBefore}
-use Rattle.spec_statements.specs.Payloads.{HasPayload, PayloadsOK, IsHeldAfter}
+use Rattle.spec_interface.specs.EarlierPayloads.{HasEntryPayload, HasPayloadSoFar, IsPayloadBeforeEntry}
+use Rattle.spec_statements.specs.EarlierPayloads.{IsPayloadBefore}
+use Rattle.spec_statements.specs.Payloads.{HasPayload, PayloadsOK, IsPayloadAfter}
 
 -- what is held after all functions is held before the first entry point
-pub held_behind_functions : (flags : ValidationFlags) (m : PlainModule) (held : Option ℕ) → IsHeldBefore flags m (length m.functions) held → IsHeldBeforeEntry flags m 0 held
+pub held_behind_functions : (flags : ValidationFlags) (m : PlainModule) (held : Option ℕ) → IsPayloadBefore flags m (length m.functions) held → IsPayloadBeforeEntry flags m 0 held
 held_behind_functions flags m held h = record {
   some = λ type asked p. elim p [
     | inl function ↦ h.some type asked function
@@ -45,12 +45,12 @@ module _ (flags : ValidationFlags) (m : PlainModule) (n : ℕ) (e : PlainEntry) 
   split type (inl h) = inl (inl h)
   split type (inr h) = split_entry type h
 
-  own_kept : (held after : Option ℕ) (type : ℕ) → Has flags.0 BLOCKS.0 → PayloadsOK m e.function held → IsHeldAfter flags m e.function held after → HasPayload m e.function type → after ≡ Some type
+  own_kept : (held after : Option ℕ) (type : ℕ) → Has flags.0 BLOCKS.0 → PayloadsOK m e.function held → IsPayloadAfter flags m e.function held after → HasPayload m e.function type → after ≡ Some type
   own_kept None after type asked ok h own = h.found asked type own refl
   own_kept (Some b) after type asked ok h own = h.kept b refl ∙ ap Some (sym (ok.as_before type b own refl))
 
-  pub entry_held_next : (held after : Option ℕ) → IsHeldBeforeEntry flags m n held → (Has flags.0 BLOCKS.0 → PayloadsOK m e.function held) → IsHeldAfter flags m e.function held after
-      → IsHeldBeforeEntry flags m (suc n) after
+  pub entry_held_next : (held after : Option ℕ) → IsPayloadBeforeEntry flags m n held → (Has flags.0 BLOCKS.0 → PayloadsOK m e.function held) → IsPayloadAfter flags m e.function held after
+      → IsPayloadBeforeEntry flags m (suc n) after
   entry_held_next held after before ok h = record {
     some = λ type asked p. elim (split type p) [
       | inl earlier ↦ h.kept type (before.some type asked earlier)
@@ -67,15 +67,15 @@ module _ (flags : ValidationFlags) (m : PlainModule) (n : ℕ) (e : PlainEntry) 
 -- ---- one type is held
 
 module _ (flags : ValidationFlags) (m : PlainModule) (count : ℕ) where
-  none_with_some : (type : ℕ) → IsHeldBeforeEntry flags m count None → IsHeldBeforeEntry flags m count (Some type) → ⊥
+  none_with_some : (type : ℕ) → IsPayloadBeforeEntry flags m count None → IsPayloadBeforeEntry flags m count (Some type) → ⊥
   none_with_some type a b = let e = b.none (λ other asked h. let n = a.some other asked h in cc) in cc
 
-  held_apart : (x y : ℕ) → IsHeldBeforeEntry flags m count (Some x) → IsHeldBeforeEntry flags m count (Some y) → (x ≡ y → ⊥) → ⊥
+  held_apart : (x y : ℕ) → IsPayloadBeforeEntry flags m count (Some x) → IsPayloadBeforeEntry flags m count (Some y) → (x ≡ y → ⊥) → ⊥
   held_apart x y a b differ =
       let e = a.none (λ other asked h. differ (let p = a.some other asked h in let q = b.some other asked h in cc)) in
       cc
 
-  pub one_entry_held : (held other : Option ℕ) → IsHeldBeforeEntry flags m count held → IsHeldBeforeEntry flags m count other → held ≡ other
+  pub one_entry_held : (held other : Option ℕ) → IsPayloadBeforeEntry flags m count held → IsPayloadBeforeEntry flags m count other → held ≡ other
   one_entry_held None None a b = refl
   one_entry_held None (Some y) a b = absurd (none_with_some y a b)
   one_entry_held (Some x) None a b = absurd (none_with_some x b a)

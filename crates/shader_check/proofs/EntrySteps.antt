@@ -11,7 +11,7 @@ use Rattle.function_interface.specs.Analysis.{Faults}
 use Rattle.function_interface.specs.Question.{Question, question}
 use Rattle.shader_check.proofs.Chained.{one_more_at, some_is, one_longer, below_or_here}
 use Rattle.shader_check.proofs.EntryHeld.{entry_held_next}
-use Rattle.shader_check.specs.JudgedEntries.{reading_at, Note, IsEntryAcceptedAt, IsEntryRefusedAt, conflicting, unaccepted, AreEntryNotes, AreEntrySummaries, AreEntriesJudged, IsFirstEntryRefused, IsEntryToldAt, IsConflictTold, IsEntryRefusal}
+use Rattle.shader_check.specs.JudgedEntries.{reading_at, Note, IsEntryAcceptedAt, IsEntryRefusedAt, conflicting, unaccepted, AreEntryNotes, AreEntrySummaries, AreEntriesJudged, IsFirstEntryRefused, IsEntryReportedAt, IsConflictReported, IsEntryRefusal}
 use Rattle.shader_check.specs.declared.entries.InvalidEntryPoint.{InvalidEntryPoint}
 use Rattle.ir_faults.specs.Faults.{error_of}
 use Rattle.ir_faults.specs.declared.refusal.Refusal.{Refusal}
@@ -24,7 +24,7 @@ use Rattle.module_handles.specs.Conditions.{FunctionConditions}
 use Rattle.spec_analysis.proofs.SummaryLaws.{callees_known}
 use Rattle.spec_analysis.specs.Chains.{HasUse}
 use Rattle.spec_analysis.specs.Summaries.{Summary, AreSummaries, CalleesKnown, CallsBelow}
-use Rattle.spec_interface.specs.Held.{IsHeldBeforeEntry}
+use Rattle.spec_interface.specs.EarlierPayloads.{IsPayloadBeforeEntry}
 use Rattle.spec_interface.specs.Modules.{IsConflict, entry_settings}
 use Rattle.spec_statements.proofs.CallLaws.{calls_precede}
 use Rattle.spec_handles.specs.InOrder.{HandlesOK}
@@ -124,7 +124,7 @@ module _ (m : PlainModule) (handles : HandlesOK m) (n : ℕ) (e : PlainEntry) (a
         known = summaries_more;
         counted = one_longer notes (own, blending) n judged.counted;
         noted = notes_more;
-        payloads = subst (λ k. IsHeldBeforeEntry s.flags m k after) (omega arith) (entry_held_next s.flags m n e at held after judged.payloads (λ asked. (v.ok.function.body asked).payloads) v.after);
+        payloads = subst (λ k. IsPayloadBeforeEntry s.flags m k after) (omega arith) (entry_held_next s.flags m n e at held after judged.payloads (λ asked. (v.ok.function.body asked).payloads) v.after);
       }
 
     -- ---- refused
@@ -136,20 +136,20 @@ module _ (m : PlainModule) (handles : HandlesOK m) (n : ℕ) (e : PlainEntry) (a
       here = subst (λ k. IsEntryRefusedAt reading faults s m summaries stages k x.error) (sym same) (record { entry = e; at = at; held = held; before = judged.payloads; wrong = unaccepted refused });
     }
 
-    pub told_entry : (o : Refusal EntryPointError) (r : Refusal InvalidEntryPoint) → IsEntryToldAt n o r
+    pub reported_entry : (o : Refusal EntryPointError) (r : Refusal InvalidEntryPoint) → IsEntryReportedAt n o r
         → IsRefusedFor (IsRefusedAs (reading_at reading m summaries stages e) (faults (question m e.function summaries stages)) stages (HasUse m e.function) (entry_settings s held) m e) o
         → IsEntryRefusal reading faults s m summaries stages r
-    told_entry (refusal.Memory d) (refusal.Memory x) told refused = tt
-    told_entry (refusal.Memory d) (refusal.Fault x) told refused = absurd told
-    told_entry (refusal.Fault d) (refusal.Memory x) told refused = absurd told
-    told_entry (refusal.Fault d) (refusal.Fault x) told refused = (
+    reported_entry (refusal.Memory d) (refusal.Memory x) told refused = tt
+    reported_entry (refusal.Memory d) (refusal.Fault x) told refused = absurd told
+    reported_entry (refusal.Fault d) (refusal.Memory x) told refused = absurd told
+    reported_entry (refusal.Fault d) (refusal.Fault x) told refused = (
       refused_here (error_of x) told.0
           (subst (IsRefusedAs (reading_at reading m summaries stages e) (faults (question m e.function summaries stages)) stages (HasUse m e.function) (entry_settings s held) m e) (sym told.1) refused),
       told.2,
     )
 
     -- an earlier one has its name
-    pub told_conflict : (r : Refusal InvalidEntryPoint) → IsConflictTold n ((f : PlainEntry) → slice_get m.entries n ≡ Some f → IsConflict m n f) r → IsEntryRefusal reading faults s m summaries stages r
+    pub told_conflict : (r : Refusal InvalidEntryPoint) → IsConflictReported n ((f : PlainEntry) → slice_get m.entries n ≡ Some f → IsConflict m n f) r → IsEntryRefusal reading faults s m summaries stages r
     told_conflict (refusal.Memory d) told = tt
     told_conflict (refusal.Fault x) told =
         let same : (error_of x).index ≡ n = told.1 in (
@@ -162,7 +162,7 @@ module _ (m : PlainModule) (handles : HandlesOK m) (n : ℕ) (e : PlainEntry) (a
         )
 
 -- none is judged at first
-pub none_judged : (reading : Question → Reading) (s : FunctionSettings) (m : PlainModule) (summaries : List Summary) (stages : List ShaderStages) (held : Option ℕ) → IsHeldBeforeEntry s.flags m 0 held
+pub none_judged : (reading : Question → Reading) (s : FunctionSettings) (m : PlainModule) (summaries : List Summary) (stages : List ShaderStages) (held : Option ℕ) → IsPayloadBeforeEntry s.flags m 0 held
     → AreEntriesJudged reading s m summaries stages 0 [] [] held
 none_judged reading s m summaries stages held before = record {
   accepted = λ i lt. absurd (omega (arith, lt));

@@ -9,11 +9,11 @@ use Rattle.judgement.specs.declared.finding.Finding.TheVariants.{Accepted, Refus
 use Rattle.shader_check.proofs.Promises.{accepted_texts_are_sound_lem}
 use Rattle.shader_check.proofs.Returns.{returns_dont_show_lem}
 use Rattle.shader_check.specs.Judgements.{IsJudgementOn}
-use Rattle.shader_check.specs.Theorem.{Judged, IsExpected, IsTold, IsTextWithoutResults, SoundText}
+use Rattle.shader_check.specs.Theorem.{Judged, IsExpected, IsReported, IsTextWithoutResults, SoundText}
 use Rattle.shader_check.specs.Theorem.{verdict_of, IsExpectedFor}
 use Rattle.shader_check.specs.declared.check.TheConstants.{MAX_TAKEN}
 use Rattle.shader_check.specs.declared.check.Verdict.TheVariants as verdict
-use Rattle.shader_check.specs.declared.told.Judgement.{Judgement}
+use Rattle.shader_check.specs.declared.reported.Judgement.{Judgement}
 
 -- too many bytes spell no document, however they go on
 judged_longer : (f : Finding) (given rest : List ℕ) → length given ≡ MAX_TAKEN → Judged given f → Judged (given ++ rest) f
@@ -22,7 +22,7 @@ judged_longer RefusedDocument given rest long h = λ d r. let s = r.short in ome
 judged_longer RefusedHandles given rest long h = absurd (let s = h.reads.short in omega arith)
 judged_longer (Refused step index) given rest long h = absurd (let s = h.reads.short in omega arith)
 
-told_longer : (f : Finding) (behind given rest : List ℕ) → length given ≡ MAX_TAKEN → IsTold given f behind → IsTold (given ++ rest) f behind
+told_longer : (f : Finding) (behind given rest : List ℕ) → length given ≡ MAX_TAKEN → IsReported given f behind → IsReported (given ++ rest) f behind
 told_longer (Accepted strict) behind given rest long h = absurd (let s = h.reads.short in omega arith)
 told_longer RefusedDocument behind given rest long h = h
 told_longer RefusedHandles behind given rest long h = h
@@ -30,18 +30,18 @@ told_longer (Refused step index) behind given rest long h = h
 
 module _ (f : Finding) (behind : List ℕ) where
   -- the text of a finding, with what is told behind its line
-  pub expected : (bytes : List ℕ) → Judged bytes f → IsTold bytes f behind → IsExpected bytes (text_of f ++ behind)
+  pub expected : (bytes : List ℕ) → Judged bytes f → IsReported bytes f behind → IsExpected bytes (text_of f ++ behind)
   expected bytes h t = record { finding = f; judged = h; behind = behind; told = t; text_is = refl }
 
-  expected_for_all : (old new : Option (List ℕ)) (given : List ℕ) → Consumes old new given → IsAtEnd new ⊎ (length given ≡ MAX_TAKEN) → Judged given f → IsTold given f behind
+  expected_for_all : (old new : Option (List ℕ)) (given : List ℕ) → Consumes old new given → IsAtEnd new ⊎ (length given ≡ MAX_TAKEN) → Judged given f → IsReported given f behind
       → IfSome old (λ input. IsExpected input (text_of f ++ behind))
   expected_for_all None new given c s h t = tt
   expected_for_all (Some input) None given c s h t = absurd c
   expected_for_all (Some input) (Some rest) given c (inl e) h t =
       let same : given ≡ input = sym (c ∙ (ap (λ z. given ++ z) e ∙ append-nil given)) in
-      expected input (subst (λ z. Judged z f) same h) (subst (λ z. IsTold z f behind) same t)
+      expected input (subst (λ z. Judged z f) same h) (subst (λ z. IsReported z f behind) same t)
   expected_for_all (Some input) (Some rest) given c (inr e) h t =
-      expected input (subst (λ z. Judged z f) (sym c) (judged_longer f given rest e h)) (subst (λ z. IsTold z f behind) (sym c) (told_longer f behind given rest e t))
+      expected input (subst (λ z. Judged z f) (sym c) (judged_longer f given rest e h)) (subst (λ z. IsReported z f behind) (sym c) (told_longer f behind given rest e t))
 
 -- of a document without results the text is the same with missing returns put in and without
 pub without_results : (given : List ℕ) (j : Judgement) → IsJudgementOn given j → IsTextWithoutResults given (text_of j.finding ++ string_bytes j.report)

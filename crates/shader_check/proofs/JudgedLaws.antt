@@ -13,12 +13,12 @@ use Rattle.shader_check.specs.declared.error.ValidationError.{ValidationError}
 use Rattle.shader_check.specs.declared.error.ValidationError.TheVariants as error
 use Rattle.shader_check.proofs.Kept.{reported}
 use Rattle.shader_check.proofs.ModuleLaws.{found_of}
-use Rattle.shader_check.specs.Examined.{finding_in, refused_early, refused_by, IsExamined, IsExaminedDocument, IsKeptIn, IsToldIn}
+use Rattle.shader_check.specs.Examined.{finding_in, refused_early, refused_by, IsExamined, IsExaminedDocument, IsKeptIn, IsReportedIn}
 use Rattle.shader_check.specs.Judgements.{IsJudgementOf, IsJudgementOn}
-use Rattle.shader_check.specs.Theorem.{Judged, JudgedDocument, IsTold, IsToldOf}
+use Rattle.shader_check.specs.Theorem.{Judged, JudgedDocument, IsReported, IsReportedOf}
 use Rattle.shader_check.specs.declared.examined.Examined.{Examined}
 use Rattle.shader_check.specs.declared.examined.Examined.TheVariants as examined
-use Rattle.shader_check.specs.declared.told.Judgement.{Judgement}
+use Rattle.shader_check.specs.declared.reported.Judgement.{Judgement}
 
 pub found_in : (d : PlainDocument) (m : PlainModule) (f : Finding) → IsPrepared d.settings.returns d.content m → IsFinding d.settings m f → JudgedDocument d f
 found_in d m RefusedDocument p h = h
@@ -41,29 +41,29 @@ pub kept_in : (d : PlainDocument) (m : PlainModule) (x : Examined) → IsExamine
 kept_in d m (examined.Accepted strict info) h = reported (function_settings d.settings) m info h.examined.0
 kept_in d m (examined.Refused e) h = tt
 
-early_told : (d : PlainDocument) (m : PlainModule) (e : ModuleError) (behind : List ℕ) → IsToldIn m (refused_early e) behind → IsToldOf d (refused_early e) behind
-early_told d m (module_error.InvalidHandle e) behind t = t
-early_told d m (module_error.Layouter e) behind t = t
-early_told d m (module_error.Type e) behind t = t
-early_told d m (module_error.ConstExpression e) behind t = t
-early_told d m (module_error.Constant e) behind t = t
-early_told d m (module_error.Override e) behind t = t
+early_reported : (d : PlainDocument) (m : PlainModule) (e : ModuleError) (behind : List ℕ) → IsReportedIn m (refused_early e) behind → IsReportedOf d (refused_early e) behind
+early_reported d m (module_error.InvalidHandle e) behind t = t
+early_reported d m (module_error.Layouter e) behind t = t
+early_reported d m (module_error.Type e) behind t = t
+early_reported d m (module_error.ConstExpression e) behind t = t
+early_reported d m (module_error.Constant e) behind t = t
+early_reported d m (module_error.Override e) behind t = t
 
-refused_told : (d : PlainDocument) (m : PlainModule) (e : ValidationError) (behind : List ℕ) → IsToldIn m (refused_by e) behind → IsToldOf d (refused_by e) behind
-refused_told d m (error.Module e) behind t = early_told d m e behind t
-refused_told d m (error.GlobalVariable e) behind t = t
-refused_told d m (error.Function e) behind t = t
-refused_told d m (error.EntryPoint e) behind t = t
+refused_reported : (d : PlainDocument) (m : PlainModule) (e : ValidationError) (behind : List ℕ) → IsReportedIn m (refused_by e) behind → IsReportedOf d (refused_by e) behind
+refused_reported d m (error.Module e) behind t = early_reported d m e behind t
+refused_reported d m (error.GlobalVariable e) behind t = t
+refused_reported d m (error.Function e) behind t = t
+refused_reported d m (error.EntryPoint e) behind t = t
 
 -- what is told of its module is told of the document
-told_of : (d : PlainDocument) (m : PlainModule) (x : Examined) (behind : List ℕ) → IsExaminedDocument d m x → IsToldIn m (finding_in x) behind → IsToldOf d (finding_in x) behind
-told_of d m (examined.Accepted strict info) behind h t = record { judged = m; prepared = h.prepared; is = t }
-told_of d m (examined.Refused e) behind h t = refused_told d m e behind t
+reported_of : (d : PlainDocument) (m : PlainModule) (x : Examined) (behind : List ℕ) → IsExaminedDocument d m x → IsReportedIn m (finding_in x) behind → IsReportedOf d (finding_in x) behind
+reported_of d m (examined.Accepted strict info) behind h t = record { judged = m; prepared = h.prepared; is = t }
+reported_of d m (examined.Refused e) behind h t = refused_reported d m e behind t
 
-pub judgement_of : (d : PlainDocument) (m : PlainModule) (x : Examined) (j : Judgement) → IsExaminedDocument d m x → j.finding ≡ finding_in x → IsToldIn m (finding_in x) (string_bytes j.report) → IsJudgementOf d j
+pub judgement_of : (d : PlainDocument) (m : PlainModule) (x : Examined) (j : Judgement) → IsExaminedDocument d m x → j.finding ≡ finding_in x → IsReportedIn m (finding_in x) (string_bytes j.report) → IsJudgementOf d j
 judgement_of d m x j h is t = record {
   finding = subst (JudgedDocument d) (sym is) (judged_document d m x h);
-  told = subst (λ f. IsToldOf d f (string_bytes j.report)) (sym is) (told_of d m x (string_bytes j.report) h t);
+  told = subst (λ f. IsReportedOf d f (string_bytes j.report)) (sym is) (reported_of d m x (string_bytes j.report) h t);
 }
 
 pub judged : (bytes : List ℕ) (d : PlainDocument) (f : Finding) → Reads bytes d → JudgedDocument d f → Judged bytes f
@@ -76,7 +76,7 @@ pub judged_if : (bytes : List ℕ) (d : PlainDocument) (r : Result Finding Alloc
 judged_if bytes d (Ok f) reads h = judged bytes d f reads h
 judged_if bytes d (Err a) reads h = tt
 
-told_on : (bytes : List ℕ) (d : PlainDocument) (f : Finding) (behind : List ℕ) → Reads bytes d → IsToldOf d f behind → IsTold bytes f behind
+told_on : (bytes : List ℕ) (d : PlainDocument) (f : Finding) (behind : List ℕ) → Reads bytes d → IsReportedOf d f behind → IsReported bytes f behind
 told_on bytes d (Accepted strict) behind r t = record { document = d; reads = r; reports = t }
 told_on bytes d RefusedDocument behind r t = t
 told_on bytes d RefusedHandles behind r t = t
@@ -90,5 +90,5 @@ judgement_if bytes d (Err a) reads h = tt
 pub nothing_on : (bytes : List ℕ) (j : Judgement) → j.finding ≡ RefusedDocument → string_bytes j.report ≡ [] → ((d : PlainDocument) → ¬ Reads bytes d) → IsJudgementOn bytes j
 nothing_on bytes j is empty none = record {
   finding = subst (Judged bytes) (sym is) none;
-  told = subst (λ f. IsTold bytes f (string_bytes j.report)) (sym is) empty;
+  told = subst (λ f. IsReported bytes f (string_bytes j.report)) (sym is) empty;
 }

@@ -8,8 +8,8 @@ use Rattle.shader_check.specs.Validated.{IsValidated}
 use Rattle.ir_items.specs.Plain.{PlainEntry, PlainModule}
 use Rattle.module_handles.proofs.Whole.{order_gives_conditions}
 use Rattle.typing_infos.specs.declared.info.ModuleInfo.{ModuleInfo}
-use Rattle.check_report.proofs.Noted.{noted_is_told}
-use Rattle.check_report.specs.Told.{IsEntryInfo, IsReported}
+use Rattle.check_report.proofs.Noted.{noted_is_reported}
+use Rattle.check_report.specs.Reported.{IsEntryInfo, IsReported}
 use Rattle.spec_handles.specs.Modules as part
 use Rattle.spec_handles.specs.References.{item}
 use Rattle.spec_handles.specs.declared.target.Target.TheVariants as target
@@ -19,7 +19,7 @@ module _ (s : FunctionSettings) (m : PlainModule) (info : ModuleInfo) (h : IsVal
   entry_info : (number : ℕ) (e : PlainEntry) (i : FunctionInfo) → slice_get m.entries number ≡ Some e → slice_get info.entry_points.items number ≡ Some i → IsEntryInfo m e i
   entry_info number e i at there =
       let is = h.entries.known number e (summary_of i) at (slice_get-map summary_of info.entry_points.items number ∙ ap (option_map summary_of) there) in
-      noted_is_told m e i (record { many = is.many; uses = is.uses; pairs = is.pairs })
+      noted_is_reported m e i (record { many = is.many; uses = is.uses; pairs = is.pairs })
 
   pub reported : IsReported m info
   reported = record {

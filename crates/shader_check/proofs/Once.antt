@@ -16,7 +16,7 @@ use Rattle.judgement.specs.ModuleSteps as step
 use Rattle.judgement.proofs.OneReport.{one_report}
 use Rattle.judgement.specs.Reports.{IsReport}
 use Rattle.shader_check.proofs.Failing.{Family, up_to_overrides, at_variables, at_functions, at_entries, IsFailing, in_order, none_failing, failing_once}
-use Rattle.shader_check.specs.Theorem.{Finds, FindsIn, Judged, OneText, IsReportOn, IsTold}
+use Rattle.shader_check.specs.Theorem.{Finds, FindsIn, Judged, OneText, IsReportOn, IsReported}
 
 -- two truths that say the same are one
 same_truth : (a b : Bool) (P : Type 0) → IsTrue a ↔ P → IsTrue b ↔ P → a ≡ b
@@ -140,7 +140,7 @@ report_once d a b x y =
     let same = prepared_once d.settings.returns d.content x.judged y.judged x.prepared y.prepared in
     one_report x.judged a b x.is (subst (λ m. IsReport m b) (sym same) y.is)
 
-told_once : (bytes : List ℕ) (f : Finding) (a b : List ℕ) → IsTold bytes f a → IsTold bytes f b → a ≡ b
+told_once : (bytes : List ℕ) (f : Finding) (a b : List ℕ) → IsReported bytes f a → IsReported bytes f b → a ≡ b
 told_once bytes (Accepted strict) a b x y =
     let same = one_document_lem bytes x.document y.document x.reads y.reads in
     report_once x.document a b x.reports (subst (λ d. IsReportOn d b) (sym same) y.reports)
@@ -151,5 +151,5 @@ told_once bytes (Refused t i) a b x y = x ∙ sym y
 pub one_text_lem : OneText
 one_text_lem bytes s t x y =
     let same = judged_once bytes x.finding y.finding x.judged y.judged in
-    let behind = told_once bytes x.finding x.behind y.behind x.told (subst (λ f. IsTold bytes f y.behind) (sym same) y.told) in
+    let behind = told_once bytes x.finding x.behind y.behind x.told (subst (λ f. IsReported bytes f y.behind) (sym same) y.told) in
     x.text_is ∙ (ap (λ f. text_of f ++ x.behind) same ∙ (ap (λ z. text_of y.finding ++ z) behind ∙ sym y.text_is))

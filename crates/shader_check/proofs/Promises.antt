@@ -12,7 +12,7 @@ use Rattle.judgement_runs.proofs.Sound.{accepted_is_sound}
 use Rattle.judgement.specs.Reports.{IsReport}
 use Rattle.shader_check.proofs.Once.{prepared_once}
 use Rattle.shader_check.proofs.Returns.{returns_dont_show_lem}
-use Rattle.shader_check.specs.Theorem.{Finds, Judged, IsReportOn, IsReportFor, IsTold, IsExpected, SoundText, AcceptedTextsAreSound}
+use Rattle.shader_check.specs.Theorem.{Finds, Judged, IsReportOn, IsReportFor, IsReported, IsExpected, SoundText, AcceptedTextsAreSound}
 
 -- how many values stand in an arena
 pub many_values : {T View : Type 0} (view : T → View) (entries : List (T × Span)) → length (map view (values_of entries)) ≡ length entries
@@ -43,7 +43,7 @@ module _ (bytes text : List ℕ) (expected : IsExpected bytes text) where
       }
 
   -- only the text of an accepted document begins so
-  by_finding : (f : Finding) (behind : List ℕ) → Judged bytes f → IsTold bytes f behind → text ≡ text_of f ++ behind → IsTrue (starts_with nat_eq (text_of f ++ behind) (codes "accepted")) → SoundText bytes text
+  by_finding : (f : Finding) (behind : List ℕ) → Judged bytes f → IsReported bytes f behind → text ≡ text_of f ++ behind → IsTrue (starts_with nat_eq (text_of f ++ behind) (codes "accepted")) → SoundText bytes text
   by_finding (Accepted strict) behind judged told is begins = accepted_text strict behind judged told is
   by_finding RefusedDocument behind judged told is begins = absurd (cc (begins))
   by_finding RefusedHandles behind judged told is begins = absurd (cc (begins))

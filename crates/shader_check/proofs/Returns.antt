@@ -12,7 +12,7 @@ use Rattle.judgement.specs.declared.finding.Finding.TheVariants.{Accepted, Refus
 use Rattle.judgement_returns.specs.Like.{HasNoResult}
 use Rattle.judgement_returns.specs.Laws.{AreJudgedAlike}
 use Rattle.judgement_returns.proofs.Finding.{returns_dont_matter}
-use Rattle.shader_check.specs.Theorem.{FindsIn, Finds, JudgedDocument, Judged, IsReportOn, IsToldOf, IsTold, with_returns, ReturnsDontShow}
+use Rattle.shader_check.specs.Theorem.{FindsIn, Finds, JudgedDocument, Judged, IsReportOn, IsReportedOf, IsReported, with_returns, ReturnsDontShow}
 
 -- there is a module that is judged, whatever the settings say of returns
 some_prepared : (returns : Bool) (m : PlainModule) → (n : PlainModule) × IsPrepared returns m n
@@ -48,7 +48,7 @@ module _ (d : PlainDocument) (none : HasNoResult d.content) (returns : Bool) whe
     judged_too RefusedHandles h = found_in RefusedHandles h
     judged_too (Refused step index) h = found_in (Refused step index) h
 
-    told_too : (f : Finding) (behind : List ℕ) → IsTold bytes f behind → IsToldOf (with_returns d returns) f behind
+    told_too : (f : Finding) (behind : List ℕ) → IsReported bytes f behind → IsReportedOf (with_returns d returns) f behind
     told_too (Accepted strict) behind h = report_too behind (subst (λ x. IsReportOn x behind) (one_document_lem bytes h.document d h.reads reads) h.reports)
     told_too RefusedDocument behind h = h
     told_too RefusedHandles behind h = h

@@ -21,7 +21,7 @@ use Rattle.judgement.specs.Text.{text_of}
 use Rattle.judgement.specs.declared.finding.Step.TheVariants.{Layout, «Type», Typing, Expression, Constant, Override, Global, Function, Entry}
 use Rattle.judgement.specs.declared.finding.Finding.{Finding}
 use Rattle.judgement.specs.declared.finding.Finding.TheVariants.{Accepted, RefusedDocument, RefusedHandles, Refused}
-use Rattle.shader_check.specs.Theorem.{Judged, IsTold, SomeText}
+use Rattle.shader_check.specs.Theorem.{Judged, IsReported, SomeText}
 use Rattle.spec_interface.specs.Modules.{EntryAtOK, EntriesOK}
 use Rattle.spec_statements.specs.ModuleFunctions.{FunctionAtOK, FunctionsOK}
 use Rattle.spec_interface.specs.Globals.{GlobalOK, GlobalsOK}
@@ -60,25 +60,25 @@ module _ (s : PlainSettings) (m : PlainModule) where
       let f = found.1 in
       (Refused Entry found.0, (ok, variables, functions, record { within = f.within; before = f.before; fails = f.fails }))
 
-  functions_told : ModuleOK (module_settings s) m → GlobalsOK s.flags s.capabilities m → Sought (FunctionAtOK (function_settings s) m) (length m.functions) → Holds (SomeFinding s m)
-  functions_told ok variables (inl all) =
+  functions_reported : ModuleOK (module_settings s) m → GlobalsOK s.flags s.capabilities m → Sought (FunctionAtOK (function_settings s) m) (length m.functions) → Holds (SomeFinding s m)
+  functions_reported ok variables (inl all) =
       then (all_or_first (EntryAtOK (function_settings s) m) (length m.entries)) (λ o. surely (entries_told ok variables all o))
-  functions_told ok variables (inr found) =
+  functions_reported ok variables (inr found) =
       let f = found.1 in
       surely (Refused Function found.0, (ok, variables, record { within = f.within; before = f.before; fails = f.fails }))
 
   by_functions : ModuleOK (module_settings s) m → GlobalsOK s.flags s.capabilities m → Holds (SomeFinding s m)
   by_functions ok variables =
-      then (all_or_first (FunctionAtOK (function_settings s) m) (length m.functions)) (λ o. functions_told ok variables o)
+      then (all_or_first (FunctionAtOK (function_settings s) m) (length m.functions)) (λ o. functions_reported ok variables o)
 
-  variables_told : ModuleOK (module_settings s) m → Sought (GlobalOK s.flags s.capabilities m) (length m.globals) → Holds (SomeFinding s m)
-  variables_told ok (inl all) = by_functions ok all
-  variables_told ok (inr found) =
+  variables_reported : ModuleOK (module_settings s) m → Sought (GlobalOK s.flags s.capabilities m) (length m.globals) → Holds (SomeFinding s m)
+  variables_reported ok (inl all) = by_functions ok all
+  variables_reported ok (inr found) =
       let f = found.1 in
       surely (Refused Global found.0, (ok, record { within = f.within; before = f.before; fails = f.fails }))
 
   by_variables : ModuleOK (module_settings s) m → Holds (SomeFinding s m)
-  by_variables ok = then (all_or_first (GlobalOK s.flags s.capabilities m) (length m.globals)) (λ o. variables_told ok o)
+  by_variables ok = then (all_or_first (GlobalOK s.flags s.capabilities m) (length m.globals)) (λ o. variables_reported ok o)
 
   -- each item passes the step, or one is the first that fails it
   abbrev Outcome : ModuleStep → Type 0
@@ -174,7 +174,7 @@ some_judged bytes =
 -- ---- what is told
 
 abbrev SomeTold : List ℕ → Finding → Type 0
-SomeTold bytes f = (behind : List ℕ) × IsTold bytes f behind
+SomeTold bytes f = (behind : List ℕ) × IsReported bytes f behind
 
 report_told : (bytes : List ℕ) (strict : Bool) (h : Judged bytes (Accepted strict)) → (text : List ℕ) × IsReport h.found.judged text → SomeTold bytes (Accepted strict)
 report_told bytes strict h text = (text.0, record { document = h.document; reads = h.reads; reports = record { judged = h.found.judged; prepared = h.found.prepared; is = text.1 } })

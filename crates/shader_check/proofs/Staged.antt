@@ -3,7 +3,7 @@ use Rattle.std.proofs.Common.{◌≡◌, ◌↔◌, ℕ, ◌<◌, List, length, 
 use Rattle.function_interface.specs.Question.{question}
 use Rattle.shader_check.proofs.Chained.{some_is}
 use Rattle.shader_check.specs.Judged.{IsNotedAt, AreNoted}
-use Rattle.ir_blocks.specs.Places.{Place, StandsAt}
+use Rattle.ir_blocks.specs.Places.{Place, OccursAt}
 use Rattle.ir_blocks.specs.Plain.{PlainStatement, emit, block, if_, switch, loop, break, continue, return, kill, operation, call}
 use Rattle.ir_types.specs.ExpressionPlain.{PlainExpression, compose, plain}
 use Rattle.ir_types.specs.declared.expressions.Expression.{Expression}
@@ -29,7 +29,7 @@ module _ (index : ℕ) (f : PlainFunction) (given noted : List ShaderStages) (pr
   same_callee : (function : ℕ) → function < index → callee_stages given function ≡ callee_stages noted function
   same_callee function lt = ap (λ o. unwrap_or o all_stages) (alike function lt)
 
-  statement_same : (subgroups : ShaderStages) (p : Place) (u : PlainStatement) → StandsAt f.body p u → statement_stages subgroups given u ≡ statement_stages subgroups noted u
+  statement_same : (subgroups : ShaderStages) (p : Place) (u : PlainStatement) → OccursAt f.body p u → statement_stages subgroups given u ≡ statement_stages subgroups noted u
   statement_same subgroups p (emit first end) stands = refl
   statement_same subgroups p (block b) stands = refl
   statement_same subgroups p (if_ condition accept reject) stands = refl

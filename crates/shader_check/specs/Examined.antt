@@ -16,7 +16,7 @@ use Rattle.judgement.specs.declared.finding.Finding.{Finding}
 use Rattle.judgement.specs.declared.finding.Finding.TheVariants.{Accepted, RefusedDocument, RefusedHandles, Refused}
 use Rattle.judgement.specs.declared.finding.Step.{Step}
 use Rattle.judgement.specs.declared.finding.Step.TheVariants.{Layout, «Type», Typing, Expression, Constant, Override, Global, Function, Entry}
-use Rattle.check_report.specs.Told.{IsReported}
+use Rattle.check_report.specs.Reported.{IsReported}
 use Rattle.module_validator.specs.declared.error.ModuleError.{ModuleError}
 use Rattle.module_validator.specs.declared.error.ModuleError.TheVariants as module_error
 use Rattle.shader_check.specs.declared.examined.Examined.{Examined}
@@ -73,8 +73,8 @@ IsKeptIn m (examined.Accepted strict info) = IsReported m info
 IsKeptIn m (examined.Refused e) = Unit {0}
 
 -- what is told of a module behind the line of what is found: nothing, but the report where it is accepted
-abbrev pub IsToldIn : PlainModule → Finding → (behind : List ℕ) → Type 0
-IsToldIn m (Accepted strict) behind = IsReport m behind
-IsToldIn m RefusedDocument behind = behind ≡ []
-IsToldIn m RefusedHandles behind = behind ≡ []
-IsToldIn m (Refused step index) behind = behind ≡ []
+abbrev pub IsReportedIn : PlainModule → Finding → (behind : List ℕ) → Type 0
+IsReportedIn m (Accepted strict) behind = IsReport m behind
+IsReportedIn m RefusedDocument behind = behind ≡ []
+IsReportedIn m RefusedHandles behind = behind ≡ []
+IsReportedIn m (Refused step index) behind = behind ≡ []

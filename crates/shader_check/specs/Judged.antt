@@ -15,7 +15,7 @@ use Rattle.ir_items.specs.Plain.{PlainFunction, PlainModule}
 use Rattle.spec_analysis.specs.Summaries.{Summary, CalleesKnown, AreSummaries}
 use Rattle.spec_statements.specs.ExpressionStages.{all_stages}
 use Rattle.spec_statements.specs.ModuleFunctions.{settings_with}
-use Rattle.spec_statements.specs.Held.{IsHeldBefore}
+use Rattle.spec_statements.specs.EarlierPayloads.{IsPayloadBefore}
 use Rattle.spec_statements.specs.Functions.{Reading, FunctionSettings, FunctionOK, AllowsStage}
 
 -- What is known where the function at an index is judged: what its callees have over their chains, the stages of the functions
@@ -25,7 +25,7 @@ pub record Preceding (flags : ValidationFlags) (m : PlainModule) (index : ℕ) (
   pub known : CalleesKnown m f summaries
   pub stages : List ShaderStages
   pub held : Option ℕ
-  pub before : IsHeldBefore flags m index held
+  pub before : IsPayloadBefore flags m index held
 
 -- The function at an index meets the rules of functions, read with what is known there.
 pub record IsAcceptedAt (reading : Question → Reading) (s : FunctionSettings) (m : PlainModule) (index : ℕ) : Type 0 where
@@ -65,7 +65,7 @@ pub record AreJudged (reading : Question → Reading) (s : FunctionSettings) (m 
   pub stages : AreNoted reading s m noted
   pub counted : length noted ≡ count
   pub known : AreSummaries m summaries
-  pub payloads : IsHeldBefore s.flags m count held
+  pub payloads : IsPayloadBefore s.flags m count held
 
 -- The function is refused for this, and each before it is accepted.
 pub record IsFirstRefused (reading : Question → Reading) (faults : Question → Faults) (s : FunctionSettings) (m : PlainModule) (e : InvalidFunction) : Type 0 where
@@ -73,11 +73,11 @@ pub record IsFirstRefused (reading : Question → Reading) (faults : Question �
   pub here : IsRefusedAt reading faults s m e.function e.error
 
 -- a refusal tells the same as that of the function at a handle
-abbrev pub IsToldAt : (handle : ℕ) → Refusal FunctionError → Refusal InvalidFunction → Type 0
-IsToldAt handle (refusal.Memory e) (refusal.Memory d) = Unit {0}
-IsToldAt handle (refusal.Memory e) (refusal.Fault g) = ⊥
-IsToldAt handle (refusal.Fault f) (refusal.Memory d) = ⊥
-IsToldAt handle (refusal.Fault f) (refusal.Fault g) = ((error_of g).function ≡ handle) × ((error_of g).error ≡ error_of f) × (spans_of g ≡ [])
+abbrev pub IsReportedAt : (handle : ℕ) → Refusal FunctionError → Refusal InvalidFunction → Type 0
+IsReportedAt handle (refusal.Memory e) (refusal.Memory d) = Unit {0}
+IsReportedAt handle (refusal.Memory e) (refusal.Fault g) = ⊥
+IsReportedAt handle (refusal.Fault f) (refusal.Memory d) = ⊥
+IsReportedAt handle (refusal.Fault f) (refusal.Fault g) = ((error_of g).function ≡ handle) × ((error_of g).error ≡ error_of f) × (spans_of g ≡ [])
 
 -- memory ran out, or the first function that is refused is told
 abbrev pub IsRefusal : (Question → Reading) → (Question → Faults) → FunctionSettings → PlainModule → Refusal InvalidFunction → Type 0

@@ -15,7 +15,7 @@ use Rattle.ir_items.specs.Plain.{PlainEntry, PlainModule}
 use Rattle.spec_analysis.specs.Chains.{HasUse}
 use Rattle.spec_analysis.specs.Summaries.{Summary}
 use Rattle.spec_interface.specs.Entries.{EntryOK}
-use Rattle.spec_interface.specs.Held.{IsHeldBeforeEntry}
+use Rattle.spec_interface.specs.EarlierPayloads.{IsPayloadBeforeEntry}
 use Rattle.spec_interface.specs.Modules.{IsConflict, entry_settings}
 use Rattle.spec_statements.specs.Functions.{Reading, FunctionSettings}
 
@@ -28,7 +28,7 @@ pub record IsEntryAcceptedAt (reading : Question → Reading) (s : FunctionSetti
   pub entry : PlainEntry
   pub at : slice_get m.entries index ≡ Some entry
   pub held : Option ℕ
-  pub before : IsHeldBeforeEntry s.flags m index held
+  pub before : IsPayloadBeforeEntry s.flags m index held
   pub apart : ¬ IsConflict m index entry
   pub ok : EntryOK (reading_at reading m summaries stages entry) stages (HasUse m entry.function) (entry_settings s held) m entry
 
@@ -42,7 +42,7 @@ pub record IsEntryRefusedAt (reading : Question → Reading) (faults : Question 
   pub entry : PlainEntry
   pub at : slice_get m.entries index ≡ Some entry
   pub held : Option ℕ
-  pub before : IsHeldBeforeEntry s.flags m index held
+  pub before : IsPayloadBeforeEntry s.flags m index held
   pub wrong : IsWrong reading faults s m summaries stages index entry held x
 
 -- these are the summaries of the first entry points
@@ -68,7 +68,7 @@ pub record AreEntriesJudged (reading : Question → Reading) (s : FunctionSettin
   pub known : AreEntrySummaries m kept
   pub counted : length notes ≡ count
   pub noted : AreEntryNotes (reading_at reading m summaries stages) s m stages notes
-  pub payloads : IsHeldBeforeEntry s.flags m count held
+  pub payloads : IsPayloadBeforeEntry s.flags m count held
 
 -- The entry point is refused for this, and each before it is accepted.
 pub record IsFirstEntryRefused (reading : Question → Reading) (faults : Question → Faults) (s : FunctionSettings) (m : PlainModule) (summaries : List Summary) (stages : List ShaderStages) (e : InvalidEntryPoint) : Type 0 where
@@ -76,16 +76,16 @@ pub record IsFirstEntryRefused (reading : Question → Reading) (faults : Questi
   pub here : IsEntryRefusedAt reading faults s m summaries stages e.index e.error
 
 -- a refusal tells the same as that of the entry point at an index
-abbrev pub IsEntryToldAt : (index : ℕ) → Refusal EntryPointError → Refusal InvalidEntryPoint → Type 0
-IsEntryToldAt index (refusal.Memory e) (refusal.Memory d) = Unit {0}
-IsEntryToldAt index (refusal.Memory e) (refusal.Fault g) = ⊥
-IsEntryToldAt index (refusal.Fault f) (refusal.Memory d) = ⊥
-IsEntryToldAt index (refusal.Fault f) (refusal.Fault g) = ((error_of g).index ≡ index) × ((error_of g).error ≡ error_of f) × (spans_of g ≡ [])
+abbrev pub IsEntryReportedAt : (index : ℕ) → Refusal EntryPointError → Refusal InvalidEntryPoint → Type 0
+IsEntryReportedAt index (refusal.Memory e) (refusal.Memory d) = Unit {0}
+IsEntryReportedAt index (refusal.Memory e) (refusal.Fault g) = ⊥
+IsEntryReportedAt index (refusal.Fault f) (refusal.Memory d) = ⊥
+IsEntryReportedAt index (refusal.Fault f) (refusal.Fault g) = ((error_of g).index ≡ index) × ((error_of g).error ≡ error_of f) × (spans_of g ≡ [])
 
 -- memory ran out, or it tells that the entry point at an index has the name of an earlier one
-abbrev pub IsConflictTold : (index : ℕ) → (conflict : Type 0) → Refusal InvalidEntryPoint → Type 0
-IsConflictTold index conflict (refusal.Memory e) = Unit {0}
-IsConflictTold index conflict (refusal.Fault g) = conflict × ((error_of g).index ≡ index) × ((error_of g).error ≡ Conflict) × (spans_of g ≡ [])
+abbrev pub IsConflictReported : (index : ℕ) → (conflict : Type 0) → Refusal InvalidEntryPoint → Type 0
+IsConflictReported index conflict (refusal.Memory e) = Unit {0}
+IsConflictReported index conflict (refusal.Fault g) = conflict × ((error_of g).index ≡ index) × ((error_of g).error ≡ Conflict) × (spans_of g ≡ [])
 
 -- memory ran out, or the first entry point that is refused is told
 abbrev pub IsEntryRefusal : (Question → Reading) → (Question → Faults) → FunctionSettings → PlainModule → List Summary → List ShaderStages → Refusal InvalidEntryPoint → Type 0

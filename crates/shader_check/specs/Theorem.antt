@@ -63,11 +63,11 @@ pub record IsReportOn (d : PlainDocument) (report : List ℕ) : Type 0 where
   pub is : IsReport judged report
 
 -- what is told of a document behind the line of what is found: nothing, but the report where it is accepted
-abbrev pub IsToldOf : PlainDocument → Finding → (behind : List ℕ) → Type 0
-IsToldOf d (finding.Accepted strict) behind = IsReportOn d behind
-IsToldOf d finding.RefusedDocument behind = behind ≡ []
-IsToldOf d finding.RefusedHandles behind = behind ≡ []
-IsToldOf d (finding.Refused step index) behind = behind ≡ []
+abbrev pub IsReportedOf : PlainDocument → Finding → (behind : List ℕ) → Type 0
+IsReportedOf d (finding.Accepted strict) behind = IsReportOn d behind
+IsReportedOf d finding.RefusedDocument behind = behind ≡ []
+IsReportedOf d finding.RefusedHandles behind = behind ≡ []
+IsReportedOf d (finding.Refused step index) behind = behind ≡ []
 
 -- It is the report on the document that the bytes spell.
 pub record IsReportFor (bytes report : List ℕ) : Type 0 where
@@ -76,18 +76,18 @@ pub record IsReportFor (bytes report : List ℕ) : Type 0 where
   pub reports : IsReportOn document report
 
 -- what is told of bytes behind the line of what is found
-abbrev pub IsTold : List ℕ → Finding → (behind : List ℕ) → Type 0
-IsTold bytes (finding.Accepted strict) behind = IsReportFor bytes behind
-IsTold bytes finding.RefusedDocument behind = behind ≡ []
-IsTold bytes finding.RefusedHandles behind = behind ≡ []
-IsTold bytes (finding.Refused step index) behind = behind ≡ []
+abbrev pub IsReported : List ℕ → Finding → (behind : List ℕ) → Type 0
+IsReported bytes (finding.Accepted strict) behind = IsReportFor bytes behind
+IsReported bytes finding.RefusedDocument behind = behind ≡ []
+IsReported bytes finding.RefusedHandles behind = behind ≡ []
+IsReported bytes (finding.Refused step index) behind = behind ≡ []
 
 -- The text that is expected for these bytes.
 pub record IsExpected (bytes text : List ℕ) : Type 0 where
   pub finding : Finding
   pub judged : Judged bytes finding
   pub behind : List ℕ
-  pub told : IsTold bytes finding behind
+  pub told : IsReported bytes finding behind
   pub text_is : text ≡ text_of finding ++ behind
 
 -- one text is expected for some bytes
@@ -109,7 +109,7 @@ pub record IsTextOn (d : PlainDocument) (text : List ℕ) : Type 0 where
   pub finding : Finding
   pub judged : JudgedDocument d finding
   pub behind : List ℕ
-  pub told : IsToldOf d finding behind
+  pub told : IsReportedOf d finding behind
   pub text_is : text ≡ text_of finding ++ behind
 
 -- Where the bytes spell a document in which no function and no entry point has a result, the text is that on the document whether its

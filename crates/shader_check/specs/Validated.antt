@@ -96,15 +96,15 @@ pub record IsKeptWith (s : FunctionSettings) (m : PlainModule) (before info : Mo
   pub layouts : info.layouter ≡ before.layouter
   pub expressions : info.const_expression_types ≡ before.const_expression_types
 
-abbrev pub IsFaultBehind : FunctionSettings → PlainModule → ValidationError → Type 0
-IsFaultBehind s m (error.Module e) = ⊥
-IsFaultBehind s m (error.GlobalVariable e) = ⊥
-IsFaultBehind s m (error.Function e) = IsFunctionFault s m e
-IsFaultBehind s m (error.EntryPoint e) = FunctionsOK s m × IsEntryFault s m e
+abbrev pub IsFaultAfter : FunctionSettings → PlainModule → ValidationError → Type 0
+IsFaultAfter s m (error.Module e) = ⊥
+IsFaultAfter s m (error.GlobalVariable e) = ⊥
+IsFaultAfter s m (error.Function e) = IsFunctionFault s m e
+IsFaultAfter s m (error.EntryPoint e) = FunctionsOK s m × IsEntryFault s m e
 
 -- a refusal of a step, as one of the module
-abbrev pub IsToldBy : {E : Type 0} → (E → ValidationError) → Refusal E → Refusal ValidationError → Type 0
-IsToldBy of (refusal.Memory e) (refusal.Memory d) = Unit {0}
-IsToldBy of (refusal.Memory e) (refusal.Fault g) = ⊥
-IsToldBy of (refusal.Fault f) (refusal.Memory d) = ⊥
-IsToldBy of (refusal.Fault f) (refusal.Fault g) = (error_of g ≡ of (error_of f)) × (spans_of g ≡ [])
+abbrev pub IsReportedBy : {E : Type 0} → (E → ValidationError) → Refusal E → Refusal ValidationError → Type 0
+IsReportedBy of (refusal.Memory e) (refusal.Memory d) = Unit {0}
+IsReportedBy of (refusal.Memory e) (refusal.Fault g) = ⊥
+IsReportedBy of (refusal.Fault f) (refusal.Memory d) = ⊥
+IsReportedBy of (refusal.Fault f) (refusal.Fault g) = (error_of g ≡ of (error_of f)) × (spans_of g ≡ [])

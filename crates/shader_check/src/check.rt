@@ -10,9 +10,9 @@ ghost use Rattle.shader_check.specs.Theorem.{verdict_of, Answers, AnswersInCalls
 ghost use Rattle.shader_check.specs.Theorem.{status_of, message_of};
 
 use crate::judge::judge;
+use check_ports::{MAX_CALLS, ReadCall, Sink, Source, TakeError, WriteCall, WriteFailed};
 use document_reader::MAX_LEN;
 use judgement::Finding;
-use check_ports::{MAX_CALLS, ReadCall, Sink, Source, TakeError, WriteCall, WriteFailed};
 use std::alloc::{AllocError, Global};
 use thiserror::Error;
 

@@ -3,12 +3,12 @@
 ghost use Rattle.std.specs.Prelude.{◌≡◌, ◌<◌, ◌+◌, ◌++◌, ◌∷◌, [], MatchResult, OnOk, Some, length, map, slice_get};
 ghost use Rattle.function_entries.specs.Interfaces.{AreInterfacesKnown};
 ghost use Rattle.function_validator.specs.Names.{AreNamesBelow};
-ghost use Rattle.shader_check.specs.JudgedEntries.{AreEntriesJudged, IsConflictTold, IsEntryRefusal, IsEntryToldAt, note_of};
+ghost use Rattle.shader_check.specs.JudgedEntries.{AreEntriesJudged, IsConflictReported, IsEntryRefusal, IsEntryReportedAt, note_of};
 ghost use Rattle.shader_check.specs.Settings.{settings_in};
 ghost use Rattle.ir_items.specs.Plain.{PlainEntry};
 ghost use Rattle.ir_items.specs.View.{module_view};
 ghost use Rattle.spec_analysis.specs.Summaries.{AreSummaries};
-ghost use Rattle.spec_interface.specs.Held.{IsHeldBeforeEntry};
+ghost use Rattle.spec_interface.specs.EarlierPayloads.{IsPayloadBeforeEntry};
 ghost use Rattle.spec_interface.specs.Modules.{IsConflict};
 ghost use Rattle.spec_handles.specs.InOrder.{HandlesOK};
 ghost use Rattle.function_statement_checks.specs.Descriptors.{AreDescriptors};
@@ -42,7 +42,7 @@ fn refusal_at(
     index: usize,
     refusal: Refusal<EntryPointError>,
 ) -> Refusal<InvalidEntryPoint>
-    ensures { IsEntryToldAt index refusal result }
+    ensures { IsEntryReportedAt index refusal result }
 {
     match refusal {
         Refusal::Memory(error) => Refusal::Memory(error),
@@ -67,7 +67,7 @@ fn check_name(
     requires before { AreNamesBelow (module_view «module».now) index names.old }
     ensures apart { MatchResult result
         (λ _. (e : PlainEntry) → slice_get (module_view «module».now).entries index ≡ Some e → ¬ IsConflict (module_view «module».now) index e)
-        (IsConflictTold index ((e : PlainEntry) → slice_get (module_view «module».now).entries index ≡ Some e → IsConflict (module_view «module».now) index e)) }
+        (IsConflictReported index ((e : PlainEntry) → slice_get (module_view «module».now).entries index ≡ Some e → IsConflict (module_view «module».now) index e)) }
     ensures noted { OnOk result (AreNamesBelow (module_view «module».now) (index + 1) names.new) }
 {
     match names.note(alloc, &module.entry_points[index]) {
@@ -149,7 +149,7 @@ pub(crate) fn judge_entries<L: Lower>(
     requires marked { AreDescriptors (module_view «module».now).types (module_view «module».now).special.ray_desc descriptors.now }
     requires many { length callees.now ≡ length (module_view «module».now).functions }
     requires known { AreSummaries (module_view «module».now) (map (L.summary validator.now.lower) callees.now) }
-    requires before { IsHeldBeforeEntry validator.now.flags (module_view «module».now) 0 held }
+    requires before { IsPayloadBeforeEntry validator.now.flags (module_view «module».now) 0 held }
     ensures { let summaries = map (L.summary validator.now.lower) callees.now in
         let stages = map (L.noted validator.now.lower) callees.now in
         MatchResult result

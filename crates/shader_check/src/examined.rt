@@ -3,10 +3,10 @@ ghost use Rattle.std.specs.Prelude.{◌≡◌};
 ghost use Rattle.shader_check.specs.Examined.{step_of, refused_early, refused_by, finding_in};
 
 use crate::error::ValidationError;
-use typing_errors::ConstExpressionError;
 use judgement::{Finding, Step};
-use typing_infos::ModuleInfo;
 use module_validator::ModuleError;
+use typing_errors::ConstExpressionError;
+use typing_infos::ModuleInfo;
 
 /// What is found of a document, with the error where its module is refused.
 #[derive(Drop)]

@@ -1,14 +1,13 @@
 //! All functions of a module, one after the other.
 
 ghost use Rattle.std.specs.Prelude.{◌≡◌, ◌<◌, ◌+◌, ◌++◌, ◌∷◌, [], MatchResult, false, length, map};
-ghost use Rattle.shader_check.specs.Judged.{AreJudged, IsToldAt, IsRefusal};
+ghost use Rattle.shader_check.specs.Judged.{AreJudged, IsReportedAt, IsRefusal};
 ghost use Rattle.shader_check.specs.Settings.{settings_for};
 ghost use Rattle.ir_items.specs.View.{module_view};
 ghost use Rattle.spec_handles.specs.InOrder.{HandlesOK};
 ghost use Rattle.function_statement_checks.specs.Descriptors.{AreDescriptors};
 
 use crate::validator::Validator;
-use typing_errors::FunctionError;
 use function_interface::Lower;
 use function_validator::{FunctionSettings, Validated, validate_function_with};
 use ir_arena::handle::Handle;
@@ -18,6 +17,7 @@ use ir_items::Module;
 use ir_types::key;
 use std::alloc::Global;
 use thiserror::Error;
+use typing_errors::FunctionError;
 
 /// A function that is refused (naga's `ValidationError::Function`).
 #[derive(Debug, Drop, Error)]
@@ -42,7 +42,7 @@ fn refusal_at(
     handle: Handle<key::Function>,
     refusal: Refusal<FunctionError>,
 ) -> Refusal<InvalidFunction>
-    ensures { IsToldAt handle refusal result }
+    ensures { IsReportedAt handle refusal result }
 {
     match refusal {
         Refusal::Memory(error) => Refusal::Memory(error),

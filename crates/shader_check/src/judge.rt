@@ -6,22 +6,22 @@ ghost use Rattle.document_reader.specs.View.{document_view, settings_view as doc
 ghost use Rattle.shader_check.specs.Settings.{settings_in};
 ghost use Rattle.judgement.specs.Steps.{IsPrepared, IsScopeStrict, function_settings};
 ghost use Rattle.judgement.specs.declared.finding.Finding.TheVariants.{RefusedDocument};
-ghost use Rattle.shader_check.specs.Examined.{finding_in, IsExamined, IsExaminedDocument, IsKeptIn, IsLeft, IsToldIn};
+ghost use Rattle.shader_check.specs.Examined.{finding_in, IsExamined, IsExaminedDocument, IsKeptIn, IsLeft, IsReportedIn};
 ghost use Rattle.shader_check.specs.Judgements.{IsJudgementOf, IsJudgementOn};
 
 use crate::examined::Examined;
-use crate::told::Judgement;
+use crate::reported::Judgement;
 use crate::validator::Validator;
 use bitflags::Flags;
+use check_report::report;
 use document_reader::{Document, DocumentError, Settings, take_document};
+use function_real_lower::RealLower;
 use ir_faults::refusal::Refusal;
 use ir_flags::ValidationFlags;
 use ir_items::Module;
 use judgement::Finding;
-use typing_infos::ModuleInfo;
-use check_report::report;
-use function_real_lower::RealLower;
 use std::alloc::{AllocError, Global};
+use typing_infos::ModuleInfo;
 
 // What judges modules by the settings of a document.
 fn validator_for(alloc: Global, settings: &Settings) -> Validator<RealLower>
@@ -87,7 +87,7 @@ pub fn examine_document(alloc: Global, document: &mut Document) -> Result<Examin
 // The report on a module that is accepted, and nothing on another.
 fn report_on(alloc: Global, module: &Module, examined: &Examined) -> Result<String, AllocError>
     requires kept { IsKeptIn (module_view «module».now) examined.now }
-    ensures { IfOk result (λ report. IsToldIn (module_view «module».now) (finding_in examined.now) (string_bytes report)) }
+    ensures { IfOk result (λ report. IsReportedIn (module_view «module».now) (finding_in examined.now) (string_bytes report)) }
 {
     match examined {
         Examined::Accepted { info, .. } => report(alloc, module, info),

@@ -9,11 +9,12 @@ mod examined;
 mod functions;
 mod judge;
 pub mod laws;
-mod told;
+mod reported;
 mod validator;
 mod whole;
 
 pub use check::{Fault, MAX_TAKEN, Verdict, check_document, outcome};
+pub use check_ports::{ReadCall, Sink, Source, WriteCall};
 pub use document_reader::{
     Document, DocumentError, Settings, build_module, read_document, take_document,
 };
@@ -24,6 +25,5 @@ pub use functions::InvalidFunction;
 pub use judge::{examine_document, judge_document};
 pub use judgement::{Finding, Step};
 pub use module_validator::{InvalidGlobalVariable, ModuleError};
-pub use check_ports::{ReadCall, Sink, Source, WriteCall};
-pub use told::Judgement;
+pub use reported::Judgement;
 pub use validator::Validator;

@@ -24,24 +24,24 @@ ghost use Rattle.spec_statements.specs.ExpressionStages.{all_stages};
 ghost use Rattle.spec_handles.specs.Conditions.{HandlesInRange, OperandsPrecede};
 ghost use Rattle.spec_handles.specs.InOrder.{HandlesOK};
 ghost use Rattle.spec_statements.specs.Functions.{FunctionOK, AllowsStage};
-ghost use Rattle.spec_statements.specs.Payloads.{IsHeldAfter};
+ghost use Rattle.spec_statements.specs.Payloads.{IsPayloadAfter};
 
 use crate::functions::{InvalidFunction, judge_all};
 use bitflags::Flags;
 use function_entries::EntryPointError;
-use typing_errors::FunctionError;
 use function_interface::Lower;
+use function_statement_checks::descriptors_of;
 use function_validator::{
     FunctionSettings, validate_entry_point, validate_function, validate_global_var,
 };
-use module_globals::GlobalVariableError;
 use ir_arena::handle::Handle;
 use ir_faults::refusal::Refusal;
 use ir_flags::{Capabilities, ShaderStages, SubgroupOperationSet, ValidationFlags};
 use ir_items::{EntryPoint, Function, GlobalVariable, Module};
 use ir_types::key;
-use function_statement_checks::descriptors_of;
+use module_globals::GlobalVariableError;
 use std::alloc::Global;
+use typing_errors::FunctionError;
 
 /// What judges the functions of a module, one after the other (naga's `Validator`, as far as it speaks of functions). It keeps
 /// the type of the payloads of the rays so far, and nothing else.
@@ -124,7 +124,7 @@ impl<L: Lower> Validator<L> {
     /// `entry_point` says that the function is an entry point's. The payload type is kept where the function is accepted; a
     /// refusal leaves the validator as it was.
     ///
-    /// Asks that the layer was made for the module, and that the handles of the function are in order.
+    /// Requires that the layer was made for the module, and that the handles of the function are in order.
     ///
     /// # Errors
     ///
@@ -151,7 +151,7 @@ impl<L: Lower> Validator<L> {
         ensures joined { IfOk result (λ info. IsJoined (length (module_view «module».now).globals) (function_view fun.now) (map (L.summary self.old.lower) mod_info.now) (L.summary self.old.lower info)) }
         ensures chains { CalleesKnown (module_view «module».now) (function_view fun.now) (map (L.summary self.old.lower) mod_info.now)
             → IfOk result (λ info. IsSummary (module_view «module».now) (function_view fun.now) (L.summary self.old.lower info)) }
-        ensures held { OnOk result (IsHeldAfter self.old.flags (module_view «module».now) (function_view fun.now) self.old.held self.new.held) }
+        ensures held { OnOk result (IsPayloadAfter self.old.flags (module_view «module».now) (function_view fun.now) self.old.held self.new.held) }
         ensures kept { OnErr result (self.new.held ≡ self.old.held) }
         ensures lower { self.new.lower ≡ self.old.lower }
         ensures flags { self.new.flags ≡ self.old.flags }
@@ -181,7 +181,7 @@ impl<L: Lower> Validator<L> {
     /// functions of the module, in order, where stages and uses may have been noted since. The payload type is kept where the entry
     /// point is accepted; a refusal leaves the validator as it was.
     ///
-    /// Asks that the layer was made for the module, and that its handles are in order.
+    /// Requires that the layer was made for the module, and that its handles are in order.
     ///
     /// # Errors
     ///
@@ -269,7 +269,7 @@ impl<L: Lower> Validator<L> {
     /// speaks of functions). What was judged before is forgotten first, so that the answer is that of a fresh validator; after
     /// it the type of the payloads of these functions is held, and after a refusal none.
     ///
-    /// Asks that the layer was made for the module, and that its handles are in order.
+    /// Requires that the layer was made for the module, and that its handles are in order.
     ///
     /// # Errors
     ///

@@ -2,13 +2,13 @@
 
 ghost use Rattle.std.specs.Prelude.{◌≡◌, IfErr, IfOk, MatchResult, None, OnOk, false, true};
 ghost use Rattle.shader_check.specs.Settings.{settings_in};
-ghost use Rattle.shader_check.specs.Validated.{IsFaultBehind, IsKeptWith, IsRefusedWith, IsToldBy, IsValidated, IsValidationFault, module_settings};
+ghost use Rattle.shader_check.specs.Validated.{IsFaultAfter, IsKeptWith, IsRefusedWith, IsReportedBy, IsValidated, IsValidationFault, module_settings};
 ghost use Rattle.shader_check.specs.declared.error.ValidationError.TheVariants as error;
 ghost use Rattle.ir_items.specs.View.{module_view};
 ghost use Rattle.module_types.specs.Validated.{AreAccepted};
 ghost use Rattle.module_validator.specs.Faults.{IsModuleFault};
 ghost use Rattle.module_validator.specs.Refusals.{IsVariableFault};
-ghost use Rattle.module_validator.specs.Told.{IsInfoOf};
+ghost use Rattle.module_validator.specs.Reported.{IsInfoOf};
 ghost use Rattle.ir_proc.specs.Filters.{ParentsPrecede};
 ghost use Rattle.function_real_lower.specs.Made.{IsMadeOf};
 ghost use Rattle.function_real_lower.specs.Severities.{AreKnown};
@@ -22,20 +22,20 @@ use crate::entries::{InvalidEntryPoint, judge_entries};
 use crate::error::ValidationError;
 use crate::functions::{InvalidFunction, judge_all};
 use crate::validator::Validator;
+use function_real_lower::RealLower;
+use function_statement_checks::descriptors_of;
 use ir_faults::refusal::Refusal;
 use ir_faults::with_span::WithSpan;
 use ir_items::Module;
-use typing_infos::ModuleInfo;
-use module_validator::{InvalidGlobalVariable, ModuleError, ModuleValidator, validate_globals};
-use function_real_lower::RealLower;
 use judgement::ModuleSettings;
-use function_statement_checks::descriptors_of;
+use module_validator::{InvalidGlobalVariable, ModuleError, ModuleValidator, validate_globals};
 use std::alloc::{AllocError, Global};
+use typing_infos::ModuleInfo;
 
 // ---- refusals of steps
 
 fn module_refusal(alloc: Global, refusal: Refusal<ModuleError>) -> Refusal<ValidationError>
-    ensures { IsToldBy error.Module refusal result }
+    ensures { IsReportedBy error.Module refusal result }
 {
     match refusal {
         Refusal::Memory(error) => Refusal::Memory(error),
@@ -50,7 +50,7 @@ fn global_refusal(
     alloc: Global,
     refusal: Refusal<InvalidGlobalVariable>,
 ) -> Refusal<ValidationError>
-    ensures { IsToldBy error.GlobalVariable refusal result }
+    ensures { IsReportedBy error.GlobalVariable refusal result }
 {
     match refusal {
         Refusal::Memory(error) => Refusal::Memory(error),
@@ -62,7 +62,7 @@ fn global_refusal(
 }
 
 fn function_refusal(alloc: Global, refusal: Refusal<InvalidFunction>) -> Refusal<ValidationError>
-    ensures { IsToldBy error.Function refusal result }
+    ensures { IsReportedBy error.Function refusal result }
 {
     match refusal {
         Refusal::Memory(error) => Refusal::Memory(error),
@@ -74,7 +74,7 @@ fn function_refusal(alloc: Global, refusal: Refusal<InvalidFunction>) -> Refusal
 }
 
 fn entry_refusal(alloc: Global, refusal: Refusal<InvalidEntryPoint>) -> Refusal<ValidationError>
-    ensures { IsToldBy error.EntryPoint refusal result }
+    ensures { IsReportedBy error.EntryPoint refusal result }
 {
     match refusal {
         Refusal::Memory(error) => Refusal::Memory(error),
@@ -157,7 +157,7 @@ fn over(
 }
 
 // The steps of functions and of entry points, over what is kept of their module.
-fn judge_behind(
+fn judge_after(
     own: Validator<RealLower>,
     module: &Module,
 ) -> Result<ModuleInfo, Refusal<ValidationError>>
@@ -165,7 +165,7 @@ fn judge_behind(
     requires known { AreKnown (module_view «module».now) own.lower.severities }
     ensures { MatchResult result
         (IsKeptWith (settings_in own) (module_view «module».now) own.lower.info)
-        (IsRefusedWith (IsFaultBehind (settings_in own) (module_view «module».now))) }
+        (IsRefusedWith (IsFaultAfter (settings_in own) (module_view «module».now))) }
 {
     let alloc = own.alloc;
     let declared = module.special_types.ray_desc;
@@ -210,7 +210,7 @@ fn judge(
         Ok(own) => own,
         Err(error) => return Err(Refusal::Memory(error)),
     };
-    match judge_behind(own, module) {
+    match judge_after(own, module) {
         Ok(info) => Ok(info),
         Err(refusal) => Err(refusal),
     }

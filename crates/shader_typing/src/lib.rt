@@ -10,21 +10,18 @@
 
 pub mod laws;
 
+pub use function_real_lower::process_function;
+pub use module_handles::{
+    arities_match, callees_precede, filter_parents_precede, handles_in_range, operands_precede,
+};
 pub use spec_analysis::{
     ExpressionInfo, GlobalOrArgument, GlobalUse, SamplingKey, SamplingPair, Uniformity,
     UniformityRequirements,
 };
-pub use typing_rules::{ConstructorSet, Members, OneBitsIter, ScalarSet};
+pub use spec_expressions::{ConclusionExt, MissingSpecialType, TypingFault};
 pub use typing_errors::{
     AtomicError, CallError, ComposeError, ExpressionError, FunctionError, LocalVariableError,
     SubgroupError, UniformityDisruptor,
-};
-pub use typing_infos::FunctionInfo;
-pub use typing_rules::{Arguments, Conclusion, ConstructorSize, Pattern, Rule, ValueType};
-pub use function_real_lower::process_function;
-pub use spec_expressions::{ConclusionExt, MissingSpecialType, TypingFault};
-pub use module_handles::{
-    arities_match, callees_precede, filter_parents_precede, handles_in_range, operands_precede,
 };
 pub use typing_expressions::{
     CompareTypes, TypingRefusal, const_expression_types, process_const_expression, types_of,
@@ -34,6 +31,7 @@ pub use typing_forms::{
     ScalarKindExt, TypeInnerExt, TypeResolution, compare_types, conversion_rank, converted_rank,
     form_in, form_of, form_of_type, inner_of, types_go_back,
 };
+pub use typing_infos::FunctionInfo;
 pub use typing_layout::{
     Alignment, ExpressionKind, ExpressionKindTracker, LayoutError, LayoutErrorInner, Layouter,
     TypeLayout, origins_precede,
@@ -41,3 +39,7 @@ pub use typing_layout::{
 pub use typing_operands::{ResolveError, ResolveRefusal};
 pub use typing_overloads::{AnyOverloadSet, List, MathFunctionExt, OverloadSet, Regular};
 pub use typing_resolve::ResolveContext;
+pub use typing_rules::{
+    Arguments, Conclusion, ConstructorSet, ConstructorSize, Members, OneBitsIter, Pattern, Rule,
+    ScalarSet, ValueType,
+};

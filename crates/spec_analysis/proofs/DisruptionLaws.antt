@@ -3,7 +3,7 @@ use Rattle.std.proofs.Common.{◌≡◌, ℕ, zero, suc, Bool, true, false, ◌|
 use Rattle.std.proofs.lemmas.Bool.{or_cases, or_left, or_right}
 use Rattle.ir_blocks.specs.Plain.{PlainStatement, emit, block, if_, switch, loop, break, continue, return, kill, operation, call, PlainBlock, stop, next, PlainCases, no_case, case}
 use Rattle.ir_blocks.specs.Shapes.{Part, inner, accepting, rejecting, case_at, loop_body, loop_continuing, shape_of, case_body, part_of}
-use Rattle.ir_blocks.specs.Places.{Place, here, later, inside, condition, IsTop, top_here, top_later, Before, earlier, both_later, both_inside, body_before_continuing, body_before_condition, continuing_before_condition, statement, StandsAt}
+use Rattle.ir_blocks.specs.Places.{Place, here, later, inside, condition, IsTop, top_here, top_later, Before, earlier, both_later, both_inside, body_before_continuing, body_before_condition, continuing_before_condition, statement, OccursAt}
 use Rattle.spec_analysis.specs.Positions.{Holds, itself, in_part, holds_later, holds_inside, Around, around, around_later, around_inside}
 use Rattle.spec_analysis.specs.Disruption.{chosen_by, is_end, Disrupted, already, chosen, after, ends_in, ends_at, ends_in_cases, enter, at_condition, disrupted_at}
 use Rattle.spec_analysis.proofs.EverywhereLaws.{none_in_stop}
@@ -67,14 +67,14 @@ module _ (varies : ℕ → Bool) where
   part_ends (loop b r o) loop_continuing d h = or_right (ends_in varies d b) _ h
   part_ends _ _ d h = false_is_not h
 
-  ends_from : (p : Place) (d : Bool) (body : PlainBlock) (s : PlainStatement) → StandsAt body p s → IsTrue (is_end s) → IsTrue (disrupted_at varies d p body) → IsTrue (ends_in varies d body)
+  ends_from : (p : Place) (d : Bool) (body : PlainBlock) (s : PlainStatement) → OccursAt body p s → IsTrue (is_end s) → IsTrue (disrupted_at varies d p body) → IsTrue (ends_in varies d body)
   ends_from p d stop s at e h = absurd (none_in_stop p s at)
   ends_from here d (next u rest) s at e h = or_left _ _ (subst (λ x. IsTrue (ends_at varies d x)) (sym (same_statement u s at)) (own_end d s e h))
   ends_from (later p) d (next u rest) s at e h = or_right (ends_at varies d u) _ (ends_from p _ rest s at e h)
   ends_from (inside part p) d (next u rest) s at e h = or_left _ _ (part_ends u part d (ends_from p _ (part_of (shape_of u) part) s at e h))
   ends_from condition d (next u rest) s at e h = let x = at in cc
 
-  first_ends : (r : Place) (d : Bool) (u : PlainStatement) (rest : PlainBlock) (s : PlainStatement) → Holds here r → StandsAt (next u rest) r s → IsTrue (is_end s)
+  first_ends : (r : Place) (d : Bool) (u : PlainStatement) (rest : PlainBlock) (s : PlainStatement) → Holds here r → OccursAt (next u rest) r s → IsTrue (is_end s)
       → IsTrue (disrupted_at varies d r (next u rest)) → IsTrue (ends_at varies d u)
   first_ends r d u rest s itself at e h = subst (λ x. IsTrue (ends_at varies d x)) (sym (same_statement u s at)) (own_end d s e h)
   first_ends r d u rest s (in_part {r = q} part) at e h = part_ends u part d (ends_from q _ (part_of (shape_of u) part) s at e h)
@@ -92,7 +92,7 @@ module _ (varies : ℕ → Bool) where
   continuing_before _ d h = false_is_not h
 
   -- after a statement that holds a disrupted end
-  end_before : {q p r : Place} → Before q p → Holds q r → (d : Bool) (body : PlainBlock) (s : PlainStatement) → StandsAt body r s → IsTrue (is_end s)
+  end_before : {q p r : Place} → Before q p → Holds q r → (d : Bool) (body : PlainBlock) (s : PlainStatement) → OccursAt body r s → IsTrue (is_end s)
       → IsTrue (disrupted_at varies d r body) → IsTrue (disrupted_at varies d p body)
   end_before b o d stop s at e h = absurd (none_in_stop _ s at)
   end_before (earlier {p = p}) o d (next u rest) s at e h = stays p _ rest (or_right d _ (first_ends _ d u rest s o at e h))
@@ -110,7 +110,7 @@ module _ (varies : ℕ → Bool) where
   chosen_in d (switch y cases) part x is v = or_right d _ (subst (λ z. IsTrue (varies z)) (sym (same_handle y x is)) v)
   chosen_in d _ part x is v = no_handle x is
 
-  chosen_around : {a p : Place} → Around a p → (d : Bool) (body : PlainBlock) (s : PlainStatement) (x : ℕ) → StandsAt body a s → chosen_by s ≡ Some x → IsTrue (varies x)
+  chosen_around : {a p : Place} → Around a p → (d : Bool) (body : PlainBlock) (s : PlainStatement) (x : ℕ) → OccursAt body a s → chosen_by s ≡ Some x → IsTrue (varies x)
       → IsTrue (disrupted_at varies d p body)
   chosen_around o d stop s x at is v = absurd (none_in_stop _ s at)
   chosen_around (around {p = p} part) d (next u rest) s x at is v =
@@ -127,9 +127,9 @@ module _ (varies : ℕ → Bool) where
 
   -- a disrupted end in the body
   abbrev EndPlace : Bool → PlainBlock → Type 0
-  EndPlace d body = (r : Place) × (s : PlainStatement) × StandsAt body r s × IsTrue (is_end s) × DisruptedBy varies d body r
+  EndPlace d body = (r : Place) × (s : PlainStatement) × OccursAt body r s × IsTrue (is_end s) × DisruptedBy varies d body r
 
-  top_of : (r : Place) (body : PlainBlock) (s : PlainStatement) → StandsAt body r s → (q : Place) × IsTop q × Holds q r
+  top_of : (r : Place) (body : PlainBlock) (s : PlainStatement) → OccursAt body r s → (q : Place) × IsTop q × Holds q r
   top_of r stop s at = absurd (none_in_stop r s at)
   top_of here (next u rest) s at = (here, top_here, itself)
   top_of (later r) (next u rest) s at = let q = top_of r rest s at in (later q.0, top_later q.1, holds_later q.2)
@@ -150,7 +150,7 @@ module _ (varies : ℕ → Bool) where
 
   -- a disrupted end in a body's first statement
   abbrev FirstEnd : Bool → PlainStatement → PlainBlock → Type 0
-  FirstEnd d u rest = (r : Place) × (s : PlainStatement) × Holds here r × StandsAt (next u rest) r s × IsTrue (is_end s) × DisruptedBy varies d (next u rest) r
+  FirstEnd d u rest = (r : Place) × (s : PlainStatement) × Holds here r × OccursAt (next u rest) r s × IsTrue (is_end s) × DisruptedBy varies d (next u rest) r
 
   -- an end in a part of the statement, and that the statement is an end itself
   abbrev Inside : Bool → PlainStatement → Type 0

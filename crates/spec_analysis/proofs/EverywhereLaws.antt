@@ -2,7 +2,7 @@
 use Rattle.std.proofs.Common.{◌≡◌, ℕ, zero, suc, Bool, true, false, ◌&&◌, refl, subst}
 use Rattle.ir_blocks.specs.Plain.{PlainStatement, emit, block, if_, switch, loop, break, continue, return, kill, operation, call, PlainBlock, stop, next, PlainCases, no_case, case}
 use Rattle.ir_blocks.specs.Shapes.{shape_of, Part, inner, accepting, rejecting, case_at, loop_body, loop_continuing, case_body, part_of}
-use Rattle.ir_blocks.specs.Places.{Place, here, later, inside, condition, StandsAt}
+use Rattle.ir_blocks.specs.Places.{Place, here, later, inside, condition, OccursAt}
 use Rattle.spec_analysis.specs.Everywhere.{PassesAtPlaces, everywhere, in_statement, in_cases}
 
 pub both_true : (a b : Bool) → (a && b) ≡ true → (a ≡ true) × (b ≡ true)
@@ -13,7 +13,7 @@ pub true_both : (a b : Bool) → a ≡ true → b ≡ true → (a && b) ≡ true
 true_both true b e f = f
 true_both false b e f = cc
 
-pub none_in_stop : (p : Place) (s : PlainStatement) → StandsAt stop p s → ⊥
+pub none_in_stop : (p : Place) (s : PlainStatement) → OccursAt stop p s → ⊥
 none_in_stop here s e = let x = e in cc
 none_in_stop (later p) s e = let x = e in cc
 none_in_stop (inside part p) s e = let x = e in cc
@@ -59,7 +59,7 @@ module _ (ok : PlainStatement → Bool) where
   part_passes (operation a) part e = refl
   part_passes (call function arguments result) part e = refl
 
-  pub passes_at : (p : Place) (b : PlainBlock) → everywhere ok b ≡ true → (s : PlainStatement) → StandsAt b p s → ok s ≡ true
+  pub passes_at : (p : Place) (b : PlainBlock) → everywhere ok b ≡ true → (s : PlainStatement) → OccursAt b p s → ok s ≡ true
   passes_at p stop e s at = absurd (none_in_stop p s at)
   passes_at here (next u rest) e s at =
       let u_is : u ≡ s = (let x = at in cc) in
@@ -72,7 +72,7 @@ module _ (ok : PlainStatement → Bool) where
   -- ---- where it passes at each place, it passes everywhere
 
   abbrev PassesAt : PlainBlock → Type 0
-  PassesAt b = (p : Place) (s : PlainStatement) → StandsAt b p s → ok s ≡ true
+  PassesAt b = (p : Place) (s : PlainStatement) → OccursAt b p s → ok s ≡ true
 
   mutual
     pub passes_everywhere : (b : PlainBlock) → PassesAt b → everywhere ok b ≡ true

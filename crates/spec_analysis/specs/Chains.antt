@@ -16,21 +16,21 @@ use Rattle.spec_analysis.specs.Values.{StartsAt}
 -- ---- what an expression stands for
 
 -- what the base of an access stands for
-abbrev pub base_stands_for : Option PlainExpression → Option GlobalOrArgument
-base_stands_for (Some (plain (GlobalVariable g))) = Some (Global g)
-base_stands_for _ = None
+abbrev pub base_denotes : Option PlainExpression → Option GlobalOrArgument
+base_denotes (Some (plain (GlobalVariable g))) = Some (Global g)
+base_denotes _ = None
 
-abbrev pub stands_for : List PlainExpression → Option PlainExpression → Option GlobalOrArgument
-stands_for expressions (Some (plain (GlobalVariable g))) = Some (Global g)
-stands_for expressions (Some (plain (FunctionArgument number))) = Some (Argument number)
-stands_for expressions (Some (plain (Access base index))) = base_stands_for (slice_get expressions base)
-stands_for expressions (Some (plain (AccessIndex base index))) = base_stands_for (slice_get expressions base)
-stands_for expressions _ = None
+abbrev pub denotes : List PlainExpression → Option PlainExpression → Option GlobalOrArgument
+denotes expressions (Some (plain (GlobalVariable g))) = Some (Global g)
+denotes expressions (Some (plain (FunctionArgument number))) = Some (Argument number)
+denotes expressions (Some (plain (Access base index))) = base_denotes (slice_get expressions base)
+denotes expressions (Some (plain (AccessIndex base index))) = base_denotes (slice_get expressions base)
+denotes expressions _ = None
 
 -- what the expression at a place stands for in its function: a global variable, where it is one or an access directly on
 -- one, or an argument
 abbrev pub place : List PlainExpression → ℕ → Option GlobalOrArgument
-place expressions e = stands_for expressions (slice_get expressions e)
+place expressions e = denotes expressions (slice_get expressions e)
 
 -- ---- chains
 

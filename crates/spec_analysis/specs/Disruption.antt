@@ -2,7 +2,7 @@
 use Rattle.std.specs.Prelude.{◌≡◌, ℕ, Bool, true, false, ◌||◌, IsTrue, Option, Some, None}
 use Rattle.ir_blocks.specs.Plain.{PlainStatement, emit, block, if_, switch, loop, break, continue, return, kill, operation, call, PlainBlock, stop, next, PlainCases, no_case, case}
 use Rattle.ir_blocks.specs.Shapes.{Part, loop_continuing, shape_of, part_of}
-use Rattle.ir_blocks.specs.Places.{Place, here, later, inside, condition, Before, StandsAt}
+use Rattle.ir_blocks.specs.Places.{Place, here, later, inside, condition, Before, OccursAt}
 use Rattle.spec_analysis.specs.Positions.{Holds, Around}
 
 -- the value that chooses which of a statement's parts is run
@@ -38,8 +38,8 @@ is_end (call function arguments result) = false
 -- continuing part. `outer` says that the whole body stands at a disrupted place.
 pub data Disrupted (varies : ℕ → Type 0) (outer : Bool) (body : PlainBlock) : Place → Type 0 where
   already : {p : Place} → IsTrue outer → Disrupted varies outer body p
-  chosen : {p a : Place} (s : PlainStatement) (h : ℕ) → Around a p → StandsAt body a s → chosen_by s ≡ Some h → varies h → Disrupted varies outer body p
-  after : {p q r : Place} (s : PlainStatement) → Before q p → Holds q r → StandsAt body r s → IsTrue (is_end s) → Disrupted varies outer body r → Disrupted varies outer body p
+  chosen : {p a : Place} (s : PlainStatement) (h : ℕ) → Around a p → OccursAt body a s → chosen_by s ≡ Some h → varies h → Disrupted varies outer body p
+  after : {p q r : Place} (s : PlainStatement) → Before q p → Holds q r → OccursAt body r s → IsTrue (is_end s) → Disrupted varies outer body r → Disrupted varies outer body p
 
 -- ---- the same, found step by step
 

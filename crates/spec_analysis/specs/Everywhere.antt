@@ -1,11 +1,11 @@
 -- A test of statements that is made at every place of a body.
 use Rattle.std.specs.Prelude.{◌≡◌, Bool, true, ◌&&◌}
 use Rattle.ir_blocks.specs.Plain.{PlainStatement, emit, block, if_, switch, loop, break, continue, return, kill, operation, call, PlainBlock, stop, next, PlainCases, no_case, case}
-use Rattle.ir_blocks.specs.Places.{Place, StandsAt}
+use Rattle.ir_blocks.specs.Places.{Place, OccursAt}
 
 -- each statement of the body passes, at whatever place it stands
 abbrev pub PassesAtPlaces : (PlainStatement → Bool) → PlainBlock → Type 0
-PassesAtPlaces ok b = (p : Place) (s : PlainStatement) → StandsAt b p s → ok s ≡ true
+PassesAtPlaces ok b = (p : Place) (s : PlainStatement) → OccursAt b p s → ok s ≡ true
 
 -- the same, found step by step
 abbrev mutual

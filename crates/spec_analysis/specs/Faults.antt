@@ -7,7 +7,7 @@ use Rattle.ir_types.specs.ExpressionPlain.{PlainExpression}
 use Rattle.ir_items.specs.Plain.{PlainFunction, PlainModule}
 use Rattle.spec_analysis.specs.Values.{NonUniform as Varies, requirements_of}
 use Rattle.spec_analysis.specs.Severity.{HasSeverity}
-use Rattle.spec_analysis.specs.Uniformity.{Asked, UniformityFault}
+use Rattle.spec_analysis.specs.Uniformity.{Required, UniformityFault}
 
 abbrev pub requirement_in : Option PlainExpression → ℕ
 requirement_in None = 0
@@ -19,7 +19,7 @@ requirement_at expressions e = requirement_in (slice_get expressions e)
 
 -- A fault of uniformity of a function, by the severity of derivatives in it, the values that may differ and what its
 -- expressions ask for.
-pub record FunctionFault (flags : ValidationFlags) (m : PlainModule) (f : PlainFunction) (x : Asked) : Type 0 where
+pub record FunctionFault (flags : ValidationFlags) (m : PlainModule) (f : PlainFunction) (x : Required) : Type 0 where
   pub severity : Severity
   pub severe : HasSeverity m f DerivativeUniformity severity
   pub fault : UniformityFault flags severity (requirement_at f.expressions) (Varies m f) f.body x

@@ -6,7 +6,7 @@ use Rattle.ir_flags.specs.declared.settings.TheConstants.ValidationFlags.{CONTRO
 use Rattle.ir_kinds.specs.declared.diagnostics.Severity.{Severity}
 use Rattle.ir_kinds.specs.declared.diagnostics.Severity.TheVariants.{Error}
 use Rattle.ir_blocks.specs.Plain.{PlainOperation, control_barrier, memory_barrier, store, image_store, atomic, image_atomic, uniform_load, ray_query, ballot, collective, gather, cooperative_store, ray_pipeline, PlainStatement, emit, block, if_, switch, loop, break, continue, return, kill, operation, call, PlainBlock}
-use Rattle.ir_blocks.specs.Places.{Place, StandsAt}
+use Rattle.ir_blocks.specs.Places.{Place, OccursAt}
 use Rattle.spec_analysis.specs.declared.uniformity.TheConstants.UniformityRequirements.{WORK_GROUP_BARRIER, DERIVATIVE, IMPLICIT_LEVEL, COOP_OPS}
 use Rattle.spec_analysis.specs.Disruption.{Disrupted}
 
@@ -18,56 +18,56 @@ pub data Counts (severity : Severity) : ℕ → Type 0 where
   implicit_level : severity ≡ Error → Counts severity IMPLICIT_LEVEL.0
 
 -- What is asked, and by which expression.
-pub record Asked : Type 0 where
+pub record Required : Type 0 where
   pub requirement : ℕ
   pub expression : ℕ
 
 -- what an operation asks: a uniform load waits for the workgroup
-abbrev pub OperationAsks : PlainOperation → Asked → Type 0
-OperationAsks (control_barrier barrier) x = ⊥
-OperationAsks (memory_barrier barrier) x = ⊥
-OperationAsks (store pointer value) x = ⊥
-OperationAsks (image_store image coordinate array_index value) x = ⊥
-OperationAsks (atomic pointer fun value result) x = ⊥
-OperationAsks (image_atomic image coordinate array_index fun value) x = ⊥
-OperationAsks (uniform_load pointer result) x = (x.requirement ≡ WORK_GROUP_BARRIER.0) × (x.expression ≡ result)
-OperationAsks (ray_query query fun) x = ⊥
-OperationAsks (ballot result predicate) x = ⊥
-OperationAsks (collective op collective_op argument result) x = ⊥
-OperationAsks (gather mode argument result) x = ⊥
-OperationAsks (cooperative_store target place) x = ⊥
-OperationAsks (ray_pipeline fun) x = ⊥
+abbrev pub OperationRequires : PlainOperation → Required → Type 0
+OperationRequires (control_barrier barrier) x = ⊥
+OperationRequires (memory_barrier barrier) x = ⊥
+OperationRequires (store pointer value) x = ⊥
+OperationRequires (image_store image coordinate array_index value) x = ⊥
+OperationRequires (atomic pointer fun value result) x = ⊥
+OperationRequires (image_atomic image coordinate array_index fun value) x = ⊥
+OperationRequires (uniform_load pointer result) x = (x.requirement ≡ WORK_GROUP_BARRIER.0) × (x.expression ≡ result)
+OperationRequires (ray_query query fun) x = ⊥
+OperationRequires (ballot result predicate) x = ⊥
+OperationRequires (collective op collective_op argument result) x = ⊥
+OperationRequires (gather mode argument result) x = ⊥
+OperationRequires (cooperative_store target place) x = ⊥
+OperationRequires (ray_pipeline fun) x = ⊥
 
 -- what an expression of a range asks, where each expression asks for what `required` says
-pub record EmitAsks (severity : Severity) (required : ℕ → ℕ) (first end : ℕ) (x : Asked) : Type 0 where
+pub record EmitRequires (severity : Severity) (required : ℕ → ℕ) (first end : ℕ) (x : Required) : Type 0 where
   pub from_first : first ≤ x.expression
   pub below_end : x.expression < end
   pub requirement : x.requirement ≡ required x.expression
   pub counts : Counts severity x.requirement
 
 -- what a statement asks itself, and not by what stands inside it
-abbrev pub Asks : Severity → (ℕ → ℕ) → PlainStatement → Asked → Type 0
-Asks severity required (emit first end) x = EmitAsks severity required first end x
-Asks severity required (block b) x = ⊥
-Asks severity required (if_ h accept reject) x = ⊥
-Asks severity required (switch h cases) x = ⊥
-Asks severity required (loop body continuing break_if) x = ⊥
-Asks severity required break x = ⊥
-Asks severity required continue x = ⊥
-Asks severity required (return value) x = ⊥
-Asks severity required kill x = ⊥
-Asks severity required (operation a) x = OperationAsks a x
-Asks severity required (call function arguments result) x = ⊥
+abbrev pub Requires : Severity → (ℕ → ℕ) → PlainStatement → Required → Type 0
+Requires severity required (emit first end) x = EmitRequires severity required first end x
+Requires severity required (block b) x = ⊥
+Requires severity required (if_ h accept reject) x = ⊥
+Requires severity required (switch h cases) x = ⊥
+Requires severity required (loop body continuing break_if) x = ⊥
+Requires severity required break x = ⊥
+Requires severity required continue x = ⊥
+Requires severity required (return value) x = ⊥
+Requires severity required kill x = ⊥
+Requires severity required (operation a) x = OperationRequires a x
+Requires severity required (call function arguments result) x = ⊥
 
 -- A statement at a disrupted place of the body asks for it.
-pub record DisruptedAsk (severity : Severity) (required : ℕ → ℕ) (varies : ℕ → Type 0) (body : PlainBlock) (x : Asked) : Type 0 where
+pub record DisruptedRequirement (severity : Severity) (required : ℕ → ℕ) (varies : ℕ → Type 0) (body : PlainBlock) (x : Required) : Type 0 where
   pub place : Place
   pub statement : PlainStatement
-  pub stands : StandsAt body place statement
-  pub asks : Asks severity required statement x
+  pub stands : OccursAt body place statement
+  pub asks : Requires severity required statement x
   pub disrupted : Disrupted varies false body place
 
 -- A fault of uniformity of a body, under the flags.
-pub record UniformityFault (flags : ValidationFlags) (severity : Severity) (required : ℕ → ℕ) (varies : ℕ → Type 0) (body : PlainBlock) (x : Asked) : Type 0 where
+pub record UniformityFault (flags : ValidationFlags) (severity : Severity) (required : ℕ → ℕ) (varies : ℕ → Type 0) (body : PlainBlock) (x : Required) : Type 0 where
   pub flag : Has flags.0 CONTROL_FLOW_UNIFORMITY.0
-  pub fault : DisruptedAsk severity required varies body x
+  pub fault : DisruptedRequirement severity required varies body x

@@ -6,9 +6,9 @@ ghost use Rattle.ir_items.specs.GlobalView.{special_view};
 ghost use Rattle.typing_forms.specs.Resolutions.{PlainResolution, resolution_view};
 
 use ir_items::SpecialTypes;
-use typing_rules::Conclusion;
 use thiserror::Error;
 use typing_forms::TypeResolution;
+use typing_rules::Conclusion;
 
 /// The module has no type for what a function answers (naga's `MissingSpecialType`).
 #[derive(Clone, Copy, PartialEq, Eq, Debug, Error)]

@@ -1,6 +1,6 @@
 -- When the handles of a function are in order. That filters come after their parents is `ParentsPrecede` of `ir_proc`.
 use Rattle.std.specs.Prelude.{◌≡◌, ℕ, ◌<◌, List, length, Option, Some, All, slice_get}
-use Rattle.ir_blocks.specs.Places.{Place, StandsAt}
+use Rattle.ir_blocks.specs.Places.{Place, OccursAt}
 use Rattle.ir_blocks.specs.Plain.{call}
 use Rattle.ir_types.specs.ExpressionPlain.{PlainExpression}
 use Rattle.ir_items.specs.Plain.{PlainFunction, PlainModule}
@@ -23,5 +23,5 @@ CalleesPrecede before f = (site : Site) (callee : ℕ) → Names f site (item (F
 
 -- each function that is called is there and has as many arguments as it is passed
 abbrev pub AritiesMatch : PlainModule → PlainFunction → Type 0
-AritiesMatch m f = (p : Place) (callee : ℕ) (arguments : List ℕ) (result : Option ℕ) → StandsAt f.body p (call callee arguments result)
+AritiesMatch m f = (p : Place) (callee : ℕ) (arguments : List ℕ) (result : Option ℕ) → OccursAt f.body p (call callee arguments result)
     → (g : PlainFunction) × (slice_get m.functions callee ≡ Some g) × (length arguments ≡ length g.arguments)

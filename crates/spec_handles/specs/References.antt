@@ -1,6 +1,6 @@
 -- The references of a function: which part of it names what, and when what is named is there.
 use Rattle.std.specs.Prelude.{◌≡◌, ℕ, ◌<◌, ◌≤◌, length, Some, Contains, slice_get}
-use Rattle.ir_blocks.specs.Places.{Place, StandsAt}
+use Rattle.ir_blocks.specs.Places.{Place, OccursAt}
 use Rattle.ir_blocks.specs.Plain.{PlainStatement}
 use Rattle.ir_types.specs.ExpressionPlain.{PlainExpression}
 use Rattle.ir_items.specs.Plain.{PlainArgument, PlainLocal, PlainFunction, PlainModule}
@@ -34,10 +34,10 @@ pub data Names (f : PlainFunction) : Site → Named → Type 0 where
   filter_leaf : {n : ℕ} → f.leaf ≡ Some n → Names f filters (item (target.DiagnosticFilter n))
   expression_names : {e : ℕ} {x : PlainExpression} {t : Target} → slice_get f.expressions e ≡ Some x → expression_item x ≡ Some t → Names f (computed e) (item t)
   expression_reads : {e o : ℕ} {x : PlainExpression} → slice_get f.expressions e ≡ Some x → Contains (expression_operands x) o → Names f (computed e) (operand o)
-  statement_reads : {p : Place} {o : ℕ} {s : PlainStatement} → StandsAt f.body p s → Contains (statement_operands s) o → Names f (done p) (operand o)
-  statement_answers : {p : Place} {e : ℕ} {s : PlainStatement} → StandsAt f.body p s → statement_result s ≡ Some e → Names f (done p) (operand e)
-  statement_emits : {p : Place} {r : Emitted} {s : PlainStatement} → StandsAt f.body p s → statement_range s ≡ Some r → Names f (done p) (range r)
-  statement_calls : {p : Place} {c : ℕ} {s : PlainStatement} → StandsAt f.body p s → statement_callee s ≡ Some c → Names f (done p) (item (target.Function c))
+  statement_reads : {p : Place} {o : ℕ} {s : PlainStatement} → OccursAt f.body p s → Contains (statement_operands s) o → Names f (done p) (operand o)
+  statement_answers : {p : Place} {e : ℕ} {s : PlainStatement} → OccursAt f.body p s → statement_result s ≡ Some e → Names f (done p) (operand e)
+  statement_emits : {p : Place} {r : Emitted} {s : PlainStatement} → OccursAt f.body p s → statement_range s ≡ Some r → Names f (done p) (range r)
+  statement_calls : {p : Place} {c : ℕ} {s : PlainStatement} → OccursAt f.body p s → statement_callee s ≡ Some c → Names f (done p) (item (target.Function c))
 
 -- the item exists
 abbrev pub ItemExists : PlainModule → PlainFunction → Target → Type 0

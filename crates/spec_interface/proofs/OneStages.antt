@@ -3,7 +3,7 @@ use Rattle.std.proofs.Common.{◌≡◌, inl, inr, ℕ, zero, suc, ◌<◌, ◌�
 use Rattle.std.specs.Prelude.{◌↔◌, unwrap_or}
 use Rattle.std.proofs.lemmas.Bool.{cases_eq, cases_lt}
 use Rattle.std.proofs.lemmas.Option.{slice_get_past}
-use Rattle.ir_blocks.specs.Places.{Place, StandsAt}
+use Rattle.ir_blocks.specs.Places.{Place, OccursAt}
 use Rattle.ir_blocks.specs.Plain.{PlainStatement, emit, block, if_, switch, loop, break, continue, return, kill, operation, call}
 use Rattle.ir_types.specs.ExpressionPlain.{PlainExpression, compose, plain}
 use Rattle.ir_types.specs.declared.expressions.Expression.{Expression}
@@ -33,7 +33,7 @@ abbrev pub Agree : (index : ℕ) → (a b : List ShaderStages) → Type 0
 Agree index a b = (earlier : ℕ) → earlier < index → SameStages (callee_stages a earlier) (callee_stages b earlier)
 
 module _ (index : ℕ) (f : PlainFunction) (a b : List ShaderStages) (precede : CalleesPrecede index f) (agree : Agree index a b) where
-  statement_same : (subgroups : ShaderStages) (p : Place) (u : PlainStatement) → StandsAt f.body p u → SameStages (statement_stages subgroups a u) (statement_stages subgroups b u)
+  statement_same : (subgroups : ShaderStages) (p : Place) (u : PlainStatement) → OccursAt f.body p u → SameStages (statement_stages subgroups a u) (statement_stages subgroups b u)
   statement_same subgroups p (emit first end) stands = same all_stages
   statement_same subgroups p (block body) stands = same all_stages
   statement_same subgroups p (if_ condition accept reject) stands = same all_stages

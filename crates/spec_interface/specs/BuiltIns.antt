@@ -25,17 +25,17 @@ use Rattle.typing_forms.specs.declared.form.Form.TheVariants as form
 -- ---- where it stands
 
 -- a row says that it goes this way at a stage
-abbrev pub StandsAt : Direction → ShaderStage → BuiltInRow → Type 0
-StandsAt Input stage r = Has r.inputs.0 (stage_set stage).0
-StandsAt Output stage r = Has r.outputs.0 (stage_set stage).0
-StandsAt VertexOutput stage r = Has r.outputs.0 (stage_set stage).0
-StandsAt PrimitiveOutput stage r = Has r.outputs.0 (stage_set stage).0 ⊎ IsTrue r.primitive
+abbrev pub OccursAt : Direction → ShaderStage → BuiltInRow → Type 0
+OccursAt Input stage r = Has r.inputs.0 (stage_set stage).0
+OccursAt Output stage r = Has r.outputs.0 (stage_set stage).0
+OccursAt VertexOutput stage r = Has r.outputs.0 (stage_set stage).0
+OccursAt PrimitiveOutput stage r = Has r.outputs.0 (stage_set stage).0 ⊎ IsTrue r.primitive
 
 -- what needs no capability at a stage, though its row names one
 abbrev pub IsFree : ShaderStage → Exception → Type 0
 IsFree stage exception.None = ⊥
 IsFree stage exception.FreeAtHits = Has HITS.0 (stage_set stage).0
-IsFree stage exception.NotBehindTasks = ⊥
+IsFree stage exception.NotAfterTasks = ⊥
 IsFree stage exception.RowsOnly = ⊥
 
 -- workgroups are rows: they have one invocation in all ways but the first
@@ -50,7 +50,7 @@ IsAhead c = c.stage ≡ Mesh → c.payload ≡ None
 abbrev pub ExceptionOK : VaryingContext → Exception → Type 0
 ExceptionOK c exception.None = Unit {0}
 ExceptionOK c exception.FreeAtHits = Unit {0}
-ExceptionOK c exception.NotBehindTasks = IsAhead c
+ExceptionOK c exception.NotAfterTasks = IsAhead c
 ExceptionOK c exception.RowsOnly = AreRows c.sizes
 
 -- ---- of which type it is
@@ -78,7 +78,7 @@ IsOfType types Distances type = AreDistances types (form_of_type types type)
 
 pub record RowOK (c : VaryingContext) (type : ℕ) (r : BuiltInRow) : Type 0 where
   pub capable : IsFree c.stage r.exception ⊎ IfSome r.capability (λ x. Has c.capabilities.0 x.0)
-  pub stands : StandsAt c.direction c.stage r
+  pub stands : OccursAt c.direction c.stage r
   pub besides : ExceptionOK c r.exception
   pub typed : IsOfType c.types r.ty type
 

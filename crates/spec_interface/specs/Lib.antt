@@ -6,7 +6,7 @@ pub mod Members
 pub mod Meshes
 pub mod Results
 pub mod Entries
-pub mod Held
+pub mod EarlierPayloads
 pub mod Modules
 pub mod Found
 pub mod Handles

@@ -73,20 +73,20 @@ goes_with Flat s = is_of_vertex s
 goes_with PerVertex s = false
 
 -- a value between vertices has to be found there
-abbrev pub IsBetween : Direction → ShaderStage → (per_primitive : Bool) → Type 0
-IsBetween Input stage per_primitive = (stage ≡ Fragment) × (per_primitive ≡ false)
-IsBetween Output stage per_primitive = (stage ≡ Vertex) ⊎ (stage ≡ Mesh)
-IsBetween VertexOutput stage per_primitive = (stage ≡ Vertex) ⊎ (stage ≡ Mesh)
-IsBetween PrimitiveOutput stage per_primitive = (stage ≡ Vertex) ⊎ (stage ≡ Mesh)
+abbrev pub NeedsInterpolation : Direction → ShaderStage → (per_primitive : Bool) → Type 0
+NeedsInterpolation Input stage per_primitive = (stage ≡ Fragment) × (per_primitive ≡ false)
+NeedsInterpolation Output stage per_primitive = (stage ≡ Vertex) ⊎ (stage ≡ Mesh)
+NeedsInterpolation VertexOutput stage per_primitive = (stage ≡ Vertex) ⊎ (stage ≡ Mesh)
+NeedsInterpolation PrimitiveOutput stage per_primitive = (stage ≡ Vertex) ⊎ (stage ≡ Mesh)
 
 -- floats are found in some way, and integers lie in no way between
-abbrev pub IsFound : ScalarKind → Option Interpolation → Type 0
-IsFound kind.Sint i = i ≡ Some Flat
-IsFound kind.Uint i = i ≡ Some Flat
-IsFound kind.Float i = IsSome i
-IsFound kind.Bool i = Unit {0}
-IsFound kind.AbstractInt i = Unit {0}
-IsFound kind.AbstractFloat i = Unit {0}
+abbrev pub InterpolationOK : ScalarKind → Option Interpolation → Type 0
+InterpolationOK kind.Sint i = i ≡ Some Flat
+InterpolationOK kind.Uint i = i ≡ Some Flat
+InterpolationOK kind.Float i = IsSome i
+InterpolationOK kind.Bool i = Unit {0}
+InterpolationOK kind.AbstractInt i = Unit {0}
+InterpolationOK kind.AbstractFloat i = Unit {0}
 
 -- what the scalars of a scalar or of a vector are
 abbrev pub kind_of : Form → Option ScalarKind
@@ -96,7 +96,7 @@ kind_of _ = None
 
 -- a scalar or a vector, which is found between vertices where that is asked
 abbrev pub IsValue : (between : Type 0) → Option Interpolation → Form → Type 0
-IsValue between i t = IsSomeAnd (kind_of t) (λ kind. between → IsFound kind i)
+IsValue between i t = IsSomeAnd (kind_of t) (λ kind. between → InterpolationOK kind i)
 
 -- ---- the whole
 
@@ -108,7 +108,7 @@ pub record LocationOK (c : VaryingContext) (type : ℕ) (l : Location) : Type 0 
   pub element : ℕ
   pub counts : counted c.types l.interpolation type ≡ Some element
   pub shared : HasFlag IoShareable (type_tree c.types element)
-  pub value : l.interpolation ≢ Some PerVertex → IsValue (IsBetween c.direction c.stage l.per_primitive) l.interpolation (form_of_type c.types type)
+  pub value : l.interpolation ≢ Some PerVertex → IsValue (NeedsInterpolation c.direction c.stage l.per_primitive) l.interpolation (form_of_type c.types type)
   pub alone : l.blend_src ≡ None
   pub sampled : (i : Interpolation) (s : Sampling) → l.interpolation ≡ Some i → l.sampling ≡ Some s → goes_with i s ≡ true
   pub multisampled : l.sampling ≡ Some Sample → Has c.capabilities.0 MULTISAMPLED_SHADING.0

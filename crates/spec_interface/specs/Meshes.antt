@@ -78,7 +78,7 @@ pub record FieldsOK (types : List PlainType) (t : MeshParts) (i : MeshStageInfo)
 
 -- The variable implies what a mesh shader gives that holds it there, no override said, and these overrides. A primitive names its
 -- vertices once.
-pub record Implies (m : PlainModule) (variable : ℕ) (i : MeshStageInfo) (vertices_by primitives_by : Option ℕ) : Type 0 where
+pub record ImpliesMeshInfo (m : PlainModule) (variable : ℕ) (i : MeshStageInfo) (vertices_by primitives_by : Option ℕ) : Type 0 where
   pub types : MeshParts
   pub parts : HasParts m variable types
   pub fields : FieldsOK m.types types i vertices_by primitives_by
@@ -102,16 +102,16 @@ abbrev pub override_at : PlainModule → (expression : ℕ) → Option ℕ
 override_at m expression = option_and_then override_of (slice_get m.global_expressions expression)
 
 -- a global expression that says how many, where it is an override, is the one that is implied
-abbrev pub SaidBy : PlainModule → (given by : Option ℕ) → Type 0
-SaidBy m given by = (e override : ℕ) → given ≡ Some e → override_at m e ≡ Some override → by ≡ Some override
+abbrev pub GivenByOverride : PlainModule → (given by : Option ℕ) → Type 0
+GivenByOverride m given by = (e override : ℕ) → given ≡ Some e → override_at m e ≡ Some override → by ≡ Some override
 
 -- what is said of a mesh shader is what its output implies
 pub record IsSaid (m : PlainModule) (i : MeshStageInfo) : Type 0 where
   pub vertices_by : Option ℕ
   pub primitives_by : Option ℕ
-  pub implied : Implies m i.output_variable (without_overrides i) vertices_by primitives_by
-  pub vertices : SaidBy m i.max_vertices_override vertices_by
-  pub primitives : SaidBy m i.max_primitives_override primitives_by
+  pub implied : ImpliesMeshInfo m i.output_variable (without_overrides i) vertices_by primitives_by
+  pub vertices : GivenByOverride m i.max_vertices_override vertices_by
+  pub primitives : GivenByOverride m i.max_primitives_override primitives_by
 
 -- a mesh shader may give vertices of this type, a struct, and they have a position
 pub record VertexOK (flags : ValidationFlags) (capabilities : Capabilities) (m : PlainModule) (e : PlainEntry) (type : ℕ) : Type 0 where

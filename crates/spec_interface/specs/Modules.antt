@@ -5,7 +5,7 @@ use Rattle.ir_flags.specs.declared.stages.ShaderStages.{ShaderStages}
 use Rattle.ir_items.specs.Plain.{PlainEntry, PlainFunction, PlainModule}
 use Rattle.spec_analysis.specs.Chains.{HasUse}
 use Rattle.spec_interface.specs.Entries.{EntryOK}
-use Rattle.spec_interface.specs.Held.{IsHeldBeforeEntry}
+use Rattle.spec_interface.specs.EarlierPayloads.{IsPayloadBeforeEntry}
 use Rattle.spec_statements.specs.ModuleFunctions.{reading_over}
 use Rattle.spec_statements.specs.ExpressionStages.{all_stages, IsRunBy}
 use Rattle.spec_statements.specs.Functions.{Reading, FunctionSettings, AllowsStage}
@@ -45,7 +45,7 @@ pub record EntryAtOK (s : FunctionSettings) (m : PlainModule) (index : ℕ) : Ty
   pub entry : PlainEntry
   pub at : slice_get m.entries index ≡ Some entry
   pub held : Option ℕ
-  pub before : IsHeldBeforeEntry s.flags m index held
+  pub before : IsPayloadBeforeEntry s.flags m index held
   pub stages : List ShaderStages
   pub run : AreStages s m stages
   pub apart : ¬ IsConflict m index entry

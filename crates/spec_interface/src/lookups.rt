@@ -9,11 +9,11 @@ ghost use Rattle.spec_interface.specs.Members.{members_at, members_in};
 ghost use Rattle.spec_interface.specs.Payloads.{binding_at, space_at};
 ghost use Rattle.typing_forms.specs.Resolutions.{inner_at};
 
-use spec_analysis::GlobalUse;
 use ir_arena::handle::Handle;
 use ir_items::Module;
 use ir_kinds::{AddressSpace, ResourceBinding};
 use ir_types::{StructMember, TypeInner, key};
+use spec_analysis::GlobalUse;
 
 /// What the type at a handle is made of, if there is one.
 pub fn inner_at(module: &Module, ty: Handle<key::IrType>) -> Option<&TypeInner>

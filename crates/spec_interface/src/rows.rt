@@ -20,7 +20,7 @@ pub enum Exception {
     /// Where a ray hits it needs no capability.
     FreeAtHits,
     /// A mesh shader that a task hands a payload is not given it.
-    NotBehindTasks,
+    NotAfterTasks,
     /// The workgroup is a row.
     RowsOnly,
 }

@@ -185,7 +185,7 @@ pub const fn built_in_row(built_in: BuiltIn) -> BuiltInRow
                 C::DRAW_INDEX,
                 BuiltInRow::DRAWS,
                 UINT,
-                Exception::NotBehindTasks,
+                Exception::NotAfterTasks,
             )
         }
         BuiltIn::FragDepth => gives(FRAGMENT, FLOAT),

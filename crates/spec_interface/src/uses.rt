@@ -8,13 +8,13 @@ ghost use Rattle.spec_interface.specs.Spaces.{array_base, counted};
 ghost use Rattle.typing_forms.specs.Resolutions.{inner_at};
 
 use crate::lookups::inner_at;
-use spec_analysis::GlobalUse;
 use bitflags::Flags;
 use ir_arena::handle::Handle;
 use ir_flags::StorageAccess;
 use ir_items::Module;
 use ir_kinds::{AddressSpace, ImageClass, ShaderStage};
 use ir_types::{TypeInner, key};
+use spec_analysis::GlobalUse;
 
 const READ: GlobalUse = GlobalUse(GlobalUse::READ.0 | GlobalUse::QUERY.0);
 

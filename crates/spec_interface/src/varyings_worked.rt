@@ -8,8 +8,8 @@ ghost use Rattle.ir_kinds.specs.declared.bindings.Interpolation.TheVariants.{Fla
 ghost use Rattle.ir_kinds.specs.declared.bindings.Sampling.TheVariants.{Center, First, Sample};
 ghost use Rattle.ir_kinds.specs.declared.scalars.ScalarKind.TheVariants.{Float, Uint};
 ghost use Rattle.ir_kinds.specs.declared.stages.ShaderStage.TheVariants.{ClosestHit, Fragment, Mesh, Miss, Task, Vertex};
-ghost use Rattle.spec_interface.specs.BuiltIns.{IsFree, StandsAt};
-ghost use Rattle.spec_interface.specs.Locations.{IsBetween, IsFound, PrimitiveOK, goes_with};
+ghost use Rattle.spec_interface.specs.BuiltIns.{IsFree, OccursAt};
+ghost use Rattle.spec_interface.specs.Locations.{NeedsInterpolation, InterpolationOK, PrimitiveOK, goes_with};
 ghost use Rattle.spec_interface.specs.Rows.{built_in_row};
 ghost use Rattle.spec_interface.specs.Varyings.{canonical, location_of, varying, varyings_of};
 ghost use Rattle.spec_interface.specs.Worked.{bound_at, linear_at, small_types};
@@ -18,20 +18,20 @@ ghost use Rattle.spec_interface.specs.declared.varyings.Direction.TheVariants.{I
 
 /// Where built-in values stand.
 pub fn built_ins()
-    ensures vertex_is_given_its_index { StandsAt Input Vertex (built_in_row VertexIndex) }
-    ensures and_does_not_give_it { ¬ StandsAt Output Vertex (built_in_row VertexIndex) }
-    ensures vertex_gives_its_position { StandsAt Output Vertex (built_in_row (Position true)) }
-    ensures mesh_gives_it_with_a_vertex { StandsAt VertexOutput Mesh (built_in_row (Position false)) }
-    ensures fragment_is_given_it { StandsAt Input Fragment (built_in_row (Position false)) }
-    ensures fragment_gives_its_depth { StandsAt Output Fragment (built_in_row FragDepth) }
-    ensures samples_go_in { StandsAt Input Fragment (built_in_row SampleMask) }
-    ensures samples_go_out { StandsAt Output Fragment (built_in_row SampleMask) }
-    ensures primitive_is_culled { StandsAt PrimitiveOutput Mesh (built_in_row CullPrimitive) }
-    ensures vertex_is_not { ¬ StandsAt VertexOutput Mesh (built_in_row CullPrimitive) }
-    ensures task_gives_its_size { StandsAt Output Task (built_in_row MeshTaskSize) }
-    ensures vertex_has_no_subgroup { ¬ StandsAt Input Vertex (built_in_row SubgroupSize) }
-    ensures miss_has_one { StandsAt Input Miss (built_in_row SubgroupSize) }
-    ensures count_of_vertices_goes_nowhere { ¬ StandsAt VertexOutput Mesh (built_in_row VertexCount) }
+    ensures vertex_is_given_its_index { OccursAt Input Vertex (built_in_row VertexIndex) }
+    ensures and_does_not_give_it { ¬ OccursAt Output Vertex (built_in_row VertexIndex) }
+    ensures vertex_gives_its_position { OccursAt Output Vertex (built_in_row (Position true)) }
+    ensures mesh_gives_it_with_a_vertex { OccursAt VertexOutput Mesh (built_in_row (Position false)) }
+    ensures fragment_is_given_it { OccursAt Input Fragment (built_in_row (Position false)) }
+    ensures fragment_gives_its_depth { OccursAt Output Fragment (built_in_row FragDepth) }
+    ensures samples_go_in { OccursAt Input Fragment (built_in_row SampleMask) }
+    ensures samples_go_out { OccursAt Output Fragment (built_in_row SampleMask) }
+    ensures primitive_is_culled { OccursAt PrimitiveOutput Mesh (built_in_row CullPrimitive) }
+    ensures vertex_is_not { ¬ OccursAt VertexOutput Mesh (built_in_row CullPrimitive) }
+    ensures task_gives_its_size { OccursAt Output Task (built_in_row MeshTaskSize) }
+    ensures vertex_has_no_subgroup { ¬ OccursAt Input Vertex (built_in_row SubgroupSize) }
+    ensures miss_has_one { OccursAt Input Miss (built_in_row SubgroupSize) }
+    ensures count_of_vertices_goes_nowhere { ¬ OccursAt VertexOutput Mesh (built_in_row VertexCount) }
     ensures hit_has_its_primitive_for_free { IsFree ClosestHit (built_in_row PrimitiveIndex).exception }
     ensures fragment_has_not { ¬ IsFree Fragment (built_in_row PrimitiveIndex).exception }
 {}
@@ -43,12 +43,12 @@ pub fn between_vertices()
     ensures flat_in_a_fragment { goes_with Flat Center ≡ false }
     ensures perspective_at_a_vertex { goes_with Perspective First ≡ false }
     ensures each_vertex_nowhere { goes_with PerVertex Center ≡ false }
-    ensures float_is_found { IsFound Float (Some Linear) }
-    ensures float_is_not { ¬ IsFound Float None }
-    ensures integer_is_flat { ¬ IsFound Uint (Some Perspective) }
-    ensures fragment_is_given_it { IsBetween Input Fragment false }
-    ensures not_with_a_primitive { ¬ IsBetween Input Fragment true }
-    ensures fragment_gives_none { ¬ IsBetween Output Fragment false }
+    ensures float_is_found { InterpolationOK Float (Some Linear) }
+    ensures float_is_not { ¬ InterpolationOK Float None }
+    ensures integer_is_flat { ¬ InterpolationOK Uint (Some Perspective) }
+    ensures fragment_is_given_it { NeedsInterpolation Input Fragment false }
+    ensures not_with_a_primitive { ¬ NeedsInterpolation Input Fragment true }
+    ensures fragment_gives_none { ¬ NeedsInterpolation Output Fragment false }
     ensures mesh_belongs_to_a_primitive { PrimitiveOK PrimitiveOutput Mesh true }
     ensures vertex_does_not { ¬ PrimitiveOK Output Vertex true }
     ensures fragment_may { PrimitiveOK Input Fragment true }

@@ -7,8 +7,8 @@ use Rattle.ir_kinds.specs.declared.values.SwitchValue.{SwitchValue}
 use Rattle.ir_kinds.specs.declared.values.SwitchValue.TheVariants.{I32, U32, Default}
 use Rattle.ir_blocks.specs.Plain.{PlainStatement, emit, block, if_, switch, loop, break, continue, return, kill, operation, call, PlainBlock, stop, next, PlainCases, no_case, case}
 use Rattle.ir_blocks.specs.Shapes.{shape_of, Part, inner, accepting, rejecting, case_at, case_body, loop_body, loop_continuing}
-use Rattle.ir_blocks.specs.Places.{Place, here, later, inside, StandsAt, statement, loop_condition}
-use Rattle.ir_blocks.specs.Tails.{Ends, goes_on, empty, behind_last, further, in_tail}
+use Rattle.ir_blocks.specs.Places.{Place, here, later, inside, OccursAt, statement, loop_condition}
+use Rattle.ir_blocks.specs.Tails.{Ends, goes_on, empty, after_last, further, in_tail}
 use Rattle.ir_types.specs.ExpressionPlain.{PlainExpression, plain}
 use Rattle.ir_types.specs.declared.expressions.Expression.TheVariants.{GlobalVariable, ImageSample}
 use Rattle.ir_items.specs.Plain.{PlainFunction, PlainModule}
@@ -20,7 +20,7 @@ use Rattle.spec_runs.specs.Ended.{HasNoOpenEnd}
 use Rattle.spec_runs.specs.Events.{Event, entered, executed, introduced_expression, used, passed, returned, fell_off, escaped}
 use Rattle.spec_runs.specs.FinalSwitches.{BreaksFrom, break_here, break_later, break_inside, in_block as open_block, in_accept, in_reject, LeavesFinalSwitch, of_last, of_tail, of_rest}
 use Rattle.spec_runs.specs.Good.{FallsOK}
-use Rattle.spec_runs.specs.Machine.{Frame, Configuration, Completion, normal, by_break, by_continue, by_return, halted, Outcome, completes, happen, step, answered, pair_of, stands_for, mentioned_at, mentions, uses, operands_of, begins, introduces_one, introduces, leave_scope, sequence, Loop, Task, in_block, in_loop, Evaluation, side, is_value, is_default, Cases, either_cases, from_first, unless_none, chosen, fall, eval_cases, at_switch, leave_switch, next_turn, stay_or_leave, eval_condition, after_continuing, eval_continuing, after_body, eval_turn, callee_frame, enters, leave_call, eval_call, eval_statement, eval_task, eval, finish, entry_frame, initial, trace_of}
+use Rattle.spec_runs.specs.Machine.{Frame, Configuration, Completion, normal, by_break, by_continue, by_return, halted, Outcome, completes, happen, step, answered, pair_of, denotes, mentioned_at, mentions, uses, operands_of, begins, introduces_one, introduces, leave_scope, sequence, Loop, Task, in_block, in_loop, Evaluation, side, is_value, is_default, Cases, either_cases, from_first, unless_none, chosen, fall, eval_cases, at_switch, leave_switch, next_turn, stay_or_leave, eval_condition, after_continuing, eval_continuing, after_body, eval_turn, callee_frame, enters, leave_call, eval_call, eval_statement, eval_task, eval, finish, entry_frame, initial, trace_of}
 use Rattle.spec_runs.specs.Reached.{reached_from}
 use Rattle.spec_runs.specs.Scoping.{UsedOperands}
 use Rattle.spec_runs.proofs.Invariance.{all-append, all-flat_map}
@@ -41,7 +41,7 @@ any_pair None sampler = tt
 
 any_mentioned : (frame : Frame) (o : Option PlainExpression) → AllByRecursion FallsOK (mentioned_at frame o)
 any_mentioned frame (Some (plain (GlobalVariable g))) = (tt, tt)
-any_mentioned frame (Some (plain (ImageSample image sampler gathers coordinate array_index offset level depth_ref clamp_to_edge))) = any_pair (stands_for frame image) (stands_for frame sampler)
+any_mentioned frame (Some (plain (ImageSample image sampler gathers coordinate array_index offset level depth_ref clamp_to_edge))) = any_pair (denotes frame image) (denotes frame sampler)
 any_mentioned frame _ = tt
 
 any_mentions : (frame : Frame) (es : List ℕ) → AllByRecursion FallsOK (mentions frame es)
@@ -139,7 +139,7 @@ pub record CasesEnd (cases : PlainCases) : Type 0 where
   pub ends : falls_at_end false cases ≡ false
 
 abbrev pub SwitchesEnd : PlainBlock → Type 0
-SwitchesEnd b = (p : Place) (selector : ℕ) (cases : PlainCases) → StandsAt b p (switch selector cases) → CasesEnd cases
+SwitchesEnd b = (p : Place) (selector : ℕ) (cases : PlainCases) → OccursAt b p (switch selector cases) → CasesEnd cases
 
 abbrev EndsBlock : (Place → Place) → PlainBlock → (start : Configuration) → Completion → Configuration → Type 0
 EndsBlock at b start normal now = (b ≡ stop → now.last ≡ start.last) × (HasNoOpenEnd b → LastIs at (LeavesFinalSwitch b) now)
@@ -278,7 +278,7 @@ module _ (u : UsedOperands) (m : PlainModule) (closed : (function : ℕ) (f : Pl
       ends_so _ _ met.good met.ends
     where
       never : {A : Type 0} → HasNoOpenEnd (next s stop) → A
-      never h = absurd (h (later here) (behind_last goes))
+      never h = absurd (h (later here) (after_last goes))
 
       ends_so : (completion : Completion) (end : Configuration) → Good end → EndsBlock (λ p. p) callee.body (enters frame callee arguments now) completion end → Met (leave_call callee now completion end) (EndsOne at s)
       ends_so normal end h e = record { good = all-append FallsOK end.events (fell_off callee end.last ∷ []) h (λ has. last_some end (e.1 (is_closed callee refl).no_open), tt); ends = λ c. never c }
@@ -288,7 +288,7 @@ module _ (u : UsedOperands) (m : PlainModule) (closed : (function : ℕ) (f : Pl
       ends_so halted end h e = record { good = h; ends = tt }
 
   never_open : {A : Type 0} (s : PlainStatement) → IsTrue (goes_on (shape_of s)) → HasNoOpenEnd (next s stop) → A
-  never_open s goes h = absurd (h (later here) (behind_last goes))
+  never_open s goes h = absurd (h (later here) (after_last goes))
 
   switch_met : (at : Place → Place) (selector : ℕ) (cases : PlainCases) (now : Configuration) (x : Cases) → IsFound (λ k p. at (inside (case_at k) p)) cases x → (r : Outcome) → Met r (EndsCases x.at x.cases) → Met (leave_switch now r) (EndsOne at (switch selector cases))
   switch_met at selector cases now x found r met = record { good = met.good; ends = ends_so r.completion r.after met.ends }

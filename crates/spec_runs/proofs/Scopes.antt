@@ -1,6 +1,6 @@
 -- Where scope is in order, what is used may be used.
 use Rattle.std.proofs.Common.{◌≡◌, ℕ, List, [], ◌∷◌, ◌++◌, ◌⊎◌, inl, inr, ⊎_elim, Option, Some, None, Contains, slice_get, refl, subst}
-use Rattle.ir_blocks.specs.Places.{Place, here, later, inside, condition, StandsAt}
+use Rattle.ir_blocks.specs.Places.{Place, here, later, inside, condition, OccursAt}
 use Rattle.ir_blocks.specs.Plain.{PlainStatement, PlainBlock, stop, next}
 use Rattle.ir_blocks.specs.Shapes.{inner, accepting, rejecting, case_at, loop_body, loop_continuing, shape_of, part_of}
 use Rattle.ir_types.specs.ExpressionPlain.{PlainExpression}
@@ -43,7 +43,7 @@ module _ (u : UsedOperands) (g : Scoping) (f : PlainFunction) (scoped : IsScoped
   pub known : (live skipped scope : List ℕ) (o : ℕ) → AreThere g f live skipped scope → PreEmitted f o ⊎ Contains scope o → IsThere g f live skipped o
   known live skipped scope o there h = ⊎_elim (λ a. inl a) (λ held. there.each o held) h
 
-  pub introduced_known : (p : Place) (s : PlainStatement) → StandsAt f.body p s → (before : List ℕ) (e : ℕ) (after : List ℕ) → introduced s ≡ before ++ (e ∷ after) → (live skipped : List ℕ) → AreThere g f live skipped (visible_by g.level [] p f.body ++ before)
+  pub introduced_known : (p : Place) (s : PlainStatement) → OccursAt f.body p s → (before : List ℕ) (e : ℕ) (after : List ℕ) → introduced s ≡ before ++ (e ∷ after) → (live skipped : List ℕ) → AreThere g f live skipped (visible_by g.level [] p f.body ++ before)
       → (o : ℕ) → Contains (operands_of u (slice_get f.expressions e)) o → IsThere g f live skipped o
   introduced_known p s stands before e after is live skipped there o held = by_get (slice_get f.expressions e) refl held
     where

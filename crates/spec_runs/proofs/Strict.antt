@@ -2,7 +2,7 @@
 use Rattle.std.proofs.Common.{◌≡◌, ℕ, zero, suc, ◌+◌, ◌-◌, ◌<◌, ◌≤◌, Bool, true, false, List, [], ◌∷◌, ◌++◌, ◌⊎◌, inl, inr, ⊎_elim, Option, Some, None, Contains, slice_get, option_to_list, refl, sym, ap, ◌∙◌, subst, arith}
 use Rattle.std.proofs.lemmas.List.Elements.{Contains-append_left, Contains-append_right, Contains-append_cases, Contains-push}
 use Rattle.std.specs.List.{range_with_len}
-use Rattle.ir_blocks.specs.Places.{Place, Spot, nothing, statement, loop_condition, spot_at, StandsAt}
+use Rattle.ir_blocks.specs.Places.{Place, Spot, nothing, statement, loop_condition, spot_at, OccursAt}
 use Rattle.ir_blocks.specs.Plain.{PlainOperation, control_barrier, memory_barrier, store, image_store, atomic, image_atomic, uniform_load, ray_query, ballot, collective, gather, cooperative_store, ray_pipeline, PlainStatement, emit, block, if_, switch, loop, break, continue, return, kill, operation, call, PlainBlock, stop, next}
 use Rattle.ir_blocks.specs.declared.operations.AtomicFunction.{AtomicFunction}
 use Rattle.ir_types.specs.ExpressionPlain.{PlainExpression}
@@ -196,7 +196,7 @@ module _ (f : PlainFunction) (ok : StrictOK f) (quiet : AnswersNameNothing f) wh
   in_scope p o scope = (strict_by_walk_lem f p o).0 scope
 
   -- an answer has none
-  of_answer : (p : Place) (s : PlainStatement) → StandsAt f.body p s → (before : List ℕ) (e : ℕ) (after : List ℕ) → option_to_list (statement_result s) ≡ before ++ (e ∷ after)
+  of_answer : (p : Place) (s : PlainStatement) → OccursAt f.body p s → (before : List ℕ) (e : ℕ) (after : List ℕ) → option_to_list (statement_result s) ≡ before ++ (e ∷ after)
       → (x : PlainExpression) → slice_get f.expressions e ≡ Some x → (o : ℕ) → Contains (expression_operands x) o → ⊥
   of_answer p s stands before e after is x at o held =
       let answer : statement_result s ≡ Some e = held_answer (statement_result s) e (subst (λ xs. Contains xs e) (sym is) (among before e after)) in
@@ -205,7 +205,7 @@ module _ (f : PlainFunction) (ok : StrictOK f) (quiet : AnswersNameNothing f) wh
   no_split : {A : Type 0} (before : List ℕ) (e : ℕ) (after : List ℕ) → [] ≡ before ++ (e ∷ after) → A
   no_split before e after is = none_held e (subst (λ xs. Contains xs e) (sym is) (among before e after))
 
-  introduced_scoped : (p : Place) (s : PlainStatement) → StandsAt f.body p s → (before : List ℕ) (e : ℕ) (after : List ℕ) → introduced s ≡ before ++ (e ∷ after)
+  introduced_scoped : (p : Place) (s : PlainStatement) → OccursAt f.body p s → (before : List ℕ) (e : ℕ) (after : List ℕ) → introduced s ≡ before ++ (e ∷ after)
       → (x : PlainExpression) → slice_get f.expressions e ≡ Some x → (o : ℕ) → Contains (expression_operands x) o → PreEmitted f o ⊎ Contains (visible_by sure_level [] p f.body ++ before) o
   introduced_scoped p (emit first end) stands before e after is x at o held =
       let there = in_range (end - first) first e (subst (λ xs. Contains xs e) (sym is) (among before e after)) in

@@ -2,7 +2,7 @@
 use Rattle.std.specs.Prelude.{◌≡◌, ◌⊎◌, ◌<◌, ◌≤◌, ℕ, List, length, Option, Some, None, IsSome, IsSomeAnd, Contains, slice_get}
 use Rattle.ir_flags.specs.Sets.{Has}
 use Rattle.ir_flags.specs.declared.stages.ShaderStages.{ShaderStages}
-use Rattle.ir_blocks.specs.Places.{StandsAt}
+use Rattle.ir_blocks.specs.Places.{OccursAt}
 use Rattle.ir_blocks.specs.Plain.{PlainStatement}
 use Rattle.ir_items.specs.Plain.{PlainArgument, PlainFunction, PlainModule}
 use Rattle.spec_analysis.specs.declared.sampling.GlobalOrArgument.TheVariants.{Global}
@@ -74,7 +74,7 @@ SampledOK m f _ = Unit {0}
 -- What is executed or introduced is there, and the stage may run it. `subgroups` are the stages that have operations of subgroups, and
 -- `functions` has, for each function of the module, the stages that may run it; `stage` is a set of one.
 abbrev pub StagesOK : (subgroups : ShaderStages) → (functions : List ShaderStages) → (stage : ℕ) → Event → Type 0
-StagesOK subgroups functions stage (executed f p) = (s : PlainStatement) × StandsAt f.body p s × Has (statement_stages subgroups functions s).0 stage
+StagesOK subgroups functions stage (executed f p) = (s : PlainStatement) × OccursAt f.body p s × Has (statement_stages subgroups functions s).0 stage
 StagesOK subgroups functions stage (introduced_expression f e) = IsSomeAnd (slice_get f.expressions e) (λ x. Has (stages_of functions x).0 stage)
 StagesOK subgroups functions stage _ = Unit {0}
 

@@ -2,7 +2,7 @@
 use Rattle.std.specs.Prelude.{◌≡◌, ℕ, ℤ, List, ◌∷◌, ◌++◌, [], Option, Some, Contains, slice_get}
 use Rattle.std.specs.List.{AllByRecursion}
 use Rattle.ir_blocks.specs.Control.{ControlOK}
-use Rattle.ir_blocks.specs.Places.{Place, StandsAt, spot_at}
+use Rattle.ir_blocks.specs.Places.{Place, OccursAt, spot_at}
 use Rattle.ir_blocks.specs.Plain.{PlainStatement, call, return}
 use Rattle.ir_items.specs.Plain.{PlainFunction, PlainModule}
 use Rattle.spec_statements.specs.Scope.{Introduces}
@@ -17,18 +17,18 @@ use Rattle.spec_runs.specs.Scoping.{UsedOperands, Scoping, IsLawful, AreThere}
 -- is introduced also where what its statement has introduced before is there.
 pub record IsInvariant (u : UsedOperands) (g : Scoping) (m : PlainModule) (Fine : Frame → Type 0) (P : Event → Type 0) : Type 0 where
   pub control : (frame : Frame) → Fine frame → ControlOK frame.function.body
-  pub calls : (frame : Frame) → Fine frame → (p : Place) (function : ℕ) (arguments : List ℕ) (result : Option ℕ) (callee : PlainFunction) → StandsAt frame.function.body p (call function arguments result) → slice_get m.functions function ≡ Some callee
+  pub calls : (frame : Frame) → Fine frame → (p : Place) (function : ℕ) (arguments : List ℕ) (result : Option ℕ) (callee : PlainFunction) → OccursAt frame.function.body p (call function arguments result) → slice_get m.functions function ≡ Some callee
       → Fine (callee_frame frame callee arguments) × P (passed frame.function callee arguments)
   pub enters : (frame : Frame) → Fine frame → P (entered frame.depth)
-  pub executes : (frame : Frame) → Fine frame → (p : Place) (s : PlainStatement) → StandsAt frame.function.body p s → P (executed frame.function p)
+  pub executes : (frame : Frame) → Fine frame → (p : Place) (s : PlainStatement) → OccursAt frame.function.body p s → P (executed frame.function p)
   pub introduces : (frame : Frame) → Fine frame → (p : Place) (e : ℕ) → Introduces frame.function.body p e → P (introduced_expression frame.function e)
   pub mentions : (frame : Frame) → Fine frame → (e : ℕ) → AllByRecursion P (mentioned_at frame (slice_get frame.function.expressions e))
   pub uses : (frame : Frame) → Fine frame → (p : Place) (live skipped : List ℕ) → AreThere g frame.function live skipped (visible_by g.level [] p frame.function.body)
       → (o : ℕ) → Contains (u.at_spot (spot_at p frame.function.body)) o → P (used frame.function live skipped o)
-  pub uses_of_introduced : (frame : Frame) → Fine frame → (p : Place) (s : PlainStatement) → StandsAt frame.function.body p s → (before : List ℕ) (e : ℕ) (after : List ℕ) → introduced s ≡ before ++ (e ∷ after)
+  pub uses_of_introduced : (frame : Frame) → Fine frame → (p : Place) (s : PlainStatement) → OccursAt frame.function.body p s → (before : List ℕ) (e : ℕ) (after : List ℕ) → introduced s ≡ before ++ (e ∷ after)
       → (live skipped : List ℕ) → AreThere g frame.function live skipped (visible_by g.level [] p frame.function.body ++ before)
       → (o : ℕ) → Contains (operands_of u (slice_get frame.function.expressions e)) o → P (used frame.function live skipped o)
-  pub returns : (frame : Frame) → Fine frame → (p : Place) (value : Option ℕ) → StandsAt frame.function.body p (return value) → P (returned frame.function value)
+  pub returns : (frame : Frame) → Fine frame → (p : Place) (value : Option ℕ) → OccursAt frame.function.body p (return value) → P (returned frame.function value)
   pub falls : (frame : Frame) → Fine frame → (last : Option Place) → P (fell_off frame.function last)
 
 -- then P holds of all events of a run of a function whose frame is fine

@@ -5,7 +5,7 @@ use Rattle.ir_items.specs.Plain.{PlainFunction, PlainEntry, PlainModule}
 use Rattle.spec_runs.specs.Events.{Event}
 use Rattle.spec_runs.specs.Machine.{Frame, Configuration, Task, eval, trace}
 use Rattle.spec_runs.specs.Scoping.{UsedOperands, checked_operands, all_operands, with_skipped, without_skipped, IsLawful, IsScoped}
-use Rattle.ir_blocks.specs.Places.{Place, StandsAt}
+use Rattle.ir_blocks.specs.Places.{Place, OccursAt}
 use Rattle.ir_blocks.specs.Plain.{PlainStatement}
 use Rattle.ir_types.specs.ExpressionPlain.{PlainExpression}
 use Rattle.spec_handles.specs.Expressions.{expression_operands}
@@ -42,7 +42,7 @@ StrictIsLawful = IsLawful without_skipped
 -- what stands for the answer of a statement has no operands
 abbrev pub AnswersNameNothing : PlainFunction → Type 0
 AnswersNameNothing f =
-    (p : Place) (s : PlainStatement) → StandsAt f.body p s → (e : ℕ) → statement_result s ≡ Some e → (x : PlainExpression) → slice_get f.expressions e ≡ Some x → expression_operands x ≡ []
+    (p : Place) (s : PlainStatement) → OccursAt f.body p s → (e : ℕ) → statement_result s ≡ Some e → (x : PlainExpression) → slice_get f.expressions e ≡ Some x → expression_operands x ≡ []
 
 -- all operands are scoped so, and those that have to be in scope without the strict check, where the strict scope of the function is in order
 abbrev pub StrictSuffices : Type 0

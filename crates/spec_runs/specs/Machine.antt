@@ -87,8 +87,8 @@ global_meant arguments (Some (Argument n)) = argument_global (slice_get argument
 global_meant arguments None = None
 
 -- the one that an expression stands for in a frame
-abbrev pub stands_for : Frame → ℕ → Option ℕ
-stands_for frame e = global_meant frame.arguments (place frame.function.expressions e)
+abbrev pub denotes : Frame → ℕ → Option ℕ
+denotes frame e = global_meant frame.arguments (place frame.function.expressions e)
 
 abbrev pub pair_of : Option ℕ → Option ℕ → List Event
 pair_of (Some image) (Some sampler) = sampled image sampler ∷ []
@@ -98,7 +98,7 @@ pair_of None sampler = []
 -- a global variable is named, and a sampling samples what its image and its sampler stand for
 abbrev pub mentioned_at : Frame → Option PlainExpression → List Event
 mentioned_at frame (Some (plain (GlobalVariable g))) = named g ∷ []
-mentioned_at frame (Some (plain (ImageSample image sampler gathers coordinate array_index offset level depth_ref clamp_to_edge))) = pair_of (stands_for frame image) (stands_for frame sampler)
+mentioned_at frame (Some (plain (ImageSample image sampler gathers coordinate array_index offset level depth_ref clamp_to_edge))) = pair_of (denotes frame image) (denotes frame sampler)
 mentioned_at frame _ = []
 
 -- what these expressions mention, and their operands at any depth
@@ -270,7 +270,7 @@ module _ (u : UsedOperands) (frame : Frame) (go : Evaluation) (l : Loop) (start 
 
 -- the callee's frame, one deeper
 abbrev pub callee_frame : Frame → PlainFunction → List ℕ → Frame
-callee_frame frame callee arguments = record { depth = frame.depth + 1; function = callee; arguments = map (stands_for frame) arguments }
+callee_frame frame callee arguments = record { depth = frame.depth + 1; function = callee; arguments = map (denotes frame) arguments }
 
 -- nothing is live there yet
 abbrev pub enters : Frame → PlainFunction → List ℕ → Configuration → Configuration

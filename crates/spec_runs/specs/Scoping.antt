@@ -1,7 +1,7 @@
 -- What a run uses, and what counts as being there for a use.
 use Rattle.std.specs.Prelude.{◌≡◌, ◌⊎◌, ℕ, Bool, true, false, IsTrue, List, [], ◌∷◌, ◌++◌, Some, Contains, slice_get}
 use Rattle.ir_types.specs.ExpressionPlain.{PlainExpression}
-use Rattle.ir_blocks.specs.Places.{Place, Spot, spot_at, StandsAt}
+use Rattle.ir_blocks.specs.Places.{Place, Spot, spot_at, OccursAt}
 use Rattle.ir_blocks.specs.Plain.{PlainStatement, PlainBlock, next}
 use Rattle.ir_items.specs.Plain.{PlainFunction}
 use Rattle.spec_statements.specs.Scope.{PreEmitted}
@@ -56,7 +56,7 @@ pub record AreThere (g : Scoping) (f : PlainFunction) (live skipped expressions 
 -- statement has introduced before it counts too.
 pub record IsScoped (u : UsedOperands) (g : Scoping) (f : PlainFunction) : Type 0 where
   pub at_spots : (p : Place) (o : ℕ) → Contains (u.at_spot (spot_at p f.body)) o → PreEmitted f o ⊎ Contains (visible_by g.level [] p f.body) o
-  pub at_introductions : (p : Place) (s : PlainStatement) → StandsAt f.body p s → (before : List ℕ) (e : ℕ) (after : List ℕ) → introduced s ≡ before ++ (e ∷ after)
+  pub at_introductions : (p : Place) (s : PlainStatement) → OccursAt f.body p s → (before : List ℕ) (e : ℕ) (after : List ℕ) → introduced s ≡ before ++ (e ∷ after)
       → (x : PlainExpression) → slice_get f.expressions e ≡ Some x → (o : ℕ) → Contains (u.at_introduction x) o → PreEmitted f o ⊎ Contains (visible_by g.level [] p f.body ++ before) o
 
 -- ---- which levels are lawful

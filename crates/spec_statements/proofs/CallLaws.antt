@@ -1,6 +1,6 @@
 -- What a function runs is called by a statement that stands in its body.
 use Rattle.std.proofs.Common.{◌≡◌, ◌⊎◌, inl, inr, ℕ, zero, suc, ◌+◌, List, [], ◌∷◌, ◌++◌, map, Option, Some, None, refl, sym, ap, ◌∙◌}
-use Rattle.ir_blocks.specs.Places.{Place, here, later, inside, StandsAt}
+use Rattle.ir_blocks.specs.Places.{Place, here, later, inside, OccursAt}
 use Rattle.ir_blocks.specs.Plain.{PlainStatement, emit, block, if_, switch, loop, break, continue, return, kill, operation, call, PlainBlock, stop, next, PlainCases, no_case, case}
 use Rattle.ir_blocks.specs.Shapes.{Part, inner, accepting, rejecting, case_at, loop_body, loop_continuing, shape_of, part_of, case_body}
 use Rattle.ir_types.specs.ExpressionPlain.{PlainExpression, compose, plain}
@@ -14,10 +14,10 @@ use Rattle.spec_statements.specs.FunctionLaws.{CallsPrecede}
 use Rattle.spec_handles.specs.References.{done, statement_calls}
 
 -- a call of this function with these arguments stands in the block
-pub record CallStands (b : PlainBlock) (callee : ℕ) (arguments : List ℕ) : Type 0 where
+pub record CallOccurs (b : PlainBlock) (callee : ℕ) (arguments : List ℕ) : Type 0 where
   pub place : Place
   pub answer : Option ℕ
-  pub stands : StandsAt b place (call callee arguments answer)
+  pub stands : OccursAt b place (call callee arguments answer)
 
 no_run_taken : (callee : ℕ) (arguments : List ℕ) (operands : List Operand) → IsAmong (runs callee arguments) (map takes operands) → ⊥
 no_run_taken callee arguments [] h = elim h [ ]
@@ -39,7 +39,7 @@ module _ (callee : ℕ) (arguments : List ℕ) where
     | inr rest ↦ no_run_computed (e + 1) xs rest
   ]
 
-  here_call : (s : PlainStatement) (rest : PlainBlock) → IsAmong (runs callee arguments) (leaving_effects s) → CallStands (next s rest) callee arguments
+  here_call : (s : PlainStatement) (rest : PlainBlock) → IsAmong (runs callee arguments) (leaving_effects s) → CallOccurs (next s rest) callee arguments
   here_call (call function passed result) rest (inl is) = record {
     place = here;
     answer = result;
@@ -58,24 +58,24 @@ module _ (callee : ℕ) (arguments : List ℕ) where
   here_call (return value) rest h = elim h [ ]
   here_call (operation a) rest h = elim h [ ]
 
-  own_call : (s : PlainStatement) (rest : PlainBlock) → IsAmong (runs callee arguments) (statement_effects s) → CallStands (next s rest) callee arguments
+  own_call : (s : PlainStatement) (rest : PlainBlock) → IsAmong (runs callee arguments) (statement_effects s) → CallOccurs (next s rest) callee arguments
   own_call s rest h = elim (among-cases (map takes (statement_operands s)) (leaving_effects s) _ h) [
     | inl taken ↦ absurd (no_run_taken callee arguments (statement_operands s) taken)
     | inr leaving ↦ here_call s rest leaving
   ]
 
-  later_call : (s : PlainStatement) (rest : PlainBlock) → CallStands rest callee arguments → CallStands (next s rest) callee arguments
+  later_call : (s : PlainStatement) (rest : PlainBlock) → CallOccurs rest callee arguments → CallOccurs (next s rest) callee arguments
   later_call s rest c = record { place = later c.place; answer = c.answer; stands = c.stands }
 
   -- it stands in a part of the statement
   abbrev StandsInside : PlainStatement → Type 0
-  StandsInside s = (part : Part) × CallStands (part_of (shape_of s) part) callee arguments
+  StandsInside s = (part : Part) × CallOccurs (part_of (shape_of s) part) callee arguments
 
-  inner_call : (s : PlainStatement) (rest : PlainBlock) → StandsInside s → CallStands (next s rest) callee arguments
+  inner_call : (s : PlainStatement) (rest : PlainBlock) → StandsInside s → CallOccurs (next s rest) callee arguments
   inner_call s rest c = record { place = inside c.0 c.1.place; answer = c.1.answer; stands = c.1.stands }
 
   mutual
-    in_block : (b : PlainBlock) → IsAmong (runs callee arguments) (effects_in b) → CallStands b callee arguments
+    in_block : (b : PlainBlock) → IsAmong (runs callee arguments) (effects_in b) → CallOccurs b callee arguments
     in_block stop h = elim h [ ]
     in_block (next s rest) h = elim (among-cases (statement_effects s ++ effects_inside s) (effects_in rest) _ h) [
       | inl first ↦ elim (among-cases (statement_effects s) (effects_inside s) _ first) [
@@ -104,14 +104,14 @@ module _ (callee : ℕ) (arguments : List ℕ) where
     in_part (operation a) h = elim h [ ]
     in_part (call function passed result) h = elim h [ ]
 
-    in_cases : (cases : PlainCases) → IsAmong (runs callee arguments) (effects_in_cases cases) → (k : ℕ) × CallStands (case_body cases k) callee arguments
+    in_cases : (cases : PlainCases) → IsAmong (runs callee arguments) (effects_in_cases cases) → (k : ℕ) × CallOccurs (case_body cases k) callee arguments
     in_cases no_case h = elim h [ ]
     in_cases (case value body falls rest) h = elim (among-cases (effects_in body) (effects_in_cases rest) _ h) [
       | inl own ↦ (zero, in_block body own)
       | inr other ↦ (let r = in_cases rest other in (suc r.0, r.1))
     ]
 
-  pub run_stands : (f : PlainFunction) → IsAmong (runs callee arguments) (effects_of f) → CallStands f.body callee arguments
+  pub run_stands : (f : PlainFunction) → IsAmong (runs callee arguments) (effects_of f) → CallOccurs f.body callee arguments
   run_stands f h = elim (among-cases (expressions_effects 0 f.expressions) (effects_in f.body) _ h) [
     | inl computed ↦ absurd (no_run_computed 0 f.expressions computed)
     | inr stands ↦ in_block f.body stands

@@ -13,7 +13,7 @@ use Rattle.ir_types.specs.declared.types.TypeInner.{TypeInner}
 use Rattle.ir_types.specs.declared.types.TypeInner.TheVariants as inner
 use Rattle.spec_statements.specs.Checks.{CheckOf}
 use Rattle.spec_statements.specs.Conversions.{IsConverted}
-use Rattle.spec_statements.specs.Expressions.{AskedOf}
+use Rattle.spec_statements.specs.Expressions.{RequiredOf}
 use Rattle.spec_statements.specs.Laws.{MoreCapabilities, under}
 use Rattle.spec_statements.specs.ExpressionResults.{IsAtomicValue, AreExchangeMembers, IsExchange, AtomicResultOK}
 use Rattle.spec_statements.specs.Shapes.{IsAlone}
@@ -104,7 +104,7 @@ of_more few many types xs forms (x.CooperativeLoad columns rows role block) more
 of_more few many types xs forms (x.CooperativeMultiplyAdd a b c) more ok = ok
 
 asked_more : (few many : Capabilities) (types : List PlainType) (xs : List PlainExpression) (forms : List Form) (e : PlainExpression) → IsWithin few.0 many.0
-    → AskedOf (under few types xs forms) e → AskedOf (under many types xs forms) e
+    → RequiredOf (under few types xs forms) e → RequiredOf (under many types xs forms) e
 asked_more few many types xs forms (compose type components) more ok = ok
 asked_more few many types xs forms (plain e) more ok = of_more few many types xs forms e more ok
 

@@ -6,20 +6,20 @@ use Rattle.ir_flags.specs.Sets.{Has}
 use Rattle.ir_flags.specs.declared.settings.ValidationFlags.{ValidationFlags}
 use Rattle.ir_flags.specs.declared.settings.TheConstants.ValidationFlags.{BLOCKS}
 use Rattle.ir_items.specs.Plain.{PlainFunction, PlainModule}
-use Rattle.spec_statements.specs.Held.{HasPayloadBefore, IsHeldBefore}
-use Rattle.spec_statements.specs.FunctionLaws.{OneHeld}
-use Rattle.spec_statements.specs.Payloads.{HasPayload, PayloadsOK, IsHeldAfter}
+use Rattle.spec_statements.specs.EarlierPayloads.{HasPayloadBefore, IsPayloadBefore}
+use Rattle.spec_statements.specs.FunctionLaws.{OnePayload}
+use Rattle.spec_statements.specs.Payloads.{HasPayload, PayloadsOK, IsPayloadAfter}
 
 module _ (flags : ValidationFlags) (m : PlainModule) (count : ℕ) where
-  none_with_some : (type : ℕ) → IsHeldBefore flags m count None → IsHeldBefore flags m count (Some type) → ⊥
+  none_with_some : (type : ℕ) → IsPayloadBefore flags m count None → IsPayloadBefore flags m count (Some type) → ⊥
   none_with_some type a b = let e = b.none (λ other asked h. let n = a.some other asked h in cc) in cc
 
-  held_apart : (x y : ℕ) → IsHeldBefore flags m count (Some x) → IsHeldBefore flags m count (Some y) → (x ≡ y → ⊥) → ⊥
+  held_apart : (x y : ℕ) → IsPayloadBefore flags m count (Some x) → IsPayloadBefore flags m count (Some y) → (x ≡ y → ⊥) → ⊥
   held_apart x y a b differ =
       let e = a.none (λ other asked h. differ (let p = a.some other asked h in let q = b.some other asked h in cc)) in
       cc
 
-  held_once : (held other : Option ℕ) → IsHeldBefore flags m count held → IsHeldBefore flags m count other → held ≡ other
+  held_once : (held other : Option ℕ) → IsPayloadBefore flags m count held → IsPayloadBefore flags m count other → held ≡ other
   held_once None None a b = refl
   held_once None (Some y) a b = absurd (none_with_some y a b)
   held_once (Some x) None a b = absurd (none_with_some x b a)
@@ -29,11 +29,11 @@ module _ (flags : ValidationFlags) (m : PlainModule) (count : ℕ) where
         | inr differ ↦ absurd (held_apart x y a b differ)
       ]
 
-pub one_held : OneHeld
-one_held flags m count held other a b = held_once flags m count held other a b
+pub one_payload : OnePayload
+one_payload flags m count held other a b = held_once flags m count held other a b
 
 -- nothing is held at first
-pub held_at_first : (flags : ValidationFlags) (m : PlainModule) → IsHeldBefore flags m 0 None
+pub held_at_first : (flags : ValidationFlags) (m : PlainModule) → IsPayloadBefore flags m 0 None
 held_at_first flags m = record {
   some = λ type asked h. absurd (let lt = h.before in omega (arith, lt));
   none = λ no. refl;
@@ -58,11 +58,11 @@ module _ (flags : ValidationFlags) (m : PlainModule) (n : ℕ) (f : PlainFunctio
     | inr same ↦ (let e : h.function ≡ f = (let a = h.at in let b = ap (slice_get m.functions) same in cc) in inr (subst (λ g. HasPayload m g type) e h.traced))
   ]
 
-  own_kept : (held after : Option ℕ) (type : ℕ) → Has flags.0 BLOCKS.0 → PayloadsOK m f held → IsHeldAfter flags m f held after → HasPayload m f type → after ≡ Some type
+  own_kept : (held after : Option ℕ) (type : ℕ) → Has flags.0 BLOCKS.0 → PayloadsOK m f held → IsPayloadAfter flags m f held after → HasPayload m f type → after ≡ Some type
   own_kept None after type asked ok h own = h.found asked type own refl
   own_kept (Some b) after type asked ok h own = h.kept b refl ∙ ap Some (sym (ok.as_before type b own refl))
 
-  pub held_next : (held after : Option ℕ) → IsHeldBefore flags m n held → (Has flags.0 BLOCKS.0 → PayloadsOK m f held) → IsHeldAfter flags m f held after → IsHeldBefore flags m (suc n) after
+  pub held_next : (held after : Option ℕ) → IsPayloadBefore flags m n held → (Has flags.0 BLOCKS.0 → PayloadsOK m f held) → IsPayloadAfter flags m f held after → IsPayloadBefore flags m (suc n) after
   held_next held after before ok h = record {
     some = λ type asked p. elim (split type p) [
       | inl earlier ↦ h.kept type (before.some type asked earlier)

@@ -2,7 +2,7 @@
 use Rattle.std.proofs.Common.{◌≡◌, ℕ, zero, suc, Bool, true, false, ◌||◌, IsTrue, List, [], ◌++◌, ◌⊎◌, inl, inr, ⊎_elim, Contains, refl, sym, ◌∙◌, subst}
 use Rattle.std.proofs.lemmas.Bool.{or_cases, or_left, or_right, cases_Bool}
 use Rattle.std.proofs.lemmas.List.Elements.{Contains-append_left, Contains-append_right, Contains-append_cases}
-use Rattle.ir_blocks.specs.Places.{Place, here, later, inside, condition, IsTop, top_here, top_later, Before, earlier, both_later, both_inside, body_before_continuing, body_before_condition, continuing_before_condition, StandsAt}
+use Rattle.ir_blocks.specs.Places.{Place, here, later, inside, condition, IsTop, top_here, top_later, Before, earlier, both_later, both_inside, body_before_continuing, body_before_condition, continuing_before_condition, OccursAt}
 use Rattle.ir_blocks.specs.Plain.{PlainStatement, emit, block, if_, switch, loop, break, continue, return, kill, operation, call, PlainBlock, stop, next, PlainCases, no_case, case}
 use Rattle.ir_blocks.specs.Shapes.{Part, inner, accepting, rejecting, case_at, loop_body, loop_continuing, shape_of, part_of, case_body}
 use Rattle.spec_statements.proofs.ScopeLaws.{none_held, top_held, held_top}
@@ -23,20 +23,20 @@ case_holds (case v b f r) zero h = or_left _ _ h
 case_holds (case v b f r) (suc k) h = or_right (holds_continue_in b) _ (case_holds r k h)
 
 -- nothing stands in an empty block
-in_stop : (c : Place) → StandsAt stop c continue → ⊥
+in_stop : (c : Place) → OccursAt stop c continue → ⊥
 in_stop here at = let x = at in cc
 in_stop (later c) at = let x = at in cc
 in_stop (inside part c) at = let x = at in cc
 in_stop condition at = let x = at in cc
 
-empty_part : {A : Type 0} (c : Place) → StandsAt stop c continue → A
+empty_part : {A : Type 0} (c : Place) → OccursAt stop c continue → A
 empty_part c at = absurd (in_stop c at)
 
-itself : (s : PlainStatement) → StandsAt (next s stop) here continue → IsTrue (holds_continue s)
+itself : (s : PlainStatement) → OccursAt (next s stop) here continue → IsTrue (holds_continue s)
 itself continue at = refl
 itself _ at = let x = at in absurd (cc)
 
-place_holds_in : (c : Place) → InNoLoop c → (b : PlainBlock) → StandsAt b c continue → IsTrue (holds_continue_in b)
+place_holds_in : (c : Place) → InNoLoop c → (b : PlainBlock) → OccursAt b c continue → IsTrue (holds_continue_in b)
 place_holds_in c free stop at = empty_part c at
 place_holds_in here free (next s rest) at = or_left (holds_continue s) _ (itself s at)
 place_holds_in (later c) free (next s rest) at = or_right (holds_continue s) _ (place_holds_in c free rest at)
@@ -56,15 +56,15 @@ alone : (b : Bool) → IsTrue (b || false) → IsTrue b
 alone true h = refl
 alone false h = h
 
-part_holds : (c : Place) (part : Part) → InNoLoop (inside part c) → (s : PlainStatement) → StandsAt (part_of (shape_of s) part) c continue → IsTrue (holds_continue s)
+part_holds : (c : Place) (part : Part) → InNoLoop (inside part c) → (s : PlainStatement) → OccursAt (part_of (shape_of s) part) c continue → IsTrue (holds_continue s)
 part_holds c part free s at = alone (holds_continue s) (place_holds_in (inside part c) free (next s stop) at)
 
 abbrev Goes : PlainBlock → Type 0
-Goes b = (c : Place) × InNoLoop c × StandsAt b c continue
+Goes b = (c : Place) × InNoLoop c × OccursAt b c continue
 
 -- in the first statement, so that a place of the top level behind it is past the continue
 abbrev GoesFirst : PlainStatement → PlainBlock → Type 0
-GoesFirst s rest = (c : Place) × InNoLoop c × StandsAt (next s rest) c continue × ((q : Place) → IsTop q → IsPast c (later q))
+GoesFirst s rest = (c : Place) × InNoLoop c × OccursAt (next s rest) c continue × ((q : Place) → IsTop q → IsPast c (later q))
 
 mutual
   goes_in : (b : PlainBlock) → IsTrue (holds_continue_in b) → Goes b
@@ -93,7 +93,7 @@ mutual
 -- ---- what the top level leaves, by places
 
 abbrev Past : PlainBlock → Place → Type 0
-Past b q = (c : Place) × IsPast c q × StandsAt b c continue
+Past b q = (c : Place) × IsPast c q × OccursAt b c continue
 
 past_here : (b : PlainBlock) → Past b here → ⊥
 past_here b (c, past, at) = elim past [ ]
@@ -107,7 +107,7 @@ first_past s rest q top goes = let x = first_goes s rest goes in (x.0, x.3 q top
 past_rest : (s : PlainStatement) (rest : PlainBlock) (q : Place) → holds_continue s ≡ false → Past (next s rest) (later q) → Past rest q
 past_rest s rest q not (c, past, at) = by_past past at
   where
-    by_past : {d : Place} → IsPast d (later q) → StandsAt (next s rest) d continue → Past rest q
+    by_past : {d : Place} → IsPast d (later q) → OccursAt (next s rest) d continue → Past rest q
     by_past (past_itself top) there = not_both (holds_continue s) (itself s there) not
     by_past (past_within {c = d} part free top) there = not_both (holds_continue s) (part_holds d part free s there) not
     by_past (past_later {c = d} more) there = (d, more, there)
@@ -181,7 +181,7 @@ IsSurelyBrought body p e = (q : Place) × Before q p × Introduces body q e × �
 skip_later : (s : PlainStatement) (rest : PlainBlock) (q p : Place) → MaySkip (next s rest) (later q) (later p) → MaySkip rest q p
 skip_later s rest q p (c, leads, at) = by_leads leads at
   where
-    by_leads : {d : Place} → LeadsPast d (later q) (later p) → StandsAt (next s rest) d continue → MaySkip rest q p
+    by_leads : {d : Place} → LeadsPast d (later q) (later p) → OccursAt (next s rest) d continue → MaySkip rest q p
     by_leads (leads_later {c = d} more) there = (d, more, there)
 
 skip_here : (b : PlainBlock) (p : Place) → MaySkip b here p → ⊥
@@ -193,18 +193,18 @@ inside_leads d q p a b (to_continuing past) same = absurd (let x = same in cc)
 
 skip_inside : (s : PlainStatement) (rest : PlainBlock) (part : Part) (q p : Place) → MaySkip (next s rest) (inside part q) (inside part p) → MaySkip (part_of (shape_of s) part) q p
 skip_inside s rest part q p (c, leads, at) =
-    let x = inside_leads c q p part part leads refl in (x.0, x.2, subst (λ d. StandsAt (next s rest) d continue) x.1 at)
+    let x = inside_leads c q p part part leads refl in (x.0, x.2, subst (λ d. OccursAt (next s rest) d continue) x.1 at)
 
 skip_continuing : (s : PlainStatement) (rest : PlainBlock) (q p : Place) → MaySkip (next s rest) (inside loop_body q) (inside loop_continuing p) → Past (part_of (shape_of s) loop_body) q
 skip_continuing s rest q p (c, leads, at) = by_leads leads at
   where
-    by_leads : {d : Place} → LeadsPast d (inside loop_body q) (inside loop_continuing p) → StandsAt (next s rest) d continue → Past (part_of (shape_of s) loop_body) q
+    by_leads : {d : Place} → LeadsPast d (inside loop_body q) (inside loop_continuing p) → OccursAt (next s rest) d continue → Past (part_of (shape_of s) loop_body) q
     by_leads (to_continuing {c = d} past) there = (d, past, there)
 
 skip_condition : (s : PlainStatement) (rest : PlainBlock) (q : Place) → MaySkip (next s rest) (inside loop_body q) condition → Past (part_of (shape_of s) loop_body) q
 skip_condition s rest q (c, leads, at) = by_leads leads at
   where
-    by_leads : {d : Place} → LeadsPast d (inside loop_body q) condition → StandsAt (next s rest) d continue → Past (part_of (shape_of s) loop_body) q
+    by_leads : {d : Place} → LeadsPast d (inside loop_body q) condition → OccursAt (next s rest) d continue → Past (part_of (shape_of s) loop_body) q
     by_leads (to_condition {c = d} past) there = (d, past, there)
 
 skip_last : (b : PlainBlock) (q : Place) → MaySkip b (inside loop_continuing q) condition → ⊥

@@ -8,7 +8,7 @@ use Rattle.typing_rules.specs.Laws.{IsAmong}
 use Rattle.spec_analysis.specs.Chains.{place, Step, Calls, HasPair}
 use Rattle.spec_analysis.specs.Effects.{samples, effects_of}
 use Rattle.spec_analysis.specs.Summaries.{IsWrongArgument}
-use Rattle.spec_analysis.specs.Uniformity.{Asked}
+use Rattle.spec_analysis.specs.Uniformity.{Required}
 
 -- an image or a sampler of a sampling at e stands for neither a global variable nor an argument
 pub record SamplesWrongForm (f : PlainFunction) (e : ℕ) : Type 0 where
@@ -33,4 +33,4 @@ HasWrongForm m f e = SamplesWrongForm f e ⊎ PassesWrongForm m f e
 -- may not.
 pub record IsAnalysed (flags : ValidationFlags) (m : PlainModule) (f : PlainFunction) : Type 0 where
   pub formed : (e : ℕ) → HasWrongForm m f e → ⊥
-  pub uniform : (x : Asked) → FunctionFault flags m f x → ⊥
+  pub uniform : (x : Required) → FunctionFault flags m f x → ⊥

@@ -67,12 +67,12 @@ abbrev pub IsInStorage : (pointer : Form) → Type 0
 IsInStorage pointer = IsSomeAnd (pointer_space pointer) IsStorage
 
 -- the least and the greatest of integers of eight bytes are kept in storage, and not answered
-abbrev pub IsKeptExtremum : (pointer : Form) → AtomicFunction → (result : Option ℕ) → Type 0
-IsKeptExtremum pointer done result = IsExtremum done × IsInStorage pointer × (result ≡ None)
+abbrev pub IsStorageMinMaxWithoutResult : (pointer : Form) → AtomicFunction → (result : Option ℕ) → Type 0
+IsStorageMinMaxWithoutResult pointer done result = IsExtremum done × IsInStorage pointer × (result ≡ None)
 
 abbrev pub WideOK : Capabilities → (pointer : Form) → AtomicFunction → (result : Option ℕ) → Type 0
 WideOK capabilities pointer done result =
-    Has capabilities.0 SHADER_INT64_ATOMIC_ALL_OPS.0 ⊎ (Has capabilities.0 SHADER_INT64_ATOMIC_MIN_MAX.0 × IsKeptExtremum pointer done result)
+    Has capabilities.0 SHADER_INT64_ATOMIC_ALL_OPS.0 ⊎ (Has capabilities.0 SHADER_INT64_ATOMIC_MIN_MAX.0 × IsStorageMinMaxWithoutResult pointer done result)
 
 -- floats are added, subtracted, and replaced without a comparison
 abbrev pub IsDoneWithFloats : AtomicFunction → Type 0
@@ -133,10 +133,10 @@ AtomicResultOK c s done (Some result) = IsSomeAnd (option_and_then declared_answ
 -- ---- the whole
 
 -- A value of the atomic's scalar changes it.
-pub record IsChangedAtOnce (c : BlockContext) (pointer : ℕ) (done : AtomicFunction) (value : ℕ) (result : Option ℕ) (s : Scalar) : Type 0 where
+pub record AtomicChangeOK (c : BlockContext) (pointer : ℕ) (done : AtomicFunction) (value : ℕ) (result : Option ℕ) (s : Scalar) : Type 0 where
   pub fits : form_at c value ≡ form.Scalar s
   pub allowed : ScalarAllows c.capabilities s (form_at c pointer) done result
   pub answered : AtomicResultOK c s done result
 
 abbrev pub AtomicStatementOK : BlockContext → (pointer : ℕ) → AtomicFunction → (value : ℕ) → (result : Option ℕ) → Type 0
-AtomicStatementOK c pointer done value result = IsSomeAnd (changed_scalar c.m.types (form_at c pointer)) (IsChangedAtOnce c pointer done value result)
+AtomicStatementOK c pointer done value result = IsSomeAnd (changed_scalar c.m.types (form_at c pointer)) (AtomicChangeOK c pointer done value result)

@@ -6,12 +6,12 @@ use Rattle.spec_statements.specs.Checks.{CheckOf}
 use Rattle.spec_statements.specs.Scene.{Scene, form_at}
 
 -- the components of a composition make a value of its type; any other expression has its row
-abbrev pub AskedOf : Scene → PlainExpression → Type 0
-AskedOf s (compose type components) = ComposeOK s.types type (map (form_at s.forms) components)
-AskedOf s (plain expression) = CheckOf s expression
+abbrev pub RequiredOf : Scene → PlainExpression → Type 0
+RequiredOf s (compose type components) = ComposeOK s.types type (map (form_at s.forms) components)
+RequiredOf s (plain expression) = CheckOf s expression
 
 -- what is asked of the expression at a handle is met
 pub record ExpressionOK (s : Scene) (handle : ℕ) : Type 0 where
   pub expression : PlainExpression
   pub at : slice_get s.expressions handle ≡ Some expression
-  pub met : AskedOf s expression
+  pub met : RequiredOf s expression

@@ -4,12 +4,12 @@ use Rattle.ir_flags.specs.declared.settings.ValidationFlags.{ValidationFlags}
 use Rattle.ir_items.specs.Plain.{PlainFunction, PlainModule}
 use Rattle.spec_analysis.specs.Summaries.{Summary, CalleesKnown, CallsBelow, IsFormFault}
 use Rattle.spec_statements.specs.Analysis.{HasWrongForm}
-use Rattle.spec_statements.specs.Held.{IsHeldBefore}
+use Rattle.spec_statements.specs.EarlierPayloads.{IsPayloadBefore}
 use Rattle.spec_handles.specs.Conditions.{CalleesPrecede}
 
 -- at most one type is held
-abbrev pub OneHeld : Type 0
-OneHeld = (flags : ValidationFlags) (m : PlainModule) (count : ℕ) (held other : Option ℕ) → IsHeldBefore flags m count held → IsHeldBefore flags m count other → held ≡ other
+abbrev pub OnePayload : Type 0
+OnePayload = (flags : ValidationFlags) (m : PlainModule) (count : ℕ) (held other : Option ℕ) → IsPayloadBefore flags m count held → IsPayloadBefore flags m count other → held ≡ other
 
 -- wrong forms by chains are those by summaries of the callees
 abbrev pub FormsByCallees : Type 0

@@ -1,7 +1,7 @@
 -- The rules of functions, over what a lower layer says of their expressions.
 use Rattle.std.specs.Prelude.{◌≡◌, ◌<◌, ℕ, List, length, Bool, Option, Some, slice_get}
 use Rattle.ir_blocks.specs.Control.{ControlOK}
-use Rattle.ir_blocks.specs.Places.{Place, StandsAt}
+use Rattle.ir_blocks.specs.Places.{Place, OccursAt}
 use Rattle.ir_blocks.specs.Plain.{PlainStatement}
 use Rattle.ir_flags.specs.Sets.{Has}
 use Rattle.ir_flags.specs.declared.settings.Capabilities.{Capabilities}
@@ -53,7 +53,7 @@ block_context s m f forms = record { capabilities = s.capabilities; operations =
 -- What is asked of a body: each statement meets its rule where it stands, uses what is in scope, leaves its block as it may,
 -- and answers and payloads are as they should be; and under STRICT_SCOPE its scope is strict.
 pub record BodyOK (s : FunctionSettings) (c : BlockContext) : Type 0 where
-  pub statements : (p : Place) (u : PlainStatement) → StandsAt c.f.body p u → StatementOK c u
+  pub statements : (p : Place) (u : PlainStatement) → OccursAt c.f.body p u → StatementOK c u
   pub scope : ScopeOK c.f
   pub control : ControlOK c.f.body
   pub answered : AnsweredOnce s.flags c.f
@@ -74,5 +74,5 @@ pub record FunctionOK (reading : Reading) (s : FunctionSettings) (m : PlainModul
 -- A stage may run a function of which the lower layer says so: it may run all statements, where these are asked, callees among
 -- them, and all expressions, where those are. It is a bit of `ShaderStages`.
 pub record AllowsStage (reading : Reading) (s : FunctionSettings) (callees : List ShaderStages) (f : PlainFunction) (stage : ℕ) : Type 0 where
-  pub statements : Has s.flags.0 BLOCKS.0 → (p : Place) (u : PlainStatement) → StandsAt f.body p u → Has (statement_stages s.subgroup_stages callees u).0 stage
+  pub statements : Has s.flags.0 BLOCKS.0 → (p : Place) (u : PlainStatement) → OccursAt f.body p u → Has (statement_stages s.subgroup_stages callees u).0 stage
   pub expressions : Has s.flags.0 EXPRESSIONS.0 → (e : ℕ) (stages : ShaderStages) → e < length f.expressions → reading.IsRunBy e stages → Has stages.0 stage

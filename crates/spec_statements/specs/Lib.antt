@@ -47,7 +47,7 @@ pub mod Selections
 pub mod Shapes
 pub mod ExpressionStages
 pub mod ExpressionSubgroups
-pub mod Held
+pub mod EarlierPayloads
 pub mod Analysis
 pub mod ModuleFunctions
 pub mod FunctionLaws

@@ -6,7 +6,7 @@ use Rattle.spec_statements.specs.Scene.{scene_of}
 use Rattle.spec_statements.specs.ExpressionStages.{IsRunBy}
 use Rattle.spec_expressions.specs.Typing.{HasType}
 use Rattle.spec_statements.specs.Analysis.{IsAnalysed}
-use Rattle.spec_statements.specs.Held.{IsHeldBefore}
+use Rattle.spec_statements.specs.EarlierPayloads.{IsPayloadBefore}
 use Rattle.spec_statements.specs.Functions.{Reading, FunctionSettings, FunctionOK}
 
 -- What is said of a function of a module: the types of its expressions by the rules of their kinds, the analysis by chains of
@@ -29,7 +29,7 @@ pub record FunctionAtOK (s : FunctionSettings) (m : PlainModule) (index : ℕ) :
   pub function : PlainFunction
   pub at : slice_get m.functions index ≡ Some function
   pub held : Option ℕ
-  pub before : IsHeldBefore s.flags m index held
+  pub before : IsPayloadBefore s.flags m index held
   pub ok : FunctionOK (reading_over m function) (settings_with s held) m function
 
 -- all functions of a module do

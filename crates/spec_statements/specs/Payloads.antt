@@ -1,6 +1,6 @@
 -- The payloads of the rays of a module are of one type.
 use Rattle.std.specs.Prelude.{◌≡◌, ℕ, Option, Some, None, option_map}
-use Rattle.ir_blocks.specs.Places.{Place, StandsAt}
+use Rattle.ir_blocks.specs.Places.{Place, OccursAt}
 use Rattle.ir_blocks.specs.Plain.{ray_pipeline, operation}
 use Rattle.ir_blocks.specs.declared.operations.RayPipelineFunction.TheVariants.{TraceRay}
 use Rattle.ir_flags.specs.Sets.{Has}
@@ -15,7 +15,7 @@ pub record HasPayload (m : PlainModule) (f : PlainFunction) (type : ℕ) : Type 
   pub acceleration_structure : ℕ
   pub descriptor : ℕ
   pub payload : ℕ
-  pub stands : StandsAt f.body place (operation (ray_pipeline (TraceRay acceleration_structure descriptor payload)))
+  pub stands : OccursAt f.body place (operation (ray_pipeline (TraceRay acceleration_structure descriptor payload)))
   pub declared : option_map (λ g. g.ty) (variable_at m f payload) ≡ Some type
 
 -- The payloads of a function are of the type that is held from before, if one is held, and of one type.
@@ -25,7 +25,7 @@ pub record PayloadsOK (m : PlainModule) (f : PlainFunction) (held : Option ℕ) 
 
 -- What is held after a function: under BLOCKS the type from before, or else that of its payloads; and without BLOCKS what was
 -- held before.
-pub record IsHeldAfter (flags : ValidationFlags) (m : PlainModule) (f : PlainFunction) (held after : Option ℕ) : Type 0 where
+pub record IsPayloadAfter (flags : ValidationFlags) (m : PlainModule) (f : PlainFunction) (held after : Option ℕ) : Type 0 where
   pub kept : (before : ℕ) → held ≡ Some before → after ≡ Some before
   pub found : Has flags.0 BLOCKS.0 → (type : ℕ) → HasPayload m f type → held ≡ None → after ≡ Some type
   pub none : held ≡ None → ((type : ℕ) → HasPayload m f type → ⊥) → after ≡ None

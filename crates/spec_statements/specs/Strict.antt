@@ -1,6 +1,6 @@
 -- Strict scope, a check of this library's own: every operand is in scope where it is used, and what a continue may skip doesn't count.
 use Rattle.std.specs.Prelude.{◌≡◌, ◌⊎◌, ◌<◌, ◌≤◌, ℕ, List, [], ◌∷◌, Some, Contains, slice_get}
-use Rattle.ir_blocks.specs.Places.{Place, here, later, inside, condition, IsTop, Before, Spot, nothing, statement, loop_condition, spot_at, StandsAt}
+use Rattle.ir_blocks.specs.Places.{Place, here, later, inside, condition, IsTop, Before, Spot, nothing, statement, loop_condition, spot_at, OccursAt}
 use Rattle.ir_blocks.specs.Plain.{PlainStatement, emit, block, if_, switch, loop, break, continue, return, kill, operation, call, PlainBlock, ray_query, ballot}
 use Rattle.ir_blocks.specs.Shapes.{Part, inner, accepting, rejecting, case_at, loop_body, loop_continuing}
 use Rattle.ir_blocks.specs.declared.operations.RayQueryFunction.TheVariants.{Proceed}
@@ -40,7 +40,7 @@ pub data LeadsPast : (c q p : Place) → Type 0 where
 
 -- a continue of the body may lead to p past q
 abbrev pub MaySkip : PlainBlock → (q p : Place) → Type 0
-MaySkip b q p = (c : Place) × LeadsPast c q p × StandsAt b c continue
+MaySkip b q p = (c : Place) × LeadsPast c q p × OccursAt b c continue
 
 -- always, or something before the place has brought it that no continue may skip
 abbrev pub InStrictScope : PlainFunction → Place → ℕ → Type 0
@@ -75,7 +75,7 @@ Needs b p e = Contains (needed_at (spot_at p b)) e
 -- before an expression count; and what stands for the answer of a `Proceed` or of a ballot is of its own kind.
 pub record StrictOK (f : PlainFunction) : Type 0 where
   pub used : (p : Place) (o : ℕ) → Needs f.body p o → InStrictScope f p o
-  pub emitted : (p : Place) (first end : ℕ) → StandsAt f.body p (emit first end) → (e : ℕ) → first ≤ e → e < end → (x : PlainExpression) → slice_get f.expressions e ≡ Some x
+  pub emitted : (p : Place) (first end : ℕ) → OccursAt f.body p (emit first end) → (e : ℕ) → first ≤ e → e < end → (x : PlainExpression) → slice_get f.expressions e ≡ Some x
       → (o : ℕ) → Contains (expression_operands x) o → ((first ≤ o) × (o < e)) ⊎ InStrictScope f p o
-  pub proceeds : (p : Place) (query result : ℕ) → StandsAt f.body p (operation (ray_query query (Proceed result))) → slice_get f.expressions result ≡ Some (plain RayQueryProceedResult)
-  pub ballots : (p : Place) (result : ℕ) (predicate : _) → StandsAt f.body p (operation (ballot result predicate)) → slice_get f.expressions result ≡ Some (plain SubgroupBallotResult)
+  pub proceeds : (p : Place) (query result : ℕ) → OccursAt f.body p (operation (ray_query query (Proceed result))) → slice_get f.expressions result ≡ Some (plain RayQueryProceedResult)
+  pub ballots : (p : Place) (result : ℕ) (predicate : _) → OccursAt f.body p (operation (ballot result predicate)) → slice_get f.expressions result ≡ Some (plain SubgroupBallotResult)

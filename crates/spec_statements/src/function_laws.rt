@@ -1,11 +1,11 @@
 //! What is known of the functions of a module.
 
-ghost use Rattle.spec_statements.specs.FunctionLaws.{OneHeld, FormsByCallees, CallsPrecede};
+ghost use Rattle.spec_statements.specs.FunctionLaws.{OnePayload, FormsByCallees, CallsPrecede};
 
 /// At most one type of payloads is held before a function.
-#[tactic(auto, using(crate::proofs::HeldLaws::one_held))]
-pub fn one_held()
-    ensures { OneHeld }
+#[tactic(auto, using(crate::proofs::HeldLaws::one_payload))]
+pub fn one_payload()
+    ensures { OnePayload }
 {}
 
 /// What is of a wrong form by the pairs of callees over their chains is so by any summaries of theirs.

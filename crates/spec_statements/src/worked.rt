@@ -22,7 +22,7 @@ ghost use Rattle.ir_types.specs.declared.types.TypeInner.TheVariants as inner;
 ghost use Rattle.spec_statements.specs.Access.{AccessIndexOK, IsIndexOf, known_length};
 ghost use Rattle.spec_statements.specs.CooperativeMatrices.{CooperativeLoadOK, MultiplyAddOK};
 ghost use Rattle.spec_statements.specs.Derivatives.{DerivativeOK};
-ghost use Rattle.spec_statements.specs.Expressions.{AskedOf};
+ghost use Rattle.spec_statements.specs.Expressions.{RequiredOf};
 ghost use Rattle.spec_statements.specs.ImageLoads.{IsAnswered, IsReadable, IsTexel};
 ghost use Rattle.spec_statements.specs.ImageSamples.{HasNeighbours, ClampOK, IsClamped, IsFiltered, IsGathered, IsLevel, IsOffset, OutsideOK};
 ghost use Rattle.spec_statements.specs.Laws.{under};
@@ -133,9 +133,9 @@ pub fn samples()
 
 /// Compositions among other kinds.
 pub fn compositions()
-    ensures of_no_type { ¬ AskedOf (under (record { 0 = 0 }) [] [] []) (compose 0 []) }
-    ensures of_what_is_not_composed { ¬ AskedOf (under (record { 0 = 0 }) (record { name = None; inner = plain_type (inner.Scalar (signed 4)) } ∷ []) [] (form.Scalar (signed 4) ∷ [])) (compose 0 (0 ∷ [])) }
-    ensures others_by_their_rows { AskedOf (under (record { 0 = 0 }) [] [] (form.Scalar (floating 4) ∷ [])) (plain (x.Derivative axis.X control.Coarse 0)) }
+    ensures of_no_type { ¬ RequiredOf (under (record { 0 = 0 }) [] [] []) (compose 0 []) }
+    ensures of_what_is_not_composed { ¬ RequiredOf (under (record { 0 = 0 }) (record { name = None; inner = plain_type (inner.Scalar (signed 4)) } ∷ []) [] (form.Scalar (signed 4) ∷ [])) (compose 0 (0 ∷ [])) }
+    ensures others_by_their_rows { RequiredOf (under (record { 0 = 0 }) [] [] (form.Scalar (floating 4) ∷ [])) (plain (x.Derivative axis.X control.Coarse 0)) }
 {}
 
 /// Indexes.

@@ -2,11 +2,11 @@
 use crate::given::scalar;
 use ir_items::SpecialTypes;
 use ir_kinds::PredeclaredType;
-use typing_rules::{Conclusion, ConstructorSize, ValueType};
 use serde_json::Value;
 use spec_expressions::ConclusionExt;
 use std::alloc::{AllocError, Global};
 use test_support::call::{text, told};
+use typing_rules::{Conclusion, ConstructorSize, ValueType};
 
 /// The predeclared type that a line names, of a scalar.
 pub fn predeclared(call: &Value) -> Option<PredeclaredType> {

@@ -5,10 +5,10 @@ ghost use Rattle.typing_forms.specs.Forms.{NoStructValue};
 ghost use Rattle.typing_forms.specs.Resolutions.{resolution_view};
 ghost use Rattle.typing_forms.specs.Canonical.{NotBothStructs};
 
-use ir_kinds::Scalar;
-use ir_types::{IrType, TypeInner, key};
-use ir_sets::unique_arena::UniqueArena;
 use document_items::TypeForm;
+use ir_kinds::Scalar;
+use ir_sets::unique_arena::UniqueArena;
+use ir_types::{IrType, TypeInner, key};
 use serde_json::Value;
 use std::alloc::{AllocError, Global};
 use test_support::call::{handle, text};

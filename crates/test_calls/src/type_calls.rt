@@ -1,9 +1,9 @@
 // The calls of types of expressions, over a module of types.
 use crate::given::Types;
 use crate::{compared, conclusions, parts, scalars};
+use document_items::TypeForm;
 use ir_arena::span::Span;
 use ir_items::Module;
-use document_items::TypeForm;
 use serde_json::Value;
 use std::alloc::{AllocError, Global};
 use test_support::call::{handle, list, text, told};

@@ -1,12 +1,12 @@
 // Items of the IR: how a line of the input gives them, how they are copied, and what is told of them.
 use crate::modules::document_of;
-use document_reader::{BodyForm, EntryForm, FunctionForm, LocalForm};
 use document_expressions::ExpressionForm;
+use document_items::{ConstantForm, FilterForm, GlobalForm, OverrideForm, SpecialForm, TypeForm};
+use document_reader::{BodyForm, EntryForm, FunctionForm, LocalForm};
 use ir_items::{
     Block, Constant, DiagnosticFilterNode, EntryPoint, Expression, Function, GlobalVariable,
     IrType, LocalVariable, Module, Override, SpecialTypes,
 };
-use document_items::{ConstantForm, FilterForm, GlobalForm, OverrideForm, SpecialForm, TypeForm};
 use serde_json::Value;
 use std::alloc::{AllocError, Global};
 use test_support::call::{no_call, told};

@@ -1,12 +1,12 @@
 // What expressions, types and special types answer.
 use crate::item::read_at;
 use document_forms::Each;
+use document_items::TypeForm;
 use ir_arena::handle::Handle;
 use ir_items::{Expression, IrType, SpecialTypes, TypeInner};
 use ir_kinds::{PredeclaredType, Scalar};
 use ir_types::LiteralExt;
 use ir_types::laws::type_equality;
-use document_items::TypeForm;
 use serde_json::Value;
 use std::alloc::{AllocError, Global};
 use test_support::call::{no_call, told};

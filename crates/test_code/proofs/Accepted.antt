@@ -1,13 +1,13 @@
 -- What is told of types that are accepted.
 use Rattle.std.specs.Prelude.{Bool, List}
-use Rattle.function_interface.specs.Told.{AreTold}
+use Rattle.function_interface.specs.Reported.{AreReported}
 use Rattle.ir_flags.specs.declared.settings.Capabilities.{Capabilities}
 use Rattle.ir_types.specs.Plain.{PlainType}
 use Rattle.module_types.specs.Validated.{AreAccepted}
 use Rattle.module_type_infos.specs.declared.info.TypeInfo.{TypeInfo}
 
-pub told_of : (capabilities : Capabilities) (resolved : Bool) (types : List PlainType) (infos : List TypeInfo) → AreAccepted capabilities resolved types infos → AreTold types infos
-told_of capabilities resolved types infos accepted = record {
+pub reported_of : (capabilities : Capabilities) (resolved : Bool) (types : List PlainType) (infos : List TypeInfo) → AreAccepted capabilities resolved types infos → AreReported types infos
+reported_of capabilities resolved types infos accepted = record {
   told = record { each = λ handle i at. (accepted.each handle i at).info };
   many = accepted.many;
 }

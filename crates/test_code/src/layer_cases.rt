@@ -1,5 +1,5 @@
 // Documents, and what is found of their functions.
-use crate::layer_judged::told_of;
+use crate::layer_judged::reported_of;
 use document_reader::{DocumentError, read_document};
 use std::alloc::{AllocError, Global};
 use std::test::Fail;
@@ -68,7 +68,7 @@ fn found(alloc: Global, flags: &str, globals: &str, functions: &str) -> Result<S
         r#"[1,[{flags}],[],[[],[]],false,[[null,["Scalar","u32"]],[null,["Scalar","bool"]],[null,["Scalar","f32"]],[null,["Scalar","i32"]]],[null,null,null,[]],[[],null],[],[],[],[{globals}],[{functions}],[]]"#
     )?;
     match read_document(alloc, text.as_bytes()) {
-        Ok(document) => told_of(alloc, document.settings.flags, &document.module),
+        Ok(document) => reported_of(alloc, document.settings.flags, &document.module),
         Err(DocumentError::Memory) => Err(AllocError),
         Err(_) => String::from_str(alloc, "no document"),
     }

@@ -7,15 +7,15 @@ ghost use Rattle.spec_handles.specs.Conditions.{HandlesInRange, OperandsPrecede}
 ghost use Rattle.function_tiny_lower.specs.Readings.{IsMadeOf};
 
 use crate::layer_made::lower_for;
-use typing_errors::FunctionError;
 use function_interface::Lower;
+use function_tiny_lower::{TinyInfo, TinyLower};
 use ir_faults::refusal::Refusal;
 use ir_flags::{Capabilities, ValidationFlags};
 use ir_items::{Function, Module};
+use module_handles::{filter_parents_precede, handles_in_range, operands_precede};
 use shader_check::Validator;
 use std::alloc::{AllocError, Global};
-use function_tiny_lower::{TinyInfo, TinyLower};
-use module_handles::{filter_parents_precede, handles_in_range, operands_precede};
+use typing_errors::FunctionError;
 
 // Whether the handles of a function are in order.
 fn is_in_order(function: &Function, module: &Module) -> bool
@@ -90,7 +90,7 @@ fn tell_all(
 
 /// What is found of the functions of a module, one after the other, up to the first that is refused. The error is out of
 /// memory.
-pub fn told_of(
+pub fn reported_of(
     alloc: Global,
     flags: ValidationFlags,
     module: &Module,

@@ -1,19 +1,19 @@
 //! The small layer, made for a module.
 
 ghost use Rattle.std.specs.Prelude.{IfOk, IfSome};
-ghost use Rattle.function_interface.specs.Told.{AreTold};
+ghost use Rattle.function_interface.specs.Reported.{AreReported};
 ghost use Rattle.ir_items.specs.View.{module_view};
 ghost use Rattle.function_tiny_lower.specs.Readings.{IsMadeOf};
 ghost use Rattle.typing_forms.specs.Resolutions.{types_view};
 
+use function_tiny_lower::TinyLower;
 use ir_faults::refusal::Refusal;
 use ir_flags::Capabilities;
 use ir_items::Module;
-use ir_types::{IrType, key};
 use ir_sets::unique_arena::UniqueArena;
+use ir_types::{IrType, key};
 use module_types::{TypeInfo, TypeSettings, validate_types};
 use std::alloc::{AllocError, Global};
-use function_tiny_lower::TinyLower;
 use typing_forms::types_go_back;
 use typing_layout::Layouter;
 
@@ -22,7 +22,7 @@ fn infos_of(
     alloc: Global,
     types: &UniqueArena<IrType, key::IrType>,
 ) -> Result<Option<Vec<TypeInfo>>, AllocError>
-    ensures { IfOk result (λ found. IfSome found (λ infos. AreTold (types_view types.now) infos.items)) }
+    ensures { IfOk result (λ found. IfSome found (λ infos. AreReported (types_view types.now) infos.items)) }
 {
     if !types_go_back(types) {
         return Ok(None);

@@ -1,8 +1,8 @@
 // Makes the overload set of `min` over two vectors once for each byte of standard input, and tells how many rules they
 // leave in all: what overload sets take in a check of as many calls.
+use check_ports::Source;
 use ir_kinds::{MathFunction, Scalar, VectorSize};
 use ir_types::TypeInner;
-use check_ports::Source;
 use std::alloc::{AllocError, Global};
 use std::io;
 use typing_overloads::{MathFunctionExt, OverloadSet};

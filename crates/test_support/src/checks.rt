@@ -10,8 +10,8 @@ ghost use Rattle.ir_proc.specs.Flat.{parts_of, PartsPrecede};
 use ir_arena::arena::Arena;
 use ir_arena::handle::Handle;
 use ir_items::{DiagnosticFilterNode, Expression, IrType, key};
-use ir_sets::unique_arena::UniqueArena;
 use ir_proc::{FlattenCompose, flatten_compose};
+use ir_sets::unique_arena::UniqueArena;
 use std::alloc::{AllocError, Global};
 
 /// Whether the parent of each node comes before it.

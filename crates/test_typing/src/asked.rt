@@ -3,12 +3,12 @@ use crate::checks::{Overrides, checks_told};
 use crate::conditions::{Test, tests_told};
 use crate::constness::{kinds_told, tracked};
 use crate::handles::handles_told;
-use crate::infos::{Told, infos_told};
+use crate::infos::{Reported, infos_told};
 use crate::layouts::{laid, layouts_told};
 use crate::left::left_told;
 use crate::summaries::{ordered, summaries_told, summarized};
 use crate::types::{typed, types_told};
-use crate::whole::{functions_told, refusals_told};
+use crate::whole::{functions_reported, refusals_told};
 use document_reader::Document;
 use std::alloc::{AllocError, Global};
 
@@ -17,7 +17,7 @@ use std::alloc::{AllocError, Global};
 /// functions are in order, find besides what is kept of each function, or do nothing, and are answered by themselves.
 pub fn answer(alloc: Global, asked: &str, document: &mut Document) -> Result<String, AllocError> {
     match asked {
-        "functions" => functions_told(alloc, document),
+        "functions" => functions_reported(alloc, document),
         "refusal" => refusals_told(alloc, document),
         "left of layouts"
         | "left of functions"
@@ -41,13 +41,13 @@ fn answer_unchanged(alloc: Global, asked: &str, document: &Document) -> Result<S
         "tests but arities" => tests_told(alloc, module, Some(Test::Arities)),
         "infos" => infos_told(
             alloc,
-            Told::Infos,
+            Reported::Infos,
             document.settings.capabilities,
             &module.types,
         ),
         "refused" => infos_told(
             alloc,
-            Told::Refusal,
+            Reported::Refusal,
             document.settings.capabilities,
             &module.types,
         ),

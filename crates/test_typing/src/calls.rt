@@ -1,9 +1,9 @@
 // Each call of alignments, of layouters and of slots of immediate data, once.
 use anyhow::{Result, ensure};
-use module_globals::ImmediateSlots;
 use ir_kinds::{CooperativeSize, Scalar, VectorSize};
-use ir_types::{IrType, TypeInner, key};
 use ir_sets::unique_arena::UniqueArena;
+use ir_types::{IrType, TypeInner, key};
+use module_globals::ImmediateSlots;
 use std::io;
 use typing_forms::types_go_back;
 use typing_layout::{Alignment, LayoutErrorInner, Layouter};

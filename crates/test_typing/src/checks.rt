@@ -2,11 +2,11 @@
 use crate::handles::handle_fault;
 use document_reader::Document;
 use ir_faults::refusal::Refusal;
+use module_type_infos::TypeError;
 use module_types::InvalidType;
 use module_validator::{ModuleError, ModuleInfo, ModuleValidator};
 use std::alloc::{AllocError, Global};
 use std::fmt::Debug;
-use module_type_infos::TypeError;
 
 /// Whether each override has to have its value.
 #[derive(Clone, Copy)]

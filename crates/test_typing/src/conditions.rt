@@ -1,9 +1,9 @@
 // Whether the handles of functions are in order.
 use ir_items::{Function, Module};
-use std::alloc::{AllocError, Global};
 use module_handles::{
     arities_match, callees_precede, filter_parents_precede, handles_in_range, operands_precede,
 };
+use std::alloc::{AllocError, Global};
 
 /// The tests, in the order in which they are told.
 #[derive(Clone, Copy, PartialEq)]

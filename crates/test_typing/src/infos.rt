@@ -6,17 +6,17 @@ ghost use Rattle.typing_layout.specs.Held.{AreLayouts};
 
 use ir_faults::refusal::Refusal;
 use ir_flags::Capabilities;
-use ir_types::{IrType, key};
 use ir_sets::unique_arena::UniqueArena;
+use ir_types::{IrType, key};
+use module_type_infos::{TypeError, TypeInfo};
 use module_types::{InvalidType, TypeSettings, validate_types};
 use std::alloc::{AllocError, Global};
-use module_type_infos::{TypeError, TypeInfo};
 use typing_forms::types_go_back;
 use typing_layout::Layouter;
 
 /// What is asked of the types of a module.
 #[derive(Clone, Copy)]
-pub enum Told {
+pub enum Reported {
     /// What is told of each, or why the first that is refused is.
     Infos,
     /// Which is refused, if one is.
@@ -35,8 +35,8 @@ fn info_told(alloc: Global, info: &TypeInfo) -> Result<String, AllocError> {
 }
 
 // The infos of types.
-fn accepted_told(alloc: Global, asked: Told, infos: &[TypeInfo]) -> Result<String, AllocError> {
-    if let Told::Refusal = asked {
+fn accepted_told(alloc: Global, asked: Reported, infos: &[TypeInfo]) -> Result<String, AllocError> {
+    if let Reported::Refusal = asked {
         return String::from_str(alloc, "accepted");
     }
     let mut told = String::new(alloc);
@@ -47,8 +47,12 @@ fn accepted_told(alloc: Global, asked: Told, infos: &[TypeInfo]) -> Result<Strin
 }
 
 // The first type that is refused, and why; which fault it is that sources of a blend have is not told.
-fn refused_told(alloc: Global, asked: Told, refused: InvalidType) -> Result<String, AllocError> {
-    if let Told::Refusal = asked {
+fn refused_reported(
+    alloc: Global,
+    asked: Reported,
+    refused: InvalidType,
+) -> Result<String, AllocError> {
+    if let Reported::Refusal = asked {
         return format!(in alloc; "refused {}", refused.ty.index());
     }
     if let TypeError::InvalidBlendSrc(_) = refused.error {
@@ -60,7 +64,7 @@ fn refused_told(alloc: Global, asked: Told, refused: InvalidType) -> Result<Stri
 // The infos of types that are laid out, or why one is refused.
 fn validated_told(
     alloc: Global,
-    asked: Told,
+    asked: Reported,
     settings: TypeSettings,
     types: &UniqueArena<IrType, key::IrType>,
     layouter: &Layouter,
@@ -72,14 +76,14 @@ fn validated_told(
     match validate_types(alloc, settings, types, layouter) {
         Ok(infos) => accepted_told(alloc, asked, infos.as_slice()),
         Err(Refusal::Memory(error)) => Err(error),
-        Err(Refusal::Fault(fault)) => refused_told(alloc, asked, fault.into_inner()),
+        Err(Refusal::Fault(fault)) => refused_reported(alloc, asked, fault.into_inner()),
     }
 }
 
 /// What is asked of the types.
 pub fn infos_told(
     alloc: Global,
-    asked: Told,
+    asked: Reported,
     capabilities: Capabilities,
     types: &UniqueArena<IrType, key::IrType>,
 ) -> Result<String, AllocError> {

@@ -3,8 +3,8 @@ ghost use Rattle.std.specs.Prelude.{◌≤◌, length};
 
 use ir_arena::handle::Handle;
 use ir_faults::refusal::Refusal;
-use ir_types::{IrType, key};
 use ir_sets::unique_arena::UniqueArena;
+use ir_types::{IrType, key};
 use std::alloc::{AllocError, Global};
 use typing_forms::types_go_back;
 use typing_layout::{LayoutError, Layouter, TypeLayout};
@@ -20,7 +20,7 @@ fn layout_told(alloc: Global, layout: TypeLayout) -> Result<String, AllocError> 
 }
 
 // The layouts of the first types.
-fn first_told(alloc: Global, layouter: &Layouter, count: usize) -> Result<String, AllocError>
+fn first_reported(alloc: Global, layouter: &Layouter, count: usize) -> Result<String, AllocError>
     requires all { count ≤ length layouter.now }
     requires in_range { count ≤ 4294967295 }
 {
@@ -32,14 +32,14 @@ fn first_told(alloc: Global, layouter: &Layouter, count: usize) -> Result<String
 }
 
 // The layouts of the types before one that has none, and why it has none.
-fn refused_told(
+fn refused_reported(
     alloc: Global,
     layouter: &Layouter,
     error: LayoutError,
 ) -> Result<String, AllocError>
     requires { error.ty ≤ length layouter.now }
 {
-    let mut told = first_told(alloc, layouter, error.ty.index())?;
+    let mut told = first_reported(alloc, layouter, error.ty.index())?;
     told.push_str(&format!(in alloc; "{} {:?}", error.ty.index(), error.inner)?)?;
     Ok(told)
 }
@@ -54,9 +54,9 @@ pub fn layouts_told(
     }
     let mut layouter = Layouter::new(alloc);
     match layouter.update(types) {
-        Ok(()) => first_told(alloc, &layouter, types.len()),
+        Ok(()) => first_reported(alloc, &layouter, types.len()),
         Err(Refusal::Memory(error)) => Err(error),
-        Err(Refusal::Fault(fault)) => refused_told(alloc, &layouter, fault.into_inner()),
+        Err(Refusal::Fault(fault)) => refused_reported(alloc, &layouter, fault.into_inner()),
     }
 }
 

@@ -2,11 +2,11 @@
 //
 // Where no request is refused, each call is made once. `bench/rows.py` refuses each request in turn.
 use document_reader::{Document, build_module};
-use typing_infos::{FunctionInfo, FunctionParts, ModuleInfo, SampledPairs};
 use shader_check::judge_document;
 use std::alloc::{AllocError, Global};
 use test_support::call::told;
 use typing_forms::types_go_back;
+use typing_infos::{FunctionInfo, FunctionParts, ModuleInfo, SampledPairs};
 use typing_layout::Layouter;
 
 /// What came of a call.

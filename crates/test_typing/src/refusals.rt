@@ -1,14 +1,14 @@
 // Why a function is refused, in words: the name of the fault and then what it holds, in order. Handles and places are told as
 // numbers, what is not there as `-`, sets as the number of their bits, and a fault inside another in the same way. Types that
 // are told whole, names of items, and what makes control flow differ are left out.
-use typing_errors::{
-    AtomicError, CallError, ExpressionError, FunctionError, LocalVariableError, SubgroupError,
-};
 use ir_arena::handle::Handle;
 use ir_blocks::AtomicFunction;
 use ir_kinds::SwitchValue;
 use std::alloc::{AllocError, Global};
 use std::fmt::{Debug, Display};
+use typing_errors::{
+    AtomicError, CallError, ExpressionError, FunctionError, LocalVariableError, SubgroupError,
+};
 
 // The name that the text of a value begins with.
 fn name_in(text: &str) -> &str {
@@ -281,7 +281,7 @@ fn tell_parts(alloc: Global, told: &mut String, error: &FunctionError) -> Result
 }
 
 /// Which function of these is refused, and why.
-pub fn refusal_told(
+pub fn refusal_reported(
     alloc: Global,
     word: &str,
     index: usize,

@@ -4,17 +4,17 @@ ghost use Rattle.ir_items.specs.View.{function_view, module_view};
 ghost use Rattle.ir_proc.specs.Filters.{ParentsPrecede};
 ghost use Rattle.spec_handles.specs.Conditions.{HandlesInRange, OperandsPrecede};
 
-use spec_analysis::{ExpressionInfo, GlobalOrArgument, GlobalUse, SamplingPair};
-use typing_errors::{ExpressionError, FunctionError};
+use function_real_lower::process_function;
 use ir_faults::refusal::Refusal;
 use ir_flags::ValidationFlags;
 use ir_items::{Function, Module};
-use typing_infos::FunctionInfo;
-use function_real_lower::process_function;
-use std::alloc::{AllocError, Global};
 use module_handles::{
     arities_match, callees_precede, filter_parents_precede, handles_in_range, operands_precede,
 };
+use spec_analysis::{ExpressionInfo, GlobalOrArgument, GlobalUse, SamplingPair};
+use std::alloc::{AllocError, Global};
+use typing_errors::{ExpressionError, FunctionError};
+use typing_infos::FunctionInfo;
 
 // Tells of an expression how often it is used, which global variable it starts at, whether it is the same in all invocations,
 // and what it asks for.
@@ -168,7 +168,7 @@ fn is_in_order(function: &Function, module: &Module, before: usize) -> bool
 }
 
 // Tells what is found of a function, and answers what is kept of it.
-fn told_info(
+fn reported_info(
     alloc: Global,
     told: &mut String,
     module: &Module,
@@ -202,7 +202,7 @@ fn tell_functions(
     infos: &mut Vec<FunctionInfo>,
 ) -> Result<bool, AllocError> {
     for (_, function) in module.functions.iter() {
-        match told_info(alloc, told, module, function, infos, flags)? {
+        match reported_info(alloc, told, module, function, infos, flags)? {
             Some(info) => infos.push(info)?,
             None => return Ok(false),
         }
@@ -219,7 +219,7 @@ fn tell_entries(
     infos: &[FunctionInfo],
 ) -> Result<(), AllocError> {
     for entry in module.entry_points.as_slice() {
-        told_info(alloc, told, module, &entry.function, infos, flags)?;
+        reported_info(alloc, told, module, &entry.function, infos, flags)?;
     }
     Ok(())
 }

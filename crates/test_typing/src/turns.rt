@@ -1,13 +1,13 @@
 // One validator for the modules of several documents in turn.
 use document_reader::{Document, DocumentError, Settings, read_document};
+use function_real_lower::RealLower;
 use ir_faults::refusal::Refusal;
 use ir_items::Module;
-use typing_infos::ModuleInfo;
-use function_real_lower::RealLower;
 use serde_json::Value;
 use shader_check::{Finding, Validator, refused_by};
 use std::alloc::{AllocError, Global};
 use test_support::call::{items, told};
+use typing_infos::ModuleInfo;
 
 /// What a validator answers.
 #[derive(Clone, Copy, Debug, PartialEq, Eq)]

@@ -20,7 +20,7 @@ fn found_at<'a>(
 }
 
 // The type of an expression behind these.
-fn type_behind(
+fn type_pointed(
     alloc: Global,
     context: &ResolveContext<'_>,
     found: &[TypeResolution],
@@ -47,7 +47,7 @@ fn tell(
 ) -> Result<(), AllocError> {
     let mut found: Vec<TypeResolution> = Vec::with_capacity(alloc, expressions.len())?;
     for (_, expression) in expressions.iter() {
-        match type_behind(alloc, context, found.as_slice(), expression) {
+        match type_pointed(alloc, context, found.as_slice(), expression) {
             Some(Ok(given)) => {
                 told.push_str(&format!(in alloc; "{:?}\n", form_of(context.types, &given))?)?;
                 found.push(given)?;
@@ -108,7 +108,7 @@ fn are_typed(
 ) -> Result<bool, AllocError> {
     let mut found: Vec<TypeResolution> = Vec::with_capacity(alloc, expressions.len())?;
     for (_, expression) in expressions.iter() {
-        match type_behind(alloc, context, found.as_slice(), expression) {
+        match type_pointed(alloc, context, found.as_slice(), expression) {
             Some(Ok(given)) => found.push(given)?,
             Some(Err(ResolveRefusal::Memory(error))) => return Err(error),
             Some(Err(ResolveRefusal::Fault(_))) | None => return Ok(false),

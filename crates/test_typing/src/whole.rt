@@ -1,6 +1,6 @@
 // Whether a document is accepted, and why it is not.
 use crate::checks::error_told;
-use crate::refusals::refusal_told;
+use crate::refusals::refusal_reported;
 use document_reader::Document;
 use function_entries::EntryPointError;
 use shader_check::{
@@ -11,7 +11,7 @@ use std::alloc::{AllocError, Global};
 // Why an entry point is refused: what is wrong with its function in words, anything else by its name.
 fn entry_told(alloc: Global, refused: &InvalidEntryPoint) -> Result<String, AllocError> {
     match &refused.error {
-        EntryPointError::Function(error) => refusal_told(alloc, "entry", refused.index, error),
+        EntryPointError::Function(error) => refusal_reported(alloc, "entry", refused.index, error),
         error => format!(in alloc; "entry {} {error:?}", refused.index),
     }
 }
@@ -24,7 +24,7 @@ fn told_in_words(alloc: Global, error: &ValidationError) -> Result<String, Alloc
             format!(in alloc; "global {} {:?}", refused.global.index(), refused.error)
         }
         ValidationError::Function(refused) => {
-            refusal_told(alloc, "function", refused.function.index(), &refused.error)
+            refusal_reported(alloc, "function", refused.function.index(), &refused.error)
         }
         ValidationError::EntryPoint(refused) => entry_told(alloc, refused),
     }
@@ -42,7 +42,7 @@ fn told_by_name(alloc: Global, error: &ValidationError) -> Result<String, AllocE
 
 /// Whether a document is accepted, or why it is not, with what is wrong with a function in words. Returns are put in where
 /// its settings ask for them.
-pub fn functions_told(alloc: Global, document: &mut Document) -> Result<String, AllocError> {
+pub fn functions_reported(alloc: Global, document: &mut Document) -> Result<String, AllocError> {
     match examine_document(alloc, document)? {
         Examined::Accepted { .. } => String::from_str(alloc, "accepted"),
         Examined::Refused(error) => told_in_words(alloc, &error),

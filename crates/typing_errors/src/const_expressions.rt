@@ -1,8 +1,8 @@
 //! Why a global expression is refused.
 
 use crate::compose::ComposeError;
-use thiserror::Error;
 use module_type_infos::LiteralError;
+use thiserror::Error;
 use typing_operands::ResolveError;
 
 /// Why a global expression is refused (naga's `ConstExpressionError`).

@@ -3,12 +3,12 @@
 use crate::{
     AtomicError, CallError, ExpressionError, LocalVariableError, SubgroupError, UniformityDisruptor,
 };
-use spec_analysis::UniformityRequirements;
 use ir_arena::handle::Handle;
 use ir_blocks::AtomicFunction;
 use ir_flags::Capabilities;
 use ir_kinds::{AddressSpace, SwitchValue};
 use ir_types::{TypeInner, key};
+use spec_analysis::UniformityRequirements;
 
 /// Why a function is refused (naga's `FunctionError`). Its text is for people: what is wrong, with the expression at fault
 /// where there is one, and the error inside it.

@@ -5,8 +5,8 @@ use ir_arena::handle::Handle;
 use ir_flags::StorageAccess;
 use ir_kinds::{ImageClass, ImageDimension, StorageFormat};
 use ir_types::key;
-use thiserror::Error;
 use module_type_infos::LiteralError;
+use thiserror::Error;
 use typing_operands::ResolveError;
 
 /// Why an expression of a function is refused (naga's `ExpressionError`).

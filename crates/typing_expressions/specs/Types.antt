@@ -6,7 +6,7 @@ use Rattle.spec_expressions.specs.Typing.{typing_operands, HasTypeAmong}
 use Rattle.typing_rules.specs.Laws.{IsAmong}
 use Rattle.typing_forms.specs.declared.form.Form.{Form}
 use Rattle.typing_forms.specs.declared.resolution.TypeResolution.{TypeResolution}
-use Rattle.typing_operands.specs.Answers.{form_given, fault_of, TellsFault, IsAnswer}
+use Rattle.typing_operands.specs.Answers.{form_given, fault_of, ReportsFault, IsAnswer}
 use Rattle.typing_operands.specs.declared.error.ResolveError.{ResolveError}
 use Rattle.typing_operands.specs.declared.error.ResolveRefusal.{ResolveRefusal}
 use Rattle.typing_expressions.specs.declared.refusal.TypingRefusal.{TypingRefusal}
@@ -31,7 +31,7 @@ TypedBefore c expressions place = (e : ℕ) → e < place → (t : Form) × HasT
 
 -- The expression has no type, as the error tells, and each before it has one.
 pub record IsUntypedFirst (c : Context) (expressions : List PlainExpression) (place : ℕ) (error : ResolveError) : Type 0 where
-  pub tells : TellsFault c expressions place (fault_of error)
+  pub tells : ReportsFault c expressions place (fault_of error)
   pub before : TypedBefore c expressions place
 
 -- The refusal is that memory ran out, or of the first expression that has no type.
@@ -54,7 +54,7 @@ Decided c types expression result =
 abbrev pub IsTypedBy : Context → List PlainExpression → ℕ → Result TypeResolution TypingRefusal → Type 0
 IsTypedBy c expressions place (Ok t) = HasTypeAmong c expressions place (form_given c.types t)
 IsTypedBy c expressions place (Err (Memory error)) = Unit {0}
-IsTypedBy c expressions place (Err (Fault expression error)) = (expression ≡ place) × TellsFault c expressions expression (fault_of error)
+IsTypedBy c expressions place (Err (Fault expression error)) = (expression ≡ place) × ReportsFault c expressions expression (fault_of error)
 
 abbrev pub DecidedAt : Context → List TypeResolution → ℕ → PlainExpression → Result TypeResolution TypingRefusal → Type 0
 DecidedAt c types place expression result =

@@ -9,7 +9,7 @@ ghost use Rattle.typing_operands.specs.Answers.{IsAnswer};
 ghost use Rattle.typing_resolve.specs.View.{context_view};
 
 use crate::refusal::TypingRefusal;
-use crate::types::{missing_type, type_behind, types_of};
+use crate::types::{missing_type, type_pointed, types_of};
 use ir_arena::arena::Arena;
 use ir_arena::handle::Handle;
 use ir_items::{LocalVariable, Module};
@@ -33,7 +33,7 @@ fn outside<'a>(
 /// The type of a global expression of the module, where `types` has those of the expressions before it (naga's
 /// `ModuleInfo::process_const_expression`).
 ///
-/// Asks that the expression is there, that operands come before what has them, and that each item which a global expression
+/// Requires that the expression is there, that operands come before what has them, and that each item which a global expression
 /// names is there.
 ///
 /// # Errors
@@ -55,12 +55,12 @@ pub fn process_const_expression(
     let locals = Arena::new(alloc);
     let context = outside(module, &locals);
     let expression = &module.global_expressions[handle];
-    type_behind(alloc, &context, types, &missing_type(), expression)
+    type_pointed(alloc, &context, types, &missing_type(), expression)
 }
 
 /// The types of all global expressions of the module, in order.
 ///
-/// Asks that operands come before what has them, and that each item which a global expression names is there.
+/// Requires that operands come before what has them, and that each item which a global expression names is there.
 ///
 /// # Errors
 ///

@@ -38,7 +38,7 @@ fn found_at<'a>(
 }
 
 // The type of an expression behind those that have these types.
-pub(crate) fn type_behind(
+pub(crate) fn type_pointed(
     alloc: Global,
     context: &ResolveContext<'_>,
     types: &[TypeResolution],
@@ -82,7 +82,7 @@ fn type_at(
     requires precede { OperandsBelow (length types.now) (expression_view expression.now) }
     ensures { DecidedAt (context_view context.now) types.now handle (expression_view expression.now) result }
 {
-    match type_behind(alloc, context, types, missing, expression) {
+    match type_pointed(alloc, context, types, missing, expression) {
         Ok(found) => Ok(found),
         Err(refusal) => Err(refused_at(handle, refusal)),
     }
@@ -105,7 +105,7 @@ fn room_for(alloc: Global, count: usize) -> Vec<TypeResolution>
     }
 }
 
-/// The types of all expressions of a list, in order. Asks that operands come before what has them, and that each item which an
+/// The types of all expressions of a list, in order. Requires that operands come before what has them, and that each item which an
 /// expression names is there.
 ///
 /// # Errors

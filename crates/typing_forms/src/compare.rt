@@ -7,8 +7,8 @@ ghost use Rattle.typing_forms.specs.Equivalence.{AreEquivalent};
 
 use crate::laws::form_equality;
 use crate::{TypeResolution, form_of};
-use ir_types::{IrType, key};
 use ir_sets::unique_arena::UniqueArena;
+use ir_types::{IrType, key};
 
 /// Whether two types are equivalent: both are there, and their canonical forms are equal (naga's `compare_types`). Names
 /// don't count, nor whether a type is given by its handle, but for structs: a struct is its handle, and none may be given

@@ -9,8 +9,8 @@ ghost use Rattle.typing_forms.specs.Constructible.{IsConstructible, AreFound, kn
 
 use crate::order::type_at;
 use ir_arena::handle::Handle;
-use ir_types::{ArraySize, IrType, StructMember, TypeInner, key};
 use ir_sets::unique_arena::UniqueArena;
+use ir_types::{ArraySize, IrType, StructMember, TypeInner, key};
 use std::alloc::{AllocError, Global};
 
 // What is known of the type at a handle: false where it was not looked at.

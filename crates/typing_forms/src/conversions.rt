@@ -11,8 +11,8 @@ ghost use Rattle.typing_forms.specs.Conversions.{same_size, same_count, scalars_
 use crate::{converted_rank, inner_of};
 use ir_arena::handle::Handle;
 use ir_kinds::{Scalar, VectorSize};
-use ir_types::{ArraySize, IrType, TypeInner, key};
 use ir_sets::unique_arena::UniqueArena;
+use ir_types::{ArraySize, IrType, TypeInner, key};
 
 fn same_size(left: VectorSize, right: VectorSize) -> bool
     ensures { result ≡ same_size left right }

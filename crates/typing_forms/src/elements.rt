@@ -10,8 +10,8 @@ ghost use Rattle.typing_forms.specs.Elements.{LeadsTo, base_of, last_of, convert
 use crate::inner_of;
 use ir_arena::handle::Handle;
 use ir_kinds::Scalar;
-use ir_types::{ArraySize, IrType, TypeInner, key};
 use ir_sets::unique_arena::UniqueArena;
+use ir_types::{ArraySize, IrType, TypeInner, key};
 
 // The type of an array's elements.
 fn base_of(inner: &TypeInner) -> Option<Handle<key::IrType>>

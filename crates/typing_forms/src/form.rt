@@ -10,8 +10,8 @@ use ir_arena::handle::Handle;
 use ir_kinds::{
     AddressSpace, CooperativeRole, CooperativeSize, ImageClass, ImageDimension, Scalar, VectorSize,
 };
-use ir_types::{ArraySize, IrType, TypeInner, key};
 use ir_sets::unique_arena::UniqueArena;
+use ir_types::{ArraySize, IrType, TypeInner, key};
 
 /// A type in its canonical form: two types are equivalent exactly where their forms are equal.
 ///

@@ -6,8 +6,8 @@ ghost use Rattle.typing_forms.specs.Resolutions.{types_view};
 ghost use Rattle.typing_forms.specs.Lengths.{array_length, elements_of, length_of};
 
 use crate::inner_of;
-use ir_types::{ArraySize, IrType, TypeInner, key};
 use ir_sets::unique_arena::UniqueArena;
+use ir_types::{ArraySize, IrType, TypeInner, key};
 use thiserror::Error;
 
 /// How many elements what is indexed has (naga's `IndexableLength`).

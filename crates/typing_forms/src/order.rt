@@ -6,8 +6,8 @@ ghost use Rattle.typing_forms.specs.Order.{named_types, TypesGoBack};
 ghost use Rattle.typing_forms.specs.Resolutions.{types_view, inner_at};
 
 use ir_arena::handle::Handle;
-use ir_types::{IrType, StructMember, TypeInner, key};
 use ir_sets::unique_arena::UniqueArena;
+use ir_types::{IrType, StructMember, TypeInner, key};
 
 // Whether the type of each member has a place below `bound`.
 fn members_below(members: &[StructMember], bound: usize) -> bool

@@ -5,8 +5,8 @@ ghost use Rattle.ir_types.specs.Plain.{inner_view};
 ghost use Rattle.typing_forms.specs.Resolutions.{types_view, resolution_view, handle_of, resolved, IsAmong};
 
 use ir_arena::handle::Handle;
-use ir_types::{IrType, TypeInner, key};
 use ir_sets::unique_arena::UniqueArena;
+use ir_types::{IrType, TypeInner, key};
 use std::alloc::{AllocError, Global};
 
 /// The type of an expression (naga's `TypeResolution`).

@@ -23,8 +23,8 @@ use crate::laws::form_equality;
 use crate::sizes::{MAX_TYPE_SIZE, type_size};
 use crate::{TypeResolution, form_in, inner_of};
 use ir_kinds::{AddressSpace, Bytes, ImageDimension, Scalar, ScalarKind, VectorSize};
-use ir_types::{ArraySize, IrType, TypeInner, key};
 use ir_sets::unique_arena::UniqueArena;
+use ir_types::{ArraySize, IrType, TypeInner, key};
 use std::alloc::{AllocError, Global};
 
 /// What can be asked of a type (calls of naga's `TypeInner`). Where a call takes `types`, these are the module's.

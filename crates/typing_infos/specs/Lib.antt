@@ -1,4 +1,4 @@
-pub mod Held
+pub mod Stored
 pub mod Infos
 pub mod Keys
 pub mod Marks

@@ -8,11 +8,11 @@ ghost use Rattle.spec_analysis.specs.Summaries.{HasUseBit};
 
 use crate::sampled::{SampledKeys, SampledPairs};
 use crate::uses::{dominates, mark_all};
-use spec_analysis::{ExpressionInfo, GlobalUse, SamplingPair};
 use bitflags::Flags;
 use ir_arena::handle::Handle;
 use ir_flags::ShaderStages;
 use ir_types::key;
+use spec_analysis::{ExpressionInfo, GlobalUse, SamplingPair};
 use std::ops::Index;
 
 /// What is kept of a function: how it uses each global variable of the module, what it samples, and what is known of its
@@ -114,7 +114,7 @@ impl FunctionInfo {
 
     /// Notes what more is known of the function: the stages in which what it does may stand, further uses of global variables,
     /// and, where `dual_source_blending` says so, that its result is one with two blend sources. Its stages are then those
-    /// that it had and that are among these. Asks that the module has the global variables. It takes no memory.
+    /// that it had and that are among these. Requires that the module has the global variables. It takes no memory.
     pub fn note(
         &mut self,
         stages: ShaderStages,

@@ -5,9 +5,9 @@ ghost use Rattle.std.specs.Prelude.{◌≡◌, ◌<◌, ◌++◌, ◌∷◌, [],
 use crate::FunctionInfo;
 use ir_arena::handle::Handle;
 use ir_types::key;
+use module_type_infos::TypeInfo;
 use std::alloc::{AllocError, Global};
 use std::ops::Index;
-use module_type_infos::TypeInfo;
 use typing_forms::TypeResolution;
 use typing_layout::{Layouter, TypeLayout};
 

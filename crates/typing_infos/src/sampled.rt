@@ -34,21 +34,21 @@ struct PairTable {
 
 // A function's pairs.
 #[derive(Drop)]
-enum HeldPairs {
+enum StoredPairs {
     Few(Vec<SamplingPair>),
     Many(Rc<PairTable>),
 }
 
 // Those of two global variables.
 #[derive(Drop)]
-enum HeldKeys {
+enum StoredKeys {
     Few(Vec<SamplingKey>),
     Many(Rc<PairTable>),
 }
 
 #[derive(Drop)]
 struct Pairs {
-    held: HeldPairs,
+    held: StoredPairs,
 }
 
 impl Model for Pairs {
@@ -57,14 +57,14 @@ impl Model for Pairs {
 
     ghost Value = { List SamplingPair };
 
-    ghost use Rattle.typing_infos.specs.Held.{pairs_held};
+    ghost use Rattle.typing_infos.specs.Stored.{pairs_stored};
 
-    ghost view = { λ p. pairs_held p.held };
+    ghost view = { λ p. pairs_stored p.held };
 }
 
 #[derive(Drop)]
 struct Keys {
-    held: HeldKeys,
+    held: StoredKeys,
 }
 
 impl Model for Keys {
@@ -73,9 +73,9 @@ impl Model for Keys {
 
     ghost Value = { List SamplingKey };
 
-    ghost use Rattle.typing_infos.specs.Held.{keys_held};
+    ghost use Rattle.typing_infos.specs.Stored.{keys_stored};
 
-    ghost view = { λ k. keys_held k.held };
+    ghost view = { λ k. keys_stored k.held };
 }
 
 /// The pairs of images and samplers of a function, in the order in which they were found. Many pairs are one table that
@@ -168,8 +168,8 @@ impl Pairs {
         ensures { result.now ≡ self.now }
     {
         match &self.held {
-            HeldPairs::Few(pairs) => pairs,
-            HeldPairs::Many(table) => table.as_ref().as_slice(),
+            StoredPairs::Few(pairs) => pairs,
+            StoredPairs::Many(table) => table.as_ref().as_slice(),
         }
     }
 
@@ -177,8 +177,8 @@ impl Pairs {
         ensures { result ≡ list_any (pair_eq pair.now) self.now }
     {
         match &self.held {
-            HeldPairs::Few(pairs) => holds(pairs, pair),
-            HeldPairs::Many(table) => table.as_ref().contains(pair),
+            StoredPairs::Few(pairs) => holds(pairs, pair),
+            StoredPairs::Many(table) => table.as_ref().contains(pair),
         }
     }
 
@@ -187,8 +187,8 @@ impl Pairs {
         ensures once { IfSome result (λ marks. EachOnce self.now) }
     {
         match &self.held {
-            HeldPairs::Few(_) => None,
-            HeldPairs::Many(table) => Some(table.as_ref().marks()),
+            StoredPairs::Few(_) => None,
+            StoredPairs::Many(table) => Some(table.as_ref().marks()),
         }
     }
 
@@ -196,12 +196,12 @@ impl Pairs {
         ensures { IfOk result (λ pairs. pairs ≡ self.now) }
     {
         match &self.held {
-            HeldPairs::Few(pairs) => {
-                let held = HeldPairs::Few(copied(pairs)?);
+            StoredPairs::Few(pairs) => {
+                let held = StoredPairs::Few(copied(pairs)?);
                 Ok(Pairs { held })
             }
-            HeldPairs::Many(table) => {
-                let held = HeldPairs::Many(table.clone()?);
+            StoredPairs::Many(table) => {
+                let held = StoredPairs::Many(table.clone()?);
                 Ok(Pairs { held })
             }
         }
@@ -211,12 +211,12 @@ impl Pairs {
         ensures { IfOk result (λ keys. keys ≡ flat_map key_of self.now) }
     {
         match &self.held {
-            HeldPairs::Few(pairs) => {
-                let held = HeldKeys::Few(keys_of(alloc, pairs)?);
+            StoredPairs::Few(pairs) => {
+                let held = StoredKeys::Few(keys_of(alloc, pairs)?);
                 Ok(Keys { held })
             }
-            HeldPairs::Many(table) => {
-                let held = HeldKeys::Many(table.clone()?);
+            StoredPairs::Many(table) => {
+                let held = StoredKeys::Many(table.clone()?);
                 Ok(Keys { held })
             }
         }
@@ -227,7 +227,7 @@ impl Pairs {
         ensures err { OnErr result (self.new ≡ self.old) }
     {
         match &mut self.held {
-            HeldPairs::Few(pairs) => {
+            StoredPairs::Few(pairs) => {
                 if pairs.len() < FEW {
                     pairs.push(pair)?;
                     Ok(true)
@@ -235,7 +235,7 @@ impl Pairs {
                     Ok(false)
                 }
             }
-            HeldPairs::Many(_) => Ok(false),
+            StoredPairs::Many(_) => Ok(false),
         }
     }
 }
@@ -245,8 +245,8 @@ impl Keys {
         ensures { result.now ≡ self.now }
     {
         match &self.held {
-            HeldKeys::Few(keys) => keys,
-            HeldKeys::Many(table) => table.as_ref().keys(),
+            StoredKeys::Few(keys) => keys,
+            StoredKeys::Many(table) => table.as_ref().keys(),
         }
     }
 }
@@ -256,12 +256,12 @@ impl SampledPairs {
     pub fn new(alloc: Global) -> SampledPairs
         ensures { result.items ≡ [] }
     {
-        let held = HeldPairs::Few(Vec::new(alloc));
+        let held = StoredPairs::Few(Vec::new(alloc));
         let items = Pairs { held };
         SampledPairs { items }
     }
 
-    /// These pairs, as a table that functions share. Asks that each is there once. The error is out of memory.
+    /// These pairs, as a table that functions share. Requires that each is there once. The error is out of memory.
     pub fn of_pairs(alloc: Global, pairs: Vec<SamplingPair>) -> Result<SampledPairs, AllocError>
         requires { EachOnce pairs.items }
         ensures { IfOk result (λ sampled. sampled.items ≡ pairs.items) }
@@ -276,7 +276,7 @@ impl SampledPairs {
             marks,
         };
         let table = Rc::new(alloc, table)?;
-        let held = HeldPairs::Many(table);
+        let held = StoredPairs::Many(table);
         let items = Pairs { held };
         Ok(SampledPairs { items })
     }

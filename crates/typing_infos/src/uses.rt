@@ -5,10 +5,10 @@ ghost use Rattle.ir_flags.specs.Sets.{Has};
 ghost use Rattle.typing_infos.specs.Infos.{joined_use, marked, with_uses, Dominates};
 ghost use Rattle.spec_analysis.specs.Summaries.{no_use};
 
-use spec_analysis::GlobalUse;
 use bitflags::Flags;
 use ir_arena::handle::Handle;
 use ir_types::key;
+use spec_analysis::GlobalUse;
 
 // A use and a further one.
 fn joined(kind: GlobalUse, more: GlobalUse) -> GlobalUse

@@ -52,24 +52,24 @@ uniform_alignment (ray_query vertex_return) = alignment (ray_query vertex_return
 uniform_alignment (binding_array base n) = alignment (binding_array base n)
 
 -- where the next member may begin: behind a struct at its end, rounded up to 16
-abbrev pub free_behind : Part → Tree → ℕ
-free_behind p (struct ms span) = rounded_up 16 (end_of p)
-free_behind p (array base n stride) = 0
-free_behind p (scalar s) = 0
-free_behind p (vector n s) = 0
-free_behind p (matrix columns rows s) = 0
-free_behind p (cooperative_matrix columns rows s role) = 0
-free_behind p (atomic s) = 0
-free_behind p (pointer base space) = 0
-free_behind p (value_pointer n s space) = 0
-free_behind p (image dim arrayed class) = 0
-free_behind p (sampler comparison) = 0
-free_behind p (acceleration_structure vertex_return) = 0
-free_behind p (ray_query vertex_return) = 0
-free_behind p (binding_array base n) = 0
+abbrev pub free_after : Part → Tree → ℕ
+free_after p (struct ms span) = rounded_up 16 (end_of p)
+free_after p (array base n stride) = 0
+free_after p (scalar s) = 0
+free_after p (vector n s) = 0
+free_after p (matrix columns rows s) = 0
+free_after p (cooperative_matrix columns rows s role) = 0
+free_after p (atomic s) = 0
+free_after p (pointer base space) = 0
+free_after p (value_pointer n s space) = 0
+free_after p (image dim arrayed class) = 0
+free_after p (sampler comparison) = 0
+free_after p (acceleration_structure vertex_return) = 0
+free_after p (ray_query vertex_return) = 0
+free_after p (binding_array base n) = 0
 
 abbrev pub StructsApart : List Part → Type 0
-StructsApart ps = (k : ℕ) (p : Part) → slice_get ps k ≡ Some p → IfSome (before ps k) (λ a. free_behind a a.of_type ≤ p.offset)
+StructsApart ps = (k : ℕ) (p : Part) → slice_get ps k ≡ Some p → IfSome (before ps k) (λ a. free_after a a.of_type ≤ p.offset)
 
 abbrev pub UniformAt : Tree → Type 0
 UniformAt (array base n stride) = (uniform_alignment base ∣ stride) × (16 ∣ stride)

@@ -52,12 +52,12 @@ pub record IsFault (context : Context) (expressions : List PlainExpression) (pla
   pub faulty : IsFaulty context expressions place f
   pub none : (t : Form) → HasTypeAmong context expressions place t → ⊥
 
-abbrev pub TellsFault : Context → List PlainExpression → ℕ → Option TypingFault → Type 0
-TellsFault context expressions place (Some f) = IsFault context expressions place f
-TellsFault context expressions place None = ⊥
+abbrev pub ReportsFault : Context → List PlainExpression → ℕ → Option TypingFault → Type 0
+ReportsFault context expressions place (Some f) = IsFault context expressions place f
+ReportsFault context expressions place None = ⊥
 
 -- An answer about the expression at a place: it has the type that is given, or the fault that is told.
 abbrev pub IsAnswer : Context → List PlainExpression → ℕ → Result TypeResolution ResolveRefusal → Type 0
 IsAnswer context expressions place (Ok r) = HasTypeAmong context expressions place (form_given context.types r)
-IsAnswer context expressions place (Err (Fault e)) = TellsFault context expressions place (fault_of e)
+IsAnswer context expressions place (Err (Fault e)) = ReportsFault context expressions place (fault_of e)
 IsAnswer context expressions place (Err (Memory e)) = Unit {0}

@@ -10,8 +10,8 @@ ghost use Rattle.typing_operands.specs.Answers.{form_given, form_answer};
 ghost use Rattle.typing_operands.specs.Operands.{given_form};
 
 use ir_arena::handle::Handle;
-use ir_types::{Expression, IrType, TypeInner, key};
 use ir_sets::unique_arena::UniqueArena;
+use ir_types::{Expression, IrType, TypeInner, key};
 use spec_expressions::TypingFault;
 use std::alloc::{AllocError, Global};
 use typing_forms::{Form, TypeResolution, form_of};

@@ -5,17 +5,17 @@ use Rattle.typing_rules.specs.declared.patterns.Pattern.{Pattern}
 use Rattle.typing_rules.specs.declared.rules.ConstructorSize.{ConstructorSize}
 use Rattle.typing_rules.specs.declared.rules.Rule.{Rule}
 use Rattle.typing_rules.specs.Tables.{rule_of, row, rules_over}
-use Rattle.typing_overloads.specs.Products.{asked_type, asked_by}
+use Rattle.typing_overloads.specs.Products.{required_type, required_by}
 use Rattle.typing_rules.specs.Laws.{arity}
 use Rattle.typing_overloads.specs.Sets.{fewest_arguments, most_arguments}
-use Rattle.typing_overloads.proofs.Kept.{asked_are}
+use Rattle.typing_overloads.proofs.Kept.{required_are}
 
 length_mapped : {A B : Type 0} (f : A → B) (xs : List A) → length (map f xs) ≡ length xs
 length_mapped f [] = refl
 length_mapped f (x ∷ xs) = ap (λ n. suc n) (length_mapped f xs)
 
-arity_by : (p : Pattern) (n : ConstructorSize) (s : Scalar) → arity (rule_of p n s) ≡ length (asked_by p)
-arity_by p n s = ap length (asked_are p n s) ∙ length_mapped (asked_type n s) (asked_by p)
+arity_by : (p : Pattern) (n : ConstructorSize) (s : Scalar) → arity (rule_of p n s) ≡ length (required_by p)
+arity_by p n s = ap length (required_are p n s) ∙ length_mapped (required_type n s) (required_by p)
 
 -- each rule has so many arguments
 abbrev AllHave : ℕ → List Rule → Type 0
@@ -26,13 +26,13 @@ all_joined : (k : ℕ) (xs ys : List Rule) → AllHave k xs → AllHave k ys →
 all_joined k [] ys h l = l
 all_joined k (x ∷ xs) ys h l = (h.0, all_joined k xs ys h.1 l)
 
-all_of_row : (p : Pattern) (n : ConstructorSize) (ss : List Scalar) → AllHave (length (asked_by p)) (row p ss n)
+all_of_row : (p : Pattern) (n : ConstructorSize) (ss : List Scalar) → AllHave (length (required_by p)) (row p ss n)
 all_of_row p n [] = tt
 all_of_row p n (s ∷ ss) = (arity_by p n s, all_of_row p n ss)
 
-all_of_rules : (p : Pattern) (ss : List Scalar) (ns : List ConstructorSize) → AllHave (length (asked_by p)) (rules_over p ss ns)
+all_of_rules : (p : Pattern) (ss : List Scalar) (ns : List ConstructorSize) → AllHave (length (required_by p)) (rules_over p ss ns)
 all_of_rules p ss [] = tt
-all_of_rules p ss (n ∷ ns) = all_joined (length (asked_by p)) (row p ss n) (rules_over p ss ns) (all_of_row p n ss) (all_of_rules p ss ns)
+all_of_rules p ss (n ∷ ns) = all_joined (length (required_by p)) (row p ss n) (rules_over p ss ns) (all_of_row p n ss) (all_of_rules p ss ns)
 
 -- ---- the least and the greatest
 
@@ -52,12 +52,12 @@ max_again : (n k : ℕ) → max (max n k) k ≡ max n k
 max_again n k = omega arith
 
 pub fewest_found : (p : Pattern) (ss : List Scalar) (ns : List ConstructorSize) (n : ℕ) (q : Rule) → Some q ≡ slice_get (rules_over p ss ns) 0
-    → min n (length (asked_by p)) ≡ fold (λ m r. min m (arity r)) n (rules_over p ss ns)
-fewest_found p ss ns n q e = found min min_again n (length (asked_by p)) (rules_over p ss ns) q (all_of_rules p ss ns) e
+    → min n (length (required_by p)) ≡ fold (λ m r. min m (arity r)) n (rules_over p ss ns)
+fewest_found p ss ns n q e = found min min_again n (length (required_by p)) (rules_over p ss ns) q (all_of_rules p ss ns) e
 
 pub most_found : (p : Pattern) (ss : List Scalar) (ns : List ConstructorSize) (n : ℕ) (q : Rule) → Some q ≡ slice_get (rules_over p ss ns) 0
-    → max n (length (asked_by p)) ≡ fold (λ m r. max m (arity r)) n (rules_over p ss ns)
-most_found p ss ns n q e = found max max_again n (length (asked_by p)) (rules_over p ss ns) q (all_of_rules p ss ns) e
+    → max n (length (required_by p)) ≡ fold (λ m r. max m (arity r)) n (rules_over p ss ns)
+most_found p ss ns n q e = found max max_again n (length (required_by p)) (rules_over p ss ns) q (all_of_rules p ss ns) e
 
 -- no rule changes nothing
 pub none_found : (op : ℕ → Rule → ℕ) (n : ℕ) (rs : List Rule) → None ≡ slice_get rs 0 → n ≡ fold op n rs

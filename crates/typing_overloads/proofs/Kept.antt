@@ -15,8 +15,8 @@ use Rattle.typing_rules.specs.Tables.{arguments_of, rule_of, row, rules_over}
 use Rattle.typing_rules.specs.Types.{constructor_place, listed, value_type_of}
 use Rattle.typing_rules.specs.Bits.{marks}
 use Rattle.typing_rules.specs.Members.{scalars, scalars_in, sizes, sizes_in}
-use Rattle.typing_overloads.specs.declared.asked.Asked.{Asked}
-use Rattle.typing_overloads.specs.Products.{asked_size, asked_scalar, asked_type, asked_by, all_concrete}
+use Rattle.typing_overloads.specs.declared.required.Required.{Required}
+use Rattle.typing_overloads.specs.Products.{required_size, required_scalar, required_type, required_by, all_concrete}
 use Rattle.typing_overloads.proofs.Masks.{chosen_by_both}
 
 -- ---- products
@@ -61,50 +61,50 @@ nothing_kept q p h ss (n ∷ ns) = filter-append q (row p ss n) (rules_over p ss
 
 -- ---- what is asked for at a place
 
-pub asked_are : (p : Pattern) (n : ConstructorSize) (s : Scalar) → listed (arguments_of p n s) ≡ map (asked_type n s) (asked_by p)
-asked_are pattern.Same n s = refl
-asked_are pattern.SameTwo n s = refl
-asked_are pattern.SameThree n s = refl
-asked_are pattern.ToScalar n s = refl
-asked_are pattern.TwoToScalar n s = refl
-asked_are pattern.WithScalar n s = refl
-asked_are pattern.WithExponent n s = refl
-asked_are pattern.WithRange n s = refl
-asked_are pattern.TwoWithRange n s = refl
-asked_are pattern.ToFraction n s = refl
-asked_are pattern.ToExponent n s = refl
-asked_are pattern.ToOuter n s = refl
-asked_are pattern.ToTransposed n s = refl
-asked_are pattern.ToWord n s = refl
-asked_are pattern.FromWord n s = refl
-asked_are pattern.FromTwoWords n s = refl
+pub required_are : (p : Pattern) (n : ConstructorSize) (s : Scalar) → listed (arguments_of p n s) ≡ map (required_type n s) (required_by p)
+required_are pattern.Same n s = refl
+required_are pattern.SameTwo n s = refl
+required_are pattern.SameThree n s = refl
+required_are pattern.ToScalar n s = refl
+required_are pattern.TwoToScalar n s = refl
+required_are pattern.WithScalar n s = refl
+required_are pattern.WithExponent n s = refl
+required_are pattern.WithRange n s = refl
+required_are pattern.TwoWithRange n s = refl
+required_are pattern.ToFraction n s = refl
+required_are pattern.ToExponent n s = refl
+required_are pattern.ToOuter n s = refl
+required_are pattern.ToTransposed n s = refl
+required_are pattern.ToWord n s = refl
+required_are pattern.FromWord n s = refl
+required_are pattern.FromTwoWords n s = refl
 
-asked_there : (p : Pattern) (place : ℕ) (o : Option Asked) → slice_get (asked_by p) place ≡ o → (n : ConstructorSize) (s : Scalar)
-    → slice_get (listed (arguments_of p n s)) place ≡ option_map (asked_type n s) o
-asked_there p place o e n s = ap (λ xs. slice_get xs place) (asked_are p n s) ∙ slice_get-map (asked_type n s) (asked_by p) place ∙ ap (option_map (asked_type n s)) e
+asked_there : (p : Pattern) (place : ℕ) (o : Option Required) → slice_get (required_by p) place ≡ o → (n : ConstructorSize) (s : Scalar)
+    → slice_get (listed (arguments_of p n s)) place ≡ option_map (required_type n s) o
+asked_there p place o e n s = ap (λ xs. slice_get xs place) (required_are p n s) ∙ slice_get-map (required_type n s) (required_by p) place ∙ ap (option_map (required_type n s)) e
 
 some_rank : (b : Bool) (o : Option ℕ) → is_some (cond b o None) ≡ b && is_some o
 some_rank true o = refl
 some_rank false o = refl
 
-abbrev takes_size : ValueType → Asked → ConstructorSize → Bool
-takes_size given a n = constructor_place given.size == constructor_place (asked_size a.size n)
+abbrev takes_size : ValueType → Required → ConstructorSize → Bool
+takes_size given a n = constructor_place given.size == constructor_place (required_size a.size n)
 
-abbrev takes_scalar : ValueType → Asked → Scalar → Bool
-takes_scalar given a s = is_some (rank given.scalar (asked_scalar a.scalar s))
+abbrev takes_scalar : ValueType → Required → Scalar → Bool
+takes_scalar given a s = is_some (rank given.scalar (required_scalar a.scalar s))
 
-accepts_by : (place : ℕ) (given : ValueType) (p : Pattern) (a : Asked) → slice_get (asked_by p) place ≡ Some a → (n : ConstructorSize) (s : Scalar)
+accepts_by : (place : ℕ) (given : ValueType) (p : Pattern) (a : Required) → slice_get (required_by p) place ≡ Some a → (n : ConstructorSize) (s : Scalar)
     → accepts place given (rule_of p n s) ≡ takes_size given a n && takes_scalar given a s
 accepts_by place given p a e n s =
-    ap (λ o. is_some (rank_if given o)) (asked_there p place (Some a) e n s) ∙ some_rank (takes_size given a n) (rank given.scalar (asked_scalar a.scalar s))
+    ap (λ o. is_some (rank_if given o)) (asked_there p place (Some a) e n s) ∙ some_rank (takes_size given a n) (rank given.scalar (required_scalar a.scalar s))
 
 -- what takes an argument is a product of shapes and scalars
-accepting_kept : (place : ℕ) (given : ValueType) (p : Pattern) (a : Asked) → slice_get (asked_by p) place ≡ Some a → (ss : List Scalar) (ns : List ConstructorSize)
+accepting_kept : (place : ℕ) (given : ValueType) (p : Pattern) (a : Required) → slice_get (required_by p) place ≡ Some a → (ss : List Scalar) (ns : List ConstructorSize)
     → filter (accepts place given) (rules_over p ss ns) ≡ rules_over p (filter (takes_scalar given a) ss) (filter (takes_size given a) ns)
 accepting_kept place given p a e ss ns = product_kept (accepts place given) (takes_scalar given a) (takes_size given a) p (accepts_by place given p a e) ss ns
 
 -- where a rule has no such argument, none is left
-none_kept : (place : ℕ) (given : ValueType) (p : Pattern) → slice_get (asked_by p) place ≡ None → (ss : List Scalar) (ns : List ConstructorSize)
+none_kept : (place : ℕ) (given : ValueType) (p : Pattern) → slice_get (required_by p) place ≡ None → (ss : List Scalar) (ns : List ConstructorSize)
     → filter (accepts place given) (rules_over p ss ns) ≡ []
 none_kept place given p e ss ns = nothing_kept (accepts place given) p (λ n s. ap (λ o. is_some (rank_if given o)) (asked_there p place None e n s)) ss ns
 
@@ -150,7 +150,7 @@ concrete_kept p ss ns = product_kept is_concrete (all_concrete p) (λ n. true) p
 -- ---- sets of bits
 
 -- a pattern that asks for a type here: two sets of bits are cut to those of its shapes and scalars
-pub accepted : (place : ℕ) (inner : PlainInner) (given : ValueType) (p : Pattern) (a : Asked) → Some given ≡ value_type_of inner → Some a ≡ slice_get (asked_by p) place
+pub accepted : (place : ℕ) (inner : PlainInner) (given : ValueType) (p : Pattern) (a : Required) → Some given ≡ value_type_of inner → Some a ≡ slice_get (required_by p) place
     → (scalar_bits size_bits scalar_mask size_mask : ℕ) → marks scalar_mask scalars ≡ map (takes_scalar given a) scalars → marks size_mask sizes ≡ map (takes_size given a) sizes
     → rules_over p (scalars_in (bit_and scalar_bits scalar_mask)) (sizes_in (bit_and size_bits size_mask))
     ≡ filter (accepts_inner place inner) (rules_over p (scalars_in scalar_bits) (sizes_in size_bits))
@@ -160,7 +160,7 @@ accepted place inner given p a e h scalar_bits size_bits scalar_mask size_mask k
     ∙ ap (λ o. filter (accepts_if place o) (rules_over p (scalars_in scalar_bits) (sizes_in size_bits))) e
 
 -- one that asks for none there
-pub no_argument : (place : ℕ) (inner : PlainInner) (given : ValueType) (p : Pattern) → Some given ≡ value_type_of inner → None ≡ slice_get (asked_by p) place
+pub no_argument : (place : ℕ) (inner : PlainInner) (given : ValueType) (p : Pattern) → Some given ≡ value_type_of inner → None ≡ slice_get (required_by p) place
     → (ss : List Scalar) (ns : List ConstructorSize) → [] ≡ filter (accepts_inner place inner) (rules_over p ss ns)
 no_argument place inner given p e h ss ns = sym (none_kept place given p (sym h) ss ns) ∙ ap (λ o. filter (accepts_if place o) (rules_over p ss ns)) e
 

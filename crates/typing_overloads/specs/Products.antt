@@ -11,55 +11,55 @@ use Rattle.typing_rules.specs.Ranks.{is_abstract_kind}
 use Rattle.typing_rules.specs.Tables.{i32, u32, column_size, row_size, rules_over}
 use Rattle.typing_rules.specs.Types.{value_type}
 use Rattle.typing_rules.specs.Members.{scalars_in, sizes_in}
-use Rattle.typing_overloads.specs.declared.asked.Asked.{Asked}
-use Rattle.typing_overloads.specs.declared.asked.AskedScalar.{AskedScalar}
-use Rattle.typing_overloads.specs.declared.asked.AskedScalar.TheVariants as scalars
-use Rattle.typing_overloads.specs.declared.asked.AskedSize.{AskedSize}
-use Rattle.typing_overloads.specs.declared.asked.AskedSize.TheVariants as sizes
+use Rattle.typing_overloads.specs.declared.required.Required.{Required}
+use Rattle.typing_overloads.specs.declared.required.RequiredScalar.{RequiredScalar}
+use Rattle.typing_overloads.specs.declared.required.RequiredScalar.TheVariants as scalars
+use Rattle.typing_overloads.specs.declared.required.RequiredSize.{RequiredSize}
+use Rattle.typing_overloads.specs.declared.required.RequiredSize.TheVariants as sizes
 use Rattle.typing_overloads.specs.declared.product.Product.{Product}
 
 -- ---- what a rule asks for
 
 -- the shape, of the shape that the rule is made of
-abbrev pub asked_size : AskedSize → ConstructorSize → ConstructorSize
-asked_size sizes.Same n = n
-asked_size sizes.Scalar n = size.Scalar
-asked_size sizes.Column n = column_size n
-asked_size sizes.Row n = row_size n
+abbrev pub required_size : RequiredSize → ConstructorSize → ConstructorSize
+required_size sizes.Same n = n
+required_size sizes.Scalar n = size.Scalar
+required_size sizes.Column n = column_size n
+required_size sizes.Row n = row_size n
 
 -- the scalar, of the scalar that the rule is made of
-abbrev pub asked_scalar : AskedScalar → Scalar → Scalar
-asked_scalar scalars.Same s = s
-asked_scalar scalars.I32 s = i32
-asked_scalar scalars.U32 s = u32
+abbrev pub required_scalar : RequiredScalar → Scalar → Scalar
+required_scalar scalars.Same s = s
+required_scalar scalars.I32 s = i32
+required_scalar scalars.U32 s = u32
 
-abbrev pub asked_type : ConstructorSize → Scalar → Asked → ValueType
-asked_type n s a = value_type (asked_size a.size n) (asked_scalar a.scalar s)
+abbrev pub required_type : ConstructorSize → Scalar → Required → ValueType
+required_type n s a = value_type (required_size a.size n) (required_scalar a.scalar s)
 
-abbrev pub own : Asked
+abbrev pub own : Required
 own = record { size = sizes.Same; scalar = scalars.Same }
 
-abbrev pub word : Asked
+abbrev pub word : Required
 word = record { size = sizes.Scalar; scalar = scalars.U32 }
 
 -- what the rules of a pattern ask for, in order
-abbrev pub asked_by : Pattern → List Asked
-asked_by pattern.Same = own ∷ []
-asked_by pattern.SameTwo = own ∷ own ∷ []
-asked_by pattern.SameThree = own ∷ own ∷ own ∷ []
-asked_by pattern.ToScalar = own ∷ []
-asked_by pattern.TwoToScalar = own ∷ own ∷ []
-asked_by pattern.WithScalar = own ∷ own ∷ record { size = sizes.Scalar; scalar = scalars.Same } ∷ []
-asked_by pattern.WithExponent = own ∷ record { size = sizes.Same; scalar = scalars.I32 } ∷ []
-asked_by pattern.WithRange = own ∷ word ∷ word ∷ []
-asked_by pattern.TwoWithRange = own ∷ own ∷ word ∷ word ∷ []
-asked_by pattern.ToFraction = own ∷ []
-asked_by pattern.ToExponent = own ∷ []
-asked_by pattern.ToOuter = record { size = sizes.Column; scalar = scalars.Same } ∷ record { size = sizes.Row; scalar = scalars.Same } ∷ []
-asked_by pattern.ToTransposed = own ∷ []
-asked_by pattern.ToWord = own ∷ []
-asked_by pattern.FromWord = word ∷ []
-asked_by pattern.FromTwoWords = word ∷ word ∷ []
+abbrev pub required_by : Pattern → List Required
+required_by pattern.Same = own ∷ []
+required_by pattern.SameTwo = own ∷ own ∷ []
+required_by pattern.SameThree = own ∷ own ∷ own ∷ []
+required_by pattern.ToScalar = own ∷ []
+required_by pattern.TwoToScalar = own ∷ own ∷ []
+required_by pattern.WithScalar = own ∷ own ∷ record { size = sizes.Scalar; scalar = scalars.Same } ∷ []
+required_by pattern.WithExponent = own ∷ record { size = sizes.Same; scalar = scalars.I32 } ∷ []
+required_by pattern.WithRange = own ∷ word ∷ word ∷ []
+required_by pattern.TwoWithRange = own ∷ own ∷ word ∷ word ∷ []
+required_by pattern.ToFraction = own ∷ []
+required_by pattern.ToExponent = own ∷ []
+required_by pattern.ToOuter = record { size = sizes.Column; scalar = scalars.Same } ∷ record { size = sizes.Row; scalar = scalars.Same } ∷ []
+required_by pattern.ToTransposed = own ∷ []
+required_by pattern.ToWord = own ∷ []
+required_by pattern.FromWord = word ∷ []
+required_by pattern.FromTwoWords = word ∷ word ∷ []
 
 -- whether a rule of the pattern that is made of the scalar asks for no abstract one
 abbrev pub all_concrete : Pattern → Scalar → Bool

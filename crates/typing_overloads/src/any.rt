@@ -7,8 +7,8 @@ use crate::list::List;
 use crate::overload_set::OverloadSet;
 use crate::regular::Regular;
 use ir_types::TypeInner;
-use typing_rules::{Rule, ValueType};
 use std::alloc::{AllocError, Global};
+use typing_rules::{Rule, ValueType};
 
 /// An overload set of one of the two kinds (naga's `AnyOverloadSet`). A contract sees the rules that are left.
 #[derive(Debug, Drop)]

@@ -10,10 +10,9 @@ use crate::list::List;
 use crate::product::Product;
 use crate::regular::Regular;
 use crate::rows::row_of;
-use typing_rules::{ConstructorSet, ScalarSet};
 use ir_kinds::MathFunction;
-use typing_rules::Pattern;
 use std::alloc::{AllocError, Global};
+use typing_rules::{ConstructorSet, Pattern, ScalarSet};
 
 // The rules of `Mix` that blend vectors by a scalar.
 const BLENDS: Product = Product {

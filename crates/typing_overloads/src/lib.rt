@@ -2,19 +2,21 @@
 #![tactic(auto)]
 
 mod any;
-mod asked;
 mod functions;
 mod list;
 mod overload_set;
 mod product;
 mod regular;
+mod required;
 mod rows;
 mod rule_lists;
 
 pub use any::AnyOverloadSet;
-pub use typing_rules::{ConstructorSet, Members, OneBitsIter, ScalarSet};
 pub use functions::MathFunctionExt;
 pub use list::List;
 pub use overload_set::OverloadSet;
-pub use typing_rules::{Arguments, Conclusion, ConstructorSize, Rule, ValueType};
 pub use regular::Regular;
+pub use typing_rules::{
+    Arguments, Conclusion, ConstructorSet, ConstructorSize, Members, OneBitsIter, Rule, ScalarSet,
+    ValueType,
+};

@@ -3,11 +3,11 @@
 ghost use Rattle.std.specs.Prelude.{◌≡◌, IfOk};
 
 use crate::overload_set::OverloadSet;
-use crate::rule_lists::{accepting, asked_for, concrete, max_arity, min_arity};
+use crate::rule_lists::{accepting, concrete, max_arity, min_arity, required_for};
 use ir_types::TypeInner;
-use typing_rules::{Rule, ValueType};
 use std::alloc::{AllocError, Global};
 use std::marker::Model;
+use typing_rules::{Rule, ValueType};
 
 /// An overload set of any rules, kept one by one (naga's `List`). In a contract it is the list of the rules that are
 /// left.
@@ -88,7 +88,7 @@ impl OverloadSet for List {
     }
 
     fn allowed_args(&self, alloc: Global, i: usize) -> Result<Vec<ValueType>, AllocError> {
-        asked_for(alloc, self.rules.as_slice(), i)
+        required_for(alloc, self.rules.as_slice(), i)
     }
 
     ghost clones = { λ set copy same. same };

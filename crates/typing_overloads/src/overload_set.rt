@@ -7,8 +7,8 @@ ghost use Rattle.typing_rules.specs.Ranks.{accepts_inner, is_concrete};
 ghost use Rattle.typing_overloads.specs.Sets.{fewest_arguments, most_arguments, arguments_at};
 
 use ir_types::TypeInner;
-use typing_rules::{Rule, ValueType};
 use std::alloc::{AllocError, Global};
+use typing_rules::{Rule, ValueType};
 
 /// The rules that a function has left for the arguments that were supplied (naga's `OverloadSet`). In a contract a set
 /// is the list of these rules, the preferred one first.
@@ -20,12 +20,12 @@ pub trait OverloadSet: Clone {
     fn is_empty(&self) -> bool
         ensures { result ≡ (length (rules self.now) == 0) };
 
-    /// The least number of arguments that a rule has. Asks for a rule.
+    /// The least number of arguments that a rule has. Requires for a rule.
     fn min_arguments(&self) -> usize
         requires { 0 < length (rules self.now) }
         ensures { result ≡ fewest_arguments (rules self.now) };
 
-    /// The greatest number of arguments that a rule has. Asks for a rule.
+    /// The greatest number of arguments that a rule has. Requires for a rule.
     fn max_arguments(&self) -> usize
         requires { 0 < length (rules self.now) }
         ensures { result ≡ most_arguments (rules self.now) };
@@ -38,7 +38,7 @@ pub trait OverloadSet: Clone {
     fn concrete_only(self) -> Self
         ensures { rules result ≡ filter is_concrete (rules self) };
 
-    /// The rule that is preferred. Asks for a rule.
+    /// The rule that is preferred. Requires for a rule.
     fn most_preferred(&self) -> Rule
         requires { 0 < length (rules self.now) }
         ensures { slice_get (rules self.now) 0 ≡ Some result };

@@ -10,11 +10,10 @@ ghost use Rattle.typing_rules.specs.Members.{scalars_in};
 ghost use Rattle.typing_overloads.specs.Products.{rules_of};
 ghost use Rattle.typing_overloads.specs.Sets.{one_or_none, arguments_at};
 
-use crate::asked::{asked_at, asked_by, concrete_scalars};
-use typing_rules::{ConstructorSet, ScalarSet};
+use crate::required::{concrete_scalars, required_at, required_by};
 use ir_types::TypeInner;
-use typing_rules::{ConstructorSize, Pattern, Rule, ValueType};
 use std::alloc::AllocError;
+use typing_rules::{ConstructorSet, ConstructorSize, Pattern, Rule, ScalarSet, ValueType};
 
 /// The rules that a pattern makes of each of the shapes with each of the scalars: by shape, then by scalar.
 #[derive(Clone, Copy, Debug)]
@@ -54,7 +53,7 @@ impl Product {
         ensures { rules_of result ≡ filter (accepts_inner place (inner_view given.now)) (rules_of self) }
     {
         match ValueType::of(given) {
-            Some(given) => match asked_at(self.pattern, place) {
+            Some(given) => match required_at(self.pattern, place) {
                 Some(asked) => Product {
                     pattern: self.pattern,
                     scalars: ScalarSet(self.scalars.0 & asked.scalar.taking(given.scalar).0),
@@ -82,7 +81,7 @@ impl Product {
         ensures { result ≡ fold (λ n r. min n (arity r)) found (rules_of self) }
     {
         match self.first() {
-            Some(_) => found.min(asked_by(self.pattern).len()),
+            Some(_) => found.min(required_by(self.pattern).len()),
             None => found,
         }
     }
@@ -92,7 +91,7 @@ impl Product {
         ensures { result ≡ fold (λ n r. max n (arity r)) found (rules_of self) }
     {
         match self.first() {
-            Some(_) => found.max(asked_by(self.pattern).len()),
+            Some(_) => found.max(required_by(self.pattern).len()),
             None => found,
         }
     }

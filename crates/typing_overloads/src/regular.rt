@@ -6,9 +6,9 @@ ghost use Rattle.typing_overloads.specs.Products.{rules_of};
 use crate::overload_set::OverloadSet;
 use crate::product::Product;
 use ir_types::TypeInner;
-use typing_rules::{Rule, ValueType};
 use std::alloc::{AllocError, Global};
 use std::marker::Model;
+use typing_rules::{Rule, ValueType};
 
 /// An overload set whose rules all are of one form, with each of some shapes and each of some scalars (naga's
 /// `Regular`). In a contract it is the list of the rules that are left.

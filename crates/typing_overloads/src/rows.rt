@@ -5,9 +5,8 @@ ghost use Rattle.typing_overloads.specs.Products.{rules_of};
 ghost use Rattle.typing_overloads.specs.Rows.{first_row};
 
 use crate::product::Product;
-use typing_rules::{ConstructorSet as C, ScalarSet as S};
 use ir_kinds::MathFunction as Mf;
-use typing_rules::Pattern;
+use typing_rules::{ConstructorSet as C, Pattern, ScalarSet as S};
 
 // All numbers but the unsigned ones.
 const SIGNED_NUMBERS: S = S(S::ABSTRACT_INT.0 | S::I32.0 | S::I16.0 | S::I64.0 | S::FLOAT.0);

@@ -9,8 +9,8 @@ ghost use Rattle.typing_overloads.specs.Sets.{arguments_at};
 
 use crate::product::add_type;
 use ir_types::TypeInner;
-use typing_rules::{Rule, ValueType};
 use std::alloc::{AllocError, Global};
+use typing_rules::{Rule, ValueType};
 
 /// The rules that accept an argument of the type `given` at a place, counted from 0. The error is out of memory.
 pub(crate) fn accepting(
@@ -62,7 +62,7 @@ pub(crate) fn max_arity(rules: &[Rule], found: usize) -> usize
 }
 
 /// The types that the rules ask for at a place, counted from 0. The error is out of memory.
-pub(crate) fn asked_for(
+pub(crate) fn required_for(
     alloc: Global,
     rules: &[Rule],
     place: usize,

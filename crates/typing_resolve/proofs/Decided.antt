@@ -11,7 +11,7 @@ use Rattle.spec_expressions.specs.Context.{Context}
 use Rattle.spec_expressions.specs.Laws.{IsFaulty}
 use Rattle.spec_expressions.specs.Typing.{form_read, operand_form, rule, rule_at, typing_operands, HasTypeAmong, has}
 use Rattle.spec_expressions.specs.declared.faults.TypingFault.{TypingFault}
-use Rattle.typing_operands.specs.Answers.{form_given, fault_of, told, TellsFault, IsAnswer}
+use Rattle.typing_operands.specs.Answers.{form_given, fault_of, told, ReportsFault, IsAnswer}
 use Rattle.typing_operands.specs.Operands.{given_form}
 use Rattle.typing_operands.specs.declared.error.ResolveRefusal.{ResolveRefusal}
 use Rattle.typing_operands.specs.declared.error.ResolveRefusal.TheVariants.{Memory, Fault}
@@ -46,7 +46,7 @@ told_same types v w result e t = subst (λ z. told types (Some z) result ≡ Som
 
 tells : (context : Context) (xs : List PlainExpression) (place : ℕ) (x : PlainExpression) (forms : ℕ → Form) (f : Option TypingFault)
     → slice_get xs place ≡ Some x → ((o : ℕ) → IsAmong o (typing_operands x) → HasTypeAmong context xs o (forms o))
-    → option_map (λ f. Err f) f ≡ Some (rule_at context x forms) → TellsFault context xs place f
+    → option_map (λ f. Err f) f ≡ Some (rule_at context x forms) → ReportsFault context xs place f
 tells context xs place x forms None stands operands t = cc (t)
 tells context xs place x forms (Some f) stands operands t =
     let faulty : IsFaulty context xs place f = record { expression = x; past = forms; stands = stands; operands = operands; refused = sym (some_is t) } in

@@ -10,8 +10,8 @@ ghost use Rattle.typing_operands.specs.Answers.{form_given, form_answer};
 
 use ir_arena::handle::Handle;
 use ir_kinds::{AddressSpace, Scalar, VectorSize};
-use ir_types::{IrType, StructMember, TypeInner, key};
 use ir_sets::unique_arena::UniqueArena;
+use ir_types::{IrType, StructMember, TypeInner, key};
 use spec_expressions::TypingFault;
 use typing_forms::{Form, TypeResolution, inner_of};
 

@@ -22,8 +22,8 @@ use ir_items::{
     Constant, Function, FunctionArgument, GlobalVariable, LocalVariable, Module, Override,
     SpecialTypes,
 };
-use ir_types::{Expression, IrType, key};
 use ir_sets::unique_arena::UniqueArena;
+use ir_types::{Expression, IrType, key};
 use std::alloc::Global;
 use typing_forms::TypeResolution;
 use typing_operands::{Given, ResolveRefusal, operands_of};
@@ -134,7 +134,7 @@ impl<'a> ResolveContext<'a> {
     /// The type of `expression`, where `past` answers those of the operands that it depends on (naga's
     /// `ResolveContext::resolve`). A type of the module is answered by its handle wherever one says it.
     ///
-    /// Asks that the constant, override, variable or function that the expression names is there, and that `past` may be
+    /// Requires that the constant, override, variable or function that the expression names is there, and that `past` may be
     /// called for the operands on whose types its own depends.
     ///
     /// # Errors

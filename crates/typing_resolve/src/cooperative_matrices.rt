@@ -7,8 +7,8 @@ ghost use Rattle.typing_operands.specs.Answers.{form_answer};
 
 use ir_arena::handle::Handle;
 use ir_kinds::{CooperativeRole, CooperativeSize, Scalar};
-use ir_types::{IrType, TypeInner, key};
 use ir_sets::unique_arena::UniqueArena;
+use ir_types::{IrType, TypeInner, key};
 use spec_expressions::TypingFault;
 use typing_forms::{Form, TypeInnerExt, TypeResolution, inner_of};
 

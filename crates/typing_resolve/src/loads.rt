@@ -15,8 +15,8 @@ use ir_arena::arena::Arena;
 use ir_arena::handle::Handle;
 use ir_items::{FunctionArgument, GlobalVariable, LocalVariable};
 use ir_kinds::{AddressSpace, Scalar, VectorSize};
-use ir_types::{IrType, TypeInner, key};
 use ir_sets::unique_arena::UniqueArena;
+use ir_types::{IrType, TypeInner, key};
 use spec_expressions::TypingFault;
 use typing_forms::{Form, TypeResolution, inner_of};
 

@@ -14,12 +14,12 @@ use crate::context::ResolveContext;
 use ir_arena::handle::Handle;
 use ir_kinds::MathFunction;
 use ir_types::{TypeInner, key};
-use typing_rules::Rule;
 use spec_expressions::{ConclusionExt, TypingFault};
 use std::alloc::{AllocError, Global};
 use typing_forms::Form;
 use typing_operands::{Given, Typing, given_form};
 use typing_overloads::{AnyOverloadSet, MathFunctionExt, OverloadSet};
+use typing_rules::Rule;
 
 // The type of an argument, as overload sets take it: for all that are no values stands a type that no rule takes.
 fn argument_inner(of: Form) -> TypeInner

@@ -8,8 +8,8 @@ ghost use Rattle.typing_operands.specs.Answers.{form_answer};
 ghost use Rattle.typing_operands.specs.Operands.{given_form};
 
 use ir_kinds::{BinaryOperator, Scalar, VectorSize};
-use ir_types::{IrType, TypeInner, key};
 use ir_sets::unique_arena::UniqueArena;
+use ir_types::{IrType, TypeInner, key};
 use spec_expressions::TypingFault;
 use std::alloc::{AllocError, Global};
 use typing_forms::{Form, TypeResolution};

@@ -7,10 +7,10 @@ ghost use Rattle.typing_rules.specs.Bits.{chosen};
 ghost use Rattle.typing_rules.specs.Members.{sizes_in, single_sizes, size_of};
 
 use crate::one_bits::Members;
+use crate::{ConstructorSize, ValueType};
 use bitflags::{Flag, Flags, bitflag_items};
 use ir_kinds::VectorSize;
 use ir_types::TypeInner;
-use crate::{ConstructorSize, ValueType};
 
 /// A set of shapes (naga's `ConstructorSet`). A contract sees the number of its bits, as `set.0`.
 #[derive(Clone, Copy, PartialEq, Eq, Debug)]
@@ -164,7 +164,7 @@ impl ConstructorSet {
         }
     }
 
-    /// The shape in the set (naga's `ConstructorSet::size`). Asks for exactly one.
+    /// The shape in the set (naga's `ConstructorSet::size`). Requires for exactly one.
     pub fn size(self) -> ConstructorSize
         requires { length (sizes_in self.0) ≡ 1 }
         ensures { sizes_in self.0 ≡ result ∷ [] }

@@ -6,11 +6,11 @@ ghost use Rattle.spec_analysis.specs.Pairs.{pair_eq};
 ghost use Rattle.typing_infos.specs.Marks.{EachOnce};
 ghost use Rattle.typing_sampling.specs.Fronts.{BeginsWith};
 
-use spec_analysis::SamplingPair;
 use indexmap::IndexSet;
-use typing_infos::SampledPairs;
+use spec_analysis::SamplingPair;
 use std::alloc::{AllocError, Global};
 use std::hash::Hash;
+use typing_infos::SampledPairs;
 
 /// Pairs in the order in which they were found, each once. The first few are a list, or all those of a function that is called,
 /// which has them as well; only those behind them are found by hashes of this list's own: most functions sample few pairs, and a

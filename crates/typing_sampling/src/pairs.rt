@@ -11,11 +11,11 @@ ghost use Rattle.typing_sampling.specs.Passed.{PassesOn, PassesAllOn};
 
 use crate::list::PairList;
 use crate::places::{Expressions, place};
-use spec_analysis::{GlobalOrArgument, SamplingPair};
 use ir_arena::handle::Handle;
 use ir_types::key;
-use typing_infos::SampledPairs;
+use spec_analysis::{GlobalOrArgument, SamplingPair};
 use std::alloc::{AllocError, Global};
+use typing_infos::SampledPairs;
 
 /// The pairs, each once.
 #[derive(Drop)]

@@ -4,12 +4,12 @@ ghost use Rattle.std.specs.Prelude.{◌≡◌, Some, map, slice_get, option_map}
 ghost use Rattle.std.specs.Option.{option_copied};
 ghost use Rattle.ir_types.specs.ExpressionPlain.{expression_view};
 ghost use Rattle.ir_items.specs.GlobalView.{values_of};
-ghost use Rattle.spec_analysis.specs.Chains.{place, base_stands_for, stands_for};
+ghost use Rattle.spec_analysis.specs.Chains.{place, base_denotes, denotes};
 
-use spec_analysis::GlobalOrArgument;
 use ir_arena::arena::Arena;
 use ir_arena::handle::Handle;
 use ir_types::{Expression, key};
+use spec_analysis::GlobalOrArgument;
 
 /// The expressions of a function.
 pub type Expressions = Arena<Expression, key::Expression>;
@@ -28,7 +28,7 @@ fn get(expressions: &Expressions, handle: Handle<key::Expression>) -> Option<&Ex
 
 // What an expression stands for as the base of an access.
 fn base_means(expression: &Expression) -> Option<GlobalOrArgument>
-    ensures { result ≡ base_stands_for (Some (expression_view expression.now)) }
+    ensures { result ≡ base_denotes (Some (expression_view expression.now)) }
 {
     match *expression {
         Expression::GlobalVariable(global) => Some(GlobalOrArgument::Global(global)),
@@ -37,7 +37,7 @@ fn base_means(expression: &Expression) -> Option<GlobalOrArgument>
 }
 
 fn base_place(expressions: &Expressions, base: Handle<key::Expression>) -> Option<GlobalOrArgument>
-    ensures { result ≡ base_stands_for (slice_get (map expression_view (values_of expressions.now)) base) }
+    ensures { result ≡ base_denotes (slice_get (map expression_view (values_of expressions.now)) base) }
 {
     match get(expressions, base) {
         Some(expression) => base_means(expression),
@@ -46,7 +46,7 @@ fn base_place(expressions: &Expressions, base: Handle<key::Expression>) -> Optio
 }
 
 fn means(expressions: &Expressions, expression: &Expression) -> Option<GlobalOrArgument>
-    ensures { result ≡ stands_for (map expression_view (values_of expressions.now)) (Some (expression_view expression.now)) }
+    ensures { result ≡ denotes (map expression_view (values_of expressions.now)) (Some (expression_view expression.now)) }
 {
     match *expression {
         Expression::GlobalVariable(global) => Some(GlobalOrArgument::Global(global)),

@@ -13,15 +13,15 @@ module _ (meaning : ℕ → Option GlobalOrArgument) where
   at_place (m ∷ marks) (a ∷ arguments) zero lm la = refl
   at_place (m ∷ marks) (a ∷ arguments) (suc i) lm la = at_place marks arguments i (omega (arith, lm)) (omega (arith, la))
 
-  none_behind : (ms : List Bool) → parts_of meaning ms [] ≡ []
-  none_behind [] = refl
-  none_behind (m ∷ ms) = refl
+  none_after : (ms : List Bool) → parts_of meaning ms [] ≡ []
+  none_after [] = refl
+  none_after (m ∷ ms) = refl
 
   nothing_left : (marks : List Bool) (arguments : List ℕ) (i : ℕ) → min (length marks) (length arguments) ≤ i → parts_of meaning (drop i marks) (drop i arguments) ≡ []
   nothing_left [] arguments zero le = refl
   nothing_left [] arguments (suc i) le = refl
   nothing_left (m ∷ marks) [] zero le = refl
-  nothing_left (m ∷ marks) [] (suc i) le = none_behind (drop i marks)
+  nothing_left (m ∷ marks) [] (suc i) le = none_after (drop i marks)
   nothing_left (m ∷ marks) (a ∷ arguments) zero le = absurd (omega (arith, le))
   nothing_left (m ∷ marks) (a ∷ arguments) (suc i) le = nothing_left marks arguments i (omega (arith, le))
 

@@ -7,12 +7,12 @@ ghost use Rattle.spec_analysis.specs.Values.{known_at};
 ghost use Rattle.typing_infos.specs.Infos.{marked, joined_use};
 ghost use Rattle.typing_summaries.specs.Tallies.{Counted, counted, bumped, take_one, take_all, merged, queried};
 
-use spec_analysis::GlobalUse;
 use bitflags::Flags;
 use ir_arena::handle::Handle;
 use ir_types::key;
-use typing_infos::mark_at;
+use spec_analysis::GlobalUse;
 use std::alloc::{AllocError, Global};
+use typing_infos::mark_at;
 
 /// At how many places each expression is an operand, and the use of each global variable.
 #[derive(Drop)]

@@ -8,10 +8,10 @@ ghost use Rattle.typing_summaries.specs.Tallies.{known, counted, tallied, expres
 
 use crate::counts::{Counts, name};
 use crate::tally::{Context, Tally};
-use typing_sampling::Expressions;
 use ir_arena::handle::Handle;
 use ir_types::{Expression, key};
 use std::alloc::AllocError;
+use typing_sampling::Expressions;
 
 impl Tally {
     fn add_expression(

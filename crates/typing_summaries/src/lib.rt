@@ -10,6 +10,6 @@ mod passed;
 mod tally;
 mod walk;
 
-pub use typing_sampling::{PairList, Sampled};
 pub use counts::Counts;
 pub use tally::{Context, Tally};
+pub use typing_sampling::{PairList, Sampled};

@@ -6,9 +6,9 @@ ghost use Rattle.spec_analysis.specs.Operands.{reads_if, level_operands, query_o
 ghost use Rattle.typing_summaries.specs.Tallies.{counted, take_all};
 
 use crate::counts::{Counts, Start};
-use spec_analysis::GlobalUse;
 use ir_arena::handle::Handle;
 use ir_types::{Expression, ImageQuery, SampleLevel, key};
+use spec_analysis::GlobalUse;
 
 type Operand = Handle<key::Expression>;
 

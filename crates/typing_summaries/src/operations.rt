@@ -6,10 +6,10 @@ ghost use Rattle.spec_analysis.specs.Operands.{reads, reads_if, atomic_operands,
 ghost use Rattle.typing_summaries.specs.Tallies.{counted, take_all};
 
 use crate::counts::{Counts, Start};
-use spec_analysis::GlobalUse;
 use ir_arena::handle::Handle;
 use ir_blocks::{AtomicFunction, GatherMode, RayPipelineFunction, RayQueryFunction, Statement};
 use ir_types::key;
+use spec_analysis::GlobalUse;
 
 type Operand = Handle<key::Expression>;
 

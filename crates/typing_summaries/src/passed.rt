@@ -10,13 +10,13 @@ ghost use Rattle.typing_summaries.specs.Joined.{IsKept, IsWrong, AreJoined};
 ghost use Rattle.typing_summaries.specs.Tallies.{known, paired, pass_all_up};
 
 use crate::tally::Context;
-use spec_analysis::GlobalOrArgument;
-use typing_sampling::{Expressions, Sampled, place};
 use indexmap::IndexSet;
 use ir_arena::handle::Handle;
 use ir_types::key;
-use typing_infos::SampledPairs;
+use spec_analysis::GlobalOrArgument;
 use std::alloc::{AllocError, Global};
+use typing_infos::SampledPairs;
+use typing_sampling::{Expressions, Sampled, place};
 
 /// A function that was called, and for each of its arguments, up to the last among its pairs, what was passed: what that stands
 /// for in the caller where the argument is among the pairs, and nothing where it isn't.

@@ -5,13 +5,13 @@ ghost use Rattle.ir_blocks.specs.View.{block_view};
 ghost use Rattle.typing_summaries.specs.Tallies.{known, tallied, nothing_tallied, whole_tally};
 
 use crate::counts::Counts;
-use typing_sampling::Sampled;
 use ir_arena::arena::Arena;
 use ir_arena::handle::Handle;
 use ir_blocks::Block;
 use ir_types::{Expression, key};
-use typing_infos::FunctionInfo;
 use std::alloc::{AllocError, Global};
+use typing_infos::FunctionInfo;
+use typing_sampling::Sampled;
 
 /// What a tally is made from.
 #[derive(Clone, Copy)]

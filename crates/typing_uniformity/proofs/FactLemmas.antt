@@ -55,8 +55,8 @@ known_last : (known : List (Option ℕ)) (y : Option ℕ) → known_at (known ++
 known_last known y = ap inner_of (get_last known y)
 
 -- what stands at p and behind it is this
-abbrev StandsFrom : List PlainExpression → ℕ → List (Expression × Span) → Type 0
-StandsFrom xs p entries = (i : ℕ) → slice_get xs (p + i) ≡ slice_get (map expression_view (values_of entries)) i
+abbrev OccursFrom : List PlainExpression → ℕ → List (Expression × Span) → Type 0
+OccursFrom xs p entries = (i : ℕ) → slice_get xs (p + i) ≡ slice_get (map expression_view (values_of entries)) i
 
 plus_zero : (p : ℕ) → p ≡ p + 0
 plus_zero p = omega arith
@@ -67,10 +67,10 @@ plus_more p i = omega arith
 zero_plus : (i : ℕ) → 0 + i ≡ i
 zero_plus i = omega arith
 
-stands_here : (xs : List PlainExpression) (p : ℕ) (e : Expression × Span) (rest : List (Expression × Span)) → StandsFrom xs p (e ∷ rest) → slice_get xs p ≡ Some (expression_view e.0)
+stands_here : (xs : List PlainExpression) (p : ℕ) (e : Expression × Span) (rest : List (Expression × Span)) → OccursFrom xs p (e ∷ rest) → slice_get xs p ≡ Some (expression_view e.0)
 stands_here xs p e rest stands = ap (slice_get xs) (plus_zero p) ∙ stands 0
 
-stands_after : (xs : List PlainExpression) (p : ℕ) (e : Expression × Span) (rest : List (Expression × Span)) → StandsFrom xs p (e ∷ rest) → StandsFrom xs (p + 1) rest
+stands_after : (xs : List PlainExpression) (p : ℕ) (e : Expression × Span) (rest : List (Expression × Span)) → OccursFrom xs p (e ∷ rest) → OccursFrom xs (p + 1) rest
 stands_after xs p e rest stands i = ap (slice_get xs) (plus_more p i) ∙ stands (suc i)
 
 -- ---- sources
@@ -149,7 +149,7 @@ module _ (m : PlainModule) (f : PlainFunction) (precede : OperandsPrecede f.expr
         (subst (λ z. IsExact z (ComesFrom m f (length known))) (sym (known_last known (source_of m f known (length known) expression))) (exact_if (is_source m f expression) refl)))
   ]
 
-sources_all : (m : PlainModule) (f : PlainFunction) → OperandsPrecede f.expressions → (entries : List (Expression × Span)) (known : List (Option ℕ)) (p : ℕ) → length known ≡ p → StandsFrom f.expressions p entries → SourcesKnown m f known
+sources_all : (m : PlainModule) (f : PlainFunction) → OperandsPrecede f.expressions → (entries : List (Expression × Span)) (known : List (Option ℕ)) (p : ℕ) → length known ≡ p → OccursFrom f.expressions p entries → SourcesKnown m f known
     → SourcesKnown m f (sources_of m f known (handles_from p entries)) × (length (sources_of m f known (handles_from p entries)) ≡ p + length entries)
 sources_all m f precede [] known p len stands sources = (sources, len ∙ plus_zero p)
 sources_all m f precede (e ∷ rest) known p len stands sources =
@@ -165,7 +165,7 @@ none_known m f e lt = absurd (omega (arith, lt))
 
 pub are_sources : (m : PlainModule) (f : PlainFunction) (entries : List (Expression × Span)) → f.expressions ≡ map expression_view (values_of entries) → OperandsPrecede f.expressions → AreSources m f (sources_of m f [] (handles_from 0 entries))
 are_sources m f entries is precede =
-    let stands : StandsFrom f.expressions 0 entries = λ i. ap (slice_get f.expressions) (zero_plus i) ∙ ap (λ z. slice_get z i) is in
+    let stands : OccursFrom f.expressions 0 entries = λ i. ap (slice_get f.expressions) (zero_plus i) ∙ ap (λ z. slice_get z i) is in
     let r = sources_all m f precede entries [] 0 refl stands (none_known m f) in
     let len : length (sources_of m f [] (handles_from 0 entries)) ≡ length f.expressions = r.1 ∙ (zero_plus (length entries) ∙ (sym (length_views entries) ∙ ap length (sym is))) in
     record { len = len; each = λ e lt. r.0 e (subst (λ z. e < z) (sym len) lt) }
@@ -247,7 +247,7 @@ start_more xs known precede starts y at e g lt = elim (cases_lt e (length known)
       (subst (λ z. (z ≡ Some g) ↔ StartsAt xs (length known) g) (sym (known_last known (start_of known y))) (one_start xs known precede starts y g at)))
 ]
 
-starts_all : (xs : List PlainExpression) → OperandsPrecede xs → (entries : List (Expression × Span)) (known : List (Option ℕ)) (p : ℕ) → length known ≡ p → StandsFrom xs p entries → StartsKnown xs known
+starts_all : (xs : List PlainExpression) → OperandsPrecede xs → (entries : List (Expression × Span)) (known : List (Option ℕ)) (p : ℕ) → length known ≡ p → OccursFrom xs p entries → StartsKnown xs known
     → StartsKnown xs (starts_of known (handles_from p entries)) × (length (starts_of known (handles_from p entries)) ≡ p + length entries)
 starts_all xs precede [] known p len stands starts = (starts, len ∙ plus_zero p)
 starts_all xs precede (e ∷ rest) known p len stands starts =
@@ -269,7 +269,7 @@ pub are_starts : (entries : List (Expression × Span)) → OperandsPrecede (map 
 are_starts entries precede e g =
     let xs = map expression_view (values_of entries) in
     let all = starts_of [] (handles_from 0 entries) in
-    let stands : StandsFrom xs 0 entries = λ i. ap (slice_get xs) (zero_plus i) in
+    let stands : OccursFrom xs 0 entries = λ i. ap (slice_get xs) (zero_plus i) in
     let r = starts_all xs precede entries [] 0 refl stands (no_start_known xs) in
     let len : length all ≡ length xs = r.1 ∙ (zero_plus (length entries) ∙ sym (length_views entries)) in
     elim (cases_lt e (length all)) [

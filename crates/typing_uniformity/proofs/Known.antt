@@ -14,7 +14,7 @@ use Rattle.spec_analysis.specs.Faults.{requirement_in, requirement_at}
 use Rattle.spec_analysis.specs.Severity.{HasSeverity}
 use Rattle.spec_analysis.specs.Uniformity.{UniformityFault}
 use Rattle.spec_analysis.proofs.FoundLaws.{fault_as}
-use Rattle.typing_uniformity.specs.Asking.{source_in, requirement_in as requirement_known, required_of, asked_view}
+use Rattle.typing_uniformity.specs.Requiring.{source_in, requirement_in as requirement_known, required_of, required_view}
 use Rattle.typing_uniformity.specs.Uniform.{VariesBy, IsAnswer as IsAnswerBy}
 use Rattle.typing_uniformity.specs.declared.fault.NonUniform.{NonUniform}
 use Rattle.typing_uniformity.specs.Faults.{IsAnswer}
@@ -66,7 +66,7 @@ module _ (m : PlainModule) (f : PlainFunction) (all : List Uniformity) (are : Ar
     fault = λ u e. record {
       severity = severity;
       severe = severe;
-      fault = fault_as flags severity f.body (asked_view u) same_requirement known_varies (a.fault u e);
+      fault = fault_as flags severity f.body (required_view u) same_requirement known_varies (a.fault u e);
     };
     clear = λ e x fault.
         let same = one_severity m f DerivativeUniformity fault.severity severity fault.severe severe in

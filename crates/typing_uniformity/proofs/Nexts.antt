@@ -7,9 +7,9 @@ use Rattle.ir_kinds.specs.declared.diagnostics.Severity.{Severity}
 use Rattle.ir_kinds.specs.declared.diagnostics.Severity.TheVariants.{Off, Info, Warning, Error}
 use Rattle.spec_analysis.specs.declared.uniformity.Uniformity.{Uniformity}
 use Rattle.spec_analysis.specs.declared.uniformity.TheConstants.UniformityRequirements.{DERIVATIVE, IMPLICIT_LEVEL, COOP_OPS}
-use Rattle.spec_analysis.specs.Uniformity.{Counts, cooperative, derivative, implicit_level, Asked, EmitAsks}
+use Rattle.spec_analysis.specs.Uniformity.{Counts, cooperative, derivative, implicit_level, Required, EmitRequires}
 use Rattle.spec_analysis.specs.Found.{IsLook}
-use Rattle.typing_uniformity.specs.Asking.{required_of, requirement_in, is_error, counts, asks, IsNext, AreNext, asked_with, asked_from, look_of}
+use Rattle.typing_uniformity.specs.Requiring.{required_of, requirement_in, is_error, counts, asks, IsNext, AreNext, required_with, required_from, look_of}
 
 -- ---- steps of the loop
 
@@ -92,23 +92,23 @@ module _ (severity : Severity) (uniformities : List Uniformity) (next : List ℕ
       let len = are.len in
       subst (λ p. IsNext (asks severity uniformities) (length uniformities) first p) (get_or_from_slice_get next first place 0 e) (are.each first (omega arith))
 
-  with_is : (end place : ℕ) (u : Uniformity) (x : Asked) → (t : Bool) → nat_lt place end ≡ t → cond {A = Option Asked} t (Some (record { requirement = u.requirements.0; expression = place })) None ≡ Some x
+  with_is : (end place : ℕ) (u : Uniformity) (x : Required) → (t : Bool) → nat_lt place end ≡ t → cond {A = Option Required} t (Some (record { requirement = u.requirements.0; expression = place })) None ≡ Some x
       → (place < end) × (record { requirement = u.requirements.0; expression = place } ≡ x)
   with_is end place u x true lt e = (ltb-true place end lt, (let h = e in cc))
   with_is end place u x false lt e = cc
 
-  found_with : (first end place : ℕ) (o : Option Uniformity) (x : Asked) → IsNext (asks severity uniformities) (length uniformities) first place → slice_get uniformities place ≡ o → asked_with end place o ≡ Some x
-      → EmitAsks severity (required_of uniformities) first end x
+  found_with : (first end place : ℕ) (o : Option Uniformity) (x : Required) → IsNext (asks severity uniformities) (length uniformities) first place → slice_get uniformities place ≡ o → required_with end place o ≡ Some x
+      → EmitRequires severity (required_of uniformities) first end x
   found_with first end place None x n at e = cc
   found_with first end place (Some u) x n at e =
       let w = with_is end place u x (nat_lt place end) refl e in
       let inside : place < length uniformities = slice_get_within uniformities place u at in
       let required : required_of uniformities place ≡ u.requirements.0 = ap requirement_in at in
       let asks_here : counts severity u.requirements.0 ≡ true = subst (λ r. counts severity r ≡ true) required (n.passes inside) in
-      subst (EmitAsks severity (required_of uniformities) first end) w.1
+      subst (EmitRequires severity (required_of uniformities) first end) w.1
       (record { from_first = n.ahead; below_end = w.0; requirement = sym required; counts = counted severity u.requirements.0 asks_here })
 
-  found_from : (first end : ℕ) (o : Option ℕ) (x : Asked) → slice_get next first ≡ o → asked_from uniformities end o ≡ Some x → EmitAsks severity (required_of uniformities) first end x
+  found_from : (first end : ℕ) (o : Option ℕ) (x : Required) → slice_get next first ≡ o → required_from uniformities end o ≡ Some x → EmitRequires severity (required_of uniformities) first end x
   found_from first end None x at e = cc
   found_from first end (Some place) x at e = found_with first end place (slice_get uniformities place) x (next_at first place at) refl e
 
@@ -127,15 +127,15 @@ module _ (severity : Severity) (uniformities : List Uniformity) (next : List ℕ
       inside (Some u) at = slice_get_within uniformities k u at
 
   -- a place before the end that asks is found
-  not_none : (end place : ℕ) (u : Uniformity) → place < end → asked_with end place (Some u) ≡ None → ⊥
+  not_none : (end place : ℕ) (u : Uniformity) → place < end → required_with end place (Some u) ≡ None → ⊥
   not_none end place u lt e = with_none (nat_lt place end) (lt-ltb place end lt) e
     where
-      with_none : (t : Bool) → t ≡ true → cond {A = Option Asked} t (Some (record { requirement = u.requirements.0; expression = place })) None ≡ None → ⊥
+      with_none : (t : Bool) → t ≡ true → cond {A = Option Required} t (Some (record { requirement = u.requirements.0; expression = place })) None ≡ None → ⊥
       with_none true is e = cc
       with_none false is e = cc
 
-  at_place : (first end place : ℕ) (x : Asked) → IsNext (asks severity uniformities) (length uniformities) first place → EmitAsks severity (required_of uniformities) first end x
-      → asked_from uniformities end (Some place) ≡ None → ⊥
+  at_place : (first end place : ℕ) (x : Required) → IsNext (asks severity uniformities) (length uniformities) first place → EmitRequires severity (required_of uniformities) first end x
+      → required_from uniformities end (Some place) ≡ None → ⊥
   at_place first end place x n ask e =
       let test : asks severity uniformities x.expression ≡ true = subst (λ r. counts severity r ≡ true) ask.requirement (counting severity x.requirement ask.counts) in
       let inside = asking_within x.expression test in
@@ -146,18 +146,18 @@ module _ (severity : Severity) (uniformities : List Uniformity) (next : List ℕ
         | inr le ↦ le
       ]) in
       elim (within_or_past uniformities place) [
-        | inl h ↦ not_none end place h.0 (omega arith) (ap (asked_with end place) (sym h.1) ∙ e)
+        | inl h ↦ not_none end place h.0 (omega arith) (ap (required_with end place) (sym h.1) ∙ e)
         | inr past ↦ absurd (let z : x.expression < x.expression = omega (arith, past, inside, not_before) in omega (arith, z))
       ]
 
-  none_from : (first end : ℕ) (x : Asked) → look_of uniformities next first end ≡ None → EmitAsks severity (required_of uniformities) first end x → ⊥
+  none_from : (first end : ℕ) (x : Required) → look_of uniformities next first end ≡ None → EmitRequires severity (required_of uniformities) first end x → ⊥
   none_from first end x e ask =
       let test : asks severity uniformities x.expression ≡ true = subst (λ r. counts severity r ≡ true) ask.requirement (counting severity x.requirement ask.counts) in
       let inside = asking_within x.expression test in
       let first_le = ask.from_first in
       let len = are.len in
       elim (within_or_past next first) [
-        | inl h ↦ at_place first end h.0 x (next_at first h.0 h.1) ask (ap (asked_from uniformities end) (sym h.1) ∙ e)
+        | inl h ↦ at_place first end h.0 x (next_at first h.0 h.1) ask (ap (required_from uniformities end) (sym h.1) ∙ e)
         | inr past ↦ absurd (let z : x.expression < x.expression = omega (arith, past, inside, first_le, len) in omega (arith, z))
       ]
 

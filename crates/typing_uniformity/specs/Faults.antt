@@ -3,11 +3,11 @@ use Rattle.std.specs.Prelude.{◌≡◌, Option, Some, None}
 use Rattle.ir_flags.specs.declared.settings.ValidationFlags.{ValidationFlags}
 use Rattle.ir_items.specs.Plain.{PlainFunction, PlainModule}
 use Rattle.spec_analysis.specs.Faults.{FunctionFault}
-use Rattle.spec_analysis.specs.Uniformity.{Asked}
-use Rattle.typing_uniformity.specs.Asking.{asked_view}
+use Rattle.spec_analysis.specs.Uniformity.{Required}
+use Rattle.typing_uniformity.specs.Requiring.{required_view}
 use Rattle.typing_uniformity.specs.declared.fault.NonUniform.{NonUniform}
 
 -- what is answered of a function: a fault, or that there is none
 pub record IsAnswer (flags : ValidationFlags) (m : PlainModule) (f : PlainFunction) (found : Option NonUniform) : Type 0 where
-  pub fault : (u : NonUniform) → found ≡ Some u → FunctionFault flags m f (asked_view u)
-  pub clear : found ≡ None → (x : Asked) → FunctionFault flags m f x → ⊥
+  pub fault : (u : NonUniform) → found ≡ Some u → FunctionFault flags m f (required_view u)
+  pub clear : found ≡ None → (x : Required) → FunctionFault flags m f x → ⊥

@@ -1,6 +1,6 @@
 pub mod Facts
 pub mod Nearest
-pub mod Told
-pub mod Asking
+pub mod Reported
+pub mod Requiring
 pub mod Uniform
 pub mod Faults

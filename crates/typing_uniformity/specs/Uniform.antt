@@ -4,8 +4,8 @@ use Rattle.ir_flags.specs.declared.settings.ValidationFlags.{ValidationFlags}
 use Rattle.ir_kinds.specs.declared.diagnostics.Severity.{Severity}
 use Rattle.ir_blocks.specs.Plain.{PlainBlock}
 use Rattle.spec_analysis.specs.declared.uniformity.Uniformity.{Uniformity}
-use Rattle.spec_analysis.specs.Uniformity.{Asked, UniformityFault}
-use Rattle.typing_uniformity.specs.Asking.{varies_of, required_of, asked_view}
+use Rattle.spec_analysis.specs.Uniformity.{Required, UniformityFault}
+use Rattle.typing_uniformity.specs.Requiring.{varies_of, required_of, required_view}
 use Rattle.typing_uniformity.specs.declared.fault.NonUniform.{NonUniform}
 
 -- the value of the expression is known to differ
@@ -13,10 +13,10 @@ abbrev pub VariesBy : List Uniformity → ℕ → Type 0
 VariesBy uniformities e = IsTrue (varies_of uniformities e)
 
 -- a fault of uniformity, where the values of expressions differ and ask for what is known of them
-abbrev pub FaultBy : ValidationFlags → Severity → List Uniformity → PlainBlock → Asked → Type 0
+abbrev pub FaultBy : ValidationFlags → Severity → List Uniformity → PlainBlock → Required → Type 0
 FaultBy flags severity uniformities body x = UniformityFault flags severity (required_of uniformities) (VariesBy uniformities) body x
 
 -- what is answered of a body: a fault, or that there is none
 pub record IsAnswer (flags : ValidationFlags) (severity : Severity) (uniformities : List Uniformity) (body : PlainBlock) (found : Option NonUniform) : Type 0 where
-  pub fault : (f : NonUniform) → found ≡ Some f → FaultBy flags severity uniformities body (asked_view f)
-  pub clear : found ≡ None → (x : Asked) → FaultBy flags severity uniformities body x → ⊥
+  pub fault : (f : NonUniform) → found ≡ Some f → FaultBy flags severity uniformities body (required_view f)
+  pub clear : found ≡ None → (x : Required) → FaultBy flags severity uniformities body x → ⊥

@@ -10,10 +10,10 @@ ghost use Rattle.typing_uniformity.specs.Facts.{source_if, source_of, start_of, 
 use crate::found::{known, source_below};
 use crate::sources::is_source;
 use crate::uniformities::uniformities_of;
-use spec_analysis::Uniformity;
 use ir_arena::handle::Handle;
 use ir_items::{Function, Module};
 use ir_types::{Expression, key};
+use spec_analysis::Uniformity;
 use std::alloc::{AllocError, Global};
 
 /// What is known of each expression of a function.
@@ -96,7 +96,7 @@ fn all_starts(
     Ok(globals)
 }
 
-/// What is known of each expression of a function. Asks that each operand comes before what has it. The error is out of
+/// What is known of each expression of a function. Requires that each operand comes before what has it. The error is out of
 /// memory.
 pub fn facts_of(alloc: Global, module: &Module, function: &Function) -> Result<Facts, AllocError>
     requires { OperandsPrecede (function_view function.now).expressions }

@@ -5,21 +5,21 @@ ghost use Rattle.ir_flags.specs.Sets.{Has};
 ghost use Rattle.ir_flags.specs.declared.settings.TheConstants.ValidationFlags.{CONTROL_FLOW_UNIFORMITY};
 ghost use Rattle.ir_blocks.specs.View.{block_view};
 ghost use Rattle.typing_errors.specs.declared.error.FunctionError.TheVariants.{NonUniformControlFlow};
-ghost use Rattle.spec_analysis.specs.Found.{asked_in};
-ghost use Rattle.typing_uniformity.specs.Asking.{varies_of, look_of, asked_view};
+ghost use Rattle.spec_analysis.specs.Found.{required_in};
+ghost use Rattle.typing_uniformity.specs.Requiring.{varies_of, look_of, required_view};
 ghost use Rattle.typing_uniformity.specs.Uniform.{IsAnswer};
 
-use crate::asking::Asking;
-use crate::next::next_asking;
+use crate::next::next_requiring;
+use crate::requiring::Requiring;
 use crate::walk::seen_in;
-use spec_analysis::{Uniformity, UniformityRequirements};
 use bitflags::Flags;
-use typing_errors::{FunctionError, UniformityDisruptor};
 use ir_arena::handle::Handle;
 use ir_flags::ValidationFlags;
 use ir_items::{Block, key};
 use ir_kinds::Severity;
+use spec_analysis::{Uniformity, UniformityRequirements};
 use std::alloc::{AllocError, Global};
+use typing_errors::{FunctionError, UniformityDisruptor};
 
 /// What asks that all invocations arrive at it together, and stands where they may not.
 #[derive(Clone, Copy, Debug)]
@@ -41,7 +41,7 @@ impl NonUniform {
     }
 }
 
-fn asks_uniformity(flags: ValidationFlags) -> bool
+fn requires_uniformity(flags: ValidationFlags) -> bool
     ensures { IsTrue result ↔ Has flags.0 CONTROL_FLOW_UNIFORMITY.0 }
 {
     flags.contains(ValidationFlags::CONTROL_FLOW_UNIFORMITY)
@@ -49,9 +49,9 @@ fn asks_uniformity(flags: ValidationFlags) -> bool
 
 // The first fault of the body, by what is known of expressions.
 fn first_fault(uniformities: &[Uniformity], next: &[usize], body: &Block) -> Option<NonUniform>
-    ensures { option_map asked_view result ≡ asked_in (varies_of uniformities.now) (look_of uniformities.now next.now) false (block_view body.now) }
+    ensures { option_map required_view result ≡ required_in (varies_of uniformities.now) (look_of uniformities.now next.now) false (block_view body.now) }
 {
-    let facts = Asking { uniformities, next };
+    let facts = Requiring { uniformities, next };
     seen_in(&facts, &None, body).fault
 }
 
@@ -68,9 +68,9 @@ pub fn find_fault(
 ) -> Result<Option<NonUniform>, AllocError>
     ensures { IfOk result (IsAnswer flags severity uniformities.now (block_view body.now)) }
 {
-    if !asks_uniformity(flags) {
+    if !requires_uniformity(flags) {
         return Ok(None);
     }
-    let next = next_asking(alloc, severity, uniformities)?;
+    let next = next_requiring(alloc, severity, uniformities)?;
     Ok(first_fault(uniformities, &next, body))
 }

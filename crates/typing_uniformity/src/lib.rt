@@ -5,12 +5,12 @@
 #![tactic(auto)]
 
 mod analysis_fault;
-mod asking;
 mod facts;
 mod fault;
 mod found;
 mod next;
 mod requirements;
+mod requiring;
 mod severity;
 mod sources;
 mod uniformities;

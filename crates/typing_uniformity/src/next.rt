@@ -1,10 +1,10 @@
 //! For each expression the first from it on that asks for all invocations.
 
 ghost use Rattle.std.specs.Prelude.{◌≡◌, IfOk, length, slice_get};
-ghost use Rattle.typing_uniformity.specs.Asking.{is_error, counts, asks, AreNext};
+ghost use Rattle.typing_uniformity.specs.Requiring.{is_error, counts, asks, AreNext};
 
-use spec_analysis::{Uniformity, UniformityRequirements};
 use ir_kinds::Severity;
+use spec_analysis::{Uniformity, UniformityRequirements};
 use std::alloc::{AllocError, Global};
 
 fn is_error(severity: Severity) -> bool
@@ -38,7 +38,7 @@ fn asks(severity: Severity, uniformities: &[Uniformity], place: usize) -> bool
 
 // For each expression the first from it on that asks for something that counts, their number where there is none. The
 // error is out of memory.
-pub(crate) fn next_asking(
+pub(crate) fn next_requiring(
     alloc: Global,
     severity: Severity,
     uniformities: &[Uniformity],

@@ -4,8 +4,8 @@ ghost use Rattle.std.specs.Prelude.{◌≡◌};
 ghost use Rattle.ir_types.specs.ExpressionPlain.{expression_view};
 ghost use Rattle.spec_analysis.specs.Values.{requirements_of};
 
-use spec_analysis::UniformityRequirements;
 use ir_types::Expression;
+use spec_analysis::UniformityRequirements;
 
 // What the expression itself asks of control flow, if anything.
 pub(crate) fn requirements_of(expression: &Expression) -> UniformityRequirements

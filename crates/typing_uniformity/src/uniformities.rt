@@ -3,13 +3,13 @@
 ghost use Rattle.std.specs.Prelude.{◌≡◌, map, IfOk};
 ghost use Rattle.ir_arena.specs.Handles.{handles_from};
 ghost use Rattle.spec_analysis.specs.Values.{known_at};
-ghost use Rattle.typing_uniformity.specs.Told.{told, all_told};
+ghost use Rattle.typing_uniformity.specs.Reported.{told, all_reported};
 
 use crate::requirements::requirements_of;
-use spec_analysis::Uniformity;
 use ir_arena::handle::Handle;
 use ir_items::Function;
 use ir_types::key;
+use spec_analysis::Uniformity;
 use std::alloc::{AllocError, Global};
 
 fn source_at(
@@ -31,7 +31,7 @@ pub(crate) fn uniformities_of(
     function: &Function,
     sources: &[Option<Handle<key::Expression>>],
 ) -> Result<Vec<Uniformity>, AllocError>
-    ensures { IfOk result (λ all. map told all.items ≡ all_told sources.now (handles_from 0 function.now.expressions)) }
+    ensures { IfOk result (λ all. map told all.items ≡ all_reported sources.now (handles_from 0 function.now.expressions)) }
 {
     let mut all = Vec::with_capacity(alloc, function.expressions.len())?;
     for (handle, expression) in function.expressions.iter() {

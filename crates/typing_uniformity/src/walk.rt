@@ -3,17 +3,17 @@
 ghost use Rattle.std.specs.Prelude.{◌≡◌, ◌||◌, false, is_some, option_map, map};
 ghost use Rattle.ir_blocks.specs.View.{statement_view, block_view, case_view, cases_of};
 ghost use Rattle.spec_analysis.specs.Disruption.{ends_in, ends_at, ends_in_cases};
-ghost use Rattle.spec_analysis.specs.Found.{first_asked, where_disrupted, asked_in, asked_at, asked_in_cases};
-ghost use Rattle.spec_analysis.specs.Uniformity.{Asked};
+ghost use Rattle.spec_analysis.specs.Found.{first_required, where_disrupted, required_in, required_at, required_in_cases};
+ghost use Rattle.spec_analysis.specs.Uniformity.{Required};
 ghost use Rattle.spec_analysis.specs.declared.uniformity.TheConstants.UniformityRequirements.{WORK_GROUP_BARRIER};
-ghost use Rattle.typing_uniformity.specs.Asking.{varies_of, look_of, asked_view};
+ghost use Rattle.typing_uniformity.specs.Requiring.{varies_of, look_of, required_view};
 
-use crate::asking::Asking;
 use crate::fault::NonUniform;
-use spec_analysis::UniformityRequirements;
-use typing_errors::UniformityDisruptor;
+use crate::requiring::Requiring;
 use ir_arena::handle::Handle;
 use ir_items::{Block, Statement, SwitchCase, key};
+use spec_analysis::UniformityRequirements;
+use typing_errors::UniformityDisruptor;
 
 // What a part of a body shows: whether it holds an end that not all invocations take, and its first fault.
 #[derive(Clone, Copy)]
@@ -36,7 +36,7 @@ fn either(
 }
 
 fn first(a: &Option<NonUniform>, b: &Option<NonUniform>) -> Option<NonUniform>
-    ensures { option_map asked_view result ≡ first_asked (option_map asked_view a.now) (option_map asked_view b.now) }
+    ensures { option_map required_view result ≡ first_required (option_map required_view a.now) (option_map required_view b.now) }
 {
     match a {
         Some(fault) => Some(*fault),
@@ -47,7 +47,7 @@ fn first(a: &Option<NonUniform>, b: &Option<NonUniform>) -> Option<NonUniform>
 // What two parts show.
 fn both(a: &Seen, b: &Seen) -> Seen
     ensures ends { is_some result.end ≡ (is_some a.now.end || is_some b.now.end) }
-    ensures fault { option_map asked_view result.fault ≡ first_asked (option_map asked_view a.now.fault) (option_map asked_view b.now.fault) }
+    ensures fault { option_map required_view result.fault ≡ first_required (option_map required_view a.now.fault) (option_map required_view b.now.fault) }
 {
     Seen {
         end: either(&a.end, &b.end),
@@ -58,7 +58,7 @@ fn both(a: &Seen, b: &Seen) -> Seen
 // An end shows itself where invocations differ.
 fn ended(disruptor: &Option<UniformityDisruptor>, end: UniformityDisruptor) -> Seen
     ensures ends { is_some result.end ≡ is_some disruptor.now }
-    ensures fault { option_map asked_view result.fault ≡ None }
+    ensures fault { option_map required_view result.fault ≡ None }
 {
     match disruptor {
         Some(_) => Seen {
@@ -74,7 +74,7 @@ fn loaded(
     answer: Handle<key::Expression>,
     disruptor: &Option<UniformityDisruptor>,
 ) -> Option<NonUniform>
-    ensures { option_map asked_view result ≡ where_disrupted (is_some disruptor.now) (Some (record { requirement = WORK_GROUP_BARRIER.0; expression = answer })) }
+    ensures { option_map required_view result ≡ where_disrupted (is_some disruptor.now) (Some (record { requirement = WORK_GROUP_BARRIER.0; expression = answer })) }
 {
     match disruptor {
         Some(disruptor) => Some(NonUniform {
@@ -89,7 +89,7 @@ fn loaded(
 // No end and no fault.
 fn nothing() -> Seen
     ensures ends { is_some result.end ≡ false }
-    ensures fault { option_map asked_view result.fault ≡ None }
+    ensures fault { option_map required_view result.fault ≡ None }
 {
     Seen {
         end: None,
@@ -107,12 +107,12 @@ fn alone(fault: Option<NonUniform>) -> Seen
 
 #[cycle(walk)]
 pub(crate) fn seen_in(
-    facts: &Asking<'_>,
+    facts: &Requiring<'_>,
     disruptor: &Option<UniformityDisruptor>,
     block: &Block,
 ) -> Seen
     ensures ends { is_some result.end ≡ ends_in (varies_of facts.now.uniformities.now) (is_some disruptor.now) (block_view block.now) }
-    ensures fault { option_map asked_view result.fault ≡ asked_in (varies_of facts.now.uniformities.now) (look_of facts.now.uniformities.now facts.now.next.now) (is_some disruptor.now) (block_view block.now) }
+    ensures fault { option_map required_view result.fault ≡ required_in (varies_of facts.now.uniformities.now) (look_of facts.now.uniformities.now facts.now.next.now) (is_some disruptor.now) (block_view block.now) }
 {
     let mut current = *disruptor;
     let mut seen = nothing();
@@ -126,12 +126,12 @@ pub(crate) fn seen_in(
 
 #[cycle(walk)]
 fn seen_in_cases(
-    facts: &Asking<'_>,
+    facts: &Requiring<'_>,
     disruptor: &Option<UniformityDisruptor>,
     cases: &[SwitchCase],
 ) -> Seen
     ensures ends { is_some result.end ≡ ends_in_cases (varies_of facts.now.uniformities.now) (is_some disruptor.now) (cases_of (map case_view cases.now)) }
-    ensures fault { option_map asked_view result.fault ≡ asked_in_cases (varies_of facts.now.uniformities.now) (look_of facts.now.uniformities.now facts.now.next.now) (is_some disruptor.now) (cases_of (map case_view cases.now)) }
+    ensures fault { option_map required_view result.fault ≡ required_in_cases (varies_of facts.now.uniformities.now) (look_of facts.now.uniformities.now facts.now.next.now) (is_some disruptor.now) (cases_of (map case_view cases.now)) }
 {
     let mut seen = nothing();
     for case in cases {
@@ -143,12 +143,12 @@ fn seen_in_cases(
 
 #[cycle(walk)]
 fn seen_at(
-    facts: &Asking<'_>,
+    facts: &Requiring<'_>,
     disruptor: &Option<UniformityDisruptor>,
     statement: &Statement,
 ) -> Seen
     ensures ends { is_some result.end ≡ ends_at (varies_of facts.now.uniformities.now) (is_some disruptor.now) (statement_view statement.now) }
-    ensures fault { option_map asked_view result.fault ≡ asked_at (varies_of facts.now.uniformities.now) (look_of facts.now.uniformities.now facts.now.next.now) (is_some disruptor.now) (statement_view statement.now) }
+    ensures fault { option_map required_view result.fault ≡ required_at (varies_of facts.now.uniformities.now) (look_of facts.now.uniformities.now facts.now.next.now) (is_some disruptor.now) (statement_view statement.now) }
 {
     match statement {
         Statement::Emit(range) => {

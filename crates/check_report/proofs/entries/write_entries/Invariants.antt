@@ -1,7 +1,7 @@
 -- The lines of the entry points so far are written.
 use Rattle.std.proofs.Common.{string_bytes}
 use Rattle.ir_items.specs.View.{module_view}
-use Rattle.check_report.specs.Told.{Tells, AreEntryLines}
+use Rattle.check_report.specs.Reported.{Tells, AreEntryLines}
 use Rattle.check_report.proofs.entries.write_entries.Given as goal
 
 abbrev pub invariant-loop-number : goal.invariant-loop-number

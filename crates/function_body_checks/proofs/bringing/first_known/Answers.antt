@@ -3,7 +3,7 @@ use Rattle.std.proofs.lemmas.Bool.{cases_lt}
 use Rattle.ir_items.specs.View.{function_view}
 use Rattle.function_body_checks.proofs.Firsts.{none_of_range}
 use Rattle.function_body_checks.proofs.Ranges.{between_contains}
-use Rattle.function_body_checks.proofs.Tables.{told_known, told_unknown}
+use Rattle.function_body_checks.proofs.Tables.{reported_known, reported_unknown}
 use Rattle.function_body_checks.specs.Carried.{Known}
 use Rattle.function_body_checks.proofs.bringing.first_known.Goals as goal
 
@@ -15,7 +15,7 @@ returns-then-is_known-clause-some c =
     let here = c.loop-place-test.true in
     let from = c.loop-place.auto.place in (
       between_contains c.args.range c.at-handle.result (omega (arith, from, c.at-handle.ensures, c.index_range-bounds.ensures.start)) (omega (arith, here, c.at-handle.ensures, c.index_range-bounds.ensures.end)),
-      told_known (function_view c.args.function.now) c.args.scope.now c.at-handle.result c.is_known.result c.is_known.ensures c.if-is_known.true,
+      reported_known (function_view c.args.function.now) c.args.scope.now c.at-handle.result c.is_known.result c.is_known.ensures c.if-is_known.true,
     )
 
 pub returns-clause-none : goal.returns-clause-none
@@ -30,6 +30,6 @@ loop-place-preserved c =
       | inl before ↦ c.loop-place.invariant e reached before known
       | inr past ↦
           let same : e ≡ c.at-handle.result = omega (arith, low, past, c.at-handle.ensures) in
-          told_unknown (function_view c.args.function.now) c.args.scope.now c.at-handle.result c.is_known.result c.is_known.ensures c.if-is_known.false
+          reported_unknown (function_view c.args.function.now) c.args.scope.now c.at-handle.result c.is_known.result c.is_known.ensures c.if-is_known.false
           (subst (Known (function_view c.args.function.now) c.args.scope.now) same known)
     ]

@@ -1,4 +1,4 @@
-use Rattle.function_entries.proofs.Told.{mesh_refused}
+use Rattle.function_entries.proofs.Reported.{mesh_refused}
 use Rattle.function_entries.specs.Contexts.{entry_in, module_in}
 use Rattle.spec_analysis.specs.Summaries.{HasUseBit}
 use Rattle.function_entries.proofs.connections.check_connections_with.Goals as goal

@@ -1,5 +1,5 @@
 use Rattle.std.proofs.Common.{List, Option, sym, subst}
-use Rattle.function_entries.proofs.Told.{given_refused}
+use Rattle.function_entries.proofs.Reported.{given_refused}
 use Rattle.function_entries.specs.Contexts.{varying_context}
 use Rattle.function_entries.specs.Faults.{IsRefusedFor}
 use Rattle.function_entries.specs.VaryingFaults.{IsGivenFault}

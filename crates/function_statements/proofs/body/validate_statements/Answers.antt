@@ -1,5 +1,5 @@
 use Rattle.std.proofs.Common.{◌≡◌, rules, sym, subst}
-use Rattle.ir_blocks.specs.Places.{Place, StandsAt}
+use Rattle.ir_blocks.specs.Places.{Place, OccursAt}
 use Rattle.ir_blocks.specs.Plain.{PlainStatement}
 use Rattle.ir_blocks.specs.View.{block_view}
 use Rattle.function_statements.proofs.Places.{all_fine, one_wrong}
@@ -18,4 +18,4 @@ returns-in-Err-Fault g c =
     let is : c.in-Err-Fault.field-0 ≡ Fault c.in-Err-Fault.error = search rules in
     subst (IsBodyFault x) (sym c.new.ensures.error)
     (one_wrong x c.in-Err-Fault.error body c.body.ensures
-    (subst (λ r. (p : Place) × (u : PlainStatement) × StandsAt body p u × IsWrong x r u) is c.in-Err-Fault.ensures))
+    (subst (λ r. (p : Place) × (u : PlainStatement) × OccursAt body p u × IsWrong x r u) is c.in-Err-Fault.ensures))

@@ -1,7 +1,7 @@
 use Rattle.std.proofs.Common.{subst, sym}
 use Rattle.ir_items.specs.View.{function_view}
 use Rattle.function_strict_scope.proofs.Errors.{if_fault_then}
-use Rattle.function_strict_scope.proofs.Places.{strict_met, told_in_body}
+use Rattle.function_strict_scope.proofs.Places.{strict_met, reported_in_body}
 use Rattle.function_strict_scope.specs.Faults.{IsStrictFault}
 use Rattle.function_strict_scope.specs.Live.{Follows}
 use Rattle.function_strict_scope.specs.Walked.{AllMeet, FaultIn}
@@ -14,7 +14,7 @@ returns-in-Ok-clause-strict c =
 pub returns-clause-fault : goal.returns-clause-fault
 returns-clause-fault c = λ scope.
     let f = function_view c.args.function.now in
-    c.refused.ensures f (if_fault_then c.in-Err.error (λ e. FaultIn f e _ f.body) (IsStrictFault f) (λ e. told_in_body f scope e _ c.in_ok-sure.ensures) c.in-Err.ensures.fault)
+    c.refused.ensures f (if_fault_then c.in-Err.error (λ e. FaultIn f e _ f.body) (IsStrictFault f) (λ e. reported_in_body f scope e _ c.in_ok-sure.ensures) c.in-Err.ensures.fault)
 
 pub check_block-requires : goal.check_block-requires
 check_block-requires c = subst (Follows (function_view c.args.function.now) c.in_ok-live.live) (sym c.in_ok-sure.ensures) c.in_ok-live.ensures

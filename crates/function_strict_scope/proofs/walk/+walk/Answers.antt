@@ -30,10 +30,10 @@ check_statement-returns-in_err-check_block-in-Loop-clause-fault t c =
     let f = function_view c.args.function.now in
     let s = statement_view c.args.statement.now in
     let is : s ≡ loop (block_view c.in-Loop.body) (block_view c.in-Loop.continuing) c.in-Loop.break_if = search (rules, the_lemmas) in
-    let left : c.cut_behind.new.sure ≡ c.args.sure.now ++ sure_level (block_view c.in-Loop.body) =
-    body_left c.args.sure.now _ _ c.in_ok-left-in-Loop.left (block_view c.in-Loop.body) c.in_ok-left-in-Loop.ensures.scope c.in_ok-left-in-Loop.ensures.left c.cut_behind.ensures.cut in
+    let left : c.cut_after.new.sure ≡ c.args.sure.now ++ sure_level (block_view c.in-Loop.body) =
+    body_left c.args.sure.now _ _ c.in_ok-left-in-Loop.left (block_view c.in-Loop.body) c.in_ok-left-in-Loop.ensures.scope c.in_ok-left-in-Loop.ensures.left c.cut_after.ensures.cut in
     let told : IfFault c.in_err-check_block-in-Loop.field-0.0 (λ e. FaultWithin f e c.args.sure.now s) =
-    continuing_wrong f c.args.sure.now c.cut_behind.new.sure s (block_view c.in-Loop.body) (block_view c.in-Loop.continuing) c.in-Loop.break_if is left c.in_err-check_block-in-Loop.field-0.0 c.in_err-check_block-in-Loop.ensures.fault in
+    continuing_wrong f c.args.sure.now c.cut_after.new.sure s (block_view c.in-Loop.body) (block_view c.in-Loop.continuing) c.in-Loop.break_if is left c.in_err-check_block-in-Loop.field-0.0 c.in_err-check_block-in-Loop.ensures.fault in
     search rules
 
 pub check_statement-returns-in_err-check_condition-in-Loop-clause-fault : goal.check_statement-returns-in_err-check_condition-in-Loop-clause-fault
@@ -41,10 +41,10 @@ check_statement-returns-in_err-check_condition-in-Loop-clause-fault t c =
     let f = function_view c.args.function.now in
     let s = statement_view c.args.statement.now in
     let is : s ≡ loop (block_view c.in-Loop.body) (block_view c.in-Loop.continuing) c.in-Loop.break_if = search (rules, the_lemmas) in
-    let left : c.cut_behind.new.sure ≡ c.args.sure.now ++ sure_level (block_view c.in-Loop.body) =
-    body_left c.args.sure.now _ _ c.in_ok-left-in-Loop.left (block_view c.in-Loop.body) c.in_ok-left-in-Loop.ensures.scope c.in_ok-left-in-Loop.ensures.left c.cut_behind.ensures.cut in
+    let left : c.cut_after.new.sure ≡ c.args.sure.now ++ sure_level (block_view c.in-Loop.body) =
+    body_left c.args.sure.now _ _ c.in_ok-left-in-Loop.left (block_view c.in-Loop.body) c.in_ok-left-in-Loop.ensures.scope c.in_ok-left-in-Loop.ensures.left c.cut_after.ensures.cut in
     let told : IfFault c.in_err-check_condition-in-Loop.field-0.0 (λ e. FaultWithin f e c.args.sure.now s) =
-    condition_wrong f c.args.sure.now c.cut_behind.new.sure _ s (block_view c.in-Loop.body) (block_view c.in-Loop.continuing) c.in-Loop.break_if is left c.in_ok-check_block-in-Loop.ensures.scope
+    condition_wrong f c.args.sure.now c.cut_after.new.sure _ s (block_view c.in-Loop.body) (block_view c.in-Loop.continuing) c.in-Loop.break_if is left c.in_ok-check_block-in-Loop.ensures.scope
     c.in_err-check_condition-in-Loop.field-0.0 c.in_err-check_condition-in-Loop.ensures.fault in
     search rules
 
@@ -76,15 +76,15 @@ pub check_statement-returns-in_ok-check_condition-in-Loop-clause-meet : goal.che
 check_statement-returns-in_ok-check_condition-in-Loop-clause-meet t c =
     let s = statement_view c.args.statement.now in
     let is : s ≡ loop (block_view c.in-Loop.body) (block_view c.in-Loop.continuing) c.in-Loop.break_if = search (rules, the_lemmas) in
-    let left : c.cut_behind.new.sure ≡ c.args.sure.now ++ sure_level (block_view c.in-Loop.body) =
-    body_left c.args.sure.now _ _ c.in_ok-left-in-Loop.left (block_view c.in-Loop.body) c.in_ok-left-in-Loop.ensures.scope c.in_ok-left-in-Loop.ensures.left c.cut_behind.ensures.cut in
-    loop_meets (function_view c.args.function.now) c.args.sure.now c.cut_behind.new.sure _ s (block_view c.in-Loop.body) (block_view c.in-Loop.continuing) c.in-Loop.break_if is left
+    let left : c.cut_after.new.sure ≡ c.args.sure.now ++ sure_level (block_view c.in-Loop.body) =
+    body_left c.args.sure.now _ _ c.in_ok-left-in-Loop.left (block_view c.in-Loop.body) c.in_ok-left-in-Loop.ensures.scope c.in_ok-left-in-Loop.ensures.left c.cut_after.ensures.cut in
+    loop_meets (function_view c.args.function.now) c.args.sure.now c.cut_after.new.sure _ s (block_view c.in-Loop.body) (block_view c.in-Loop.continuing) c.in-Loop.break_if is left
     c.in_ok-check_block-in-Loop.ensures.scope c.in_ok-left-in-Loop.ensures.meet c.in_ok-check_block-in-Loop.ensures.meet c.in_ok-check_condition-in-Loop.ensures.used
 
 pub check_statement-returns-in_ok-check_condition-in-Loop-clause-scope : goal.check_statement-returns-in_ok-check_condition-in-Loop-clause-scope
 check_statement-returns-in_ok-check_condition-in-Loop-clause-scope t c =
     let s = statement_view c.args.statement.now in
     let is : s ≡ loop (block_view c.in-Loop.body) (block_view c.in-Loop.continuing) c.in-Loop.break_if = search (rules, the_lemmas) in
-    let left : c.cut_behind.new.sure ≡ c.args.sure.now ++ sure_level (block_view c.in-Loop.body) =
-    body_left c.args.sure.now _ _ c.in_ok-left-in-Loop.left (block_view c.in-Loop.body) c.in_ok-left-in-Loop.ensures.scope c.in_ok-left-in-Loop.ensures.left c.cut_behind.ensures.cut in
-    loop_scope c.args.sure.now c.cut_behind.new.sure _ _ _ s (block_view c.in-Loop.body) (block_view c.in-Loop.continuing) c.in-Loop.break_if is left c.in_ok-check_block-in-Loop.ensures.scope c.len-count.ensures c.cut.ensures.cut
+    let left : c.cut_after.new.sure ≡ c.args.sure.now ++ sure_level (block_view c.in-Loop.body) =
+    body_left c.args.sure.now _ _ c.in_ok-left-in-Loop.left (block_view c.in-Loop.body) c.in_ok-left-in-Loop.ensures.scope c.in_ok-left-in-Loop.ensures.left c.cut_after.ensures.cut in
+    loop_scope c.args.sure.now c.cut_after.new.sure _ _ _ s (block_view c.in-Loop.body) (block_view c.in-Loop.continuing) c.in-Loop.break_if is left c.in_ok-check_block-in-Loop.ensures.scope c.len-count.ensures c.cut.ensures.cut

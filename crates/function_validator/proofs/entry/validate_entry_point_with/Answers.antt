@@ -13,7 +13,7 @@ use Rattle.spec_analysis.specs.Summaries.{HasUseBit}
 use Rattle.spec_interface.specs.Uses.{EntryUses}
 use Rattle.spec_statements.specs.ExpressionStages.{all_stages}
 use Rattle.spec_statements.specs.Functions.{AllowsStage, FunctionOK, FunctionSettings}
-use Rattle.spec_statements.specs.Payloads.{IsHeldAfter}
+use Rattle.spec_statements.specs.Payloads.{IsPayloadAfter}
 use Rattle.function_validator.proofs.entry.validate_entry_point_with.Goals as goal
 
 pub returns-in-Err-clause-judged : goal.returns-in-Err-clause-judged
@@ -37,7 +37,7 @@ returns-in-Err-validate_function_with-clause-judged g c =
     let R = g.L.Lower.reading l q in
     let F = g.L.Lower.faults l q in
     let r = c.in-Err-validate_function_with.refusal in
-    by_function R F stages s m e r c.told_of_function.result c.told_of_function.ensures
+    by_function R F stages s m e r c.reported_of_function.result c.reported_of_function.ensures
     (subst (λ (z : FunctionSettings). IsFunctionRefusedFor (λ y. FunctionOK R z m e.function → ⊥) r) c.own_settings-own.ensures c.in-Err-validate_function_with.ensures.refused)
     (subst (λ (z : FunctionSettings). IsFunctionRefusedFor (IsFunctionFault R F z m e.function) r) c.own_settings-own.ensures c.in-Err-validate_function_with.ensures.fault)
 
@@ -92,7 +92,7 @@ returns-in-Ok-connect-clause-judged g c =
       };
       summary = entry_summary m e before (g.L.Lower.summary l c.in-Ok-connect.info) known.globals is c.in-Ok-connect.ensures.judged.1;
       noted = record { run = noted_still R stages s e (g.L.Lower.noted l v.info) (g.L.Lower.noted l c.in-Ok-connect.info) c.in-Ok-connect.ensures.stages exact; blended = c.in-Ok-connect.ensures.blended };
-      after = subst (λ (z : FunctionSettings). IsHeldAfter z.flags m e.function z.held v.held) same known.held;
+      after = subst (λ (z : FunctionSettings). IsPayloadAfter z.flags m e.function z.held v.held) same known.held;
     }
 
 pub returns-in-Err-connect-clause-judged : goal.returns-in-Err-connect-clause-judged

@@ -1,7 +1,7 @@
 use Rattle.std.proofs.Common.{map, refl}
 use Rattle.function_interface.proofs.RefusedAs.{refused_as}
 use Rattle.function_validator.proofs.PartLaws.{parts_met, behind_blocks}
-use Rattle.function_validator.specs.Faults.{IsFaultBehind}
+use Rattle.function_validator.specs.Faults.{IsFaultAfter}
 use Rattle.function_validator.specs.Judged.{IsBlocksFault}
 use Rattle.function_validator.specs.Settings.{settings_view}
 use Rattle.function_interface.specs.Question.{question}
@@ -23,5 +23,5 @@ returns-in-Err-blocks_met g c =
     let s = settings_view c.args.settings.now in
     let reading = g.L.Lower.reading c.args.lower.now q in
     let faults = g.L.Lower.faults c.args.lower.now q in
-    refused_as (IsBlocksFault s x) (IsFaultBehind reading faults s x) (behind_blocks reading faults s x c.in-Ok.ensures c.in-Ok-expressions_met.ensures.accepted)
+    refused_as (IsBlocksFault s x) (IsFaultAfter reading faults s x) (behind_blocks reading faults s x c.in-Ok.ensures c.in-Ok-expressions_met.ensures.accepted)
     c.in-Err-blocks_met.refusal c.in-Err-blocks_met.ensures

@@ -5,7 +5,7 @@ use Rattle.function_interface.specs.Analysis.{IsFaultBefore}
 use Rattle.function_validator.proofs.PartLaws.{before_function}
 use Rattle.function_validator.proofs.Refuted.{function_refuted}
 use Rattle.function_validator.proofs.Whole.{accepted, stages_noted, joined_noted}
-use Rattle.function_validator.specs.Faults.{IsFaultBehind, IsFunctionFault, behind}
+use Rattle.function_validator.specs.Faults.{IsFaultAfter, IsFunctionFault, behind}
 use Rattle.function_validator.specs.Settings.{settings_view}
 use Rattle.function_interface.specs.Question.{question}
 use Rattle.ir_items.specs.View.{function_view, module_view}
@@ -130,7 +130,7 @@ returns-in-Err-judge-clause-refused g c =
     let forms = map (form_given m.types) (g.L.Lower.types c.args.lower.now c.in-Ok.info) in
     refused_as (IsFunctionFault reading faults s m f) (λ e. FunctionOK reading s m f → ⊥)
     (λ e w. function_refuted reading faults s m f e (g.met.L.Lower.one_form c.args.lower.now q) (g.met.L.Lower.fault_refutes c.args.lower.now q) (g.met.L.Lower.expression_refuted c.args.lower.now q) w)
-    c.in-Err-judge.refusal (refused_as (IsFaultBehind reading faults s (block_context s m f forms)) (IsFunctionFault reading faults s m f)
+    c.in-Err-judge.refusal (refused_as (IsFaultAfter reading faults s (block_context s m f forms)) (IsFunctionFault reading faults s m f)
     (λ e w. behind c.in-Ok.ensures.arities kept.analysed forms kept.typed w) c.in-Err-judge.refusal c.in-Err-judge.ensures)
 
 pub returns-in-Err-judge-clause-fault : goal.returns-in-Err-judge-clause-fault
@@ -145,7 +145,7 @@ returns-in-Err-judge-clause-fault g c =
     let faults = g.L.Lower.faults c.args.lower.now q in
     let kept = c.in-Ok.ensures.kept in
     let forms = map (form_given m.types) (g.L.Lower.types c.args.lower.now c.in-Ok.info) in
-    refused_as (IsFaultBehind reading faults s (block_context s m f forms)) (IsFunctionFault reading faults s m f)
+    refused_as (IsFaultAfter reading faults s (block_context s m f forms)) (IsFunctionFault reading faults s m f)
     (λ e w. behind c.in-Ok.ensures.arities kept.analysed forms kept.typed w) c.in-Err-judge.refusal c.in-Err-judge.ensures
 
 pub returns-in-Ok-judge-clause-globals : goal.returns-in-Ok-judge-clause-globals

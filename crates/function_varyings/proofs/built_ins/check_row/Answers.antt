@@ -4,7 +4,7 @@ use Rattle.function_varyings.proofs.built_ins.check_row.Goals as goal
 pub returns : goal.returns
 returns c = record {
   capable = c.in-Ok.ensures c.args.ty;
-  stands = c.if-not-stands_at.ensures.0 refl;
+  stands = c.if-not-occurs_at.ensures.0 refl;
   besides = c.in-Ok-check_exception.ensures;
   typed = c.if-not-is_of_type.ensures.0 refl;
 }

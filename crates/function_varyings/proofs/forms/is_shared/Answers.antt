@@ -1,6 +1,6 @@
 use Rattle.std.proofs.Common.{arith}
 use Rattle.typing_forms.specs.Resolutions.{types_view}
-use Rattle.function_varyings.proofs.Told.{known_shared, none_shared}
+use Rattle.function_varyings.proofs.Reported.{known_shared, none_shared}
 use Rattle.function_varyings.proofs.forms.is_shared.Goals as goal
 
 pub returns-in-Some : goal.returns-in-Some

@@ -1,6 +1,6 @@
 use Rattle.std.proofs.Common.{arith}
 use Rattle.ir_items.specs.GlobalView.{constant_view}
-use Rattle.module_constants.proofs.Told.{accepted_more, many_viewed}
+use Rattle.module_constants.proofs.Reported.{accepted_more, many_viewed}
 use Rattle.module_constants.specs.Known.{module_in}
 use Rattle.spec_expressions.specs.Constants.{ConstantOK}
 use Rattle.module_constants.proofs.constants.validate_constants.Goals as goal

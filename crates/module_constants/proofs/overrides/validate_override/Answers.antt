@@ -2,7 +2,7 @@ use Rattle.std.proofs.Common.{refl, sym, subst, arith}
 use Rattle.module_constants.specs.declared.override_error.OverrideError.TheVariants as error
 use Rattle.ir_items.specs.GlobalView.{override_view}
 use Rattle.module_constants.proofs.IdLemmas.{noted_ids, own_is, taken_is}
-use Rattle.module_constants.proofs.Told.{override_fine, override_wrong}
+use Rattle.module_constants.proofs.Reported.{override_fine, override_wrong}
 use Rattle.module_constants.specs.Known.{module_in}
 use Rattle.module_constants.specs.Refusals.{IsOverrideRefused}
 use Rattle.typing_resolve.proofs.Lookups.{found}

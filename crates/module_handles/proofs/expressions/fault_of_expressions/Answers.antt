@@ -2,12 +2,12 @@ use Rattle.ir_types.specs.ExpressionPlain.{expression_view}
 use Rattle.ir_items.specs.GlobalView.{values_of}
 use Rattle.ir_items.specs.View.{module_view}
 use Rattle.module_handles.proofs.OutsideFaults.{global_fault}
-use Rattle.module_handles.proofs.Viewed.{told_viewed}
+use Rattle.module_handles.proofs.Viewed.{reported_viewed}
 use Rattle.module_handles.specs.InOrder.{IsFaultIn, GlobalExpressionOK, IsGlobalExpressionFault}
 use Rattle.module_handles.proofs.expressions.fault_of_expressions.Goals as goal
 
 pub returns : goal.returns
 returns c =
     let m = module_view c.args.«module».now in
-    told_viewed expression_view (GlobalExpressionOK m) (IsGlobalExpressionFault m) (IsFaultIn m) (values_of c.args.«module».now.global_expressions) (global_fault m) c.fault_of_values.result
+    reported_viewed expression_view (GlobalExpressionOK m) (IsGlobalExpressionFault m) (IsFaultIn m) (values_of c.args.«module».now.global_expressions) (global_fault m) c.fault_of_values.result
     c.fault_of_values.ensures

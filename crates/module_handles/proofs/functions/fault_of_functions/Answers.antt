@@ -1,7 +1,7 @@
 use Rattle.ir_items.specs.GlobalView.{values_of}
 use Rattle.ir_items.specs.View.{function_view, module_view}
 use Rattle.module_handles.proofs.FunctionFaults.{function_fault}
-use Rattle.module_handles.proofs.Viewed.{told_viewed}
+use Rattle.module_handles.proofs.Viewed.{reported_viewed}
 use Rattle.module_handles.specs.Conditions.{FunctionConditions}
 use Rattle.module_handles.specs.InOrder.{IsFaultIn, IsFunctionFault}
 use Rattle.module_handles.proofs.functions.fault_of_functions.Goals as goal
@@ -9,4 +9,4 @@ use Rattle.module_handles.proofs.functions.fault_of_functions.Goals as goal
 pub returns : goal.returns
 returns c =
     let m = module_view c.args.«module».now in
-    told_viewed function_view (FunctionConditions m) (IsFunctionFault m) (IsFaultIn m) (values_of c.args.«module».now.functions) (function_fault m) c.fault_of_values.result c.fault_of_values.ensures
+    reported_viewed function_view (FunctionConditions m) (IsFunctionFault m) (IsFaultIn m) (values_of c.args.«module».now.functions) (function_fault m) c.fault_of_values.result c.fault_of_values.ensures

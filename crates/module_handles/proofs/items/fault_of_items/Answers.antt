@@ -1,6 +1,6 @@
 use Rattle.std.proofs.lemmas.Option.{MatchOption-at_some, MatchOption-at_none}
 use Rattle.ir_items.specs.View.{module_view}
-use Rattle.module_handles.proofs.ItemLemmas.{special_told, leaf_told, constants_told, overrides_told, variables_told}
+use Rattle.module_handles.proofs.ItemLemmas.{special_told, leaf_told, constants_told, overrides_told, variables_reported}
 use Rattle.module_handles.proofs.PassLemmas.{weaker}
 use Rattle.module_handles.proofs.items.fault_of_items.Goals as goal
 
@@ -33,4 +33,4 @@ returns c =
       variables = variables;
     })
     (λ h stands. stands)
-    (variables_told c.args.«module».now b same c.fault_of_values-3.result c.fault_of_values-3.ensures)
+    (variables_reported c.args.«module».now b same c.fault_of_values-3.result c.fault_of_values-3.ensures)

@@ -1,7 +1,7 @@
 use Rattle.std.proofs.Common.{◌+◌, subst, arith}
 use Rattle.ir_items.specs.GlobalView.{override_view}
-use Rattle.module_constants.proofs.Told.{accepted_more, many_viewed}
-use Rattle.module_validator.proofs.OverrideTold.{refusal_told}
+use Rattle.module_constants.proofs.Reported.{accepted_more, many_viewed}
+use Rattle.module_validator.proofs.OverrideTold.{refusal_reported}
 use Rattle.module_constants.specs.Ids.{AreIds}
 use Rattle.module_constants.specs.Known.{module_in}
 use Rattle.spec_expressions.specs.Overrides.{OverrideOK}
@@ -16,5 +16,5 @@ loop-place-preserved c = (
 pub returns-in-Err-clause-refused : goal.returns-in-Err-clause-refused
 returns-in-Err-clause-refused c =
     let many = many_viewed override_view c.args.context.now.module.now.overrides in
-    refusal_told c.args.context.now.overrides_resolved (module_in c.args.context.now) c.loop-place.place c.at-id.result c.in-Err.refusal c.refusal_at.result c.at-id.ensures
+    refusal_reported c.args.context.now.overrides_resolved (module_in c.args.context.now) c.loop-place.place c.at-id.result c.in-Err.refusal c.refusal_at.result c.at-id.ensures
     (omega (arith, many, c.loop-place-test.true, c.len-place-end.ensures.value)) c.loop-place.invariant.1 c.in-Err.ensures.refused c.refusal_at.ensures

@@ -1,7 +1,7 @@
 use Rattle.std.proofs.Common.{refl, arith, rules}
 use Rattle.ir_items.specs.View.{module_view}
 use Rattle.ir_types.specs.Plain.{type_view}
-use Rattle.module_constants.proofs.Told.{many_viewed}
+use Rattle.module_constants.proofs.Reported.{many_viewed}
 use Rattle.module_handles.proofs.Whole.{order_gives_conditions}
 use Rattle.module_validator.proofs.Refusals.{by_told}
 use Rattle.module_validator.proofs.StepLemmas.{laid}

@@ -6,9 +6,9 @@ use Rattle.typing_operands.specs.Answers.{form_given}
 use Rattle.judgement.proofs.Reached.{nothing_asked}
 use Rattle.module_validator.proofs.values.check_values.Goals as goal
 
-pub returns-then-not-asks_values-clause-accepted : goal.returns-then-not-asks_values-clause-accepted
-returns-then-not-asks_values-clause-accepted c =
-    nothing_asked c.args.settings (module_view c.args.module.now) c.requires.reached (unasked _ c.asks_values.result c.asks_values.ensures c.if-not-asks_values.true)
+pub returns-then-not-requires_values-clause-accepted : goal.returns-then-not-requires_values-clause-accepted
+returns-then-not-requires_values-clause-accepted c =
+    nothing_asked c.args.settings (module_view c.args.module.now) c.requires.reached (unasked _ c.requires_values.result c.requires_values.ensures c.if-not-requires_values.true)
 
 pub from_arena-requires : goal.from_arena-requires
 from_arena-requires c = (order_gives_origins c.args.module.now c.requires.reached.handles).globals

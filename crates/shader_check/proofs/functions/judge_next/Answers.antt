@@ -1,5 +1,5 @@
 use Rattle.std.proofs.Common.{None, false, map}
-use Rattle.shader_check.proofs.Chained.{conditions_at, judged_more, told_refusal}
+use Rattle.shader_check.proofs.Chained.{conditions_at, judged_more, reported_refusal}
 use Rattle.shader_check.proofs.Placed.{view_there}
 use Rattle.shader_check.specs.Settings.{settings_for}
 use Rattle.ir_items.specs.View.{function_view, module_view}
@@ -34,5 +34,5 @@ returns-in-Err g c =
     let m = c.args.«module».now in
     let s = settings_for v.flags v.capabilities v.operations v.stages false None in
     let at = view_there m.functions c.args.handle c.index.result.now c.index.ensures function_view in
-    told_refusal (module_view m) c.requires.handles (g.L.Lower.reading v.lower) s c.args.handle (map (g.L.Lower.summary v.lower) c.args.infos.now) (map (g.L.Lower.noted v.lower) c.args.infos.now) c.args.held c.requires.before (function_view c.index.result.now) at
+    reported_refusal (module_view m) c.requires.handles (g.L.Lower.reading v.lower) s c.args.handle (map (g.L.Lower.summary v.lower) c.args.infos.now) (map (g.L.Lower.noted v.lower) c.args.infos.now) c.args.held c.requires.before (function_view c.index.result.now) at
     (g.L.Lower.faults v.lower) c.in-Err.refusal c.refusal_at.result c.refusal_at.ensures c.in-Err.ensures.refused c.in-Err.ensures.fault

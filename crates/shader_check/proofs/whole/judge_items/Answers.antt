@@ -5,7 +5,7 @@ use Rattle.shader_check.specs.Validated.{IsRefusedWith, module_settings}
 use Rattle.ir_items.specs.View.{module_view}
 use Rattle.module_validator.specs.Faults as items
 use Rattle.module_validator.specs.Faults.{IsModuleFault}
-use Rattle.module_validator.specs.Told.{IsInfoOf}
+use Rattle.module_validator.specs.Reported.{IsInfoOf}
 use Rattle.judgement.specs.ModuleSteps.{ModuleOK}
 use Rattle.judgement.specs.declared.settings.ModuleSettings.{ModuleSettings}
 use Rattle.shader_check.proofs.whole.judge_items.Goals as goal

@@ -3,7 +3,7 @@ use Rattle.ir_arena.specs.Handles.{handles_from}
 use Rattle.ir_items.specs.View.{function_view, module_view}
 use Rattle.spec_analysis.specs.Values.{AreStarts}
 use Rattle.typing_uniformity.specs.Facts.{AreSources}
-use Rattle.typing_uniformity.specs.Told.{told, all_told}
+use Rattle.typing_uniformity.specs.Reported.{told, all_reported}
 use Rattle.typing_uniformity.proofs.FactLemmas.{are_sources, are_starts}
 use Rattle.typing_uniformity.proofs.ToldLemmas.{are_uniformities}
 use Rattle.typing_uniformity.proofs.facts.facts_of.Goals as goal
@@ -14,7 +14,7 @@ returns-clause-uniformities c =
     let f = function_view c.args.function.now in
     let sources = subst (AreSources m f) (sym c.in_ok-sources.ensures) (are_sources m f c.args.function.now.expressions refl c.requires) in
     are_uniformities m f c.in_ok-sources.sources.items sources c.args.function.now.expressions c.in_ok-uniformities.uniformities.items refl
-    (subst (λ s. map told c.in_ok-uniformities.uniformities.items ≡ all_told s (handles_from 0 c.args.function.now.expressions)) c.deref.ensures.value c.in_ok-uniformities.ensures)
+    (subst (λ s. map told c.in_ok-uniformities.uniformities.items ≡ all_reported s (handles_from 0 c.args.function.now.expressions)) c.deref.ensures.value c.in_ok-uniformities.ensures)
 
 pub returns-clause-starts : goal.returns-clause-starts
 returns-clause-starts c =

@@ -4,14 +4,14 @@ use Rattle.typing_overloads.specs.Products.{rules_of}
 use Rattle.typing_overloads.proofs.Kept.{accepted, no_argument, no_value}
 use Rattle.typing_overloads.proofs.product.Product.accepting.Goals as goal
 
-pub returns-in-Some-asked_at : goal.returns-in-Some-asked_at
-returns-in-Some-asked_at c =
-    accepted c.args.place (inner_view c.args.given.now) c.in-Some.given c.args.self.pattern c.in-Some-asked_at.asked c.in-Some.ensures c.in-Some-asked_at.ensures
-    c.args.self.scalars.0 c.args.self.sizes.0 _ _ c.taking.ensures c.taking-in-Some-asked_at.ensures
+pub returns-in-Some-required_at : goal.returns-in-Some-required_at
+returns-in-Some-required_at c =
+    accepted c.args.place (inner_view c.args.given.now) c.in-Some.given c.args.self.pattern c.in-Some-required_at.asked c.in-Some.ensures c.in-Some-required_at.ensures
+    c.args.self.scalars.0 c.args.self.sizes.0 _ _ c.taking.ensures c.taking-in-Some-required_at.ensures
 
-pub returns-in-None-asked_at : goal.returns-in-None-asked_at
-returns-in-None-asked_at c =
-    no_argument c.args.place (inner_view c.args.given.now) c.in-Some.given c.args.self.pattern c.in-Some.ensures c.in-None-asked_at.ensures
+pub returns-in-None-required_at : goal.returns-in-None-required_at
+returns-in-None-required_at c =
+    no_argument c.args.place (inner_view c.args.given.now) c.in-Some.given c.args.self.pattern c.in-Some.ensures c.in-None-required_at.ensures
     (scalars_in c.args.self.scalars.0) (sizes_in c.args.self.sizes.0)
 
 pub returns-in-None : goal.returns-in-None

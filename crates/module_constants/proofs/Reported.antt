@@ -19,10 +19,10 @@ use Rattle.ir_items.specs.GlobalPlain.{PlainConstant, PlainOverride}
 use Rattle.ir_items.specs.GlobalView.{values_of}
 use Rattle.ir_items.specs.Plain.{PlainModule}
 use Rattle.module_constants.proofs.IdLemmas.{below_or_same}
-use Rattle.module_constants.specs.Asked.{IsUnmet}
+use Rattle.module_constants.specs.Required.{IsUnmet}
 use Rattle.module_constants.specs.Refusals.{IsFineConstant, IsConstantRefused, IsExpressionRefused, IsFineBesideId, IsOverrideRefused}
 use Rattle.spec_expressions.specs.Constants.{ConstantOK}
-use Rattle.spec_expressions.specs.GlobalExpressions.{Asked, of_literal, of_composition, of_value, to_work_out, asked_of, IsMet, GlobalExpressionOK}
+use Rattle.spec_expressions.specs.GlobalExpressions.{Required, of_literal, of_composition, of_value, to_work_out, required_of, IsMet, GlobalExpressionOK}
 use Rattle.spec_expressions.specs.Overrides.{IsTaken, OverrideOK}
 use Rattle.typing_layout.specs.Constness.{IsOfKind}
 use Rattle.typing_layout.specs.declared.constness.ExpressionKind.{ExpressionKind}
@@ -56,8 +56,8 @@ constant_told m handle c (Err e) at wrong =
 
 -- ---- global expressions
 
-unmet : (capabilities : Capabilities) (resolved : Bool) (m : PlainModule) (handle : ℕ) (x : PlainExpression) (k : ExpressionKind) (asked : Asked) (e : ConstExpressionError) → slice_get m.global_expressions handle ≡ Some x
-    → IsOfKind m.global_expressions handle k → k ≢ Runtime → asked_of x ≡ asked → IsUnmet capabilities resolved m k asked e → IsConstExpressionFault capabilities resolved m handle e
+unmet : (capabilities : Capabilities) (resolved : Bool) (m : PlainModule) (handle : ℕ) (x : PlainExpression) (k : ExpressionKind) (asked : Required) (e : ConstExpressionError) → slice_get m.global_expressions handle ≡ Some x
+    → IsOfKind m.global_expressions handle k → k ≢ Runtime → required_of x ≡ asked → IsUnmet capabilities resolved m k asked e → IsConstExpressionFault capabilities resolved m handle e
 unmet capabilities resolved m handle x k (of_literal value) (error.Literal e) at of_kind known is wrong = record { expression = x; at = at; value = value; is = is; fault = wrong }
 unmet capabilities resolved m handle x k (of_literal value) error.NonConstOrOverride at of_kind known is wrong = absurd wrong
 unmet capabilities resolved m handle x k (of_literal value) error.NonFullyEvaluatedConst at of_kind known is wrong = absurd wrong
@@ -85,7 +85,7 @@ expression_refused capabilities resolved m handle e fault = record { fault = fau
 
 pub expression_told : (capabilities : Capabilities) (resolved : Bool) (m : PlainModule) (handle : ℕ) (x : PlainExpression) (k : ExpressionKind) (r : Result (Unit {0}) ConstExpressionError)
     → slice_get m.global_expressions handle ≡ Some x → IsOfKind m.global_expressions handle k → k ≢ Runtime
-    → MatchResult r (λ _. IsMet capabilities resolved m k (asked_of x)) (IsUnmet capabilities resolved m k (asked_of x))
+    → MatchResult r (λ _. IsMet capabilities resolved m k (required_of x)) (IsUnmet capabilities resolved m k (required_of x))
     → MatchResult r (λ _. GlobalExpressionOK capabilities resolved m handle) (IsExpressionRefused capabilities resolved m handle)
 expression_told capabilities resolved m handle x k (Ok u) at of_kind known met = record {
   expression = x;
@@ -96,7 +96,7 @@ expression_told capabilities resolved m handle x k (Ok u) at of_kind known met =
   met = met;
 }
 expression_told capabilities resolved m handle x k (Err e) at of_kind known wrong =
-    expression_refused capabilities resolved m handle e (unmet capabilities resolved m handle x k (asked_of x) e at of_kind known refl wrong)
+    expression_refused capabilities resolved m handle e (unmet capabilities resolved m handle x k (required_of x) e at of_kind known refl wrong)
 
 -- ---- overrides
 

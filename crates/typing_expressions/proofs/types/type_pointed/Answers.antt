@@ -4,7 +4,7 @@ use Rattle.ir_types.specs.ExpressionPlain.{expression_view}
 use Rattle.typing_operands.specs.Answers.{form_given}
 use Rattle.typing_resolve.specs.View.{context_view}
 use Rattle.typing_expressions.proofs.TypeLemmas.{operands_typed}
-use Rattle.typing_expressions.proofs.types.type_behind.Goals as goal
+use Rattle.typing_expressions.proofs.types.type_pointed.Goals as goal
 
 pub returns : goal.returns
 returns c = λ xs place stands typed.

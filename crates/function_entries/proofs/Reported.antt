@@ -3,7 +3,7 @@ use Rattle.std.proofs.Common.{◌≡◌, ℕ, List, Some, sym, subst}
 use Rattle.function_entries.specs.ConnectionFaults.{IsConnectionFault, of_mesh}
 use Rattle.function_entries.specs.Faults.{IsRefusedFor}
 use Rattle.function_entries.specs.OutputFaults.{IsMeshFault}
-use Rattle.function_entries.specs.VaryingFaults.{IsGivenFault, IsToldOfResult}
+use Rattle.function_entries.specs.VaryingFaults.{IsGivenFault, IsReportedOfResult}
 use Rattle.function_entries.specs.declared.error.EntryPointError.{EntryPointError}
 use Rattle.ir_faults.specs.declared.refusal.Refusal.{Refusal}
 use Rattle.ir_faults.specs.declared.refusal.Refusal.TheVariants as refusal
@@ -18,7 +18,7 @@ use Rattle.function_varyings.specs.Faults.{IsRefusal}
 use Rattle.function_varyings.specs.declared.error.VaryingRefusal.{VaryingRefusal}
 use Rattle.function_varyings.specs.declared.error.VaryingRefusal.TheVariants as varying
 
-given_told : (c : VaryingContext) (vs : List Varying) (r : VaryingRefusal) (x : Refusal EntryPointError) → IsRefusal c vs r → IsToldOfResult r x → IsRefusedFor (IsGivenFault c vs) x
+given_told : (c : VaryingContext) (vs : List Varying) (r : VaryingRefusal) (x : Refusal EntryPointError) → IsRefusal c vs r → IsReportedOfResult r x → IsRefusedFor (IsGivenFault c vs) x
 given_told c vs (varying.Memory a) (refusal.Memory b) h told = tt
 given_told c vs (varying.Memory a) (refusal.Fault f) h told = absurd told
 given_told c vs (varying.Fault index e) (refusal.Memory b) h told = absurd told
@@ -26,7 +26,7 @@ given_told c vs (varying.Fault index e) (refusal.Fault f) h told = subst (IsGive
 
 -- what is looked at is what an entry point's rules look at
 module _ (v c : VaryingContext) (view : v ≡ c) where
-  pub given_refused : (list : List PlainType → List Varying) (r : VaryingRefusal) (x : Refusal EntryPointError) → IsRefusal v (list v.types) r → IsToldOfResult r x → IsRefusedFor (IsGivenFault c (list c.types)) x
+  pub given_refused : (list : List PlainType → List Varying) (r : VaryingRefusal) (x : Refusal EntryPointError) → IsRefusal v (list v.types) r → IsReportedOfResult r x → IsRefusedFor (IsGivenFault c (list c.types)) x
   given_refused list r x h told = given_told c (list c.types) r x (subst (λ (y : VaryingContext). IsRefusal y (list y.types) r) view h) told
 
 module _ (flags : ValidationFlags) (capabilities : Capabilities) (m : PlainModule) (e : PlainEntry) (Uses : ℕ → ℕ → Type 0) (i : MeshStageInfo) (at : e.mesh ≡ Some i) where

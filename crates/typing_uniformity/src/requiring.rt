@@ -2,23 +2,23 @@
 
 ghost use Rattle.std.specs.Prelude.{◌≡◌, is_some, option_map, slice_get};
 ghost use Rattle.spec_analysis.specs.Found.{where_disrupted};
-ghost use Rattle.typing_uniformity.specs.Asking.{varies_of, look_of, asked_with, asked_from, asked_view};
+ghost use Rattle.typing_uniformity.specs.Requiring.{varies_of, look_of, required_with, required_from, required_view};
 
 use crate::fault::NonUniform;
-use spec_analysis::Uniformity;
-use typing_errors::UniformityDisruptor;
 use ir_arena::handle::Handle;
 use ir_items::key;
+use spec_analysis::Uniformity;
+use typing_errors::UniformityDisruptor;
 
 // Whether the value of each expression differs and what it asks for, and for each the first from it on that asks for
 // something.
 #[derive(Drop)]
-pub(crate) struct Asking<'a> {
+pub(crate) struct Requiring<'a> {
     pub(crate) uniformities: &'a [Uniformity],
     pub(crate) next: &'a [usize],
 }
 
-impl Asking<'_> {
+impl Requiring<'_> {
     // What makes invocations differ where a value chooses.
     pub(crate) fn choice(&self, value: Handle<key::Expression>) -> Option<UniformityDisruptor>
         ensures { is_some result ≡ varies_of self.now.uniformities.now value }
@@ -33,8 +33,13 @@ impl Asking<'_> {
     }
 
     // The fault of an expression that asks for something, where it comes before the end.
-    fn asked_at(&self, place: usize, end: u32, disruptor: UniformityDisruptor) -> Option<NonUniform>
-        ensures { option_map asked_view result ≡ asked_with end place (slice_get self.now.uniformities.now place) }
+    fn required_at(
+        &self,
+        place: usize,
+        end: u32,
+        disruptor: UniformityDisruptor,
+    ) -> Option<NonUniform>
+        ensures { option_map required_view result ≡ required_with end place (slice_get self.now.uniformities.now place) }
     {
         match self.uniformities.get(place) {
             Some(uniformity) => {
@@ -59,11 +64,11 @@ impl Asking<'_> {
         end: u32,
         disruptor: &Option<UniformityDisruptor>,
     ) -> Option<NonUniform>
-        ensures { option_map asked_view result ≡ where_disrupted (is_some disruptor.now) (look_of self.now.uniformities.now self.now.next.now first end) }
+        ensures { option_map required_view result ≡ where_disrupted (is_some disruptor.now) (look_of self.now.uniformities.now self.now.next.now first end) }
     {
         match disruptor {
             Some(disruptor) => match self.next.get(first as usize) {
-                Some(place) => self.asked_at(*place, end, *disruptor),
+                Some(place) => self.required_at(*place, end, *disruptor),
                 None => None,
             },
             None => None,

@@ -5,6 +5,6 @@ use Rattle.module_type_checks.specs.Known.{AreInfos}
 use Rattle.module_type_infos.specs.declared.info.TypeInfo.{TypeInfo}
 
 -- the infos are those of all types
-pub record AreTold (types : List PlainType) (infos : List TypeInfo) : Type 0 where
+pub record AreReported (types : List PlainType) (infos : List TypeInfo) : Type 0 where
   pub told : AreInfos types infos
   pub many : length infos ≡ length types

@@ -1,7 +1,7 @@
 -- What was written names the first that asks, from each place on.
 use Rattle.std.proofs.Common.{◌≡◌, ℕ, ◌<◌, ◌≤◌, length, slice_index_or}
-use Rattle.typing_uniformity.specs.Asking.{asks, IsNext}
-use Rattle.typing_uniformity.proofs.next.next_asking.Given as goal
+use Rattle.typing_uniformity.specs.Requiring.{asks, IsNext}
+use Rattle.typing_uniformity.proofs.next.next_requiring.Given as goal
 
 abbrev pub invariant-loop-place : goal.invariant-loop-place
 invariant-loop-place l = record {

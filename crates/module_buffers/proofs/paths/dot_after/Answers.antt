@@ -1,6 +1,6 @@
 use Rattle.std.proofs.Common.{sym, ◌∙◌}
 use Rattle.module_buffers.proofs.Written.{a_dot, no_dot}
-use Rattle.module_buffers.proofs.paths.dot_behind.Goals as goal
+use Rattle.module_buffers.proofs.paths.dot_after.Goals as goal
 
 pub returns-then-is_empty : goal.returns-then-is_empty
 returns-then-is_empty c = no_dot c.args.before.now (sym c.is_empty.ensures ∙ c.if-is_empty.true)

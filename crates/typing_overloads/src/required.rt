@@ -6,16 +6,15 @@ ghost use Rattle.typing_rules.specs.Types.{constructor_place};
 ghost use Rattle.typing_forms.specs.Ranks.{rank};
 ghost use Rattle.typing_rules.specs.Bits.{marks};
 ghost use Rattle.typing_rules.specs.Members.{scalars, sizes};
-ghost use Rattle.typing_overloads.specs.Products.{asked_size, asked_scalar, asked_by, all_concrete};
+ghost use Rattle.typing_overloads.specs.Products.{required_size, required_scalar, required_by, all_concrete};
 
-use typing_rules::{ConstructorSet, ScalarSet};
 use ir_kinds::{Scalar, VectorSize};
-use typing_rules::{ConstructorSize, Pattern};
 use typing_forms::conversion_rank;
+use typing_rules::{ConstructorSet, ConstructorSize, Pattern, ScalarSet};
 
 /// The shape that a rule asks for.
 #[derive(Clone, Copy, Debug)]
-pub(crate) enum AskedSize {
+pub(crate) enum RequiredSize {
     /// The one that it is made of.
     Same,
     /// One scalar.
@@ -28,7 +27,7 @@ pub(crate) enum AskedSize {
 
 /// The scalar that a rule asks for.
 #[derive(Clone, Copy, Debug)]
-pub(crate) enum AskedScalar {
+pub(crate) enum RequiredScalar {
     /// The one that it is made of.
     Same,
     /// A 32-bit signed integer.
@@ -39,66 +38,66 @@ pub(crate) enum AskedScalar {
 
 /// The type that a rule asks for at a place.
 #[derive(Clone, Copy, Debug)]
-pub(crate) struct Asked {
+pub(crate) struct Required {
     /// Its shape.
-    pub size: AskedSize,
+    pub size: RequiredSize,
     /// Its scalar.
-    pub scalar: AskedScalar,
+    pub scalar: RequiredScalar,
 }
 
-const OWN: Asked = Asked {
-    size: AskedSize::Same,
-    scalar: AskedScalar::Same,
+const OWN: Required = Required {
+    size: RequiredSize::Same,
+    scalar: RequiredScalar::Same,
 };
 
-const FACTOR: Asked = Asked {
-    size: AskedSize::Scalar,
-    scalar: AskedScalar::Same,
+const FACTOR: Required = Required {
+    size: RequiredSize::Scalar,
+    scalar: RequiredScalar::Same,
 };
 
-const EXPONENT: Asked = Asked {
-    size: AskedSize::Same,
-    scalar: AskedScalar::I32,
+const EXPONENT: Required = Required {
+    size: RequiredSize::Same,
+    scalar: RequiredScalar::I32,
 };
 
-const WORD: Asked = Asked {
-    size: AskedSize::Scalar,
-    scalar: AskedScalar::U32,
+const WORD: Required = Required {
+    size: RequiredSize::Scalar,
+    scalar: RequiredScalar::U32,
 };
 
-const COLUMN: Asked = Asked {
-    size: AskedSize::Column,
-    scalar: AskedScalar::Same,
+const COLUMN: Required = Required {
+    size: RequiredSize::Column,
+    scalar: RequiredScalar::Same,
 };
 
-const ROW: Asked = Asked {
-    size: AskedSize::Row,
-    scalar: AskedScalar::Same,
+const ROW: Required = Required {
+    size: RequiredSize::Row,
+    scalar: RequiredScalar::Same,
 };
 
-const ONE: [Asked; 1] = [OWN];
+const ONE: [Required; 1] = [OWN];
 
-const TWO: [Asked; 2] = [OWN, OWN];
+const TWO: [Required; 2] = [OWN, OWN];
 
-const THREE: [Asked; 3] = [OWN, OWN, OWN];
+const THREE: [Required; 3] = [OWN, OWN, OWN];
 
-const WITH_SCALAR: [Asked; 3] = [OWN, OWN, FACTOR];
+const WITH_SCALAR: [Required; 3] = [OWN, OWN, FACTOR];
 
-const WITH_EXPONENT: [Asked; 2] = [OWN, EXPONENT];
+const WITH_EXPONENT: [Required; 2] = [OWN, EXPONENT];
 
-const WITH_RANGE: [Asked; 3] = [OWN, WORD, WORD];
+const WITH_RANGE: [Required; 3] = [OWN, WORD, WORD];
 
-const TWO_WITH_RANGE: [Asked; 4] = [OWN, OWN, WORD, WORD];
+const TWO_WITH_RANGE: [Required; 4] = [OWN, OWN, WORD, WORD];
 
-const OUTER: [Asked; 2] = [COLUMN, ROW];
+const OUTER: [Required; 2] = [COLUMN, ROW];
 
-const ONE_WORD: [Asked; 1] = [WORD];
+const ONE_WORD: [Required; 1] = [WORD];
 
-const TWO_WORDS: [Asked; 2] = [WORD, WORD];
+const TWO_WORDS: [Required; 2] = [WORD, WORD];
 
 /// What the rules of a pattern ask for, in order.
-pub(crate) const fn asked_by(pattern: Pattern) -> &'static [Asked]
-    ensures { result.now ≡ asked_by pattern }
+pub(crate) const fn required_by(pattern: Pattern) -> &'static [Required]
+    ensures { result.now ≡ required_by pattern }
 {
     match pattern {
         Pattern::Same
@@ -120,10 +119,10 @@ pub(crate) const fn asked_by(pattern: Pattern) -> &'static [Asked]
 }
 
 /// What the rules of a pattern ask for at a place, counted from 0, or `None` where they have no such argument.
-pub(crate) fn asked_at(pattern: Pattern, place: usize) -> Option<Asked>
-    ensures { result ≡ slice_get (asked_by pattern) place }
+pub(crate) fn required_at(pattern: Pattern, place: usize) -> Option<Required>
+    ensures { result ≡ slice_get (required_by pattern) place }
 {
-    asked_by(pattern).get(place).copied()
+    required_by(pattern).get(place).copied()
 }
 
 const NO_SCALAR: ScalarSet = ScalarSet(0);
@@ -177,16 +176,16 @@ const FOUR_ROWS: ConstructorSet = ConstructorSet(
         | ConstructorSet::MAT4X4.0,
 );
 
-impl AskedSize {
+impl RequiredSize {
     /// The shapes of which rules are made that ask for the shape `given` here.
     pub const fn taking(self, given: ConstructorSize) -> ConstructorSet
-        ensures { marks result.0 sizes ≡ map (λ n. constructor_place given == constructor_place (asked_size self n)) sizes }
+        ensures { marks result.0 sizes ≡ map (λ n. constructor_place given == constructor_place (required_size self n)) sizes }
     {
         match self {
-            AskedSize::Same => ConstructorSet(1 << given.place()),
-            AskedSize::Scalar => all_or_none(given),
-            AskedSize::Column => with_columns(given),
-            AskedSize::Row => with_rows(given),
+            RequiredSize::Same => ConstructorSet(1 << given.place()),
+            RequiredSize::Scalar => all_or_none(given),
+            RequiredSize::Column => with_columns(given),
+            RequiredSize::Row => with_rows(given),
         }
     }
 }
@@ -227,15 +226,15 @@ const fn with_rows(given: ConstructorSize) -> ConstructorSet
     }
 }
 
-impl AskedScalar {
+impl RequiredScalar {
     /// The scalars of which rules are made that take the scalar `given` here.
     pub fn taking(self, given: Scalar) -> ScalarSet
-        ensures { marks result.0 scalars ≡ map (λ s. is_some (rank given (asked_scalar self s))) scalars }
+        ensures { marks result.0 scalars ≡ map (λ s. is_some (rank given (required_scalar self s))) scalars }
     {
         match self {
-            AskedScalar::Same => ScalarSet::convertible_from(given),
-            AskedScalar::I32 => all_if(conversion_rank(given, Scalar::I32).is_some()),
-            AskedScalar::U32 => all_if(conversion_rank(given, Scalar::U32).is_some()),
+            RequiredScalar::Same => ScalarSet::convertible_from(given),
+            RequiredScalar::I32 => all_if(conversion_rank(given, Scalar::I32).is_some()),
+            RequiredScalar::U32 => all_if(conversion_rank(given, Scalar::U32).is_some()),
         }
     }
 }

@@ -4,7 +4,7 @@ use Rattle.ir_kinds.specs.declared.diagnostics.Severity.{Severity}
 use Rattle.ir_kinds.specs.declared.diagnostics.Severity.TheVariants.{Off, Info, Warning, Error}
 use Rattle.spec_analysis.specs.declared.uniformity.Uniformity.{Uniformity}
 use Rattle.spec_analysis.specs.declared.uniformity.TheConstants.UniformityRequirements.{DERIVATIVE, IMPLICIT_LEVEL, COOP_OPS}
-use Rattle.spec_analysis.specs.Uniformity.{Asked}
+use Rattle.spec_analysis.specs.Uniformity.{Required}
 use Rattle.typing_uniformity.specs.declared.fault.NonUniform.{NonUniform}
 
 abbrev pub source_in : Option Uniformity → Option ℕ
@@ -49,17 +49,17 @@ pub record AreNext (test : ℕ → Bool) (count : ℕ) (next : List ℕ) : Type 
   pub each : (k : ℕ) → k < count → IsNext test count k (slice_index_or next k 0)
 
 -- a fault as what is asked
-abbrev pub asked_view : NonUniform → Asked
-asked_view f = record { requirement = f.requirements.0; expression = f.expression }
+abbrev pub required_view : NonUniform → Required
+required_view f = record { requirement = f.requirements.0; expression = f.expression }
 
-abbrev pub asked_with : ℕ → ℕ → Option Uniformity → Option Asked
-asked_with end place None = None
-asked_with end place (Some u) = if nat_lt place end then Some (record { requirement = u.requirements.0; expression = place }) else None
+abbrev pub required_with : ℕ → ℕ → Option Uniformity → Option Required
+required_with end place None = None
+required_with end place (Some u) = if nat_lt place end then Some (record { requirement = u.requirements.0; expression = place }) else None
 
-abbrev pub asked_from : List Uniformity → ℕ → Option ℕ → Option Asked
-asked_from uniformities end None = None
-asked_from uniformities end (Some place) = asked_with end place (slice_get uniformities place)
+abbrev pub required_from : List Uniformity → ℕ → Option ℕ → Option Required
+required_from uniformities end None = None
+required_from uniformities end (Some place) = required_with end place (slice_get uniformities place)
 
 -- what the first expression of a range that asks for something asks for
-abbrev pub look_of : List Uniformity → List ℕ → ℕ → ℕ → Option Asked
-look_of uniformities next first end = asked_from uniformities end (slice_get next first)
+abbrev pub look_of : List Uniformity → List ℕ → ℕ → ℕ → Option Required
+look_of uniformities next first end = required_from uniformities end (slice_get next first)

@@ -4,7 +4,7 @@ use Rattle.ir_flags.specs.Sets.{Has}
 use Rattle.ir_flags.specs.declared.settings.ValidationFlags.{ValidationFlags}
 use Rattle.ir_flags.specs.declared.settings.TheConstants.ValidationFlags.{BLOCKS}
 use Rattle.ir_items.specs.Plain.{PlainEntry, PlainModule}
-use Rattle.spec_statements.specs.Held.{HasPayloadBefore}
+use Rattle.spec_statements.specs.EarlierPayloads.{HasPayloadBefore}
 use Rattle.spec_statements.specs.Payloads.{HasPayload}
 
 -- a ray is traced with a payload of this type in one of the first so many entry points
@@ -21,6 +21,6 @@ HasPayloadSoFar m count type = HasPayloadBefore m (length m.functions) type ⊎ 
 
 -- What is held after all functions and the first so many entry points, where bodies are checked: the type of each of their
 -- payloads, and nothing where they have none; else nothing.
-pub record IsHeldBeforeEntry (flags : ValidationFlags) (m : PlainModule) (count : ℕ) (held : Option ℕ) : Type 0 where
+pub record IsPayloadBeforeEntry (flags : ValidationFlags) (m : PlainModule) (count : ℕ) (held : Option ℕ) : Type 0 where
   pub some : (type : ℕ) → Has flags.0 BLOCKS.0 → HasPayloadSoFar m count type → held ≡ Some type
   pub none : ((type : ℕ) → Has flags.0 BLOCKS.0 → HasPayloadSoFar m count type → ⊥) → held ≡ None

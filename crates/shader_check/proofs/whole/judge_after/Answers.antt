@@ -2,19 +2,19 @@ use Rattle.std.proofs.Common.{◌∙◌, List, length, map, sym, ap, subst}
 use Rattle.std.proofs.lemmas.List.{length-map}
 use Rattle.typing_infos.specs.Infos.{summary_of}
 use Rattle.typing_infos.specs.declared.function_info.FunctionInfo.{FunctionInfo}
-use Rattle.shader_check.proofs.Assembled.{entries_kept, entries_noted, entry_refused, run_so, told_by}
+use Rattle.shader_check.proofs.Assembled.{entries_kept, entries_noted, entry_refused, run_so, reported_by}
 use Rattle.shader_check.proofs.EntryHeld.{held_behind_functions}
 use Rattle.shader_check.proofs.FunctionKept.{kept, refused_by}
 use Rattle.shader_check.specs.Chains.{AreKept, IsFunctionFault}
 use Rattle.shader_check.specs.JudgedEntries.{AreEntriesJudged, IsEntryRefusal, note_of}
 use Rattle.shader_check.specs.Settings.{settings_in}
-use Rattle.shader_check.specs.Validated.{AreEntriesKept, AreNoted, IsEntryFault, IsFaultBehind}
+use Rattle.shader_check.specs.Validated.{AreEntriesKept, AreNoted, IsEntryFault, IsFaultAfter}
 use Rattle.shader_check.specs.declared.error.ValidationError.TheVariants as error
 use Rattle.ir_items.specs.View.{module_view}
 use Rattle.typing_infos.specs.declared.info.ModuleInfo.{ModuleInfo}
 use Rattle.function_real_lower.specs.Readings.{reading_of, faults_of}
 use Rattle.spec_analysis.specs.Summaries.{AreSummaries}
-use Rattle.shader_check.proofs.whole.judge_behind.Goals as goal
+use Rattle.shader_check.proofs.whole.judge_after.Goals as goal
 
 pub judge_all-requires-clause-made : goal.judge_all-requires-clause-made
 judge_all-requires-clause-made c = (c.requires.made, c.requires.known)
@@ -41,7 +41,7 @@ pub returns-in-Err-judge_all : goal.returns-in-Err-judge_all
 returns-in-Err-judge_all c =
     let s = settings_in c.args.own in
     let m = module_view c.args.«module».now in
-    told_by error.Function (IsFunctionFault s m) (IsFaultBehind s m) (λ x h. h) c.in-Err-judge_all.refusal c.function_refusal.result c.function_refusal.ensures (refused_by s m c.in-Err-judge_all.refusal c.in-Err-judge_all.ensures)
+    reported_by error.Function (IsFunctionFault s m) (IsFaultAfter s m) (λ x h. h) c.in-Err-judge_all.refusal c.function_refusal.result c.function_refusal.ensures (refused_by s m c.in-Err-judge_all.refusal c.in-Err-judge_all.ensures)
 
 pub returns-in-Ok-judge_entries : goal.returns-in-Ok-judge_entries
 returns-in-Ok-judge_entries c =
@@ -77,5 +77,5 @@ returns-in-Err-judge_entries c =
     let stages = λ (i : FunctionInfo). i.available_stages in
     let functions = c.in-Ok-judge_all.functions.infos.items in
     let refused = subst (λ (xs : List FunctionInfo). IsEntryRefusal reading_of faults_of s m (map summary_of xs) (map stages xs) c.in-Err-judge_entries.refusal) c.deref.ensures.value c.in-Err-judge_entries.ensures in
-    told_by error.EntryPoint (IsEntryFault s m) (IsFaultBehind s m) (λ x h. ((kept s m (map summary_of functions) (map stages functions) c.in-Ok-judge_all.functions.held c.in-Ok-judge_all.ensures).accepted, h)) c.in-Err-judge_entries.refusal c.entry_refusal.result c.entry_refusal.ensures
+    reported_by error.EntryPoint (IsEntryFault s m) (IsFaultAfter s m) (λ x h. ((kept s m (map summary_of functions) (map stages functions) c.in-Ok-judge_all.functions.held c.in-Ok-judge_all.ensures).accepted, h)) c.in-Err-judge_entries.refusal c.entry_refusal.result c.entry_refusal.ensures
     (entry_refused s m c.requires.made.handles (map summary_of functions) (map stages functions) c.in-Ok-judge_all.functions.held c.in-Ok-judge_all.ensures c.in-Err-judge_entries.refusal refused)

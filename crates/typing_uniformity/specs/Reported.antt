@@ -6,16 +6,16 @@ use Rattle.spec_analysis.specs.declared.uniformity.Uniformity.{Uniformity}
 use Rattle.spec_analysis.specs.Values.{known_at, requirements_of}
 
 -- Where its value comes from, and the bits of what it asks for.
-pub record Told : Type 0 where
+pub record Reported : Type 0 where
   pub source : Option ℕ
   pub requirement : ℕ
 
-abbrev pub told : Uniformity → Told
+abbrev pub told : Uniformity → Reported
 told u = record { source = u.non_uniform_result; requirement = u.requirements.0 }
 
-abbrev pub told_of : List (Option ℕ) → ℕ → PlainExpression → Told
-told_of sources e x = record { source = known_at sources e; requirement = requirements_of x }
+abbrev pub reported_of : List (Option ℕ) → ℕ → PlainExpression → Reported
+reported_of sources e x = record { source = known_at sources e; requirement = requirements_of x }
 
 -- of these expressions with their places
-abbrev pub all_told : List (Option ℕ) → List (ℕ × Expression) → List Told
-all_told sources expressions = map (λ (h : ℕ × Expression). told_of sources h.0 (expression_view h.1)) expressions
+abbrev pub all_reported : List (Option ℕ) → List (ℕ × Expression) → List Reported
+all_reported sources expressions = map (λ (h : ℕ × Expression). reported_of sources h.0 (expression_view h.1)) expressions

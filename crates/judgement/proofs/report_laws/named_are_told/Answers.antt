@@ -1,5 +1,0 @@
-use Rattle.judgement.proofs.Named.{named_are_told}
-use Rattle.judgement.proofs.report_laws.named_are_told.Goals as goal
-
-pub returns : goal.returns
-returns c = named_are_told

@@ -1,0 +1,16 @@
+-- The pairs that are held, few or many.
+use Rattle.std.specs.Prelude.{List}
+use Rattle.spec_analysis.specs.Pairs.{SamplingPair}
+use Rattle.spec_analysis.specs.declared.sampling.SamplingKey.{SamplingKey}
+use Rattle.typing_infos.specs.declared.sampled.StoredPairs.{StoredPairs}
+use Rattle.typing_infos.specs.declared.sampled.StoredPairs.TheVariants as pairs
+use Rattle.typing_infos.specs.declared.sampled.StoredKeys.{StoredKeys}
+use Rattle.typing_infos.specs.declared.sampled.StoredKeys.TheVariants as keys
+
+abbrev pub pairs_stored : StoredPairs → List SamplingPair
+pairs_stored (pairs.Few list) = list.items
+pairs_stored (pairs.Many table) = table.value.pairs.items
+
+abbrev pub keys_stored : StoredKeys → List SamplingKey
+keys_stored (keys.Few list) = list.items
+keys_stored (keys.Many table) = table.value.keys.items
