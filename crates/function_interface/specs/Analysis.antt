@@ -15,7 +15,7 @@ use Rattle.typing_forms.specs.Forms.{NoStructValue}
 use Rattle.typing_forms.specs.Resolutions.{resolution_view}
 use Rattle.typing_forms.specs.declared.form.Form.{Form}
 use Rattle.typing_forms.specs.declared.resolution.TypeResolution.{TypeResolution}
-use Rattle.typing_operands.specs.Answers.{form_given}
+use Rattle.typing_errors.specs.Answers.{form_given}
 use Rattle.function_interface.specs.Arities.{IsArityFault}
 use Rattle.function_interface.specs.Question.{Question}
 use Rattle.ir_items.specs.Plain.{PlainFunction, PlainModule}

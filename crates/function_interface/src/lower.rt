@@ -21,7 +21,7 @@ ghost use Rattle.function_statement_checks.specs.View.{context_view, IsKnown};
 ghost use Rattle.module_type_infos.specs.declared.info.TypeInfo.{TypeInfo};
 ghost use Rattle.typing_forms.specs.declared.form.Form.{Form};
 ghost use Rattle.typing_forms.specs.declared.resolution.TypeResolution.{TypeResolution};
-ghost use Rattle.typing_operands.specs.Answers.{form_given};
+ghost use Rattle.typing_errors.specs.Answers.{form_given};
 
 use function_statement_checks::BlockContext;
 use ir_arena::handle::Handle;

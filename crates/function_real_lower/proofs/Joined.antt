@@ -18,7 +18,7 @@ use Rattle.spec_expressions.specs.declared.faults.TypingFault.{TypingFault}
 use Rattle.std.proofs.lemmas.Option.{slice_get_within}
 use Rattle.function_real_lower.specs.Infos.{IsFunctionInfo, AreExpressionInfos}
 use Rattle.function_real_lower.specs.Processed.{IsAnalysisFault, untyped, wrong_form, non_uniform, IsAnalysisRefusal, IsAnalysed}
-use Rattle.typing_operands.specs.Answers.{fault_of, ReportsFault}
+use Rattle.typing_errors.specs.Answers.{fault_of, ReportsFault}
 
 -- ---- the summaries of callees alone count
 

@@ -28,7 +28,7 @@ use Rattle.typing_forms.specs.Resolutions.{PlainResolution, by_handle, by_value,
 use Rattle.typing_forms.specs.declared.resolution.TypeResolution.{TypeResolution}
 use Rattle.typing_forms.specs.declared.form.Form.{Form}
 use Rattle.function_real_lower.specs.Processed.{IsAnalysed, IsProcessed}
-use Rattle.typing_operands.specs.Answers.{form_given}
+use Rattle.typing_errors.specs.Answers.{form_given}
 
 typed_at : (m : PlainModule) (f : PlainFunction) (e : ℕ) (t : Form) (o : Option ExpressionInfo)
     → ((i : ExpressionInfo) → o ≡ Some i → HasType m f e (form_given m.types i.ty)) → option_map (form_given m.types) (option_map (λ (i : ExpressionInfo). i.ty) o) ≡ Some t → HasType m f e t

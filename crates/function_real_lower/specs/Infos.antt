@@ -12,7 +12,7 @@ use Rattle.spec_analysis.specs.Effects.{effects_of, places_of}
 use Rattle.spec_analysis.specs.Summaries.{Summary, IsJoined}
 use Rattle.spec_analysis.specs.Values.{StartsAt}
 use Rattle.spec_expressions.specs.Typing.{HasType}
-use Rattle.typing_operands.specs.Answers.{form_given}
+use Rattle.typing_errors.specs.Answers.{form_given}
 
 -- Of the expression at a place it says where its value comes from and what it asks for, at how many places it is an operand,
 -- the global variable that its chain of accesses starts at, and a type that it has.

@@ -15,8 +15,8 @@ use Rattle.ir_items.specs.Plain.{PlainFunction, PlainModule}
 use Rattle.spec_analysis.specs.Summaries.{Summary, IsFormFault}
 use Rattle.spec_expressions.specs.Context.{inside}
 use Rattle.function_real_lower.specs.Infos.{IsFunctionInfo}
-use Rattle.typing_operands.specs.Answers.{fault_of, ReportsFault}
-use Rattle.typing_operands.specs.declared.error.ResolveError.{ResolveError}
+use Rattle.typing_errors.specs.Answers.{fault_of, ReportsFault}
+use Rattle.typing_errors.specs.declared.resolve_error.ResolveError.{ResolveError}
 
 -- The faults that the analysis of a function finds, where it calls functions of which these summaries are kept: an expression
 -- has no type, as the error tells; an operand that stands for an image or a sampler is of a wrong form; something asks that

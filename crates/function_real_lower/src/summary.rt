@@ -23,7 +23,7 @@ use std::alloc::{AllocError, Global};
 use typing_expressions::{TypingRefusal, types_of};
 use typing_forms::TypeResolution;
 use typing_infos::{FunctionInfo, FunctionParts};
-use typing_operands::ResolveError;
+use typing_errors::ResolveError;
 use typing_resolve::ResolveContext;
 use typing_summaries::{Context, Counts, Sampled, Tally};
 use typing_uniformity::facts_of;

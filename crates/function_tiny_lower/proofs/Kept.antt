@@ -22,7 +22,7 @@ use Rattle.function_tiny_lower.specs.declared.value_type.ValueType.{ValueType}
 use Rattle.typing_forms.specs.Forms.{NoStructValue}
 use Rattle.typing_forms.specs.Resolutions.{resolution_view}
 use Rattle.typing_forms.specs.declared.resolution.TypeResolution.{TypeResolution}
-use Rattle.typing_operands.specs.Answers.{form_given}
+use Rattle.typing_errors.specs.Answers.{form_given}
 
 none_named : (types : List ValueType) (e : ℕ) (r : TypeResolution) → slice_get (map resolution_of types) e ≡ Some r → NoStructValue (resolution_view r)
 none_named [] e r at = cc (at)

@@ -14,7 +14,7 @@ use Rattle.function_tiny_lower.specs.Typing.{earlier, expression_type, types_aft
 use Rattle.function_tiny_lower.specs.Values.{form_of, resolution_of}
 use Rattle.function_tiny_lower.specs.declared.value_type.ValueType.{ValueType}
 use Rattle.typing_forms.specs.declared.form.Form.{Form}
-use Rattle.typing_operands.specs.Answers.{form_given}
+use Rattle.typing_errors.specs.Answers.{form_given}
 
 pub earlier_known : (past : List ValueType) (e : ℕ) → earlier (map Some past) e ≡ slice_get past e
 earlier_known [] e = refl

@@ -11,7 +11,7 @@ use Rattle.function_tiny_lower.specs.Readings.{IsGiven, IsRunBy, IsTypeFault, un
 use Rattle.function_tiny_lower.specs.Typing.{HasForm, IsUntyped}
 use Rattle.typing_forms.specs.declared.form.Form.{Form}
 use Rattle.typing_forms.specs.declared.resolution.TypeResolution.{TypeResolution}
-use Rattle.typing_operands.specs.Answers.{form_given}
+use Rattle.typing_errors.specs.Answers.{form_given}
 
 some_is : {X : Type 0} {x y : X} → Some x ≡ Some y → x ≡ y
 some_is e = cc (e)

@@ -20,7 +20,7 @@ use Rattle.function_tiny_lower.specs.declared.known.Known.TheVariants as known
 use Rattle.module_type_infos.specs.declared.info.TypeInfo.{TypeInfo}
 use Rattle.typing_forms.specs.declared.form.Form.{Form}
 use Rattle.typing_forms.specs.declared.resolution.TypeResolution.{TypeResolution}
-use Rattle.typing_operands.specs.Answers.{form_given}
+use Rattle.typing_errors.specs.Answers.{form_given}
 
 -- The module has no global variables, and of its types this is told.
 pub record IsMadeOf (m : PlainModule) (infos : List TypeInfo) : Type 0 where

@@ -2,7 +2,7 @@
 
 ghost use Rattle.std.specs.Prelude.{◌≡◌, ◌≤◌, IfOk, length, map};
 ghost use Rattle.typing_forms.specs.Resolutions.{types_view};
-ghost use Rattle.typing_operands.specs.Answers.{form_given};
+ghost use Rattle.typing_errors.specs.Answers.{form_given};
 
 use function_interface::Lower;
 use ir_arena::handle::Handle;

@@ -15,7 +15,7 @@ ghost use Rattle.spec_handles.specs.Conditions.{AritiesMatch, HandlesInRange, Op
 ghost use Rattle.spec_statements.specs.Functions.{FunctionOK, AllowsStage, block_context};
 ghost use Rattle.spec_statements.specs.Payloads.{IsPayloadAfter};
 ghost use Rattle.function_statement_checks.specs.Descriptors.{AreDescriptors};
-ghost use Rattle.typing_operands.specs.Answers.{form_given};
+ghost use Rattle.typing_errors.specs.Answers.{form_given};
 
 use crate::forms::forms_of;
 use crate::parts::{Met, check_parts};

@@ -12,7 +12,7 @@ use Rattle.typing_forms.specs.Forms.{form_of_type}
 use Rattle.typing_forms.specs.Resolutions.{types_view}
 use Rattle.typing_forms.specs.declared.form.Form.{Form}
 use Rattle.typing_forms.specs.declared.form.Form.TheVariants as form
-use Rattle.typing_operands.specs.Answers.{form_given}
+use Rattle.typing_errors.specs.Answers.{form_given}
 
 -- ---- the forms of components
 

@@ -18,7 +18,7 @@ use Rattle.typing_forms.specs.declared.form.Form.{Form}
 use Rattle.typing_layout.specs.Constness.{IsOfKind}
 use Rattle.typing_layout.specs.declared.constness.ExpressionKind.{ExpressionKind}
 use Rattle.typing_layout.specs.declared.constness.ExpressionKind.TheVariants.{Runtime}
-use Rattle.typing_operands.specs.Answers.{fault_of, ReportsFault}
+use Rattle.typing_errors.specs.Answers.{fault_of, ReportsFault}
 
 -- the components of a composition have types whose forms don't make one of the type that it says
 pub record IsComponentsFault (context : Context) (expressions : List PlainExpression) (type : ℕ) (components : List ℕ) (e : ComposeError) : Type 0 where

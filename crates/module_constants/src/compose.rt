@@ -8,7 +8,7 @@ ghost use Rattle.module_constants.specs.Composed.{AllFit, IsMisfit, IsOtherCount
 ghost use Rattle.spec_expressions.specs.ConstantCompositions.{scalars_in, Fits, parts_given, ComposeOK};
 ghost use Rattle.typing_forms.specs.Forms.{form_of_type};
 ghost use Rattle.typing_forms.specs.Resolutions.{types_view};
-ghost use Rattle.typing_operands.specs.Answers.{form_given};
+ghost use Rattle.typing_errors.specs.Answers.{form_given};
 ghost use Rattle.typing_forms.specs.Parts.{components_of};
 
 use crate::components::{Components, count_of, form_at, scalars_of};

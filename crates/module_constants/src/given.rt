@@ -2,7 +2,7 @@
 
 ghost use Rattle.std.specs.Prelude.{◌≡◌, IfOk, map};
 ghost use Rattle.typing_forms.specs.Resolutions.{types_view};
-ghost use Rattle.typing_operands.specs.Answers.{form_given};
+ghost use Rattle.typing_errors.specs.Answers.{form_given};
 
 use ir_sets::unique_arena::UniqueArena;
 use ir_types::{IrType, key};

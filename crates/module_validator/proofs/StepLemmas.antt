@@ -16,8 +16,8 @@ use Rattle.typing_layout.specs.declared.error.LayoutError.{LayoutError}
 use Rattle.typing_layout.specs.declared.error.LayoutErrorInner.{LayoutErrorInner}
 use Rattle.typing_layout.specs.declared.error.LayoutErrorInner.TheVariants.{NonPowerOfTwoWidth, TooLarge}
 use Rattle.typing_layout.specs.declared.layout.TypeLayout.{TypeLayout}
-use Rattle.typing_operands.specs.Answers.{ReportsFault, fault_of, form_given}
-use Rattle.typing_operands.specs.declared.error.ResolveError.{ResolveError}
+use Rattle.typing_errors.specs.Answers.{ReportsFault, fault_of, form_given}
+use Rattle.typing_errors.specs.declared.resolve_error.ResolveError.{ResolveError}
 use Rattle.spec_expressions.specs.declared.faults.TypingFault.{TypingFault}
 use Rattle.spec_expressions.specs.Typing.{HasTypeAmong}
 use Rattle.module_type_infos.specs.declared.info.TypeInfo.{TypeInfo}

@@ -30,7 +30,7 @@ use Rattle.spec_expressions.specs.Typing.{HasGlobalType}
 use Rattle.typing_expressions.specs.Types.{AreTypes}
 use Rattle.typing_forms.specs.declared.resolution.TypeResolution.{TypeResolution}
 use Rattle.typing_layout.specs.Constness.{AreKinds}
-use Rattle.typing_operands.specs.Answers.{form_given}
+use Rattle.typing_errors.specs.Answers.{form_given}
 
 pub expressions_pass : (s : ModuleSettings) (m : PlainModule) → AreAccepted (GlobalExpressionOK s.capabilities s.overrides_resolved m) (item_count m expression) → StepPasses s m expression
 expressions_pass s m all = record { each = λ index lt has. all.each index lt }

@@ -23,7 +23,7 @@ use Rattle.spec_statements.specs.ModuleFunctions.{reading_over, settings_with, F
 use Rattle.spec_statements.specs.Functions.{FunctionSettings, FunctionOK, AreFormsBy}
 use Rattle.typing_forms.specs.declared.form.Form.{Form}
 use Rattle.function_real_lower.specs.Processed.{IsAnalysisFault, untyped, wrong_form, non_uniform}
-use Rattle.typing_operands.specs.Answers.{fault_of, ReportsFault}
+use Rattle.typing_errors.specs.Answers.{fault_of, ReportsFault}
 
 module _ (m : PlainModule) (f : PlainFunction) (summaries : List Summary) (stages : List ShaderStages) (known : CalleesKnown m f summaries) where
   analysed_by_chains : (flags : ValidationFlags) → ((e : FunctionError) → IsAnalysisFault flags m f summaries e → ⊥) → IsAnalysed flags m f

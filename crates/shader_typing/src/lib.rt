@@ -36,7 +36,7 @@ pub use typing_layout::{
     Alignment, ExpressionKind, ExpressionKindTracker, LayoutError, LayoutErrorInner, Layouter,
     TypeLayout, origins_precede,
 };
-pub use typing_operands::{ResolveError, ResolveRefusal};
+pub use typing_errors::{ResolveError, ResolveRefusal};
 pub use typing_overloads::{AnyOverloadSet, List, MathFunctionExt, OverloadSet, Regular};
 pub use typing_resolve::ResolveContext;
 pub use typing_rules::{

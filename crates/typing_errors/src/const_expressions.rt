@@ -3,7 +3,7 @@
 use crate::compose::ComposeError;
 use module_type_infos::LiteralError;
 use thiserror::Error;
-use typing_operands::ResolveError;
+use crate::ResolveError;
 
 /// Why a global expression is refused (naga's `ConstExpressionError`).
 #[derive(Debug, Drop, Error)]

@@ -7,7 +7,7 @@ use ir_kinds::{ImageClass, ImageDimension, StorageFormat};
 use ir_types::key;
 use module_type_infos::LiteralError;
 use thiserror::Error;
-use typing_operands::ResolveError;
+use crate::ResolveError;
 
 /// Why an expression of a function is refused (naga's `ExpressionError`).
 #[derive(Debug, Drop, Error)]

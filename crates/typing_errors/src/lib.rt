@@ -1,6 +1,9 @@
 //! Why a function is refused: of an expression (a width, a literal, a composition, a global expression among them), of a
 //! statement (a call, an atomic operation, an operation of a subgroup) and of a local variable; and what makes control flow
 //! differ between invocations.
+//!
+//! What the rules of expressions read and answer: the operands whose types make that of an expression, the forms of these
+//! types, and why an expression has none.
 #![tactic(auto)]
 
 mod atomics;
@@ -11,6 +14,8 @@ mod disruptor;
 mod error;
 mod expressions;
 mod locals;
+mod operands;
+mod resolve_error;
 mod subgroups;
 mod texts;
 
@@ -22,4 +27,6 @@ pub use disruptor::UniformityDisruptor;
 pub use error::FunctionError;
 pub use expressions::ExpressionError;
 pub use locals::LocalVariableError;
+pub use operands::{Given, Operands, Typing, given_again, given_form, operands_of};
+pub use resolve_error::{ResolveError, ResolveRefusal, error_of};
 pub use subgroups::SubgroupError;

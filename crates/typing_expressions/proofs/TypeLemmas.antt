@@ -16,7 +16,7 @@ use Rattle.spec_expressions.specs.Context.{Context}
 use Rattle.spec_expressions.specs.Typing.{typing_operands, HasTypeAmong}
 use Rattle.typing_forms.specs.declared.resolution.TypeResolution.{TypeResolution}
 use Rattle.typing_forms.specs.declared.form.Form.{Form}
-use Rattle.typing_operands.specs.Answers.{form_given}
+use Rattle.typing_errors.specs.Answers.{form_given}
 use Rattle.typing_expressions.specs.Types.{TypedSoFar, TypedBefore, IsFirstUntyped, AreTypes, OperandsBelow, IsTypedBy}
 use Rattle.typing_expressions.specs.declared.refusal.TypingRefusal.{TypingRefusal}
 use Rattle.typing_expressions.specs.declared.refusal.TypingRefusal.TheVariants.{Memory, Fault}

@@ -6,9 +6,9 @@ use Rattle.spec_expressions.specs.Typing.{typing_operands, HasTypeAmong}
 use Rattle.typing_rules.specs.Laws.{IsAmong}
 use Rattle.typing_forms.specs.declared.form.Form.{Form}
 use Rattle.typing_forms.specs.declared.resolution.TypeResolution.{TypeResolution}
-use Rattle.typing_operands.specs.Answers.{form_given, fault_of, ReportsFault, IsAnswer}
-use Rattle.typing_operands.specs.declared.error.ResolveError.{ResolveError}
-use Rattle.typing_operands.specs.declared.error.ResolveRefusal.{ResolveRefusal}
+use Rattle.typing_errors.specs.Answers.{form_given, fault_of, ReportsFault, IsAnswer}
+use Rattle.typing_errors.specs.declared.resolve_error.ResolveError.{ResolveError}
+use Rattle.typing_errors.specs.declared.resolve_error.ResolveRefusal.{ResolveRefusal}
 use Rattle.typing_expressions.specs.declared.refusal.TypingRefusal.{TypingRefusal}
 use Rattle.typing_expressions.specs.declared.refusal.TypingRefusal.TheVariants.{Memory, Fault}
 

@@ -5,7 +5,7 @@ ghost use Rattle.ir_items.specs.View.{module_view};
 ghost use Rattle.spec_analysis.specs.Values.{OperandsPrecede};
 ghost use Rattle.spec_expressions.specs.Context.{outside};
 ghost use Rattle.typing_expressions.specs.Types.{ItemsNamed, TypedSoFar, AreTypes, IsFirstUntyped};
-ghost use Rattle.typing_operands.specs.Answers.{IsAnswer};
+ghost use Rattle.typing_errors.specs.Answers.{IsAnswer};
 ghost use Rattle.typing_resolve.specs.View.{context_view};
 
 use crate::refusal::TypingRefusal;
@@ -16,7 +16,7 @@ use ir_items::{LocalVariable, Module};
 use ir_types::key;
 use std::alloc::Global;
 use typing_forms::TypeResolution;
-use typing_operands::ResolveRefusal;
+use typing_errors::ResolveRefusal;
 use typing_resolve::ResolveContext;
 
 // What global expressions may depend on: no variables, of which there is an empty list, and no arguments.

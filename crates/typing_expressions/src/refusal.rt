@@ -3,7 +3,7 @@
 use ir_arena::handle::Handle;
 use ir_types::key;
 use std::alloc::AllocError;
-use typing_operands::ResolveError;
+use typing_errors::ResolveError;
 
 /// Why not all expressions of a list have a type.
 #[derive(Debug, Drop)]

@@ -6,7 +6,7 @@ ghost use Rattle.ir_items.specs.GlobalView.{values_of};
 ghost use Rattle.spec_analysis.specs.Values.{OperandsPrecede};
 ghost use Rattle.spec_expressions.specs.Context.{Context, NamesItem};
 ghost use Rattle.typing_expressions.specs.Types.{ItemsNamed, AreTypes, IsFirstUntyped, OperandsBelow, Decided, DecidedAt, IsTypedBy};
-ghost use Rattle.typing_operands.specs.Answers.{IsAnswer};
+ghost use Rattle.typing_errors.specs.Answers.{IsAnswer};
 ghost use Rattle.typing_resolve.specs.View.{context_view};
 
 use crate::refusal::TypingRefusal;
@@ -15,7 +15,7 @@ use ir_arena::handle::Handle;
 use ir_types::{Expression, TypeInner, key};
 use std::alloc::{AllocError, Global};
 use typing_forms::TypeResolution;
-use typing_operands::ResolveRefusal;
+use typing_errors::ResolveRefusal;
 use typing_resolve::ResolveContext;
 
 // What is read for an operand that does not come before.

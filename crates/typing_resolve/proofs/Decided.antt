@@ -11,10 +11,10 @@ use Rattle.spec_expressions.specs.Context.{Context}
 use Rattle.spec_expressions.specs.Laws.{IsFaulty}
 use Rattle.spec_expressions.specs.Typing.{form_read, operand_form, rule, rule_at, typing_operands, HasTypeAmong, has}
 use Rattle.spec_expressions.specs.declared.faults.TypingFault.{TypingFault}
-use Rattle.typing_operands.specs.Answers.{form_given, fault_of, told, ReportsFault, IsAnswer}
-use Rattle.typing_operands.specs.Operands.{given_form}
-use Rattle.typing_operands.specs.declared.error.ResolveRefusal.{ResolveRefusal}
-use Rattle.typing_operands.specs.declared.error.ResolveRefusal.TheVariants.{Memory, Fault}
+use Rattle.typing_errors.specs.Answers.{form_given, fault_of, told, ReportsFault, IsAnswer}
+use Rattle.typing_errors.specs.Operands.{given_form}
+use Rattle.typing_errors.specs.declared.resolve_error.ResolveRefusal.{ResolveRefusal}
+use Rattle.typing_errors.specs.declared.resolve_error.ResolveRefusal.TheVariants.{Memory, Fault}
 
 some_is : {A : Type 0} {x y : A} → Some x ≡ Some y → x ≡ y
 some_is e = cc (e)

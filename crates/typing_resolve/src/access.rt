@@ -6,7 +6,7 @@ ghost use Rattle.ir_types.specs.Plain.{PlainType, inner_view, member_view};
 ghost use Rattle.spec_expressions.specs.Access.{pointer_to, pointed_element, element, access_type, one_of, member_of, pointed_part, access_index_type};
 ghost use Rattle.typing_forms.specs.Forms.{form_in};
 ghost use Rattle.typing_forms.specs.Resolutions.{types_view, inner_at};
-ghost use Rattle.typing_operands.specs.Answers.{form_given, form_answer};
+ghost use Rattle.typing_errors.specs.Answers.{form_given, form_answer};
 
 use ir_arena::handle::Handle;
 use ir_kinds::{AddressSpace, Scalar, VectorSize};

@@ -3,7 +3,7 @@
 ghost use Rattle.std.specs.Prelude.{◌≡◌, List};
 ghost use Rattle.ir_types.specs.Plain.{PlainType};
 ghost use Rattle.spec_expressions.specs.Compositions.{splat_type, swizzle_type};
-ghost use Rattle.typing_operands.specs.Answers.{form_answer};
+ghost use Rattle.typing_errors.specs.Answers.{form_answer};
 
 use ir_arena::handle::Handle;
 use ir_kinds::VectorSize;

@@ -11,8 +11,8 @@ ghost use Rattle.spec_expressions.specs.Context.{NamesItem, context_with};
 ghost use Rattle.spec_expressions.specs.Typing.{typing_operands, rule_at, form_read, HasTypeAmong};
 ghost use Rattle.typing_forms.specs.declared.form.Form.{Form};
 ghost use Rattle.typing_forms.specs.declared.resolution.TypeResolution.{TypeResolution};
-ghost use Rattle.typing_operands.specs.Answers.{form_given, told, IsAnswer};
-ghost use Rattle.typing_operands.specs.Operands.{given_form};
+ghost use Rattle.typing_errors.specs.Answers.{form_given, told, IsAnswer};
+ghost use Rattle.typing_errors.specs.Operands.{given_form};
 ghost use Rattle.typing_resolve.specs.View.{context_view};
 
 use crate::typing::answered;
@@ -26,7 +26,7 @@ use ir_sets::unique_arena::UniqueArena;
 use ir_types::{Expression, IrType, key};
 use std::alloc::Global;
 use typing_forms::TypeResolution;
-use typing_operands::{Given, ResolveRefusal, operands_of};
+use typing_errors::{Given, ResolveRefusal, operands_of};
 
 /// What the type of an expression may depend on, beside those of its operands (naga's `ResolveContext`).
 #[derive(Clone, Copy)]

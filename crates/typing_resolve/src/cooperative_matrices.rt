@@ -3,7 +3,7 @@
 ghost use Rattle.std.specs.Prelude.{◌≡◌};
 ghost use Rattle.spec_expressions.specs.CooperativeMatrices.{pointed_scalar, cooperative_load_type};
 ghost use Rattle.typing_forms.specs.Resolutions.{types_view};
-ghost use Rattle.typing_operands.specs.Answers.{form_answer};
+ghost use Rattle.typing_errors.specs.Answers.{form_answer};
 
 use ir_arena::handle::Handle;
 use ir_kinds::{CooperativeRole, CooperativeSize, Scalar};

@@ -3,7 +3,7 @@
 ghost use Rattle.std.specs.Prelude.{◌≡◌, List};
 ghost use Rattle.ir_types.specs.Plain.{PlainType};
 ghost use Rattle.spec_expressions.specs.ImageSamples.{texel_scalar, texel, depth_sample, image_sample_type};
-ghost use Rattle.typing_operands.specs.Answers.{form_given, form_answer};
+ghost use Rattle.typing_errors.specs.Answers.{form_given, form_answer};
 
 use ir_arena::handle::Handle;
 use ir_kinds::{ImageClass, Scalar, ScalarKind, SwizzleComponent, VectorSize};

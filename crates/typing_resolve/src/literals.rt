@@ -5,7 +5,7 @@ ghost use Rattle.ir_items.specs.GlobalView.{values_of, constant_view, override_v
 ghost use Rattle.ir_types.specs.Plain.{PlainType};
 ghost use Rattle.spec_expressions.specs.Context.{form_if};
 ghost use Rattle.spec_expressions.specs.Literals.{literal_type};
-ghost use Rattle.typing_operands.specs.Answers.{form_given};
+ghost use Rattle.typing_errors.specs.Answers.{form_given};
 
 use ir_arena::arena::Arena;
 use ir_arena::handle::Handle;

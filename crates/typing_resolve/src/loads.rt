@@ -8,7 +8,7 @@ ghost use Rattle.spec_expressions.specs.Loads.{variable_type, global_if, local_i
 ghost use Rattle.spec_expressions.specs.declared.faults.TypingFault.TheVariants.{FunctionArgumentNotFound};
 ghost use Rattle.typing_forms.specs.Forms.{form_of_type};
 ghost use Rattle.typing_forms.specs.Resolutions.{types_view, inner_at};
-ghost use Rattle.typing_operands.specs.Answers.{form_given, form_answer};
+ghost use Rattle.typing_errors.specs.Answers.{form_given, form_answer};
 
 use crate::access::pointer_to;
 use ir_arena::arena::Arena;

@@ -6,8 +6,8 @@ ghost use Rattle.typing_rules.specs.Tables.{table};
 ghost use Rattle.typing_rules.specs.Types.{value_type_of};
 ghost use Rattle.spec_expressions.specs.Maths.{value_of, taking, concluded, math_of, math_type};
 ghost use Rattle.typing_overloads.specs.Either.{any_rules};
-ghost use Rattle.typing_operands.specs.Answers.{form_answer};
-ghost use Rattle.typing_operands.specs.Operands.{given_form};
+ghost use Rattle.typing_errors.specs.Answers.{form_answer};
+ghost use Rattle.typing_errors.specs.Operands.{given_form};
 ghost use Rattle.typing_resolve.specs.View.{context_view};
 
 use crate::context::ResolveContext;
@@ -17,7 +17,7 @@ use ir_types::{TypeInner, key};
 use spec_expressions::{ConclusionExt, TypingFault};
 use std::alloc::{AllocError, Global};
 use typing_forms::Form;
-use typing_operands::{Given, Typing, given_form};
+use typing_errors::{Given, Typing, given_form};
 use typing_overloads::{AnyOverloadSet, MathFunctionExt, OverloadSet};
 use typing_rules::Rule;
 

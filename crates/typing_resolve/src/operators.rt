@@ -4,8 +4,8 @@ ghost use Rattle.std.specs.Prelude.{◌≡◌, List, IfOk, Ok};
 ghost use Rattle.ir_types.specs.Plain.{PlainType};
 ghost use Rattle.spec_expressions.specs.Operators.{truth_of, vector_times, matrix_times, other_times, product, binary_type};
 ghost use Rattle.typing_forms.specs.Resolutions.{types_view};
-ghost use Rattle.typing_operands.specs.Answers.{form_answer};
-ghost use Rattle.typing_operands.specs.Operands.{given_form};
+ghost use Rattle.typing_errors.specs.Answers.{form_answer};
+ghost use Rattle.typing_errors.specs.Operands.{given_form};
 
 use ir_kinds::{BinaryOperator, Scalar, VectorSize};
 use ir_sets::unique_arena::UniqueArena;
@@ -13,7 +13,7 @@ use ir_types::{IrType, TypeInner, key};
 use spec_expressions::TypingFault;
 use std::alloc::{AllocError, Global};
 use typing_forms::{Form, TypeResolution};
-use typing_operands::{Typing, given_again, given_form};
+use typing_errors::{Typing, given_again, given_form};
 
 // Truth values in the shape of a value.
 pub(crate) fn truth_of(of: Form) -> Typing

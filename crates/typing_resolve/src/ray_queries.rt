@@ -5,7 +5,7 @@ ghost use Rattle.ir_types.specs.Plain.{PlainType};
 ghost use Rattle.spec_expressions.specs.RayQueries.{proceed_type};
 ghost use Rattle.spec_expressions.specs.declared.faults.TypingFault.TheVariants.{MissingSpecialType};
 ghost use Rattle.typing_forms.specs.Forms.{form_of_type};
-ghost use Rattle.typing_operands.specs.Answers.{form_given, form_answer};
+ghost use Rattle.typing_errors.specs.Answers.{form_given, form_answer};
 
 use ir_arena::handle::Handle;
 use ir_kinds::Scalar;

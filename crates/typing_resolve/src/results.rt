@@ -7,7 +7,7 @@ ghost use Rattle.ir_items.specs.declared.functions.FunctionResult.{FunctionResul
 ghost use Rattle.ir_types.specs.Plain.{PlainType};
 ghost use Rattle.spec_expressions.specs.declared.faults.TypingFault.TheVariants.{FunctionReturnsVoid};
 ghost use Rattle.typing_forms.specs.Forms.{form_of_type};
-ghost use Rattle.typing_operands.specs.Answers.{form_answer};
+ghost use Rattle.typing_errors.specs.Answers.{form_answer};
 
 use ir_arena::arena::Arena;
 use ir_arena::handle::Handle;

@@ -3,13 +3,13 @@
 ghost use Rattle.std.specs.Prelude.{◌≡◌, List};
 ghost use Rattle.ir_types.specs.Plain.{PlainType};
 ghost use Rattle.spec_expressions.specs.Selections.{relational_type};
-ghost use Rattle.typing_operands.specs.Answers.{form_answer};
+ghost use Rattle.typing_errors.specs.Answers.{form_answer};
 
 use crate::operators::truth_of;
 use ir_kinds::{RelationalFunction, Scalar};
 use ir_types::TypeInner;
 use typing_forms::{Form, TypeResolution};
-use typing_operands::Typing;
+use typing_errors::Typing;
 
 // All or any of the components: one truth value; about numbers: one for each.
 pub(crate) fn relational_type(fun: RelationalFunction, of: Form) -> Typing

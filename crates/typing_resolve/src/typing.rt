@@ -4,8 +4,8 @@ ghost use Rattle.std.specs.Prelude.{◌≡◌, List, IfOk, Some};
 ghost use Rattle.ir_types.specs.Plain.{PlainType};
 ghost use Rattle.ir_types.specs.ExpressionPlain.{expression_view};
 ghost use Rattle.spec_expressions.specs.Context.{NamesItem};
-ghost use Rattle.typing_operands.specs.Answers.{form_answer, told};
-ghost use Rattle.typing_operands.specs.Operands.{rule_given};
+ghost use Rattle.typing_errors.specs.Answers.{form_answer, told};
+ghost use Rattle.typing_errors.specs.Operands.{rule_given};
 ghost use Rattle.typing_resolve.specs.View.{context_view};
 
 use crate::access::{access_index_type, access_type};
@@ -26,7 +26,7 @@ use crate::subgroups::ballot_type;
 use ir_types::Expression;
 use std::alloc::{AllocError, Global};
 use typing_forms::TypeResolution;
-use typing_operands::{Given, ResolveRefusal, Typing, error_of, given_again, given_form};
+use typing_errors::{Given, ResolveRefusal, Typing, error_of, given_again, given_form};
 
 // The type of an expression whose operands have these types. The error is out of memory.
 fn typing(

@@ -1,6 +1,6 @@
 use Rattle.std.proofs.Common.{◌≡◌, map, take}
 use Rattle.typing_forms.specs.Resolutions.{types_view}
-use Rattle.typing_operands.specs.Answers.{form_given}
+use Rattle.typing_errors.specs.Answers.{form_given}
 use Rattle.function_validator.proofs.forms.forms_of.Given as goal
 
 -- the forms are those of the types before

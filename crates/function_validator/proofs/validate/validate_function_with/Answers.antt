@@ -11,7 +11,7 @@ use Rattle.function_interface.specs.Question.{question}
 use Rattle.ir_items.specs.View.{function_view, module_view}
 use Rattle.spec_analysis.proofs.SummaryLaws.{summary_of_joined}
 use Rattle.spec_statements.specs.Functions.{FunctionOK, block_context}
-use Rattle.typing_operands.specs.Answers.{form_given}
+use Rattle.typing_errors.specs.Answers.{form_given}
 use Rattle.function_validator.proofs.validate.validate_function_with.Goals as goal
 
 pub returns-in-Err-clause-refused : goal.returns-in-Err-clause-refused

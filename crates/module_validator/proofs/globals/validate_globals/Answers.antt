@@ -2,7 +2,7 @@ use Rattle.std.proofs.Common.{◌≡◌, map, rules}
 use Rattle.ir_items.specs.View.{module_view}
 use Rattle.module_handles.proofs.Origins.{order_gives_origins}
 use Rattle.module_validator.proofs.ValueLemmas.{known_in}
-use Rattle.typing_operands.specs.Answers.{form_given}
+use Rattle.typing_errors.specs.Answers.{form_given}
 use Rattle.module_validator.proofs.globals.validate_globals.Goals as goal
 
 pub from_arena-requires : goal.from_arena-requires

@@ -3,7 +3,7 @@ use Rattle.ir_types.specs.ExpressionPlain.{expression_view}
 use Rattle.ir_items.specs.GlobalView.{values_of}
 use Rattle.spec_expressions.specs.Context.{NamesItem}
 use Rattle.typing_expressions.specs.Types.{TypedSoFar}
-use Rattle.typing_operands.specs.Answers.{IsAnswer}
+use Rattle.typing_errors.specs.Answers.{IsAnswer}
 use Rattle.typing_resolve.proofs.Lookups.{found}
 use Rattle.typing_expressions.proofs.TypeLemmas.{operands_below}
 use Rattle.typing_expressions.proofs.constants.process_const_expression.Goals as goal

@@ -1,5 +1,5 @@
 use Rattle.std.proofs.Common.{Err, refl, subst}
-use Rattle.typing_operands.specs.Answers.{IsAnswer}
+use Rattle.typing_errors.specs.Answers.{IsAnswer}
 use Rattle.typing_expressions.proofs.types.refused_at.Goals as goal
 
 pub returns-in-Fault : goal.returns-in-Fault

@@ -6,8 +6,8 @@ ghost use Rattle.ir_types.specs.Plain.{PlainType};
 ghost use Rattle.spec_expressions.specs.Maths.{math_operands};
 ghost use Rattle.spec_expressions.specs.Typing.{typing_operands};
 ghost use Rattle.typing_forms.specs.Resolutions.{types_view};
-ghost use Rattle.typing_operands.specs.Answers.{form_given, form_answer};
-ghost use Rattle.typing_operands.specs.Operands.{given_form};
+ghost use Rattle.typing_errors.specs.Answers.{form_given, form_answer};
+ghost use Rattle.typing_errors.specs.Operands.{given_form};
 
 use ir_arena::handle::Handle;
 use ir_sets::unique_arena::UniqueArena;

@@ -11,10 +11,10 @@ use Rattle.typing_forms.specs.Forms.{form_of}
 use Rattle.typing_forms.specs.Resolutions.{resolution_view}
 use Rattle.spec_expressions.specs.declared.faults.TypingFault.{TypingFault}
 use Rattle.spec_expressions.specs.declared.faults.TypingFault.TheVariants as fault
-use Rattle.typing_operands.specs.declared.error.ResolveError.{ResolveError}
-use Rattle.typing_operands.specs.declared.error.ResolveError.TheVariants as error
-use Rattle.typing_operands.specs.declared.error.ResolveRefusal.{ResolveRefusal}
-use Rattle.typing_operands.specs.declared.error.ResolveRefusal.TheVariants.{Memory, Fault}
+use Rattle.typing_errors.specs.declared.resolve_error.ResolveError.{ResolveError}
+use Rattle.typing_errors.specs.declared.resolve_error.ResolveError.TheVariants as error
+use Rattle.typing_errors.specs.declared.resolve_error.ResolveRefusal.{ResolveRefusal}
+use Rattle.typing_errors.specs.declared.resolve_error.ResolveRefusal.TheVariants.{Memory, Fault}
 
 -- the canonical form of what is given
 abbrev pub form_given : List PlainType → TypeResolution → Form

@@ -1,7 +1,7 @@
 //! Why an expression has no type, as it is answered.
 
 ghost use Rattle.std.specs.Prelude.{◌≡◌, Some, IfOk};
-ghost use Rattle.typing_operands.specs.Answers.{fault_of};
+ghost use Rattle.typing_errors.specs.Answers.{fault_of};
 
 use ir_arena::handle::Handle;
 use ir_types::key;
@@ -82,7 +82,7 @@ pub enum ResolveRefusal {
 
 impl From<MissingSpecialType> for ResolveError {
     ghost use Rattle.std.specs.Prelude.{◌≡◌};
-    ghost use Rattle.typing_operands.specs.declared.error.ResolveError.TheVariants.{MissingSpecialType};
+    ghost use Rattle.typing_errors.specs.declared.resolve_error.ResolveError.TheVariants.{MissingSpecialType};
 
     ghost from_gives = { λ _ r. r ≡ MissingSpecialType };
 
@@ -93,7 +93,7 @@ impl From<MissingSpecialType> for ResolveError {
 
 impl From<AllocError> for ResolveRefusal {
     ghost use Rattle.std.specs.Prelude.{◌≡◌};
-    ghost use Rattle.typing_operands.specs.declared.error.ResolveRefusal.TheVariants.{Memory};
+    ghost use Rattle.typing_errors.specs.declared.resolve_error.ResolveRefusal.TheVariants.{Memory};
 
     ghost from_gives = { λ e r. r ≡ Memory e };
 

@@ -9,8 +9,8 @@ use Rattle.ir_types.specs.ExpressionPlain.{PlainExpression}
 use Rattle.spec_expressions.specs.Context.{Context}
 use Rattle.spec_expressions.specs.Typing.{rule}
 use Rattle.spec_expressions.specs.declared.faults.TypingFault.{TypingFault}
-use Rattle.typing_operands.specs.declared.operands.Given.{Given}
-use Rattle.typing_operands.specs.Answers.{form_given}
+use Rattle.typing_errors.specs.declared.operands.Given.{Given}
+use Rattle.typing_errors.specs.Answers.{form_given}
 
 -- the form of an operand's type, where there is such an operand
 abbrev pub given_form : List PlainType → Option (Bor TypeResolution) → Form
