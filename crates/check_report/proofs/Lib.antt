@@ -2,3 +2,8 @@ pub mod Sorting
 pub mod Counted
 pub mod Written
 pub mod Noted
+pub mod Along
+pub mod Laid
+pub mod Listed
+pub mod Reported
+pub mod LeavesWritten

@@ -1,2 +1,5 @@
 pub mod Reported
 pub mod Laws
+pub mod Rows
+pub mod Paths
+pub mod Lines

@@ -1,14 +1,23 @@
-//! The report of a module that was accepted.
+//! The report of a module that was accepted, and what lies inside its buffers: their leaves, the scalars, vectors, matrices and
+//! atomics, each with its bytes.
 //!
-//! Which text it is say the definitions of `spec_report`. What is asked of the module and of what validation keeps of it stands
-//! in `specs/`.
+//! Which text the report is say the definitions of `judgement`. What is required of the module and of what validation keeps of it
+//! stands in `specs/`.
 #![tactic(auto)]
 
 mod buffers;
 mod entries;
 pub mod laws;
+mod leaf_buffers;
+mod leaf_lines;
+mod leaves;
 mod lines;
 mod pairs;
+mod paths;
+mod report;
 mod whole;
 
+pub use leaf_buffers::buffer_leaves;
+pub use leaves::Leaf;
+pub use report::leaf_report;
 pub use whole::report;

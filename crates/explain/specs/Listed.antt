@@ -6,8 +6,8 @@ use Rattle.explain.specs.declared.explanation.Explanation.{Explanation}
 use Rattle.explain.specs.declared.explanation.Explanation.TheVariants.{NoDocument, Accepted, Refused}
 use Rattle.ir_items.specs.Plain.{PlainModule}
 use Rattle.judgement.specs.Steps.{IsPrepared}
-use Rattle.module_buffers.specs.Lines.{leaf_report}
-use Rattle.module_buffers.specs.Rows.{AreLaid, AreLayoutsIn}
+use Rattle.check_report.specs.Lines.{leaf_report}
+use Rattle.check_report.specs.Rows.{AreLaid, AreLayoutsIn}
 use Rattle.typing_infos.specs.declared.info.ModuleInfo.{ModuleInfo}
 use Rattle.shader_check.specs.declared.examined.Examined.{Examined}
 use Rattle.shader_check.specs.declared.examined.Examined.TheVariants as examined

@@ -12,7 +12,7 @@ use crate::place::Reported;
 use document_forms::Place;
 use document_reader::{DocumentError, MAX_LEN, read_document};
 use ir_items::Module;
-use module_buffers::leaf_report;
+use check_report::leaf_report;
 use shader_check::{
     Examined, Finding, ModuleError, Named, ValidationError, examine_document, refused_by,
 };

@@ -7,7 +7,7 @@ ghost use Rattle.shader_check.specs.Theorem.{AcceptedTextsAreSound, OneText, Som
 
 pub use document_reader::laws::{distinct_types, one_document};
 use ir_items::Module;
-pub use module_buffers::{Leaf, buffer_leaves};
+pub use check_report::{Leaf, buffer_leaves};
 
 /// One text is expected for some bytes: every answer to the same bytes is the same.
 pub fn one_text()

@@ -1,9 +1,9 @@
 //! Why a global expression is refused.
 
+use crate::ResolveError;
 use crate::compose::ComposeError;
 use module_type_infos::LiteralError;
 use thiserror::Error;
-use crate::ResolveError;
 
 /// Why a global expression is refused (naga's `ConstExpressionError`).
 #[derive(Debug, Drop, Error)]

@@ -1,5 +1,6 @@
 //! Why an expression of a function is refused.
 
+use crate::ResolveError;
 use crate::compose::ComposeError;
 use ir_arena::handle::Handle;
 use ir_flags::StorageAccess;
@@ -7,7 +8,6 @@ use ir_kinds::{ImageClass, ImageDimension, StorageFormat};
 use ir_types::key;
 use module_type_infos::LiteralError;
 use thiserror::Error;
-use crate::ResolveError;
 
 /// Why an expression of a function is refused (naga's `ExpressionError`).
 #[derive(Debug, Drop, Error)]

@@ -1,9 +1,7 @@
-//! Why a function is refused: of an expression (a width, a literal, a composition, a global expression among them), of a
-//! statement (a call, an atomic operation, an operation of a subgroup) and of a local variable; and what makes control flow
-//! differ between invocations.
-//!
-//! What the rules of expressions read and answer: the operands whose types make that of an expression, the forms of these
-//! types, and why an expression has none.
+//! Why a function is refused: of an expression (that it has no type, a width, a literal, a composition, a global expression among
+//! them), of a statement (a call, an atomic operation, an operation of a subgroup) and of a local variable; and what makes control
+//! flow differ between invocations. What the rules of expressions read and answer: the operands whose types make that of an
+//! expression, and the forms of these types.
 #![tactic(auto)]
 
 mod atomics;
