@@ -108,7 +108,7 @@ fn check_overrides(
     }
 }
 
-// Requires of the values of a module, where that is wanted.
+// Checks the values of a module, where that is wanted.
 fn check_each(
     alloc: Global,
     settings: ModuleSettings,
@@ -126,7 +126,7 @@ fn check_each(
     check_overrides(alloc, settings, context)
 }
 
-/// Requires of the values of a module, where that is wanted.
+/// Checks the values of a module, where that is wanted.
 pub fn check_values(
     alloc: Global,
     settings: ModuleSettings,

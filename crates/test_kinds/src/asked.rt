@@ -1,4 +1,4 @@
-// Requires the overload sets of all math functions what data/overloads.json asks, and tells which answers are not those
+// Looks up in the overload sets of all math functions what data/overloads.json names, and tells which answers are not those
 // that are known.
 //
 // A line of the data file is `["rules", function, [rule..]]`, the rules of a function in order, or
@@ -214,7 +214,7 @@ fn is_met(alloc: Global, case: &Value) -> Result<bool, AllocError> {
     }
 }
 
-// Requires all of these. Answers how many differ.
+// Makes all of these calls. Answers how many differ.
 fn ask_all(rt: &HostRuntime, cases: &[Value]) -> io::Result<usize> {
     let mut differing = 0usize;
     for (place, case) in cases.iter().enumerate() {
@@ -232,7 +232,7 @@ fn read_cases(rt: &HostRuntime) -> Result<Value> {
     Value::from_str(rt.alloc(), text.as_str()).context("reading overloads.json")
 }
 
-/// Requires all that the data file asks.
+/// Makes all calls of the data file.
 pub fn run(rt: &HostRuntime) -> Result<()> {
     let cases = read_cases(rt)?;
     let differing = ask_all(rt, all(&cases))?;

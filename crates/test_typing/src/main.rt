@@ -1,4 +1,4 @@
-// Requires what the files of data/ ask of modules: layouts, kinds of expressions, their types, tests of handles, what types may be
+// Makes the calls that the files of data/ ask for on modules: layouts, kinds of expressions, their types, tests of handles, what types may be
 // used for and why they are refused, whether all handles are in order, whether a module is accepted up to its overrides, what
 // the analysis keeps of functions, whether functions are accepted and why not, and of the whole judgement by which error a
 // document is refused. Tells which answers are others than those that stand there.
@@ -50,7 +50,7 @@ const FILES: [&str; 12] = [
     "turns.jsonl",
 ];
 
-// Requires what a line asks. Answers whether the answer is another one.
+// Makes the call of a line. Answers whether the answer is another one.
 fn differs(rt: &HostRuntime, line: &str) -> Result<bool> {
     let value = Value::from_str(rt.alloc(), line)?;
     let case = Case::read(&value);
@@ -63,7 +63,7 @@ fn differs(rt: &HostRuntime, line: &str) -> Result<bool> {
     }
 }
 
-// Requires what the lines of a file ask. Answers how many differ.
+// Makes the calls of the lines of a file. Answers how many differ.
 fn run_file(rt: &HostRuntime, name: &str) -> Result<usize> {
     let text = fs::read_to_string(rt, name).context(format_args!("reading {name}"))?;
     let mut count = 0usize;

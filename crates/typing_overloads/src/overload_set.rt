@@ -20,12 +20,12 @@ pub trait OverloadSet: Clone {
     fn is_empty(&self) -> bool
         ensures { result ≡ (length (rules self.now) == 0) };
 
-    /// The least number of arguments that a rule has. Requires for a rule.
+    /// The least number of arguments that a rule has. Requires that there is one.
     fn min_arguments(&self) -> usize
         requires { 0 < length (rules self.now) }
         ensures { result ≡ fewest_arguments (rules self.now) };
 
-    /// The greatest number of arguments that a rule has. Requires for a rule.
+    /// The greatest number of arguments that a rule has. Requires that there is one.
     fn max_arguments(&self) -> usize
         requires { 0 < length (rules self.now) }
         ensures { result ≡ most_arguments (rules self.now) };
@@ -38,7 +38,7 @@ pub trait OverloadSet: Clone {
     fn concrete_only(self) -> Self
         ensures { rules result ≡ filter is_concrete (rules self) };
 
-    /// The rule that is preferred. Requires for a rule.
+    /// The rule that is preferred. Requires that there is one.
     fn most_preferred(&self) -> Rule
         requires { 0 < length (rules self.now) }
         ensures { slice_get (rules self.now) 0 ≡ Some result };

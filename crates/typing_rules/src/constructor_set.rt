@@ -164,7 +164,7 @@ impl ConstructorSet {
         }
     }
 
-    /// The shape in the set (naga's `ConstructorSet::size`). Requires for exactly one.
+    /// The shape in the set (naga's `ConstructorSet::size`). Requires that it has exactly one.
     pub fn size(self) -> ConstructorSize
         requires { length (sizes_in self.0) ≡ 1 }
         ensures { sizes_in self.0 ≡ result ∷ [] }

@@ -186,7 +186,7 @@ impl ScalarSet {
         }
     }
 
-    /// The preferred scalar (naga's `ScalarSet::most_general_scalar`). Requires for a scalar in the set.
+    /// The preferred scalar (naga's `ScalarSet::most_general_scalar`). Requires that the set has one.
     pub fn most_general_scalar(self) -> Scalar
         requires { 0 < length (scalars_in self.0) }
         ensures { slice_get (scalars_in self.0) 0 ≡ Some result }
