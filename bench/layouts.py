@@ -19,7 +19,7 @@ import tempfile
 
 from run import ALONE, MEASURES, RUNS, SIZES, TOP, run
 
-CASES = TOP / "crates/test_typing/out/cases_typing"
+CASES = TOP / "crates/test_typing/out/test_typing"
 DATA = TOP / "crates/test_typing/data"
 MOST_SHARE = 0.25
 TYPES = ('[1,[],[],[[],[]],false,[[null,["Scalar","u32"]],[null,["Vector",3,"f32"]]', '],[null,null,null,[]],[[],null],'

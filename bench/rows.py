@@ -5,7 +5,7 @@ First the program (crates/checker/out/checker) on nine documents, from an empty 
 request is refused, N from 1 until a run makes fewer. A run that is refused one ends with status 2, writes nothing, and says
 `fault: memory`, or it can do without and gives the document's own answer, as does the first that is refused none.
 
-Then `test_typing` (crates/test_typing/out/cases_typing) on each line of its data/turns.jsonl alone. `Done` becomes `AsBefore`
+Then `test_typing` (crates/test_typing/out/test_typing) on each line of its data/turns.jsonl alone. `Done` becomes `AsBefore`
 where the call is refused, and of several modules in turn one answer becomes `Memory`, the others staying as they are; or the call
 can do without and answers the same. Where the refused request is another one, such as one to print, the program ends with an error.
 
@@ -165,7 +165,7 @@ def try_calls(room, program):
 def main():
     words = argparse.ArgumentParser(description=__doc__.split("\n")[0])
     words.add_argument("--program", default=str(TOP / "crates/checker/out/checker"))
-    words.add_argument("--calls", default=str(CALLS / "out/cases_typing"))
+    words.add_argument("--calls", default=str(CALLS / "out/test_typing"))
     given = words.parse_args()
     for path in (given.program, given.calls):
         if not os.access(path, os.X_OK):

@@ -13,14 +13,14 @@ CRATES = TOP / "crates"
 
 # a page: its crate, what it is for, the caller as (file, first line), the crates whose calls it quotes
 PAGES = [
-    ("ports", "Readers and writers with a mark that failed calls leave.",
-     ("checker/src/main.rt", "fn main("), ["ports"]),
+    ("check_ports", "Readers and writers with a mark that failed calls leave.",
+     ("checker/src/main.rt", "fn main("), ["check_ports"]),
     ("shader_ir", "The representation of a shader module: arenas, types, expressions, blocks, items, and calls over them.",
-     ("test_cases/src/returns.rt", None), ["ir_flags", "ir_kinds", "ir_arena", "ir_unique_arena", "ir_sets", "ir_faults", "ir_types",
-                                        "ir_blocks", "ir_items", "ir_emitter", "ir_walks"]),
+     ("test_cases/src/returns.rt", None), ["ir_flags", "ir_kinds", "ir_arena", "ir_sets", "ir_faults", "ir_types",
+                                        "ir_blocks", "ir_items", "ir_proc"]),
     ("shader_typing", "What is asked of types, their layouts, the kinds and types of expressions, and the overload sets of the math functions.",
-     ("test_kinds/src/overload_alone.rt", None), ["typing_forms", "typing_expressions", "typing_layout", "overload_tables",
-                                            "constructor_sets", "typing_overloads",
+     ("test_kinds/src/overload_alone.rt", None), ["typing_forms", "typing_expressions", "typing_layout", "typing_rules",
+                                            "typing_overloads",
                                             "spec_expressions", "typing_resolve"]),
     ("document_reader", "From bytes to a document.",
      ("test_cases/src/modules.rt", "pub fn document_of("), ["document_forms", "document_reader"]),

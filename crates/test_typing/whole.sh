@@ -18,4 +18,4 @@ python3 "$crate/make_checks.py" "$1" "$room" --all || exit 1
 python3 "$crate/make_functions.py" "$1" "$room" --all || exit 1
 python3 "$crate/make_names.py" "$room" || exit 1
 python3 "$crate/make_turns.py" "$room" || exit 1
-cd "$room" && "$crate/out/cases_typing"
+cd "$room" && "$crate/out/test_typing"

@@ -1,7 +1,7 @@
 //! Whether an entry point may have the varyings that it has.
 //!
 //! `validate_arguments` and `validate_value` say it of all varyings that go one way, in three steps: which varyings there are
-//! (`spread.rt`), each by itself (`built_ins.rt` by the table of `spec_varyings`, `locations.rt`), and all of them (`validate.rt`).
+//! (`spread.rt`), each by itself (`built_ins.rt` by the table of `spec_interface`, `locations.rt`), and all of them (`validate.rt`).
 //! `KnownTypes` says it of the members of a type once for all entry points of a module.
 #![tactic(auto)]
 

@@ -1,6 +1,6 @@
 //! The intermediate representation of a shader from one place: the sets of words of `ir_flags`, the kinds of `ir_kinds`,
 //! the arenas of `ir_arena`, the sets of handles of `ir_sets`, the errors with spans of `ir_faults`, the types, the
-//! expressions and the items of `ir_types`, `ir_expressions` and `ir_items`, the emitter of `ir_emitter`, the walks of
+//! expressions and the items of `ir_types`, `ir_expressions` and `ir_items`, the emitter of `ir_proc`, the walks of
 //! `ir_proc`, and in `specs/`
 //! the words of their contracts.
 //!

@@ -1,9 +1,9 @@
 //! The typing of a shader's expressions from one place: the types that expressions are given as and their canonical
 //! forms of `typing_forms`, which says too what types are built of and which of them are equivalent, layouts of types and
 //! kinds of expressions of `typing_layout`, the rules of math functions of `typing_rules`, sets of scalars and of shapes of
-//! `constructor_sets`, overload sets of `typing_overloads`, the types of expressions of `typing_resolve`, which are those that
+//! `typing_rules`, overload sets of `typing_overloads`, the types of expressions of `typing_resolve`, which are those that
 //! `spec_expressions` defines, those of all expressions of a list and comparing types of `typing_expressions`, what the
-//! analysis of a function asks of `typing_conditions`, and what is kept of a function of `function_real_lower`, with its errors.
+//! analysis of a function asks of `module_handles`, and what is kept of a function of `function_real_lower`, with its errors.
 //!
 //! Nothing is defined here. A crate that uses the typing as a whole names this crate alone.
 #![tactic(auto)]
@@ -21,7 +21,7 @@ pub use spec_analysis::{
 pub use spec_expressions::{ConclusionExt, MissingSpecialType, TypingFault};
 pub use typing_errors::{
     AtomicError, CallError, ComposeError, ExpressionError, FunctionError, LocalVariableError,
-    SubgroupError, UniformityDisruptor,
+    ResolveError, ResolveRefusal, SubgroupError, UniformityDisruptor,
 };
 pub use typing_expressions::{
     CompareTypes, TypingRefusal, const_expression_types, process_const_expression, types_of,
@@ -36,7 +36,6 @@ pub use typing_layout::{
     Alignment, ExpressionKind, ExpressionKindTracker, LayoutError, LayoutErrorInner, Layouter,
     TypeLayout, origins_precede,
 };
-pub use typing_errors::{ResolveError, ResolveRefusal};
 pub use typing_overloads::{AnyOverloadSet, List, MathFunctionExt, OverloadSet, Regular};
 pub use typing_resolve::ResolveContext;
 pub use typing_rules::{
