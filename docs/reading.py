@@ -1,0 +1,150 @@
+#!/usr/bin/env python3
+"""Writes READING.md: which definitions the theorem rests on, in the order in which to read them.
+
+It begins at the names below, and goes from each definition to those that it cites, as its file imports them. With --check it
+writes nothing, says whether the page is as it would be written, and ends with status 1 where it isn't.
+"""
+import re
+import sys
+from pathlib import Path
+
+TOP = Path(__file__).resolve().parent.parent
+CRATES = TOP / "crates"
+PAGE = TOP / "docs/READING.md"
+# where a reader begins: what the program writes for any bytes, and what is promised of a document that is accepted
+ROOTS = [("What is written", "IsExpected"), ("What is promised of what is accepted", "SoundText")]
+FIRST = ("shader_check", "Theorem")
+HEAD = re.compile(r"^(\s*)(?:(?:abbrev|unfoldable|opaque)\s+)*(?:pub\s+)?(record|data)\s+([^\s({:]+)"
+                  r"|^(\s*)(?:(?:abbrev|unfoldable|opaque)\s+)*pub\s+([^\s({:]+)[^:=]*:"
+                  r"|^(\s*)(?:abbrev|unfoldable|opaque)\s+([^\s({:]+)[^:=]*:")
+
+
+class File:
+    """A file of definitions: what it imports, and the lines of each definition."""
+
+    def __init__(self, crate, module, text):
+        self.crate, self.module = crate, module
+        self.names, self.aliases = {}, {}
+        self.bodies, self.constructors = {}, {}
+        self.imports(text)
+        self.definitions(text)
+
+    def imports(self, text):
+        for path, inside, alias in re.findall(r"^(?:pub )?use Rattle\.([^\s{]+?)(?:\.\{([^}]*)\})?(?: as (\S+))?$", text, re.M):
+            parts = path.replace("«", "").replace("»", "").split(".")
+            if len(parts) < 3 or parts[1] != "specs":
+                continue
+            target = (parts[0], ".".join(parts[2:]))
+            if alias:
+                self.aliases[alias] = target
+            for name in filter(None, (it.strip() for it in inside.split(","))):
+                given, _, used = name.partition(" as ")
+                self.names[(used or given).strip("«»")] = (target, given.strip("«»"))
+
+    def definitions(self, text):
+        current, data = None, None
+        for line in text.split("\n"):
+            if line.lstrip().startswith("--") or not line.strip() or re.match(r"(pub )?(use|mod) |abbrev (pub )?mutual", line):
+                continue
+            head = HEAD.match(line)
+            indent = len(line) - len(line.lstrip())
+            if head and indent <= 2 and not (data and indent > 0):
+                current = (head[3] or head[5] or head[7]).strip("«»")
+                data = head[2] if indent == 0 else None
+                self.bodies.setdefault(current, [])
+            elif data and current and indent:
+                made = re.match(r"\s+(?:pub )?([^\s:({]+)\s*:", line)
+                if made and data == "data":
+                    self.constructors[made[1].strip("«»")] = current
+            elif indent == 0:
+                data = None
+            if current:
+                self.bodies[current].append(line)
+
+    def owner(self, name):
+        """The definition that a name is, or is a part of."""
+        return name if name in self.bodies else self.constructors.get(name)
+
+    def cited(self, name):
+        """What a definition cites, in the order of its text: (crate, module, name)."""
+        for line in self.bodies[name]:
+            for word in re.findall(r"[^\s(){},;:→×⊎≡≤<λ¬]+", line):
+                first, _, rest = word.partition(".")
+                first, rest = first.strip("«»"), rest.strip("«»")
+                if first in self.aliases and rest:
+                    yield (*self.aliases[first], rest)
+                elif first in self.names:
+                    target, given = self.names[first]
+                    yield (*target, given)
+                elif first != name and self.owner(first) not in (None, name):
+                    yield (self.crate, self.module, first)
+
+
+def load():
+    files = {}
+    for path in sorted(CRATES.glob("*/specs/**/*.antt")):
+        crate = path.relative_to(CRATES).parts[0]
+        module = ".".join(path.relative_to(CRATES / crate / "specs").with_suffix("").parts)
+        files[crate, module] = File(crate, module, path.read_text())
+    return files
+
+
+def reached(files, root):
+    """The definitions that one rests on, itself first, and the types of the code that they cite."""
+    order, types, todo = [], [], [(*FIRST, root)]
+    seen = set()
+    while todo:
+        crate, module, name = todo.pop()
+        if module.startswith("declared."):
+            kind = (crate, module)
+            if kind not in types:
+                types.append(kind)
+            continue
+        file = files.get((crate, module))
+        owner = file and file.owner(name)
+        if not owner or (crate, module, owner) in seen:
+            continue
+        seen.add((crate, module, owner))
+        order.append((crate, module, owner))
+        todo += reversed(list(file.cited(owner)))
+    return order, types
+
+
+def page(files):
+    lines = ["# What the theorem rests on", "",
+             "Written by `docs/reading.py`. Whoever wants to believe the theorem reads these definitions, from the top, and the first two"
+             " columns of [JUDGEMENT.md](JUDGEMENT.md) beside them; nothing else in `specs/` is cited by them, and nothing in `proofs/`"
+             " has to be read. A file is listed where it is reached first.", ""]
+    read, whole = set(), 0
+    for title, root in ROOTS:
+        order, types = reached(files, root)
+        order = [it for it in order if it not in read]
+        read |= set(order)
+        by_file = {}
+        for crate, module, name in order:
+            by_file.setdefault((crate, module), []).append(name)
+        count = sum(len(files[c, m].bodies[n]) for c, m, n in order)
+        whole += count
+        lines += [f"## {title}: `{root}`", "",
+                  f"{len(order)} definitions, {count} lines, {len(by_file)} files of {len({c for c, _ in by_file})} crates.", ""]
+        for (crate, module), names in by_file.items():
+            size = sum(len(files[crate, module].bodies[it]) for it in names)
+            lines.append(f"- `{crate}/specs/{module.replace('.', '/')}.antt`, {size}: " + ", ".join(f"`{it}`" for it in names))
+        lines.append("")
+    lines.append(f"In all {len(read)} definitions in {whole} lines.")
+    return "\n".join(lines) + "\n"
+
+
+def main():
+    text = page(load())
+    if "--check" in sys.argv[1:]:
+        if PAGE.read_text() != text:
+            print("READING.md is not as it would be written")
+            sys.exit(1)
+        return
+    PAGE.write_text(text)
+    print(text.rstrip().split("\n")[-1])
+
+
+if __name__ == "__main__":
+    main()
