@@ -9,10 +9,10 @@ ghost use Rattle.shader_check.specs.Theorem.{Judged};
 
 use crate::names::refused_name;
 use crate::place::Reported;
+use check_report::leaf_report;
 use document_forms::Place;
 use document_reader::{DocumentError, MAX_LEN, read_document};
 use ir_items::Module;
-use check_report::leaf_report;
 use shader_check::{
     Examined, Finding, ModuleError, Named, ValidationError, examine_document, refused_by,
 };

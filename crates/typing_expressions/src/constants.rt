@@ -15,8 +15,8 @@ use ir_arena::handle::Handle;
 use ir_items::{LocalVariable, Module};
 use ir_types::key;
 use std::alloc::Global;
-use typing_forms::TypeResolution;
 use typing_errors::ResolveRefusal;
+use typing_forms::TypeResolution;
 use typing_resolve::ResolveContext;
 
 // What global expressions may depend on: no variables, of which there is an empty list, and no arguments.

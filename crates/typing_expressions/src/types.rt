@@ -14,8 +14,8 @@ use ir_arena::arena::Arena;
 use ir_arena::handle::Handle;
 use ir_types::{Expression, TypeInner, key};
 use std::alloc::{AllocError, Global};
-use typing_forms::TypeResolution;
 use typing_errors::ResolveRefusal;
+use typing_forms::TypeResolution;
 use typing_resolve::ResolveContext;
 
 // What is read for an operand that does not come before.

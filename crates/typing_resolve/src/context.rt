@@ -25,8 +25,8 @@ use ir_items::{
 use ir_sets::unique_arena::UniqueArena;
 use ir_types::{Expression, IrType, key};
 use std::alloc::Global;
-use typing_forms::TypeResolution;
 use typing_errors::{Given, ResolveRefusal, operands_of};
+use typing_forms::TypeResolution;
 
 /// What the type of an expression may depend on, beside those of its operands (naga's `ResolveContext`).
 #[derive(Clone, Copy)]

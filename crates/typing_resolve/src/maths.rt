@@ -16,8 +16,8 @@ use ir_kinds::MathFunction;
 use ir_types::{TypeInner, key};
 use spec_expressions::{ConclusionExt, TypingFault};
 use std::alloc::{AllocError, Global};
-use typing_forms::Form;
 use typing_errors::{Given, Typing, given_form};
+use typing_forms::Form;
 use typing_overloads::{AnyOverloadSet, MathFunctionExt, OverloadSet};
 use typing_rules::Rule;
 

@@ -12,8 +12,8 @@ use ir_sets::unique_arena::UniqueArena;
 use ir_types::{IrType, TypeInner, key};
 use spec_expressions::TypingFault;
 use std::alloc::{AllocError, Global};
-use typing_forms::{Form, TypeResolution};
 use typing_errors::{Typing, given_again, given_form};
+use typing_forms::{Form, TypeResolution};
 
 // Truth values in the shape of a value.
 pub(crate) fn truth_of(of: Form) -> Typing

@@ -8,8 +8,8 @@ ghost use Rattle.typing_errors.specs.Answers.{form_answer};
 use crate::operators::truth_of;
 use ir_kinds::{RelationalFunction, Scalar};
 use ir_types::TypeInner;
-use typing_forms::{Form, TypeResolution};
 use typing_errors::Typing;
+use typing_forms::{Form, TypeResolution};
 
 // All or any of the components: one truth value; about numbers: one for each.
 pub(crate) fn relational_type(fun: RelationalFunction, of: Form) -> Typing

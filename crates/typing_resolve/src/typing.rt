@@ -25,8 +25,8 @@ use crate::selections::relational_type;
 use crate::subgroups::ballot_type;
 use ir_types::Expression;
 use std::alloc::{AllocError, Global};
-use typing_forms::TypeResolution;
 use typing_errors::{Given, ResolveRefusal, Typing, error_of, given_again, given_form};
+use typing_forms::TypeResolution;
 
 // The type of an expression whose operands have these types. The error is out of memory.
 fn typing(
