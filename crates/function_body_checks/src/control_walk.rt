@@ -5,6 +5,7 @@ ghost use Rattle.ir_blocks.specs.View.{statement_view, block_view, case_view, ca
 ghost use Rattle.function_body_checks.specs.Allowed.{error_of, view_of, AllLeave, LeavesWithin, CasesLeave, LeavesIn, LeftBy, LeavesInCases};
 
 use crate::control::{Allowed, Wrong};
+use ir_blocks::plain_operation;
 use ir_items::{Block, Statement, SwitchCase};
 
 /// Whether the statements of a block, at any depth, leave it only as they may.
@@ -59,22 +60,9 @@ fn check_statement(allowed: Allowed, statement: &Statement) -> Result<(), Wrong>
                 Err(Wrong::Return)
             }
         }
-        Statement::Emit(_)
-        | Statement::Kill
-        | Statement::Call { .. }
-        | Statement::ControlBarrier(_)
-        | Statement::MemoryBarrier(_)
-        | Statement::Store { .. }
-        | Statement::ImageStore { .. }
-        | Statement::Atomic { .. }
-        | Statement::ImageAtomic { .. }
-        | Statement::WorkGroupUniformLoad { .. }
-        | Statement::RayQuery { .. }
-        | Statement::SubgroupBallot { .. }
-        | Statement::SubgroupCollectiveOperation { .. }
-        | Statement::SubgroupGather { .. }
-        | Statement::CooperativeStore { .. }
-        | Statement::RayPipelineFunction(_) => Ok(()),
+        Statement::Emit(_) | Statement::Kill | Statement::Call { .. } | plain_operation!() => Ok(
+            (),
+        ),
     }
 }
 

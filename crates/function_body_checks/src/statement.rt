@@ -16,6 +16,7 @@ use crate::error::ScopeError;
 use crate::list::ExpressionList;
 use crate::operands::{is_known, unknown_operand, unknown_place};
 use ir_arena::handle::Handle;
+use ir_blocks::plain_operation;
 use ir_items::{Function, Statement, key};
 use ir_references::callee_of;
 
@@ -41,19 +42,7 @@ fn arguments_of(statement: &Statement) -> &[Handle<key::Expression>]
         | Statement::Continue
         | Statement::Return { .. }
         | Statement::Kill
-        | Statement::ControlBarrier(_)
-        | Statement::MemoryBarrier(_)
-        | Statement::Store { .. }
-        | Statement::ImageStore { .. }
-        | Statement::Atomic { .. }
-        | Statement::ImageAtomic { .. }
-        | Statement::WorkGroupUniformLoad { .. }
-        | Statement::RayQuery { .. }
-        | Statement::SubgroupBallot { .. }
-        | Statement::SubgroupCollectiveOperation { .. }
-        | Statement::SubgroupGather { .. }
-        | Statement::CooperativeStore { .. }
-        | Statement::RayPipelineFunction(_) => &[],
+        | plain_operation!() => &[],
     }
 }
 

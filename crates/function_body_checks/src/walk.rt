@@ -11,6 +11,7 @@ ghost use Rattle.spec_statements.specs.Visible.{top_level};
 use crate::always::Outline;
 use crate::error::ScopeError;
 use crate::statement::{Carried, check_condition, check_own, check_used};
+use ir_blocks::plain_operation;
 use ir_items::{Block, Statement, SwitchCase};
 
 /// Whether the statements of a block, and those inside them, use what is in scope, bring what is not, and answer once. What the
@@ -113,18 +114,6 @@ fn check_statement(
         | Statement::Return { .. }
         | Statement::Kill
         | Statement::Call { .. }
-        | Statement::ControlBarrier(_)
-        | Statement::MemoryBarrier(_)
-        | Statement::Store { .. }
-        | Statement::ImageStore { .. }
-        | Statement::Atomic { .. }
-        | Statement::ImageAtomic { .. }
-        | Statement::WorkGroupUniformLoad { .. }
-        | Statement::RayQuery { .. }
-        | Statement::SubgroupBallot { .. }
-        | Statement::SubgroupCollectiveOperation { .. }
-        | Statement::SubgroupGather { .. }
-        | Statement::CooperativeStore { .. }
-        | Statement::RayPipelineFunction(_) => { check_own(outline, asked, carried, statement) }
+        | plain_operation!() => { check_own(outline, asked, carried, statement) }
     }
 }

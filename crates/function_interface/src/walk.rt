@@ -10,7 +10,7 @@ ghost use Rattle.function_interface.specs.Left.{left_in, left_within, left_in_ca
 use crate::callees::CalleeStages;
 use crate::statements::statement_stages;
 use bitflags::Flags;
-use ir_blocks::{Block, Statement, SwitchCase};
+use ir_blocks::{Block, Statement, SwitchCase, plain_operation};
 use ir_flags::ShaderStages;
 
 // Which stages may run a statement, what stands inside it aside. The walk is the same whatever they are.
@@ -79,19 +79,7 @@ fn left_within<R: RunBy>(rule: &R, stages: ShaderStages, statement: &Statement) 
         | Statement::Return { .. }
         | Statement::Kill
         | Statement::Call { .. }
-        | Statement::ControlBarrier(_)
-        | Statement::MemoryBarrier(_)
-        | Statement::Store { .. }
-        | Statement::ImageStore { .. }
-        | Statement::Atomic { .. }
-        | Statement::ImageAtomic { .. }
-        | Statement::WorkGroupUniformLoad { .. }
-        | Statement::RayQuery { .. }
-        | Statement::SubgroupBallot { .. }
-        | Statement::SubgroupCollectiveOperation { .. }
-        | Statement::SubgroupGather { .. }
-        | Statement::CooperativeStore { .. }
-        | Statement::RayPipelineFunction(_) => stages,
+        | plain_operation!() => stages,
     }
 }
 

@@ -1,6 +1,7 @@
 //! How much a body emits.
 
 use ir_arena::range::Range;
+use ir_blocks::plain_operation;
 use ir_items::{Block, Function, Statement, SwitchCase, key};
 
 // How often an expression may be emitted before the operands of all of them are put into an index.
@@ -46,19 +47,7 @@ fn emitted_at(statement: &Statement) -> usize {
         | Statement::Return { .. }
         | Statement::Kill
         | Statement::Call { .. }
-        | Statement::ControlBarrier(_)
-        | Statement::MemoryBarrier(_)
-        | Statement::Store { .. }
-        | Statement::ImageStore { .. }
-        | Statement::Atomic { .. }
-        | Statement::ImageAtomic { .. }
-        | Statement::WorkGroupUniformLoad { .. }
-        | Statement::RayQuery { .. }
-        | Statement::SubgroupBallot { .. }
-        | Statement::SubgroupCollectiveOperation { .. }
-        | Statement::SubgroupGather { .. }
-        | Statement::CooperativeStore { .. }
-        | Statement::RayPipelineFunction(_) => 0,
+        | plain_operation!() => 0,
     }
 }
 

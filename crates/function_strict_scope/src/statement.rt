@@ -18,6 +18,7 @@ use crate::live::LiveOperands;
 use crate::operands::unknown_operand;
 use function_body_checks::{ExpressionList, is_known, unknown_place};
 use ir_arena::handle::Handle;
+use ir_blocks::plain_operation;
 use ir_items::{Function, Statement, key};
 use ir_references::callee_of;
 
@@ -36,19 +37,7 @@ fn arguments_of(statement: &Statement) -> &[Handle<key::Expression>]
         | Statement::Continue
         | Statement::Return { .. }
         | Statement::Kill
-        | Statement::ControlBarrier(_)
-        | Statement::MemoryBarrier(_)
-        | Statement::Store { .. }
-        | Statement::ImageStore { .. }
-        | Statement::Atomic { .. }
-        | Statement::ImageAtomic { .. }
-        | Statement::WorkGroupUniformLoad { .. }
-        | Statement::RayQuery { .. }
-        | Statement::SubgroupBallot { .. }
-        | Statement::SubgroupCollectiveOperation { .. }
-        | Statement::SubgroupGather { .. }
-        | Statement::CooperativeStore { .. }
-        | Statement::RayPipelineFunction(_) => &[],
+        | plain_operation!() => &[],
     }
 }
 

@@ -14,6 +14,7 @@ use crate::error::StrictError;
 use crate::live::{LiveOperands, cut};
 use crate::statement::{check_condition, check_needed, check_own};
 use function_body_checks::ExpressionList;
+use ir_blocks::plain_operation;
 use ir_items::{Block, Function, Statement, SwitchCase};
 
 // Where more than what is left has come into scope, lets it go.
@@ -159,19 +160,7 @@ fn check_statement(
         | Statement::Return { .. }
         | Statement::Kill
         | Statement::Call { .. }
-        | Statement::ControlBarrier(_)
-        | Statement::MemoryBarrier(_)
-        | Statement::Store { .. }
-        | Statement::ImageStore { .. }
-        | Statement::Atomic { .. }
-        | Statement::ImageAtomic { .. }
-        | Statement::WorkGroupUniformLoad { .. }
-        | Statement::RayQuery { .. }
-        | Statement::SubgroupBallot { .. }
-        | Statement::SubgroupCollectiveOperation { .. }
-        | Statement::SubgroupGather { .. }
-        | Statement::CooperativeStore { .. }
-        | Statement::RayPipelineFunction(_) => {
+        | plain_operation!() => {
             check_own(function, sure, live, statement)?;
             Ok(false)
         }

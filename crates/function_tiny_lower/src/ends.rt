@@ -7,6 +7,7 @@ ghost use Rattle.function_tiny_lower.specs.Ends.{ends_in, may_end, summary_of};
 
 use crate::tiny::TinyInfo;
 use ir_arena::handle::Handle;
+use ir_blocks::plain_operation;
 use ir_items::{Function, Statement};
 use ir_references::{StatementLook, first_in};
 use ir_types::key;
@@ -51,19 +52,7 @@ impl StatementLook<()> for Ends<'_> {
             | Statement::Break
             | Statement::Continue
             | Statement::Return { .. }
-            | Statement::ControlBarrier(_)
-            | Statement::MemoryBarrier(_)
-            | Statement::Store { .. }
-            | Statement::ImageStore { .. }
-            | Statement::Atomic { .. }
-            | Statement::ImageAtomic { .. }
-            | Statement::WorkGroupUniformLoad { .. }
-            | Statement::RayQuery { .. }
-            | Statement::SubgroupBallot { .. }
-            | Statement::SubgroupCollectiveOperation { .. }
-            | Statement::SubgroupGather { .. }
-            | Statement::CooperativeStore { .. }
-            | Statement::RayPipelineFunction(_) => None,
+            | plain_operation!() => None,
         }
     }
 }

@@ -8,6 +8,7 @@ ghost use Rattle.ir_blocks.specs.Tails.{IsCompleted, completed, finished, finish
 ghost use Rattle.ir_blocks.specs.TailSpans.{SpansCompleted, completed_spans, finished_spans, finished_case_spans, finished_case_body};
 ghost use Rattle.ir_blocks.specs.View.{statement_view, block_view, case_view, cases_of, statement_spans, block_spans, case_block_spans, case_spans_of, statements_of, spans_of};
 
+use crate::plain_operation;
 use crate::statements::{Block, Statement, SwitchCase};
 use crate::terminator::goes_on;
 use ir_arena::span::Span;
@@ -75,20 +76,8 @@ fn reserve_within(statement: &mut Statement) -> Result<(), AllocError>
         | Statement::Continue
         | Statement::Return { .. }
         | Statement::Kill
-        | Statement::ControlBarrier(_)
-        | Statement::MemoryBarrier(_)
-        | Statement::Store { .. }
-        | Statement::ImageStore { .. }
-        | Statement::Atomic { .. }
-        | Statement::ImageAtomic { .. }
-        | Statement::WorkGroupUniformLoad { .. }
         | Statement::Call { .. }
-        | Statement::RayQuery { .. }
-        | Statement::SubgroupBallot { .. }
-        | Statement::SubgroupCollectiveOperation { .. }
-        | Statement::SubgroupGather { .. }
-        | Statement::CooperativeStore { .. }
-        | Statement::RayPipelineFunction(_) => Ok(()),
+        | plain_operation!() => Ok(()),
     }
 }
 
@@ -176,20 +165,8 @@ fn add_within(statement: &mut Statement) -> Result<(), AllocError>
         | Statement::Continue
         | Statement::Return { .. }
         | Statement::Kill
-        | Statement::ControlBarrier(_)
-        | Statement::MemoryBarrier(_)
-        | Statement::Store { .. }
-        | Statement::ImageStore { .. }
-        | Statement::Atomic { .. }
-        | Statement::ImageAtomic { .. }
-        | Statement::WorkGroupUniformLoad { .. }
         | Statement::Call { .. }
-        | Statement::RayQuery { .. }
-        | Statement::SubgroupBallot { .. }
-        | Statement::SubgroupCollectiveOperation { .. }
-        | Statement::SubgroupGather { .. }
-        | Statement::CooperativeStore { .. }
-        | Statement::RayPipelineFunction(_) => Ok(()),
+        | plain_operation!() => Ok(()),
     }
 }
 

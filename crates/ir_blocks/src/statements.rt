@@ -32,6 +32,27 @@ pub struct SwitchCase {
     pub fall_through: bool,
 }
 
+/// The kinds of statements that only compute: they steer nothing, compute no range and call nothing. A pattern for a `match`, so
+/// that a further kind of these is asked for only where the kinds differ.
+#[macro_export]
+macro_rules! plain_operation {
+    () => {
+        $crate::Statement::ControlBarrier(_)
+            | $crate::Statement::MemoryBarrier(_)
+            | $crate::Statement::Store { .. }
+            | $crate::Statement::ImageStore { .. }
+            | $crate::Statement::Atomic { .. }
+            | $crate::Statement::ImageAtomic { .. }
+            | $crate::Statement::WorkGroupUniformLoad { .. }
+            | $crate::Statement::RayQuery { .. }
+            | $crate::Statement::SubgroupBallot { .. }
+            | $crate::Statement::SubgroupCollectiveOperation { .. }
+            | $crate::Statement::SubgroupGather { .. }
+            | $crate::Statement::CooperativeStore { .. }
+            | $crate::Statement::RayPipelineFunction(_)
+    };
+}
+
 /// One step of a function's body (naga's `Statement`).
 #[cycle(body)]
 #[derive(PartialEq, Debug, Drop)]

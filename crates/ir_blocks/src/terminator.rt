@@ -4,6 +4,7 @@ ghost use Rattle.ir_blocks.specs.Shapes.{shape_of};
 ghost use Rattle.ir_blocks.specs.Tails.{goes_on};
 ghost use Rattle.ir_blocks.specs.View.{statement_view};
 
+use crate::plain_operation;
 use crate::statements::Statement;
 
 // Whether control goes on behind the statement by itself.
@@ -15,21 +16,7 @@ pub(crate) fn goes_on(statement: &Statement) -> bool
         Statement::Break | Statement::Continue | Statement::Return { .. } | Statement::Kill => {
             false
         }
-        Statement::Emit(_)
-        | Statement::Loop { .. }
-        | Statement::ControlBarrier(_)
-        | Statement::MemoryBarrier(_)
-        | Statement::Store { .. }
-        | Statement::ImageStore { .. }
-        | Statement::Atomic { .. }
-        | Statement::ImageAtomic { .. }
-        | Statement::WorkGroupUniformLoad { .. }
-        | Statement::Call { .. }
-        | Statement::RayQuery { .. }
-        | Statement::SubgroupBallot { .. }
-        | Statement::SubgroupCollectiveOperation { .. }
-        | Statement::SubgroupGather { .. }
-        | Statement::CooperativeStore { .. }
-        | Statement::RayPipelineFunction(_) => true,
+        Statement::Emit(_) | Statement::Loop { .. } | Statement::Call { .. } | plain_operation!() =>
+            true,
     }
 }

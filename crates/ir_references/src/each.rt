@@ -6,6 +6,7 @@ ghost use Rattle.ir_blocks.specs.Plain.{PlainStatement};
 ghost use Rattle.ir_blocks.specs.View.{statement_view, block_view, case_view, cases_of};
 ghost use Rattle.ir_references.specs.Each.{AllAre, AllWithin, AllInCases, OneIs, OneWithin, OneInCases};
 
+use ir_blocks::plain_operation;
 use ir_items::{Block, Statement, SwitchCase};
 
 /// A rule of statements, which is asked of a statement without what stands inside it.
@@ -82,19 +83,7 @@ fn check_within<E, T: StatementRule<E>>(rule: &T, statement: &Statement) -> Resu
         | Statement::Return { .. }
         | Statement::Kill
         | Statement::Call { .. }
-        | Statement::ControlBarrier(_)
-        | Statement::MemoryBarrier(_)
-        | Statement::Store { .. }
-        | Statement::ImageStore { .. }
-        | Statement::Atomic { .. }
-        | Statement::ImageAtomic { .. }
-        | Statement::WorkGroupUniformLoad { .. }
-        | Statement::RayQuery { .. }
-        | Statement::SubgroupBallot { .. }
-        | Statement::SubgroupCollectiveOperation { .. }
-        | Statement::SubgroupGather { .. }
-        | Statement::CooperativeStore { .. }
-        | Statement::RayPipelineFunction(_) => Ok(()),
+        | plain_operation!() => Ok(()),
     }
 }
 

@@ -8,6 +8,7 @@ ghost use Rattle.ir_references.specs.First.{first_past, emitted_view};
 use crate::lists::{first_past, given_past};
 use ir_arena::handle::Handle;
 use ir_arena::range::Range;
+use ir_blocks::plain_operation;
 use ir_items::{AtomicFunction, GatherMode, RayPipelineFunction, RayQueryFunction, Statement, key};
 
 fn compared(fun: AtomicFunction) -> Option<Handle<key::Expression>>
@@ -198,20 +199,8 @@ pub fn range_of(statement: &Statement) -> Option<Range<key::Expression>>
         | Statement::Continue
         | Statement::Return { .. }
         | Statement::Kill
-        | Statement::ControlBarrier(_)
-        | Statement::MemoryBarrier(_)
-        | Statement::Store { .. }
-        | Statement::ImageStore { .. }
-        | Statement::Atomic { .. }
-        | Statement::ImageAtomic { .. }
-        | Statement::WorkGroupUniformLoad { .. }
         | Statement::Call { .. }
-        | Statement::RayQuery { .. }
-        | Statement::SubgroupBallot { .. }
-        | Statement::SubgroupCollectiveOperation { .. }
-        | Statement::SubgroupGather { .. }
-        | Statement::CooperativeStore { .. }
-        | Statement::RayPipelineFunction(_) => None,
+        | plain_operation!() => None,
     }
 }
 
@@ -230,18 +219,6 @@ pub fn callee_of(statement: &Statement) -> Option<Handle<key::Function>>
         | Statement::Continue
         | Statement::Return { .. }
         | Statement::Kill
-        | Statement::ControlBarrier(_)
-        | Statement::MemoryBarrier(_)
-        | Statement::Store { .. }
-        | Statement::ImageStore { .. }
-        | Statement::Atomic { .. }
-        | Statement::ImageAtomic { .. }
-        | Statement::WorkGroupUniformLoad { .. }
-        | Statement::RayQuery { .. }
-        | Statement::SubgroupBallot { .. }
-        | Statement::SubgroupCollectiveOperation { .. }
-        | Statement::SubgroupGather { .. }
-        | Statement::CooperativeStore { .. }
-        | Statement::RayPipelineFunction(_) => None,
+        | plain_operation!() => None,
     }
 }

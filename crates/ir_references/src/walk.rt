@@ -5,6 +5,7 @@ ghost use Rattle.ir_blocks.specs.Plain.{PlainStatement};
 ghost use Rattle.ir_blocks.specs.View.{statement_view, block_view, case_view, cases_of};
 ghost use Rattle.ir_references.specs.First.{first_in, first_at, first_in_cases};
 
+use ir_blocks::plain_operation;
 use ir_items::{Block, Statement, SwitchCase};
 
 /// What is looked for in a statement, what stands inside it aside.
@@ -61,19 +62,7 @@ fn first_at<F, T: StatementLook<F>>(looked: &T, statement: &Statement) -> Option
         | Statement::Return { .. }
         | Statement::Kill
         | Statement::Call { .. }
-        | Statement::ControlBarrier(_)
-        | Statement::MemoryBarrier(_)
-        | Statement::Store { .. }
-        | Statement::ImageStore { .. }
-        | Statement::Atomic { .. }
-        | Statement::ImageAtomic { .. }
-        | Statement::WorkGroupUniformLoad { .. }
-        | Statement::RayQuery { .. }
-        | Statement::SubgroupBallot { .. }
-        | Statement::SubgroupCollectiveOperation { .. }
-        | Statement::SubgroupGather { .. }
-        | Statement::CooperativeStore { .. }
-        | Statement::RayPipelineFunction(_) => None,
+        | plain_operation!() => None,
     }
 }
 

@@ -7,6 +7,7 @@ ghost use Rattle.spec_handles.specs.Conditions.{AritiesMatch};
 ghost use Rattle.module_handles.specs.Tests.{arity_fault_of, count_of, wrong_count, PassesWrongCount};
 
 use ir_arena::handle::Handle;
+use ir_blocks::plain_operation;
 use ir_items::{Function, Module, Statement, key};
 use ir_references::{StatementLook, first_in};
 
@@ -96,19 +97,7 @@ impl StatementLook<ArityFault> for Arity<'_> {
             | Statement::Continue
             | Statement::Return { .. }
             | Statement::Kill
-            | Statement::ControlBarrier(_)
-            | Statement::MemoryBarrier(_)
-            | Statement::Store { .. }
-            | Statement::ImageStore { .. }
-            | Statement::Atomic { .. }
-            | Statement::ImageAtomic { .. }
-            | Statement::WorkGroupUniformLoad { .. }
-            | Statement::RayQuery { .. }
-            | Statement::SubgroupBallot { .. }
-            | Statement::SubgroupCollectiveOperation { .. }
-            | Statement::SubgroupGather { .. }
-            | Statement::CooperativeStore { .. }
-            | Statement::RayPipelineFunction(_) => None,
+            | plain_operation!() => None,
         }
     }
 }

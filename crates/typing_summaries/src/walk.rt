@@ -9,7 +9,7 @@ use crate::passed::{Joined, join_pairs};
 use crate::tally::{Context, Tally};
 use indexmap::IndexSet;
 use ir_arena::handle::Handle;
-use ir_blocks::{Block, Statement, SwitchCase};
+use ir_blocks::{Block, Statement, SwitchCase, plain_operation};
 use ir_types::key;
 use std::alloc::AllocError;
 
@@ -73,19 +73,7 @@ impl Tally {
             | Statement::Break
             | Statement::Continue
             | Statement::Return { .. }
-            | Statement::ControlBarrier(_)
-            | Statement::MemoryBarrier(_)
-            | Statement::Store { .. }
-            | Statement::ImageStore { .. }
-            | Statement::Atomic { .. }
-            | Statement::ImageAtomic { .. }
-            | Statement::WorkGroupUniformLoad { .. }
-            | Statement::RayQuery { .. }
-            | Statement::SubgroupBallot { .. }
-            | Statement::SubgroupCollectiveOperation { .. }
-            | Statement::SubgroupGather { .. }
-            | Statement::CooperativeStore { .. }
-            | Statement::RayPipelineFunction(_) => Ok(()),
+            | plain_operation!() => Ok(()),
         }
     }
 
@@ -163,19 +151,7 @@ impl Tally {
             | Statement::Return { .. }
             | Statement::Kill
             | Statement::Call { .. }
-            | Statement::ControlBarrier(_)
-            | Statement::MemoryBarrier(_)
-            | Statement::Store { .. }
-            | Statement::ImageStore { .. }
-            | Statement::Atomic { .. }
-            | Statement::ImageAtomic { .. }
-            | Statement::WorkGroupUniformLoad { .. }
-            | Statement::RayQuery { .. }
-            | Statement::SubgroupBallot { .. }
-            | Statement::SubgroupCollectiveOperation { .. }
-            | Statement::SubgroupGather { .. }
-            | Statement::CooperativeStore { .. }
-            | Statement::RayPipelineFunction(_) => Ok(()),
+            | plain_operation!() => Ok(()),
         }
     }
 
