@@ -1,7 +1,7 @@
 -- The ids of the overrides before a place, and of those before the next one.
-use Rattle.std.proofs.Common.{◌≡◌, ◌<◌, ◌⊎◌, inl, inr, ℕ, ◌+◌, List, Option, Some, None, Bool, true, false, slice_get, refl, sym, ap, subst, ◌∙◌, true≢false, arith, rules}
+use Rattle.std.proofs.Common.{◌≡◌, ◌<◌, ◌↔◌, ◌⊎◌, inl, inr, ℕ, ◌+◌, List, Option, Some, None, Bool, true, false, slice_get, refl, sym, ap, subst, ◌∙◌, true≢false, arith, rules}
 use Rattle.ir_items.specs.GlobalPlain.{PlainOverride}
-use Rattle.module_constants.specs.Ids.{AreIds, IsNotedIf, IsSeen}
+use Rattle.module_constants.specs.Ids.{AreIds, AreIdsOrMore, IsNotedIf, IsSeen}
 use Rattle.module_constants.specs.declared.ids.OverrideIds.{OverrideIds}
 use Rattle.spec_expressions.specs.Overrides.{IsTaken}
 
@@ -70,3 +70,17 @@ taken_is os place before after (Some id) own ids noted none = (id, refl, (ids.ea
 
 pub none_before : (os : List PlainOverride) (ids : OverrideIds) → ((id : ℕ) → IsSeen ids id → ⊥) → AreIds os 0 ids
 none_before os ids none = record { each = λ id. ((λ s. absurd (none id s)), (λ taken. let lt = taken.before in absurd (omega (arith, lt)))) }
+
+-- with its own noted
+pub more_ids : (os : List PlainOverride) (place : ℕ) (ids : OverrideIds) → AreIds os (place + 1) ids → AreIdsOrMore os place ids
+more_ids os place ids are = record {
+  earlier = λ id taken. (are.each id).1 (taken_still os place id taken);
+  only = λ id seen. (are.each id).0 seen;
+}
+
+-- with none noted
+pub same_ids : (os : List PlainOverride) (place : ℕ) (before after : OverrideIds) → AreIds os place before → ((id : ℕ) → IsSeen after id ↔ IsSeen before id) → AreIdsOrMore os place after
+same_ids os place before after are same = record {
+  earlier = λ id taken. (same id).1 ((are.each id).1 taken);
+  only = λ id seen. taken_still os place id ((are.each id).0 ((same id).0 seen));
+}

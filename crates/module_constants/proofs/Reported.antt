@@ -11,9 +11,6 @@ use Rattle.typing_errors.specs.declared.const_expressions.ConstExpressionError.{
 use Rattle.typing_errors.specs.declared.const_expressions.ConstExpressionError.TheVariants as error
 use Rattle.ir_arena.specs.declared.span.Span.{Span}
 use Rattle.ir_types.specs.ExpressionPlain.{PlainExpression}
-use Rattle.ir_faults.specs.Faults.{error_of}
-use Rattle.ir_faults.specs.declared.refusal.Refusal.{Refusal}
-use Rattle.ir_faults.specs.declared.refusal.Refusal.TheVariants as refusal
 use Rattle.ir_flags.specs.declared.settings.Capabilities.{Capabilities}
 use Rattle.ir_items.specs.GlobalPlain.{PlainConstant, PlainOverride}
 use Rattle.ir_items.specs.GlobalView.{values_of}

@@ -1,5 +1,5 @@
 -- The ids of the overrides before one.
-use Rattle.std.specs.Prelude.{◌≡◌, ◌↔◌, ◌⊎◌, ◌/◌, ◌%◌, ℕ, List, Option, Some, None, Bool, false, true, slice_index_or}
+use Rattle.std.specs.Prelude.{◌≡◌, ◌↔◌, ◌⊎◌, ◌+◌, ◌/◌, ◌%◌, ℕ, List, Option, Some, None, Bool, false, true, slice_index_or}
 use Rattle.std.specs.Int.{bit_at}
 use Rattle.ir_items.specs.GlobalPlain.{PlainOverride}
 use Rattle.module_constants.specs.declared.ids.OverrideIds.{OverrideIds}
@@ -23,3 +23,8 @@ pub record IsNoted (before after : OverrideIds) (id : ℕ) (own : Bool) : Type 0
 abbrev pub IsNotedIf : (before after : OverrideIds) → Option ℕ → (own : Bool) → Type 0
 IsNotedIf before after None own = (own ≡ true) × ((q : ℕ) → IsSeen after q ↔ IsSeen before q)
 IsNotedIf before after (Some id) own = IsNoted before after id own
+
+-- Where an override is refused the ids are those of the overrides before it, and perhaps its own.
+pub record AreIdsOrMore (overrides : List PlainOverride) (place : ℕ) (ids : OverrideIds) : Type 0 where
+  pub earlier : (id : ℕ) → IsTaken overrides place id → IsSeen ids id
+  pub only : (id : ℕ) → IsSeen ids id → IsTaken overrides (place + 1) id

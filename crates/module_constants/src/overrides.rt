@@ -1,9 +1,9 @@
 //! Overrides, each alone.
 
-ghost use Rattle.std.specs.Prelude.{◌≡◌, ◌<◌, ◌+◌, ◌↔◌, ℕ, IsTrue, Contains, Some, length, IfOk, IfErr, OnOk, MatchResult};
+ghost use Rattle.std.specs.Prelude.{◌≡◌, ◌<◌, ◌+◌, ◌↔◌, ℕ, IsTrue, Contains, Some, length, IfOk, IfErr, OnOk, OnErr, MatchResult};
 ghost use Rattle.module_constants.specs.Overrides.{IsFaultOf};
 ghost use Rattle.ir_items.specs.GlobalView.{override_view};
-ghost use Rattle.module_constants.specs.Ids.{AreIds, IsNotedIf};
+ghost use Rattle.module_constants.specs.Ids.{AreIds, AreIdsOrMore, IsNotedIf, IsSeen};
 ghost use Rattle.module_constants.specs.Known.{IsKnown, module_in};
 ghost use Rattle.module_constants.specs.Kinds.{integer_scalars, float_scalars};
 ghost use Rattle.module_constants.specs.Refusals.{IsDefaultFault, IsFineBesideId, IsOverrideRefusal};
@@ -121,7 +121,8 @@ fn check_beside_id(context: &GlobalContext<'_>, item: &Override) -> Result<(), O
 
 // Notes the id of an override, if it has one, and answers whether none was noted that is the same. The error is out of memory.
 fn note_id(ids: &mut OverrideIds, id: Option<u16>) -> Result<bool, AllocError>
-    ensures { IfOk result (IsNotedIf ids.old ids.new id) }
+    ensures noted { IfOk result (IsNotedIf ids.old ids.new id) }
+    ensures err { OnErr result ((other : ℕ) → IsSeen ids.new other ↔ IsSeen ids.old other) }
 {
     match id {
         Some(id) => {
@@ -139,7 +140,8 @@ fn note_id(ids: &mut OverrideIds, id: Option<u16>) -> Result<bool, AllocError>
 ///
 /// It has neither a name nor an id, an override before it has its id, its type is no scalar that an override may have, its
 /// initialiser is known only when the shader runs or of another type, or it has none and overrides are resolved: each is
-/// answered only where it stands, with no span; or out of memory.
+/// answered only where it stands, with no span; or out of memory. The ids are then those of the overrides before it, and
+/// perhaps its own.
 pub fn validate_override(
     alloc: Global,
     context: &GlobalContext<'_>,
@@ -152,6 +154,7 @@ pub fn validate_override(
     ensures accepted { IfOk result (λ _. OverrideOK context.now.overrides_resolved (module_in context.now) handle) }
     ensures added { OnOk result (AreIds (module_in context.now).overrides (handle + 1) ids.new) }
     ensures refused { IfErr result (IsOverrideRefusal context.now.overrides_resolved (module_in context.now) handle) }
+    ensures left { OnErr result (AreIdsOrMore (module_in context.now).overrides handle ids.new) }
 {
     let item = &context.module.overrides[handle];
     if !note_id(ids, item.id)? {
