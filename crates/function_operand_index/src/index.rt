@@ -137,12 +137,15 @@ impl OperandIndex {
         })
     }
 
-    /// The operands from one on, below another, are there.
+    /// The operands from one on, below another, are there: no pair lacks one of them any more, and all others are as before.
     pub fn add(&mut self, from: usize, end: usize)
         ensures operands { self.new.operands.items ≡ self.old.operands.items }
         ensures users { self.new.users.items ≡ self.old.users.items }
         ensures there { (k : ℕ) → k < length self.old.operands.items → set.contains self.new.lacking k ≡ false
             → (set.contains self.old.lacking k ≡ false) ⊎ ((from ≤ slice_index_or self.old.operands.items k 0) × (slice_index_or self.old.operands.items k 0 < end)) }
+        ensures kept { (k : ℕ) → set.contains self.old.lacking k ≡ true → (from ≤ slice_index_or self.old.operands.items k 0 → slice_index_or self.old.operands.items k 0 < end → ⊥) → set.contains self.new.lacking k ≡ true }
+        ensures fewer { (k : ℕ) → set.contains self.old.lacking k ≡ false → set.contains self.new.lacking k ≡ false }
+        ensures come { (k : ℕ) → k < length self.old.operands.items → from ≤ slice_index_or self.old.operands.items k 0 → slice_index_or self.old.operands.items k 0 < end → set.contains self.new.lacking k ≡ false }
     {
         let count = self.operands.len();
         let mut place = 0;
@@ -155,12 +158,18 @@ impl OperandIndex {
         }
     }
 
-    /// The operands from one on, below another, are there no more. The error is out of memory.
+    /// The operands from one on, below another, are there no more: all their pairs lack them, and all others are as before.
+    ///
+    /// # Errors
+    ///
+    /// `AllocError` where there is no memory. Some pairs of these operands may lack them then, and others not yet.
     pub fn remove(&mut self, from: usize, end: usize) -> Result<(), AllocError>
         ensures operands { self.new.operands.items ≡ self.old.operands.items }
         ensures users { self.new.users.items ≡ self.old.users.items }
         ensures left { OnOk result ((k : ℕ) → k < length self.old.operands.items → set.contains self.new.lacking k ≡ false
             → (set.contains self.old.lacking k ≡ false) × (from ≤ slice_index_or self.old.operands.items k 0 → slice_index_or self.old.operands.items k 0 < end → ⊥)) }
+        ensures kept { (k : ℕ) → set.contains self.old.lacking k ≡ true → set.contains self.new.lacking k ≡ true }
+        ensures others { (k : ℕ) → set.contains self.new.lacking k ≡ true → (from ≤ slice_index_or self.old.operands.items k 0 → slice_index_or self.old.operands.items k 0 < end → ⊥) → set.contains self.old.lacking k ≡ true }
     {
         let count = self.operands.len();
         let mut place = 0;

@@ -3,4 +3,4 @@
 
 pub mod index;
 pub mod pairs;
-pub mod runs;
+mod runs;

@@ -6,21 +6,21 @@ ghost use Rattle.function_operand_index.specs.Runs.{AreRuns};
 use std::alloc::{AllocError, Global};
 
 /// How many numbers are in a run.
-pub const NEAR: usize = 64;
+pub(crate) const NEAR: usize = 64;
 /// How many are in a long run.
-pub const FAR: usize = 4096;
+pub(crate) const FAR: usize = 4096;
 
 /// Of a list of numbers the least and the greatest of each run of 64, and of each run of 4096.
 #[derive(Drop)]
-pub struct Runs {
+pub(crate) struct Runs {
     /// The least of 64 each.
-    pub lows: Vec<u32>,
+    pub(crate) lows: Vec<u32>,
     /// The greatest of 64 each.
-    pub highs: Vec<u32>,
+    pub(crate) highs: Vec<u32>,
     /// The least of 4096 each.
-    pub far_lows: Vec<u32>,
+    pub(crate) far_lows: Vec<u32>,
     /// The greatest of 4096 each.
-    pub far_highs: Vec<u32>,
+    pub(crate) far_highs: Vec<u32>,
 }
 
 // Makes a number no greater than another.
@@ -88,7 +88,7 @@ fn far_highs(alloc: Global, numbers: &[u32]) -> Result<Vec<u32>, AllocError>
 }
 
 /// The runs of a list of numbers. The error is out of memory.
-pub fn runs_of(alloc: Global, numbers: &[u32]) -> Result<Runs, AllocError>
+pub(crate) fn runs_of(alloc: Global, numbers: &[u32]) -> Result<Runs, AllocError>
     ensures { IfOk result (λ runs. AreRuns numbers.now runs) }
 {
     let lows = near_lows(alloc, numbers)?;
@@ -130,10 +130,17 @@ fn is_inside(lows: &[u32], highs: &[u32], index: usize, from: usize, end: usize)
 }
 
 /// Of how many numbers from a place on it is seen in one step that none of them is one from one on, below another.
-pub fn count_outside(numbers: &[u32], runs: &Runs, place: usize, from: usize, end: usize) -> usize
+pub(crate) fn count_outside(
+    numbers: &[u32],
+    runs: &Runs,
+    place: usize,
+    from: usize,
+    end: usize,
+) -> usize
     requires { AreRuns numbers.now runs.now }
     ensures few { result ≤ 4096 }
     ensures outside { (k : ℕ) → place ≤ k → k < place + result → k < length numbers.now → from ≤ slice_index_or numbers.now k 0 → slice_index_or numbers.now k 0 < end → ⊥ }
+    ensures here { result ≡ 0 → place < length numbers.now → (from ≤ slice_index_or numbers.now place 0) × (slice_index_or numbers.now place 0 < end) }
 {
     if place % FAR == 0 && is_outside(&runs.far_lows, &runs.far_highs, place / FAR, from, end) {
         return FAR;
@@ -154,10 +161,17 @@ pub fn count_outside(numbers: &[u32], runs: &Runs, place: usize, from: usize, en
 }
 
 /// Of how many it is seen that all of them are such.
-pub fn count_inside(numbers: &[u32], runs: &Runs, place: usize, from: usize, end: usize) -> usize
+pub(crate) fn count_inside(
+    numbers: &[u32],
+    runs: &Runs,
+    place: usize,
+    from: usize,
+    end: usize,
+) -> usize
     requires { AreRuns numbers.now runs.now }
     ensures few { result ≤ 4096 }
     ensures inside { (k : ℕ) → place ≤ k → k < place + result → k < length numbers.now → (from ≤ slice_index_or numbers.now k 0) × (slice_index_or numbers.now k 0 < end) }
+    ensures here { result ≡ 0 → place < length numbers.now → from ≤ slice_index_or numbers.now place 0 → slice_index_or numbers.now place 0 < end → ⊥ }
 {
     if place % FAR == 0 && is_inside(&runs.far_lows, &runs.far_highs, place / FAR, from, end) {
         return FAR;

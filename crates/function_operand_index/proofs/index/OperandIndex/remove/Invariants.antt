@@ -1,9 +1,9 @@
-use Rattle.std.proofs.Common.{◌-◌, ◌≡◌, ◌<◌, ◌≤◌, ℕ, false, slice_index_or}
+use Rattle.std.proofs.Common.{◌-◌, ◌≡◌, ◌<◌, ◌≤◌, ℕ, true, false, slice_index_or}
 use Rattle.std.specs.FinSet as set
 use Rattle.function_operand_index.specs.Runs.{AreRuns}
 use Rattle.function_operand_index.proofs.index.OperandIndex.remove.Given as goal
 
--- what does not lack did not lack before, and before the place it is none of those
+-- what does not lack did not lack before, and before the place it is none of those; what is none of those lacks only if it did before
 abbrev pub invariant-loop-place : goal.invariant-loop-place
 invariant-loop-place l = record {
   operands : l.self.operands ≡ l.fn.self.operands;
@@ -13,6 +13,7 @@ invariant-loop-place l = record {
   within : l.place ≤ l.count;
   kept : (k : ℕ) → set.contains l.self.lacking k ≡ false → set.contains l.fn.self.lacking k ≡ false;
   left : (k : ℕ) → k < l.place → set.contains l.self.lacking k ≡ false → l.from ≤ slice_index_or l.fn.self.operands.items k 0 → slice_index_or l.fn.self.operands.items k 0 < l.end → ⊥;
+  others : (k : ℕ) → set.contains l.self.lacking k ≡ true → (l.from ≤ slice_index_or l.fn.self.operands.items k 0 → slice_index_or l.fn.self.operands.items k 0 < l.end → ⊥) → set.contains l.fn.self.lacking k ≡ true;
 }
 
 abbrev pub decreases-loop-place : goal.decreases-loop-place
