@@ -35,8 +35,8 @@ use Rattle.spec_interface.specs.Contexts.{VaryingContext, context_of}
 use Rattle.spec_interface.specs.Varyings.{VaryingsOK, argument_varyings, mesh_varyings, result_varyings}
 use Rattle.spec_interface.specs.declared.varyings.Direction.TheVariants.{Input, Output, VertexOutput, PrimitiveOutput}
 use Rattle.spec_interface.specs.declared.varyings.Varying.{Varying}
+use Rattle.function_varying_checks.specs.declared.error.VaryingError.TheVariants as varying
 use Rattle.function_varyings.proofs.Refuted.{fault_refutes}
-use Rattle.function_varyings.specs.declared.error.VaryingError.TheVariants as varying
 
 some_is : {A : Type 0} {x y : A} → Some x ≡ Some y → x ≡ y
 some_is e = cc (e)

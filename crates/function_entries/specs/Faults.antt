@@ -25,8 +25,8 @@ use Rattle.spec_interface.specs.Uses.{traces_rays, is_run_for_rays}
 use Rattle.spec_interface.specs.Variables.{AllowsUses, IsUsed, least_payload}
 use Rattle.typing_layout.specs.Layout.{size}
 use Rattle.typing_layout.specs.View.{type_tree}
-use Rattle.function_varyings.specs.declared.error.VaryingError.{VaryingError}
-use Rattle.function_varyings.specs.declared.error.VaryingError.TheVariants as varying
+use Rattle.function_varying_checks.specs.declared.error.VaryingError.{VaryingError}
+use Rattle.function_varying_checks.specs.declared.error.VaryingError.TheVariants as varying
 
 -- ---- the stage
 

@@ -16,9 +16,9 @@ use Rattle.spec_interface.specs.Results.{GivesTaskSize}
 use Rattle.spec_interface.specs.Contexts.{VaryingContext}
 use Rattle.spec_interface.specs.Varyings.{HasBuiltIn, argument_varyings, mesh_varyings, result_varyings}
 use Rattle.spec_interface.specs.declared.varyings.Varying.{Varying}
-use Rattle.function_varyings.specs.Faults.{IsVaryingFault}
-use Rattle.function_varyings.specs.declared.error.VaryingRefusal.{VaryingRefusal}
-use Rattle.function_varyings.specs.declared.error.VaryingRefusal.TheVariants as varying
+use Rattle.function_varying_checks.specs.Faults.{IsVaryingFault}
+use Rattle.function_varying_checks.specs.declared.error.VaryingRefusal.{VaryingRefusal}
+use Rattle.function_varying_checks.specs.declared.error.VaryingRefusal.TheVariants as varying
 
 -- ---- refusals
 

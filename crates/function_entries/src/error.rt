@@ -1,6 +1,6 @@
 //! Why an entry point is refused.
 
-use function_varyings::VaryingError;
+use function_varying_checks::VaryingError;
 use ir_arena::handle::Handle;
 use ir_flags::Capabilities;
 use ir_kinds::ShaderStage;

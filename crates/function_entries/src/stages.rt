@@ -10,7 +10,7 @@ ghost use Rattle.spec_interface.specs.Contexts.{stage_set};
 
 use crate::error::EntryPointError;
 use bitflags::Flags;
-use function_varyings::VaryingError;
+use function_varying_checks::VaryingError;
 use ir_flags::{Capabilities, ShaderStages};
 use ir_items::EntryPoint;
 use ir_kinds::ShaderStage;

@@ -13,7 +13,8 @@ ghost use Rattle.function_varyings.specs.Known.{IsShownBy};
 
 use crate::context::{EntryContext, varying_context};
 use crate::error::EntryPointError;
-use function_varyings::{KnownTypes, Shown, VaryingRefusal};
+use function_varying_checks::VaryingRefusal;
+use function_varyings::{KnownTypes, Shown};
 use ir_arena::handle::Handle;
 use ir_faults::refusal::Refusal;
 use ir_faults::with_span::WithSpan;

@@ -7,7 +7,7 @@ use Rattle.ir_items.specs.declared.functions.FunctionResult.{FunctionResult}
 use Rattle.ir_types.specs.Plain.{PlainType}
 use Rattle.spec_interface.specs.Varyings.{result_varyings, varyings_of}
 use Rattle.spec_interface.specs.declared.varyings.Direction.TheVariants.{Output}
-use Rattle.function_varyings.specs.View.{context_view}
+use Rattle.function_varying_checks.specs.View.{context_view}
 use Rattle.function_entries.proofs.varyings.answered.Goals as goal
 
 pub returns-in-Err-clause-fine : goal.returns-in-Err-clause-fine
