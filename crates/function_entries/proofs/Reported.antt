@@ -1,10 +1,10 @@
 -- Refusals of varyings and of mesh shaders, told as those of an entry point.
 use Rattle.std.proofs.Common.{◌≡◌, ℕ, List, Some, sym, subst}
+use Rattle.function_entry_checks.specs.Faults.{IsRefusedFor}
+use Rattle.function_entry_checks.specs.declared.error.EntryPointError.{EntryPointError}
 use Rattle.function_entries.specs.ConnectionFaults.{IsConnectionFault, of_mesh}
-use Rattle.function_entries.specs.Faults.{IsRefusedFor}
 use Rattle.function_entries.specs.OutputFaults.{IsMeshFault}
 use Rattle.function_entries.specs.VaryingFaults.{IsGivenFault, IsReportedOfResult}
-use Rattle.function_entries.specs.declared.error.EntryPointError.{EntryPointError}
 use Rattle.ir_faults.specs.declared.refusal.Refusal.{Refusal}
 use Rattle.ir_faults.specs.declared.refusal.Refusal.TheVariants as refusal
 use Rattle.ir_flags.specs.declared.settings.Capabilities.{Capabilities}

@@ -5,9 +5,9 @@ ghost use Rattle.judgement_runs.specs.Sound.{BoundsDepth};
 ghost use Rattle.shader_check.specs.Fresh.{AnswersAreAlike};
 ghost use Rattle.shader_check.specs.Theorem.{AcceptedTextsAreSound, OneText, SomeText, ReturnsDontShow};
 
+pub use check_report::{Leaf, buffer_leaves};
 pub use document_reader::laws::{distinct_types, one_document};
 use ir_items::Module;
-pub use check_report::{Leaf, buffer_leaves};
 
 /// One text is expected for some bytes: every answer to the same bytes is the same.
 pub fn one_text()

@@ -4,8 +4,8 @@ use ir_arena::handle::Handle;
 use ir_items::{Expression, Function, Module, key};
 use ir_types::TypeInner;
 use std::alloc::{AllocError, Global};
-use typing_forms::{TypeResolution, form_of};
 use typing_errors::ResolveRefusal;
+use typing_forms::{TypeResolution, form_of};
 use typing_resolve::ResolveContext;
 
 type Expressions = Arena<Expression, key::Expression>;

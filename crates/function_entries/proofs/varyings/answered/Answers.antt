@@ -1,7 +1,7 @@
 use Rattle.std.proofs.Common.{List, Option, sym, subst}
+use Rattle.function_entry_checks.specs.Faults.{IsRefusedFor}
 use Rattle.function_entries.proofs.Reported.{given_refused}
 use Rattle.function_entries.specs.Contexts.{varying_context}
-use Rattle.function_entries.specs.Faults.{IsRefusedFor}
 use Rattle.function_entries.specs.VaryingFaults.{IsGivenFault}
 use Rattle.ir_items.specs.declared.functions.FunctionResult.{FunctionResult}
 use Rattle.ir_types.specs.Plain.{PlainType}
