@@ -1,6 +1,3 @@
-mod Bits
-mod UsedLaws
-mod SeenLaws
 mod Reported
 pub mod MeshLaws
 pub mod Refuted

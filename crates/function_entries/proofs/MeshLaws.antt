@@ -1,12 +1,12 @@
 -- What a variable implies is one thing.
 use Rattle.std.proofs.Common.{◌≡◌, inl, inr, ℕ, List, [], ◌∷◌, Option, Some, None, slice_get, refl, sym, ap, subst, ◌∙◌}
 use Rattle.std.specs.Prelude.{option_and_then}
-use Rattle.function_entries.specs.Faults.{IsRefusedFor}
+use Rattle.function_entry_checks.specs.Faults.{IsRefusedFor}
+use Rattle.function_entry_checks.specs.declared.error.EntryPointError.{EntryPointError}
+use Rattle.function_entry_checks.specs.declared.error.EntryPointError.TheVariants as error
 use Rattle.function_entries.specs.Interfaces.{ArePartsAt}
 use Rattle.function_entries.specs.MeshFaults.{AreSame, HasBadField, HasBadPrimitives, IsImpliedFault, IsSaidFault}
 use Rattle.function_entries.specs.MeshFields.{HasFields}
-use Rattle.function_entries.specs.declared.error.EntryPointError.{EntryPointError}
-use Rattle.function_entries.specs.declared.error.EntryPointError.TheVariants as error
 use Rattle.function_entries.specs.declared.meshes.Fields.{Fields}
 use Rattle.ir_faults.specs.Faults.{error_of}
 use Rattle.ir_faults.specs.declared.refusal.Refusal.{Refusal}

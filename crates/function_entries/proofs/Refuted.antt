@@ -1,15 +1,15 @@
 -- Faults of an entry point refute it.
 use Rattle.std.proofs.Common.{◌≡◌, ℕ, List, false, Option, Some, IfSome, sym, ap, subst, ◌∙◌, arith, true≢false}
 use Rattle.std.specs.Prelude.{IsSome, IsTrue, is_some}
+use Rattle.function_entry_checks.specs.Faults.{IsBindingFault, IsCapabilityFault, IsEarlyFault, IsFaultOfOne, IsImmediateFault, IsMeshInfoFault, IsPayloadUseFault, IsReachFault, IsSizeFault, IsStageFault, of_capability, of_early, of_sizes, of_mesh as of_mesh_info, IsUseFault, IsVariableFault, of_payload, of_stage, of_uses, IsVariablesFault, of_immediates, of_one, of_bindings}
+use Rattle.function_entry_checks.specs.declared.error.EntryPointError.{EntryPointError}
+use Rattle.function_entry_checks.specs.declared.error.EntryPointError.TheVariants as error
 use Rattle.function_entries.proofs.MeshLaws.{said_refuted, same_implied}
 use Rattle.spec_interface.proofs.Places.{not_some_by}
 use Rattle.function_entries.specs.ConnectionFaults.{IsConnectionFault, of_arguments, of_result, of_answer, of_variables, of_mesh}
-use Rattle.function_entries.specs.Faults.{IsBindingFault, IsCapabilityFault, IsEarlyFault, IsFaultOfOne, IsImmediateFault, IsMeshInfoFault, IsPayloadUseFault, IsReachFault, IsSizeFault, IsStageFault, of_capability, of_early, of_sizes, of_mesh as of_mesh_info, IsUseFault, IsVariableFault, of_payload, of_stage, of_uses, IsVariablesFault, of_immediates, of_one, of_bindings}
 use Rattle.function_entries.specs.Laws.{ConnectionFaultRefutes, OneImplied, PayloadFaultRefutes, StageFaultRefutes}
 use Rattle.function_entries.specs.OutputFaults.{IsMeshFault, IsOwnMeshFault, IsPointFault, IsPositionFault, IsSpaceFault, IsVertexFault, of_own, of_vertices, of_primitives, of_space, of_said, of_points, of_output, of_position}
 use Rattle.function_entries.specs.VaryingFaults.{IsAnswerFault, IsArgumentFault, IsGivenFault, IsOutputFault}
-use Rattle.function_entries.specs.declared.error.EntryPointError.{EntryPointError}
-use Rattle.function_entries.specs.declared.error.EntryPointError.TheVariants as error
 use Rattle.ir_flags.specs.Sets.{Has}
 use Rattle.ir_flags.specs.declared.settings.Capabilities.{Capabilities}
 use Rattle.ir_flags.specs.declared.settings.ValidationFlags.{ValidationFlags}
@@ -35,8 +35,8 @@ use Rattle.spec_interface.specs.Contexts.{VaryingContext, context_of}
 use Rattle.spec_interface.specs.Varyings.{VaryingsOK, argument_varyings, mesh_varyings, result_varyings}
 use Rattle.spec_interface.specs.declared.varyings.Direction.TheVariants.{Input, Output, VertexOutput, PrimitiveOutput}
 use Rattle.spec_interface.specs.declared.varyings.Varying.{Varying}
+use Rattle.function_varying_checks.specs.declared.error.VaryingError.TheVariants as varying
 use Rattle.function_varyings.proofs.Refuted.{fault_refutes}
-use Rattle.function_varyings.specs.declared.error.VaryingError.TheVariants as varying
 
 some_is : {A : Type 0} {x y : A} → Some x ≡ Some y → x ≡ y
 some_is e = cc (e)

@@ -1,10 +1,10 @@
 -- Refusals of varyings and of mesh shaders, told as those of an entry point.
 use Rattle.std.proofs.Common.{◌≡◌, ℕ, List, Some, sym, subst}
+use Rattle.function_entry_checks.specs.Faults.{IsRefusedFor}
+use Rattle.function_entry_checks.specs.declared.error.EntryPointError.{EntryPointError}
 use Rattle.function_entries.specs.ConnectionFaults.{IsConnectionFault, of_mesh}
-use Rattle.function_entries.specs.Faults.{IsRefusedFor}
 use Rattle.function_entries.specs.OutputFaults.{IsMeshFault}
 use Rattle.function_entries.specs.VaryingFaults.{IsGivenFault, IsReportedOfResult}
-use Rattle.function_entries.specs.declared.error.EntryPointError.{EntryPointError}
 use Rattle.ir_faults.specs.declared.refusal.Refusal.{Refusal}
 use Rattle.ir_faults.specs.declared.refusal.Refusal.TheVariants as refusal
 use Rattle.ir_flags.specs.declared.settings.Capabilities.{Capabilities}
@@ -14,9 +14,9 @@ use Rattle.ir_items.specs.declared.entries.MeshStageInfo.{MeshStageInfo}
 use Rattle.ir_types.specs.Plain.{PlainType}
 use Rattle.spec_interface.specs.Contexts.{VaryingContext}
 use Rattle.spec_interface.specs.declared.varyings.Varying.{Varying}
-use Rattle.function_varyings.specs.Faults.{IsRefusal}
-use Rattle.function_varyings.specs.declared.error.VaryingRefusal.{VaryingRefusal}
-use Rattle.function_varyings.specs.declared.error.VaryingRefusal.TheVariants as varying
+use Rattle.function_varying_checks.specs.Faults.{IsRefusal}
+use Rattle.function_varying_checks.specs.declared.error.VaryingRefusal.{VaryingRefusal}
+use Rattle.function_varying_checks.specs.declared.error.VaryingRefusal.TheVariants as varying
 
 given_told : (c : VaryingContext) (vs : List Varying) (r : VaryingRefusal) (x : Refusal EntryPointError) → IsRefusal c vs r → IsReportedOfResult r x → IsRefusedFor (IsGivenFault c vs) x
 given_told c vs (varying.Memory a) (refusal.Memory b) h told = tt

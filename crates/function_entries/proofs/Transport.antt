@@ -2,11 +2,11 @@
 use Rattle.std.proofs.Common.{◌<◌, ℕ, length}
 use Rattle.std.specs.Prelude.{◌↔◌}
 use Rattle.std.proofs.lemmas.Option.{slice_get_within}
-use Rattle.function_entries.proofs.UsedLaws.{bound_within, lies_within}
+use Rattle.function_entry_checks.proofs.UsedLaws.{bound_within, lies_within}
+use Rattle.function_entry_checks.specs.Faults.{IsBindingFault, IsFaultOfOne, IsImmediateFault, IsUseFault, IsVariableFault, of_payload, of_stage, of_uses, IsVariablesFault, of_immediates, of_one, of_bindings}
+use Rattle.function_entry_checks.specs.declared.error.EntryPointError.{EntryPointError}
+use Rattle.function_entry_checks.specs.declared.error.EntryPointError.TheVariants as error
 use Rattle.function_entries.specs.ConnectionFaults.{IsConnectionFault, of_arguments, of_result, of_answer, of_variables, of_mesh}
-use Rattle.function_entries.specs.Faults.{IsBindingFault, IsFaultOfOne, IsImmediateFault, IsUseFault, IsVariableFault, of_payload, of_stage, of_uses, IsVariablesFault, of_immediates, of_one, of_bindings}
-use Rattle.function_entries.specs.declared.error.EntryPointError.{EntryPointError}
-use Rattle.function_entries.specs.declared.error.EntryPointError.TheVariants as error
 use Rattle.ir_flags.specs.declared.settings.Capabilities.{Capabilities}
 use Rattle.ir_flags.specs.declared.settings.ValidationFlags.{ValidationFlags}
 use Rattle.ir_items.specs.GlobalPlain.{PlainGlobal}

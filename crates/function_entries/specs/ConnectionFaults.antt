@@ -1,9 +1,9 @@
 -- What is wrong with what connects an entry point with other stages and with hosts.
 use Rattle.std.specs.Prelude.{◌≡◌, ℕ, Some}
-use Rattle.function_entries.specs.Faults.{IsVariablesFault}
+use Rattle.function_entry_checks.specs.Faults.{IsVariablesFault}
+use Rattle.function_entry_checks.specs.declared.error.EntryPointError.{EntryPointError}
 use Rattle.function_entries.specs.OutputFaults.{IsMeshFault}
 use Rattle.function_entries.specs.VaryingFaults.{IsAnswerFault, IsArgumentFault, IsGivenFault}
-use Rattle.function_entries.specs.declared.error.EntryPointError.{EntryPointError}
 use Rattle.ir_flags.specs.declared.settings.Capabilities.{Capabilities}
 use Rattle.ir_flags.specs.declared.settings.ValidationFlags.{ValidationFlags}
 use Rattle.ir_items.specs.Plain.{PlainEntry, PlainModule}

@@ -1,9 +1,9 @@
 -- What is known of the faults of entry points.
 use Rattle.std.specs.Prelude.{◌≡◌, ℕ, List, Option}
+use Rattle.function_entry_checks.specs.Faults.{IsPayloadFault, IsStageFault}
+use Rattle.function_entry_checks.specs.declared.error.EntryPointError.{EntryPointError}
 use Rattle.function_entries.specs.ConnectionFaults.{IsConnectionFault}
-use Rattle.function_entries.specs.Faults.{IsPayloadFault, IsStageFault}
 use Rattle.function_entries.specs.MeshFaults.{AreSame}
-use Rattle.function_entries.specs.declared.error.EntryPointError.{EntryPointError}
 use Rattle.ir_flags.specs.declared.settings.Capabilities.{Capabilities}
 use Rattle.ir_flags.specs.declared.settings.ValidationFlags.{ValidationFlags}
 use Rattle.ir_items.specs.Plain.{PlainEntry, PlainModule}

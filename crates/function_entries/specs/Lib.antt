@@ -1,7 +1,5 @@
-pub mod Bindings
 pub mod Interfaces
 pub mod Contexts
-pub mod Faults
 pub mod MeshFaults
 pub mod MeshFields
 pub mod VaryingFaults

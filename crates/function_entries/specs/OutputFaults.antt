@@ -1,9 +1,9 @@
 -- What is wrong with a mesh shader.
 use Rattle.std.specs.Prelude.{◌≡◌, ◌≢◌, ℕ, Some, false}
+use Rattle.function_entry_checks.specs.declared.error.EntryPointError.{EntryPointError}
+use Rattle.function_entry_checks.specs.declared.error.EntryPointError.TheVariants as error
 use Rattle.function_entries.specs.MeshFaults.{IsSaidFault}
 use Rattle.function_entries.specs.VaryingFaults.{IsOutputFault}
-use Rattle.function_entries.specs.declared.error.EntryPointError.{EntryPointError}
-use Rattle.function_entries.specs.declared.error.EntryPointError.TheVariants as error
 use Rattle.ir_flags.specs.Sets.{Has}
 use Rattle.ir_flags.specs.declared.settings.Capabilities.{Capabilities}
 use Rattle.ir_flags.specs.declared.settings.TheConstants.Capabilities.{MESH_SHADER_POINT_TOPOLOGY}

@@ -1,7 +1,7 @@
 -- What is wrong with what an entry point is given and gives.
 use Rattle.std.specs.Prelude.{◌≡◌, ℕ, List, Option, IsSome, false, min}
-use Rattle.function_entries.specs.declared.error.EntryPointError.{EntryPointError}
-use Rattle.function_entries.specs.declared.error.EntryPointError.TheVariants as error
+use Rattle.function_entry_checks.specs.declared.error.EntryPointError.{EntryPointError}
+use Rattle.function_entry_checks.specs.declared.error.EntryPointError.TheVariants as error
 use Rattle.ir_faults.specs.Faults.{error_of}
 use Rattle.ir_faults.specs.declared.refusal.Refusal.{Refusal}
 use Rattle.ir_faults.specs.declared.refusal.Refusal.TheVariants as refusal
@@ -16,9 +16,9 @@ use Rattle.spec_interface.specs.Results.{GivesTaskSize}
 use Rattle.spec_interface.specs.Contexts.{VaryingContext}
 use Rattle.spec_interface.specs.Varyings.{HasBuiltIn, argument_varyings, mesh_varyings, result_varyings}
 use Rattle.spec_interface.specs.declared.varyings.Varying.{Varying}
-use Rattle.function_varyings.specs.Faults.{IsVaryingFault}
-use Rattle.function_varyings.specs.declared.error.VaryingRefusal.{VaryingRefusal}
-use Rattle.function_varyings.specs.declared.error.VaryingRefusal.TheVariants as varying
+use Rattle.function_varying_checks.specs.Faults.{IsVaryingFault}
+use Rattle.function_varying_checks.specs.declared.error.VaryingRefusal.{VaryingRefusal}
+use Rattle.function_varying_checks.specs.declared.error.VaryingRefusal.TheVariants as varying
 
 -- ---- refusals
 

@@ -1,60 +1,22 @@
 //! What connects an entry point with other stages and with hosts.
 
 ghost use Rattle.std.specs.Prelude.{◌≡◌, ◌<◌, ◌↔◌, IfSome, IsTrue, MatchResult, OnOk, length};
+ghost use Rattle.function_entry_checks.specs.Faults.{IsRefusedFor};
 ghost use Rattle.function_entries.specs.ConnectionFaults.{IsConnectionFault};
 ghost use Rattle.function_entries.specs.Contexts.{AreSharedIn, IsKnown, entry_in, module_in};
-ghost use Rattle.function_entries.specs.Faults.{IsRefusedFor, IsVariablesFault};
-ghost use Rattle.ir_items.specs.View.{entry_view, module_view};
 ghost use Rattle.ir_items.specs.declared.entries.MeshStageInfo.{MeshStageInfo};
 ghost use Rattle.spec_analysis.specs.Summaries.{HasUseBit};
 ghost use Rattle.spec_interface.specs.Entries.{ConnectionsOK};
-ghost use Rattle.spec_interface.specs.Variables.{VariablesOK};
 ghost use Rattle.spec_interface.specs.Varyings.{HasBlendSources, result_varyings};
 
-use crate::bindings::check_bindings;
 use crate::context::EntryContext;
-use crate::error::EntryPointError;
 use crate::known::KnownInterfaces;
 use crate::outputs::check_mesh;
-use crate::variables::{check_each, check_immediates};
 use crate::varyings::{check_arguments, check_result};
-use bitflags::Flags;
+use function_entry_checks::{EntryPointError, check_variables};
 use ir_faults::refusal::Refusal;
-use ir_faults::with_span::WithSpan;
-use ir_flags::ValidationFlags;
-use ir_items::{EntryPoint, Module};
 use spec_analysis::GlobalUse;
 use std::alloc::Global;
-
-// Whether an entry point may use the variables that it uses.
-fn check_variables(
-    alloc: Global,
-    flags: ValidationFlags,
-    module: &Module,
-    entry: &EntryPoint,
-    uses: &[GlobalUse],
-) -> Result<(), Refusal<EntryPointError>>
-    requires { length uses.now ≡ length (module_view «module».now).globals }
-    ensures { MatchResult result
-        (λ _. VariablesOK flags (module_view «module».now) (entry_view entry.now) (HasUseBit uses.now))
-        (IsRefusedFor (IsVariablesFault flags (module_view «module».now) (entry_view entry.now) (HasUseBit uses.now))) }
-{
-    match check_immediates(module, uses) {
-        Ok(()) => {}
-        Err(error) => return Err(Refusal::Fault(WithSpan::new(alloc, error))),
-    }
-    match check_each(module, entry, uses) {
-        Ok(()) => {}
-        Err(error) => return Err(Refusal::Fault(WithSpan::new(alloc, error))),
-    }
-    if !flags.contains(ValidationFlags::BINDINGS) {
-        return Ok(());
-    }
-    match check_bindings(alloc, module, uses) {
-        Ok(()) => Ok(()),
-        Err(refusal) => Err(refusal),
-    }
-}
 
 /// Whether what connects an entry point with other stages and with hosts is as it may be, where its global variables are used in
 /// these ways; then whether two sources of a blend are among what it answers.

@@ -2,9 +2,9 @@
 
 ghost use Rattle.std.specs.Prelude.{◌≡◌};
 ghost use Rattle.function_entries.specs.Contexts.{IsKnown, varying_context};
-ghost use Rattle.function_varyings.specs.View.{IsReported, context_view};
+ghost use Rattle.function_varying_checks.specs.View.{IsReported, context_view};
 
-use function_varyings::VaryingContext;
+use function_varying_checks::VaryingContext;
 use ir_flags::{Capabilities, ValidationFlags};
 use ir_items::{EntryPoint, Module};
 use module_type_infos::TypeInfo;

@@ -6,8 +6,8 @@ ghost use Rattle.ir_faults.specs.Faults.{error_of};
 ghost use Rattle.ir_items.specs.Plain.{PlainModule};
 ghost use Rattle.spec_interface.specs.Meshes.{ImpliesMeshInfo};
 
-use crate::error::EntryPointError;
 use crate::meshes::implied_mesh;
+use function_entry_checks::EntryPointError;
 use ir_arena::handle::Handle;
 use ir_faults::with_span::WithSpan;
 use ir_items::{MeshStageInfo, Module};

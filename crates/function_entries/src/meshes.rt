@@ -1,7 +1,7 @@
 //! What a mesh shader gives, by the variable that holds it.
 
 ghost use Rattle.std.specs.Prelude.{◌≡◌, ◌∷◌, ◌<◌, ◌↔◌, [], ℕ, IsTrue, List, MatchOption, MatchResult, OnOk, Option, None, Some, length, map};
-ghost use Rattle.function_entries.specs.Faults.{IsRefusedFor};
+ghost use Rattle.function_entry_checks.specs.Faults.{IsRefusedFor};
 ghost use Rattle.function_entries.specs.Interfaces.{AreMeshesKnown};
 ghost use Rattle.function_entries.specs.MeshFaults.{AreSame, IsImpliedFault, IsSaidFault};
 ghost use Rattle.function_entries.specs.MeshFields.{HasFields};
@@ -14,8 +14,8 @@ ghost use Rattle.spec_interface.specs.Members.{topologies_at};
 ghost use Rattle.spec_interface.specs.Meshes.{FieldsOK, HoldsMost, ImpliesMeshInfo, IsCount, IsSaid, GivenByOverride, array_of, most, override_at, override_of, variable_members};
 ghost use Rattle.ir_items.specs.declared.entries.MeshStageInfo.{MeshStageInfo};
 
-use crate::error::EntryPointError;
 use crate::known::KnownMeshes;
+use function_entry_checks::EntryPointError;
 use ir_arena::handle::Handle;
 use ir_faults::refusal::Refusal;
 use ir_faults::with_span::WithSpan;

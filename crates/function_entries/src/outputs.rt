@@ -1,8 +1,8 @@
 //! Whether a mesh shader gives what it may.
 
 ghost use Rattle.std.specs.Prelude.{◌≡◌, ◌<◌, MatchResult, OnOk, length};
+ghost use Rattle.function_entry_checks.specs.Faults.{IsRefusedFor};
 ghost use Rattle.function_entries.specs.Contexts.{AreKnownIn, AreSharedIn, IsKnown, entry_in, module_in};
-ghost use Rattle.function_entries.specs.Faults.{IsRefusedFor};
 ghost use Rattle.function_entries.specs.Interfaces.{AreMeshesKnown};
 ghost use Rattle.function_entries.specs.OutputFaults.{IsMeshFault, IsOwnMeshFault, IsPointFault, IsSpaceFault, IsVertexFault};
 ghost use Rattle.ir_flags.specs.Sets.{Has};
@@ -14,11 +14,11 @@ ghost use Rattle.ir_kinds.specs.declared.spaces.AddressSpace.TheVariants.{WorkGr
 ghost use Rattle.spec_interface.specs.Payloads.{space_at};
 
 use crate::context::EntryContext;
-use crate::error::EntryPointError;
 use crate::known::{KnownInterfaces, KnownMeshes};
 use crate::meshes::check_said;
 use crate::varyings::check_output;
 use bitflags::Flags;
+use function_entry_checks::EntryPointError;
 use function_varyings::KnownTypes;
 use ir_arena::handle::Handle;
 use ir_faults::refusal::Refusal;

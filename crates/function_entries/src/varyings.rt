@@ -1,8 +1,8 @@
 //! What an entry point is given and gives.
 
 ghost use Rattle.std.specs.Prelude.{◌≡◌, ◌⊎◌, ◌↔◌, IsSome, IsTrue, MatchResult, OnOk, false, min};
+ghost use Rattle.function_entry_checks.specs.Faults.{IsRefusedFor};
 ghost use Rattle.function_entries.specs.Contexts.{AreKnownIn, IsKnown, entry_in, module_in, varying_context};
-ghost use Rattle.function_entries.specs.Faults.{IsRefusedFor};
 ghost use Rattle.function_entries.specs.VaryingFaults.{IsAnswerFault, IsArgumentFault, IsGivenFault, IsOutputFault, IsReportedOfArgument, IsReportedOfResult};
 ghost use Rattle.ir_items.specs.View.{module_view};
 ghost use Rattle.ir_kinds.specs.declared.bindings.BuiltIn.TheVariants.{Position};
@@ -12,8 +12,9 @@ ghost use Rattle.spec_interface.specs.Varyings.{HasBlendSources, HasBuiltIn, Var
 ghost use Rattle.function_varyings.specs.Known.{IsShownBy};
 
 use crate::context::{EntryContext, varying_context};
-use crate::error::EntryPointError;
-use function_varyings::{KnownTypes, Shown, VaryingRefusal};
+use function_entry_checks::EntryPointError;
+use function_varying_checks::VaryingRefusal;
+use function_varyings::{KnownTypes, Shown};
 use ir_arena::handle::Handle;
 use ir_faults::refusal::Refusal;
 use ir_faults::with_span::WithSpan;

@@ -1,11 +1,11 @@
 -- An entry point that is accepted or refused, put together of its parts.
 use Rattle.std.proofs.Common.{◌≡◌, ◌↔◌, inl, inr, ◌<◌, ◌||◌, ℕ, List, Bool, IsTrue, false, length, ◌^◌, ◌-◌, refl, sym, ap, subst, ◌∙◌}
+use Rattle.function_entry_checks.specs.Faults.{IsPayloadFault, IsRefusedFor, IsStageFault}
+use Rattle.function_entry_checks.specs.declared.error.EntryPointError.{EntryPointError}
+use Rattle.function_entry_checks.specs.declared.error.EntryPointError.TheVariants.{ForbiddenStageOperations}
 use Rattle.function_entries.proofs.Refuted.{connection_refuted, payload_fault_refutes, stage_fault_refutes}
 use Rattle.function_entries.proofs.Transport.{connection_fault_to, connections_to}
 use Rattle.function_entries.specs.ConnectionFaults.{IsConnectionFault}
-use Rattle.function_entries.specs.Faults.{IsPayloadFault, IsRefusedFor, IsStageFault}
-use Rattle.function_entries.specs.declared.error.EntryPointError.{EntryPointError}
-use Rattle.function_entries.specs.declared.error.EntryPointError.TheVariants.{ForbiddenStageOperations}
 use Rattle.function_validator.specs.EntryFaults.{of_stage, of_function, of_payload, of_runs, of_connections, IsRefusedAs, IsReportedAs, IsUnconnected}
 use Rattle.function_validator.specs.Validated.{AddsOwnUses, IsEntrySummary, ReportsSame}
 use Rattle.typing_errors.specs.declared.error.FunctionError.{FunctionError}

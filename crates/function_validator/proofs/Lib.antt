@@ -1,6 +1,3 @@
-mod Known
-pub mod InterfaceRefuted
-mod Widened
 mod Below
 mod Bases
 mod Marks

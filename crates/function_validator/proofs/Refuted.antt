@@ -7,7 +7,7 @@ use Rattle.typing_errors.specs.declared.error.FunctionError.TheVariants as error
 use Rattle.typing_errors.specs.declared.calls.CallError.{CallError}
 use Rattle.typing_errors.specs.declared.calls.CallError.TheVariants as call_error
 use Rattle.function_interface.specs.Analysis.{Faults}
-use Rattle.function_validator.proofs.InterfaceRefuted.{faults_refute_lem as by_interface}
+use Rattle.function_interface_checks.proofs.InterfaceRefuted.{faults_refute_lem as by_interface}
 use Rattle.ir_flags.specs.Sets.{Has}
 use Rattle.ir_flags.specs.declared.settings.Capabilities.{Capabilities}
 use Rattle.ir_flags.specs.declared.settings.TheConstants.ValidationFlags.{EXPRESSIONS}

@@ -1,9 +1,9 @@
 -- What is wrong with an entry point, over what a lower layer says.
 use Rattle.std.specs.Prelude.{◌≡◌, ℕ, List}
+use Rattle.function_entry_checks.specs.Faults.{IsPayloadFault, IsStageFault}
+use Rattle.function_entry_checks.specs.declared.error.EntryPointError.{EntryPointError}
+use Rattle.function_entry_checks.specs.declared.error.EntryPointError.TheVariants.{ForbiddenStageOperations, Function}
 use Rattle.function_entries.specs.ConnectionFaults.{IsConnectionFault}
-use Rattle.function_entries.specs.Faults.{IsPayloadFault, IsStageFault}
-use Rattle.function_entries.specs.declared.error.EntryPointError.{EntryPointError}
-use Rattle.function_entries.specs.declared.error.EntryPointError.TheVariants.{ForbiddenStageOperations, Function}
 use Rattle.typing_errors.specs.declared.error.FunctionError.{FunctionError}
 use Rattle.function_validator.specs.Faults.{IsFunctionFault}
 use Rattle.function_interface.specs.Analysis.{Faults}

@@ -6,7 +6,7 @@ use Rattle.typing_errors.specs.declared.error.FunctionError.{FunctionError}
 use Rattle.typing_errors.specs.declared.error.FunctionError.TheVariants as error
 use Rattle.function_interface.specs.Analysis.{Faults}
 use Rattle.function_interface.specs.Arities.{IsArityFault}
-use Rattle.function_validator.specs.Interfaces.{IsInterfaceFault}
+use Rattle.function_interface_checks.specs.Interfaces.{IsInterfaceFault}
 use Rattle.ir_blocks.specs.Control.{ControlOK}
 use Rattle.ir_blocks.specs.Places.{Place, OccursAt}
 use Rattle.ir_blocks.specs.Plain.{PlainStatement}

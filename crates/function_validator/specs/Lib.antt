@@ -1,10 +1,3 @@
-pub mod Named
-pub mod Refusals
-pub mod Locals
-pub mod Arguments
-pub mod Results
-pub mod Interfaces
-pub mod Laws
 pub mod Settings
 pub mod Faults
 pub mod Judged

@@ -1,7 +1,7 @@
 //! What connects an entry point with other stages and with hosts, where this is kept of its function.
 
 ghost use Rattle.std.specs.Prelude.{◌≡◌, ◌<◌, ◌↔◌, ◌||◌, IfOk, IfSome, IsTrue, MatchResult, OnOk, false, length};
-ghost use Rattle.function_entries.specs.Faults.{IsRefusedFor};
+ghost use Rattle.function_entry_checks.specs.Faults.{IsRefusedFor};
 ghost use Rattle.function_entries.specs.Interfaces.{AreInterfacesKnown};
 ghost use Rattle.function_validator.specs.EntryFaults.{IsUnconnected};
 ghost use Rattle.function_validator.specs.Validated.{AddsOwnUses, ReportsSame};
@@ -14,7 +14,8 @@ ghost use Rattle.spec_interface.specs.Varyings.{HasBlendSources, result_varyings
 
 use crate::settings::FunctionSettings;
 use crate::uses::{note_own, uses_of};
-use function_entries::{EntryContext, EntryPointError, KnownInterfaces, check_connections_with};
+use function_entries::{EntryContext, KnownInterfaces, check_connections_with};
+use function_entry_checks::EntryPointError;
 use function_interface::Lower;
 use ir_faults::refusal::Refusal;
 use ir_items::{EntryPoint, Module};

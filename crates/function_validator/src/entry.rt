@@ -1,7 +1,7 @@
 //! Whether a module may have an entry point.
 
 ghost use Rattle.std.specs.Prelude.{◌≡◌, ◌<◌, ◌↔◌, IfSome, IsTrue, MatchResult, OnOk, length, map};
-ghost use Rattle.function_entries.specs.Faults.{IsRefusedFor};
+ghost use Rattle.function_entry_checks.specs.Faults.{IsRefusedFor};
 ghost use Rattle.function_entries.specs.Interfaces.{AreInterfacesKnown};
 ghost use Rattle.function_validator.specs.EntryFaults.{IsRefusedAs, IsReportedAs};
 ghost use Rattle.function_validator.specs.Validated.{IsEntryValidated, own_settings};
@@ -22,7 +22,8 @@ use crate::connect::connect;
 use crate::settings::FunctionSettings;
 use crate::validate::{Validated, validate_function_with};
 use bitflags::Flags;
-use function_entries::{EntryPointError, KnownInterfaces, check_payload, check_stage, stage_set};
+use function_entries::KnownInterfaces;
+use function_entry_checks::{EntryPointError, check_payload, check_stage, stage_set};
 use function_interface::Lower;
 use ir_faults::refusal::Refusal;
 use ir_faults::with_span::WithSpan;

@@ -1,6 +1,4 @@
-mod Reported
 mod Places
-mod Located
 pub mod KnownLaws
 pub mod MarkLaws
 mod ArgumentLaws

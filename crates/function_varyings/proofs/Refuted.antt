@@ -26,10 +26,10 @@ use Rattle.spec_interface.specs.declared.varyings.Direction.TheVariants.{Input, 
 use Rattle.spec_interface.specs.declared.varyings.Location.{Location}
 use Rattle.spec_interface.specs.declared.varyings.Varying.{Varying}
 use Rattle.typing_forms.specs.Forms.{form_of_type}
-use Rattle.function_varyings.specs.Faults.{IsAstray, IsBlendFault, IsBuiltIn, IsBuiltInFault, IsLocationFault, IsMemberFault, IsUnboundFault, IsOwnFault, IsRepeated, Lies, Needs, ShowsBefore}
+use Rattle.function_varying_checks.specs.Faults.{IsAstray, IsBlendFault, IsBuiltIn, IsBuiltInFault, IsLocationFault, IsMemberFault, IsUnboundFault, IsOwnFault, IsRepeated, Lies, Needs, ShowsBefore}
+use Rattle.function_varying_checks.specs.declared.error.VaryingError.{VaryingError}
+use Rattle.function_varying_checks.specs.declared.error.VaryingError.TheVariants as error
 use Rattle.function_varyings.specs.Laws.{FaultRefutes}
-use Rattle.function_varyings.specs.declared.error.VaryingError.{VaryingError}
-use Rattle.function_varyings.specs.declared.error.VaryingError.TheVariants as error
 
 -- ---- a built-in value
 

@@ -3,8 +3,8 @@ use Rattle.std.specs.Prelude.{ℕ, List}
 use Rattle.spec_interface.specs.Contexts.{VaryingContext}
 use Rattle.spec_interface.specs.Varyings.{VaryingsOK}
 use Rattle.spec_interface.specs.declared.varyings.Varying.{Varying}
-use Rattle.function_varyings.specs.Faults.{IsVaryingFault}
-use Rattle.function_varyings.specs.declared.error.VaryingError.{VaryingError}
+use Rattle.function_varying_checks.specs.Faults.{IsVaryingFault}
+use Rattle.function_varying_checks.specs.declared.error.VaryingError.{VaryingError}
 
 -- varyings with a fault are not as they should be
 abbrev pub FaultRefutes : Type 0

@@ -9,8 +9,8 @@ use Rattle.spec_interface.specs.Contexts.{VaryingContext}
 use Rattle.spec_interface.specs.Varyings.{BoundOK, ShowsAt, built_in_of, canonical, location_of}
 use Rattle.spec_interface.specs.declared.varyings.Bound.{Bound}
 use Rattle.spec_interface.specs.declared.varyings.Varying.{Varying}
-use Rattle.function_varyings.specs.Faults.{IsBuiltIn, IsOwnFault, IsRepeated, ShowsBefore}
-use Rattle.function_varyings.specs.declared.error.VaryingError.{VaryingError}
+use Rattle.function_varying_checks.specs.Faults.{IsBuiltIn, IsOwnFault, IsRepeated, ShowsBefore}
+use Rattle.function_varying_checks.specs.declared.error.VaryingError.{VaryingError}
 
 -- nothing before shows what the varying at a place shows
 abbrev pub IsNew : {A : Type 0} → (Bound → Option A) → List Varying → (place : ℕ) → Type 0

@@ -6,17 +6,15 @@ ghost use Rattle.ir_flags.specs.declared.settings.ValidationFlags.{ValidationFla
 ghost use Rattle.ir_items.specs.View.{argument_view};
 ghost use Rattle.ir_types.specs.Plain.{PlainType};
 ghost use Rattle.spec_interface.specs.Varyings.{VaryingsOK, argument_varyings, varyings_of};
-ghost use Rattle.function_varyings.specs.Faults.{IsRefusal};
+ghost use Rattle.function_varying_checks.specs.Faults.{IsRefusal};
+ghost use Rattle.function_varying_checks.specs.View.{IsReported, context_view};
 ghost use Rattle.function_varyings.specs.Known.{AreKnown, AreKnownOf, AreNotedIn, IsNewlyGiven, IsNoted, IsShownBy, IsWayOf, digit, direction_number, number_of, stage_number};
 ghost use Rattle.function_varyings.specs.Marks.{KeepsBits, KeepsNumbers};
-ghost use Rattle.function_varyings.specs.View.{IsReported, context_view};
 
-use crate::built_ins::{are_rows, is_ahead};
-use crate::context::VaryingContext;
-use crate::error::VaryingRefusal;
 use crate::marks::Marks;
 use crate::shown::{has_blend_sources, has_built_in};
 use crate::validate::{validate_arguments, validate_value};
+use function_varying_checks::{VaryingContext, VaryingRefusal, are_rows, is_ahead};
 use ir_arena::handle::Handle;
 use ir_items::FunctionArgument;
 use ir_kinds::{Binding, BuiltIn, ShaderStage};

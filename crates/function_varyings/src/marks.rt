@@ -14,8 +14,8 @@ ghost use Rattle.spec_interface.specs.Varyings.{mesh_varyings};
 ghost use Rattle.typing_forms.specs.Resolutions.{types_view};
 ghost use Rattle.function_varyings.specs.Marks.{AreMarksOf, AreNewlyTaken, IsAmong, IsIn, IsNumber, IsPartOf, KeepsBits, KeepsNumbers, KeepsWords, Takes, TakesAt, built_in_number};
 
-use crate::spread::add_value;
 use bitflags::Flags;
+use function_varying_checks::add_value;
 use ir_arena::handle::Handle;
 use ir_flags::ValidationFlags;
 use ir_kinds::BuiltIn;

@@ -3,7 +3,7 @@
 ghost use Rattle.std.specs.Prelude.{◌≡◌, ◌↔◌, ◌≤◌, IsTrue, Some, length};
 ghost use Rattle.spec_interface.specs.Varyings.{HasBlendSources, HasBuiltIn, built_in_of, canonical, location_of};
 ghost use Rattle.spec_interface.specs.declared.varyings.Bound.TheVariants.{BlendSources};
-ghost use Rattle.function_varyings.specs.Faults.{ShowsBefore};
+ghost use Rattle.function_varying_checks.specs.Faults.{ShowsBefore};
 
 use ir_kinds::BuiltIn;
 use spec_interface::{Bound, Varying, are_same};

@@ -8,17 +8,16 @@ ghost use Rattle.spec_interface.specs.Locations.{LocationOK};
 ghost use Rattle.spec_interface.specs.Varyings.{BoundOK, VaryingsOK, argument_varyings, built_in_of, location_of, varyings_of};
 ghost use Rattle.spec_interface.specs.declared.varyings.Bound.TheVariants.{BlendSources};
 ghost use Rattle.spec_interface.specs.declared.varyings.Direction.TheVariants.{Output};
-ghost use Rattle.function_varyings.specs.Faults.{IsBlendFault, IsLocationFault, IsMemberFault, IsOwnFault, IsRefusal, IsUnboundFault};
+ghost use Rattle.function_varying_checks.specs.Faults.{IsBlendFault, IsLocationFault, IsMemberFault, IsOwnFault, IsRefusal, IsUnboundFault};
+ghost use Rattle.function_varying_checks.specs.View.{IsReported, context_view};
 ghost use Rattle.function_varyings.specs.Places.{AreNoted, IsBuiltInAgain, IsFaultAt, IsFine, IsNew, IsTakenAgain};
-ghost use Rattle.function_varyings.specs.View.{IsReported, context_view};
 
-use crate::built_ins::built_in_fault;
-use crate::context::VaryingContext;
-use crate::error::{VaryingError, VaryingRefusal};
-use crate::locations::{check_location, is_fragment};
 use crate::shown::{location_of, shows_before};
-use crate::spread::{add_value, argument_varyings};
 use bitflags::Flags;
+use function_varying_checks::{
+    VaryingContext, VaryingError, VaryingRefusal, add_value, argument_varyings, built_in_fault,
+    check_location, is_fragment,
+};
 use ir_arena::handle::Handle;
 use ir_flags::ValidationFlags;
 use ir_items::FunctionArgument;

@@ -1,7 +1,7 @@
 -- What is read of entry points with summaries of the functions is read by chains of calls.
 use Rattle.std.proofs.Common.{◌≡◌, ℕ, Bool, List, length, Option, Some, sym, subst, ◌∙◌, slice_get}
 use Rattle.std.proofs.lemmas.Option.{slice_get_within}
-use Rattle.function_entries.specs.declared.error.EntryPointError.{EntryPointError}
+use Rattle.function_entry_checks.specs.declared.error.EntryPointError.{EntryPointError}
 use Rattle.function_interface.specs.Question.{question}
 use Rattle.function_validator.specs.Validated.{IsEntryNoted}
 use Rattle.shader_check.proofs.ByChains.{ok_by_chains, ok_by_summaries}

@@ -3,8 +3,8 @@ use Rattle.std.proofs.Common.{◌≡◌, inl, inr, ℕ, Bool, ◌+◌, ◌<◌, 
 use Rattle.std.proofs.lemmas.List.Elements.{Contains-append_left, Contains-append_right}
 use Rattle.std.proofs.lemmas.Option.{slice_get_cases}
 use Rattle.std.specs.Prelude.{Contains, IfSome, None, option_to_list}
-use Rattle.function_entries.specs.Faults.{IsRefusedFor}
-use Rattle.function_entries.specs.declared.error.EntryPointError.{EntryPointError}
+use Rattle.function_entry_checks.specs.Faults.{IsRefusedFor}
+use Rattle.function_entry_checks.specs.declared.error.EntryPointError.{EntryPointError}
 use Rattle.function_validator.specs.EntryFaults.{IsRefusedAs}
 use Rattle.function_validator.specs.Validated.{IsEntryNoted, IsEntrySummary, IsEntryValidated}
 use Rattle.function_interface.specs.Analysis.{Faults}

@@ -1,7 +1,7 @@
 -- What is said of the entry points of a module that are judged one after the other.
 use Rattle.std.specs.Prelude.{◌≡◌, ◌<◌, ℕ, [], Bool, List, length, Option, Some, slice_get}
-use Rattle.function_entries.specs.declared.error.EntryPointError.{EntryPointError}
-use Rattle.function_entries.specs.declared.error.EntryPointError.TheVariants.{Conflict}
+use Rattle.function_entry_checks.specs.declared.error.EntryPointError.{EntryPointError}
+use Rattle.function_entry_checks.specs.declared.error.EntryPointError.TheVariants.{Conflict}
 use Rattle.function_interface.specs.Analysis.{Faults}
 use Rattle.function_interface.specs.Question.{Question, question}
 use Rattle.function_validator.specs.EntryFaults.{IsRefusedAs}

@@ -15,7 +15,8 @@ ghost use Rattle.function_statement_checks.specs.Descriptors.{AreDescriptors};
 
 use crate::functions::Judged;
 use crate::validator::Validator;
-use function_entries::{EntryPointError, KnownInterfaces};
+use function_entries::KnownInterfaces;
+use function_entry_checks::EntryPointError;
 use function_interface::Lower;
 use function_validator::{FunctionSettings, SeenNames, Validated, validate_entry_point_with};
 use ir_arena::handle::Handle;

@@ -1,7 +1,7 @@
 //! A validator of functions, over any layer beneath them.
 
 ghost use Rattle.std.specs.Prelude.{◌≡◌, ◌<◌, ◌↔◌, ℕ, IfErr, IfOk, IfSome, MatchResult, None, OnErr, OnOk, false, length, map};
-ghost use Rattle.function_entries.specs.Faults.{IsRefusedFor as IsRefusalFor};
+ghost use Rattle.function_entry_checks.specs.Faults.{IsRefusedFor as IsRefusalFor};
 ghost use Rattle.function_validator.specs.EntryFaults.{IsRefusedAs};
 ghost use Rattle.function_validator.specs.Globals.{IsRefusedFor as IsVariableRefused, IsVariableOf};
 ghost use Rattle.function_validator.specs.Validated.{IsEntryValidated};
@@ -28,7 +28,7 @@ ghost use Rattle.spec_statements.specs.Payloads.{IsPayloadAfter};
 
 use crate::functions::{InvalidFunction, judge_all};
 use bitflags::Flags;
-use function_entries::EntryPointError;
+use function_entry_checks::EntryPointError;
 use function_interface::Lower;
 use function_statement_checks::descriptors_of;
 use function_validator::{

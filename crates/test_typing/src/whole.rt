@@ -2,7 +2,7 @@
 use crate::checks::error_told;
 use crate::refusals::refusal_reported;
 use document_reader::Document;
-use function_entries::EntryPointError;
+use function_entry_checks::EntryPointError;
 use shader_check::{
     Examined, Finding, InvalidEntryPoint, Named, ValidationError, examine_document, refused_by,
 };

@@ -1,7 +1,7 @@
 use Rattle.std.proofs.Common.{◌≡◌, ◌∙◌, length, sym, ap, subst}
 use Rattle.std.proofs.lemmas.List.{length-map}
+use Rattle.function_entry_checks.specs.Faults.{IsRefusedFor}
 use Rattle.function_entries.specs.ConnectionFaults.{IsConnectionFault}
-use Rattle.function_entries.specs.Faults.{IsRefusedFor}
 use Rattle.function_validator.proofs.EntryWhole.{refused_as, unconnected}
 use Rattle.function_validator.specs.EntryFaults.{IsUnconnected}
 use Rattle.ir_arena.specs.Arenas.{value_of_entry}

@@ -2,9 +2,9 @@ use Rattle.std.proofs.Common.{◌≡◌, ℕ, cond, true, subst}
 use Rattle.std.specs.BTreeSet.{contains}
 use Rattle.std.specs.Ordering.{is_eq}
 use Rattle.spec_interface.specs.Varyings.{VaryingsOK}
+use Rattle.function_varying_checks.specs.View.{context_view}
 use Rattle.function_varyings.proofs.KnownLaws.{noted_still, one_noted}
 use Rattle.function_varyings.specs.Known.{IsShownBy, number_of, pair_cmp}
-use Rattle.function_varyings.specs.View.{context_view}
 use Rattle.function_varyings.proofs.known.note.Goals as goal
 
 pub returns-in-Ok-clause-known : goal.returns-in-Ok-clause-known

@@ -1,9 +1,9 @@
 use Rattle.std.proofs.Common.{◌+◌, arith}
 use Rattle.ir_flags.specs.Sets.{Has}
 use Rattle.ir_flags.specs.declared.settings.TheConstants.ValidationFlags.{BINDINGS}
+use Rattle.function_varying_checks.specs.View.{context_view}
 use Rattle.function_varyings.proofs.Places.{all_fine, of_none, one_more}
 use Rattle.function_varyings.specs.Places.{AreNoted, IsFaultAt, IsFine}
-use Rattle.function_varyings.specs.View.{context_view}
 use Rattle.function_varyings.proofs.validate.check_varyings.Goals as goal
 
 pub loop-place-preserved : goal.loop-place-preserved

@@ -2,8 +2,8 @@
 use Rattle.std.proofs.Common.{ℕ, ◌<◌}
 use Rattle.ir_flags.specs.Sets.{Has}
 use Rattle.ir_flags.specs.declared.settings.TheConstants.ValidationFlags.{BINDINGS}
+use Rattle.function_varying_checks.specs.View.{context_view}
 use Rattle.function_varyings.specs.Places.{AreNoted, IsFine}
-use Rattle.function_varyings.specs.View.{context_view}
 use Rattle.function_varyings.proofs.validate.check_varyings.Given as goal
 
 abbrev pub invariant-loop-place : goal.invariant-loop-place

@@ -3,9 +3,9 @@ use Rattle.std.proofs.lemmas.List.{map-append, take_more}
 use Rattle.ir_items.specs.View.{argument_view}
 use Rattle.ir_items.specs.declared.functions.FunctionArgument.{FunctionArgument}
 use Rattle.spec_interface.specs.Varyings.{VaryingsOK, argument_varyings}
+use Rattle.function_varying_checks.specs.View.{context_view}
 use Rattle.function_varyings.proofs.ArgumentLaws.{fine_more, taken_more}
 use Rattle.function_varyings.specs.Marks.{AreTaken}
-use Rattle.function_varyings.specs.View.{context_view}
 use Rattle.function_varyings.proofs.known.KnownTypes.are_apart.Goals as goal
 
 pub loop-index-preserved : goal.loop-index-preserved

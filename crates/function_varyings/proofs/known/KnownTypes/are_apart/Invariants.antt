@@ -2,9 +2,9 @@
 use Rattle.std.proofs.Common.{map, take}
 use Rattle.ir_items.specs.View.{argument_view}
 use Rattle.spec_interface.specs.Varyings.{VaryingsOK, argument_varyings}
+use Rattle.function_varying_checks.specs.View.{context_view}
 use Rattle.function_varyings.specs.Known.{AreKnown}
 use Rattle.function_varyings.specs.Marks.{AreTaken}
-use Rattle.function_varyings.specs.View.{context_view}
 use Rattle.function_varyings.proofs.known.KnownTypes.are_apart.Given as goal
 
 abbrev pub invariant-loop-index : goal.invariant-loop-index

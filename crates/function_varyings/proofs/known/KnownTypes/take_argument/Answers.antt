@@ -1,8 +1,8 @@
 use Rattle.std.proofs.Common.{IsTrue, Option, sym, subst}
 use Rattle.std.specs.Prelude.{IfOk}
 use Rattle.ir_kinds.specs.declared.bindings.Binding.{Binding}
+use Rattle.function_varying_checks.specs.View.{context_view}
 use Rattle.function_varyings.specs.Known.{IsNewlyGiven}
-use Rattle.function_varyings.specs.View.{context_view}
 use Rattle.function_varyings.proofs.known.KnownTypes.take_argument.Goals as goal
 
 pub returns-in-None-clause-free : goal.returns-in-None-clause-free

@@ -1,5 +1,5 @@
 use Rattle.std.proofs.Common.{refl}
-use Rattle.function_varyings.specs.View.{context_view}
+use Rattle.function_varying_checks.specs.View.{context_view}
 use Rattle.function_varyings.proofs.known.KnownTypes.validate.Goals as goal
 
 pub returns-in-Some-clause-fine : goal.returns-in-Some-clause-fine

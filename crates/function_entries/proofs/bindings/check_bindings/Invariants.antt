@@ -1,9 +1,0 @@
-use Rattle.function_entries.proofs.UsedLaws.{AreSeenBelow}
-use Rattle.function_entries.specs.Bindings.{IsSeen}
-use Rattle.ir_items.specs.View.{module_view}
-use Rattle.spec_analysis.specs.Summaries.{HasUseBit}
-use Rattle.function_entries.proofs.bindings.check_bindings.Given as goal
-
--- the bindings of those before this one are seen, and no two of them are the same
-abbrev pub invariant-loop-index : goal.invariant-loop-index
-invariant-loop-index l = AreSeenBelow (module_view l.«module») (HasUseBit l.uses) l.index (IsSeen l.seen)

@@ -1,0 +1,3 @@
+mod Bits
+pub mod UsedLaws
+mod SeenLaws

@@ -1,0 +1,8 @@
+use Rattle.function_entry_checks.proofs.UsedLaws.{EachBelow}
+use Rattle.ir_items.specs.View.{entry_view, module_view}
+use Rattle.spec_analysis.specs.Summaries.{HasUseBit}
+use Rattle.function_entry_checks.proofs.variables.check_each.Given as goal
+
+-- those before this one are used as they may be
+abbrev pub invariant-loop-index : goal.invariant-loop-index
+invariant-loop-index l = EachBelow (module_view l.«module») (entry_view l.entry) (HasUseBit l.uses) l.index

@@ -1,0 +1,8 @@
+use Rattle.function_entry_checks.proofs.UsedLaws.{IsFoundBelow}
+use Rattle.ir_items.specs.View.{module_view}
+use Rattle.spec_analysis.specs.Summaries.{HasUseBit}
+use Rattle.function_entry_checks.proofs.variables.check_immediates.Given as goal
+
+-- the immediate is found that is used before this one, if one is
+abbrev pub invariant-loop-index : goal.invariant-loop-index
+invariant-loop-index l = IsFoundBelow (module_view l.«module») (HasUseBit l.uses) l.index l.found

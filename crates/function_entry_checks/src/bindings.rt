@@ -1,0 +1,83 @@
+//! The bindings of the global variables that an entry point uses.
+
+ghost use Rattle.std.specs.Prelude.{◌≡◌, ◌⊎◌, ◌<◌, ◌↔◌, IfOk, IsTrue, MatchOption, MatchResult, OnOk, Some, length};
+ghost use Rattle.function_entry_checks.specs.Bindings.{IsSeen};
+ghost use Rattle.function_entry_checks.specs.Faults.{IsBindingFault, IsRefusedFor};
+ghost use Rattle.ir_items.specs.View.{module_view};
+ghost use Rattle.ir_kinds.specs.declared.bindings.ResourceBinding.{ResourceBinding};
+ghost use Rattle.spec_analysis.specs.Summaries.{HasUseBit};
+ghost use Rattle.spec_interface.specs.Payloads.{binding_at};
+ghost use Rattle.spec_interface.specs.Variables.{BindingsApart, IsUsed};
+
+use crate::error::EntryPointError;
+use ir_arena::handle::Handle;
+use ir_faults::refusal::Refusal;
+use ir_faults::with_span::WithSpan;
+use ir_items::Module;
+use ir_kinds::ResourceBinding;
+use ir_types::key;
+use spec_analysis::GlobalUse;
+use spec_interface::{binding_at, use_at};
+use std::alloc::{AllocError, Global};
+use std::collections::BTreeSet;
+
+// What a host binds a variable to, where it is used and bound.
+fn used_binding(
+    module: &Module,
+    uses: &[GlobalUse],
+    global: Handle<key::GlobalVariable>,
+) -> Option<ResourceBinding>
+    requires many { length uses.now ≡ length (module_view «module».now).globals }
+    requires within { global < length uses.now }
+    ensures { MatchOption result
+        (IsUsed (HasUseBit uses.now) global → (b : ResourceBinding) → binding_at (module_view «module».now) global ≡ Some b → ⊥)
+        (λ b. IsUsed (HasUseBit uses.now) global × (binding_at (module_view «module».now) global ≡ Some b)) }
+{
+    if use_at(uses, global).0 == 0 {
+        return None;
+    }
+    binding_at(module, global)
+}
+
+// Notes a binding, and whether it is new.
+fn note_binding(
+    seen: &mut BTreeSet<(u32, u32)>,
+    binding: ResourceBinding,
+) -> Result<bool, AllocError>
+    ensures fresh { IfOk result (λ fresh. IsTrue fresh ↔ (IsSeen seen.old binding → ⊥)) }
+    ensures noted { OnOk result ((b : ResourceBinding) → IsSeen seen.new b ↔ (IsSeen seen.old b ⊎ (b ≡ binding))) }
+{
+    match seen.insert((binding.group, binding.binding)) {
+        Ok(fresh) => Ok(fresh),
+        Err(_) => Err(AllocError),
+    }
+}
+
+/// Whether no two variables that an entry point uses have the same binding.
+pub(crate) fn check_bindings(
+    alloc: Global,
+    module: &Module,
+    uses: &[GlobalUse],
+) -> Result<(), Refusal<EntryPointError>>
+    requires { length uses.now ≡ length (module_view «module».now).globals }
+    ensures { MatchResult result
+        (λ _. BindingsApart (module_view «module».now) (HasUseBit uses.now))
+        (IsRefusedFor (IsBindingFault (module_view «module».now) (HasUseBit uses.now))) }
+{
+    let mut seen = BTreeSet::new(alloc);
+    for index in 0..module.global_variables.len() {
+        let global = Handle::at(index);
+        match used_binding(module, uses, global) {
+            None => {}
+            Some(binding) => match note_binding(&mut seen, binding) {
+                Ok(true) => {}
+                Ok(false) => {
+                    let error = EntryPointError::BindingCollision(global);
+                    return Err(Refusal::Fault(WithSpan::new(alloc, error)));
+                }
+                Err(error) => return Err(Refusal::Memory(error)),
+            },
+        }
+    }
+    Ok(())
+}

@@ -1,0 +1,3 @@
+mod Known
+pub mod InterfaceRefuted
+mod Widened

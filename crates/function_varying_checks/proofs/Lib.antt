@@ -1,0 +1,2 @@
+mod Reported
+mod Located

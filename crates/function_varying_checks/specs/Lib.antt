@@ -1,0 +1,4 @@
+pub mod View
+pub mod Faults
+pub mod Rows
+pub mod Steps

@@ -1,0 +1,22 @@
+-- What the rules look at, as plain data.
+use Rattle.std.specs.Prelude.{◌≡◌, length}
+use Rattle.spec_interface.specs.Contexts.{VaryingContext as PlainContext}
+use Rattle.module_type_checks.specs.Known.{AreInfos}
+use Rattle.typing_forms.specs.Resolutions.{types_view}
+use Rattle.function_varying_checks.specs.declared.context.VaryingContext.{VaryingContext}
+
+abbrev pub context_view : VaryingContext → PlainContext
+context_view c = record {
+  flags = c.flags;
+  capabilities = c.capabilities;
+  types = types_view c.types.now;
+  stage = c.stage;
+  sizes = c.workgroup_size;
+  payload = c.task_payload;
+  direction = c.direction;
+}
+
+-- what is told of the module's types is so, and told of all
+pub record IsReported (c : VaryingContext) : Type 0 where
+  pub told : AreInfos (types_view c.types.now) c.infos.now
+  pub many : length c.infos.now ≡ length (types_view c.types.now)
