@@ -12,12 +12,12 @@ mod leaf_buffers;
 mod leaf_lines;
 mod leaves;
 mod lines;
+mod listing;
 mod pairs;
 mod paths;
-mod report;
 mod whole;
 
 pub use leaf_buffers::buffer_leaves;
 pub use leaves::Leaf;
-pub use report::leaf_report;
+pub use listing::leaf_report;
 pub use whole::report;

@@ -8,7 +8,7 @@ use Rattle.check_report.specs.Lines.{described, leaf_report}
 use Rattle.spec_handles.specs.Modules.{variable, variable_type}
 use Rattle.spec_handles.specs.References.{item}
 use Rattle.spec_handles.specs.declared.target.Target.TheVariants as target
-use Rattle.check_report.proofs.report.leaf_report.Goals as goal
+use Rattle.check_report.proofs.listing.leaf_report.Goals as goal
 
 pub write_variable-requires-clause-typed : goal.write_variable-requires-clause-typed
 write_variable-requires-clause-typed c =

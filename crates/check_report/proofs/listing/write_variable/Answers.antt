@@ -10,7 +10,7 @@ use Rattle.check_report.specs.Paths.{parts_at, path_along}
 use Rattle.spec_buffers.proofs.Buffers.{types_go_back}
 use Rattle.spec_buffers.specs.Leaves.{leaves}
 use Rattle.typing_layout.specs.View.{tree_along}
-use Rattle.check_report.proofs.report.write_variable.Goals as goal
+use Rattle.check_report.proofs.listing.write_variable.Goals as goal
 
 pub layout-layout-requires : goal.layout-layout-requires
 layout-layout-requires c =
