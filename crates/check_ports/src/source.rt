@@ -79,7 +79,7 @@ impl<R: ReadCall> Source<R> {
     /// One call of the reader: how many bytes it put at the start of `buf`, or its own error, which sets the mark.
     ///
     /// No bytes are given at the end of the input, or where `buf` is empty.
-    // Never inlined: LLVM is known to lose a test of the count for 0, as `take_all` makes it, where it stands in one
+    // Never inlined: LLVM is known to lose a test of the count for 0, as `take_all` makes it, where it occurs in one
     // function with the call. The end of the input would then not be seen, and the reader be called MAX_CALLS times.
     #[inline(never)]
     pub fn read(&mut self, buf: &mut [u8]) -> io::Result<usize>

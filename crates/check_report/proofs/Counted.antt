@@ -1,4 +1,4 @@
--- The type whose layout is told.
+-- The type whose layout is reported.
 use Rattle.std.proofs.Common.{◌≡◌, ◌<◌, ℕ, List, [], true, Option, Some, None, unwrap_or, option_map, map, length, slice_get, refl, sym, ap, subst, ◌∙◌, arith}
 use Rattle.std.specs.Prelude.{if◌then◌else◌}
 use Rattle.std.proofs.lemmas.List.Elements.{All-head}

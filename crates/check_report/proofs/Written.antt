@@ -25,7 +25,7 @@ each_next told first [] place x at = let h = at in absurd (cc)
 each_next told first (y ∷ ys) zero x at = let is : y ≡ x = (let h = at in cc) in ap (λ z. told first z ++ each_from told (suc first) ys) is
 each_next told first (y ∷ ys) (suc place) x at = each_next told first ys place x at
 
--- what is told of one more is written
+-- what is reported of one more is written
 pub each_more : {X : Type 0} (told : ℕ → X → List ℕ) (xs : List X) (number : ℕ) (x : X) (middle after whole : List ℕ) → slice_get xs number ≡ Some x
     → middle ++ each_from told number (drop number xs) ≡ whole → after ≡ middle ++ told number x → after ++ each_from told (number + 1) (drop (number + 1) xs) ≡ whole
 each_more told xs number x middle after whole at is written =
@@ -47,7 +47,7 @@ global_is : {x y : ℕ} → Global x ≡ Global y → x ≡ y
 global_is e = cc (e)
 
 module _ (image sampler : ℕ) where
-  -- the two numbers are told exactly of the two global variables
+  -- the two numbers are reported exactly of the two global variables
   next_numbered : (a b : GlobalOrArgument) (rest : List (ℕ × ℕ)) (pairs : List SamplingPair) → IsAmong (image, sampler) rest ↔ IsAmong (Global image, Global sampler) pairs
       → IsAmong (image, sampler) (cons_option (numbers_in a b) rest) ↔ IsAmong (Global image, Global sampler) ((a, b) ∷ pairs)
   next_numbered (Global x) (Global y) rest pairs r = (

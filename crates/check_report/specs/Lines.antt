@@ -28,7 +28,7 @@ leaf_lines text start (l ∷ ls) = leaf_line (text l.path) (start + l.first) l.l
 abbrev pub leaves_of : List PlainType → PlainGlobal → List ℕ
 leaves_of types v = leaf_lines (path_along types [] (parts_at types (counted types v.ty))) 0 (leaves 1 (buffer_type types v))
 
--- of a global variable, where it is a buffer: its line of the report, and behind it those of its leaves
+-- of a global variable, where it is a buffer: its line of the report, and after it those of its leaves
 abbrev pub described : List PlainType → (number : ℕ) → PlainGlobal → List ℕ
 described types number v =
     if is_buffer v.space then buffer_line number (size (buffer_type types v)) (alignment (buffer_type types v)) ++ leaves_of types v else []

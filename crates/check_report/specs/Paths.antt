@@ -25,12 +25,12 @@ abbrev pub member_word : (name : Option (List ℕ)) → (number : ℕ) → List 
 member_word None number = decimal number
 member_word (Some name) number = if is_word name then name else decimal number
 
--- a dot behind what comes before, if anything does
+-- a dot after what comes before, if anything does
 abbrev pub dot_after : (before : List ℕ) → List ℕ
 dot_after [] = []
 dot_after (b ∷ bs) = codes "."
 
--- a path with a step to a member behind it, and with a step to an element
+-- a path with a step to a member after it, and with a step to an element
 abbrev pub to_member : (before : List ℕ) → (name : Option (List ℕ)) → (number : ℕ) → List ℕ
 to_member before name number = before ++ dot_after before ++ member_word name number
 
@@ -66,7 +66,7 @@ abbrev pub parts_of_found : List PlainType → Option PlainMember → Parts
 parts_of_found types (Some m) = parts_at types m.ty
 parts_of_found types None = alone
 
--- the path of these numbers of members and elements, behind a path to what has these parts
+-- the path of these numbers of members and elements, after a path to what has these parts
 abbrev pub path_along : List PlainType → (before : List ℕ) → Parts → (path : List ℕ) → List ℕ
 path_along types before parts [] = before
 path_along types before (named ms) (k ∷ ks) = path_along types (to_found before (slice_get ms k) k) (parts_of_found types (slice_get ms k)) ks

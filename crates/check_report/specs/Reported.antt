@@ -47,7 +47,7 @@ pub record IsReported (m : PlainModule) (info : ModuleInfo) : Type 0 where
 
 -- ---- what is written
 
--- lines of which this holds are written behind a text
+-- lines of which this holds are written after a text
 pub record Tells (P : List ℕ → Type 0) (before after : List ℕ) : Type 0 where
   pub lines : List ℕ
   pub behind : after ≡ before ++ lines

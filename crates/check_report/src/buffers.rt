@@ -43,7 +43,7 @@ fn array_base(inner: &TypeInner) -> Option<Handle<key::IrType>>
     }
 }
 
-// The type whose layout is told: of a binding array that of its elements.
+// The type whose layout is reported: of a binding array that of its elements.
 fn counted(module: &Module, ty: Handle<key::IrType>) -> Handle<key::IrType>
     requires { ty < length (module_view «module».now).types }
     ensures { result ≡ counted (module_view «module».now).types ty }

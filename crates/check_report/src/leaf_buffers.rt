@@ -32,7 +32,7 @@ pub(crate) fn counted(
 /// as they follow one another, all inside one before those of the next. Of a binding array they are those of one element; an array
 /// whose length an override or the buffer gives counts as one element.
 ///
-/// `handles` asks that the handles of the module are in order, `laid` that each of its types has a layout, and `there` that the
+/// `handles` requires that the handles of the module are in order, `laid` that each of its types has a layout, and `there` that the
 /// variable is one of the module's. The steps of the check up to its types accept no module without the first two. No sum of
 /// offsets wraps, whatever sizes the types have.
 ///

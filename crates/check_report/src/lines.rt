@@ -1,4 +1,4 @@
-//! Lines that are written behind a text.
+//! Lines that are written after a text.
 
 ghost use Rattle.std.specs.Prelude.{◌≡◌, ◌++◌, OnOk, string_bytes, codes, decimal};
 ghost use Rattle.judgement.specs.Lines.{buffer_line, head_line, own_line, has, is_used, word_if, use_words, pair_line};
@@ -45,7 +45,7 @@ pub(crate) fn write_own(
     }
 }
 
-// A word behind others, where it holds.
+// A word after others, where it holds.
 fn write_word(text: &mut String, holds: bool, word: &str) -> Result<(), AllocError>
     ensures { OnOk result (string_bytes text.new ≡ string_bytes text.old ++ word_if holds word.now) }
 {

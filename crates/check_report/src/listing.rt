@@ -69,10 +69,10 @@ fn write_variable(
     write_along(alloc, &module.types, module.types.len(), ty, "", 0, text)
 }
 
-/// The lines of the storage and uniform buffers of a module, in order: of each the line that the report has, and behind it a line
+/// The lines of the storage and uniform buffers of a module, in order: of each the line that the report has, and after it a line
 /// for each of its leaves, with its path, its first byte, its length and its alignment.
 ///
-/// `handles` asks that the handles of the module are in order, `laid` that each of its types has a layout, and `layouts` that what
+/// `handles` requires that the handles of the module are in order, `laid` that each of its types has a layout, and `layouts` that what
 /// is kept of the module has these layouts.
 ///
 /// # Errors

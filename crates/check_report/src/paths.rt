@@ -35,7 +35,7 @@ fn is_word(name: &str) -> bool
     }
 }
 
-// A dot behind what comes before, if anything does.
+// A dot after what comes before, if anything does.
 fn dot_after(before: &str) -> &'static str
     ensures { result.now ≡ dot_after before.now }
 {
@@ -58,7 +58,7 @@ fn write_word(path: &mut String, name: &Option<String>, number: usize) -> Result
     }
 }
 
-/// A path with a step behind it to the member with this name, where it has one, and this number.
+/// A path with a step after it to the member with this name, where it has one, and this number.
 pub(crate) fn to_member(
     alloc: Global,
     before: &str,
@@ -73,7 +73,7 @@ pub(crate) fn to_member(
     Ok(path)
 }
 
-/// A path with a step behind it to the element with this number.
+/// A path with a step after it to the element with this number.
 pub(crate) fn to_element(alloc: Global, before: &str, number: u32) -> Result<String, AllocError>
     ensures { IfOk result (λ path. string_bytes path ≡ to_element before.now number) }
 {

@@ -106,7 +106,7 @@ literal_complete (literal.AbstractFloat v) = kind_complete literal_kinds literal
 abbrev pub a_literal : RowOf Literal
 a_literal = row_by_kind literal_kinds literal_with ALiteral literal_sound literal_complete
 
--- ---- levels of detail, and what is asked of an image
+-- ---- levels of detail, and what is required of an image
 
 unfoldable pub level_with : LevelKind → Items → Option SampleLevel
 level_with level_kind.Auto ds = option_map (λ t. level.Auto) (ends.find ds)
@@ -182,7 +182,7 @@ a_query = by_kind query_kinds query_with AQuery query_sound query_complete
 abbrev pub letter_in : ℕ → Option SwizzleComponent
 letter_in n = if n == 120 then Some X else (if n == 121 then Some Y else (if n == 122 then Some Z else (if n == 119 then Some W else None)))
 
--- the first letter, with the text behind it
+-- the first letter, with the text after it
 abbrev pub next_letter : List ℕ → Option (SwizzleComponent × List ℕ)
 next_letter [] = None
 next_letter (n ∷ ns) = option_map (λ c. (c, ns)) (letter_in n)

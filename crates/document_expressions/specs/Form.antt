@@ -1,4 +1,4 @@
--- How expressions are written: each kind by its word and the parts behind it.
+-- How expressions are written: each kind by its word and the parts after it.
 use Rattle.std.specs.Prelude.{◌≡◌, ℕ, List, map, length, codes}
 use Rattle.serde_json.specs.Data.{Data, string, Items}
 use Rattle.ir_kinds.specs.declared.values.Literal.{Literal}
@@ -30,7 +30,7 @@ ALiteral (literal.F64 v) = AText (codes "f64") ▸ AU64 v ▸ Ends
 ALiteral (literal.AbstractInt v) = AText (codes "aint") ▸ AI64 v ▸ Ends
 ALiteral (literal.AbstractFloat v) = AText (codes "afloat") ▸ AU64 v ▸ Ends
 
--- ---- levels of detail, and what is asked of an image
+-- ---- levels of detail, and what is required of an image
 
 abbrev pub ALevel : SampleLevel → Data → Type 0
 ALevel level.Auto = Tagged (codes "Auto") Ends

@@ -48,7 +48,7 @@ impl Form for LevelForm {
     }
 }
 
-/// How it is written what is asked of an image.
+/// How it is written what is required of an image.
 pub struct QueryForm;
 
 impl Form for QueryForm {

@@ -20,7 +20,7 @@ pub list_answers : {T A C : Type 0} (view : T → A) (items : C → List A) (o :
 list_answers view items o (Ok c) found refused = found
 list_answers view items o (Err e) found refused = λ n. none_found view o (refused n)
 
--- behind what was taken comes an item that is found, and refused
+-- after what was taken comes an item that is found, and refused
 pub refused_here : {T A : Type 0} (refuses : List T → T → Type 0) (view : T → A) (f : Data → Option A) (taken : List T) (x : T) (d : Data) (ds : Items) (o : Option (List A))
     → Some (view x) ≡ f d → option_map (λ xs. map view taken ++ xs) (each f (item d ds)) ≡ o → refuses taken x → NoneTaken refuses view o
 refused_here {T} {A} refuses view f taken x d ds o here all stays = rest (each f ds) (rw (sym here) at all)

@@ -74,7 +74,7 @@ each f (item d ds) = do
 abbrev pub all_of : {A : Type 0} → (Data → Option A) → Data → Option (List A)
 all_of f d = as_array d >>= each f
 
--- x with what the words stand for joined to it
+-- x with what the words denote joined to it
 abbrev pub joins : {A : Type 0} → List (List ℕ × A) → (A → A → A) → A → Items → Option A
 joins table union x no_items = Some x
 joins table union x (item d ds) = do
@@ -95,7 +95,7 @@ abbrev pub end : Items → Option (Unit {0})
 end no_items = Some tt
 end (item d ds) = None
 
--- the first part, and what is found behind it
+-- the first part, and what is found after it
 abbrev pub behind : {A B : Type 0} → (Data → Option A) → (Items → Option B) → Items → Option (A × B)
 behind f g ds = do
   t ← first ds
@@ -107,14 +107,14 @@ behind f g ds = do
 abbrev pub array_of : {A : Type 0} → (Items → Option A) → Data → Option A
 array_of f d = as_array d >>= f
 
--- what the word that comes first stands for, and what comes behind it
+-- what the word that comes first denotes, and what comes after it
 abbrev pub tag_of : {K : Type 0} → List (List ℕ × K) → Items → Option (K × Items)
 tag_of table ds = do
   t ← first ds
   k ← word_in table t.0
   Some (k, t.1)
 
--- the parts behind the word that comes first, by the kind that the word stands for
+-- the parts after the word that comes first, by the kind that the word denotes
 abbrev pub of_kind : {A K : Type 0} → List (List ℕ × K) → (K → Items → Option A) → Items → Option A
 of_kind table f ds = do
   t ← tag_of table ds

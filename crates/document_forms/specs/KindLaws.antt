@@ -1,4 +1,4 @@
--- What is found behind a word is what its form says.
+-- What is found after a word is what its form says.
 use Rattle.std.specs.Prelude.{◌≡◌, ◌≤◌, ℕ, List, [], ◌∷◌, Option, Some, option_map}
 use Rattle.std.proofs.Common.{inl, inr, arith, sym, ap, subst, ◌∙◌}
 use Rattle.std.specs.List.{AllByRecursion}
@@ -76,7 +76,7 @@ module _ {A K : Type 0} (table : List (List ℕ × K)) (f : K → Items → Opti
       → IsExact (tagged_of table f) R
   tagged_exact R right there = record { sound = tagged_sound R right; complete = λ d x h le. there x d h le }
 
--- what holds of each entry of a table holds of what a word stands for
+-- what holds of each entry of a table holds of what a word denotes
 pub lookup_keeps : {A : Type 0} (P : A → Type 0) (table : List (List ℕ × A)) → AllByRecursion (λ e. P e.1) table → (w : List ℕ) (x : A) → lookup w table ≡ Some x → P x
 lookup_keeps P [] all w x e = cc
 lookup_keeps P (t ∷ ts) all w x e =

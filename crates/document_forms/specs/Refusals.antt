@@ -1,7 +1,7 @@
 -- Lists of which what takes them refuses an item.
 use Rattle.std.specs.Prelude.{◌≡◌, List, ◌∷◌, ◌++◌, map, Option, Some, None}
 
--- The list begins with what was taken, and behind that with an item that is refused.
+-- The list begins with what was taken, and after that with an item that is refused.
 pub record IsRefused {T A : Type 0} (refuses : List T → T → Type 0) (view : T → A) (xs : List A) : Type 0 where
   pub taken : List T
   pub item : T

@@ -13,7 +13,7 @@ use std::alloc::{AllocError, Global};
 pub trait Grow<F: Form>: Drop {
     ghost items: { Self → List F.Item };
 
-    /// Which item is refused behind these.
+    /// Which item is refused after these.
     ghost refuses: { List F.Item → F.Item → Type 0 };
 
     /// With no item yet, and with room for so many.

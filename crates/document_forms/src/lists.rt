@@ -25,7 +25,7 @@ fn add_at<F: Form, C: Grow<F>>(all: &mut C, item: F::Item, index: usize) -> Resu
 }
 
 /// All the items of an array, in their order. An error that is not of memory says that the value is written for no such
-/// list, or that one of its items is refused behind those before it.
+/// list, or that one of its items is refused after those before it.
 pub fn read_all<F: Form, C: Grow<F>>(alloc: Global, value: &Value) -> Result<C, ReadError>
     ensures found { IfOk result (λ c. Some (map F.view (C.items c)) ≡ all_of F.form.find (data_of value.now)) }
     ensures refused { IfErr result (λ e. e ≢ Memory → NoneTaken C.refuses F.view (all_of F.form.find (data_of value.now))) }
@@ -43,7 +43,7 @@ pub fn read_all<F: Form, C: Grow<F>>(alloc: Global, value: &Value) -> Result<C, 
     Ok(found)
 }
 
-/// The same of a value that is let go of, each item once it is read.
+/// The same of a value that is freed, each item once it is read.
 pub fn take_all<F: Take, C: Grow<F>>(alloc: Global, value: Value) -> Result<C, ReadError>
     ensures found { IfOk result (λ c. Some (map F.view (C.items c)) ≡ all_of F.form.find (data_of value)) }
     ensures refused { IfErr result (λ e. e ≢ Memory → NoneTaken C.refuses F.view (all_of F.form.find (data_of value))) }
@@ -67,7 +67,7 @@ pub fn take_into<F: Take, C: Grow<F>>(alloc: Global, value: Value, empty: C) -> 
     take_items::<F, C>(alloc, written, empty)
 }
 
-// The items of an array, each let go of once it is read, in what has none yet.
+// The items of an array, each freed once it is read, in what has none yet.
 fn take_items<F: Take, C: Grow<F>>(
     alloc: Global,
     items: Vec<Value>,

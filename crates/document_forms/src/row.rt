@@ -1,4 +1,4 @@
-// What a row of forms is, and a row of any length, as one form and the row behind it.
+// What a row of forms is, and a row of any length, as one form and the row after it.
 ghost use Rattle.std.specs.Prelude.{◌≡◌, option_map};
 ghost use Rattle.serde_json.specs.View.{view as data_of, items_view};
 ghost use Rattle.document_forms.specs.Answers.{Answers};
@@ -31,14 +31,14 @@ pub trait Row {
         ensures { Answers result (λ found. option_map view found ≡ form.find (items_view items.now)) };
 }
 
-/// A row whose items are let go of while they are read.
+/// A row whose items are freed while they are read.
 pub trait TakeRow: Row {
     /// What the items are written for, each of which is taken out. The first of them stands at `index`.
     fn take(alloc: Global, items: &mut [Value], index: usize) -> Result<Self::Items, ReadError>
         ensures { Answers result (λ found. option_map Self.view found ≡ Self.form.find (items_view items.old)) };
 }
 
-/// What the items behind a word are written for.
+/// What the items after a word are written for.
 pub fn read_items<R: Row>(alloc: Global, items: &[Value]) -> Result<R::Items, ReadError>
     ensures { Answers result (λ found. option_map R.view found ≡ R.form.find (items_view items.now)) }
 {
@@ -55,7 +55,7 @@ pub fn read_row<R: Row>(alloc: Global, value: &Value) -> Result<R::Items, ReadEr
     R::read(alloc, items, 0)
 }
 
-/// The same of an array that is let go of.
+/// The same of an array that is freed.
 pub fn take_row<R: TakeRow>(alloc: Global, value: Value) -> Result<R::Items, ReadError>
     ensures { Answers result (λ found. option_map R.view found ≡ array_of R.form.find (data_of value)) }
 {
@@ -66,7 +66,7 @@ pub fn take_row<R: TakeRow>(alloc: Global, value: Value) -> Result<R::Items, Rea
     R::take(alloc, &mut items, 0)
 }
 
-/// The first item, which stands at `index`, and those behind it.
+/// The first item, which stands at `index`, and those after it.
 pub fn split_part(items: &[Value], index: usize) -> Result<(&Value, &[Value]), ReadError>
     ensures { Answers result (λ found. option_map (λ t. (data_of t.0.now, items_view t.1.now)) found ≡ first (items_view items.now)) }
 {
@@ -76,7 +76,7 @@ pub fn split_part(items: &[Value], index: usize) -> Result<(&Value, &[Value]), R
     Ok(parts)
 }
 
-/// The first item, which stands at `index` and is taken out, and those behind it.
+/// The first item, which stands at `index` and is taken out, and those after it.
 pub fn take_part(items: &mut [Value], index: usize) -> Result<(Value, &mut [Value]), ReadError>
     ensures { Answers result (λ found. option_map (λ t. (data_of t.0, items_view t.1.now)) found ≡ first (items_view items.old)) }
 {
@@ -112,7 +112,7 @@ impl TakeRow for End {
     }
 }
 
-/// One form, and the row behind it.
+/// One form, and the row after it.
 pub struct Then<F, R>(PhantomData<F>, PhantomData<R>);
 
 impl<F: Form, R: Row> Row for Then<F, R> {

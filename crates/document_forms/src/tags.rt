@@ -10,7 +10,7 @@ use crate::words::read_word;
 use document_words::Word;
 use serde_json::Value;
 
-/// What the word before the other parts stands for, and what comes behind it. The word stands at `index`.
+/// What the word before the other parts denotes, and what comes after it. The word stands at `index`.
 pub fn split_tag<W: Word>(items: &[Value], index: usize) -> Result<(W, &[Value]), ReadError>
     ensures { Answers result (λ found. option_map (λ t. (t.0, items_view t.1.now)) found ≡ tag_of W.table (items_view items.now)) }
 {
@@ -23,7 +23,7 @@ pub fn split_tag<W: Word>(items: &[Value], index: usize) -> Result<(W, &[Value])
     }
 }
 
-/// What the first word of an array stands for, and what comes behind it.
+/// What the first word of an array denotes, and what comes after it.
 pub fn read_tag<W: Word>(value: &Value) -> Result<(W, &[Value]), ReadError>
     ensures { Answers result (λ found. option_map (λ t. (t.0, items_view t.1.now)) found ≡ tag_in W.table (data_of value.now)) }
 {

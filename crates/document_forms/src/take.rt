@@ -1,4 +1,4 @@
-// Forms whose values are let go of while they are read.
+// Forms whose values are freed while they are read.
 ghost use Rattle.std.specs.Prelude.{◌≡◌, option_map};
 ghost use Rattle.serde_json.specs.View.{view as data_of};
 ghost use Rattle.document_forms.specs.Answers.{Answers};
@@ -9,7 +9,7 @@ use serde_json::Value;
 use std::alloc::Global;
 use std::marker::PhantomData;
 
-/// A form whose value is let go of while it is read: a large one part by part, so that it and what is read of it never
+/// A form whose value is freed while it is read: a large one part by part, so that it and what is read of it never
 /// take their memory at the same time.
 pub trait Take: Form {
     /// The item that the value is written for.
@@ -27,7 +27,7 @@ pub fn take_at<F: Take>(alloc: Global, value: Value, index: usize) -> Result<F::
     }
 }
 
-/// This, whose value is let go of once it is read.
+/// This, whose value is freed once it is read.
 pub struct Whole<F>(PhantomData<F>);
 
 impl<F: Form> Form for Whole<F> {

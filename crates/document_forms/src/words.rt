@@ -13,7 +13,7 @@ use serde_json::Value;
 use std::alloc::Global;
 use std::marker::PhantomData;
 
-/// What a word of the set stands for.
+/// What a word of the set denotes.
 pub fn read_word<W: Word>(value: &Value) -> Result<W, ReadError>
     ensures { Answers result (λ found. found ≡ word_in W.table (data_of value.now)) }
 {
@@ -43,7 +43,7 @@ impl<W: Word> Form for WordOf<W> {
     }
 }
 
-/// Words of the set in any order, repeated or not, which stand for the union of what each stands for.
+/// Words of the set in any order, repeated or not, which denote the union of what each denotes.
 pub struct SetOf<S>(PhantomData<S>);
 
 impl<S: SetWord> Form for SetOf<S> {

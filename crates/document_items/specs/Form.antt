@@ -24,7 +24,7 @@ APositive n d = AU32 n d × (1 ≤ n)
 
 -- ---- bindings
 
--- a built-in by its word; two of them with a truth value behind it
+-- a built-in by its word; two of them with a truth value after it
 unfoldable pub ABuiltIn : BuiltIn → Items → Type 0
 ABuiltIn (built_in_kinds.Position invariant) = AText (codes "Position") ▸ ABool invariant ▸ Ends
 ABuiltIn (built_in_kinds.Barycentric perspective) = AText (codes "Barycentric") ▸ ABool perspective ▸ Ends

@@ -69,7 +69,7 @@ pair_exact : IsExact pair_of APair
 unfolding pair_of
 pair_exact = a_pair.exact
 
--- these pairs, and behind them those of the items, unless one is of a predeclared type that has a pair already
+-- these pairs, and after them those of the items, unless one is of a predeclared type that has a pair already
 abbrev pub pairs_with : List (PredeclaredType × ℕ) → Items → Option (List (PredeclaredType × ℕ))
 pairs_with es no_items = Some es
 pairs_with es (item d ds) = do

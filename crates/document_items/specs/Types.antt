@@ -69,7 +69,7 @@ a_positive = record { find = positive_of; Written = APositive; exact = positive_
 
 -- ---- built-ins
 
--- a built-in that has a truth value behind its word
+-- a built-in that has a truth value after its word
 abbrev pub marked_of : List ℕ → Items → Option BuiltIn
 marked_of w rest =
     if bytes_eq w (codes "Position") then option_map built_in_kinds.Position ((row1 a_bool).find rest) else (if bytes_eq w (codes "Barycentric") then option_map built_in_kinds.Barycentric ((row1 a_bool).find rest) else None)

@@ -16,7 +16,7 @@ use ir_kinds::{Binding, BuiltIn, Interpolation, ResourceBinding, Sampling};
 use serde_json::Value;
 use std::alloc::Global;
 
-// A built-in that has a truth value behind its word, which stands at `index`.
+// A built-in that has a truth value after its word, which stands at `index`.
 fn marked(alloc: Global, word: &str, rest: &[Value], index: usize) -> Result<BuiltIn, ReadError>
     ensures { Answers result (λ found. found ≡ marked_of word.now (items_view rest.now)) }
 {
@@ -31,7 +31,7 @@ fn marked(alloc: Global, word: &str, rest: &[Value], index: usize) -> Result<Bui
     }
 }
 
-/// How a built-in is written: its word, and behind two of them a truth value.
+/// How a built-in is written: its word, and after two of them a truth value.
 pub struct BuiltInRow;
 
 impl Row for BuiltInRow {

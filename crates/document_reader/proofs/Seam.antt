@@ -43,7 +43,7 @@ peel {A} {B} {C} f g k m same ds = parts (first ds)
     parts None = refl
     parts (Some t) = items t.1 (f t.0)
 
--- the types and the lists behind them
+-- the types and the lists after them
 types_and_lists : (f : ValidationFlags) (c : Capabilities) (s : ShaderStages × SubgroupOperationSet) (r : Bool) (ds : Items)
     → option_and_then (λ m. Some (made_of f c s r m)) (content_in ds) ≡ option_map (λ y. document_made (tt, (f, (c, (s, (r, y)))))) (behind (all_of a_type.find) the_lists.find ds)
 types_and_lists f c s r ds = parts (first ds)
@@ -129,7 +129,7 @@ module_refused ds t rest here types m found = λ apart.
     let same : content_of a.0 b.0 ≡ m = some_is _ _ b.2 in
     types a.0 a.1 (subst (λ (x : PlainModule). AreDistinct x.types) (sym same) apart)
 
--- where no module without a repeated type is found behind the settings, there is no such document
+-- where no module without a repeated type is found after the settings, there is no such document
 pub document_refused : (d : Data) (ds0 ds1 ds2 ds3 ds4 ds5 : Items) (f : ValidationFlags) (c : Capabilities) (s : ShaderStages × SubgroupOperationSet) (r : Bool)
     → Some ds0 ≡ as_array d → Some (tt, ds1) ≡ first_part version_of ds0 → Some (f, ds2) ≡ first_part the_flags.find ds1 → Some (c, ds3) ≡ first_part the_capabilities.find ds2
     → Some (s, ds4) ≡ first_part the_subgroups.find ds3 → Some (r, ds5) ≡ first_part as_bool ds4

@@ -58,7 +58,7 @@ the_capabilities = a_set capabilities (record { 0 = 0 }) capability_union
 abbrev pub the_subgroups : FormOf (ShaderStages × SubgroupOperationSet)
 the_subgroups = an_array (row2 (a_set stages (record { 0 = 0 }) stage_union) (a_set operations (record { 0 = 0 }) operation_union))
 
--- ---- the lists behind the types
+-- ---- the lists after the types
 
 abbrev pub ListParts : Type 0
 ListParts = PlainSpecial × (List PlainNode × Option ℕ) × List PlainConstant × List PlainOverride × List PlainExpression × List PlainGlobal × List PlainFunction × List PlainEntry
@@ -99,14 +99,14 @@ a_document = made (an_array the_parts) document_made parts_of ADocument (λ d. r
 
 -- ---- the same, as it is read part by part
 
--- what the first part is written for, and the parts behind it
+-- what the first part is written for, and the parts after it
 abbrev pub first_part : {A : Type 0} → (Data → Option A) → Items → Option (A × Items)
 first_part f ds = do
   t ← first ds
   x ← f t.0
   Some (x, t.1)
 
--- the module, of the parts behind the settings
+-- the module, of the parts after the settings
 abbrev pub content_in : Items → Option PlainModule
 content_in ds = do
   t ← first ds

@@ -32,7 +32,7 @@ use std::alloc::Global;
 
 const VERSION: u64 = 1;
 
-// The places of a document's parts: settings lie before the types, all other lists behind them.
+// The places of a document's parts: settings lie before the types, all other lists after them.
 const TYPES: usize = 5;
 
 const SPECIAL_TYPES: usize = 6;
@@ -139,7 +139,7 @@ fn read_module(alloc: Global, parts: &mut [Value], key: KeyedState) -> Result<Mo
     })
 }
 
-/// The document that the value is written for. Each part of the value is let go of once it is read, so that both never
+/// The document that the value is written for. Each part of the value is freed once it is read, so that both never
 /// take their memory whole. Hashers of its types know the key.
 pub fn read_value(alloc: Global, value: Value, key: KeyedState) -> Result<Document, ReadError>
     ensures found { IfOk result (λ d. Some (document_view d) ≡ document_in (data_of value)) }

@@ -8,7 +8,7 @@ use ir_flags::{Capabilities, ShaderStages, SubgroupOperationSet, ValidationFlags
 use ir_items::Module;
 use std::alloc::{AllocError, Global};
 
-/// What a document asks of the validator.
+/// What a document requires of the validator.
 #[derive(Clone, Copy, Debug, PartialEq, Eq)]
 pub struct Settings {
     /// The checks that are made.
@@ -26,7 +26,7 @@ pub struct Settings {
 /// Everything that the bytes of a document say. An item's place in its list is its handle.
 #[derive(Debug, Drop)]
 pub struct Document {
-    /// What the document asks for.
+    /// What the document requires.
     pub settings: Settings,
     /// The module that it writes.
     pub module: Module,

@@ -51,7 +51,7 @@ pub fn read_document(alloc: Global, bytes: &[u8]) -> Result<Document, DocumentEr
     }
 }
 
-/// The same of bytes that are let go of as soon as the JSON reader has read them, so that the document does not take its
+/// The same of bytes that are freed as soon as the JSON reader has read them, so that the document does not take its
 /// memory beside them.
 pub fn take_document(alloc: Global, bytes: Vec<u8>) -> Result<Document, DocumentError>
     ensures found { IfOk result (λ d. Reads bytes.items (document_view d)) }

@@ -1,4 +1,4 @@
--- The words of a document: each set of words beside what its words stand for.
+-- The words of a document: each set of words beside what its words denote.
 use Rattle.std.specs.Prelude.{ℕ, List, [], ◌∷◌, map, codes}
 use Rattle.ir_kinds.specs.declared.stages.ShaderStage.{ShaderStage}
 use Rattle.ir_kinds.specs.declared.stages.ShaderStage.TheVariants as stages_of

@@ -1,23 +1,23 @@
-// Words and what they stand for.
+// Words and what they denote.
 ghost use Rattle.std.specs.Prelude.{◌≡◌, ℕ, List, map};
 ghost use Rattle.document_words.specs.Lookup.{lookup, spelled};
 
-/// What the words of a set stand for.
+/// What the words of a set denote.
 pub trait Word: Copy + 'static {
     ghost table: { List (List ℕ × Self) };
 
-    /// The words, each with what it stands for.
+    /// The words, each with what it denotes.
     fn table() -> &'static [(&'static str, Self)]
         ensures { map spelled result.now ≡ table };
 }
 
-/// Words of which any number may stand together, in any order: each stands for a set, and all for the union.
+/// Words of which any number may stand together, in any order: each denotes a set, and all for the union.
 pub trait SetWord: Word {
     ghost none: { Self };
 
     ghost union: { Self → Self → Self };
 
-    /// What no word stands for.
+    /// What no word denotes.
     fn none() -> Self
         ensures { result ≡ none };
 
@@ -26,7 +26,7 @@ pub trait SetWord: Word {
         ensures { result ≡ union self other };
 }
 
-/// What the word stands for in a table, or `None` where it is none of its words.
+/// What the word denotes in a table, or `None` where it is none of its words.
 pub fn find_in<T: Copy>(table: &[(&str, T)], word: &str) -> Option<T>
     ensures { result ≡ lookup word.now (map spelled table.now) }
 {
@@ -38,7 +38,7 @@ pub fn find_in<T: Copy>(table: &[(&str, T)], word: &str) -> Option<T>
     None
 }
 
-/// What the word stands for, or `None` where it is none of the set.
+/// What the word denotes, or `None` where it is none of the set.
 pub fn find_word<W: Word>(word: &str) -> Option<W>
     ensures { result ≡ lookup word.now W.table }
 {

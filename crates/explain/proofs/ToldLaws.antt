@@ -1,4 +1,4 @@
--- What is told goes with the judgement over the bytes.
+-- What is reported goes with the judgement over the bytes.
 use Rattle.std.proofs.Common.{◌≡◌, ℕ, List, Bool, Ok, Err, Result, IfOk, sym, subst}
 use Rattle.std.specs.declared.alloc.AllocError.{AllocError}
 use Rattle.judgement.specs.declared.finding.Finding.{Finding}

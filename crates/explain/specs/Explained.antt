@@ -1,4 +1,4 @@
--- What is told of a document goes with what is found of it.
+-- What is reported of a document goes with what is found of it.
 use Rattle.judgement.specs.declared.finding.Finding.{Finding}
 use Rattle.judgement.specs.declared.finding.Finding.TheVariants as findings
 use Rattle.shader_check.specs.Examined.{refused_by}

@@ -1,4 +1,4 @@
--- The lines of buffers and their leaves that are told of a document.
+-- The lines of buffers and their leaves that are reported of a document.
 use Rattle.std.specs.Prelude.{◌≡◌, ℕ, List, [], Bool, true, false, string_bytes}
 use Rattle.document_reader.specs.Form.{Reads}
 use Rattle.document_reader.specs.Plain.{PlainDocument}
@@ -23,12 +23,12 @@ abbrev pub CanListIn : PlainModule → Examined → Type 0
 CanListIn m (examined.Accepted strict info) = CanList m info
 CanListIn m (examined.Refused e) = Unit {0}
 
--- the lines that are told of a module: those of its buffers and their leaves, where they are asked for, and else none
+-- the lines that are reported of a module: those of its buffers and their leaves, where they are required, and else none
 abbrev pub ListsAsAsked : (asked : Bool) → PlainModule → (lines : List ℕ) → Type 0
 ListsAsAsked true m lines = lines ≡ leaf_report m
 ListsAsAsked false m lines = lines ≡ []
 
--- the lines that an explanation has behind what is found
+-- the lines that an explanation has after what is found
 abbrev pub lines_of : Explanation → List ℕ
 lines_of (NoDocument error) = []
 lines_of (Accepted strict lines) = string_bytes lines
@@ -39,7 +39,7 @@ FollowsOn asked m (NoDocument error) = Unit {0}
 FollowsOn asked m (Accepted strict lines) = ListsAsAsked asked m (string_bytes lines)
 FollowsOn asked m (Refused name error) = Unit {0}
 
--- They are told of the module of the document that the bytes spell, with returns put in where its settings ask for them.
+-- They are reported of the module of the document that the bytes spell, with returns put in where its settings ask for them.
 pub record AreListed (asked : Bool) (bytes lines : List ℕ) : Type 0 where
   pub document : PlainDocument
   pub reads : Reads bytes document

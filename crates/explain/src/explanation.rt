@@ -1,4 +1,4 @@
-// What is told of a document.
+// What is reported of a document.
 ghost use Rattle.std.specs.Prelude.{◌≡◌, ◌++◌, IfOk, string_bytes};
 ghost use Rattle.explain.specs.Explained.{finding_of};
 ghost use Rattle.judgement.specs.Text.{text_of};
@@ -36,7 +36,7 @@ pub enum Explanation {
     Refused(Option<String>, ValidationError),
 }
 
-// The lines of the buffers of a module and of their leaves, where they are asked for.
+// The lines of the buffers of a module and of their leaves, where they are required.
 fn lines(
     alloc: Global,
     leaves: bool,
@@ -53,7 +53,7 @@ fn lines(
     }
 }
 
-// What is told of what is found.
+// What is reported of what is found.
 fn told(
     alloc: Global,
     leaves: bool,
@@ -76,7 +76,7 @@ fn told(
     }
 }
 
-/// What is told of the document that the bytes spell, and with `leaves` the lines of the buffers of its module, where that is
+/// What is reported of the document that the bytes spell, and with `leaves` the lines of the buffers of its module, where that is
 /// accepted, each with those of its leaves. The error says that there is no memory.
 pub fn explain(alloc: Global, leaves: bool, bytes: &[u8]) -> Result<Explanation, AllocError>
     ensures finding { IfOk result (λ e. Judged bytes.now (finding_of e)) }
@@ -173,7 +173,7 @@ impl Explanation {
         }
     }
 
-    /// The line of what is found, and behind it the lines of buffers and leaves, where they were asked for. The error is out of
+    /// The line of what is found, and after it the lines of buffers and leaves, where they were asked for. The error is out of
     /// memory.
     pub fn listing(&self, alloc: Global) -> Result<String, AllocError>
         ensures { IfOk result (λ text. string_bytes text ≡ text_of (finding_of self.now) ++ lines_of self.now) }

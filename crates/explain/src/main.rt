@@ -31,7 +31,7 @@ fn wants_leaves(rt: &HostRuntime) -> Option<bool> {
     Some(false)
 }
 
-// Tells what is found, in one line or with the lines of buffers.
+// Says what is found, in one line or with the lines of buffers.
 fn tell(rt: &HostRuntime, leaves: bool, explanation: &Explanation) -> ExitCode {
     let written = if leaves {
         match explanation.listing(rt.alloc()) {

@@ -25,7 +25,7 @@ pub enum Row {
 /// What stands at a place of a document.
 #[derive(Clone, Copy)]
 pub enum Part {
-    /// What is told by indexes alone.
+    /// What is reported by indexes alone.
     Plain,
     Row(Row),
     ListOf(Row),

@@ -1,4 +1,4 @@
-// Places as they are told.
+// Places as they are reported.
 
 use crate::parts::{Part, Row};
 use std::fmt::{self, Display};

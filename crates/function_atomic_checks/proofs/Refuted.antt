@@ -37,7 +37,7 @@ float_refuted k pointer done (fault.InvalidOperator fun) wrong ok = wrong.1 ok.d
 float_refuted k pointer done (fault.InvalidAddressSpace space) wrong ok = wrong.1 ok.stored
 float_refuted k pointer done _ wrong ok = wrong
 
--- what is asked of an integer of eight bytes
+-- what is required of an integer of eight bytes
 wide_asked : (k : Capabilities) (s : Scalar) (pointer : Form) (done : AtomicFunction) (result : Option ℕ) → IsWide s → ScalarAllows k s pointer done result → WideOK k pointer done result
 wide_asked k s pointer done result (inl is) ok = ok.signed_wide is
 wide_asked k s pointer done result (inr is) ok = ok.unsigned_wide is

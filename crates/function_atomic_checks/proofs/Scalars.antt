@@ -1,4 +1,4 @@
--- What is asked of some scalars.
+-- What is required of some scalars.
 use Rattle.std.proofs.Common.{◌≡◌, ◌⊎◌, ℕ, Option, inl, inr, sym, ap, ◌∙◌}
 use Rattle.ir_blocks.specs.declared.operations.AtomicFunction.{AtomicFunction}
 use Rattle.ir_flags.specs.declared.settings.Capabilities.{Capabilities}

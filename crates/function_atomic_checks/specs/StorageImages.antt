@@ -90,7 +90,7 @@ abbrev pub IsMisfit : BlockContext → (image value : ℕ) → StorageFormat →
 IsMisfit c image value format =
     IsSomeAnd (written_image c.m c.f image) (λ picture. format_of picture.class ≡ Some format) × ¬ (form_at c value ≡ form.Vector Quad (format_scalar format))
 
--- ---- types of values, as they are told
+-- ---- types of values, as they are reported
 
 -- what a matrix of either kind is made of
 abbrev pub matrix_inner : Form → Option PlainInner

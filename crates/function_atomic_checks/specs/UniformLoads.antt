@@ -11,7 +11,7 @@ use Rattle.spec_statements.specs.UniformLoads.{loaded_type, LeadsTo}
 abbrev pub loaded_at : BlockContext → (result : ℕ) → Option ℕ
 loaded_at c result = option_and_then loaded_type (slice_get c.f.expressions result)
 
--- it is no pointer into workgroup memory, or does not lead to what is answered; what should stand for the answer is no
+-- it is no pointer into workgroup memory, or does not lead to what is answered; what should denote the answer is no
 -- `WorkGroupUniformLoadResult`
 abbrev pub IsUniformLoadFault : BlockContext → (pointer result : ℕ) → FunctionError → Type 0
 IsUniformLoadFault c pointer result (error.WorkgroupUniformLoadInvalidPointer e) = (e ≡ pointer)

@@ -270,7 +270,7 @@ fn check_scalar(
 
 // ---- what is answered
 
-// What the answer of an atomic operation declares.
+// What the result of an atomic operation declares.
 #[derive(Clone, Copy)]
 struct DeclaredAnswer {
     ty: Handle<key::IrType>,

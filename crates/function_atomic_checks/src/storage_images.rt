@@ -222,7 +222,7 @@ fn check_written<C: StatementContext>(
     }
 }
 
-// ---- types of values, as they are told
+// ---- types of values, as they are reported
 
 // What a matrix of either kind is made of.
 const fn matrix_inner(of: &Form) -> Option<TypeInner>

@@ -40,7 +40,7 @@ const fn is_in_workgroup(pointer: &Form) -> bool
     }
 }
 
-// The type that an expression, which stands for the answer, declares.
+// The type that an expression, which denotes the answer, declares.
 fn loaded_type(expression: &Expression) -> Option<Handle<key::IrType>>
     ensures { result ≡ loaded_type (expression_view expression.now) }
 {
@@ -112,7 +112,7 @@ fn leads_to<C: StatementContext>(context: &C, pointer: &Form, ty: Handle<key::Ir
 /// # Errors
 ///
 /// [`FunctionError::WorkgroupUniformLoadInvalidPointer`] where the pointer points into another space, is none, or leads to
-/// something else than what is answered; [`FunctionError::WorkgroupUniformLoadExpressionMismatch`] where what should stand for the
+/// something else than what is answered; [`FunctionError::WorkgroupUniformLoadExpressionMismatch`] where what should denote the
 /// answer is no `WorkGroupUniformLoadResult`.
 pub fn check_uniform_load<C: StatementContext>(
     context: &C,

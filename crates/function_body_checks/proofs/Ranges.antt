@@ -39,7 +39,7 @@ once_front : (xs ys : List ℕ) → AreOnce (xs ++ ys) → AreOnce xs
 once_front [] ys once = tt
 once_front (x ∷ xs) ys once = ((or_parts (holds xs x) (holds ys x) (sym (holds-append xs ys x) ∙ once.0)).0, once_front xs ys once.1)
 
--- what is behind is not in front
+-- what is after is not in front
 once_apart : (xs ys : List ℕ) (e : ℕ) → AreOnce (xs ++ ys) → holds ys e ≡ true → holds xs e ≡ false
 once_apart [] ys e once there = refl
 once_apart (x ∷ xs) ys e once there =
@@ -194,7 +194,7 @@ known_there members ranges count are r some =
 
 -- ---- the last ones go
 
--- the first n of a list are left of the set where those behind them are taken out
+-- the first n of a list are left of the set where those after them are taken out
 pub listed_cut : (members new : set.FinSet nat_cmp) (ranges left : List (ℕ × ℕ)) (count n from end : ℕ) → AreListed members ranges count → n ≤ length (listed ranges)
     → Becomes false (set.contains members) (set.contains new) from end → ((e : ℕ) → from ≤ e → e < end → holds (drop n (listed ranges)) e ≡ true)
     → ((e : ℕ) → (from ≤ e → e < end → ⊥) → holds (drop n (listed ranges)) e ≡ false) → listed left ≡ take n (listed ranges) → AreListed new left n
@@ -226,7 +226,7 @@ listed_cut members new ranges left count n from end are short taken inside outsi
           ]
         ]
 
--- behind the ranges before the last, and the first of the last one
+-- after the ranges before the last, and the first of the last one
 module _ (rest : List (ℕ × ℕ)) (first end kept : ℕ) (within : kept ≤ end - first) where
   split : listed (rest ++ (first, end) ∷ []) ≡ (listed rest ++ range_with_len first kept) ++ range_with_len (first + kept) (end - first - kept)
   split =
@@ -287,7 +287,7 @@ pub listed_contains : (members : set.FinSet nat_cmp) (ranges : List (ℕ × ℕ)
 listed_contains members ranges count are e b is =
     (λ yes_. held_at (listed ranges) e (sym (are.found e) ∙ sym is ∙ yes_), λ held. is ∙ are.found e ∙ holds_at (listed ranges) e held)
 
--- what is behind the first so many of a list is of no matter for fewer
+-- what is after the first so many of a list is of no matter for fewer
 pub cut_more : (xs ys old : List ℕ) (n result : ℕ) → ys ≡ take result xs → n ≤ result → take n xs ≡ take n old → take n ys ≡ take n old
 cut_more xs ys old n result is more same = ap (take n) is ∙ take-take n result xs more ∙ same
 

@@ -50,7 +50,7 @@ resulting kill e = refl
 resulting (operation a) e = refl
 resulting (call function arguments answer) e = refl
 
--- what is noted stands behind what was
+-- what is noted stands after what was
 noted_behind : (asked : Bool) (old new : List ℕ) (answer : Option ℕ) → IsNoted asked old new answer → new ≡ old ++ option_to_list answer
 noted_behind asked old new None h = h ∙ sym (append-nil old)
 noted_behind asked old new (Some e) h = h.0

@@ -1,4 +1,4 @@
--- A fault of scope refutes what is asked of scope and of answers.
+-- A fault of scope refutes what is required of scope and of answers.
 use Rattle.std.specs.Prelude.{ℕ}
 use Rattle.typing_errors.specs.declared.error.FunctionError.{FunctionError}
 use Rattle.ir_blocks.specs.Places.{Place}

@@ -22,12 +22,12 @@ pub record AreListed (members : set.FinSet nat_cmp) (ranges : List (ℕ × ℕ))
   pub small : (e : ℕ) → holds (listed ranges) e ≡ true → e < 4294967296
   pub many : count ≡ length (listed ranges)
 
--- the expression is behind the others, where it is none of them
+-- the expression is after the others, where it is none of them
 abbrev pub IsAdded : (old new : List ℕ) → ℕ → (added : Bool) → Type 0
 IsAdded old new e true = (new ≡ old ++ e ∷ []) × ¬ Contains old e
 IsAdded old new e false = (new ≡ old) × Contains old e
 
--- all of the expressions are behind the others, where none of them is one of these
+-- all of the expressions are after the others, where none of them is one of these
 abbrev pub AreAdded : (old new : List ℕ) → List ℕ → (added : Bool) → Type 0
 AreAdded old new es true = (new ≡ old ++ es) × All (λ e. ¬ Contains old e) es
 AreAdded old new es false = (new ≡ old) × ((e : ℕ) × Contains es e × Contains old e)

@@ -71,7 +71,7 @@ fn bring_range(
     Ok(first_known(outline.function, scope, range))
 }
 
-// Brings into scope what stands for the answer of a statement, and answers whether that was there already.
+// Brings into scope what denotes the result of a statement, and answers whether that was there already.
 fn bring_result(
     function: &Function,
     scope: &mut ExpressionList,

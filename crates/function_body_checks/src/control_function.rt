@@ -10,7 +10,7 @@ use crate::control_walk::check_block;
 use ir_items::Block;
 use typing_errors::FunctionError;
 
-/// Whether each statement of a function's body that leaves its block may do so where it stands (naga's `ControlFlowAbility`).
+/// Whether each statement of a function's body that leaves its block may do so where it occurs (naga's `ControlFlowAbility`).
 ///
 /// # Errors
 ///

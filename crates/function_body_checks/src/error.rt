@@ -21,7 +21,7 @@ pub enum ScopeError {
     },
     /// What is brought into scope is there already.
     Known(Handle<key::Expression>),
-    /// The answer of a call is in scope already.
+    /// The result of a call is in scope already.
     KnownResult {
         /// The function that is called.
         function: Handle<key::Function>,

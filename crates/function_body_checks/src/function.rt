@@ -90,7 +90,7 @@ fn requires_results(flags: ValidationFlags) -> bool
     flags.contains(ValidationFlags::EXPRESSIONS)
 }
 
-/// Whether what the statements of a function use is in scope where they stand, what they bring into scope is not there
+/// Whether what the statements of a function use is in scope where they occur, what they bring into scope is not there
 /// already, and no two of them answer by one expression; and, where expressions are not checked, whether none answers. Answers
 /// by which expressions calls and atomic operations answer (naga's `valid_expression_set` and `needs_visit`).
 ///

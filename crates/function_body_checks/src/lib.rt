@@ -1,9 +1,9 @@
-//! What is asked of a whole body, over and above the rule of each statement.
+//! What is required of a whole body, over and above the rule of each statement.
 //!
 //! Whether what the statements of a function use is in scope, what they bring into scope is not there already, and each call
 //! and each atomic operation answers by an expression of its own.
 //!
-//! Whether each statement of a body that leaves its block may do so where it stands: breaks, continues and returns.
+//! Whether each statement of a body that leaves its block may do so where it occurs: breaks, continues and returns.
 //!
 //! Whether the values of the cases of a switch differ, one is the default, and the last case doesn't fall through.
 #![tactic(auto)]

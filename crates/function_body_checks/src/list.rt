@@ -12,7 +12,7 @@ use std::alloc::{AllocError, Global};
 use std::marker::Model;
 
 /// Expressions of a function in the order in which they came, each once. They come one by one or a range at a time, and are
-/// kept as ranges, beside a set of them all: whether one is among them is told without looking through them, and the last ones
+/// kept as ranges, beside a set of them all: whether one is among them is reported without looking through them, and the last ones
 /// are let go range by range. In a contract it is the list of their places in the arena.
 #[derive(Drop)]
 pub struct ExpressionList {
@@ -35,7 +35,7 @@ impl Model for ExpressionList {
     ghost invariant = { λ l. AreListed l.members l.ranges.items l.count };
 }
 
-// Lets go of the last range, or of as much of it as goes beyond so many, and answers how many are left.
+// Frees the last range, or of as much of it as goes beyond so many, and answers how many are left.
 fn cut_last(
     members: &mut RangeSet,
     ranges: &mut Vec<Range<key::Expression>>,

@@ -175,7 +175,7 @@ pub fn unknown_in_pipeline(
     }
 }
 
-/// The first operand of a statement that has to be in scope and is not; of a call, whose arguments are told by their places,
+/// The first operand of a statement that has to be in scope and is not; of a call, whose arguments are reported by their places,
 /// none. Operands of what stands inside a statement, and a loop's condition, are not its own.
 pub fn unknown_operand(
     function: &Function,

@@ -34,7 +34,7 @@ pub fn check_block(
     Ok(())
 }
 
-// The same of a block behind whose end nothing of it is in scope.
+// The same of a block after whose end nothing of it is in scope.
 #[cycle(walk)]
 fn check_inner(
     outline: &Outline<'_>,

@@ -1,4 +1,4 @@
--- Refusals of varyings and of mesh shaders, told as those of an entry point.
+-- Refusals of varyings and of mesh shaders, reported as those of an entry point.
 use Rattle.std.proofs.Common.{◌≡◌, ℕ, List, Some, sym, subst}
 use Rattle.function_entry_checks.specs.Faults.{IsRefusedFor}
 use Rattle.function_entry_checks.specs.declared.error.EntryPointError.{EntryPointError}

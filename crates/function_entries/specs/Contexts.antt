@@ -22,7 +22,7 @@ entry_in c = entry_view c.entry.now
 abbrev pub varying_context : EntryContext → Direction → VaryingContext
 varying_context c direction = context_of c.flags c.capabilities (module_in c) (entry_in c) direction
 
--- what is told of the module's types is so, and told of all
+-- what is reported of the module's types is so, and reported of all
 pub record IsKnown (c : EntryContext) : Type 0 where
   pub told : AreInfos (module_in c).types c.infos.now
   pub many : length c.infos.now ≡ length (module_in c).types

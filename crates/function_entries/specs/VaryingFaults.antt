@@ -22,7 +22,7 @@ use Rattle.function_varying_checks.specs.declared.error.VaryingRefusal.TheVarian
 
 -- ---- refusals
 
--- a refusal of varyings, told as one of an argument
+-- a refusal of varyings, reported as one of an argument
 abbrev pub IsReportedOfArgument : VaryingRefusal → Refusal EntryPointError → Type 0
 IsReportedOfArgument (varying.Memory a) (refusal.Memory b) = Unit {0}
 IsReportedOfArgument (varying.Memory a) (refusal.Fault f) = ⊥

@@ -21,7 +21,7 @@ use std::alloc::Global;
 /// Whether what connects an entry point with other stages and with hosts is as it may be, where its global variables are used in
 /// these ways; then whether two sources of a blend are among what it answers.
 ///
-/// Requires that the uses are told of all global variables, and that the output of a mesh shader is there.
+/// Requires that the uses are reported of all global variables, and that the output of a mesh shader is there.
 ///
 /// # Errors
 ///

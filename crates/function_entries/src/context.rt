@@ -19,7 +19,7 @@ pub struct EntryContext<'a> {
     pub capabilities: Capabilities,
     /// The module.
     pub module: &'a Module,
-    /// What is told of its types.
+    /// What is reported of its types.
     pub infos: &'a [TypeInfo],
     /// The entry point.
     pub entry: &'a EntryPoint,

@@ -29,7 +29,7 @@ pub trait MeshInfo {
     ghost module_of: { Self → PlainModule };
 
     /// What a variable implies that holds what a mesh shader gives, no override said (naga's `Module::analyze_mesh_shader_info`).
-    /// Where something is wrong with the variable, that is told, and the rest says nothing. Requires that the variable is there.
+    /// Where something is wrong with the variable, that is reported, and the rest says nothing. Requires that the variable is there.
     fn analyze_mesh_shader_info(
         &self,
         alloc: Global,

@@ -147,7 +147,7 @@ pub data IsVariablesFault (flags : ValidationFlags) (m : PlainModule) (e : Plain
 
 -- ---- refusals
 
--- memory ran out, or the fault that is told is one of these
+-- memory ran out, or the fault that is reported is one of these
 abbrev pub IsRefusedFor : (EntryPointError → Type 0) → Refusal EntryPointError → Type 0
 IsRefusedFor IsFault (refusal.Memory e) = Unit {0}
 IsRefusedFor IsFault (refusal.Fault e) = IsFault (error_of e)

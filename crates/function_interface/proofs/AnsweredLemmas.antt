@@ -1,4 +1,4 @@
--- What stands for answers, one expression after another.
+-- What denotes answers, one expression after another.
 use Rattle.std.proofs.Common.{◌≡◌, ◌↔◌, ◌⊎◌, inl, inr, ℕ, ◌+◌, ◌<◌, ◌≤◌, List, Some, Bool, true, false, IsTrue, true≢false, length, slice_get, sym, subst, ◌∙◌, arith}
 use Rattle.std.proofs.lemmas.Option.{slice_get_within}
 use Rattle.function_interface.proofs.Below.{below_or_same}

@@ -38,7 +38,7 @@ pub record IsKept (reading : Reading) (flags : ValidationFlags) (q : Question) (
   pub all_run : stages ≡ all_stages
   pub unblended : blending ≡ false
 
--- memory ran out, or the fault that is told is one of these
+-- memory ran out, or the fault that is reported is one of these
 abbrev pub IsRefusedFor : (FunctionError → Type 0) → Refusal FunctionError → Type 0
 IsRefusedFor IsFault (refusal.Memory e) = Unit {0}
 IsRefusedFor IsFault (refusal.Fault e) = IsFault (error_of e)

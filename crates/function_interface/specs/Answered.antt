@@ -1,4 +1,4 @@
--- Whether what stands for answers is answered.
+-- Whether what denotes answers is answered.
 use Rattle.std.specs.Prelude.{◌≡◌, ◌<◌, ℕ, List, Some, Bool, true, slice_get}
 use Rattle.typing_errors.specs.declared.error.FunctionError.{FunctionError}
 use Rattle.typing_errors.specs.declared.error.FunctionError.TheVariants as error
@@ -6,13 +6,13 @@ use Rattle.ir_types.specs.ExpressionPlain.{PlainExpression, plain}
 use Rattle.ir_types.specs.declared.expressions.Expression.TheVariants as x
 use Rattle.spec_statements.specs.Results.{DenotesResult}
 
--- an expression stands for the answer of a call or of an atomic operation
+-- an expression denotes the result of a call or of an atomic operation
 abbrev pub Stands : PlainExpression → Type 0
 Stands (plain (x.CallResult function)) = Unit {0}
 Stands (plain (x.AtomicResult type comparison)) = Unit {0}
 Stands _ = ⊥
 
--- one that stands for an answer has been answered
+-- one that denotes an answer has been answered
 abbrev pub IsAnswered : List PlainExpression → List Bool → ℕ → Type 0
 IsAnswered expressions answered e = DenotesResult expressions e → slice_get answered e ≡ Some true
 
@@ -23,7 +23,7 @@ AllAnswered expressions answered = (e : ℕ) → IsAnswered expressions answered
 pub record AnsweredBelow (expressions : List PlainExpression) (answered : List Bool) (end : ℕ) : Type 0 where
   pub each : (e : ℕ) → e < end → IsAnswered expressions answered e
 
--- one stands for an answer and has not been answered, while those before it have
+-- one denotes an answer and has not been answered, while those before it have
 pub record IsUnanswered (expressions : List PlainExpression) (answered : List Bool) (e : ℕ) : Type 0 where
   pub stands : DenotesResult expressions e
   pub unanswered : ¬ (slice_get answered e ≡ Some true)

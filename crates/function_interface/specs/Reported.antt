@@ -1,4 +1,4 @@
--- What is told of a module's types.
+-- What is reported of a module's types.
 use Rattle.std.specs.Prelude.{◌≡◌, List, length}
 use Rattle.ir_types.specs.Plain.{PlainType}
 use Rattle.module_type_checks.specs.Known.{AreInfos}

@@ -1,4 +1,4 @@
-//! What stands for the answers of statements.
+//! What denotes the results of statements.
 
 ghost use Rattle.std.specs.Prelude.{◌≡◌, ◌↔◌, IsTrue, MatchResult, Some, true, slice_get};
 ghost use Rattle.function_interface.specs.Answered.{Stands, AllAnswered, IsUnansweredFault};
@@ -10,7 +10,7 @@ use ir_items::Function;
 use ir_types::Expression;
 use typing_errors::FunctionError;
 
-// Whether an expression stands for the answer of a call or of an atomic operation.
+// Whether an expression denotes the result of a call or of an atomic operation.
 const fn stands_for_answer(expression: &Expression) -> bool
     ensures { IsTrue result ↔ Stands (expression_view expression.now) }
 {
@@ -51,7 +51,7 @@ const fn stands_for_answer(expression: &Expression) -> bool
     }
 }
 
-// Whether an expression has been answered, where it stands for an answer.
+// Whether an expression has been answered, where it denotes an answer.
 fn is_answered(expression: &Expression, answered: &[bool], index: usize) -> bool
     ensures { IsTrue result ↔ (Stands (expression_view expression.now) → slice_get answered.now index ≡ Some true) }
 {
@@ -64,7 +64,7 @@ fn is_answered(expression: &Expression, answered: &[bool], index: usize) -> bool
     }
 }
 
-/// Whether each expression of a function that stands for the answer of a call or of an atomic operation has been answered
+/// Whether each expression of a function that denotes the result of a call or of an atomic operation has been answered
 /// (the last part of naga's `validate_function`). `answered` says of each expression whether it has been.
 ///
 /// # Errors

@@ -1,6 +1,6 @@
 //! What the rules of functions ask of the layers below them: `Lower`; and its analysis, before which the arity of calls is asked.
 //!
-//! Whether what stands for the answers of a function's statements is answered, and which stages may run the statements of its
+//! Whether what denotes the answers of a function's statements is answered, and which stages may run the statements of its
 //! body.
 #![tactic(auto)]
 

@@ -36,7 +36,7 @@ use typing_errors::{ExpressionError, FunctionError};
 use typing_forms::TypeResolution;
 
 /// What types the expressions of a module's functions, analyses its functions, and tells of its types. The rules of functions
-/// stand on it and on nothing that it does: over any such layer they are the same, read with what the layer says.
+/// depend on it and on nothing that it does: over any such layer they are the same, read with what the layer says.
 pub trait Lower {
     /// What is kept of a function.
     type Info: Drop;
@@ -71,11 +71,11 @@ pub trait Lower {
     /// Whether it has noted that two sources are blended.
     ghost blending: { Self → Self.Info → Bool };
 
-    /// What is told of the module's types, in order.
+    /// What is reported of the module's types, in order.
     fn type_infos(&self) -> &[TypeInfo]
         ensures { result.now ≡ told self.now };
 
-    /// What is told of a type. Requires that it is there.
+    /// What is reported of a type. Requires that it is there.
     fn type_info(&self, ty: Handle<key::IrType>) -> &TypeInfo
         requires { ty < length (told self.now) }
         ensures { slice_get (told self.now) ty ≡ Some result.now };
@@ -90,7 +90,7 @@ pub trait Lower {
     ///
     /// # Errors
     ///
-    /// A fault of the analysis, each only where it stands; or out of memory.
+    /// A fault of the analysis, each only where it occurs; or out of memory.
     fn analyse(
         &self,
         alloc: Global,
@@ -123,7 +123,7 @@ pub trait Lower {
     ///
     /// # Errors
     ///
-    /// What is wrong with it, each only where it stands.
+    /// What is wrong with it, each only where it occurs.
     fn check_expression(
         &self,
         context: &BlockContext<'_>,
@@ -169,7 +169,7 @@ pub trait Lower {
         ensures blending { blending self.now info.new ≡ (blending self.now info.old || dual_source_blending) }
         ensures types { types self.now info.new ≡ types self.now info.old };
 
-    /// What it tells of types is told of all types of its module.
+    /// What it tells of types is reported of all types of its module.
     ghost told_of_all: { (l : Self) (m : PlainModule) → is_for l m → AreReported m.types (told l) };
 
     /// The types of global expressions are as it says.

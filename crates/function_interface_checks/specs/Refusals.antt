@@ -5,7 +5,7 @@ use Rattle.ir_faults.specs.Faults.{error_of, spans_of}
 use Rattle.ir_faults.specs.declared.refusal.Refusal.{Refusal}
 use Rattle.ir_faults.specs.declared.refusal.Refusal.TheVariants as refusal
 
--- the fault that is told stands; or there was no memory to tell it, but it is so that the rule is broken
+-- the fault that is reported stands; or there was no memory to tell it, but it is so that the rule is broken
 abbrev pub IsRefusal : (Rule : Type 0) → (IsFault : FunctionError → Type 0) → Refusal FunctionError → Type 0
 IsRefusal Rule IsFault (refusal.Memory e) = ¬ Rule
 IsRefusal Rule IsFault (refusal.Fault e) = IsFault (error_of e) × (spans_of e ≡ [])

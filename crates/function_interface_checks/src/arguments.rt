@@ -110,7 +110,7 @@ fn refused_argument(
     }
 }
 
-/// Whether a function may be given each of its arguments. `infos` has what is told of the module's types; `entry` says that the
+/// Whether a function may be given each of its arguments. `infos` has what is reported of the module's types; `entry` says that the
 /// function is an entry point's, whose arguments alone are bound.
 ///
 /// # Errors

@@ -11,7 +11,7 @@ use ir_arena::handle::Handle;
 use ir_types::key;
 use module_type_infos::{TypeFlags, TypeInfo};
 
-/// Whether functions take values of a type. One that is not there is not refused here: that it is there is asked of handles.
+/// Whether functions take values of a type. One that is not there is not refused here: that it is there is required of handles.
 pub(crate) fn is_argument(infos: &[TypeInfo], ty: Handle<key::IrType>) -> bool
     ensures { (types : List PlainType) → AreReported types infos.now → IsTrue result ↔ HasFlag Argument (type_tree types ty) }
 {

@@ -18,7 +18,7 @@ use std::alloc::Global;
 use typing_errors::FunctionError;
 
 /// Whether a function may have its variables, its arguments and its result, in this order (the first part of naga's
-/// `validate_function`). `infos` has what is told of the module's types; `entry` says that the function is an entry point's.
+/// `validate_function`). `infos` has what is reported of the module's types; `entry` says that the function is an entry point's.
 ///
 /// # Errors
 ///

@@ -55,7 +55,7 @@ fn check_begin(
 }
 
 /// Whether values of a variable's type can be composed, and it begins, if as anything, as a value of its type that is known
-/// before the shader runs (naga's `validate_local_var`). `infos` has what is told of the module's types.
+/// before the shader runs (naga's `validate_local_var`). `infos` has what is reported of the module's types.
 ///
 /// # Errors
 ///
@@ -108,7 +108,7 @@ fn refused_local(
     }
 }
 
-/// Whether a function may have each of its variables. `infos` has what is told of the module's types.
+/// Whether a function may have each of its variables. `infos` has what is reported of the module's types.
 ///
 /// # Errors
 ///

@@ -11,7 +11,7 @@ use function_statement_checks::BlockContext;
 use module_type_infos::TypeInfo;
 use typing_errors::FunctionError;
 
-/// Whether a function may answer what it answers, if it answers anything. `infos` has what is told of the module's types;
+/// Whether a function may answer what it answers, if it answers anything. `infos` has what is reported of the module's types;
 /// `entry` says that the function is an entry point's, whose result alone is bound.
 ///
 /// # Errors

@@ -135,7 +135,7 @@ none_held m f never = record {
   };
 }
 
--- ---- what is told
+-- ---- what is reported
 
 pub first_reported : (c : BlockContext) (found : Option ℕ) → found ≡ first_in (payload_type c) c.f.body
     → MatchOption found ((type : ℕ) → HasPayload c.m c.f type → ⊥) (HasPayload c.m c.f)

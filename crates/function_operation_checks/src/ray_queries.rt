@@ -59,7 +59,7 @@ fn query_at<C: StatementContext>(context: &C, ty: Handle<key::IrType>) -> Option
 
 // ---- steps
 
-// Whether a structure gives the vertices of a hit where they are asked for.
+// Whether a structure gives the vertices of a hit where they are required.
 const fn gives_vertices(asked: bool, given: bool) -> bool
     ensures { IsTrue result ↔ GivesVertices asked given }
 {

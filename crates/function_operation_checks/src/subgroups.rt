@@ -75,7 +75,7 @@ fn check_operation<C: StatementContext>(
 
 // ---- answers
 
-// The type that the answer of an operation of a subgroup declares.
+// The type that the result of an operation of a subgroup declares.
 fn answered_type(expression: &Expression) -> Option<Handle<key::IrType>>
     ensures { result ≡ answered_type (expression_view expression.now) }
 {

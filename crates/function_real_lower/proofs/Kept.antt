@@ -1,4 +1,4 @@
--- What the analysis of a function keeps is what is asked of a layer.
+-- What the analysis of a function keeps is what is required of a layer.
 use Rattle.std.proofs.Common.{◌≡◌, ℕ, List, Option, Some, None, Result, Ok, Err, IfOk, IfErr, map, option_map, length, slice_get, refl, sym, ap, subst, ◌∙◌}
 use Rattle.std.proofs.lemmas.List.{length-map}
 use Rattle.std.proofs.lemmas.Option.{slice_get-map}

@@ -19,14 +19,14 @@ use Rattle.typing_errors.specs.Answers.{fault_of, ReportsFault}
 use Rattle.typing_errors.specs.declared.resolve_error.ResolveError.{ResolveError}
 
 -- The faults that the analysis of a function finds, where it calls functions of which these summaries are kept: an expression
--- has no type, as the error tells; an operand that stands for an image or a sampler is of a wrong form; something asks that
+-- has no type, as the error tells; an operand that denotes an image or a sampler is of a wrong form; something requires that
 -- all invocations arrive together where they may not.
 pub data IsAnalysisFault (flags : ValidationFlags) (m : PlainModule) (f : PlainFunction) (summaries : List Summary) : FunctionError → Type 0 where
   untyped : {e : ℕ} {error : ResolveError} → ReportsFault (inside m f) f.expressions e (fault_of error) → IsAnalysisFault flags m f summaries (Expression e (Typing error))
   wrong_form : {e : ℕ} → IsFormFault f summaries e → IsAnalysisFault flags m f summaries (Expression e ExpectedGlobalOrArgument)
   non_uniform : {r : UniformityRequirements} {e : ℕ} {d : UniformityDisruptor} → FunctionFault flags m f (record { requirement = r.0; expression = e }) → IsAnalysisFault flags m f summaries (NonUniformControlFlow r e d)
 
--- memory ran out, or the fault that is told stands
+-- memory ran out, or the fault that is reported stands
 abbrev pub IsAnalysisRefusal : ValidationFlags → PlainModule → PlainFunction → List Summary → Refusal FunctionError → Type 0
 IsAnalysisRefusal flags m f summaries (refusal.Memory e) = Unit {0}
 IsAnalysisRefusal flags m f summaries (refusal.Fault e) = IsAnalysisFault flags m f summaries (error_of e) × (spans_of e ≡ [])

@@ -94,7 +94,7 @@ fn check_uniformity(
 /// [`ExpressionError::Typing`] at an expression that has no type while its operands have, or with
 /// [`ExpressionError::ExpectedGlobalOrArgument`] at a sampling whose image or sampler is neither a global variable, nor an
 /// access directly on one, nor an argument, or at such an expression that is passed for an image or a sampler of a pair of the
-/// function called; [`FunctionError::NonUniformControlFlow`] for what asks that all invocations arrive together and stands
+/// function called; [`FunctionError::NonUniformControlFlow`] for what requires that all invocations arrive together and stands
 /// where they may not. [`Refusal::Memory`] where memory ran out.
 pub fn process_function(
     alloc: Global,

@@ -1,4 +1,4 @@
--- What is marked, one type behind another.
+-- What is marked, one type after another.
 use Rattle.std.proofs.Common.{◌≡◌, ◌↔◌, ◌+◌, zero, suc, ℕ, Bool, IsTrue, List, [], ◌∷◌, ◌++◌, Option, None, Some, length, slice_get, ap, sym, subst, ◌∙◌}
 use Rattle.std.proofs.lemmas.List.{length-append}
 use Rattle.ir_types.specs.Plain.{PlainType}

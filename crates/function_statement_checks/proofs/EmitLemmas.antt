@@ -1,4 +1,4 @@
--- Expressions that stand for answers, and those of a range.
+-- Expressions that denote answers, and those of a range.
 use Rattle.std.proofs.Common.{◌≡◌, ℕ, zero, suc, ◌+◌, ◌-◌, ◌<◌, ◌≤◌, min, Bool, true, false, List, Option, None, Some, IfNone, IfSome, length, slice_get, get_or, sym, ap, subst, inl, inr, true≢false, arith}
 use Rattle.std.specs.List.{range_with_len}
 use Rattle.std.proofs.lemmas.Bool.{cases_eq, cases_lt}
@@ -79,7 +79,7 @@ NoneOf next first end found = IfNone found ((test : ℕ → Bool) → AreNext te
 abbrev FirstOf : (next : List ℕ) (first end : ℕ) → Option ℕ → Type 0
 FirstOf next first end found = IfSome found (λ n. (test : ℕ → Bool) → AreNext test (length next) next → IsFirst test first (min end (length next)) n)
 
--- the same where the ends of the range are told apart
+-- the same where the ends of the range are reported apart
 pub answer_between : (es : List PlainExpression) (next : List ℕ) → AreAnswers es next → (range : ℕ × ℕ) (first end : ℕ) (found : Option ℕ) → first ≡ range.0 → end ≡ range.1
     → NoneOf next first end found → FirstOf next first end found → IsAnswerOf es range found
 answer_between es next are range first end found begins ends none some =

@@ -11,12 +11,12 @@ use Rattle.typing_rules.specs.Laws.{IsAmong}
 use Rattle.spec_statements.specs.BlockContext.{BlockContext}
 use Rattle.spec_statements.specs.Emits.{EmitOK, IsEmittable}
 
--- one of the range stands for the answer of a statement, or is not there
+-- one of the range denotes the result of a statement, or is not there
 abbrev pub IsEmitFault : BlockContext → (first end : ℕ) → FunctionError → Type 0
 IsEmitFault c first end (error.EmitResult e) = IsAmong e (handles_between (first, end)) × ¬ IfSome (slice_get c.f.expressions e) IsEmittable
 IsEmitFault c first end _ = ⊥
 
--- whether an expression stands for the answer of a statement
+-- whether an expression denotes the result of a statement
 abbrev pub is_answer_itself : Expression → Bool
 is_answer_itself (x.CallResult function) = true
 is_answer_itself (x.AtomicResult type comparison) = true
@@ -38,11 +38,11 @@ is_answer_there (Some expression) = is_answer expression
 abbrev pub is_answer_at : List PlainExpression → ℕ → Bool
 is_answer_at expressions e = is_answer_there (slice_get expressions e)
 
--- for each expression the first from it on that stands for the answer of a statement
+-- for each expression the first from it on that denotes the result of a statement
 abbrev pub AreAnswers : List PlainExpression → List ℕ → Type 0
 AreAnswers expressions next = AreNext (is_answer_at expressions) (length expressions) next
 
--- the first of a range that stands for the answer of a statement, if there is one
+-- the first of a range that denotes the result of a statement, if there is one
 abbrev pub IsAnswerOf : List PlainExpression → (range : ℕ × ℕ) → Option ℕ → Type 0
 IsAnswerOf expressions range found =
     MatchOption found (EmitOK expressions range.0 range.1) (λ e. IsAmong e (handles_between range) × ¬ IfSome (slice_get expressions e) IsEmittable)

@@ -64,7 +64,7 @@ fn arguments_fault<C: StatementContext>(
     None
 }
 
-// Whether an expression stands for what a function answers.
+// Whether an expression denotes what a function answers.
 fn is_answer_of(expression: &Expression, function: Handle<key::Function>) -> bool
     ensures { IsTrue result ↔ (expression_view expression.now ≡ plain (x.CallResult function)) }
 {
@@ -92,7 +92,7 @@ fn is_answered<C: StatementContext>(
     }
 }
 
-/// Whether a call passes what its function declares, and answers by what stands for its answer. A call of a function that is not
+/// Whether a call passes what its function declares, and answers by what denotes its answer. A call of a function that is not
 /// there is not refused here: that it is there, and that as much is passed as it declares, is asked beforehand.
 ///
 /// # Errors

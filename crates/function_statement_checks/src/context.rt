@@ -31,7 +31,7 @@ pub trait StatementContext {
     /// What it holds.
     ghost seen: { Self → PlainContext };
 
-    /// What is found once is that of these: of all expressions when their values are known, and which stand for answers; of all
+    /// What is found once is that of these: of all expressions when their values are known, and which denote answers; of all
     /// types which are made as the module's type of rays.
     ghost known: { Self → Type 0 };
 
@@ -85,7 +85,7 @@ pub trait StatementContext {
         requires { known self.now }
         ensures { IsTrue result ↔ IsOfKind (seen self.now).f.expressions handle Const };
 
-    /// The first expression of a range that stands for the answer of a statement, if there is one. That takes the same time for
+    /// The first expression of a range that denotes the result of a statement, if there is one. That takes the same time for
     /// any range.
     fn answer_of(&self, range: Range<key::Expression>) -> Option<Handle<key::Expression>>
         requires { known self.now }
@@ -119,7 +119,7 @@ pub struct BlockContext<'a> {
     pub forms: &'a [Form],
     /// When the value of each of them is known.
     pub kinds: &'a ExpressionKindTracker,
-    /// For each of them the first from it on that stands for the answer of a statement.
+    /// For each of them the first from it on that denotes the result of a statement.
     pub answers: &'a [u32],
     /// Of each type of the module, whether it is made of the same as its type of rays; those that have no mark here are compared
     /// with it.

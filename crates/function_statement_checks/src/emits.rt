@@ -12,7 +12,7 @@ use ir_sets::next::first_passing;
 use ir_types::key;
 use typing_errors::FunctionError;
 
-// The first expression of a range that stands for the answer of a statement, where for each expression the first from it on that does is known.
+// The first expression of a range that denotes the result of a statement, where for each expression the first from it on that does is known.
 pub(crate) fn answer_of(
     answers: &[u32],
     range: Range<key::Expression>,
@@ -30,7 +30,7 @@ pub(crate) fn answer_of(
 ///
 /// # Errors
 ///
-/// [`FunctionError::EmitResult`] for one that stands for the answer of a statement.
+/// [`FunctionError::EmitResult`] for one that denotes the result of a statement.
 pub fn check_emit<C: StatementContext>(
     context: &C,
     range: Range<key::Expression>,

@@ -1,4 +1,4 @@
--- What is asked of each statement, and what one is refused for, as the body is judged.
+-- What is required of each statement, and what one is refused for, as the body is judged.
 use Rattle.std.proofs.Common.{◌≡◌, subst, sym}
 use Rattle.std.proofs.lemmas.Option.{slice_get_within}
 use Rattle.typing_errors.specs.declared.error.FunctionError.{FunctionError}

@@ -1,4 +1,4 @@
--- What is asked of each statement of a body, and what one is refused for.
+-- What is required of each statement of a body, and what one is refused for.
 use Rattle.std.specs.Prelude.{◌<◌, length}
 use Rattle.ir_blocks.specs.Plain.{image_store, PlainStatement, switch, operation, call}
 use Rattle.ir_items.specs.Plain.{PlainModule}
@@ -23,6 +23,6 @@ MeetsPlainly c (operation (image_store image coordinate array_index value)) = Un
 MeetsPlainly c (call function arguments answer) = function < length c.m.functions → StatementOK c (call function arguments answer)
 MeetsPlainly c u = StatementOK c u
 
--- it has the fault that is told, if one is
+-- it has the fault that is reported, if one is
 abbrev pub IsWrong : BlockContext → StatementError → PlainStatement → Type 0
 IsWrong c r u = IfFault r (IsStatementFault c u)

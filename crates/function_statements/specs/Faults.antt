@@ -52,7 +52,7 @@ IsStatementFault c kill e = ⊥
 IsStatementFault c (operation a) e = IsOperationFault c a e
 IsStatementFault c (call function arguments answer) e = IsCallFault c function arguments answer e
 
--- ---- where it stands
+-- ---- where it occurs
 
 -- A statement of the body has this fault.
 pub record IsBodyFault (c : BlockContext) (e : FunctionError) : Type 0 where
@@ -61,7 +61,7 @@ pub record IsBodyFault (c : BlockContext) (e : FunctionError) : Type 0 where
   pub stands : OccursAt c.f.body place statement
   pub wrong : IsStatementFault c statement e
 
--- memory ran out, or this is so of the fault that is told
+-- memory ran out, or this is so of the fault that is reported
 abbrev pub IfFault : StatementError → (FunctionError → Type 0) → Type 0
 IfFault (Memory e) P = Unit {0}
 IfFault (Fault e) P = P e

@@ -1,4 +1,4 @@
-//! Which expressions of a function stand for the answers of statements.
+//! Which expressions of a function denote the results of statements.
 
 ghost use Rattle.std.specs.Prelude.{◌≡◌, ◌<◌, IfOk};
 ghost use Rattle.ir_items.specs.View.{function_view};
@@ -10,7 +10,7 @@ use ir_items::{Expression, Function};
 use ir_sets::next::{PlaceTest, next_passing};
 use std::alloc::{AllocError, Global};
 
-// Whether an expression stands for the answer of a statement, and so is not computed where it is emitted.
+// Whether an expression denotes the result of a statement, and so is not computed where it is emitted.
 fn is_answer(expression: &Expression) -> bool
     ensures { result ≡ is_answer (expression_view expression.now) }
 {
@@ -25,7 +25,7 @@ fn is_answer(expression: &Expression) -> bool
     )
 }
 
-// Whether an expression of a function stands for the answer of a statement.
+// Whether an expression of a function denotes the result of a statement.
 #[derive(Drop)]
 struct AnswerTest<'a> {
     function: &'a Function,
@@ -46,7 +46,7 @@ impl PlaceTest for AnswerTest<'_> {
     }
 }
 
-/// For each expression of a function the first from it on that stands for the answer of a statement, their number where there
+/// For each expression of a function the first from it on that denotes the result of a statement, their number where there
 /// is none.
 ///
 /// # Errors

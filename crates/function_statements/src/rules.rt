@@ -1,4 +1,4 @@
-//! The rules of statements, as they are asked of each statement of a body.
+//! The rules of statements, as they are required of each statement of a body.
 
 use crate::error::StatementError;
 use crate::statement::check_own;

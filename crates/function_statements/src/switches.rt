@@ -45,7 +45,7 @@ fn check_selector<C: StatementContext>(
 /// # Errors
 ///
 /// [`FunctionError::InvalidSwitchType`] for the selector; for the values [`FunctionError::ConflictingCaseType`] where one is of
-/// another kind, and [`FunctionError::ConflictingSwitchCase`] or [`FunctionError::MultipleDefaultCases`] where one stands twice;
+/// another kind, and [`FunctionError::ConflictingSwitchCase`] or [`FunctionError::MultipleDefaultCases`] where one occurs twice;
 /// [`FunctionError::MissingDefaultCase`] and [`FunctionError::LastCaseFallTrough`]. [`Refusal::Memory`] where there is none for the
 /// values.
 pub fn check_switch<C: StatementContext>(

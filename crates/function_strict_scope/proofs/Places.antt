@@ -1,4 +1,4 @@
--- What a walk asks along a body is what is asked at each place, and what it finds wrong is wrong at one.
+-- What a walk requires along a body is what is required at each place, and what it finds wrong is wrong at one.
 use Rattle.std.proofs.Common.{◌≡◌, ℕ, zero, suc, ◌+◌, ◌-◌, ◌<◌, ◌≤◌, inl, inr, ⊎_elim, List, [], ◌++◌, All, Option, Some, None, Contains, slice_get, refl, sym, ap, ◌∙◌, subst, arith}
 use Rattle.std.proofs.lemmas.List.Elements.{All-nil, All-contains}
 use Rattle.typing_errors.specs.declared.error.FunctionError.{FunctionError}

@@ -1,4 +1,4 @@
--- Each fault of strict scope refutes a part of what is asked.
+-- Each fault of strict scope refutes a part of what is required.
 use Rattle.std.proofs.Common.{ℕ, ⊎_elim, Contains, sym, subst}
 use Rattle.typing_errors.specs.declared.error.FunctionError.{FunctionError}
 use Rattle.typing_errors.specs.declared.error.FunctionError.TheVariants as error

@@ -1,4 +1,4 @@
--- What is asked of a statement itself.
+-- What is required of a statement itself.
 use Rattle.std.proofs.Common.{◌≡◌, ℕ, inl, inr, Bool, true, false, List, [], ◌∷◌, All, Option, Some, None, slice_get, option_to_list, refl, sym, ap, ◌∙◌, subst, true≢false}
 use Rattle.std.proofs.lemmas.List.Elements.{All-nil, All-cons}
 use Rattle.typing_errors.specs.declared.expressions.ExpressionError.TheVariants.{NotInScope}
@@ -47,7 +47,7 @@ new_fault f s sure _ h = absurd h
 no_range : {A : Type 0} (x : Emitted) → None ≡ Some x → A
 no_range x is = let y = is in absurd (cc)
 
--- what stands for an answer comes into scope alone, and nothing is emitted
+-- what denotes an answer comes into scope alone, and nothing is emitted
 answer_alone : (s : PlainStatement) (h : ℕ) → None ≡ statement_range s → Some h ≡ statement_result s → (emitted_by s ≡ []) × (introduced s ≡ h ∷ [])
 answer_alone (emit first end) h none is = no_range _ none
 answer_alone (block b) h none is = let y = is in absurd (cc)

@@ -174,7 +174,7 @@ switch_wrong f sure s selector cases is r h =
 
 -- ---- loops
 
--- behind a loop's body, what is sure is left
+-- after a loop's body, what is sure is left
 pub body_left : (sure sure_body sure_left : List ℕ) (left : Option ℕ) (body : PlainBlock) → sure_body ≡ sure ++ top_level body → left ≡ left_in sure body → sure_left ≡ cut_to left sure_body → sure_left ≡ sure ++ sure_level body
 body_left sure sure_body sure_left left body grown is cut = cut ∙ (ap (λ o. cut_to o sure_body) is ∙ (ap (cut_to (left_in sure body)) grown ∙ cut_left sure body))
 

@@ -50,7 +50,7 @@ pub record IsPassedUnsurely (f : PlainFunction) (function place_of_argument : �
   pub is : slice_get arguments place_of_argument ≡ Some passed
   pub unknown : ¬ InStrictScope f place passed
 
--- what stands for the answer of a `Proceed` or of a ballot is of another kind
+-- what denotes the answer of a `Proceed` or of a ballot is of another kind
 pub data IsOfOtherKind (f : PlainFunction) (e : ℕ) : Type 0 where
   of_proceed : (p : Place) (query : ℕ) → OccursAt f.body p (operation (ray_query query (Proceed e))) → ¬ (slice_get f.expressions e ≡ Some (plain RayQueryProceedResult)) → IsOfOtherKind f e
   of_ballot : (p : Place) (predicate : Option ℕ) → OccursAt f.body p (operation (ballot e predicate)) → ¬ (slice_get f.expressions e ≡ Some (plain SubgroupBallotResult)) → IsOfOtherKind f e

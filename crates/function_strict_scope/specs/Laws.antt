@@ -1,4 +1,4 @@
--- A fault of strict scope refutes what is asked.
+-- A fault of strict scope refutes what is required.
 use Rattle.typing_errors.specs.declared.error.FunctionError.{FunctionError}
 use Rattle.ir_items.specs.Plain.{PlainFunction}
 use Rattle.spec_statements.specs.Strict.{StrictOK}

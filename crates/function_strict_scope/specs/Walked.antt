@@ -29,7 +29,7 @@ IfFault (strict_error.OtherAnswer e) P = P (error.StrictResultMismatch e)
 
 -- ---- ranges
 
--- each of these comes into scope behind the others, and its operands are known there
+-- each of these comes into scope after the others, and its operands are known there
 abbrev pub EachKnown : PlainFunction → (sure : List ℕ) → List ℕ → Type 0
 EachKnown f sure [] = Unit {0}
 EachKnown f sure (e ∷ es) = All (Known f sure) (operands_given (slice_get f.expressions e)) × EachKnown f (sure ++ e ∷ []) es
@@ -69,9 +69,9 @@ IsFaultOfNew f sure emitted introduced (error.Expression o source) = (source ≡
 IsFaultOfNew f sure emitted introduced (error.ExpressionAlreadyInScope e) = IsAgainIn sure introduced e
 IsFaultOfNew f sure emitted introduced _ = ⊥
 
--- ---- what is asked of a statement
+-- ---- what is required of a statement
 
--- what stands for an answer is of its own kind
+-- what denotes an answer is of its own kind
 pub record AnswerKindOK (f : PlainFunction) (s : PlainStatement) : Type 0 where
   pub proceeds : (e : ℕ) → proceeds_by s ≡ Some e → slice_get f.expressions e ≡ Some (plain RayQueryProceedResult)
   pub ballots : (e : ℕ) → ballots_by s ≡ Some e → slice_get f.expressions e ≡ Some (plain SubgroupBallotResult)
@@ -101,7 +101,7 @@ IsFaultHere f spot sure _ = ⊥
 
 -- ---- what is left of what has come into scope
 
--- how many expressions there are behind the first statement that holds a continue, where one does
+-- how many expressions there are after the first statement that holds a continue, where one does
 abbrev pub left_in : (sure : List ℕ) → PlainBlock → Option ℕ
 left_in sure stop = None
 left_in sure (next s rest) = if holds_continue s then Some (length (sure ++ introduced s)) else left_in (sure ++ introduced s) rest

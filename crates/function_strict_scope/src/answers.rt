@@ -1,4 +1,4 @@
-//! The kinds of what stands for answers.
+//! The kinds of what denotes answers.
 
 ghost use Rattle.std.specs.Prelude.{◌≡◌, ℕ, List, IfErr, OnOk, slice_get};
 ghost use Rattle.ir_blocks.specs.Places.{statement as spot};
@@ -11,7 +11,7 @@ use crate::error::StrictError;
 use ir_arena::handle::Handle;
 use ir_items::{Expression, Function, RayQueryFunction, Statement, key};
 
-// What stands for the answer of a `Proceed`.
+// What denotes the answer of a `Proceed`.
 fn proceeds_by(statement: &Statement) -> Option<Handle<key::Expression>>
     ensures { result ≡ proceeds_by (statement_view statement.now) }
 {
@@ -48,7 +48,7 @@ fn proceeds_by(statement: &Statement) -> Option<Handle<key::Expression>>
     }
 }
 
-// What stands for the answer of a ballot.
+// What denotes the answer of a ballot.
 fn ballots_by(statement: &Statement) -> Option<Handle<key::Expression>>
     ensures { result ≡ ballots_by (statement_view statement.now) }
 {
@@ -79,7 +79,7 @@ fn ballots_by(statement: &Statement) -> Option<Handle<key::Expression>>
     }
 }
 
-// Whether the expression at a handle stands for the answer of a `Proceed`.
+// Whether the expression at a handle denotes the answer of a `Proceed`.
 #[tactic(auto, using(ir_references::proofs::Entries::entries))]
 fn is_proceed_result(function: &Function, handle: Handle<key::Expression>) -> bool
     ensures { result ≡ is_proceed (slice_get (function_view function.now).expressions handle) }
@@ -101,7 +101,7 @@ fn is_ballot_result(function: &Function, handle: Handle<key::Expression>) -> boo
     }
 }
 
-/// Whether what stands for the answer of a `Proceed` or of a ballot is of its own kind.
+/// Whether what denotes the answer of a `Proceed` or of a ballot is of its own kind.
 pub fn check_answer(function: &Function, statement: &Statement) -> Result<(), StrictError>
     ensures kind { OnOk result (AnswerKindOK (function_view function.now) (statement_view statement.now)) }
     ensures fault { IfErr result (λ r. IfFault r (λ e. (sure : List ℕ) → IsFaultHere (function_view function.now) (spot (statement_view statement.now)) sure e)) }

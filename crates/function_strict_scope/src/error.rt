@@ -21,7 +21,7 @@ pub enum StrictError {
     },
     /// What is brought into scope is there already. It is so only where the scope of the body is not in order.
     Known(Handle<key::Expression>),
-    /// What stands for the answer of a `Proceed` or of a ballot is of another kind.
+    /// What denotes the answer of a `Proceed` or of a ballot is of another kind.
     OtherAnswer(Handle<key::Expression>),
 }
 

@@ -21,7 +21,7 @@ use ir_items::{Function, Statement, key};
 use ir_references::{range_of, result_of};
 use std::alloc::{AllocError, Global};
 
-// Brings an expression into scope behind the others.
+// Brings an expression into scope after the others.
 fn add(sure: &mut ExpressionList, handle: Handle<key::Expression>) -> Result<(), StrictError>
     ensures added { OnOk result (sure.new ≡ sure.old ++ handle ∷ []) }
     ensures fault { IfErr result (λ r. IfFault r (λ e. (f : PlainFunction) → IsFaultOfNew f sure.old [] (handle ∷ []) e)) }
@@ -67,7 +67,7 @@ fn check_operands(
     }
 }
 
-// Emits a range: of each expression in turn the operands are in scope, and it comes into scope behind the others.
+// Emits a range: of each expression in turn the operands are in scope, and it comes into scope after the others.
 fn emit_each(
     function: &Function,
     sure: &mut ExpressionList,

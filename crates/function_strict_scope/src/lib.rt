@@ -1,5 +1,5 @@
 //! Strict scope, which no other validator asks for: every operand of a statement, of a loop's condition and of an expression that
-//! is emitted is in scope where it is used, what a continue may skip doesn't count behind the loop's body, and what stands for
+//! is emitted is in scope where it is used, what a continue may skip doesn't count after the loop's body, and what denotes
 //! the answer of a `Proceed` or of a ballot is of its own kind.
 #![tactic(auto)]
 

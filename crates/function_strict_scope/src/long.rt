@@ -61,7 +61,7 @@ fn emitted_in(block: &Block) -> usize {
     total
 }
 
-/// Whether a function's body emits more than the function has expressions, many times over. Nothing is asked of the answer: it
+/// Whether a function's body emits more than the function has expressions, many times over. Nothing is required of the answer: it
 /// only says which way is the shorter one.
 pub fn emits_often(function: &Function) -> bool {
     let emitted = emitted_in(&function.body);

@@ -45,7 +45,7 @@ fn unknown_of_query(
     }
 }
 
-/// The first operand of a statement that is not in scope; of a call, whose arguments are told by their places, none. Operands
+/// The first operand of a statement that is not in scope; of a call, whose arguments are reported by their places, none. Operands
 /// of what stands inside a statement, and a loop's condition, are not its own.
 pub fn unknown_operand(
     function: &Function,

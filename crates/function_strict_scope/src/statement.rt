@@ -1,4 +1,4 @@
-//! What is asked of a statement itself.
+//! What is required of a statement itself.
 
 ghost use Rattle.std.specs.Prelude.{◌≡◌, ◌++◌, ℕ, All, IfErr, IfNone, IfSome, OnOk, Some};
 ghost use Rattle.ir_blocks.specs.Places.{statement as spot, loop_condition};
@@ -117,7 +117,7 @@ pub fn check_condition(
     }
 }
 
-/// Whether a statement that holds no others meets what is asked, which brings into scope what it does.
+/// Whether a statement that holds no others meets what is required, which brings into scope what it does.
 pub fn check_own(
     function: &Function,
     sure: &mut ExpressionList,

@@ -27,7 +27,7 @@ fn cut_after(live: &mut LiveOperands, sure: &mut ExpressionList, left: Option<us
     }
 }
 
-// How many are left behind a statement, with so many in scope there.
+// How many are left after a statement, with so many in scope there.
 fn left_after(left: Option<usize>, continues: bool, count: usize) -> Option<usize>
     ensures { result ≡ first_left left (if continues then Some count else None) }
 {
@@ -43,8 +43,8 @@ fn either(first: bool, second: bool) -> bool
     first || second
 }
 
-/// Whether the statements of a block, and those inside them, meet what is asked. What the block's own statements bring stays in
-/// scope. It answers how many expressions are in scope behind the first of its statements that holds a continue of the loop
+/// Whether the statements of a block, and those inside them, meet what is required. What the block's own statements bring stays in
+/// scope. It answers how many expressions are in scope after the first of its statements that holds a continue of the loop
 /// around the block, if one does: no continue may skip these.
 #[cycle(walk)]
 pub fn check_block(
@@ -68,7 +68,7 @@ pub fn check_block(
     Ok(left)
 }
 
-// The same of a block behind whose end nothing of it is in scope. It answers whether a continue of the loop around it stands in it.
+// The same of a block after whose end nothing of it is in scope. It answers whether a continue of the loop around it stands in it.
 #[cycle(walk)]
 fn check_inner(
     function: &Function,

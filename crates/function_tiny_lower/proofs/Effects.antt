@@ -70,7 +70,7 @@ module _ (p : Effect → Bool) (not_taken : (o : Operand) → p (takes o) ≡ fa
     alone : (s : PlainStatement) → list_any p (statement_effects s ++ []) ≡ is_some (look s)
     alone s = list_any-append p (statement_effects s) [] ∙ (or_false (list_any p (statement_effects s)) ∙ of_statement s)
 
-    -- in a part, and in what stands behind it
+    -- in a part, and in what stands after it
     both : (xs ys : List Effect) (a b : Option F) → list_any p xs ≡ is_some a → list_any p ys ≡ is_some b → list_any p (xs ++ ys) ≡ is_some (option_or a b)
     both xs ys a b first after = list_any-append p xs ys ∙ (ap (λ z. z || list_any p ys) first ∙ (ap (λ z. is_some a || z) after ∙ sym (some_or a b)))
 

@@ -1,4 +1,4 @@
--- What is kept of a function is what is asked of a layer.
+-- What is kept of a function is what is required of a layer.
 use Rattle.std.proofs.Common.{◌≡◌, ℕ, zero, suc, Bool, List, [], ◌∷◌, Some, false, map, length, slice_get, refl, sym, ap, subst, ◌∙◌}
 use Rattle.std.specs.Option.{is_some}
 use Rattle.spec_analysis.specs.declared.global_use.GlobalUse.{GlobalUse}

@@ -1,4 +1,4 @@
--- What is told of a function to its callers, and which statements end the fragment.
+-- What is reported of a function to its callers, and which statements end the fragment.
 use Rattle.std.specs.Prelude.{List, [], Option, Some, None, Bool, false, if◌then◌else◌, slice_get}
 use Rattle.ir_blocks.specs.Plain.{PlainStatement, emit, block, if_, switch, loop, break, continue, return, kill, operation, call}
 use Rattle.ir_flags.specs.declared.stages.ShaderStages.{ShaderStages}

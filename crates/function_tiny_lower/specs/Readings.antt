@@ -22,7 +22,7 @@ use Rattle.typing_forms.specs.declared.form.Form.{Form}
 use Rattle.typing_forms.specs.declared.resolution.TypeResolution.{TypeResolution}
 use Rattle.typing_errors.specs.Answers.{form_given}
 
--- The module has no global variables, and of its types this is told.
+-- The module has no global variables, and of its types this is reported.
 pub record IsMadeOf (m : PlainModule) (infos : List TypeInfo) : Type 0 where
   pub told : AreReported m.types infos
   pub no_globals : m.globals ≡ []

@@ -40,7 +40,7 @@ abbrev pub type_of_form : Form → Option ValueType
 type_of_form (form.Scalar s) = type_of_scalar s
 type_of_form _ = None
 
--- ---- how a type is told
+-- ---- how a type is reported
 
 abbrev pub resolution_of : ValueType → TypeResolution
 resolution_of t = resolution.Value (inner.Scalar (scalar_of t))

@@ -1,4 +1,4 @@
-//! The types of what is declared: arguments, and the answers of functions.
+//! The types of what is declared: arguments, and the results of functions.
 
 ghost use Rattle.std.specs.Prelude.{◌≡◌, map, option_map, slice_get};
 ghost use Rattle.ir_items.specs.View.{argument_view, function_view, module_view};

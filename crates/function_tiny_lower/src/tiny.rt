@@ -41,7 +41,7 @@ pub struct TinyLower {
 }
 
 impl TinyLower {
-    /// The layer for the module of whose types this is told, and whose global expressions have these types.
+    /// The layer for the module of whose types this is reported, and whose global expressions have these types.
     pub fn new(infos: Vec<TypeInfo>, globals: Vec<TypeResolution>) -> TinyLower
         ensures infos { result.infos ≡ infos }
         ensures globals { result.globals ≡ globals }

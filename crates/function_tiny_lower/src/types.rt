@@ -58,7 +58,7 @@ pub(crate) fn types_of(
     Ok(types)
 }
 
-/// How these types are told. The error is out of memory.
+/// How these types are reported. The error is out of memory.
 pub(crate) fn resolutions_of(
     alloc: Global,
     types: &[ValueType],

@@ -108,7 +108,7 @@ fn scalar_of(ty: ValueType) -> Scalar
     }
 }
 
-/// How it is told.
+/// How it is reported.
 pub(crate) fn resolution_of(ty: ValueType) -> TypeResolution
     ensures { result ≡ resolution_of ty }
 {

@@ -71,7 +71,7 @@ module _ (m : PlainModule) (e : PlainEntry) (before after : Summary) where
     may_kill = subst (λ b. IsTrue b ↔ MayKill m e.function) (sym adds.may_kill) is.may_kill;
   }
 
-  -- what is told in the same way
+  -- what is reported in the same way
   pub adds_still : (last : Summary) → AddsOwnUses e before after → ReportsSame after last → AddsOwnUses e before last
   adds_still last adds same = record {
     many = same.many ∙ adds.many;

@@ -1,4 +1,4 @@
--- Whether each that stands for an answer is answered, by marks and by places.
+-- Whether each that denotes an answer is answered, by marks and by places.
 use Rattle.std.proofs.Common.{◌≡◌, ◌↔◌, ◌⊎◌, inl, inr, rules, ◌<◌, ◌+◌, zero, suc, ℕ, Bool, true, IsTrue, List, [], ◌∷◌, ◌++◌, Some, Contains, length, map, slice_get, refl, sym, ap, subst, ◌∙◌, arith}
 use Rattle.std.proofs.lemmas.List.{length-map}
 use Rattle.std.proofs.lemmas.Option.{slice_get_within}
@@ -12,7 +12,7 @@ use Rattle.spec_statements.specs.Results.{AnswersBy, DenotesResult, of_call, of_
 use Rattle.function_validator.specs.Faults.{IsUnanswered}
 use Rattle.function_validator.specs.Judged.{AllAnswer}
 
--- ---- marks, one behind another
+-- ---- marks, one after another
 
 left_of : (xs : List Bool) (b : Bool) (e : ℕ) → e < length xs → slice_get (xs ++ b ∷ []) e ≡ slice_get xs e
 left_of [] b e lt = absurd (omega (arith, lt))

@@ -47,7 +47,7 @@ AllAccepted reading s c = Has s.flags.0 EXPRESSIONS.0 → (e : ℕ) → e < leng
 
 -- ---- the body
 
--- how statements leave their blocks, what is in scope, what they answer by, their rules, the payloads of rays, or strict scope where it is asked for
+-- how statements leave their blocks, what is in scope, what they answer by, their rules, the payloads of rays, or strict scope where it is required
 abbrev pub IsFaultOfBody : FunctionSettings → BlockContext → FunctionError → Type 0
 IsFaultOfBody s c e = IsControlFault c.f.body e ⊎ (IsScopeFault s.flags c.f e ⊎ (IsBodyFault c e ⊎ (IsPayloadsFault c.m c.f s.held e ⊎ (Has s.flags.0 STRICT_SCOPE.0 × IsStrictFault c.f e))))
 
@@ -60,7 +60,7 @@ pub record IsBodyInOrder (s : FunctionSettings) (c : BlockContext) : Type 0 wher
   pub payloads : PayloadsOK c.m c.f s.held
   pub strict : Has s.flags.0 STRICT_SCOPE.0 → StrictOK c.f
 
--- what stands for an answer is answered by no statement
+-- what denotes an answer is answered by no statement
 pub record IsNotAnswered (f : PlainFunction) (e : ℕ) : Type 0 where
   pub stands : DenotesResult f.expressions e
   pub none : (p : Place) → AnswersBy f.body p e → ⊥
@@ -71,7 +71,7 @@ IsUnanswered f _ = ⊥
 
 -- ---- all parts
 
--- behind the arity of calls and the analysis
+-- after the arity of calls and the analysis
 pub data IsFaultAfter (reading : Reading) (faults : Faults) (s : FunctionSettings) (c : BlockContext) (e : FunctionError) : Type 0 where
   in_interface : IsInterfaceFault c s.entry e → IsFaultAfter reading faults s c e
   in_expressions : InterfaceOK c s.entry → Has s.flags.0 EXPRESSIONS.0 → IsExpressionFault reading faults c e → IsFaultAfter reading faults s c e

@@ -35,7 +35,7 @@ pub record AreExpressionsMet (reading : Reading) (s : FunctionSettings) (c : Blo
 
 -- ---- the body
 
--- All that is asked of a body is met, but that each that stands for an answer is answered; these are answered by, and this type
+-- All that is required of a body is met, but that each that denotes an answer is answered; these are answered by, and this type
 -- of payloads is held after it.
 pub record IsBodyMet (s : FunctionSettings) (c : BlockContext) (answered : List ℕ) (held : Option ℕ) : Type 0 where
   pub control : ControlOK c.f.body
@@ -47,22 +47,22 @@ pub record IsBodyMet (s : FunctionSettings) (c : BlockContext) (answered : List 
   pub payloads : AreOfOneType c.m c.f s.held held
   pub strict : Has s.flags.0 STRICT_SCOPE.0 → StrictOK c.f
 
--- each that stands for an answer is answered by a statement
+-- each that denotes an answer is answered by a statement
 abbrev pub AllAnswer : BlockContext → Type 0
 AllAnswer c = (e : ℕ) → DenotesResult c.f.expressions e → (p : Place) × AnswersBy c.f.body p e
 
--- Where bodies are checked, all that is asked of this one is met, and these stages are those that may run all its statements;
+-- Where bodies are checked, all that is required of this one is met, and these stages are those that may run all its statements;
 -- else any. This type of payloads is held after it.
 pub record AreBlocksMet (s : FunctionSettings) (c : BlockContext) (callees : List ShaderStages) (stages : ShaderStages) (held : Option ℕ) : Type 0 where
   pub body : Has s.flags.0 BLOCKS.0 → BodyOK s c
   pub run : (stage : ℕ) → Has stages.0 stage ↔ (Has all_stages.0 stage × (Has s.flags.0 BLOCKS.0 → (p : Place) (u : PlainStatement) → OccursAt c.f.body p u → Has (statement_stages s.subgroup_stages callees u).0 stage))
   pub held_after : IsPayloadAfter s.flags c.m c.f s.held held
 
--- something is wrong with the body, or nothing is, and what stands for an answer is not answered
+-- something is wrong with the body, or nothing is, and what denotes an answer is not answered
 abbrev pub IsBlocksFault : FunctionSettings → BlockContext → FunctionError → Type 0
 IsBlocksFault s c e = Has s.flags.0 BLOCKS.0 × (IsFaultOfBody s c e ⊎ (IsBodyInOrder s c × Has s.flags.0 EXPRESSIONS.0 × IsUnanswered c.f e))
 
--- ---- all parts behind the analysis
+-- ---- all parts after the analysis
 
 -- They are in order; these stages are those that may run the function, and this type of payloads is held after it.
 pub record ArePartsMet (reading : Reading) (s : FunctionSettings) (c : BlockContext) (callees : List ShaderStages) (stages : ShaderStages) (held : Option ℕ) : Type 0 where

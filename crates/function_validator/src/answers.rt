@@ -1,4 +1,4 @@
-//! Whether each expression that stands for an answer is answered.
+//! Whether each expression that denotes an answer is answered.
 
 ghost use Rattle.std.specs.Prelude.{◌≡◌, ◌↔◌, ◌<◌, ◌≤◌, ℕ, Contains, IfOk, MatchResult, Some, length, slice_get, true};
 ghost use Rattle.function_validator.specs.Faults.{IsUnanswered};
@@ -30,7 +30,7 @@ fn marks_of(alloc: Global, answered: &ExpressionList, count: usize) -> Result<Ve
     Ok(marks)
 }
 
-/// Whether each expression that stands for the answer of a call or of an atomic operation is answered. `answered` has all that
+/// Whether each expression that denotes the result of a call or of an atomic operation is answered. `answered` has all that
 /// are answered by a statement.
 ///
 /// # Errors

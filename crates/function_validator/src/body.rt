@@ -40,7 +40,7 @@ pub(crate) struct BodyFound {
     pub held: Option<Handle<key::IrType>>,
 }
 
-// Whether strict scope is as it should be, where it is asked for. It goes over a body whose scope is in order.
+// Whether strict scope is as it should be, where it is required. It goes over a body whose scope is in order.
 fn check_strictly(
     alloc: Global,
     flags: ValidationFlags,
@@ -56,7 +56,7 @@ fn check_strictly(
     }
 }
 
-/// Whether all that is asked of the body of the context's function is met, but that each expression that stands for an answer is
+/// Whether all that is required of the body of the context's function is met, but that each expression that denotes an answer is
 /// answered.
 pub(crate) fn check_body(
     alloc: Global,

@@ -89,12 +89,12 @@ fn with_blending<L: Lower>(lower: &L, info: L::Info, blended: bool) -> L::Info
 /// Whether what connects an entry point with other stages and with hosts is as it may be, where this is kept of its function; what
 /// is kept of it then, its own uses and whether sources are blended noted.
 ///
-/// Requires that the layer was made for the module, that the payload and the output of a mesh shader are there, that uses are told of
+/// Requires that the layer was made for the module, that the payload and the output of a mesh shader are there, that uses are reported of
 /// all global variables, and that no blending is noted before.
 ///
 /// # Errors
 ///
-/// What is wrong with it, only where it stands; or out of memory.
+/// What is wrong with it, only where it occurs; or out of memory.
 pub(crate) fn connect<L: Lower>(
     lower: &L,
     alloc: Global,

@@ -1,4 +1,4 @@
-//! The parts of a check of a function behind its analysis.
+//! The parts of a check of a function after its analysis.
 
 ghost use Rattle.std.specs.Prelude.{◌↔◌, ℕ, Contains, IsTrue, MatchResult, map};
 ghost use Rattle.function_validator.specs.Faults.{IsExpressionFault, IsFaultAfter, IsUnanswered};
@@ -79,7 +79,7 @@ fn expressions_met<L: Lower>(
     }
 }
 
-// Whether each expression that stands for an answer is answered, where expressions are checked.
+// Whether each expression that denotes an answer is answered, where expressions are checked.
 #[tactic(auto, using(crate::proofs::PartLaws::asked_answers))]
 fn answers_met(
     alloc: Global,
@@ -101,7 +101,7 @@ fn answers_met(
     }
 }
 
-// Whether all that is asked of the body is met, where it is checked.
+// Whether all that is required of the body is met, where it is checked.
 #[tactic(auto, using(crate::proofs::PartLaws::unasked_blocks, crate::proofs::PartLaws::asked_blocks))]
 fn blocks_met<L: Lower>(
     lower: &L,

@@ -40,7 +40,7 @@ pub struct Validated<I> {
     pub held: Option<Handle<key::IrType>>,
 }
 
-// The parts behind the analysis, of a function of which this is kept.
+// The parts after the analysis, of a function of which this is kept.
 fn judge<L: Lower>(
     lower: &L,
     alloc: Global,
@@ -121,7 +121,7 @@ fn noted<L: Lower>(lower: &L, info: L::Info, met: Met) -> Validated<L::Info>
 /// [`Refusal::Fault`] exactly where the function is not accepted: with a fault of the first of these with which something is
 /// wrong: the arity of calls ([`FunctionError::InvalidCall`] with `ArgumentCount`), the analysis, the variables, the arguments
 /// and the result, then under [`ValidationFlags::EXPRESSIONS`] the expressions, of which it is the first that is refused, under
-/// [`ValidationFlags::BLOCKS`] the body, and under both whether each that stands for an answer is answered.
+/// [`ValidationFlags::BLOCKS`] the body, and under both whether each that denotes an answer is answered.
 /// [`Refusal::Memory`] where memory ran out.
 pub fn validate_function<L: Lower>(
     lower: &L,

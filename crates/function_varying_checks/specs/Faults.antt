@@ -39,7 +39,7 @@ use Rattle.function_varying_checks.specs.declared.error.VaryingRefusal.TheVarian
 abbrev pub Misses : VaryingContext → BuiltInRow → Capabilities → Type 0
 Misses c r x = (r.capability ≡ Some x) × (¬ IsFree c.stage r.exception) × ¬ Has c.capabilities.0 x.0
 
--- it does not go this way at this stage, or not behind a task
+-- it does not go this way at this stage, or not after a task
 abbrev pub IsAstray : VaryingContext → BuiltInRow → Type 0
 IsAstray c r = (¬ OccursAt c.direction c.stage r) ⊎ ((r.exception ≡ NotAfterTasks) × ¬ IsAhead c)
 

@@ -16,7 +16,7 @@ context_view c = record {
   direction = c.direction;
 }
 
--- what is told of the module's types is so, and told of all
+-- what is reported of the module's types is so, and reported of all
 pub record IsReported (c : VaryingContext) : Type 0 where
   pub told : AreInfos (types_view c.types.now) c.infos.now
   pub many : length c.infos.now ≡ length (types_view c.types.now)

@@ -17,7 +17,7 @@ pub struct VaryingContext<'a> {
     pub capabilities: Capabilities,
     /// The module's types.
     pub types: &'a UniqueArena<IrType, key::IrType>,
-    /// What is told of them.
+    /// What is reported of them.
     pub infos: &'a [TypeInfo],
     /// The entry point's stage.
     pub stage: ShaderStage,

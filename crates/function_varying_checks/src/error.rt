@@ -63,7 +63,7 @@ pub enum VaryingError {
     /// A capability is missing.
     #[error("{0:?} is not there")]
     UnsupportedCapability(Capabilities),
-    /// What is named goes behind the stage alone.
+    /// What is named goes after the stage alone.
     #[error("{0} goes behind the stage alone")]
     InvalidInputAttributeInStage(&'static str, ShaderStage),
     /// What is named does not go with the stage.

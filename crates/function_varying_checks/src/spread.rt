@@ -89,7 +89,7 @@ fn add_members(
     Ok(())
 }
 
-// Adds what stands for a value that is not bound. The error is out of memory.
+// Adds what denotes a value that is not bound. The error is out of memory.
 fn add_unbound(
     types: &UniqueArena<IrType, key::IrType>,
     varyings: &mut Vec<Varying>,

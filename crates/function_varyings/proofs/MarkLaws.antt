@@ -103,7 +103,7 @@ among_more words from end n among = elim (below_or_same among.0 end among.3) [
 pub none_among : (words : List Word) (from n : ℕ) → IsAmong words from from n → ⊥
 none_among words from n among = omega (arith, among.2, among.3)
 
--- what stands in a list stands in a longer one
+-- what is in a list stands in a longer one
 pub in_longer : {A : Type 0} (xs ys : List A) (k : ℕ) (x : A) → slice_get xs k ≡ Some x → slice_get (xs ++ ys) k ≡ Some x
 in_longer [] ys k x e = absurd (none_some x e)
 in_longer (y ∷ xs) ys zero x e = e

@@ -1,4 +1,4 @@
--- What is asked of the varying at a place, where those before it are known.
+-- What is required of the varying at a place, where those before it are known.
 use Rattle.std.specs.Prelude.{◌≡◌, ◌<◌, ◌⊎◌, ◌↔◌, ℕ, List, IsTrue, Option, Some, slice_get}
 use Rattle.std.specs.Ordering.{nat_cmp}
 use Rattle.std.specs.BTreeSet.{BTreeSet, contains}

@@ -126,7 +126,7 @@ fn own_fault(
     }
 }
 
-// The built-in value at a place, where it stands before.
+// The built-in value at a place, where it occurs before.
 fn built_in_again(varyings: &[Varying], place: usize) -> Option<BuiltIn>
     requires { place < length varyings.now }
     ensures { MatchOption result (IsNew built_in_of varyings.now place) (IsBuiltInAgain varyings.now place) }

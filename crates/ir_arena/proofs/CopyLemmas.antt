@@ -17,7 +17,7 @@ module _ {A B : Type 0} (view : A → B) where
   pub same_values : (xs ys : List (A × Span)) → map (entry_of view) xs ≡ map (entry_of view) ys → map view (map value_of_entry xs) ≡ map view (map value_of_entry ys)
   same_values xs ys e = values_of_entries xs ∙ (ap (map (λ x. x.0)) e ∙ sym (values_of_entries ys))
 
-  -- the next entry is put behind those that were copied
+  -- the next entry is put after those that were copied
   pub entries_more : (entries copied after : List (A × Span)) (k : ℕ) (x clone : A) (span : Span) → k < length entries → Some x ≡ value_at entries k → view clone ≡ view x → span ≡ span_at entries k
       → map (entry_of view) copied ≡ map (entry_of view) (take k entries) → after ≡ copied ++ (clone, span) ∷ [] → map (entry_of view) after ≡ map (entry_of view) (take (k + 1) entries)
   entries_more entries copied after k x clone span lt at same spanned held added =

@@ -4,7 +4,7 @@ use Rattle.std.specs.List.{range_with_len}
 use Rattle.std.specs.Borrow.{Bor}
 use Rattle.ir_arena.specs.declared.span.Span.{Span}
 
--- a handle with the value behind a reference
+-- a handle with the value after a reference
 abbrev pub handle_with_value : {T : Type 0} → ℕ × Bor T → ℕ × T
 handle_with_value p = (p.0, p.1.now)
 

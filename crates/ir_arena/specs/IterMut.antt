@@ -14,6 +14,6 @@ module _ {T K : Type 0} where
   abbrev pub loan_name : IterMut T K → GName
   loan_name it = iter_mut_name it.values
 
--- a handle with the value behind a `&mut`
+-- a handle with the value after a `&mut`
 abbrev pub handle_with_value_to_change : {T : Type 0} → ℕ × MutBor T → ℕ × T
 handle_with_value_to_change p = (p.0, p.1.now)

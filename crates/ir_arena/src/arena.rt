@@ -304,7 +304,7 @@ impl<T, K> Arena<T, K> {
     }
 
     /// Whether the first place of `range` does not pass its end, nor its end the length. Unlike
-    /// [`Arena::check_contains_range`] it is asked of a range with no place too.
+    /// [`Arena::check_contains_range`] it is required of a range with no place too.
     pub fn has_range(&self, range: &Range<K>) -> bool
         ensures { IsTrue result ↔ ((range.now.0 ≤ range.now.1) × (range.now.1 ≤ length self.now)) }
     {

@@ -170,7 +170,7 @@ impl<T> Spanned<T> {
         self.spans.swap(left, right);
     }
 
-    /// Lets go of those from a place on.
+    /// Frees those from a place on.
     pub fn truncate(&mut self, count: usize)
     where
         T: Drop,
@@ -180,7 +180,7 @@ impl<T> Spanned<T> {
         self.spans.truncate(count);
     }
 
-    /// Lets go of all. The memory is kept.
+    /// Frees all. The memory is kept.
     pub fn clear(&mut self)
     where
         T: Drop,

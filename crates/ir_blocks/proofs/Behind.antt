@@ -1,4 +1,4 @@
--- What is put behind a list, seen through a view.
+-- What is put after a list, seen through a view.
 use Rattle.std.proofs.Common.{◌≡◌, List, [], ◌∷◌, ◌++◌, map, Result, Ok, Err, OnOk, None, rules, ap, ◌∙◌}
 use Rattle.std.proofs.lemmas.List.{map-append}
 use Rattle.ir_blocks.specs.Plain.{return}

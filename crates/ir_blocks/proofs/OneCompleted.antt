@@ -119,7 +119,7 @@ none_in_empty o = elim o [ ]
 
 -- ---- the completed body
 
--- what stands behind the last statement
+-- what stands after the last statement
 ends : (s t : PlainStatement) (more : PlainBlock) (g : Bool) → goes_on (shape_of s) ≡ g → IsCompleted (next s stop) (next t more) → more ≡ ending g
 ends s t stop true g h = absurd (none_in_stop here (return None) (h.added (later here) (after_last g)))
 ends s t (next r rest) true g h =
@@ -128,7 +128,7 @@ ends s t (next r rest) true g h =
     (λ i. next (first i) (behind i))
 ends s t more false g h = no_first more (λ u e. elim (h.only (later here) u e) [ inl o ↦ true≢false (sym (open_behind o) ∙ g) | inr x ↦ none_in_stop here x.0 x.1 ])
 
--- the first of more statements than one, and those behind it
+-- the first of more statements than one, and those after it
 first_same : (s r t : PlainStatement) (rest more : PlainBlock) → IsCompleted (next s (next r rest)) (next t more) → t ≡ s
 first_same s r t rest more h =
     let k = h.kept here s refl in

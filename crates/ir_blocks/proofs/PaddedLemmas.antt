@@ -1,4 +1,4 @@
--- Kept spans that stand for as many as are asked for.
+-- Kept spans that denote as many as are asked for.
 use Rattle.std.proofs.Common.{◌≡◌, ℕ, zero, suc, ◌+◌, ◌-◌, ◌<◌, ◌≤◌, ◌==◌, Bool, true, false, true≢false, not, ◌&&◌, if◌then◌else◌, List, [], ◌∷◌, ◌++◌, take, drop, replicate, length, slice_index_or, Result, Ok, Err, OnOk, is_ok, refl, sym, ap, ◌∙◌, arith}
 use Rattle.std.specs.List.{remove_range, splice}
 use Rattle.std.proofs.lemmas.Bool.{and_parts, eqb-true}
@@ -39,7 +39,7 @@ padded_parts zero (x ∷ kept) = sym (ap (λ k. replicate k undefined_span) (no_
 padded_parts (suc n) [] = padded_none (suc n) ∙ sym (ap (λ k. replicate k undefined_span) (whole_rest (suc n)))
 padded_parts (suc n) (x ∷ kept) = ap (λ z. x ∷ z) (padded_parts n kept ∙ sym (ap (λ k. take n kept ++ replicate k undefined_span) (next_rest n (length kept))))
 
--- so many spans, and those of others behind them
+-- so many spans, and those of others after them
 pub padded_behind : (n m : ℕ) (kept more : List Span) → padded (n + m) (padded n kept ++ more) ≡ padded n kept ++ padded m more
 padded_behind zero m kept more = ap (λ k. padded k more) (no_sum m)
 padded_behind (suc n) m kept more =
@@ -201,7 +201,7 @@ last_taken xs n d p q =
     let within : n - 1 < length xs = omega (arith, p, q) in
     ap (λ k. take k xs) before ∙ take_next xs (n - 1) (slice_index_or xs (n - 1) d) within (same_at xs (n - 1) d (slice_index_or xs (n - 1) d) within)
 
--- the last of the first n is looked at, and all behind these are undefined
+-- the last of the first n is looked at, and all after these are undefined
 pub known_without : (xs : List Span) (n : ℕ) (d : Span) → 0 < n → n ≤ length xs → is_defined_span (slice_index_or xs (n - 1) d) ≡ false → up_to_defined (take n xs) ≡ up_to_defined xs
     → (n - 1 ≤ length xs) × (up_to_defined (take (n - 1) xs) ≡ up_to_defined xs)
 known_without xs n d p q e so_far = (omega (arith, p, q), sym (ap up_to_defined (last_taken xs n d p q) ∙ behind_undefined (take (n - 1) xs) (slice_index_or xs (n - 1) d) e) ∙ so_far)

@@ -63,7 +63,7 @@ room_at_end own [] r = refl
 room_at_end own (x ∷ []) r = refl
 room_at_end own (x ∷ y ∷ rs) r = room_at_end own (y ∷ rs) r
 
--- ---- what control goes on behind stays as it is
+-- ---- what control goes on after stays as it is
 
 pub finished_on : (s : PlainStatement) → goes_on (shape_of s) ≡ true → finished s ≡ s
 finished_on (emit first end) on = refl
@@ -126,7 +126,7 @@ pub room_needed : (b : Block) (i : ℕ) (s : Statement) → i + 1 ≡ length (st
     → block_room b ≡ (if goes_on (shape_of (statement_view s)) then own_room b else (statement_room s).parts)
 room_needed b i s n e = block_room-lists b ∙ lists_end (own_room b) (statements_of b) i s n e
 
--- room was made in a block behind whose last statement control goes on
+-- room was made in a block after whose last statement control goes on
 pub room_made : (a b : Block) (i : ℕ) (s : Statement) → i + 1 ≡ length (statements_of a) → s ≡ get_or (statements_of a) i s → goes_on (shape_of (statement_view s)) ≡ true → statements_of b ≡ statements_of a → HasOwnRoom b → HasRoom b
 room_made a b i s n e on same own =
     let m : i + 1 ≡ length (statements_of b) = n ∙ ap length (sym same) in
@@ -196,7 +196,7 @@ take_set vs i x n = ap (λ k. take k (set vs i x)) (one_more i) ∙ take_set_suc
 pub take_next : {A : Type 0} (vs : List A) (i : ℕ) (x : A) → i < length vs → x ≡ get_or vs i x → take (i + 1) vs ≡ take i vs ++ x ∷ []
 take_next vs i x n e = ap (λ k. take k vs) (one_more i) ∙ take_suc vs i x n e
 
--- those behind the first i are as they were
+-- those after the first i are as they were
 abbrev pub Unvisited : {A : Type 0} → List A → List A → ℕ → Type 0
 Unvisited {A} vs ws i = (length vs ≡ length ws) × ((k : ℕ) (d : A) → i ≤ k → get_or vs k d ≡ get_or ws k d)
 

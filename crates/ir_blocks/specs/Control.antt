@@ -48,6 +48,6 @@ may_leave continues outer = continues_in outer
 may_leave returns outer = returns_in outer
 may_leave kills outer = true
 
--- each statement that leaves its block may do so where it stands
+-- each statement that leaves its block may do so where it occurs
 abbrev pub ControlOK : PlainBlock → Type 0
 ControlOK b = (p : Place) (s : PlainStatement) (exit : Exit) → OccursAt b p s → exit_of (shape_of s) ≡ Some exit → IsTrue (may_leave exit (parts_around [] p))

@@ -1,4 +1,4 @@
--- Spans that are kept as far as one is defined, and stand for as many as are asked for.
+-- Spans that are kept as far as one is defined, and denote as many as are asked for.
 use Rattle.std.specs.Prelude.{◌≡◌, ◌≤◌, ℕ, zero, suc, Bool, IsTrue, List, [], ◌∷◌, length, Option, Some, None, Vec, Box, if◌then◌else◌}
 use Rattle.std.specs.declared.alloc.Global.{Global}
 use Rattle.std.specs.Cmp.{IsPartialEquivalence, IsEquivalence, on_per, on_equiv, and_equiv, nat_eq_equiv, partial_equiv_from_equiv}
@@ -18,7 +18,7 @@ abbrev pub first_kept : List Span → Span
 first_kept [] = undefined_span
 first_kept (x ∷ kept) = x
 
--- so many spans: those that are kept, in order, and the undefined one in each place behind them
+-- so many spans: those that are kept, in order, and the undefined one in each place after them
 abbrev pub padded : ℕ → List Span → List Span
 padded zero kept = []
 padded (suc n) kept = first_kept kept ∷ padded n (tail_of kept)
@@ -38,7 +38,7 @@ up_to_defined (x ∷ kept) = before_defined x (up_to_defined kept)
 same_span_equiv : IsEquivalence same_span
 same_span_equiv = and_equiv (on_equiv (λ s. s.start) nat_eq_equiv) (on_equiv (λ s. s.end) nat_eq_equiv)
 
--- the same spans, where those behind the last that is defined don't count
+-- the same spans, where those after the last that is defined don't count
 abbrev pub same_kept : List Span → List Span → Bool
 same_kept xs ys = pointwise same_span (up_to_defined xs) (up_to_defined ys)
 

@@ -6,7 +6,7 @@ use Rattle.ir_blocks.specs.declared.statements.Statement.TheFolds.{fold-Statemen
 use Rattle.ir_blocks.specs.declared.statements.Block.{Block, out-Block}
 use Rattle.ir_blocks.specs.declared.statements.SwitchCase.{SwitchCase}
 
--- of a statement: whether control goes on behind it, and whether its tail parts have room
+-- of a statement: whether control goes on after it, and whether its tail parts have room
 pub record EndRoom : Type 0 where
   pub on : Bool
   pub parts : Bool

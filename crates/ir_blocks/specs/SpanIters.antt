@@ -7,7 +7,7 @@ use Rattle.ir_arena.specs.declared.span.Span.{Span}
 use Rattle.ir_blocks.specs.declared.statements.Statement.{Statement}
 use Rattle.ir_blocks.specs.declared.span_iter.SpanIterMut.{SpanIterMut}
 
--- a statement behind a reference, and its span
+-- a statement after a reference, and its span
 abbrev pub with_span : Bor Statement × Bor Span → Statement × Span
 with_span p = (p.0.now, p.1.now)
 

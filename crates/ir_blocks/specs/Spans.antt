@@ -46,7 +46,7 @@ first_of (in_next s rest) = s
 abbrev pub first_within : BlockSpans → StatementSpans
 first_within (spans own within) = first_of within
 
--- the span of the first statement, and those of the statements behind it
+-- the span of the first statement, and those of the statements after it
 abbrev pub first_span : BlockSpans → Option Span
 first_span (spans [] within) = None
 first_span (spans (x ∷ own) within) = Some x

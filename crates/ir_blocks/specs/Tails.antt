@@ -19,14 +19,14 @@ IsTailPart (chooses accept reject) rejecting = Unit {0}
 IsTailPart (switches cases) (case_at k) = Ends cases k
 IsTailPart _ _ = ⊥
 
--- whether control goes on behind the statement by itself: it leaves nothing, and is no block, if or switch
+-- whether control goes on after the statement by itself: it leaves nothing, and is no block, if or switch
 abbrev pub goes_on : Shape → Bool
 goes_on simple = true
 goes_on (calls function) = true
 goes_on (loops body continuing break_if) = true
 goes_on _ = false
 
--- The place is the end of a tail block that is open: it is empty, or control goes on behind its last statement. The
+-- The place is the end of a tail block that is open: it is empty, or control goes on after its last statement. The
 -- body is a tail block, and the tail parts of a tail block's last statement are tail blocks.
 pub data IsOpenEnd : PlainBlock → Place → Type 0 where
   empty : IsOpenEnd stop here

@@ -9,7 +9,7 @@ use ir_arena::span::Span;
 use std::alloc::{AllocError, Global};
 use std::marker::Model;
 
-/// The spans of a block's first statements. Those of all statements behind them are [`Span::UNDEFINED`], so that
+/// The spans of a block's first statements. Those of all statements after them are [`Span::UNDEFINED`], so that
 /// nothing is kept, and no memory taken, where no statement has a span. In a contract it is the list of those that are
 /// kept.
 #[derive(Debug, Drop)]
@@ -101,7 +101,7 @@ impl KeptSpans {
         Ok(copy)
     }
 
-    // Keeps these behind those that are kept. The error is out of memory, and leaves what is kept as it was.
+    // Keeps these after those that are kept. The error is out of memory, and leaves what is kept as it was.
     fn extend(&mut self, alloc: Global, spans: &[Span]) -> Result<(), AllocError>
         ensures ok { OnOk result (self.new ≡ self.old ++ spans.now) }
         ensures err { OnErr result (self.new ≡ self.old) }
@@ -119,7 +119,7 @@ impl KeptSpans {
         }
     }
 
-    // Lets go of those behind the first `count`.
+    // Frees those after the first `count`.
     fn truncate(&mut self, count: usize)
         ensures { self.new ≡ take count self.old }
     {
@@ -146,7 +146,7 @@ impl KeptSpans {
         }
     }
 
-    /// Keeps one more span behind those of `count` statements. The error is out of memory, and leaves those as they
+    /// Keeps one more span after those of `count` statements. The error is out of memory, and leaves those as they
     /// were. There is none where the span is undefined, which is not kept.
     #[tactic(auto, using(crate::proofs::PaddedLemmas::pushed_undefined, crate::proofs::PaddedLemmas::pushed, crate::proofs::PaddedLemmas::refused))]
     pub fn push(&mut self, alloc: Global, count: usize, span: Span) -> Result<(), AllocError>
@@ -162,7 +162,7 @@ impl KeptSpans {
         self.extend(alloc, &[span])
     }
 
-    /// Moves the spans of `more` other statements behind those of `count`. The error is out of memory, and leaves both
+    /// Moves the spans of `more` other statements after those of `count`. The error is out of memory, and leaves both
     /// as they were.
     #[tactic(auto, using(crate::proofs::PaddedLemmas::appended_nothing, crate::proofs::PaddedLemmas::appended, crate::proofs::PaddedLemmas::refused))]
     pub fn append(

@@ -60,7 +60,7 @@ pub enum RayQueryFunction {
     },
     /// It goes on to the next candidate.
     Proceed {
-        /// The `RayQueryProceedResult` that tells whether there is one.
+        /// The `RayQueryProceedResult` that says whether there is one.
         result: Handle<key::Expression>,
     },
     /// A hit is made at this distance.

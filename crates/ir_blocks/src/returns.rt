@@ -15,7 +15,7 @@ use ir_arena::span::Span;
 use std::alloc::{AllocError, Global};
 
 /// Puts a return without value at each end of the body that control can reach by itself: into the body and each of
-/// its tail blocks that is empty, or ends in a statement behind which control goes on. What stands is neither changed
+/// its tail blocks that is empty, or ends in a statement after which control goes on. What stands is neither changed
 /// nor moved. The error is out of memory, and leaves the body's statements and spans as they were, since room is made
 /// for every return before the first is put in. The blocks grow in their own allocator.
 pub fn ensure_block_returns(_alloc: Global, block: &mut Block) -> Result<(), AllocError>

@@ -46,7 +46,7 @@ impl<'a> SpanIter<'a> {
     }
 }
 
-// The first of the spans that are kept, and those behind it.
+// The first of the spans that are kept, and those after it.
 fn first_kept(spans: &[Span]) -> (&Span, &[Span])
     ensures first { result.0.now ≡ first_kept spans.now }
     ensures rest { result.1.now ≡ tail_of spans.now }

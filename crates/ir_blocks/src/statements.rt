@@ -127,7 +127,7 @@ pub enum Statement {
         fun: AtomicFunction,
         /// With what.
         value: Handle<key::Expression>,
-        /// The `AtomicResult` that stands for what lay there, if it is asked for.
+        /// The `AtomicResult` that denotes what lay there, if it is asked for.
         result: Option<Handle<key::Expression>>,
     },
     /// Changes a texel at once.
@@ -147,7 +147,7 @@ pub enum Statement {
     WorkGroupUniformLoad {
         /// Where it lies.
         pointer: Handle<key::Expression>,
-        /// The `WorkGroupUniformLoadResult` that stands for what lies there.
+        /// The `WorkGroupUniformLoadResult` that denotes what lies there.
         result: Handle<key::Expression>,
     },
     /// Runs another function.
@@ -156,7 +156,7 @@ pub enum Statement {
         function: Handle<key::Function>,
         /// What is passed to it, in order.
         arguments: Vec<Handle<key::Expression>>,
-        /// The `CallResult` that stands for its answer, if it has one.
+        /// The `CallResult` that denotes its answer, if it has one.
         result: Option<Handle<key::Expression>>,
     },
     /// Does something with a ray query.
@@ -168,7 +168,7 @@ pub enum Statement {
     },
     /// A subgroup ballot.
     SubgroupBallot {
-        /// The `SubgroupBallotResult` that stands for the answer.
+        /// The `SubgroupBallotResult` that denotes the answer.
         result: Handle<key::Expression>,
         /// The predicate of each invocation; `true` where there is none.
         predicate: Option<Handle<key::Expression>>,
@@ -181,7 +181,7 @@ pub enum Statement {
         collective_op: CollectiveOperation,
         /// The argument of each invocation.
         argument: Handle<key::Expression>,
-        /// The `SubgroupOperationResult` that stands for the answer.
+        /// The `SubgroupOperationResult` that denotes the answer.
         result: Handle<key::Expression>,
     },
     /// A subgroup gather: each invocation takes the argument of another.
@@ -190,7 +190,7 @@ pub enum Statement {
         mode: GatherMode,
         /// The argument of each invocation.
         argument: Handle<key::Expression>,
-        /// The `SubgroupOperationResult` that stands for the answer.
+        /// The `SubgroupOperationResult` that denotes the answer.
         result: Handle<key::Expression>,
     },
     /// Writes a cooperative matrix to memory.

@@ -7,7 +7,7 @@ ghost use Rattle.ir_blocks.specs.View.{statement_view};
 use crate::plain_operation;
 use crate::statements::Statement;
 
-// Whether control goes on behind the statement by itself.
+// Whether control goes on after the statement by itself.
 pub(crate) fn goes_on(statement: &Statement) -> bool
     ensures { result ≡ goes_on (shape_of (statement_view statement.now)) }
 {

@@ -1,4 +1,4 @@
--- What is asked of a validator, as plain data.
+-- What is required of a validator, as plain data.
 use Rattle.std.specs.Prelude.{Bool}
 use Rattle.ir_flags.specs.declared.settings.ValidationFlags.{ValidationFlags}
 use Rattle.ir_flags.specs.declared.settings.Capabilities.{Capabilities}

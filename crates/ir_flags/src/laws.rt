@@ -1,4 +1,4 @@
-//! What holds of the sets. A set stands for the number of its bits.
+//! What holds of the sets. A set denotes the number of its bits.
 
 ghost use Rattle.std.specs.Prelude.{◌≡◌, ◌-◌, ◌^◌};
 ghost use Rattle.std.specs.Int.RustNames.{bit_and, bit_or};

@@ -36,7 +36,7 @@ entry_at {A} es h v lt at =
 
 -- ---- the value at a handle is changed
 
--- those behind it are not visited yet
+-- those after it are not visited yet
 pub unvisited_entry : {A : Type 0} (es old : List (A × Span)) (h place : ℕ) (w : A) → h ≡ place → Unvisited es old place → Unvisited (with_value es h w) old (place + 1)
 unvisited_entry es old h place w is u =
     subst (λ k. Unvisited (with_value es h w) old (k + 1)) is (unvisited_more es old h (w, span_at es h) (subst (Unvisited es old) (sym is) u))

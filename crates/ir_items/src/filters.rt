@@ -28,12 +28,12 @@ pub struct DiagnosticFilter {
     pub triggering_rule: FilterableTriggeringRule,
 }
 
-/// A filter, and the node whose filters stand behind it (naga's `DiagnosticFilterNode`).
+/// A filter, and the node whose filters stand after it (naga's `DiagnosticFilterNode`).
 #[derive(PartialEq, Debug, Drop)]
 pub struct DiagnosticFilterNode {
     /// The filter.
     pub inner: DiagnosticFilter,
-    /// The node behind it, if any.
+    /// The node after it, if any.
     pub parent: Option<Handle<key::DiagnosticFilterNode>>,
 }
 

@@ -1,11 +1,11 @@
-//! How findings of a validator are told.
+//! How findings of a validator are reported.
 
 /// How grave a finding is (naga's `Severity`).
 #[derive(Clone, Copy, PartialEq, Eq, Debug)]
 pub enum Severity {
-    /// It is not told.
+    /// It is not reported.
     Off,
-    /// It is told.
+    /// It is reported.
     Info,
     /// It is a warning.
     Warning,

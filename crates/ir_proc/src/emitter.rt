@@ -34,7 +34,7 @@ impl Emitter {
         Emitter { start_len: None }
     }
 
-    /// Begins: what is appended to the expressions from now on will be emitted. It asks that it doesn't run.
+    /// Begins: what is appended to the expressions from now on will be emitted. It requires that it doesn't run.
     pub fn start(&mut self, arena: &Arena<Expression, key::Expression>)
         requires idle { self.old ≡ None }
         ensures { self.new ≡ Some (length arena.now) }
@@ -50,7 +50,7 @@ impl Emitter {
     }
 
     /// Ends: gives the `Emit` statement of what was appended since it began, with the least span that holds all of
-    /// theirs, or `None` where nothing was. It asks that it runs, and that there are no fewer expressions than when
+    /// theirs, or `None` where nothing was. It requires that it runs, and that there are no fewer expressions than when
     /// it began.
     pub fn finish(
         &mut self,

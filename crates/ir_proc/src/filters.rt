@@ -15,7 +15,7 @@ pub trait DiagnosticFilterNodeExt: Sized {
     /// What the node holds.
     ghost node_of: { Self → PlainNode };
 
-    /// How severe the faults of a rule are where the filters of `node` and of the nodes behind it count: the new
+    /// How severe the faults of a rule are where the filters of `node` and of the nodes after it count: the new
     /// severity of the nearest node with that rule, from `node` to its parent and on to the root, or
     /// [`Severity::Error`] where none of them has it (naga's `DiagnosticFilterNode::search`). The parent of each node
     /// in `arena` comes before it.

@@ -45,7 +45,7 @@ module _ (P : PlainStatement → Type 0) where
   is_at (at.inside part p) (next u rest) h s stands = is_at p (part_of (shape_of u) part) (part_is u part h.1.0) s stands
   is_at condition (next u rest) h s stands = let x = stands in absurd (cc)
 
-  -- it holds of one that stands in the body
+  -- it holds of one that is in the body
   abbrev pub IsOfOne : PlainBlock → Type 0
   IsOfOne b = (p : Place) × (s : PlainStatement) × OccursAt b p s × P s
 

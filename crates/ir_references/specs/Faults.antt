@@ -1,4 +1,4 @@
--- What is wrong with the handles of a function, found step by step; `spec_handles` says what is asked of them.
+-- What is wrong with the handles of a function, found step by step; `spec_handles` says what is required of them.
 use Rattle.std.specs.Prelude.{◌≡◌, ℕ, ◌<◌, List, length, ◌&&◌, Contains, slice_get, nat_lt, nat_le, if◌then◌else◌, Option, Some, None, option_map, option_and_then}
 use Rattle.std.specs.Option.{option_or}
 use Rattle.ir_blocks.specs.Plain.{PlainStatement}

@@ -31,7 +31,7 @@ pub struct Bounds {
     pub expressions: usize,
 }
 
-// Whether there is an item at a place, told by the fault that stands where there is none.
+// Whether there is an item at a place, reported by the fault that stands where there is none.
 fn missing(kind: ItemKind, there: usize, index: usize) -> Option<HandleFault>
     ensures { result ≡ missing kind there index }
 {

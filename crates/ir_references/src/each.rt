@@ -1,4 +1,4 @@
-//! What is asked of each statement of a body.
+//! What is required of each statement of a body.
 
 ghost use Rattle.std.specs.Prelude.{MatchResult, map};
 ghost use Rattle.ir_blocks.specs.Places.{Place, OccursAt};
@@ -9,7 +9,7 @@ ghost use Rattle.ir_references.specs.Each.{AllAre, AllWithin, AllInCases, OneIs,
 use ir_blocks::plain_operation;
 use ir_items::{Block, Statement, SwitchCase};
 
-/// A rule of statements, which is asked of a statement without what stands inside it.
+/// A rule of statements, which is required of a statement without what stands inside it.
 pub trait StatementRule<E> {
     /// Where it may be asked.
     ghost fits: { Self → Type 0 };
@@ -39,7 +39,7 @@ pub fn check_each<E, T: StatementRule<E>>(rule: &T, block: &Block) -> Result<(),
     }
 }
 
-// The same, told along the block.
+// The same, reported along the block.
 #[cycle(each)]
 fn check_block<E, T: StatementRule<E>>(rule: &T, block: &Block) -> Result<(), E>
     requires { T.fits rule.now }

@@ -144,7 +144,7 @@ fn callees_forward(function: &Function, caller: usize) -> Option<HandleFault>
     first_in(&forward, &function.body)
 }
 
-/// The fault of a function that is named, by a call or by what stands for the answer of one, in the function at the place
+/// The fault of a function that is named, by a call or by what denotes the answer of one, in the function at the place
 /// `caller`, and does not come before it; if there is one.
 pub fn forward_callee(function: &Function, caller: usize) -> Option<HandleFault>
     ensures { MatchOption result (CalleesPrecede caller (function_view function.now)) (IsForwardCallee caller (function_view function.now)) }

@@ -154,7 +154,7 @@ pub fn statement_operand_past(statement: &Statement, end: usize) -> Option<Handl
     }
 }
 
-/// The expression that stands for what a statement answers, if it answers anything.
+/// The expression that denotes what a statement answers, if it answers anything.
 pub fn result_of(statement: &Statement) -> Option<Handle<key::Expression>>
     ensures { result ≡ statement_result (statement_view statement.now) }
 {

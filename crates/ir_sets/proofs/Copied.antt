@@ -37,7 +37,7 @@ module _ {T View : Type 0} (view : T → View) (eq : T → T → Bool) (laws : I
       let rest = none_before ys k x h.1 e in
       λ i. first i || rest i
 
-  -- the next value is put behind those that were copied
+  -- the next value is put after those that were copied
   pub values_more : (values copied after : List (T × Span)) (k : ℕ) (x clone : T) (span : Span) → IsDistinct (λ d e. eq d.0 e.0) values → k < length values
       → Some x ≡ option_map value_of_entry (slice_get values k) → view clone ≡ view x → span ≡ span_at values k → map (entry_of view) copied ≡ map (entry_of view) (take k values)
       → (has_equal eq copied clone ≡ false → after ≡ copied ++ (clone, span) ∷ []) → map (entry_of view) after ≡ map (entry_of view) (take (k + 1) values)

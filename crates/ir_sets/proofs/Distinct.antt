@@ -60,7 +60,7 @@ module _ {T : Type 0} where
       subst (λ o. IfSome o (λ x. left ≡ swap_remove grown p x)) found removed
       ∙ (ap (λ l. swap_remove l p (get_or grown p v)) is ∙ last_moved values p v (get_or grown p v) low)
 
--- a place among few values, also told of their entries
+-- a place among few values, also reported of their entries
 pub within_both : (found : Option ℕ) (n m : ℕ) → n ≡ m → n ≤ 4294967295 → IfSome found (λ p. p < n) → IfSome found (λ p. (p < m) × (p < 4294967295))
 within_both None n m same few low = tt
 within_both (Some p) n m same few low = (omega (arith, same, low), omega (arith, few, low))

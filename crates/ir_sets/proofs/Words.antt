@@ -80,7 +80,7 @@ module _ (words : List ℕ) (number : ℕ) where
         | inr other ↦ rw (ne_eqb n number other) refl
       ]
 
--- words of zeros behind
+-- words of zeros after
 pub longer : (words : List ℕ) (count n : ℕ) → has_bit (words ++ replicate count 0) n ≡ has_bit words n
 longer words count n =
     same_word (words ++ replicate count 0) words n
@@ -164,7 +164,7 @@ module _ (words : List ℕ) (place next : ℕ) (before : place < next) (within :
       record { within = parts.0; others = parts.1 }
 
 module _ (value : Bool) (old now new : ℕ → Bool) (from place next : ℕ) (reached : from ≤ place) (before : place ≤ next) where
-  -- one range, and then the one behind it
+  -- one range, and then the one after it
   pub becomes_more : Becomes value old now from place → Becomes value now new place next → Becomes value old new from next
   becomes_more early late =
       record {

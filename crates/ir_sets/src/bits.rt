@@ -139,7 +139,7 @@ pub(crate) fn greatest(words: &[u64]) -> Option<usize>
     Some(before.len() * 64 + last.ilog2() as usize)
 }
 
-// Lets go of the words behind the last one that is not 0.
+// Frees the words after the last one that is not 0.
 pub(crate) fn trim(words: &mut Vec<u64>)
     ensures shorter { length words.new.items ≤ length words.old.items }
     ensures trimmed { IsTrimmed words.new.items }

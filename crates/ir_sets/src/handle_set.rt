@@ -135,7 +135,7 @@ impl<K> HandleSet<K> {
         Ok(true)
     }
 
-    /// Takes `handle` out, and answers whether it was a member. Where it was the greatest, the words behind the next one go,
+    /// Takes `handle` out, and answers whether it was a member. Where it was the greatest, the words after the next one go,
     /// each of which an earlier [`HandleSet::insert`] has added.
     pub fn remove(&mut self, handle: Handle<K>) -> bool
         ensures removed { result ≡ set.contains self.old handle }

@@ -77,7 +77,7 @@ impl<T, U> HandleVec<T, U> {
         self.inner.get(handle.index())
     }
 
-    /// Lets go of all values. The list keeps its memory.
+    /// Frees all values. The list keeps its memory.
     pub fn clear(&mut self)
     where
         U: Drop,

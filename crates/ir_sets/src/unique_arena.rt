@@ -109,7 +109,7 @@ impl<T: Eq + Hash, K> UniqueArena<T, K> {
         })
     }
 
-    /// An arena that holds the same, each value with its span. It asks that values which hold the same
+    /// An arena that holds the same, each value with its span. It requires that values which hold the same
     /// compare the same, so that the copies of unequal values are unequal.
     ///
     /// # Errors
@@ -313,7 +313,7 @@ impl<T: Eq + Hash, K> UniqueArena<T, K> {
         }
     }
 
-    /// Lets go of all values. The arena keeps its memory.
+    /// Frees all values. The arena keeps its memory.
     pub fn clear(&mut self)
     where
         T: Drop,

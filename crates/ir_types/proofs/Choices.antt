@@ -30,7 +30,7 @@ same_fields (F ∷ G ∷ Fs) tests x y e =
     let h : IsTrue (tests.0.0 x.0 y.0) × IsTrue (all_equal (G ∷ Fs) tests.1 x.1 y.1) = both _ _ e in
     λ i. (tests.0.1 x.0 y.0 h.0 i, same_fields (G ∷ Fs) tests.1 x.1 y.1 h.1 i)
 
--- the `==` of the fields of one variant, and that it tells what a view gives of them
+-- the `==` of the fields of one variant, and that it says what a view gives of them
 abbrev pub Law : {W : Type 0} (Fs : List Field) → (Values Fs → W) → Type 0
 Law Fs view = (eq : Values Fs → Values Fs → Bool) × ((x y : Values Fs) → IsTrue (eq x y) → view x ≡ view y)
 

@@ -37,7 +37,7 @@ IsComputed (Load pointer) = ⊥
 IsComputed (ArrayLength array) = ⊥
 IsComputed _ = Unit {0}
 
--- it stands for what a statement answered, or is of rays or of cooperative matrices
+-- it denotes what a statement answered, or is of rays or of cooperative matrices
 abbrev pub IsResult : Expression → Type 0
 IsResult (CallResult function) = Unit {0}
 IsResult (AtomicResult type comparison) = Unit {0}

@@ -44,7 +44,7 @@ impl SampleLevel {
     }
 }
 
-/// What is asked of an image (naga's `ImageQuery`).
+/// What is required of an image (naga's `ImageQuery`).
 #[derive(Clone, Copy, PartialEq, Debug)]
 pub enum ImageQuery {
     /// How many texels it has each way.
@@ -473,7 +473,7 @@ impl Expression {
         }
     }
 
-    // An equal expression that stands for what a statement answered, or that is of rays or of cooperative matrices.
+    // An equal expression that denotes what a statement answered, or that is of rays or of cooperative matrices.
     fn copy_result(&self) -> Expression
         requires { IsResult self.now }
         ensures { expression_view result ≡ expression_view self.now }

@@ -12,7 +12,7 @@ use Rattle.spec_analysis.specs.Values.{StartsAt, is_global, accessed, accessed_i
 use Rattle.judgement.specs.ReportLaws.{NamedAreReported}
 use Rattle.judgement.specs.Lines.{is_used}
 
--- ---- chains one behind another
+-- ---- chains one after another
 
 end_joined : (f : PlainFunction) (first second : List Step) → end_of f (second ++ first) ≡ end_of (end_of f first) second
 end_joined f first [] = refl

@@ -12,7 +12,7 @@ use Rattle.judgement.proofs.Uses.{SameBits, same_line}
 
 -- ---- lists
 
--- what is told of each is the same, so what is told of all is
+-- what is reported of each is the same, so what is reported of all is
 each_same : {X : Type 0} (none : X) (told : ℕ → X → List ℕ) (first : ℕ) (us vs : List X) → length us ≡ length vs
     → ((i n : ℕ) → n ≡ first + i → i < length us → told n (slice_index_or us i none) ≡ told n (slice_index_or vs i none))
     → each_from told first us ≡ each_from told first vs

@@ -30,7 +30,7 @@ less a b lt = is_less a b (nat_cmp a b) lt (ranked a b (nat_cmp a b) refl)
 equal : (a b : ℕ) → a ≡ b → nat_cmp a b ≡ Equal
 equal a b e = is_equal a b (nat_cmp a b) e (ranked a b (nat_cmp a b) refl)
 
--- the pair comes behind (i, j), or is it
+-- the pair comes after (i, j), or is it
 abbrev IsFrom : (i j : ℕ) → ℕ × ℕ → Type 0
 IsFrom i j p = (i < p.0) ⊎ ((p.0 ≡ i) × (j ≤ p.1))
 

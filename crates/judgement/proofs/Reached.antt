@@ -46,6 +46,6 @@ unasked s m reached unwanted expression = record { each = λ index within has. a
 unasked s m reached unwanted constant = record { each = λ index within has. absurd (unwanted has) }
 unasked s m reached unwanted override = record { each = λ index within has. absurd (unwanted has) }
 
--- where nothing is asked of values, it is accepted as soon as its global expressions have types
+-- where nothing is required of values, it is accepted as soon as its global expressions have types
 pub nothing_asked : (s : ModuleSettings) (m : PlainModule) → IsReached s m expression → (Has s.flags.0 CONSTANTS.0 → ⊥) → ModuleOK s m
 nothing_asked s m reached unwanted = record { handles = reached.handles; steps = unasked s m reached unwanted }

@@ -12,7 +12,7 @@ use Rattle.spec_interface.specs.Spaces.{counted}
 use Rattle.typing_layout.specs.Layout.{size, alignment}
 use Rattle.typing_layout.specs.View.{type_tree}
 
--- what is told of each item, which is given its number, in order
+-- what is reported of each item, which is given its number, in order
 abbrev pub each_from : {X : Type 0} → (told : ℕ → X → List ℕ) → (first : ℕ) → List X → List ℕ
 each_from told first [] = []
 each_from told first (x ∷ xs) = told first x ++ each_from told (suc first) xs
@@ -70,7 +70,7 @@ has kinds kind = bit_and kinds.0 kind.0 == kind.0
 abbrev pub is_used : GlobalUse → Bool
 is_used kinds = not (kinds.0 == 0)
 
--- a word behind others, where it holds
+-- a word after others, where it holds
 abbrev pub word_if : Bool → (word : List ℕ) → List ℕ
 word_if holds word = if holds then codes " " ++ word else []
 

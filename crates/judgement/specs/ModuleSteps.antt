@@ -14,7 +14,7 @@ use Rattle.typing_layout.specs.Layout.{LayoutOK}
 use Rattle.typing_layout.specs.View.{type_tree}
 use Rattle.typing_forms.specs.declared.form.Form.{Form}
 
--- The steps behind that of the handles: types are laid out and judged, global expressions are given types and judged, and
+-- The steps after that of the handles: types are laid out and judged, global expressions are given types and judged, and
 -- then constants and overrides are.
 pub data ModuleStep : Type 0 where
   layout : ModuleStep
@@ -42,7 +42,7 @@ item_count m expression = length m.global_expressions
 item_count m constant = length m.constants
 item_count m override = length m.overrides
 
--- what is asked of the item at an index
+-- what is required of the item at an index
 abbrev pub StepOK : ModuleSettings → PlainModule → ModuleStep → (index : ℕ) → Type 0
 StepOK s m layout index = LayoutOK (type_tree m.types index)
 StepOK s m type index = TypeOK s.capabilities s.overrides_resolved m.types index

@@ -1,4 +1,4 @@
--- What stands for an answer is the answer of one statement of its kind.
+-- What denotes an answer is the result of one statement of its kind.
 use Rattle.std.proofs.Common.{◌≡◌, ◌∙◌, ℕ, Option, Some, None, option_and_then, slice_get, refl, sym, ap, subst, List}
 use Rattle.std.proofs.lemmas.Option.{slice_get_within}
 use Rattle.std.specs.Prelude.{IsSomeAnd}
@@ -26,7 +26,7 @@ some_and : {A : Type 0} (P : A → Type 0) (o : Option A) → IsSomeAnd o P → 
 some_and P None h = absurd h
 some_and P (Some a) h = (a, h)
 
--- the answer of a call is none of an atomic operation
+-- the result of a call is none of an atomic operation
 undeclared : (P : AtomicAnswer → Type 0) (o : Option PlainExpression) (function : ℕ) → o ≡ Some (plain (x.CallResult function)) → ¬ IsSomeAnd (option_and_then declared_answer o) P
 undeclared P o function at h = subst (λ z. IsSomeAnd (option_and_then declared_answer z) P) at h
 

@@ -22,7 +22,7 @@ use Rattle.spec_statements.specs.Results.{answer_of}
 
 -- ---- chains of calls
 
--- a chain may begin at this function, which is at this index, or is an entry point's and comes behind all functions
+-- a chain may begin at this function, which is at this index, or is an entry point's and comes after all functions
 pub data BeginsAt (m : PlainModule) : PlainFunction → ℕ → Type 0 where
   at_function : {f : PlainFunction} {index : ℕ} → slice_get m.functions index ≡ Some f → BeginsAt m f index
   at_entry : (k : ℕ) {e : PlainEntry} → slice_get m.entries k ≡ Some e → BeginsAt m e.function (length m.functions)
@@ -40,7 +40,7 @@ Rise [] = Unit {0}
 Rise (i ∷ []) = Unit {0}
 Rise (i ∷ j ∷ rest) = (i < j) × Rise (j ∷ rest)
 
--- the functions that a chain runs, and behind them the one where it begins: from the last one back their indexes rise
+-- the functions that a chain runs, and after them the one where it begins: from the last one back their indexes rise
 pub record Falls (m : PlainModule) (f : PlainFunction) (index : ℕ) (chain : List Step) : Type 0 where
   pub indexes : List ℕ
   pub are : AreRun m f chain indexes

@@ -17,8 +17,8 @@ pub fn bindings_differ()
     ensures { BindingsDiffer }
 {}
 
-/// Where functions are accepted, and bodies and expressions are checked, each expression that stands for the answer of a call is the
-/// answer of one call statement, of that function, and each that stands for the answer of an atomic operation is that of one
+/// Where functions are accepted, and bodies and expressions are checked, each expression that denotes the result of a call is the
+/// result of one call statement, of that function, and each that denotes the result of an atomic operation is that of one
 /// statement.
 pub fn answered_by_one()
     ensures { AnsweredByOne }

@@ -46,7 +46,7 @@ part_tail (switch selector cases) (case_at k) h = case_tail cases k h
 part_tail (switch selector cases) _ h = absurd h
 part_tail s part h = absurd h
 
--- ---- nothing in an empty block, and behind a return alone
+-- ---- nothing in an empty block, and after a return alone
 
 pub nothing_in_stop : (p : Place) → spot_at p stop ≡ nothing
 nothing_in_stop here = refl
@@ -143,7 +143,7 @@ nothing_behind : (g : Bool) (p : Place) → spot_at (later p) (ending g) ≡ not
 nothing_behind true p = nothing_in_stop p
 nothing_behind false p = refl
 
--- what stands behind something that holds an open end, where that is first in its block
+-- what stands after something that holds an open end, where that is first in its block
 first_behind : {p : Place} (c : PlainBlock) (u : PlainStatement) → c ≡ next u stop → Before here p → spot_at p c ≡ nothing
 first_behind c u is (earlier {p = p}) = ap (spot_at (later p)) is ∙ nothing_in_stop p
 

@@ -114,7 +114,7 @@ module _ (m : PlainModule) (f : PlainFunction) (handles : HandlesInRange m f) (p
 
 -- ---- what the rules of functions give at the places of a body
 
--- The strict scope is as it should be, and what stands for answers has no operands.
+-- The strict scope is as it should be, and what denotes answers has no operands.
 pub record IsStrict (f : PlainFunction) : Type 0 where
   pub scope : StrictOK f
   pub answers : AnswersNameNothing f

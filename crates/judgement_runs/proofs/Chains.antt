@@ -1,4 +1,4 @@
--- The frames of a run are at the ends of chains of calls, so what is named and sampled there is told by the chains.
+-- The frames of a run are at the ends of chains of calls, so what is named and sampled there is reported by the chains.
 use Rattle.std.proofs.Common.{◌≡◌, ◌∙◌, ℕ, zero, suc, ℤ, ◌+◌, ◌<◌, length, List, [], ◌∷◌, ◌++◌, inl, map, Option, Some, None, slice_get, option_map, refl, sym, ap, subst, arith}
 use Rattle.std.specs.List.{AllByRecursion}
 use Rattle.std.proofs.lemmas.Option.{slice_get-map}
@@ -147,7 +147,7 @@ module _ (s : FunctionSettings) (m : PlainModule) (number : ℕ) (a : IsAccepted
     record { chain = t.within.chain; is_chain = t.within.is_chain; holds = subst (Names g) (sym t.within.ends) (e, at) },
   )
 
-  -- what an expression samples, where its image and its sampler stand for global variables
+  -- what an expression samples, where its image and its sampler denote global variables
   samples_hold : (frame : Frame) → Reported frame → (e : ℕ) (x : PlainExpression) (image sampler : ℕ) → slice_get frame.function.expressions e ≡ Some x → sampling_at e x ≡ sampling e image sampler ∷ [] → AllByRecursion Holds (pair_of (denotes frame image) (denotes frame sampler))
   samples_hold frame t e x image sampler at is = by_pair (denotes frame image) (denotes frame sampler) refl refl
     where

@@ -11,7 +11,7 @@ use Rattle.judgement_runs.proofs.Lines.{entries_are_reported}
 use Rattle.judgement_runs.specs.Lines.{HasLines}
 use Rattle.judgement_runs.specs.Local.{AgreeFrom, DifferElsewhere, ReportsAreLocal}
 
--- a chain behind a chain
+-- a chain after a chain
 end_after : (f : PlainFunction) (before after : List Step) → end_of f (after ++ before) ≡ end_of (end_of f before) after
 end_after f before [] = refl
 end_after f before (s ∷ after) = refl

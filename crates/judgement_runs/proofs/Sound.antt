@@ -46,7 +46,7 @@ prepared_have : (returns : Bool) (d m : PlainModule) → IsPrepared returns d m 
 prepared_have true d m p is = returned_have d m p
 prepared_have false d m p is = absurd (true≢false (sym is))
 
--- ---- what is named and sampled is told of by lines
+-- ---- lines report what is named and sampled
 
 module _ (m : PlainModule) (number : ℕ) (e : PlainEntry) (lines : List ℕ) (r : IsEntryReport m number e lines) where
   uses_told : (g : ℕ) → NamedOK m e.function (named g) → (own : Bool) → is_own e g ≡ own → IsTrue (is_own e g) ⊎ IsTrue (is_used (slice_index_or r.uses g no_use))

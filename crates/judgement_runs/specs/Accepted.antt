@@ -22,7 +22,7 @@ pub record IsAcceptedEntry (s : FunctionSettings) (m : PlainModule) (number : �
   pub blocks : Has s.flags.0 BLOCKS.0
   pub expressions : Has s.flags.0 EXPRESSIONS.0
 
--- calls are nested no deeper than there are functions, whatever operands are told as used
+-- calls are nested no deeper than there are functions, whatever operands are reported as used
 abbrev pub RunsNest : Type 0
 RunsNest = (s : FunctionSettings) (m : PlainModule) (number : ℕ) (a : IsAcceptedEntry s m number) → (u : UsedOperands) → OnEveryRunOf u m a.entry.entry (DepthOK (length m.functions))
 

@@ -15,7 +15,7 @@ use Rattle.spec_runs.specs.Events.{Event, named, sampled}
 abbrev pub AreWhole : List ℕ → Type 0
 AreWhole text = (text ≡ []) ⊎ ((front : List ℕ) × (text ≡ front ++ codes "\n"))
 
--- The lines stand in the text: behind whole lines.
+-- The lines stand in the text: after whole lines.
 pub record HasLines (lines text : List ℕ) : Type 0 where
   pub before : List ℕ
   pub behind : List ℕ
@@ -32,7 +32,7 @@ pub data ReportsGlobal (lines : List ℕ) (g : ℕ) : Type 0 where
   as_mesh : HasLines (own_line (codes "mesh") (Some g)) lines → ReportsGlobal lines g
   as_used : (kinds : GlobalUse) → IsTrue (is_used kinds) → HasLines (use_line g kinds) lines → ReportsGlobal lines g
 
--- a line tells that the image is sampled by the sampler
+-- a line says that the image is sampled by the sampler
 abbrev pub ReportsPair : List ℕ → (image sampler : ℕ) → Type 0
 ReportsPair lines image sampler = HasLines (pair_line (image, sampler)) lines
 
@@ -48,7 +48,7 @@ SampledIsReported lines _ = Unit {0}
 
 -- ---- what is known of the lines of a report
 
--- a global variable that is the entry point's own or has a use is told of by a line, and so is each pair
+-- a global variable that is the entry point's own or has a use is reported of by a line, and so is each pair
 abbrev pub LinesStand : Type 0
 LinesStand =
     (m : PlainModule) (number : ℕ) (e : PlainEntry) (lines : List ℕ) (r : IsEntryReport m number e lines)
@@ -65,7 +65,7 @@ pub record EntryIsReported (m : PlainModule) (report : List ℕ) (number : ℕ) 
 abbrev pub EntriesAreReported : Type 0
 EntriesAreReported = (m : PlainModule) (report : List ℕ) → IsReport m report → (number : ℕ) (e : PlainEntry) → slice_get m.entries number ≡ Some e → EntryIsReported m report number e
 
--- the line that tells the size and the alignment of the buffer stands in the report
+-- the line that tells the size and the alignment of the buffer is in the report
 abbrev pub BufferIsReported : PlainModule → (report : List ℕ) → (number : ℕ) → PlainGlobal → Type 0
 BufferIsReported m report number v = HasLines (buffer_line number (size (buffer_type m.types v)) (alignment (buffer_type m.types v))) report
 

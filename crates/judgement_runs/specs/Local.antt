@@ -1,4 +1,4 @@
--- What a report tells of an entry point is told by what that reaches alone.
+-- What a report tells of an entry point is reported by what that reaches alone.
 use Rattle.std.specs.Prelude.{◌≡◌, ℕ, List, Some, slice_get}
 use Rattle.ir_items.specs.Plain.{PlainEntry, PlainFunction, PlainModule}
 use Rattle.spec_analysis.specs.Chains.{Step, IsChain, end_of}

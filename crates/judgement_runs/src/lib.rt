@@ -63,7 +63,7 @@ pub fn entries_are_reported()
     ensures { EntriesAreReported }
 {}
 
-/// The line of each buffer stands in the report.
+/// The line of each buffer is in the report.
 pub fn buffers_are_reported()
     ensures { BuffersAreReported }
 {}

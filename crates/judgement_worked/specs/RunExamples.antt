@@ -12,7 +12,7 @@ use Rattle.spec_runs.specs.Worked.{of_body}
 abbrev pub truths : List PlainExpression
 truths = plain (x.Literal (Truth true)) ∷ plain (x.Unary LogicalNot 0) ∷ plain (x.Unary LogicalNot 0) ∷ []
 
--- a loop that a continue may go on with before the last statement of its body; what stands behind the continue in its own block is
+-- a loop that a continue may go on with before the last statement of its body; what stands after the continue in its own block is
 -- never reached
 abbrev pub continuing : PlainFunction
 continuing = of_body None truths (next (loop (next (if_ 0 (next continue (next (emit 1 2) stop)) stop) (next (emit 2 3) stop)) stop (Some 2)) stop)
@@ -21,6 +21,6 @@ continuing = of_body None truths (next (loop (next (if_ 0 (next continue (next (
 abbrev pub nested : PlainFunction
 nested = of_body None truths (next (loop (next (loop (next continue stop) stop (Some 0)) (next (emit 1 2) stop)) stop (Some 1)) stop)
 
--- it calls the first function, and what stands for the answer is live then
+-- it calls the first function, and what denotes the answer is live then
 abbrev pub answered : PlainFunction
 answered = of_body None (plain (x.CallResult 0) ∷ []) (next (call 0 [] (Some 0)) stop)

@@ -38,7 +38,7 @@ function_with arguments answer expressions body =
 abbrev pub truths : List PlainExpression
 truths = plain (x.Literal (literal.Bool true)) ∷ plain (x.Unary LogicalNot 0) ∷ plain (x.Unary LogicalNot 1) ∷ []
 
--- a body over these, and over what stands for the answer of the first function
+-- a body over these, and over what denotes the answer of the first function
 abbrev pub over_truths : PlainBlock → PlainFunction
 over_truths body = function_with [] None truths body
 

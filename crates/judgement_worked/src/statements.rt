@@ -36,7 +36,7 @@ pub fn scope()
     ensures used_behind_its_loop { ¬ ScopeOK (over_truths (two (loop (one (emit 1 2)) stop (Some 1)) (use_of 1))) }
 {}
 
-/// What is in strict scope where: behind a continue nothing is for a loop's condition, in front of one and behind that of a loop
+/// What is in strict scope where: after a continue nothing is for a loop's condition, in front of one and after that of a loop
 /// inside it is; and an operand that nothing emits is not, where the expression is emitted that has it.
 pub fn strict_scope()
     ensures behind_a_continue { ¬ InStrictScope (over_truths (one (loop (two (if_ 0 (one continue) stop) (emit 1 2)) stop (Some 1)))) condition 1 }
@@ -45,7 +45,7 @@ pub fn strict_scope()
     ensures operand_not_emitted { ¬ InStrictScope (over_truths (one (emit 2 3))) here 1 }
 {}
 
-/// What stands for the answers of calls. The flags are all six, and that of blocks alone.
+/// What denotes the results of calls. The flags are all six, and that of blocks alone.
 pub fn answers()
     ensures answered { AnsweredOnce (record { 0 = 63 }) (over_answer (one (call 0 [] (Some 0)))) }
     ensures answered_in_two_blocks { ¬ AnsweredOnce (record { 0 = 63 }) (over_answer (two (block (one (call 0 [] (Some 0)))) (block (one (call 0 [] (Some 0)))))) }

@@ -59,7 +59,7 @@ in_words words id q lt =
       ]
     ]
 
--- an empty word behind the last one
+-- an empty word after the last one
 pub read_behind : (words : List ℕ) (k : ℕ) → get_or (words ++ 0 ∷ []) k 0 ≡ get_or words k 0
 read_behind [] zero = refl
 read_behind [] (suc k) = refl

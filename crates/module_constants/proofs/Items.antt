@@ -42,7 +42,7 @@ constant_refuted m handle e wrong ok = constant_wrong m handle wrong.constant e 
 
 -- ---- overrides
 
--- what is asked of an override
+-- what is required of an override
 abbrev Fine : (resolved : Bool) → PlainModule → (handle : ℕ) → PlainOverride → Type 0
 Fine resolved m handle o = (IsSome o.name ⊎ IsSome o.id) × ((id : ℕ) → o.id ≡ Some id → ¬ IsTaken m.overrides handle id) × IsOverrideType m.types o.ty × DefaultOK resolved m o.ty o.init
 

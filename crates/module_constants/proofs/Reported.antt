@@ -1,4 +1,4 @@
--- What is told of an item in a list is told of it at its handle.
+-- What is reported of an item in a list is reported of it at its handle.
 use Rattle.std.proofs.Common.{◌≡◌, ◌≢◌, inl, inr, ◌<◌, ◌+◌, ◌∙◌, ℕ, List, [], ◌∷◌, Some, Bool, Result, Ok, Err, MatchResult, length, map, slice_get, sym, subst, refl, arith}
 use Rattle.module_constants.proofs.GlobalExpressions.{expression_refuted}
 use Rattle.module_constants.proofs.Items.{constant_refuted, override_refuted}

@@ -13,7 +13,7 @@ IsSeen ids id = bit_at (slice_index_or ids.words.items (id / 64) 0) (id % 64) �
 pub record AreIds (overrides : List PlainOverride) (place : ℕ) (ids : OverrideIds) : Type 0 where
   pub each : (id : ℕ) → IsSeen ids id ↔ IsTaken overrides place id
 
--- an id is added; `own` tells that it was not there
+-- an id is added; `own` says that it was not there
 pub record IsNoted (before after : OverrideIds) (id : ℕ) (own : Bool) : Type 0 where
   pub fresh : own ≡ true → ¬ IsSeen before id
   pub repeated : own ≡ false → IsSeen before id

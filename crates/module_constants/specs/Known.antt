@@ -28,7 +28,7 @@ pub record AreThere (m : PlainModule) : Type 0 where
   pub override_values : (handle init : ℕ) (o : PlainOverride) → slice_get m.overrides handle ≡ Some o → o.init ≡ Some init → init < length m.global_expressions
   pub components : (handle type component : ℕ) (all : List ℕ) → slice_get m.global_expressions handle ≡ Some (compose type all) → IsAmong component all → component < length m.global_expressions
 
--- of each global expression its kind and its type, and what is told of each type
+-- of each global expression its kind and its type, and what is reported of each type
 pub record IsKnown (c : GlobalContext) : Type 0 where
   pub there : AreThere (module_in c)
   pub kinds : AreKinds (module_in c).global_expressions c.kinds.now
@@ -36,7 +36,7 @@ pub record IsKnown (c : GlobalContext) : Type 0 where
   pub many : length c.infos.now ≡ length (module_in c).types
   pub told : AreInfos (module_in c).types c.infos.now
 
--- a truth value that tells whether the global expression is of the type at a handle
+-- a truth value that says whether the global expression is of the type at a handle
 pub record IsJudged (m : PlainModule) (expression type : ℕ) (is : Bool) : Type 0 where
   pub t : Form
   pub typed : HasGlobalType m expression t

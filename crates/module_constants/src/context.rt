@@ -31,7 +31,7 @@ pub struct GlobalContext<'a> {
     pub kinds: &'a ExpressionKindTracker,
     /// The forms of the types of its global expressions.
     pub forms: &'a [Form],
-    /// What is told of its types.
+    /// What is reported of its types.
     pub infos: &'a [TypeInfo],
 }
 
@@ -69,7 +69,7 @@ pub(crate) fn has_type(
     )
 }
 
-// Whether values of a type of which this is told can be composed.
+// Whether values of a type of which this is reported can be composed.
 fn has_constructible(info: TypeInfo) -> bool
     ensures { (types : List PlainType) (t : Tree) → HasInfo types t info → IsTrue result ↔ HasFlag Constructible t }
 {

@@ -70,7 +70,7 @@ fn check_late(resolved: bool, kind: ExpressionKind) -> Result<(), ConstExpressio
     }
 }
 
-// Whether what is asked of a global expression is met, where its value is of a kind.
+// Whether what is required of a global expression is met, where its value is of a kind.
 fn check_met(
     context: &GlobalContext<'_>,
     kind: ExpressionKind,
@@ -137,7 +137,7 @@ fn check_met(
 /// # Errors
 ///
 /// Its value is known only when the shader runs, it was not worked out, it is a literal that may not be used, or a
-/// composition that can't be made: each is answered only where it stands.
+/// composition that can't be made: each is answered only where it occurs.
 #[tactic(auto, using(crate::proofs::Reported::expression_refused))]
 pub fn validate_const_expression(
     context: &GlobalContext<'_>,

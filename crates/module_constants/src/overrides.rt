@@ -140,7 +140,7 @@ fn note_id(ids: &mut OverrideIds, id: Option<u16>) -> Result<bool, AllocError>
 ///
 /// It has neither a name nor an id, an override before it has its id, its type is no scalar that an override may have, its
 /// initialiser is known only when the shader runs or of another type, or it has none and overrides are resolved: each is
-/// answered only where it stands, with no span; or out of memory. The ids are then those of the overrides before it, and
+/// answered only where it occurs, with no span; or out of memory. The ids are then those of the overrides before it, and
 /// perhaps its own.
 pub fn validate_override(
     alloc: Global,

@@ -31,7 +31,7 @@ pub struct CheckContext<'a> {
     pub capabilities: Capabilities,
     /// The module's types.
     pub types: &'a UniqueArena<IrType, key::IrType>,
-    /// What is told of each of them.
+    /// What is reported of each of them.
     pub infos: &'a [TypeInfo],
     /// The expressions among which the one stands: those of a function, or those of the module.
     pub expressions: &'a Arena<Expression, key::Expression>,

@@ -22,7 +22,7 @@ missing types old exchanged never of = (λ e. cc, λ h. absurd (never of h))
 
 -- ---- any condition on it
 
--- what is told of each form that may be there is told of every condition
+-- what is reported of each form that may be there is reported of every condition
 pub by_test : (IsOld : Form → Type 0) (types : List PlainType) (i : Option PlainInner) (old : Form) (test : Bool)
     → ((of : Form) → (Some old ≡ Some of) ↔ IsExchangeOf (λ x. x ≡ of) types i) → IsTrue test ↔ IsOld old → IsTrue test ↔ IsExchangeOf IsOld types i
 by_test IsOld types None old test is by = absurd ((is old).0 refl)

@@ -23,7 +23,7 @@ use typing_forms::Form;
 /// # Errors
 ///
 /// [`ExpressionError::Compose`]: nothing of the type is composed, a component does not fit, or they are too few or too many;
-/// each is answered only where it stands.
+/// each is answered only where it occurs.
 pub fn check_compose(
     context: &CheckContext<'_>,
     ty: Handle<key::IrType>,

@@ -1,4 +1,4 @@
-//! What is asked of expressions beside their types: a module a family, of the name that its definitions have in
+//! What is required of expressions beside their types: a module a family, of the name that its definitions have in
 //! `spec_statements`. What looks at images stands in `module_expressions`. Of maths and of results of subgroups nothing is asked.
 #![tactic(auto)]
 

@@ -80,7 +80,7 @@ pub fn check_vertex_positions(
     refused_unless(gives_positions(context, context.form_at(query)))
 }
 
-/// Whether what a pointer leads to tells where a ray hit: it is a ray query.
+/// Whether what a pointer leads to says where a ray hit: it is a ray query.
 ///
 /// # Errors
 ///

@@ -16,7 +16,7 @@ use Rattle.spec_statements.specs.Expressions.{RequiredOf}
 use Rattle.spec_statements.specs.Scene.{Scene}
 use Rattle.spec_expressions.specs.ConstantLiterals.{LiteralOK}
 
--- what is asked of a literal
+-- what is required of a literal
 asked_literal : (s : Scene) (e : Expression) (value : Literal) → literal_in e ≡ Some value → CheckOf s e → LiteralOK s.capabilities value
 asked_literal s (x.Literal own) value is ok = let same : own ≡ value = cc in subst (LiteralOK s.capabilities) same ok
 asked_literal s _ value is ok = cc

@@ -10,7 +10,7 @@ use Rattle.spec_statements.specs.Access.{literal_in}
 use Rattle.spec_statements.specs.Checks.{CheckOf}
 use Rattle.spec_statements.specs.Scene.{Scene, form_at}
 
--- a literal that may not be used; of any other kind what is asked does not hold, and the error has no name
+-- a literal that may not be used; of any other kind what is required does not hold, and the error has no name
 abbrev pub IsPlainFault : Scene → Expression → Option Literal → ExpressionError → Type 0
 IsPlainFault s expression (Some value) e = IsBadLiteral s.capabilities value e
 IsPlainFault s expression None e = IsRefused (CheckOf s expression) e

@@ -22,7 +22,7 @@ use module_expression_checks::{
 use spec_statements::Sampling;
 use typing_errors::ExpressionError;
 
-// Whether what is asked of an expression is met.
+// Whether what is required of an expression is met.
 fn check_expression(
     context: &CheckContext<'_>,
     expression: &Expression,
@@ -115,13 +115,13 @@ fn check_expression(
 
 /// Whether the expression at a handle is accepted, and which stages may run it (naga's `validate_expression`).
 ///
-/// Requires that the handle is in, and that what the context holds of types and of constants is told of all of them.
+/// Requires that the handle is in, and that what the context holds of types and of constants is reported of all of them.
 ///
 /// # Errors
 ///
 /// [`ExpressionError::Literal`] and [`ExpressionError::Compose`] for a literal that may not be used and for a composition
-/// that can't be made, [`ExpressionError::Other`] where what is asked of an expression of another kind does not hold; each is
-/// answered only where it stands.
+/// that can't be made, [`ExpressionError::Other`] where what is required of an expression of another kind does not hold; each is
+/// answered only where it occurs.
 pub fn validate_expression(
     context: &CheckContext<'_>,
     handle: Handle<key::Expression>,

@@ -1,4 +1,4 @@
-//! How texels are loaded, and what is asked of images.
+//! How texels are loaded, and what is required of images.
 
 ghost use Rattle.std.specs.Prelude.{◌↔◌, IsTrue, MatchResult};
 ghost use Rattle.module_context.specs.Refused.{IsRefused};

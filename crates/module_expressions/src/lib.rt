@@ -1,4 +1,4 @@
-//! Whether an expression whose operands have types is accepted, and which stages may run it; and what is asked of expressions
+//! Whether an expression whose operands have types is accepted, and which stages may run it; and what is required of expressions
 //! that look at images beside their types: a module a family, of the name that its definitions have in `spec_statements`. The
 //! other families stand in `module_expression_checks`.
 #![tactic(auto)]

@@ -1,4 +1,4 @@
--- What a space asks of types, flag by flag.
+-- What a space requires of types, flag by flag.
 use Rattle.std.proofs.Common.{◌≡◌, ℕ, ◌==◌, IsTrue, Option, Some, None, IfSome, bit_and, refl, sym, subst, ◌∙◌}
 use Rattle.std.proofs.lemmas.Bool.Decides.{Decides-eqb}
 use Rattle.std.specs.Int.Bits.{and_zero_r}

@@ -25,7 +25,7 @@ met_capped offset size k lt = (
 pub none_in : (k : ℕ) → IsIn 0 k → ⊥
 none_in k e = omega (arith, e)
 
--- ---- what begins behind a slot does not meet it
+-- ---- what begins after a slot does not meet it
 
 past : (slot offset size : ℕ) → 4 * slot + 4 ≤ offset → Meets offset size slot → ⊥
 past slot offset size le m = let lt = m.2 in omega (arith, le, lt)
@@ -80,7 +80,7 @@ element_all slot element stride offset place end count a is some all = (
   (λ h. some.1 (subst (λ p. IsReachedAmong slot element stride offset p) (sym is) (all.1 h))),
 )
 
--- past an element that begins behind all slots, no other meets one
+-- past an element that begins after all slots, no other meets one
 pub element_rest : (slot : ℕ) (element : Tree) (stride offset place end count a : ℕ) → slot < 64 → place < end → 256 ≤ offset + place * stride
     → IsIn a slot ↔ IsReachedAmong slot element stride offset place → IsReachedAmong slot element stride offset end ↔ IsReachedAmong slot element stride offset count
     → IsIn a slot ↔ IsReachedAmong slot element stride offset count

@@ -57,7 +57,7 @@ IsArrayRefusal space base i (error.InvalidType s) = (s ≡ space) × (space ≡ 
 IsArrayRefusal space base i (error.InvalidBindingArray b) = (b ≡ base) × (space ≡ Handle)
 IsArrayRefusal space base i _ = ⊥
 
--- what a space asks of types, as the number of a set
+-- what a space requires of types, as the number of a set
 abbrev pub required_bits : AddressSpace → ℕ
 required_bits Function = 0
 required_bits Private = 160

@@ -1,4 +1,4 @@
--- What is asked of a module in which a global variable is judged.
+-- What is required of a module in which a global variable is judged.
 use Rattle.std.specs.Prelude.{◌≡◌, ◌<◌, ℕ, Some, IfSome, length, slice_get}
 use Rattle.ir_items.specs.GlobalPlain.{PlainGlobal}
 use Rattle.ir_items.specs.Plain.{PlainModule}

@@ -22,7 +22,7 @@ pub enum GlobalVariableError {
     /// The type is not to be used for all that the space asks.
     #[error("the type may be used for {seen:?}, and {required:?} are asked")]
     MissingTypeFlags {
-        /// What the space asks.
+        /// What the space requires.
         required: TypeFlags,
         /// What the type may be used for.
         seen: TypeFlags,

@@ -154,7 +154,7 @@ fn check_lies(
     }
 }
 
-// Whether the capability that a variable of the type needs is there, and the type may be used for what the space asks.
+// Whether the capability that a variable of the type needs is there, and the type may be used for what the space requires.
 fn check_needs(
     context: &VariableContext<'_>,
     variable: &GlobalVariable,

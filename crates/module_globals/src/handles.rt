@@ -32,7 +32,7 @@ pub(crate) fn is_handle(inner: &TypeInner) -> bool
     }
 }
 
-// Whether a format has 16 bits a channel that stand for numbers from 0 to 1 or from -1 to 1.
+// Whether a format has 16 bits a channel that denote numbers from 0 to 1 or from -1 to 1.
 const fn is_norm_16(format: StorageFormat) -> bool
     ensures { result ≡ is_norm_16 format }
 {

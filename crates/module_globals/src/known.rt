@@ -41,7 +41,7 @@ fn initializer_of(context: &GlobalContext<'_>, variable: &GlobalVariable) -> Opt
 ///
 /// # Errors
 ///
-/// A fault of the variable: each is answered only where it stands. Where several stand, it is one of them.
+/// A fault of the variable: each is answered only where it occurs. Where several stand, it is one of them.
 pub fn validate_global_var(
     flags: ValidationFlags,
     context: &GlobalContext<'_>,

@@ -6,7 +6,7 @@ ghost use Rattle.module_globals.specs.Slots.{IsIn, Meets};
 
 use std::ops::BitOr;
 
-/// A set of numbers below 64 (naga's `ImmediateSlots`): number `k` stands for the four bytes of immediate data from byte
+/// A set of numbers below 64 (naga's `ImmediateSlots`): number `k` denotes the four bytes of immediate data from byte
 /// `4 * k` on. A contract sees the number whose bits they are, as `set.0`.
 #[derive(Clone, Copy, PartialEq, Eq, Debug)]
 pub struct ImmediateSlots(
@@ -33,7 +33,7 @@ impl ImmediateSlots {
         ImmediateSlots(raw)
     }
 
-    /// The slots that a range of bytes meets. Bytes behind the last slot meet none.
+    /// The slots that a range of bytes meets. Bytes after the last slot meet none.
     pub fn from_range(offset: u32, size_bytes: u32) -> Self
         ensures { (k : ℕ) → k < 64 → IsIn result.0 k ↔ Meets offset size_bytes k }
     {

@@ -89,7 +89,7 @@ module _ (m : PlainModule) (ok : HandlesOK m) (f : PlainFunction) (within : Hand
   back : TypesGoBack m.types
   back = (conditions m ok).types
 
-  -- a type that is there, if one is told
+  -- a type that is there, if one is reported
   told_made : (o : Option ℕ) → ((type : ℕ) → o ≡ Some type → type < length m.types) → GivesIf m.types (option_map (form_of_type m.types) o)
   told_made None there = no_form m.types
   told_made (Some type) there = some_form m.types (form_of_type m.types type) (type_made m.types back type (there type refl))

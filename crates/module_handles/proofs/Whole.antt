@@ -1,4 +1,4 @@
--- All parts of a module in order make the whole in order, and a module in order gives what is asked behind.
+-- All parts of a module in order make the whole in order, and a module in order gives what is required after.
 use Rattle.std.proofs.Common.{◌≡◌, ℕ, ◌+◌, ◌<◌, List, Some, option_map, option_and_then, sym, ap, ◌∙◌, subst, slice_get, length, All, Contains, arith}
 use Rattle.std.proofs.lemmas.List.Elements.{All-contains, All-contains_itself}
 use Rattle.std.proofs.lemmas.Option.{slice_get_within}
@@ -92,7 +92,7 @@ module _ (m : PlainModule) (types : TypesOK m) (items : ItemsOK m) (globals : Gl
   pub whole : HandlesOK m
   whole = record { there = names_there; functions = λ i f at. (functions i f at).in_range; entries = λ k x at. (entries k x at).there; back = depends_back }
 
--- ---- what the steps behind ask
+-- ---- what the steps after ask
 
 module _ (m : PlainModule) (ok : HandlesOK m) where
   go_back : TypesGoBack m.types

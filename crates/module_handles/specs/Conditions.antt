@@ -1,4 +1,4 @@
--- What a module whose handles are in order gives to the steps behind: what layouts, types and the analysis of functions ask.
+-- What a module whose handles are in order gives to the steps after: what layouts, types and the analysis of functions ask.
 use Rattle.std.specs.Prelude.{◌≡◌, ℕ, Some, length, slice_get}
 use Rattle.ir_items.specs.Plain.{PlainFunction, PlainEntry, PlainModule}
 use Rattle.ir_proc.specs.Filters.{ParentsPrecede}
@@ -6,7 +6,7 @@ use Rattle.spec_handles.specs.Conditions.{HandlesInRange, OperandsPrecede, Calle
 use Rattle.spec_handles.specs.InOrder.{HandlesOK}
 use Rattle.typing_forms.specs.Order.{TypesGoBack}
 
--- what the analysis asks of a function before which so many functions stand, beside the parents of filters and the arities
+-- what the analysis requires of a function before which so many functions stand, beside the parents of filters and the arities
 -- of calls
 pub record FunctionConditions (m : PlainModule) (before : ℕ) (f : PlainFunction) : Type 0 where
   pub in_range : HandlesInRange m f

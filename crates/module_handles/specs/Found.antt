@@ -1,4 +1,4 @@
--- What is wrong with the handles of a module outside its functions, found step by step; `spec_handles` says what is asked of
+-- What is wrong with the handles of a module outside its functions, found step by step; `spec_handles` says what is required of
 -- them.
 use Rattle.std.specs.Prelude.{ℕ, ◌+◌, List, nat_lt, if◌then◌else◌, Option, Some, None, option_map, option_and_then, slice_get}
 use Rattle.std.specs.Option.{option_or}

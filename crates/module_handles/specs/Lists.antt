@@ -1,4 +1,4 @@
--- What is asked of each item of a list, and what is found at one of them.
+-- What is required of each item of a list, and what is found at one of them.
 use Rattle.std.specs.Prelude.{◌≡◌, ℕ, List, Some, slice_get}
 use Rattle.ir_references.specs.declared.fault.HandleFault.{HandleFault}
 

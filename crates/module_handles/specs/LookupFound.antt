@@ -1,4 +1,4 @@
--- What the items that are named are of and begin as, and what doesn't come before; `spec_handles` says what is asked of them.
+-- What the items that are named are of and begin as, and what doesn't come before; `spec_handles` says what is required of them.
 use Rattle.std.specs.Prelude.{ℕ, nat_lt, if◌then◌else◌, Option, Some, None, option_map, option_and_then, slice_get}
 use Rattle.ir_items.specs.GlobalPlain.{PlainConstant, PlainOverride}
 use Rattle.ir_items.specs.Plain.{PlainModule}

@@ -7,7 +7,7 @@ ghost use Rattle.spec_handles.specs.Conditions.{CalleesPrecede};
 use ir_items::{Function, Module};
 use ir_references::forward_callee;
 
-/// Whether each function that the function names, by a call or by what stands for the answer of one, is one of the first
+/// Whether each function that the function names, by a call or by what denotes the answer of one, is one of the first
 /// `before` of its module: as many as come before a function, all for an entry point.
 pub fn callees_precede(function: &Function, _module: &Module, before: usize) -> bool
     ensures { IsTrue result ↔ CalleesPrecede before (function_view function.now) }

@@ -4,7 +4,7 @@ use ir_arena::handle::BadHandle;
 use ir_arena::range::BadRangeError;
 use thiserror::Error;
 
-/// The error of an item that depends on one which doesn't come before it (naga's `FwdDepError`). Both are told by their
+/// The error of an item that depends on one which doesn't come before it (naga's `FwdDepError`). Both are reported by their
 /// places, as [`BadHandle`] tells its item.
 #[derive(Clone, Copy, PartialEq, Eq, Debug, Error)]
 #[error("[{subject}] of kind {subject_kind:?} depends on [{depends_on}] of kind {depends_on_kind}, which has not been processed yet")]

@@ -13,7 +13,7 @@ use ir_arena::handle::Handle;
 use ir_references::HandleFault;
 use spec_handles::ItemKind;
 
-// What is asked of the items of a list, each at its place.
+// What is required of the items of a list, each at its place.
 pub(crate) trait ItemCheck<T> {
     ghost use Rattle.std.specs.Prelude.{ℕ};
     ghost use Rattle.ir_references.specs.declared.fault.HandleFault.{HandleFault};

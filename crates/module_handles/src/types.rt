@@ -147,7 +147,7 @@ fn type_at(module: &Module, index: usize) -> &TypeInner
 }
 
 /// The fault of what a type names, if it is not there or does not come before it. Each global expression is looked through
-/// once: what one type was found to come after, those behind it come after too.
+/// once: what one type was found to come after, those after it come after too.
 pub(crate) fn fault_of_types(module: &Module) -> Option<HandleFault>
     ensures { MatchOption result (TypesOK (module_view «module».now)) (IsFaultIn (module_view «module».now)) }
 {

@@ -42,7 +42,7 @@ all_flags = by_flags (λ f. Has 255 (bit f)) refl refl refl refl refl refl refl 
 pub common_none : (c : TypeContext) (ms : List PlainMember) (set : TypeFlags) (place : ℕ) → set.0 ≡ 255 → place ≡ 0 → CommonBelow c ms set place
 common_none c ms set place is first = record { each = λ f. ((λ _. below_none (λ k p. HasFlag f p.of_type) (parts_in c ms) place first), (λ _. subst (λ s. Has s (bit f)) (sym is) (all_flags f))) }
 
--- what stood before a place, where it stands before the next
+-- what stood before a place, where it occurs before the next
 earlier : (P : ℕ → Part → Type 0) (ps : List Part) (place : ℕ) → Below P ps (place + 1) → Below P ps place
 earlier P ps place b = record { each = λ k lt. b.each k (omega arith) }
 

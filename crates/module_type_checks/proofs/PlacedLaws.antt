@@ -22,7 +22,7 @@ placed_at c ms k m placed lt is of begins facts =
 pub placed_before : (c : TypeContext) (ms : List PlainMember) (k : ℕ) (placed : Placed) → (k ≢ 0) → IsPlaced c ms (k - 1) placed → IsBefore c ms k placed
 placed_before c ms k placed some at = record { m = at.m; at = before_is ms k some ∙ at.at; part = before_is (parts_in c ms) k some ∙ at.part; told = at.told }
 
--- nothing is before the first, and what is before another ends where it is told
+-- nothing is before the first, and what is before another ends where it is reported
 pub free_none : (c : TypeContext) (ms : List PlainMember) (k n : ℕ) → k ≡ 0 → end_after (before (parts_in c ms) k) ≤ n
 free_none c ms k n none = subst (λ j. end_after (before (parts_in c ms) j) ≤ n) (sym none) (omega arith)
 

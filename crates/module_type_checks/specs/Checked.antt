@@ -1,4 +1,4 @@
--- What is asked of a type, from what it is made of.
+-- What is required of a type, from what it is made of.
 use Rattle.std.specs.Prelude.{◌≡◌, ◌⊎◌, ℕ, List, Some}
 use Rattle.ir_types.specs.Plain.{PlainInner, PlainMember}
 use Rattle.typing_layout.specs.Blends.{HasSource, BlendOK, BlendsOK}

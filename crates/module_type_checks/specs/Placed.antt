@@ -16,20 +16,20 @@ parts_in c members = listed (members_by (tree_in c) members)
 abbrev pub part_of : (tree : ℕ → Tree) → PlainMember → Part
 part_of tree m = record { of_type = tree m.ty; binding = m.binding; offset = m.offset }
 
--- what is told of a member
+-- what is reported of a member
 pub record IsReported (c : TypeContext) (m : PlainMember) (placed : Placed) : Type 0 where
   pub of : placed.ty ≡ m.ty
   pub begins : placed.offset ≡ m.offset
   pub facts : AreFacts c (tree_in c m.ty) placed.facts
 
--- what is told of the member at a place
+-- what is reported of the member at a place
 pub record IsPlaced (c : TypeContext) (members : List PlainMember) (place : ℕ) (placed : Placed) : Type 0 where
   pub m : PlainMember
   pub at : slice_get members place ≡ Some m
   pub part : slice_get (parts_in c members) place ≡ Some (part_of (tree_in c) m)
   pub told : IsReported c m placed
 
--- what is told of the member before a place
+-- what is reported of the member before a place
 pub record IsBefore (c : TypeContext) (members : List PlainMember) (place : ℕ) (placed : Placed) : Type 0 where
   pub m : PlainMember
   pub at : before members place ≡ Some m

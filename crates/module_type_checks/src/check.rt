@@ -78,11 +78,11 @@ fn check_inner(
     }
 }
 
-/// Whether a module may have the type at a handle, from what is told of the types before it.
+/// Whether a module may have the type at a handle, from what is reported of the types before it.
 ///
 /// # Errors
 ///
-/// A fault of the type: each is answered only where it stands.
+/// A fault of the type: each is answered only where it occurs.
 pub fn check_type(context: &TypeContext<'_>, handle: Handle<key::IrType>) -> Result<(), TypeError>
     requires known { IsKnown context.now }
     requires before { handle ≤ length context.now.infos.now }

@@ -64,7 +64,7 @@ pub(crate) fn check_image(
     }
 }
 
-// Whether the vertices of a hit can be had, where they are asked for.
+// Whether the vertices of a hit can be had, where they are required.
 fn check_vertices(capabilities: Capabilities, vertex_return: bool) -> Result<(), TypeError>
     ensures { MatchResult result (λ _. VerticesOK capabilities vertex_return) (IsVerticesFault capabilities vertex_return) }
 {

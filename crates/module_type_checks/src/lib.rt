@@ -1,4 +1,4 @@
-//! The rules of a type of any kind, from what is told of the types that it names: which scalars types and literals may have,
+//! The rules of a type of any kind, from what is reported of the types that it names: which scalars types and literals may have,
 //! the members of a struct at their places, whether a module may have it, and what it may be used for.
 #![tactic(auto)]
 

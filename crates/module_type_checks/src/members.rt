@@ -28,7 +28,7 @@ pub struct Placed {
 }
 
 impl Placed {
-    /// The first byte behind the member.
+    /// The first byte after the member.
     pub fn end(&self) -> u64
         ensures { result ≡ self.now.offset + self.now.facts.size }
     {

@@ -73,8 +73,8 @@ pub fn check_width(capabilities: Capabilities, scalar: Scalar) -> Result<(), Wid
     }
 }
 
-/// Whether the value of a literal is one that there is (naga's `check_literal_value`): all are, since floats are told by
-/// their bits, whatever these stand for.
+/// Whether the value of a literal is one that there is (naga's `check_literal_value`): all are, since floats are reported by
+/// their bits, whatever these denote.
 pub const fn check_literal_value(_literal: Literal) -> Result<(), LiteralError>
     ensures { IsOk result }
 {

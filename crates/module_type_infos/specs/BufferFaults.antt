@@ -41,7 +41,7 @@ pub record IsBadOffset (part : Tree → ℕ) (index offset a : ℕ) (t : Tree) :
   pub asked : a ≡ part p.of_type
   pub broken : ¬ (a ∣ offset)
 
--- a struct with a member that begins too near behind a struct
+-- a struct with a member that begins too near after a struct
 pub record IsNearAfter (index offset expected : ℕ) (t : Tree) : Type 0 where
   pub members : Members
   pub span : ℕ

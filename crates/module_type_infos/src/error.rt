@@ -21,7 +21,7 @@ pub enum WidthError {
     Abstract,
 }
 
-/// Why there is no such literal (naga's `LiteralError`, of values that are told by their bits).
+/// Why there is no such literal (naga's `LiteralError`, of values that are reported by their bits).
 #[derive(Clone, Copy, Debug, Error)]
 pub enum LiteralError {
     /// Its scalar is none that there is.
@@ -40,12 +40,12 @@ pub enum ImmediateError {
 /// What keeps a host from laying out a type (naga's `Disalignment`).
 #[derive(Clone, Copy, Debug, Error)]
 pub enum Disalignment {
-    /// The stride of an array is no multiple of what is asked of it.
+    /// The stride of an array is no multiple of what is required of it.
     #[error("the stride {stride} is no multiple of {alignment}")]
     ArrayStride {
         /// In bytes.
         stride: u32,
-        /// What is asked.
+        /// What is required.
         alignment: Alignment,
     },
     /// The span of a struct is no multiple of its alignment.
@@ -56,17 +56,17 @@ pub enum Disalignment {
         /// The struct's.
         alignment: Alignment,
     },
-    /// A member does not begin at a multiple of what is asked.
+    /// A member does not begin at a multiple of what is required.
     #[error("member {index} at {offset} does not begin at a multiple of {alignment}")]
     MemberOffset {
         /// The member's place, from 0.
         index: usize,
         /// Where it begins, in bytes.
         offset: u32,
-        /// What is asked.
+        /// What is required.
         alignment: Alignment,
     },
-    /// A member begins too near behind a struct.
+    /// A member begins too near after a struct.
     #[error("member {index} at {offset} begins before {expected}")]
     MemberOffsetAfterStruct {
         /// The member's place, from 0.

@@ -1,4 +1,4 @@
-//! What is told of a type that is accepted.
+//! What is reported of a type that is accepted.
 
 use crate::error::{Disalignment, ImmediateError};
 use crate::flags::TypeFlags;
@@ -10,7 +10,7 @@ use typing_layout::Alignment;
 /// `LayoutCompatibility`).
 pub type LayoutCompatibility = Result<Alignment, (Handle<key::IrType>, Disalignment)>;
 
-/// What is told of a type that is accepted (naga's `TypeInfo`).
+/// What is reported of a type that is accepted (naga's `TypeInfo`).
 #[derive(Clone, Copy, Debug)]
 pub struct TypeInfo {
     /// What the type may be used for.

@@ -1,4 +1,4 @@
-//! What is told of a type that is accepted, and why a type is refused.
+//! What is reported of a type that is accepted, and why a type is refused.
 #![tactic(auto)]
 
 mod error;

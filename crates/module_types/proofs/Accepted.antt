@@ -1,4 +1,4 @@
--- What is told of types, type by type.
+-- What is reported of types, type by type.
 use Rattle.std.proofs.Common.{◌≡◌, ◌<◌, ◌≤◌, ◌+◌, ◌++◌, inl, inr, ℕ, zero, suc, List, [], ◌∷◌, Some, Bool, length, slice_get, refl, sym, ap, subst, ◌∙◌, arith, length-append}
 use Rattle.ir_arena.specs.declared.span.Span.{Span}
 use Rattle.ir_flags.specs.declared.settings.Capabilities.{Capabilities}

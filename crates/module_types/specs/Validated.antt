@@ -1,4 +1,4 @@
--- What is told of the types of a module, and why they are refused.
+-- What is reported of the types of a module, and why they are refused.
 use Rattle.std.specs.Prelude.{◌≡◌, ◌<◌, ℕ, List, [], Some, Bool, length, slice_get}
 use Rattle.ir_faults.specs.Faults.{error_of, spans_of}
 use Rattle.ir_faults.specs.declared.refusal.Refusal.{Refusal}
@@ -14,7 +14,7 @@ use Rattle.module_type_infos.specs.declared.error.TypeError.{TypeError}
 use Rattle.module_type_infos.specs.declared.info.TypeInfo.{TypeInfo}
 use Rattle.typing_forms.specs.Resolutions.{inner_at}
 
--- the type at a handle is accepted, and this is told of it
+-- the type at a handle is accepted, and this is reported of it
 pub record IsAccepted (capabilities : Capabilities) (resolved : Bool) (types : List PlainType) (handle : ℕ) (i : TypeInfo) : Type 0 where
   pub ok : TypeOK capabilities resolved types handle
   pub info : HasInfo types (type_tree types handle) i
@@ -26,7 +26,7 @@ pub record IsRefusedFor (capabilities : Capabilities) (resolved : Bool) (types :
   pub fault : IsInnerFault capabilities resolved types handle i e
   pub not : ¬ TypeOK capabilities resolved types handle
 
--- so many first types are accepted, and this is told of each
+-- so many first types are accepted, and this is reported of each
 pub record AreAcceptedBelow (capabilities : Capabilities) (resolved : Bool) (types : List PlainType) (infos : List TypeInfo) (place : ℕ) : Type 0 where
   pub many : length infos ≡ place
   pub each : (handle : ℕ) (i : TypeInfo) → slice_get infos handle ≡ Some i → IsAccepted capabilities resolved types handle i

@@ -1,4 +1,4 @@
-//! What is told of a type, from what is told of the types before it.
+//! What is reported of a type, from what is reported of the types before it.
 
 ghost use Rattle.std.specs.Prelude.{◌≡◌, ◌<◌, ◌≤◌, ℕ, Some, All, length, map, MatchResult};
 ghost use Rattle.ir_types.specs.Plain.{inner_view, member_view};
@@ -155,7 +155,7 @@ fn info_of_inner(
     }
 }
 
-/// What is told of the type at a handle, from what is told of the types before it. It is told of every type, also of one
+/// What is reported of the type at a handle, from what is reported of the types before it. It is reported of every type, also of one
 /// that is refused.
 pub fn info_of(context: &TypeContext<'_>, handle: Handle<key::IrType>) -> TypeInfo
     requires known { IsKnown context.now }

@@ -1,4 +1,4 @@
-//! What is told of a module's types: what they may be used for, and whether a host can lay them out, in uniform and in storage
+//! What is reported of a module's types: what they may be used for, and whether a host can lay them out, in uniform and in storage
 //! buffers.
 #![tactic(auto)]
 

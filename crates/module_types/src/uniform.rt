@@ -38,7 +38,7 @@ fn free_before(context: &TypeContext<'_>, members: &[StructMember], place: usize
     }
 }
 
-// Whether a member begins where one may that its type asks for, and not too near behind a struct.
+// Whether a member begins where one may that its type asks for, and not too near after a struct.
 fn check_uniform_offset(
     context: &TypeContext<'_>,
     handle: Handle<key::IrType>,

@@ -30,12 +30,12 @@ pub struct InvalidType {
     pub error: TypeError,
 }
 
-/// What is told of the type at a handle, if a module may have it, from what is told of the types before it (naga's
+/// What is reported of the type at a handle, if a module may have it, from what is reported of the types before it (naga's
 /// `validate_type`).
 ///
 /// # Errors
 ///
-/// A fault of the type: each is answered only where it stands, with what it speaks of. Where several stand, it is one of
+/// A fault of the type: each is answered only where it occurs, with what it speaks of. Where several stand, it is one of
 /// them.
 pub fn validate_type(
     context: &TypeContext<'_>,
@@ -55,7 +55,7 @@ pub fn validate_type(
     }
 }
 
-// What is told of the type behind those of which it is told already.
+// What is reported of the type after those of which it is reported already.
 fn validate_next(
     settings: TypeSettings,
     types: &UniqueArena<IrType, key::IrType>,
@@ -94,7 +94,7 @@ pub struct TypeSettings {
     pub overrides_resolved: bool,
 }
 
-/// What is told of each type of a module. Each is looked at once, with its members.
+/// What is reported of each type of a module. Each is looked at once, with its members.
 ///
 /// # Errors
 ///

@@ -1,4 +1,4 @@
--- What is told of the first override that is refused.
+-- What is reported of the first override that is refused.
 use Rattle.std.proofs.Common.{◌≡◌, ◌<◌, ℕ, Bool, length, sym, subst, arith}
 use Rattle.module_constants.specs.Overrides.{IsOverrideFault}
 use Rattle.module_constants.specs.declared.override_error.OverrideError.{OverrideError}

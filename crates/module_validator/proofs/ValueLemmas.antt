@@ -63,7 +63,7 @@ override_fails s m Fault index asked first = record {
   fails = λ ok. first.not (ok asked);
 }
 
--- ---- where the settings are those of what is asked
+-- ---- where the settings are those of what is required
 
 pub expressions_accepted : (s : ModuleSettings) (c : GlobalContext) (m : PlainModule) → AreSettingsOf s c → AreAccepted (GlobalExpressionOK c.capabilities c.overrides_resolved m) (length m.global_expressions) → StepPasses s m expression
 expressions_accepted s c m same all =

@@ -15,7 +15,7 @@ pub record IsVariableFault (flags : ValidationFlags) (capabilities : Capabilitie
   pub first : IsFirstFailing flags capabilities m e.global
   pub fault : IsGlobalFault flags capabilities m e.global e.error
 
--- memory ran out, or the first variable that is refused is told
+-- memory ran out, or the first variable that is refused is reported
 abbrev pub IsRefusal : ValidationFlags → Capabilities → PlainModule → Refusal InvalidGlobalVariable → Type 0
 IsRefusal flags capabilities m (refusal.Memory e) = Unit {0}
 IsRefusal flags capabilities m (refusal.Fault e) = IsVariableFault flags capabilities m (error_of e) × (spans_of e ≡ [])

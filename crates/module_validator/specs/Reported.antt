@@ -1,4 +1,4 @@
--- What is told of a module that is accepted.
+-- What is reported of a module that is accepted.
 use Rattle.std.specs.Prelude.{◌≡◌, [], Bool, length}
 use Rattle.ir_items.specs.Plain.{PlainModule}
 use Rattle.typing_infos.specs.declared.info.ModuleInfo.{ModuleInfo}

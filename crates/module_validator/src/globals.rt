@@ -59,7 +59,7 @@ fn check_all(
 /// Whether a module may have its global variables (the part of naga's `Validator::validate` that speaks of them). Each is
 /// looked at once, and so is each global expression.
 ///
-/// Requires that the handles of the module are in order, and that this is told of its types and of its global expressions, as
+/// Requires that the handles of the module are in order, and that this is reported of its types and of its global expressions, as
 /// `ModuleValidator::validate` answers.
 ///
 /// # Errors

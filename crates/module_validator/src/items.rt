@@ -27,7 +27,7 @@ use module_types::validate_type;
 use typing_errors::{ConstExpressionError, ExpressionError};
 
 impl ModuleValidator {
-    /// What is told of the type at a handle, if a module may have it, from what is told of the types before it (naga's
+    /// What is reported of the type at a handle, if a module may have it, from what is reported of the types before it (naga's
     /// `Validator::validate_type`).
     ///
     /// Requires that types go back, that what the context tells of types and layouts is theirs, and that it tells of each type
@@ -35,7 +35,7 @@ impl ModuleValidator {
     ///
     /// # Errors
     ///
-    /// A fault of the type: each is answered only where it stands. Where several stand, it is one of them.
+    /// A fault of the type: each is answered only where it occurs. Where several stand, it is one of them.
     pub fn validate_type(
         &self,
         context: &TypeContext<'_>,
@@ -62,12 +62,12 @@ impl ModuleValidator {
     /// Whether a module may have the global expression at a handle (naga's `Validator::validate_const_expression`).
     ///
     /// Requires that what the module's constants, overrides and compositions name is there, and that what the context tells of
-    /// types and global expressions is told of all of them.
+    /// types and global expressions is reported of all of them.
     ///
     /// # Errors
     ///
     /// Its value is known only when the shader runs, it was not worked out, it is a literal that may not be used, or a
-    /// composition that can't be made: each is answered only where it stands.
+    /// composition that can't be made: each is answered only where it occurs.
     pub fn validate_const_expression(
         &self,
         context: &GlobalContext<'_>,
@@ -92,13 +92,13 @@ impl ModuleValidator {
 
     /// Whether the expression at a handle is accepted, and which stages may run it (naga's `Validator::validate_expression`).
     ///
-    /// Requires that what the context tells of types and of constants is told of all of them.
+    /// Requires that what the context tells of types and of constants is reported of all of them.
     ///
     /// # Errors
     ///
     /// [`ExpressionError::Literal`] and [`ExpressionError::Compose`] for a literal that may not be used and for a composition
-    /// that can't be made, [`ExpressionError::Other`] where what is asked of an expression of another kind does not hold; each
-    /// is answered only where it stands.
+    /// that can't be made, [`ExpressionError::Other`] where what is required of an expression of another kind does not hold; each
+    /// is answered only where it occurs.
     pub fn validate_expression(
         &self,
         context: &CheckContext<'_>,

@@ -78,7 +78,7 @@ pub fn lay_out(
     }
 }
 
-/// What is told of the types of a module.
+/// What is reported of the types of a module.
 pub fn type_infos(
     alloc: Global,
     settings: ModuleSettings,

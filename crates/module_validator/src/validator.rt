@@ -126,7 +126,7 @@ impl ModuleValidator {
     ///
     /// # Errors
     ///
-    /// There is no such width, a capability is missing, or the kind is abstract: each only where it stands.
+    /// There is no such width, a capability is missing, or the kind is abstract: each only where it occurs.
     pub fn check_width(&self, scalar: Scalar) -> Result<(), WidthError>
         ensures { MatchResult result (λ _. ScalarOK self.now.capabilities scalar) (IsWidthFault self.now.capabilities scalar) }
     {

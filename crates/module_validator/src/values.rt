@@ -28,7 +28,7 @@ use std::alloc::Global;
 use typing_forms::TypeResolution;
 use typing_layout::ExpressionKindTracker;
 
-// Whether values are asked of.
+// Whether values are required of.
 fn requires_values(flags: ValidationFlags) -> bool
     ensures { IsTrue result ↔ Has flags.0 CONSTANTS.0 }
 {

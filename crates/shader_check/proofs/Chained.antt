@@ -53,7 +53,7 @@ one_longer [] t n e = omega (arith, e)
 one_longer (x ∷ xs) t zero e = absurd (omega (arith, e))
 one_longer (x ∷ xs) t (suc n) e = let r = one_longer xs t n (omega (arith, e)) in omega (arith, r)
 
--- what stands in a list stands there still with one more behind it
+-- what is in a list stands there still with one more after it
 still_there : {A : Type 0} (xs : List A) (t : A) (i : ℕ) → i < length xs → slice_get xs i ≡ slice_get (xs ++ t ∷ []) i
 still_there [] t i lt = absurd (omega (arith, lt))
 still_there (x ∷ xs) t zero lt = refl

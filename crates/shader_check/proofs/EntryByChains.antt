@@ -104,7 +104,7 @@ module _ (s : FunctionSettings) (m : PlainModule) (handles : HandlesOK m) (summa
     ok = entry_by_chains m a.entry summaries stages (entry_known m handles index a.entry a.at summaries many known) (entry_settings s a.held) (HasUse m a.entry.function) a.ok;
   }
 
-  -- whichever stages are told of the functions
+  -- whichever stages are reported of the functions
   other_stages : (index : ℕ) (e : PlainEntry) → slice_get m.entries index ≡ Some e → (others : List ShaderStages) → AreStages s m others → (held : Option ℕ)
       → EntryOK (reading_with others m e.function) others (HasUse m e.function) (entry_settings s held) m e → EntryOK (reading_with stages m e.function) stages (HasUse m e.function) (entry_settings s held) m e
   other_stages index e at others these held ok = record {

@@ -29,7 +29,7 @@ told_longer RefusedHandles behind given rest long h = h
 told_longer (Refused step index) behind given rest long h = h
 
 module _ (f : Finding) (behind : List ℕ) where
-  -- the text of a finding, with what is told behind its line
+  -- the text of a finding, with what is reported after its line
   pub expected : (bytes : List ℕ) → Judged bytes f → IsReported bytes f behind → IsExpected bytes (text_of f ++ behind)
   expected bytes h t = record { finding = f; judged = h; behind = behind; told = t; text_is = refl }
 

@@ -25,7 +25,7 @@ first_once OK i j before fails before' fails' =
       ]
     ]
 
--- ---- the steps that are refused: those up to overrides, and those behind
+-- ---- the steps that are refused: those up to overrides, and those after
 
 pub data Family : Type 0 where
   up_to_overrides : ModuleStep → Family

@@ -35,7 +35,7 @@ examined_if d m (Err a) p h = tt
 pub judged_document : (d : PlainDocument) (m : PlainModule) (x : Examined) → IsExaminedDocument d m x → JudgedDocument d (finding_in x)
 judged_document d m x h = found_in d m (finding_in x) h.prepared (found_of d.settings m x h.examined)
 
--- ---- what is told
+-- ---- what is reported
 
 pub kept_in : (d : PlainDocument) (m : PlainModule) (x : Examined) → IsExaminedDocument d m x → IsKeptIn m x
 kept_in d m (examined.Accepted strict info) h = reported (function_settings d.settings) m info h.examined.0
@@ -55,7 +55,7 @@ refused_reported d m (error.GlobalVariable e) behind t = t
 refused_reported d m (error.Function e) behind t = t
 refused_reported d m (error.EntryPoint e) behind t = t
 
--- what is told of its module is told of the document
+-- what is reported of its module is reported of the document
 reported_of : (d : PlainDocument) (m : PlainModule) (x : Examined) (behind : List ℕ) → IsExaminedDocument d m x → IsReportedIn m (finding_in x) behind → IsReportedOf d (finding_in x) behind
 reported_of d m (examined.Accepted strict info) behind h t = record { judged = m; prepared = h.prepared; is = t }
 reported_of d m (examined.Refused e) behind h t = refused_reported d m e behind t
@@ -86,7 +86,7 @@ pub judgement_if : (bytes : List ℕ) (d : PlainDocument) (r : Result Judgement 
 judgement_if bytes d (Ok j) reads h = record { finding = judged bytes d j.finding reads h.finding; told = told_on bytes d j.finding (string_bytes j.report) reads h.told }
 judgement_if bytes d (Err a) reads h = tt
 
--- what is told where no document is spelled
+-- what is reported where no document is spelled
 pub nothing_on : (bytes : List ℕ) (j : Judgement) → j.finding ≡ RefusedDocument → string_bytes j.report ≡ [] → ((d : PlainDocument) → ¬ Reads bytes d) → IsJudgementOn bytes j
 nothing_on bytes j is empty none = record {
   finding = subst (Judged bytes) (sym is) none;

@@ -133,7 +133,7 @@ judged_once bytes (Refused s i) (Accepted strict) x y = finds_once bytes (Refuse
 judged_once bytes (Refused s i) RefusedHandles x y = finds_once bytes (Refused s i) RefusedHandles x y
 judged_once bytes (Refused s i) (Refused t j) x y = finds_once bytes (Refused s i) (Refused t j) x y
 
--- ---- what is told behind the line
+-- ---- what is reported after the line
 
 report_once : (d : PlainDocument) (a b : List ℕ) → IsReportOn d a → IsReportOn d b → a ≡ b
 report_once d a b x y =

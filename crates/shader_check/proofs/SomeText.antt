@@ -32,7 +32,7 @@ use Rattle.shader_check.proofs.JudgedLaws.{found_in, judged}
 
 -- ---- of a module
 
--- whether a set has some bits can be told
+-- whether a set has some bits can be reported
 has_told : (set flags : ℕ) → (b : Bool) × (IsTrue b ↔ Has set flags)
 has_told set flags = (nat_eq (bit_and set flags) flags, (λ h. eqb-true (bit_and set flags) flags h, λ h. eq-eqb (bit_and set flags) flags h))
 
@@ -171,7 +171,7 @@ some_judged bytes =
       | inr found ↦ by_candidate bytes found.0 found.1
     ]
 
--- ---- what is told
+-- ---- what is reported
 
 abbrev SomeTold : List ℕ → Finding → Type 0
 SomeTold bytes f = (behind : List ℕ) × IsReported bytes f behind

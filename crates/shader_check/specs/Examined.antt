@@ -63,7 +63,7 @@ pub record IsExaminedDocument (d : PlainDocument) (m : PlainModule) (x : Examine
   pub prepared : IsPrepared d.settings.returns d.content m
   pub examined : IsExamined d.settings m x
 
--- What is left of a module m where memory runs out: m with its spans, or m with returns put in where that is asked for.
+-- What is left of a module m where memory runs out: m with its spans, or m with returns put in where that is required.
 abbrev pub IsLeft : (returns : Bool) → (m n : Module) → Type 0
 IsLeft returns m n = (spanned_module n ≡ spanned_module m) ⊎ IsPrepared returns (module_view m) (module_view n)
 
@@ -72,7 +72,7 @@ abbrev pub IsKeptIn : PlainModule → Examined → Type 0
 IsKeptIn m (examined.Accepted strict info) = IsReported m info
 IsKeptIn m (examined.Refused e) = Unit {0}
 
--- what is told of a module behind the line of what is found: nothing, but the report where it is accepted
+-- what is reported of a module after the line of what is found: nothing, but the report where it is accepted
 abbrev pub IsReportedIn : PlainModule → Finding → (behind : List ℕ) → Type 0
 IsReportedIn m (Accepted strict) behind = IsReport m behind
 IsReportedIn m RefusedDocument behind = behind ≡ []

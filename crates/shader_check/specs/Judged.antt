@@ -79,7 +79,7 @@ IsReportedAt handle (refusal.Memory e) (refusal.Fault g) = ⊥
 IsReportedAt handle (refusal.Fault f) (refusal.Memory d) = ⊥
 IsReportedAt handle (refusal.Fault f) (refusal.Fault g) = ((error_of g).function ≡ handle) × ((error_of g).error ≡ error_of f) × (spans_of g ≡ [])
 
--- memory ran out, or the first function that is refused is told
+-- memory ran out, or the first function that is refused is reported
 abbrev pub IsRefusal : (Question → Reading) → (Question → Faults) → FunctionSettings → PlainModule → Refusal InvalidFunction → Type 0
 IsRefusal reading faults s m (refusal.Memory e) = Unit {0}
 IsRefusal reading faults s m (refusal.Fault e) = IsFirstRefused reading faults s m (error_of e) × (spans_of e ≡ [])

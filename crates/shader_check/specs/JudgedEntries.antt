@@ -82,12 +82,12 @@ IsEntryReportedAt index (refusal.Memory e) (refusal.Fault g) = ⊥
 IsEntryReportedAt index (refusal.Fault f) (refusal.Memory d) = ⊥
 IsEntryReportedAt index (refusal.Fault f) (refusal.Fault g) = ((error_of g).index ≡ index) × ((error_of g).error ≡ error_of f) × (spans_of g ≡ [])
 
--- memory ran out, or it tells that the entry point at an index has the name of an earlier one
+-- memory ran out, or it says that the entry point at an index has the name of an earlier one
 abbrev pub IsConflictReported : (index : ℕ) → (conflict : Type 0) → Refusal InvalidEntryPoint → Type 0
 IsConflictReported index conflict (refusal.Memory e) = Unit {0}
 IsConflictReported index conflict (refusal.Fault g) = conflict × ((error_of g).index ≡ index) × ((error_of g).error ≡ Conflict) × (spans_of g ≡ [])
 
--- memory ran out, or the first entry point that is refused is told
+-- memory ran out, or the first entry point that is refused is reported
 abbrev pub IsEntryRefusal : (Question → Reading) → (Question → Faults) → FunctionSettings → PlainModule → List Summary → List ShaderStages → Refusal InvalidEntryPoint → Type 0
 IsEntryRefusal reading faults s m summaries stages (refusal.Memory e) = Unit {0}
 IsEntryRefusal reading faults s m summaries stages (refusal.Fault e) = IsFirstEntryRefused reading faults s m summaries stages (error_of e) × (spans_of e ≡ [])

@@ -54,7 +54,7 @@ Judged bytes (finding.Accepted strict) = Finds bytes (finding.Accepted strict)
 Judged bytes finding.RefusedHandles = Finds bytes finding.RefusedHandles
 Judged bytes (finding.Refused step index) = Finds bytes (finding.Refused step index)
 
--- ---- what is told
+-- ---- what is reported
 
 -- It is the report on the document's module, with returns put in where its settings ask for them.
 pub record IsReportOn (d : PlainDocument) (report : List ℕ) : Type 0 where
@@ -62,7 +62,7 @@ pub record IsReportOn (d : PlainDocument) (report : List ℕ) : Type 0 where
   pub prepared : IsPrepared d.settings.returns d.content judged
   pub is : IsReport judged report
 
--- what is told of a document behind the line of what is found: nothing, but the report where it is accepted
+-- what is reported of a document after the line of what is found: nothing, but the report where it is accepted
 abbrev pub IsReportedOf : PlainDocument → Finding → (behind : List ℕ) → Type 0
 IsReportedOf d (finding.Accepted strict) behind = IsReportOn d behind
 IsReportedOf d finding.RefusedDocument behind = behind ≡ []
@@ -75,7 +75,7 @@ pub record IsReportFor (bytes report : List ℕ) : Type 0 where
   pub reads : Reads bytes document
   pub reports : IsReportOn document report
 
--- what is told of bytes behind the line of what is found
+-- what is reported of bytes after the line of what is found
 abbrev pub IsReported : List ℕ → Finding → (behind : List ℕ) → Type 0
 IsReported bytes (finding.Accepted strict) behind = IsReportFor bytes behind
 IsReported bytes finding.RefusedDocument behind = behind ≡ []
@@ -139,7 +139,7 @@ pub record SoundText (bytes text : List ℕ) : Type 0 where
   pub reports : IsReport judged report
   pub text_is : text ≡ text_of (finding.Accepted strict) ++ report
   -- Where layouts, bodies and expressions are checked, what lies in each buffer is in order, and every run of each entry point is good,
-  -- with what it names and samples told by lines of this report.
+  -- with what it names and samples reported by lines of this report.
   pub sound : AreChecked document.settings → ModuleIsSound document.settings.returns document.settings judged report
   -- The lines of an entry point are those in the report on every module that differs only in functions which it doesn't reach.
   pub local : (number : ℕ) (e : PlainEntry) → slice_get judged.entries number ≡ Some e → EntryIsLocal judged report number e

@@ -80,12 +80,12 @@ IsValidationFault s resolved m (error.GlobalVariable e) = ModuleOK (module_setti
 IsValidationFault s resolved m (error.Function e) = ModuleOK (module_settings s resolved) m × GlobalsOK s.flags s.capabilities m × IsFunctionFault s m e
 IsValidationFault s resolved m (error.EntryPoint e) = ModuleOK (module_settings s resolved) m × GlobalsOK s.flags s.capabilities m × FunctionsOK s m × IsEntryFault s m e
 
--- memory ran out, or this is told, with no span
+-- memory ran out, or this is reported, with no span
 abbrev pub IsRefusedWith : {E : Type 0} → (E → Type 0) → Refusal E → Type 0
 IsRefusedWith IsFault (refusal.Memory e) = Unit {0}
 IsRefusedWith IsFault (refusal.Fault e) = IsFault (error_of e) × (spans_of e ≡ [])
 
--- ---- behind the global variables
+-- ---- after the global variables
 
 -- The functions and the entry points are accepted; this is kept of them, and else what was kept before.
 pub record IsKeptWith (s : FunctionSettings) (m : PlainModule) (before info : ModuleInfo) : Type 0 where

@@ -28,7 +28,7 @@ pub enum Verdict {
     Refused,
 }
 
-/// Why no verdict was reached or told.
+/// Why no verdict was reached or reported.
 #[derive(Clone, Copy, Debug, PartialEq, Eq, Error)]
 pub enum Fault {
     /// There was no memory. Nothing was written.
@@ -103,7 +103,7 @@ fn write_text<W: WriteCall>(sink: &mut Sink<W>, text: &[u8]) -> Result<(), Fault
 ///
 /// Every [`std::io::Read`] is a [`ReadCall`], and every [`std::io::Write`] a [`WriteCall`].
 ///
-/// It asks that no call of the reader or of the writer has failed before. [`Fault::Memory`] is what a
+/// It requires that no call of the reader or of the writer has failed before. [`Fault::Memory`] is what a
 /// refused allocation comes to, which no clause says, [`Fault::Read`] where a call of the reader failed or 33554434 calls brought no end, and
 /// [`Fault::Write`] where a call of the writer failed, was interrupted or took nothing.
 pub fn check_document<R: ReadCall, W: WriteCall>(

@@ -60,7 +60,7 @@ fn examine_module(
     }
 }
 
-// Puts returns in where they are asked for.
+// Puts returns in where they are required.
 fn prepare(alloc: Global, returns: bool, module: &mut Module) -> Result<(), AllocError>
     ensures ok { OnOk result (IsPrepared returns (module_view «module».old) (module_view «module».new)) }
     ensures err { OnErr result (spanned_module «module».new ≡ spanned_module «module».old) }
@@ -110,7 +110,7 @@ pub fn judge_document(alloc: Global, document: &mut Document) -> Result<Judgemen
     })
 }
 
-// What is told of bytes that spell no document.
+// What is reported of bytes that spell no document.
 fn no_document(alloc: Global) -> Judgement
     ensures finding { result.finding ≡ RefusedDocument }
     ensures report { string_bytes result.report ≡ [] }
@@ -122,7 +122,7 @@ fn no_document(alloc: Global) -> Judgement
 }
 
 /// What is found of the document that the bytes spell, the first step that fails and in it the least index, and the report on
-/// it. Where they spell none, the document is refused. The bytes are let go of once they are read. The error says that there
+/// it. Where they spell none, the document is refused. The bytes are freed once they are read. The error says that there
 /// is no memory.
 pub fn judge(alloc: Global, bytes: Vec<u8>) -> Result<Judgement, AllocError>
     ensures { IfOk result (IsJudgementOn bytes.items) }

@@ -1,4 +1,4 @@
-// Laws of the judgement over bytes, and what is asked of an accepted module.
+// Laws of the judgement over bytes, and what is required of an accepted module.
 ghost use Rattle.std.specs.Prelude.{◌≡◌, false, length, true};
 ghost use Rattle.ir_items.specs.View.{module_view};
 ghost use Rattle.judgement_runs.specs.Sound.{BoundsDepth};

@@ -5,7 +5,7 @@ ghost use Rattle.judgement.specs.Text.{text_of};
 use judgement::Finding;
 use std::alloc::{AllocError, Global};
 
-/// What is found of a document, and the report on its module: the lines behind the first one, none where it is refused.
+/// What is found of a document, and the report on its module: the lines after the first one, none where it is refused.
 #[derive(Debug, Drop)]
 pub struct Judgement {
     /// What is found.

@@ -217,7 +217,7 @@ fn judge(
 }
 
 impl Validator<RealLower> {
-    /// Whether a module is accepted, and what is kept of it (naga's `Validator::validate`): what is told of its types and their
+    /// Whether a module is accepted, and what is kept of it (naga's `Validator::validate`): what is reported of its types and their
     /// layouts, the types of its global expressions, and of each function and of the function of each entry point what it uses
     /// and samples over all chains of calls that begin at it.
     ///

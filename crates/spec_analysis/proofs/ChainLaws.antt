@@ -88,7 +88,7 @@ use-from_call m f s g k c (inr r) = inr (r.0, reaches-from_call m f (λ h. Names
 
 -- ---- pairs
 
--- where a callee's expression stands for something in the caller, it stands for something in the callee
+-- where a callee's expression denotes something in the caller, it denotes something in the callee
 seen : (meaning : ℕ → Option GlobalOrArgument) (arguments : List ℕ) (below : Option GlobalOrArgument) (above : GlobalOrArgument) → seen_through meaning arguments below ≡ Some above → (a : GlobalOrArgument) × (below ≡ Some a)
 seen meaning arguments None above e = cc (e)
 seen meaning arguments (Some a) above e = (a, refl)
@@ -122,7 +122,7 @@ pub record CalleePair (m : PlainModule) (f : PlainFunction) (p : SamplingPair) :
   pub below : HasPair m step.function pair
   pub gives : ComesUp f.expressions step.arguments pair p
 
--- a pair that is sampled behind a call comes up from the callee
+-- a pair that is sampled after a call comes up from the callee
 comes : (m : PlainModule) (f : PlainFunction) (s : Step) (rest : List Step) (p : SamplingPair) → Calls m f s → IsChain m s.function rest → Samples (bound f (rest ++ s ∷ [])) (end_of s.function rest) p → CalleePair m f p
 comes m f s rest p c r h =
     let image : seen_through (place f.expressions) s.arguments (bound s.function rest h.image) ≡ Some p.0 = sym (bound-append f s rest h.image) ∙ h.image_means in

@@ -69,7 +69,7 @@ find_call summaries g k (runs c args ∷ rest) = at_call summaries g k c args re
 
 -- ---- from the summaries of callees to what they have, and back
 
--- the summary that stands for the function of a step
+-- the summary that denotes the function of a step
 record Stepped (m : PlainModule) (f : PlainFunction) (summaries : List Summary) (s : Step) : Type 0 where
   summary : Summary
   calls : CallsOne f summaries s.arguments summary

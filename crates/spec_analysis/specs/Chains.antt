@@ -1,4 +1,4 @@
--- Chains of call statements, what expressions stand for at their ends, and what a function has over all of them.
+-- Chains of call statements, what expressions denote at their ends, and what a function has over all of them.
 use Rattle.std.specs.Prelude.{◌≡◌, ◌⊎◌, ℕ, List, [], ◌∷◌, Option, Some, None, slice_get, ⊤}
 use Rattle.std.specs.Int.{bit_at}
 use Rattle.ir_types.specs.ExpressionPlain.{PlainExpression, plain}
@@ -13,9 +13,9 @@ use Rattle.spec_analysis.specs.Operands.{Operand}
 use Rattle.spec_analysis.specs.Effects.{Effect, takes, samples, runs, discards, effects_of}
 use Rattle.spec_analysis.specs.Values.{StartsAt}
 
--- ---- what an expression stands for
+-- ---- what an expression denotes
 
--- what the base of an access stands for
+-- what the base of an access denotes
 abbrev pub base_denotes : Option PlainExpression → Option GlobalOrArgument
 base_denotes (Some (plain (GlobalVariable g))) = Some (Global g)
 base_denotes _ = None
@@ -27,7 +27,7 @@ denotes expressions (Some (plain (Access base index))) = base_denotes (slice_get
 denotes expressions (Some (plain (AccessIndex base index))) = base_denotes (slice_get expressions base)
 denotes expressions _ = None
 
--- what the expression at a place stands for in its function: a global variable, where it is one or an access directly on
+-- what the expression at a place denotes in its function: a global variable, where it is one or an access directly on
 -- one, or an argument
 abbrev pub place : List PlainExpression → ℕ → Option GlobalOrArgument
 place expressions e = denotes expressions (slice_get expressions e)
@@ -56,18 +56,18 @@ abbrev pub IsChain : PlainModule → PlainFunction → List Step → Type 0
 IsChain m f [] = ⊤
 IsChain m f (s ∷ before) = Calls m (end_of f before) s × IsChain m f before
 
--- what an argument of a call stands for in the caller, whose expressions mean this
+-- what an argument of a call denotes in the caller, whose expressions mean this
 abbrev pub argument_means : (ℕ → Option GlobalOrArgument) → Option ℕ → Option GlobalOrArgument
 argument_means meaning (Some e) = meaning e
 argument_means meaning None = None
 
--- what stands for something in the callee, seen from a caller that passes these arguments
+-- what denotes something in the callee, seen from a caller that passes these arguments
 abbrev pub seen_through : (meaning : ℕ → Option GlobalOrArgument) → (arguments : List ℕ) → Option GlobalOrArgument → Option GlobalOrArgument
 seen_through meaning arguments None = None
 seen_through meaning arguments (Some (Global g)) = Some (Global g)
 seen_through meaning arguments (Some (Argument number)) = argument_means meaning (slice_get arguments number)
 
--- what expression e of the function reached stands for where the chain began
+-- what expression e of the function reached denotes where the chain began
 abbrev pub bound : PlainFunction → List Step → ℕ → Option GlobalOrArgument
 bound f [] e = place f.expressions e
 bound f (s ∷ before) e = seen_through (bound f before) s.arguments (place s.function.expressions e)
@@ -102,7 +102,7 @@ HasUse m f g k = Reaches m f (UsesDirectly g k) ⊎ ((bit_at QUERY.0 k ≡ 1) ×
 
 -- ---- pairs
 
--- an expression of the function samples an image by a sampler that stand for these, where its expressions mean this
+-- an expression of the function samples an image by a sampler that denote these, where its expressions mean this
 pub record Samples (meaning : ℕ → Option GlobalOrArgument) (f : PlainFunction) (p : SamplingPair) : Type 0 where
   pub expression : ℕ
   pub image : ℕ

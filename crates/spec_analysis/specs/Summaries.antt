@@ -85,7 +85,7 @@ AgreeOnCallees f summaries others = (callee : ℕ) (arguments : List ℕ) → Is
 
 -- ---- forms of operands
 
--- an argument that stands for an image or a sampler is an expression that stands for neither a global variable nor an argument
+-- an argument that denotes an image or a sampler is an expression that denotes neither a global variable nor an argument
 abbrev pub IsWrongArgument : List PlainExpression → (arguments : List ℕ) → GlobalOrArgument → ℕ → Type 0
 IsWrongArgument expressions arguments part e = (number : ℕ) × (part ≡ Argument number) × (slice_get arguments number ≡ Some e) × (place expressions e ≡ None)
 

@@ -1,4 +1,4 @@
--- What asks that all invocations arrive at it together, and stands where they may not.
+-- What requires that all invocations arrive at it together, and stands where they may not.
 use Rattle.std.specs.Prelude.{◌≡◌, ℕ, ◌<◌, ◌≤◌, false}
 use Rattle.ir_flags.specs.Sets.{Has}
 use Rattle.ir_flags.specs.declared.settings.ValidationFlags.{ValidationFlags}
@@ -10,19 +10,19 @@ use Rattle.ir_blocks.specs.Places.{Place, OccursAt}
 use Rattle.spec_analysis.specs.declared.uniformity.TheConstants.UniformityRequirements.{WORK_GROUP_BARRIER, DERIVATIVE, IMPLICIT_LEVEL, COOP_OPS}
 use Rattle.spec_analysis.specs.Disruption.{Disrupted}
 
--- What an expression asks for counts: for cooperative matrices always, for derivatives where the rule of derivatives is that
+-- What an expression requires counts: for cooperative matrices always, for derivatives where the rule of derivatives is that
 -- severe. These are the bits of `UniformityRequirements`.
 pub data Counts (severity : Severity) : ℕ → Type 0 where
   cooperative : Counts severity COOP_OPS.0
   derivative : severity ≡ Error → Counts severity DERIVATIVE.0
   implicit_level : severity ≡ Error → Counts severity IMPLICIT_LEVEL.0
 
--- What is asked, and by which expression.
+-- What is required, and by which expression.
 pub record Required : Type 0 where
   pub requirement : ℕ
   pub expression : ℕ
 
--- what an operation asks: a uniform load waits for the workgroup
+-- what an operation requires: a uniform load waits for the workgroup
 abbrev pub OperationRequires : PlainOperation → Required → Type 0
 OperationRequires (control_barrier barrier) x = ⊥
 OperationRequires (memory_barrier barrier) x = ⊥
@@ -45,7 +45,7 @@ pub record EmitRequires (severity : Severity) (required : ℕ → ℕ) (first en
   pub requirement : x.requirement ≡ required x.expression
   pub counts : Counts severity x.requirement
 
--- what a statement asks itself, and not by what stands inside it
+-- what a statement requires itself, and not by what stands inside it
 abbrev pub Requires : Severity → (ℕ → ℕ) → PlainStatement → Required → Type 0
 Requires severity required (emit first end) x = EmitRequires severity required first end x
 Requires severity required (block b) x = ⊥

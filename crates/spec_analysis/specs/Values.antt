@@ -171,7 +171,7 @@ abbrev pub implicit_level : Bool → ℕ
 implicit_level true = IMPLICIT_LEVEL.0
 implicit_level false = 0
 
--- the bits of what an expression asks of control flow
+-- the bits of what an expression requires of control flow
 abbrev pub requirements_by : Expression → ℕ
 requirements_by (x.Literal value) = 0
 requirements_by (x.Constant constant) = 0

@@ -6,7 +6,7 @@ use ir_flags::write_set;
 use ir_types::key;
 use std::fmt;
 
-/// What asks that all invocations arrive at it together (naga's `UniformityRequirements`). A contract sees the
+/// What requires that all invocations arrive at it together (naga's `UniformityRequirements`). A contract sees the
 /// number of its bits, as `set.0`.
 #[derive(Clone, Copy, PartialEq, Eq)]
 pub struct UniformityRequirements(
@@ -63,6 +63,6 @@ impl Flags for UniformityRequirements {
 pub struct Uniformity {
     /// An expression that the value comes from and that isn't the same in all invocations, if there is one.
     pub non_uniform_result: Option<Handle<key::Expression>>,
-    /// What the expression itself asks for.
+    /// What the expression itself requires.
     pub requirements: UniformityRequirements,
 }

@@ -1,4 +1,4 @@
--- The leaves of a type of a buffer lie one behind the other.
+-- The leaves of a type of a buffer lie one after the other.
 use Rattle.std.proofs.Common.{◌≡◌, ℕ, suc, ◌+◌, ◌*◌, ◌<◌, ◌≤◌, ◌⊎◌, inl, inr, List, [], ◌∷◌, map, Option, Some, IfSome, true≢false, refl, sym, subst, slice_get, length, arith}
 use Rattle.std.specs.Int.{◌∣◌, IsPowerOfTwo}
 use Rattle.std.proofs.lemmas.Nat.Gcd.{dvd_refl, dvd_trans, dvd-zero}

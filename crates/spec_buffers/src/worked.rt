@@ -18,7 +18,7 @@ pub fn alone()
     ensures opaque { leaves 1 (sampler false) ≡ [] }
 {}
 
-/// The leaves of elements, one behind the other: as many as the array has, one where an override says how many, and of an array
+/// The leaves of elements, one after the other: as many as the array has, one where an override says how many, and of an array
 /// without a length as many as the buffer has.
 #[tactic(auto, unfolding(crate::specs::Leaves::repeated))]
 pub fn elements()

@@ -12,7 +12,7 @@ use Rattle.typing_layout.specs.Constness.{IsOfKind}
 use Rattle.typing_layout.specs.declared.constness.ExpressionKind.{ExpressionKind}
 use Rattle.typing_layout.specs.declared.constness.ExpressionKind.TheVariants.{Const, Override, Runtime}
 
--- What is asked of a global expression beside its type.
+-- What is required of a global expression beside its type.
 pub data Required : Type 0 where
   -- the literal may be used
   of_literal : Literal → Required
@@ -72,7 +72,7 @@ IsMet capabilities resolved m kind (of_composition type components) = Components
 IsMet capabilities resolved m kind of_value = Unit {0}
 IsMet capabilities resolved m kind to_work_out = MayWait resolved kind
 
--- The global expression at a handle: its value is known before a shader runs, and what is asked of its kind is met.
+-- The global expression at a handle: its value is known before a shader runs, and what is required of its kind is met.
 pub record GlobalExpressionOK (capabilities : Capabilities) (resolved : Bool) (m : PlainModule) (handle : ℕ) : Type 0 where
   pub expression : PlainExpression
   pub at : slice_get m.global_expressions handle ≡ Some expression

@@ -1,4 +1,4 @@
--- Texels of images, and what is asked of images.
+-- Texels of images, and what is required of images.
 use Rattle.std.specs.Prelude.{ℕ, Result, Ok, Err}
 use Rattle.ir_kinds.specs.declared.images.ImageClass.{ImageClass}
 use Rattle.ir_kinds.specs.declared.images.ImageClass.TheVariants.{Sampled, Depth, External, Storage}

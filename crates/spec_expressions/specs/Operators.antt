@@ -46,7 +46,7 @@ product (form.Vector n s) right = vector_times (form.Vector n s) right
 product (form.Matrix columns rows s) right = matrix_times (form.Matrix columns rows s) rows s right
 product left right = other_times left right
 
--- comparisons give truth values, products what they are products of, and all else what stands on the left
+-- comparisons give truth values, products what they are products of, and all else what depends on the left
 abbrev pub binary_type : BinaryOperator → (left right : Form) → Result Form TypingFault
 binary_type Add left right = Ok left
 binary_type Subtract left right = Ok left

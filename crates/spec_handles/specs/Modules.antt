@@ -1,5 +1,5 @@
 -- The references of a module: which part of it names what, and when what is named is there. What is inside a function is
--- told by the references of the function.
+-- reported by the references of the function.
 use Rattle.std.specs.Prelude.{◌≡◌, ℕ, ◌<◌, length, Some, Contains, slice_get}
 use Rattle.ir_types.specs.ExpressionPlain.{PlainExpression}
 use Rattle.ir_items.specs.GlobalPlain.{PlainConstant, PlainOverride, PlainGlobal, PlainNode}

@@ -96,7 +96,7 @@ operation_result (gather mode argument result) = Some result
 operation_result (cooperative_store target place) = None
 operation_result (ray_pipeline fun) = None
 
--- the expression that stands for what the statement answers, if it answers anything
+-- the expression that denotes what the statement answers, if it answers anything
 abbrev pub statement_result : PlainStatement → Option ℕ
 statement_result (emit first end) = None
 statement_result (block b) = None

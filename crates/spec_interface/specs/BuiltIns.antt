@@ -1,4 +1,4 @@
--- What is asked of one built-in value.
+-- What is required of one built-in value.
 use Rattle.std.specs.Prelude.{◌≡◌, ◌⊎◌, ◌≤◌, ◌<◌, ℕ, List, Option, Some, None, IfSome, IsSomeAnd, IsTrue, slice_get}
 use Rattle.ir_flags.specs.Sets.{Has}
 use Rattle.ir_kinds.specs.Scalars.{floating}
@@ -22,7 +22,7 @@ use Rattle.typing_forms.specs.Forms.{form_of_type}
 use Rattle.typing_forms.specs.declared.form.Form.{Form}
 use Rattle.typing_forms.specs.declared.form.Form.TheVariants as form
 
--- ---- where it stands
+-- ---- where it occurs
 
 -- a row says that it goes this way at a stage
 abbrev pub OccursAt : Direction → ShaderStage → BuiltInRow → Type 0

@@ -1,4 +1,4 @@
--- What is asked of an entry point.
+-- What is required of an entry point.
 use Rattle.std.specs.Prelude.{ℕ, List, IfSome}
 use Rattle.ir_flags.specs.declared.settings.Capabilities.{Capabilities}
 use Rattle.ir_flags.specs.declared.settings.ValidationFlags.{ValidationFlags}

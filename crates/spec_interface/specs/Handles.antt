@@ -32,7 +32,7 @@ is_handle (Some (plain i)) = handle_kind i
 is_handle (Some (struct members span)) = false
 is_handle None = false
 
--- the formats with 16 bits a channel that stand for numbers from 0 to 1 or from -1 to 1
+-- the formats with 16 bits a channel that denote numbers from 0 to 1 or from -1 to 1
 abbrev pub is_norm_16 : StorageFormat → Bool
 is_norm_16 format.R8Unorm = false
 is_norm_16 format.R8Snorm = false

@@ -1,4 +1,4 @@
--- What is asked of one value at a location.
+-- What is required of one value at a location.
 use Rattle.std.specs.Prelude.{◌≡◌, ◌≢◌, ◌⊎◌, ◌==◌, ℕ, Bool, true, false, not, List, Option, Some, None, IsSome, IsSomeAnd, IsTrue, if◌then◌else◌, option_and_then}
 use Rattle.ir_flags.specs.Sets.{Has}
 use Rattle.ir_flags.specs.declared.settings.TheConstants.Capabilities.{MESH_SHADER, MULTISAMPLED_SHADING, PER_VERTEX}

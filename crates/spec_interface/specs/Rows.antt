@@ -67,11 +67,11 @@ but e r = record { inputs = r.inputs; outputs = r.outputs; primitive = r.primiti
 abbrev pub given : ShaderStages → BuiltInType → BuiltInRow
 given inputs type = row inputs NOWHERE false type None
 
--- what is given to the stages behind
+-- what is given to the stages after
 abbrev pub gives : ShaderStages → BuiltInType → BuiltInRow
 gives outputs type = row NOWHERE outputs false type None
 
--- what is given to the stages behind, where a capability is there
+-- what is given to the stages after, where a capability is there
 abbrev pub gives_by : Capabilities → ShaderStages → BuiltInType → BuiltInRow
 gives_by needed outputs type = row NOWHERE outputs false type (Some needed)
 

@@ -1,4 +1,4 @@
--- What each address space asks of the type of a global variable.
+-- What each address space requires of the type of a global variable.
 use Rattle.std.specs.Prelude.{◌≡◌, ◌≢◌, ℕ, List, [], ◌∷◌, Bool, true, false, IsTrue, Option, Some, None, IfSome, unwrap_or}
 use Rattle.ir_flags.specs.Sets.{Has}
 use Rattle.ir_flags.specs.declared.memory.TheConstants.StorageAccess.{STORE}

@@ -42,7 +42,7 @@ pub record EarlyOK (capabilities : Capabilities) (stage : ShaderStage) : Type 0 
   pub has : Has capabilities.0 EARLY_DEPTH_TEST.0
   pub fragments : stage ≡ Fragment
 
--- What is asked of an entry point for its stage: what a mesh shader gives is told of mesh shaders alone.
+-- What is required of an entry point for its stage: what a mesh shader gives is reported of mesh shaders alone.
 pub record StageOK (capabilities : Capabilities) (e : PlainEntry) : Type 0 where
   pub needed : IfSome (stage_capability e.stage) (λ c. Has capabilities.0 c.0)
   pub early : IsSome e.early → EarlyOK capabilities e.stage

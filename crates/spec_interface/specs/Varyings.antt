@@ -1,4 +1,4 @@
--- The varyings of an entry point, and what is asked of all that go one way.
+-- The varyings of an entry point, and what is required of all that go one way.
 use Rattle.std.specs.Prelude.{◌≡◌, ◌<◌, ◌||◌, ◌++◌, ℕ, zero, suc, Bool, false, List, [], ◌∷◌, map, Option, Some, None, is_some, slice_get, if◌then◌else◌}
 use Rattle.ir_flags.specs.Sets.{Has}
 use Rattle.ir_flags.specs.declared.settings.Capabilities.{Capabilities}
@@ -45,7 +45,7 @@ abbrev pub has_source : List PlainMember → Bool
 has_source [] = false
 has_source (m ∷ ms) = is_some (blend_source m.binding) || has_source ms
 
--- what stands for a value that is not bound: the members of a struct, each by itself, unless they are the sources of a blend
+-- what denotes a value that is not bound: the members of a struct, each by itself, unless they are the sources of a blend
 abbrev pub unbound : Option PlainInner → List Bound
 unbound (Some (struct members span)) = if has_source members then (BlendSources ∷ []) else (bound_members zero members)
 unbound (Some (plain i)) = Nothing ∷ []
@@ -119,7 +119,7 @@ HasBuiltIn vs b = (place : ℕ) × ShowsAt built_in_of vs place (canonical b)
 abbrev pub HasBlendSources : List Varying → Type 0
 HasBlendSources vs = (place : ℕ) × (v : Varying) × (slice_get vs place ≡ Some v) × (v.bound ≡ BlendSources)
 
--- ---- what is asked of them
+-- ---- what is required of them
 
 -- of each by itself
 abbrev pub BoundOK : VaryingContext → Bound → Type 0

@@ -79,7 +79,7 @@ pub fn binding_at(module: &Module, global: Handle<key::GlobalVariable>) -> Optio
     module.global_variables[global].binding
 }
 
-/// How a global variable is used, where this is told of each.
+/// How a global variable is used, where this is reported of each.
 pub fn use_at(uses: &[GlobalUse], global: Handle<key::GlobalVariable>) -> GlobalUse
     ensures { result ≡ unwrap_or (slice_get uses.now global) no_use }
 {

@@ -65,13 +65,13 @@ impl BuiltInRow {
     /// The stages of instances.
     pub const INSTANCES: ShaderStages = ShaderStages(ShaderStages::VERTEX.0 | BuiltInRow::HITS.0);
 
-    /// The stages at which draws are told apart.
+    /// The stages at which draws are reported apart.
     pub const DRAWS: ShaderStages = ShaderStages(BuiltInRow::RASTER.0 | ShaderStages::TASK.0);
 
-    /// The stages at which views are told apart.
+    /// The stages at which views are reported apart.
     pub const VIEWS: ShaderStages = ShaderStages(BuiltInRow::DRAWS.0 | ShaderStages::FRAGMENT.0);
 
-    /// The stages at which primitives are told apart.
+    /// The stages at which primitives are reported apart.
     pub const PRIMITIVES: ShaderStages = ShaderStages(
         ShaderStages::FRAGMENT.0 | BuiltInRow::HITS.0,
     );

@@ -97,7 +97,7 @@ const fn given_by(
     }
 }
 
-// What is given to the stages behind.
+// What is given to the stages after.
 const fn gives(outputs: ShaderStages, ty: BuiltInType) -> BuiltInRow
     ensures { result ≡ gives outputs ty }
 {
@@ -111,7 +111,7 @@ const fn gives(outputs: ShaderStages, ty: BuiltInType) -> BuiltInRow
     }
 }
 
-// What is given to the stages behind, where a capability is there.
+// What is given to the stages after, where a capability is there.
 const fn gives_by(capability: C, outputs: ShaderStages, ty: BuiltInType) -> BuiltInRow
     ensures { result ≡ gives_by capability outputs ty }
 {

@@ -159,7 +159,7 @@ module _ (u : UsedOperands) (g : Scoping) (lawful : IsLawful g) (m : PlainModule
       each = λ e held. ⊎_elim (λ a. inl a) (λ k. inr (⊎_elim (λ l. inl l) (λ s. inr (s.0, Contains-append_left now.skipped more e s.1)) k)) (v.each e held);
     }
 
-    -- a statement goes on with the loop: what the block leaves behind it is excused
+    -- a statement goes on with the loop: what the block leaves after it is excused
     cover_left_out : (s : PlainStatement) (rest : PlainBlock) (outer : List ℕ) (now : Configuration) → IsTrue (holds_continue s) → Covers outer now → Covers (outer ++ g.level (next s rest)) (record now { skipped = now.skipped ++ (introduced s ++ top_level rest) })
     cover_left_out s rest outer now goes v = record {
       each = λ e held. ⊎_elim ((cover_skipped outer (introduced s ++ top_level rest) now v).each e)

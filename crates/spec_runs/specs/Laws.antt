@@ -39,7 +39,7 @@ ScopeSuffices = (f : PlainFunction) → ScopeOK f → IsScoped checked_operands 
 abbrev pub StrictIsLawful : Type 0
 StrictIsLawful = IsLawful without_skipped
 
--- what stands for the answer of a statement has no operands
+-- what denotes the result of a statement has no operands
 abbrev pub AnswersNameNothing : PlainFunction → Type 0
 AnswersNameNothing f =
     (p : Place) (s : PlainStatement) → OccursAt f.body p s → (e : ℕ) → statement_result s ≡ Some e → (x : PlainExpression) → slice_get f.expressions e ≡ Some x → expression_operands x ≡ []

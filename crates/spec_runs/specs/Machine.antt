@@ -22,8 +22,8 @@ use Rattle.spec_runs.specs.Scoping.{UsedOperands}
 
 -- ---- frames and configurations
 
--- A call that has begun and not ended: how deep it is, its function, and the global variables that its arguments stand for,
--- where they stand for any.
+-- A call that has begun and not ended: how deep it is, its function, and the global variables that its arguments denote,
+-- where they denote any.
 pub record Frame : Type 0 where
   pub depth : ℕ
   pub function : PlainFunction
@@ -39,7 +39,7 @@ pub record Configuration : Type 0 where
   pub steps : ℕ
   pub events : List Event
 
--- How a part of a run completes. A continue tells what the part's own statements that it left out would have introduced.
+-- How a part of a run completes. A continue says what the part's own statements that it left out would have introduced.
 pub data Completion : Type 0 where
   normal : Completion
   by_break : Completion
@@ -76,7 +76,7 @@ answered (a ∷ more) now go = go a (record now { answers = more })
 
 -- ---- global variables
 
--- the global variable that something stands for, where the frame's arguments stand for theirs
+-- the global variable that something denotes, where the frame's arguments denote theirs
 abbrev pub argument_global : Option (Option ℕ) → Option ℕ
 argument_global (Some g) = g
 argument_global None = None
@@ -86,7 +86,7 @@ global_meant arguments (Some (Global g)) = Some g
 global_meant arguments (Some (Argument n)) = argument_global (slice_get arguments n)
 global_meant arguments None = None
 
--- the one that an expression stands for in a frame
+-- the one that an expression denotes in a frame
 abbrev pub denotes : Frame → ℕ → Option ℕ
 denotes frame e = global_meant frame.arguments (place frame.function.expressions e)
 
@@ -95,7 +95,7 @@ pair_of (Some image) (Some sampler) = sampled image sampler ∷ []
 pair_of (Some image) None = []
 pair_of None sampler = []
 
--- a global variable is named, and a sampling samples what its image and its sampler stand for
+-- a global variable is named, and a sampling samples what its image and its sampler denote
 abbrev pub mentioned_at : Frame → Option PlainExpression → List Event
 mentioned_at frame (Some (plain (GlobalVariable g))) = named g ∷ []
 mentioned_at frame (Some (plain (ImageSample image sampler gathers coordinate array_index offset level depth_ref clamp_to_edge))) = pair_of (denotes frame image) (denotes frame sampler)
@@ -146,14 +146,14 @@ sequence coming halted now go = completes halted now
 
 -- ---- tasks
 
--- a loop; `at` tells where in the function's body a place of it is, the loop standing first in a block
+-- a loop; `at` says where in the function's body a place of it is, the loop standing first in a block
 pub record Loop : Type 0 where
   pub at : Place → Place
   pub body : PlainBlock
   pub continuing : PlainBlock
   pub break_if : Option ℕ
 
--- What is left to be done, a block or the turns of a loop; `at` tells where in the function's body a place of the block is.
+-- What is left to be done, a block or the turns of a loop; `at` says where in the function's body a place of the block is.
 pub data Task : Type 0 where
   in_block : (at : Place → Place) → PlainBlock → Task
   in_loop : Loop → Task

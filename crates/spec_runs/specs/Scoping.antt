@@ -61,7 +61,7 @@ pub record IsScoped (u : UsedOperands) (g : Scoping) (f : PlainFunction) : Type 
 
 -- ---- which levels are lawful
 
--- What the top level leaves is among what it introduces; and behind a statement that may go on with the loop, and so skip what
+-- What the top level leaves is among what it introduces; and after a statement that may go on with the loop, and so skip what
 -- stands there, it leaves something only where what is skipped may be used.
 pub record IsLawful (g : Scoping) : Type 0 where
   pub leaves : (b : PlainBlock) (e : ℕ) → Contains (g.level b) e → Contains (top_level b) e

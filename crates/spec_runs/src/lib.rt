@@ -18,7 +18,7 @@ pub fn all_are_reached()
     ensures { AllAreReached }
 {}
 
-/// What the top level of a loop's body introduces is live behind it, or was skipped by a continue.
+/// What the top level of a loop's body introduces is live after it, or was skipped by a continue.
 pub fn skipped_is_lawful()
     ensures { SkippedIsLawful }
 {}
@@ -28,7 +28,7 @@ pub fn scope_suffices()
     ensures { ScopeSuffices }
 {}
 
-/// What the top level of a loop's body introduces before a continue may skip it is live behind the body.
+/// What the top level of a loop's body introduces before a continue may skip it is live after the body.
 pub fn strict_is_lawful()
     ensures { StrictIsLawful }
 {}

@@ -23,7 +23,7 @@ pub fn live_use()
         ∷ fell_off skipping (Some (inside loop_body (later here))) ∷ [] }
 {}
 
-/// The first run where all operands are told: it uses what is skipped and not live.
+/// The first run where all operands are reported: it uses what is skipped and not live.
 pub fn skipped_use_of_all()
     ensures { trace_of all_operands (module_of (skipping ∷ [])) calling (pos 1 ∷ pos 1 ∷ []) 9
         ≡ entered 0 ∷ executed calling here ∷ passed calling skipping [] ∷ entered 1 ∷ executed skipping here ∷ executed skipping (inside loop_body here) ∷ used skipping [] [] 0
@@ -31,7 +31,7 @@ pub fn skipped_use_of_all()
         ∷ fell_off skipping (Some (inside loop_body (inside accepting here))) ∷ fell_off calling (Some here) ∷ [] }
 {}
 
-/// A run where all operands are told, of a function that emits an expression and not its operand: it uses what is not live. The
+/// A run where all operands are reported, of a function that emits an expression and not its operand: it uses what is not live. The
 /// rules accept it where strict scope is not asked for.
 pub fn operand_not_emitted()
     ensures { trace_of all_operands (module_of (emitting 2 ∷ [])) calling [] 9

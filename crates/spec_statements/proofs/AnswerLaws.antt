@@ -151,7 +151,7 @@ seen_held (inside part p) (next s rest) seen e held = seen_held p (part_of (shap
 seen_held condition stop seen e held = held
 seen_held condition (next s rest) seen e held = Contains-append_left seen _ e held
 
--- and so is what a statement answers by behind it, or in an earlier part
+-- and so is what a statement answers by after it, or in an earlier part
 seen_later : (p : Place) (s : PlainStatement) (rest : PlainBlock) (seen : List ℕ) (e : ℕ) → Contains (answered_at s) e → Contains (answered_before seen (later p) (next s rest)) e
 seen_later p s rest seen e held = seen_held p rest (seen ++ answered_at s) e (Contains-append_right seen _ e held)
 

@@ -13,7 +13,7 @@ use Rattle.spec_analysis.specs.Operands.{Operand, expression_operands, statement
 use Rattle.spec_statements.specs.FunctionLaws.{CallsPrecede}
 use Rattle.spec_handles.specs.References.{done, statement_calls}
 
--- a call of this function with these arguments stands in the block
+-- a call of this function with these arguments is in the block
 pub record CallOccurs (b : PlainBlock) (callee : ℕ) (arguments : List ℕ) : Type 0 where
   pub place : Place
   pub answer : Option ℕ

@@ -62,7 +62,7 @@ part_holds c part free s at = alone (holds_continue s) (place_holds_in (inside p
 abbrev Goes : PlainBlock → Type 0
 Goes b = (c : Place) × InNoLoop c × OccursAt b c continue
 
--- in the first statement, so that a place of the top level behind it is past the continue
+-- in the first statement, so that a place of the top level after it is past the continue
 abbrev GoesFirst : PlainStatement → PlainBlock → Type 0
 GoesFirst s rest = (c : Place) × InNoLoop c × OccursAt (next s rest) c continue × ((q : Place) → IsTop q → IsPast c (later q))
 

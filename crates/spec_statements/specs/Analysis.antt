@@ -1,4 +1,4 @@
--- What the analysis asks of a function, by the chains of calls that begin at it.
+-- What the analysis requires of a function, by the chains of calls that begin at it.
 use Rattle.std.specs.Prelude.{◌≡◌, ◌⊎◌, ℕ, None}
 use Rattle.spec_analysis.specs.Pairs.{SamplingPair}
 use Rattle.spec_analysis.specs.Faults.{FunctionFault}
@@ -10,14 +10,14 @@ use Rattle.spec_analysis.specs.Effects.{samples, effects_of}
 use Rattle.spec_analysis.specs.Summaries.{IsWrongArgument}
 use Rattle.spec_analysis.specs.Uniformity.{Required}
 
--- an image or a sampler of a sampling at e stands for neither a global variable nor an argument
+-- an image or a sampler of a sampling at e denotes neither a global variable nor an argument
 pub record SamplesWrongForm (f : PlainFunction) (e : ℕ) : Type 0 where
   pub image : ℕ
   pub sampler : ℕ
   pub sampling : IsAmong (samples e image sampler) (effects_of f)
   pub wrong : (place f.expressions image ≡ None) ⊎ (place f.expressions sampler ≡ None)
 
--- e is passed to a function for the image or the sampler of a pair that it has, and stands for neither
+-- e is passed to a function for the image or the sampler of a pair that it has, and denotes neither
 pub record PassesWrongForm (m : PlainModule) (f : PlainFunction) (e : ℕ) : Type 0 where
   pub step : Step
   pub pair : SamplingPair
@@ -29,7 +29,7 @@ pub record PassesWrongForm (m : PlainModule) (f : PlainFunction) (e : ℕ) : Typ
 abbrev pub HasWrongForm : PlainModule → PlainFunction → ℕ → Type 0
 HasWrongForm m f e = SamplesWrongForm f e ⊎ PassesWrongForm m f e
 
--- What stands for images and samplers is of the right form, and nothing asks that all invocations arrive together where they
+-- What denotes images and samplers is of the right form, and nothing requires that all invocations arrive together where they
 -- may not.
 pub record IsAnalysed (flags : ValidationFlags) (m : PlainModule) (f : PlainFunction) : Type 0 where
   pub formed : (e : ℕ) → HasWrongForm m f e → ⊥

@@ -91,7 +91,7 @@ pub record FloatOK (capabilities : Capabilities) (pointer : Form) (done : Atomic
   pub done_so : IsDoneWithFloats done
   pub stored : IsInStorage pointer
 
--- What is asked of some scalars beside.
+-- What is required of some scalars beside.
 pub record ScalarAllows (capabilities : Capabilities) (s : Scalar) (pointer : Form) (done : AtomicFunction) (result : Option ℕ) : Type 0 where
   pub signed_wide : s ≡ signed 8 → WideOK capabilities pointer done result
   pub unsigned_wide : s ≡ unsigned 8 → WideOK capabilities pointer done result

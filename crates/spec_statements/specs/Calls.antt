@@ -11,7 +11,7 @@ abbrev pub CallResultOK : BlockContext → (function : ℕ) → PlainFunction �
 CallResultOK c function callee None = callee.result ≡ None
 CallResultOK c function callee (Some result) = IsSome callee.result × (slice_get c.f.expressions result ≡ Some (plain (x.CallResult function)))
 
--- What is passed is of the types that the function called declares. That it is as much is asked of every call beforehand.
+-- What is passed is of the types that the function called declares. That it is as much is required of every call beforehand.
 pub record CallOK (c : BlockContext) (function : ℕ) (arguments : List ℕ) (result : Option ℕ) : Type 0 where
   pub callee : PlainFunction
   pub called : slice_get c.m.functions function ≡ Some callee

@@ -1,4 +1,4 @@
--- What is asked of an expression that is no composition, beside its type: a row for each kind.
+-- What is required of an expression that is no composition, beside its type: a row for each kind.
 use Rattle.std.specs.Prelude.{slice_get}
 use Rattle.ir_types.specs.declared.expressions.Expression.{Expression}
 use Rattle.ir_types.specs.declared.expressions.Expression.TheVariants as x

@@ -5,7 +5,7 @@ use Rattle.ir_types.specs.ExpressionPlain.{PlainExpression, compose, plain}
 use Rattle.ir_types.specs.declared.expressions.Expression.{Expression}
 use Rattle.ir_types.specs.declared.expressions.Expression.TheVariants as x
 
--- what stands for the answer of a statement is not emitted; what is always in scope is refused by scope
+-- what denotes the result of a statement is not emitted; what is always in scope is refused by scope
 abbrev pub IsComputedHere : Expression → Type 0
 IsComputedHere (x.Literal value) = Unit {0}
 IsComputedHere (x.Constant constant) = Unit {0}

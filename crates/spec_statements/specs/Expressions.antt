@@ -1,4 +1,4 @@
--- What is asked of an expression of any kind, beside its type.
+-- What is required of an expression of any kind, beside its type.
 use Rattle.std.specs.Prelude.{◌≡◌, ℕ, Some, map, slice_get}
 use Rattle.ir_types.specs.ExpressionPlain.{PlainExpression, compose, plain}
 use Rattle.spec_expressions.specs.ConstantCompositions.{ComposeOK}
@@ -10,7 +10,7 @@ abbrev pub RequiredOf : Scene → PlainExpression → Type 0
 RequiredOf s (compose type components) = ComposeOK s.types type (map (form_at s.forms) components)
 RequiredOf s (plain expression) = CheckOf s expression
 
--- what is asked of the expression at a handle is met
+-- what is required of the expression at a handle is met
 pub record ExpressionOK (s : Scene) (handle : ℕ) : Type 0 where
   pub expression : PlainExpression
   pub at : slice_get s.expressions handle ≡ Some expression

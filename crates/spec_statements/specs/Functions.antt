@@ -50,7 +50,7 @@ pub record AreFormsBy (reading : Reading) (f : PlainFunction) (forms : List Form
 abbrev pub block_context : FunctionSettings → PlainModule → PlainFunction → List Form → BlockContext
 block_context s m f forms = record { capabilities = s.capabilities; operations = s.operations; m = m; f = f; forms = forms }
 
--- What is asked of a body: each statement meets its rule where it stands, uses what is in scope, leaves its block as it may,
+-- What is required of a body: each statement meets its rule where it occurs, uses what is in scope, leaves its block as it may,
 -- and answers and payloads are as they should be; and under STRICT_SCOPE its scope is strict.
 pub record BodyOK (s : FunctionSettings) (c : BlockContext) : Type 0 where
   pub statements : (p : Place) (u : PlainStatement) → OccursAt c.f.body p u → StatementOK c u
@@ -60,7 +60,7 @@ pub record BodyOK (s : FunctionSettings) (c : BlockContext) : Type 0 where
   pub payloads : PayloadsOK c.m c.f s.held
   pub strict : Has s.flags.0 STRICT_SCOPE.0 → StrictOK c.f
 
--- The arity of calls, what the analysis asks, the variables, the arguments and the result are asked under every set of flags;
+-- The arity of calls, what the analysis requires, the variables, the arguments and the result are asked under every set of flags;
 -- the rules of expressions under EXPRESSIONS and those of the body under BLOCKS.
 pub record FunctionOK (reading : Reading) (s : FunctionSettings) (m : PlainModule) (f : PlainFunction) : Type 0 where
   pub arity : AritiesMatch m f

@@ -1,4 +1,4 @@
--- Which types have a zero. When a literal may be used is told in `spec_expressions`.
+-- Which types have a zero. When a literal may be used is reported in `spec_expressions`.
 use Rattle.std.specs.Prelude.{ℕ, List}
 use Rattle.ir_types.specs.Plain.{PlainType}
 use Rattle.typing_layout.specs.Flags.{HasFlag, Constructible}

@@ -1,4 +1,4 @@
--- What stands for the answers of calls and of atomic operations is answered once.
+-- What denotes the results of calls and of atomic operations is answered once.
 use Rattle.std.specs.Prelude.{◌≡◌, ℕ, List, Option, Some, None, slice_get}
 use Rattle.ir_blocks.specs.Places.{Place, OccursAt}
 use Rattle.ir_blocks.specs.Plain.{PlainOperation, control_barrier, memory_barrier, store, image_store, atomic, image_atomic, uniform_load, ray_query, ballot, collective, gather, cooperative_store, ray_pipeline, PlainStatement, emit, block, if_, switch, loop, break, continue, return, kill, operation, call, PlainBlock}
@@ -42,12 +42,12 @@ answer_of (call function arguments result) = result
 abbrev pub AnswersBy : PlainBlock → Place → ℕ → Type 0
 AnswersBy b p e = (s : PlainStatement) × OccursAt b p s × (answer_of s ≡ Some e)
 
--- the expression stands for the answer of a call or of an atomic operation
+-- the expression denotes the result of a call or of an atomic operation
 pub data DenotesResult (expressions : List PlainExpression) (e : ℕ) : Type 0 where
   of_call : {function : ℕ} → slice_get expressions e ≡ Some (plain (x.CallResult function)) → DenotesResult expressions e
   of_atomic : {type : ℕ} {comparison : _} → slice_get expressions e ≡ Some (plain (x.AtomicResult type comparison)) → DenotesResult expressions e
 
--- No two statements answer by one expression, each that stands for an answer is answered by one; and without the checks of
+-- No two statements answer by one expression, each that denotes an answer is answered by one; and without the checks of
 -- expressions no call and no atomic operation has a result.
 pub record AnsweredOnce (flags : ValidationFlags) (f : PlainFunction) : Type 0 where
   pub once : (p q : Place) (e : ℕ) → AnswersBy f.body p e → AnswersBy f.body q e → p ≡ q

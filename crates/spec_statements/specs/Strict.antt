@@ -48,7 +48,7 @@ InStrictScope f p e = PreEmitted f e ⊎ ((q : Place) × Before q p × Introduce
 
 -- ---- what is used
 
--- every operand of a statement; a loop's condition is used at its own place, behind the continuing part
+-- every operand of a statement; a loop's condition is used at its own place, after the continuing part
 abbrev pub statement_needed : PlainStatement → List ℕ
 statement_needed (emit first end) = []
 statement_needed (block b) = []
@@ -72,7 +72,7 @@ abbrev pub Needs : PlainBlock → Place → ℕ → Type 0
 Needs b p e = Contains (needed_at (spot_at p b)) e
 
 -- Every operand of a statement, of a loop's condition and of an expression that is emitted is in scope there, where of one range the handles
--- before an expression count; and what stands for the answer of a `Proceed` or of a ballot is of its own kind.
+-- before an expression count; and what denotes the answer of a `Proceed` or of a ballot is of its own kind.
 pub record StrictOK (f : PlainFunction) : Type 0 where
   pub used : (p : Place) (o : ℕ) → Needs f.body p o → InStrictScope f p o
   pub emitted : (p : Place) (first end : ℕ) → OccursAt f.body p (emit first end) → (e : ℕ) → first ≤ e → e < end → (x : PlainExpression) → slice_get f.expressions e ≡ Some x

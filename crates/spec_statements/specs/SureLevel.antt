@@ -34,7 +34,7 @@ visible_by level outer condition (next s rest) = at_condition_by level outer s
 
 -- ---- continues
 
--- a continue of the loop around stands in the block, in the statement, or in one of the cases
+-- a continue of the loop around is in the block, in the statement, or in one of the cases
 abbrev mutual
   pub holds_continue_in : PlainBlock → Bool
   holds_continue_in stop = false

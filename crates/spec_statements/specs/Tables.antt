@@ -30,7 +30,7 @@ operation_checked (gather mode argument result) = given (gather_index mode ∷ S
 operation_checked (cooperative_store target place) = target ∷ []
 operation_checked (ray_pipeline fun) = pipeline_operands fun
 
--- a loop's condition is used at its own place, behind the continuing part
+-- a loop's condition is used at its own place, after the continuing part
 abbrev pub statement_checked : PlainStatement → List ℕ
 statement_checked (emit first end) = []
 statement_checked (block b) = []
@@ -51,7 +51,7 @@ checked_at (loop_condition break_if) = given (break_if ∷ [])
 
 -- ---- what comes into scope
 
--- what is emitted, and what stands for an answer
+-- what is emitted, and what denotes an answer
 abbrev pub introduced : PlainStatement → List ℕ
 introduced (emit first end) = handles_between (first, end)
 introduced (block b) = []

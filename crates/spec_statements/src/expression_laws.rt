@@ -6,7 +6,7 @@ pub fn more_capabilities()
     ensures { MoreCapabilities }
 {}
 
-/// The types of all expressions have one list of forms, so that what is asked of an expression depends on nothing else.
+/// The types of all expressions have one list of forms, so that what is required of an expression depends on nothing else.
 pub fn one_list()
     ensures { OneList }
 {}

@@ -11,7 +11,7 @@ pub fn scope_by_walk()
 {}
 
 /// What is in strict scope at a place is always so, or is what such a walk carries there that drops, at the end of a loop's
-/// body, what stands behind a statement that holds a continue of the loop.
+/// body, what stands after a statement that holds a continue of the loop.
 pub fn strict_by_walk()
     ensures { StrictByWalk }
 {}

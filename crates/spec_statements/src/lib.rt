@@ -1,5 +1,5 @@
-//! What is asked of the expressions of a function whose types are known, and which stages may run them; what is asked of its
-//! statements: a rule for each kind, what is in scope where, and which stages may run it; and what is asked of a function as a
+//! What is required of the expressions of a function whose types are known, and which stages may run them; what is required of its
+//! statements: a rule for each kind, what is in scope where, and which stages may run it; and what is required of a function as a
 //! whole, over any lower layer that types its expressions.
 //!
 //! The definitions stand in `specs/`, a file for each rule and each family of expressions. `specs/Statements.antt` has one row

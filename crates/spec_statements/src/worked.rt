@@ -91,7 +91,7 @@ pub fn selections()
     ensures slope_of_an_integer { ¬ DerivativeOK (form.Scalar (signed 4)) }
 {}
 
-/// How images are sampled and loaded from, and what is asked of them.
+/// How images are sampled and loaded from, and what is required of them.
 pub fn images()
     ensures texel { IsTexel D2 (form.Vector Bi (unsigned 4)) }
     ensures texel_of_a_cube { ¬ IsTexel Cube (form.Vector Tri (signed 4)) }

@@ -28,7 +28,7 @@ impl<T: Item, K: Kind> Arenas<T, K> {
         }
     }
 
-    /// The answer of a call of an arena.
+    /// The result of a call of an arena.
     pub fn answer(&mut self, alloc: Global, call: &Value) -> Result<String, AllocError> {
         match text(call, 2) {
             "compare" => told(alloc, self.first == self.second),
@@ -126,7 +126,7 @@ fn entries<T: Item, K>(
     Ok((is_emptied, entries))
 }
 
-// The answer of a call that changes nothing.
+// The result of a call that changes nothing.
 fn seen<T: Item, K: Kind>(
     alloc: Global,
     arena: &Arena<T, K>,
@@ -173,7 +173,7 @@ fn indexed<T, K>(arena: &Arena<T, K>, place: usize) -> Option<&T> {
     }
 }
 
-// The answer of a call of a range of an arena.
+// The result of a call of a range of an arena.
 fn ranged<T: Item, K: Kind>(
     alloc: Global,
     arena: &Arena<T, K>,

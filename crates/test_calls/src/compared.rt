@@ -40,7 +40,7 @@ fn see_form(
     told(alloc, (form_of(types, resolution), resolution))
 }
 
-// The answer of a call of one resolution.
+// The result of a call of one resolution.
 fn of_one(
     alloc: Global,
     resolution: &TypeResolution,
@@ -56,7 +56,7 @@ fn of_one(
     }
 }
 
-/// The answer of a call of the resolution that stands behind its name.
+/// The result of a call of the resolution that stands after its name.
 pub fn of_resolution(alloc: Global, types: &Types, call: &Value) -> Result<String, AllocError> {
     match resolution(alloc, call, 1)? {
         Some(resolution) => of_one(alloc, &resolution, types, call),
@@ -101,7 +101,7 @@ fn compared(
     ))
 }
 
-/// Whether the two types that stand behind a name are equivalent.
+/// Whether the two types that stand after a name are equivalent.
 pub fn of_pair(alloc: Global, module: &Module, call: &Value) -> Result<String, AllocError> {
     let Some(left) = resolution(alloc, call, 1)? else {
         return no_call(alloc);

@@ -101,7 +101,7 @@ fn see_clone(alloc: Global, call: &Value) -> Result<String, AllocError> {
     told(alloc, (copy == fault, copy.as_inner(), spans(alloc, &copy)))
 }
 
-/// The answer of a call of an error with spans.
+/// The result of a call of an error with spans.
 pub fn of_fault(alloc: Global, call: &Value) -> Result<String, AllocError> {
     match text(call, 1) {
         "spans" => see_spans(alloc, call),
@@ -127,7 +127,7 @@ fn of_dropped() -> Refusal<Trouble> {
     Refusal::from(AllocFailed { value: 7u8 })
 }
 
-/// The answer of a call of a refusal.
+/// The result of a call of a refusal.
 pub fn of_refusal(alloc: Global, call: &Value) -> Result<String, AllocError> {
     let left = fault_at(alloc, number(call, 2));
     match text(call, 1) {

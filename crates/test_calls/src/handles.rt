@@ -20,7 +20,7 @@ fn place_of_clone<K>(handle: Handle<K>) -> Option<usize> {
     }
 }
 
-/// The answer of a call of a handle.
+/// The result of a call of a handle.
 pub fn of_handle<K: Kind>(alloc: Global, call: &Value) -> Result<String, AllocError> {
     let left: Handle<K> = handle(call, 3);
     let right = handle(call, 4);
@@ -79,7 +79,7 @@ fn gone_on(range: &Range<Tag>) -> ops::Range<u32> {
     copy.index_range()
 }
 
-/// The answer of a call of a range.
+/// The result of a call of a range.
 pub fn of_range<K: Kind>(alloc: Global, call: &Value) -> Result<String, AllocError> {
     let range: Range<K> = range(call, 3);
     match text(call, 2) {

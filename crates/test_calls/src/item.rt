@@ -42,10 +42,10 @@ pub trait Item: Eq + Hash + Debug + Drop + Sized {
     /// A number's value, a text's length.
     fn size(&self) -> usize;
 
-    /// Adds 1 to a number, and puts a "c" behind a text.
+    /// Adds 1 to a number, and puts a "c" after a text.
     fn add(&mut self) -> Result<(), AllocError>;
 
-    /// Adds ten times its place to a number, and puts a "!" behind a text.
+    /// Adds ten times its place to a number, and puts a "!" after a text.
     fn mark(&mut self, place: usize) -> Result<(), AllocError>;
 
     /// Adds its place to a number, and answers whether it is neither 5 nor 9 then; of a text, whether it has one byte.

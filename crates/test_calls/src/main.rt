@@ -77,7 +77,7 @@ fn laws() {
     canonical_once();
 }
 
-// Lets go of the subjects where nothing is known of their type.
+// Frees the subjects where nothing is known of their type.
 fn answer_all<S: Answers + Drop>(rt: &HostRuntime, subjects: S) -> io::Result<()> {
     let mut subjects = subjects;
     answer_lines(rt, &mut subjects)

@@ -11,7 +11,7 @@ fn sizes(inner: &TypeInner) -> (Option<u64>, u64) {
     (inner.try_size(), inner.size())
 }
 
-// The answer of a call that asks for no other type.
+// The result of a call that asks for no other type.
 fn of_one(alloc: Global, inner: &TypeInner, call: &Value) -> Result<String, AllocError> {
     match text(call, 0) {
         "scalar" => told(
@@ -52,7 +52,7 @@ fn of_elements(
     }
 }
 
-// The answer of a call of one type.
+// The result of a call of one type.
 fn of_types(
     alloc: Global,
     inner: &TypeInner,
@@ -68,7 +68,7 @@ fn of_types(
     }
 }
 
-/// The answer of a call of the type that stands behind its name.
+/// The result of a call of the type that stands after its name.
 pub fn of_type(alloc: Global, types: &Types, call: &Value) -> Result<String, AllocError> {
     match inner(alloc, call, 1)? {
         Some(inner) => of_types(alloc, &inner, types, call),
@@ -76,7 +76,7 @@ pub fn of_type(alloc: Global, types: &Types, call: &Value) -> Result<String, All
     }
 }
 
-// The answer of a call of two types.
+// The result of a call of two types.
 fn of_both(
     alloc: Global,
     left: &TypeInner,
@@ -95,7 +95,7 @@ fn of_both(
     }
 }
 
-/// The answer of a call of the two types that stand behind its name.
+/// The result of a call of the two types that stand after its name.
 pub fn of_pair(alloc: Global, types: &Types, call: &Value) -> Result<String, AllocError> {
     let Some(left) = inner(alloc, call, 1)? else {
         return no_call(alloc);

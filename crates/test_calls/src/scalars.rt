@@ -22,7 +22,7 @@ fn is_numeric(scalar: Scalar) -> (ScalarKind, bool) {
     (scalar.kind, ScalarKindExt::is_numeric(scalar.kind))
 }
 
-/// The answer of a call of a scalar.
+/// The result of a call of a scalar.
 pub fn of_scalar(alloc: Global, call: &Value) -> Result<String, AllocError> {
     let left = scalar(call, 1);
     let right = scalar(call, 2);

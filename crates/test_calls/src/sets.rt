@@ -39,7 +39,7 @@ fn counted<K>(set: &HandleSet<K>) -> usize {
     count
 }
 
-/// The answer of a call of a set, beside an arena of its handles.
+/// The result of a call of a set, beside an arena of its handles.
 pub fn of_set<T, K>(
     alloc: Global,
     set: &mut HandleSet<K>,
@@ -59,7 +59,7 @@ pub fn of_set<T, K>(
     }
 }
 
-// The answer of a call that looks at the arena.
+// The result of a call that looks at the arena.
 fn of_arena<T, K>(
     alloc: Global,
     set: &mut HandleSet<K>,
@@ -78,7 +78,7 @@ fn of_arena<T, K>(
     }
 }
 
-/// The answer of a call of values that are kept by handle.
+/// The result of a call of values that are kept by handle.
 pub fn of_values<T: Item, K>(
     alloc: Global,
     values: &mut HandleVec<K, T>,

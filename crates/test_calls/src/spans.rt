@@ -15,7 +15,7 @@ fn total(list: &[Value]) -> Span {
     Span::total_span(list.iter().map(|pair| span(pair, 0)))
 }
 
-/// The answer of a call of a span.
+/// The result of a call of a span.
 pub fn of_span(alloc: Global, call: &Value) -> Result<String, AllocError> {
     let left = span(call, 2);
     let right = span(call, 4);
@@ -40,7 +40,7 @@ fn kept(number: u32) -> Option<u32> {
     Some(NonMaxU32::new(number)?.get())
 }
 
-/// The answer of a call of a number below the greatest.
+/// The result of a call of a number below the greatest.
 pub fn of_number(alloc: Global, call: &Value) -> Result<String, AllocError> {
     let left = number(call, 2);
     match text(call, 1) {

@@ -30,7 +30,7 @@ impl<T: Item, K: Kind> Subject<T, K> {
         }
     }
 
-    /// The answer of a call.
+    /// The result of a call.
     pub fn answer(&mut self, alloc: Global, call: &Value) -> Result<String, AllocError> {
         match text(call, 1) {
             "arena" => self.arenas.answer(alloc, call),

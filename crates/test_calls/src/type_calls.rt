@@ -43,7 +43,7 @@ impl TypeCalls {
         Ok(predeclared.len())
     }
 
-    /// The answer of a call.
+    /// The result of a call.
     pub fn answer(&mut self, alloc: Global, call: &Value) -> Result<String, AllocError> {
         let types = &self.module.types;
         match text(call, 0) {
@@ -64,7 +64,7 @@ impl TypeCalls {
     }
 }
 
-// The answer of a call of a scalar, where a word stands behind its name, or of a type.
+// The result of a call of a scalar, where a word stands after its name, or of a type.
 fn scalars_or_types(alloc: Global, types: &Types, call: &Value) -> Result<String, AllocError> {
     if text(call, 1) != "" {
         return scalars::of_scalar(alloc, call);

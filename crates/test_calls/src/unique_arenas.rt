@@ -24,7 +24,7 @@ impl<T: Item, K: Kind> UniqueArenas<T, K> {
         }
     }
 
-    /// The answer of a call of a unique arena.
+    /// The result of a call of a unique arena.
     pub fn answer(&mut self, alloc: Global, call: &Value) -> Result<String, AllocError> {
         match text(call, 2) {
             "compare" => told(alloc, self.first == self.second),
@@ -38,7 +38,7 @@ impl<T: Item, K: Kind> UniqueArenas<T, K> {
         }
     }
 
-    // Takes the first arena into the second. Answers whether it is empty then, and how many were taken.
+    // Takes the first arena into the second. Returns whether it is empty then, and how many were taken.
     fn take(&mut self) -> (bool, usize) {
         self.second = self.first.take();
         (self.first.is_empty(), self.second.len())
@@ -90,7 +90,7 @@ fn entries<T: Item, K>(
     Ok((is_emptied, entries))
 }
 
-// The answer of a call that changes nothing.
+// The result of a call that changes nothing.
 fn seen<T: Item, K: Kind>(
     alloc: Global,
     arena: &UniqueArena<T, K>,

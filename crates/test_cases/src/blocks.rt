@@ -26,7 +26,7 @@ fn place(value: &Value) -> u32 {
     value.as_u64().unwrap_or(0).min(50) as u32
 }
 
-// Puts the statements of these places behind a block, one by one.
+// Puts the statements of these places after a block, one by one.
 fn push(block: &mut Block, places: &[Value]) -> Result<(), AllocError> {
     for value in places {
         let place = place(value);
@@ -79,7 +79,7 @@ fn made(answer: Result<(), AllocError>) -> Result<bool, AllocError> {
     }
 }
 
-// Moves the statements of another block behind this one. Answers whether none is left there.
+// Moves the statements of another block after this one. Returns whether none is left there.
 fn append(alloc: Global, subject: &mut Block, places: &[Value]) -> Result<bool, AllocError> {
     let mut other = block(alloc, places)?;
     subject.append(&mut other)?;
@@ -91,7 +91,7 @@ fn extend_block(alloc: Global, subject: &mut Block, places: &[Value]) -> Result<
     made(subject.extend_block(other))
 }
 
-// Takes out the statements of the range that stands behind its form in a line, if the block has them.
+// Takes out the statements of the range that stands after its form in a line, if the block has them.
 fn cull(subject: &mut Block, call: &Value) -> bool {
     let (start, end) = (number(call, 4) as usize, number(call, 5) as usize);
     if start > end || end >= subject.len() {
@@ -125,7 +125,7 @@ fn spliced(
     }
 }
 
-// Puts another block in the place of the range that stands behind its form in a line, if the block has it.
+// Puts another block in the place of the range that stands after its form in a line, if the block has it.
 fn splice(alloc: Global, subject: &mut Block, call: &Value) -> Result<bool, AllocError> {
     let (start, end) = (number(call, 4) as usize, number(call, 5) as usize);
     if start > end || end > subject.len() {
@@ -159,7 +159,7 @@ fn change_all(subject: &mut Block) -> bool {
         .all(|statement| *statement == Statement::Break)
 }
 
-// Makes the call of a line. Answers what it told, or whether it could be made.
+// Makes the call of a line. Answers what it reported, or whether it could be made.
 fn called(alloc: Global, subject: &mut Block, call: &Value) -> Result<bool, AllocError> {
     match text(call, 1) {
         "extend" => extend(subject, list(call, 3)),
@@ -183,14 +183,14 @@ fn subject(alloc: Global, call: &Value) -> Result<Block, AllocError> {
     Ok(subject)
 }
 
-/// The answer of a call of a block: what it tells, and what the block holds then.
+/// The result of a call of a block: what it tells, and what the block holds then.
 pub fn of_block(alloc: Global, call: &Value) -> Result<String, AllocError> {
     let mut subject = subject(alloc, call)?;
     let is_made = called(alloc, &mut subject, call)?;
     told(alloc, (is_made, seen(alloc, &subject)))
 }
 
-// The statements of these places, and a kill behind them.
+// The statements of these places, and a kill after them.
 fn statements(alloc: Global, places: &[Value]) -> Result<Vec<Statement>, AllocError> {
     let mut statements = Vec::new(alloc);
     for value in places {

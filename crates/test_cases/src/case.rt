@@ -79,7 +79,7 @@ fn judge_form(alloc: Global, case: &Case<'_>, form: bool) -> Result<Option<Strin
     Ok(Some(difference))
 }
 
-/// Reads the case's bytes where it tells whether they are a document, or else runs the check over them. Answers how that
+/// Reads the case's bytes where it says whether they are a document, or else runs the check over them. Answers how that
 /// differs from what is expected, or `None` where it does not.
 pub fn judge(alloc: Global, case: &Case<'_>) -> Result<Option<String>, AllocError> {
     match case.form {

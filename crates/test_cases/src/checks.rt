@@ -29,7 +29,7 @@ fn bad(word: &str) -> Bad {
     }
 }
 
-/// The answer of a call of a check.
+/// The result of a call of a check.
 pub fn answer(alloc: Global, call: &Value) -> Result<String, AllocError> {
     let step = number(call, 3) as usize;
     let word = text(call, 4);

@@ -1,4 +1,4 @@
-// Runs the check on each case of the data files, and tells which answers are not those that are known.
+// Runs the check on each case of the data files, and says which answers are not those that are known.
 //
 // data/files.json names the data files. Each is a list of objects: a case's `name`, its `input` (or `input_b64`, in
 // Base64), the number of `spaces` that follow the input, which may be left out, and the `output` that is known; or, where
@@ -16,7 +16,7 @@ fn read_list(rt: &HostRuntime, name: &str) -> Result<Value> {
     Ok(list)
 }
 
-// Runs a case. Answers whether it does not differ.
+// Runs a case. Returns whether it does not differ.
 fn run_case(rt: &HostRuntime, name: &str, item: &Value) -> Result<bool> {
     let case = Case::read(rt.alloc(), item)?;
     match judge(rt.alloc(), &case)? {

@@ -58,7 +58,7 @@ fn emitted(
     Ok(((before, meanwhile, emitter.is_running()), emitted))
 }
 
-/// What is emitted of the expressions with the second spans, which come behind those with the first.
+/// What is emitted of the expressions with the second spans, which come after those with the first.
 pub fn of_emitter(alloc: Global, call: &Value) -> Result<String, AllocError> {
     let mut arena = Arena::new(alloc);
     append_all(&mut arena, list(call, 1))?;

@@ -12,7 +12,7 @@ pub trait Holder: Item {
     /// Adds what a part of a line gives: a word, the thing, and where its span starts and ends.
     fn add(&mut self, alloc: Global, part: &Value) -> Result<(), AllocError>;
 
-    /// Puts the spans of what it holds behind a list.
+    /// Puts the spans of what it holds after a list.
     fn tell_spans(&self, spans: &mut Vec<Span>) -> Result<(), AllocError>;
 }
 
@@ -40,7 +40,7 @@ fn equals<T: Holder>(copy: &T, other: &Option<T>) -> Option<bool> {
     }
 }
 
-/// What is told of an item that is copied with all that was added to it, and of another one.
+/// What is reported of an item that is copied with all that was added to it, and of another one.
 pub fn compared<T: Holder>(alloc: Global, call: &Value) -> Result<String, AllocError> {
     let Some(source): Option<T> = held(alloc, call, 1)? else {
         return no_call(alloc);

@@ -1,4 +1,4 @@
-// Items of the IR: how a line of the input gives them, how they are copied, and what is told of them.
+// Items of the IR: how a line of the input gives them, how they are copied, and what is reported of them.
 use crate::modules::document_of;
 use document_expressions::ExpressionForm;
 use document_items::{ConstantForm, FilterForm, GlobalForm, OverrideForm, SpecialForm, TypeForm};
@@ -41,7 +41,7 @@ fn comparison<T: Item>(source: &T, copy: &T, other: &Option<T>) -> (bool, Option
     }
 }
 
-/// What is told of an item that is copied, and of another one.
+/// What is reported of an item that is copied, and of another one.
 pub fn compared<T: Item>(alloc: Global, call: &Value) -> Result<String, AllocError> {
     let Some(source): Option<T> = read_at(alloc, call, 1)? else {
         return no_call(alloc);

@@ -1,6 +1,6 @@
 // Reads items of the IR of every kind, copies and compares them, and makes the calls of blocks, emitters and walks.
 //
-// A line is a list: what is asked, and what it is asked of, written as in a document.
+// A line is a list: what is required, and what it is required of, written as in a document.
 use crate::{blocks, emitters, holder, item, kinds, modules, returns, walks};
 use ir_items::{
     Block, Constant, DiagnosticFilterNode, EntryPoint, Function, GlobalVariable, Module, Override,
@@ -9,7 +9,7 @@ use serde_json::Value;
 use std::alloc::{AllocError, Global};
 use test_support::call::{no_call, text};
 
-/// The answer of a call of items.
+/// The result of a call of items.
 pub fn answer(alloc: Global, call: &Value) -> Result<String, AllocError> {
     match text(call, 0) {
         "type" => kinds::of_type(alloc, call),
@@ -31,7 +31,7 @@ pub fn answer(alloc: Global, call: &Value) -> Result<String, AllocError> {
     }
 }
 
-// The answer of a call that copies an item.
+// The result of a call that copies an item.
 fn copied(alloc: Global, call: &Value) -> Result<String, AllocError> {
     match text(call, 0) {
         "constant" => item::compared::<Constant>(alloc, call),

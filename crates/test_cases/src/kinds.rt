@@ -26,7 +26,7 @@ fn traits_of(expression: &Expression) -> (bool, bool, Option<bool>) {
     )
 }
 
-/// What is told of an expression: whether a copy equals it, and what it is.
+/// What is reported of an expression: whether a copy equals it, and what it is.
 pub fn of_expression(alloc: Global, call: &Value) -> Result<String, AllocError> {
     let Some(source): Option<Expression> = read_at(alloc, call, 1)? else {
         return no_call(alloc);

@@ -1,4 +1,4 @@
-//! Runs the check on the documents of data/, of which the answers are known, and tells which differ; then makes the calls of
+//! Runs the check on the documents of data/, of which the answers are known, and says which differ; then makes the calls of
 //! checks and of items of the IR that standard input asks for, and prints the answers.
 //!
 //! A line of standard input is a list: the call, and what it is given. Beside it stands the answer. A line that is a text

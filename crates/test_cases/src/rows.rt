@@ -1,4 +1,4 @@
-// What is asked of a document: a text, and the verdict and the text that are expected.
+// What is required of a document: a text, and the verdict and the text that are expected.
 use serde_json::Value;
 use shader_check::{Fault, Verdict};
 use test_support::call::text;
@@ -14,7 +14,7 @@ pub struct Row<'a> {
 }
 
 impl<'a> Row<'a> {
-    /// The row that stands behind a call's name.
+    /// The row that stands after a call's name.
     pub fn of(call: &'a Value) -> Row<'a> {
         Row {
             input: text(call, 1),

@@ -1,4 +1,4 @@
--- What is told of types that are accepted.
+-- What is reported of types that are accepted.
 use Rattle.std.specs.Prelude.{Bool, List}
 use Rattle.function_interface.specs.Reported.{AreReported}
 use Rattle.ir_flags.specs.declared.settings.Capabilities.{Capabilities}

@@ -28,7 +28,7 @@ fn span(place: u32) -> Span {
     Span::new(place, 90)
 }
 
-// Puts the statements of these places behind a block, each with a span of its own.
+// Puts the statements of these places after a block, each with a span of its own.
 fn push(block: &mut Block, places: &[u32]) -> Result<(), AllocError> {
     for place in places {
         block.push(emit(*place), span(*place))?;
@@ -55,7 +55,7 @@ enum Call {
 }
 
 impl Call {
-    /// Makes the call, with one of the other blocks where it takes one. Answers whether it was refused memory.
+    /// Makes the call, with one of the other blocks where it takes one. Returns whether it was refused memory.
     fn is_refused(self, subject: &mut Block, other: &mut Block, spare: Block) -> bool {
         match self {
             Call::Push => subject.push(emit(9), span(9)).is_err(),

@@ -4,7 +4,7 @@ use document_reader::{DocumentError, read_document};
 use std::alloc::{AllocError, Global};
 use std::test::Fail;
 
-// Functions, and what is told of them: the stages that may run those that are accepted, and why one is refused. Of the types
+// Functions, and what is reported of them: the stages that may run those that are accepted, and why one is refused. Of the types
 // the first is u32, the second bool, the third f32 and the fourth i32.
 const CASES: [(&str, &str); 12] = [
     ("", ""),
@@ -62,7 +62,7 @@ const WITHOUT_EXPRESSIONS: &str =
 const TWO_TYPES: &str =
     r#"[null,[],null,[],[["Literal","u32",1],["Literal","f32",0],["Binary","Add",0,1]],[["Emit",2,3]],null]"#;
 
-// What is told of a module with these global variables and these functions, under these flags.
+// What is reported of a module with these global variables and these functions, under these flags.
 fn found(alloc: Global, flags: &str, globals: &str, functions: &str) -> Result<String, AllocError> {
     let text = format!(in alloc;
         r#"[1,[{flags}],[],[[],[]],false,[[null,["Scalar","u32"]],[null,["Scalar","bool"]],[null,["Scalar","f32"]],[null,["Scalar","i32"]]],[null,null,null,[]],[[],null],[],[],[],[{globals}],[{functions}],[]]"#

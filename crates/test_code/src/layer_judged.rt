@@ -39,7 +39,7 @@ fn word_of(error: &FunctionError) -> &'static str {
     }
 }
 
-// What is kept of a function, or nothing, where it is told why.
+// What is kept of a function, or nothing, where it is reported why.
 fn judge(
     validator: &mut Validator<TinyLower>,
     told: &mut String,

@@ -17,7 +17,7 @@ use std::alloc::{AllocError, Global};
 use typing_forms::types_go_back;
 use typing_layout::Layouter;
 
-// What is told of these types, where a module may have them. The error is out of memory.
+// What is reported of these types, where a module may have them. The error is out of memory.
 fn infos_of(
     alloc: Global,
     types: &UniqueArena<IrType, key::IrType>,

@@ -1,4 +1,4 @@
-// Looks up in the overload sets of all math functions what data/overloads.json names, and tells which answers are not those
+// Looks up in the overload sets of all math functions what data/overloads.json names, and says which answers are not those
 // that are known.
 //
 // A line of the data file is `["rules", function, [rule..]]`, the rules of a function in order, or

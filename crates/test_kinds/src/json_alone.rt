@@ -6,7 +6,7 @@ use std::io;
 /// One byte more than a document may have.
 const MOST_BYTES: usize = 16777217;
 
-/// Tells whether standard input is JSON.
+/// Says whether standard input is JSON.
 pub fn run(rt: &HostRuntime) -> io::Result<()> {
     let mut source = Source::new(rt.reader());
     let is_read = match source.take_all(rt.alloc(), MOST_BYTES) {

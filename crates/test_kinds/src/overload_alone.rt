@@ -1,4 +1,4 @@
-// Makes the overload set of `min` over two vectors once for each byte of standard input, and tells how many rules they
+// Makes the overload set of `min` over two vectors once for each byte of standard input, and says how many rules they
 // leave in all: what overload sets take in a check of as many calls.
 use check_ports::Source;
 use ir_kinds::{MathFunction, Scalar, VectorSize};
@@ -31,7 +31,7 @@ fn rules_of_all(alloc: Global, bytes: &[u8]) -> Result<usize, AllocError> {
     Ok(left)
 }
 
-/// Tells how many rules are left in all.
+/// Says how many rules are left in all.
 pub fn run(rt: &HostRuntime) -> io::Result<()> {
     let mut source = Source::new(rt.reader());
     let Ok(bytes) = source.take_all(rt.alloc(), MOST_CALLS) else {

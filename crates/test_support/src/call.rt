@@ -45,17 +45,17 @@ pub fn handle<K>(call: &Value, place: usize) -> Handle<K> {
     Handle::at(number(call, place).min(4294967294) as usize)
 }
 
-/// The span of which the start stands at a place and the end behind it.
+/// The span of which the start stands at a place and the end after it.
 pub fn span(call: &Value, place: usize) -> Span {
     Span::new(number(call, place), number(call, place.saturating_add(1)))
 }
 
-/// The range of which the first place stands at a place and the end behind it.
+/// The range of which the first place stands at a place and the end after it.
 pub fn range<K>(call: &Value, place: usize) -> Range<K> {
     Range::new(number(call, place), number(call, place.saturating_add(1)))
 }
 
-/// The answer of a call as it is printed.
+/// The result of a call as it is printed.
 pub fn told<A: Debug + Drop>(alloc: Global, answer: A) -> Result<String, AllocError> {
     format!(in alloc; "{answer:?}")
 }

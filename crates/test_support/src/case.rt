@@ -2,12 +2,12 @@
 
 use serde_json::Value;
 
-/// What is asked of a document, and the answer.
+/// What is required of a document, and the answer.
 #[derive(Clone, Copy)]
 pub struct Case<'a> {
     /// The name of the case.
     pub name: &'a str,
-    /// What is asked.
+    /// What is required.
     pub asked: &'a str,
     /// The document.
     pub document: &'a str,
@@ -34,7 +34,7 @@ fn another(line: &Value) -> Option<&str> {
 }
 
 impl Case<'_> {
-    /// A case as a line has it: name, what is asked, document, answer and, where there are two, the second one.
+    /// A case as a line has it: name, what is required, document, answer and, where there are two, the second one.
     pub fn read(line: &Value) -> Case<'_> {
         Case {
             name: text(line, 0),

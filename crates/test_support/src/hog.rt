@@ -35,7 +35,7 @@ impl Hog {
         })
     }
 
-    /// Takes what is left, but so many bytes. Answers whether the least block was refused in the end.
+    /// Takes what is left, but so many bytes. Returns whether the least block was refused in the end.
     pub fn leave(&mut self, alloc: Global, room: usize) -> Result<bool, AllocError> {
         let spare: Vec<u8> = Vec::with_capacity(alloc, room)?;
         let filled = fill(alloc, &mut self.near, NEAR);
@@ -62,7 +62,7 @@ impl Hog {
     }
 }
 
-// Takes all that is left, the greatest blocks first. Answers whether the least block was refused in the end.
+// Takes all that is left, the greatest blocks first. Returns whether the least block was refused in the end.
 fn fill(alloc: Global, blocks: &mut Vec<Vec<u8>>, greatest: usize) -> bool {
     let mut size = greatest;
     for _ in 0..MOST_BLOCKS {

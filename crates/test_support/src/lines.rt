@@ -7,7 +7,7 @@ use std::io;
 
 /// What the calls of a program are made of.
 pub trait Answers {
-    /// The answer of a call, as it is printed.
+    /// The result of a call, as it is printed.
     fn answer(&mut self, alloc: Global, call: &Value) -> Result<String, AllocError>;
 }
 

@@ -1,4 +1,4 @@
-// What is asked of a module.
+// What is required of a module.
 use crate::checks::{Overrides, checks_told};
 use crate::conditions::{Test, tests_told};
 use crate::constness::{kinds_told, tracked};

@@ -8,7 +8,7 @@ use std::io;
 use typing_forms::types_go_back;
 use typing_layout::{Alignment, LayoutErrorInner, Layouter};
 
-// Prints the answer of a call.
+// Prints the result of a call.
 fn say(rt: &HostRuntime, call: &str, answer: u32) -> io::Result<()> {
     println!(rt; "{call}: {answer}")
 }

@@ -25,7 +25,7 @@ fn item_told<E: Debug>(
     format!(in alloc; "{step} {index} {error:?}")
 }
 
-// The type that is refused, and why; which fault it is that sources of a blend have is not told.
+// The type that is refused, and why; which fault it is that sources of a blend have is not reported.
 fn type_told(alloc: Global, refused: &InvalidType) -> Result<String, AllocError> {
     let index = refused.ty.index();
     if let TypeError::InvalidBlendSrc(_) = refused.error {

@@ -5,7 +5,7 @@ use module_handles::{
 };
 use std::alloc::{AllocError, Global};
 
-/// The tests, in the order in which they are told.
+/// The tests, in the order in which they are reported.
 #[derive(Clone, Copy, PartialEq)]
 pub enum Test {
     Handles,

@@ -1,4 +1,4 @@
-// What is told of types, and why one is refused.
+// What is reported of types, and why one is refused.
 ghost use Rattle.std.specs.Prelude.{◌≡◌, length};
 ghost use Rattle.typing_forms.specs.Order.{TypesGoBack};
 ghost use Rattle.typing_forms.specs.Resolutions.{types_view};
@@ -14,10 +14,10 @@ use std::alloc::{AllocError, Global};
 use typing_forms::types_go_back;
 use typing_layout::Layouter;
 
-/// What is asked of the types of a module.
+/// What is required of the types of a module.
 #[derive(Clone, Copy)]
 pub enum Reported {
-    /// What is told of each, or why the first that is refused is.
+    /// What is reported of each, or why the first that is refused is.
     Infos,
     /// Which is refused, if one is.
     Refusal,
@@ -46,7 +46,7 @@ fn accepted_told(alloc: Global, asked: Reported, infos: &[TypeInfo]) -> Result<S
     Ok(told)
 }
 
-// The first type that is refused, and why; which fault it is that sources of a blend have is not told.
+// The first type that is refused, and why; which fault it is that sources of a blend have is not reported.
 fn refused_reported(
     alloc: Global,
     asked: Reported,
@@ -80,7 +80,7 @@ fn validated_told(
     }
 }
 
-/// What is asked of the types.
+/// What is required of the types.
 pub fn infos_told(
     alloc: Global,
     asked: Reported,

@@ -1,9 +1,9 @@
 // Makes the calls that the files of data/ ask for on modules: layouts, kinds of expressions, their types, tests of handles, what types may be
 // used for and why they are refused, whether all handles are in order, whether a module is accepted up to its overrides, what
 // the analysis keeps of functions, whether functions are accepted and why not, and of the whole judgement by which error a
-// document is refused. Tells which answers are others than those that stand there.
+// document is refused. Says which answers are others than those that stand there.
 //
-// A line of a data file is a list of texts: the case's name, what is asked, a document, and the answer, or two of which either
+// A line of a data file is a list of texts: the case's name, what is required, a document, and the answer, or two of which either
 // is right. `make_data.py`, `make_types.py`, `make_tests.py`, `make_infos.py`, `make_checks.py`, `make_summaries.py`,
 // `make_chains.py`, `make_functions.py`, `make_names.py` and `make_turns.py` write these files. The answers come from two implementations that were written
 // independently of this one, those of chains of calls from the model in `make_chains.py`; which function is refused comes from
@@ -50,7 +50,7 @@ const FILES: [&str; 12] = [
     "turns.jsonl",
 ];
 
-// Makes the call of a line. Answers whether the answer is another one.
+// Makes the call of a line. Returns whether the answer is another one.
 fn differs(rt: &HostRuntime, line: &str) -> Result<bool> {
     let value = Value::from_str(rt.alloc(), line)?;
     let case = Case::read(&value);

@@ -1,6 +1,6 @@
-// Why a function is refused, in words: the name of the fault and then what it holds, in order. Handles and places are told as
+// Why a function is refused, in words: the name of the fault and then what it holds, in order. Handles and places are reported as
 // numbers, what is not there as `-`, sets as the number of their bits, and a fault inside another in the same way. Types that
-// are told whole, names of items, and what makes control flow differ are left out.
+// are reported whole, names of items, and what makes control flow differ are left out.
 use ir_arena::handle::Handle;
 use ir_blocks::AtomicFunction;
 use ir_kinds::SwitchValue;
@@ -72,7 +72,7 @@ fn tell_value(alloc: Global, told: &mut String, value: &SwitchValue) -> Result<(
     }
 }
 
-// Tells what is done at once, and what it compares with.
+// Says what is done at once, and what it compares with.
 fn tell_operation(
     alloc: Global,
     told: &mut String,
@@ -85,7 +85,7 @@ fn tell_operation(
     }
 }
 
-// Tells why an expression, or the image of a statement, is refused.
+// Says why an expression, or the image of a statement, is refused.
 fn tell_expression_error(
     alloc: Global,
     told: &mut String,
@@ -107,7 +107,7 @@ fn tell_expression_error(
     }
 }
 
-// Tells why a variable is refused.
+// Says why a variable is refused.
 fn tell_variable_error(
     alloc: Global,
     told: &mut String,
@@ -120,7 +120,7 @@ fn tell_variable_error(
     }
 }
 
-// Tells why a call is refused.
+// Says why a call is refused.
 fn tell_call_error(alloc: Global, told: &mut String, error: &CallError) -> Result<(), AllocError> {
     tell_name(alloc, told, error)?;
     match error {
@@ -147,7 +147,7 @@ fn tell_call_error(alloc: Global, told: &mut String, error: &CallError) -> Resul
     }
 }
 
-// Tells why an atomic operation is refused.
+// Says why an atomic operation is refused.
 fn tell_atomic_error(
     alloc: Global,
     told: &mut String,
@@ -169,7 +169,7 @@ fn tell_atomic_error(
     }
 }
 
-// Tells why an operation of a subgroup is refused.
+// Says why an operation of a subgroup is refused.
 fn tell_subgroup_error(
     alloc: Global,
     told: &mut String,
@@ -210,7 +210,7 @@ fn tell_subject(alloc: Global, told: &mut String, error: &FunctionError) -> Resu
     }
 }
 
-// Tells what a fault holds, where that is two handles, or one of a type.
+// Says what a fault holds, where that is two handles, or one of a type.
 fn tell_handles(alloc: Global, told: &mut String, error: &FunctionError) -> Result<(), AllocError> {
     match error {
         FunctionError::InvalidReturnType {
@@ -234,7 +234,7 @@ fn tell_handles(alloc: Global, told: &mut String, error: &FunctionError) -> Resu
     }
 }
 
-// Tells what a fault holds, where that is a word or a number.
+// Says what a fault holds, where that is a word or a number.
 fn tell_values(alloc: Global, told: &mut String, error: &FunctionError) -> Result<(), AllocError> {
     match error {
         FunctionError::InvalidArgumentType { index, .. } => tell(alloc, told, *index),
@@ -256,7 +256,7 @@ fn tell_values(alloc: Global, told: &mut String, error: &FunctionError) -> Resul
     }
 }
 
-// Tells what a fault holds, where that is another one.
+// Says what a fault holds, where that is another one.
 fn tell_parts(alloc: Global, told: &mut String, error: &FunctionError) -> Result<(), AllocError> {
     match error {
         FunctionError::Expression { handle, source } => {

@@ -101,7 +101,7 @@ fn tell_pairs(
     Ok(())
 }
 
-// Tells what is kept of a function.
+// Says what is kept of a function.
 fn tell_info(
     alloc: Global,
     told: &mut String,
@@ -120,7 +120,7 @@ fn tell_info(
     told.push_str("\n")
 }
 
-// Tells why an expression is refused.
+// Says why an expression is refused.
 fn tell_expression_error(
     alloc: Global,
     told: &mut String,
@@ -138,7 +138,7 @@ fn tell_expression_error(
     }
 }
 
-// Tells why a function is refused.
+// Says why a function is refused.
 fn tell_error(alloc: Global, told: &mut String, error: &FunctionError) -> Result<(), AllocError> {
     match error {
         FunctionError::Expression { handle, source } => {
@@ -167,7 +167,7 @@ fn is_in_order(function: &Function, module: &Module, before: usize) -> bool
         && arities_match(function, module)
 }
 
-// Tells what is found of a function, and answers what is kept of it.
+// Says what is found of a function, and answers what is kept of it.
 fn reported_info(
     alloc: Global,
     told: &mut String,
@@ -193,7 +193,7 @@ fn reported_info(
     }
 }
 
-// Tells what is found of the functions of a module, up to the first of which nothing is, and answers whether there is none.
+// Says what is found of the functions of a module, up to the first of which nothing is, and answers whether there is none.
 fn tell_functions(
     alloc: Global,
     told: &mut String,
@@ -210,7 +210,7 @@ fn tell_functions(
     Ok(true)
 }
 
-// Tells what is found of the entry points of a module.
+// Says what is found of the entry points of a module.
 fn tell_entries(
     alloc: Global,
     told: &mut String,

@@ -19,7 +19,7 @@ fn found_at<'a>(
     found.get(handle.index()).unwrap_or(missing)
 }
 
-// The type of an expression behind these.
+// The type of an expression after these.
 fn type_pointed(
     alloc: Global,
     context: &ResolveContext<'_>,
@@ -62,7 +62,7 @@ fn tell(
     Ok(())
 }
 
-// Tells the types of a function's expressions, behind this word.
+// Tells the types of a function's expressions, after this word.
 fn tell_function(
     alloc: Global,
     told: &mut String,

@@ -41,7 +41,7 @@ fault_of (error.FunctionArgumentNotFound number) = Some (fault.FunctionArgumentN
 fault_of error.MissingSpecialType = Some fault.MissingSpecialType
 fault_of (error.BuiltinArgumentsInvalid text) = Some fault.BuiltinArgumentsInvalid
 
--- the form or the fault that an answer tells, and otherwise where it tells that memory ran out
+-- the form or the fault that an answer tells, and otherwise where it says that memory ran out
 abbrev pub told : List PlainType → (otherwise : Option (Result Form TypingFault)) → Result TypeResolution ResolveRefusal → Option (Result Form TypingFault)
 told types otherwise (Ok r) = Some (Ok (form_given types r))
 told types otherwise (Err (Fault e)) = option_map (λ f. Err f) (fault_of e)
@@ -56,7 +56,7 @@ abbrev pub ReportsFault : Context → List PlainExpression → ℕ → Option Ty
 ReportsFault context expressions place (Some f) = IsFault context expressions place f
 ReportsFault context expressions place None = ⊥
 
--- An answer about the expression at a place: it has the type that is given, or the fault that is told.
+-- An answer about the expression at a place: it has the type that is given, or the fault that is reported.
 abbrev pub IsAnswer : Context → List PlainExpression → ℕ → Result TypeResolution ResolveRefusal → Type 0
 IsAnswer context expressions place (Ok r) = HasTypeAmong context expressions place (form_given context.types r)
 IsAnswer context expressions place (Err (Fault e)) = ReportsFault context expressions place (fault_of e)

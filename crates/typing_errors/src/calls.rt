@@ -16,7 +16,7 @@ pub enum CallError {
         /// Why.
         source: ExpressionError,
     },
-    /// The answer stands for something already.
+    /// The answer denotes something already.
     #[error("the answer {0:?} is in scope already")]
     ResultAlreadyInScope(Handle<key::Expression>),
     /// Another call answers by the same expression.

@@ -135,7 +135,7 @@ pub enum FunctionError {
     InvalidHitDistanceType(Handle<key::Expression>),
     /// The module lacks capabilities.
     MissingCapability(Capabilities),
-    /// What asks that all invocations arrive together stands where they may not: what it asks for, by which expression, and
+    /// What requires that all invocations arrive together stands where they may not: what it asks for, by which expression, and
     /// what makes them differ.
     NonUniformControlFlow(UniformityRequirements, Handle<key::Expression>, UniformityDisruptor),
     /// An argument has a binding, and the function is no entry point.
@@ -148,7 +148,7 @@ pub enum FunctionError {
     /// A uniform load of workgroup memory stands where invocations may differ. No call answers it: `NonUniformControlFlow`
     /// tells this too.
     NonUniformWorkgroupUniformLoad(UniformityDisruptor),
-    /// What stands for the answer of a uniform load of workgroup memory is no `WorkGroupUniformLoadResult` of its type.
+    /// What denotes the answer of a uniform load of workgroup memory is no `WorkGroupUniformLoadResult` of its type.
     WorkgroupUniformLoadExpressionMismatch(Handle<key::Expression>),
     /// A uniform load is not from workgroup memory.
     WorkgroupUniformLoadInvalidPointer(Handle<key::Expression>),
@@ -158,9 +158,9 @@ pub enum FunctionError {
     InvalidCooperativeStoreTarget(Handle<key::Expression>),
     /// There is nothing to read or write a cooperative matrix from or to.
     InvalidCooperativeDataPointer(Handle<key::Expression>),
-    /// What stands for the answer of a statement is emitted.
+    /// What denotes the result of a statement is emitted.
     EmitResult(Handle<key::Expression>),
-    /// What stands for the answer of a statement is that of none.
+    /// What denotes the result of a statement is that of none.
     UnvisitedExpression(Handle<key::Expression>),
     /// A call for mesh shaders is given another type than `u32`. No call answers it.
     InvalidMeshFunctionCall(Handle<key::Expression>),
@@ -178,7 +178,7 @@ pub enum FunctionError {
     MismatchedPayloadType(Handle<key::IrType>, Handle<key::IrType>),
     /// The payload of a ray is no global variable.
     PayloadPointerNotGlobal,
-    /// What stands for the answer of a `Proceed` or of a ballot is of another kind. It is asked under
+    /// What denotes the answer of a `Proceed` or of a ballot is of another kind. It is asked under
     /// `STRICT_SCOPE` alone, and naga has no such error.
     StrictResultMismatch(Handle<key::Expression>),
 }

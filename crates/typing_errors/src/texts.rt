@@ -151,7 +151,7 @@ impl FunctionError {
         }
     }
 
-    // The error inside it, behind a colon, if there is one.
+    // The error inside it, after a colon, if there is one.
     fn write_cause<W: fmt::Write>(&self, f: &mut fmt::Formatter<W>) -> fmt::Result {
         match self {
             FunctionError::Expression { source, .. }

@@ -29,7 +29,7 @@ get_known [] missing o lt = absurd (omega (arith, lt))
 get_known (t ∷ ts) missing zero lt = refl
 get_known (t ∷ ts) missing (suc o) lt = get_known ts missing o (omega (arith, lt))
 
--- what is read of types behind which an expression stands
+-- what is read of types after which an expression stands
 pub operands_typed : (c : Context) (xs : List PlainExpression) (types : List TypeResolution) (missing : TypeResolution) (y : PlainExpression) → OperandsBelow (length types) y → TypedSoFar c xs types
     → (o : ℕ) → IsAmong o (typing_operands y) → HasTypeAmong c xs o (form_given c.types (slice_index_or types o missing))
 operands_typed c xs types missing y below typed o among = typed o (slice_index_or types o missing) (get_known types missing o (below o among))
@@ -163,7 +163,7 @@ typed_more c xs types t typed having e r at = elim (get_push types t e r at) [
 pub rest_more : (xs : List PlainExpression) (types : List TypeResolution) (t : TypeResolution) (left : List (ℕ × Expression)) → Rest xs (length types + 1) left → Rest xs (length (types ++ t ∷ [])) left
 rest_more xs types t left r = subst (λ z. Rest xs z left) (sym (length_more types t)) r
 
--- one more expression behind those that have types
+-- one more expression after those that have types
 pub one_more : (c : Context) (xs : List PlainExpression) (types lent types' : List TypeResolution) (h : ℕ) (expression : Expression) (t : TypeResolution) (before left : List (ℕ × Expression))
     → Known c xs types before → before ≡ (h, expression) ∷ left → lent ≡ types → types' ≡ types ++ t ∷ []
     → ((ys : List PlainExpression) → slice_get ys h ≡ Some (expression_view expression) → TypedSoFar c ys lent → HasTypeAmong c ys h (form_given c.types t))
@@ -177,7 +177,7 @@ one_more c xs types lent types' h expression t before left known steps same is h
 typed_before : (c : Context) (xs : List PlainExpression) (types : List TypeResolution) → TypedSoFar c xs types → TypedBefore c xs (length types)
 typed_before c xs types typed e below = let w = get-within types e below in (form_given c.types w.0, typed e w.0 w.1)
 
--- a refusal about the expression at a place, behind those that have types
+-- a refusal about the expression at a place, after those that have types
 abbrev pub RefusedAt : Context → List PlainExpression → ℕ → TypingRefusal → Type 0
 RefusedAt c xs place refusal = IsTypedBy c xs place (Err refusal)
 
@@ -185,7 +185,7 @@ first_untyped : (c : Context) (xs : List PlainExpression) (place : ℕ) (refusal
 first_untyped c xs place (Memory error) before at = tt
 first_untyped c xs place (Fault expression error) before at = record { tells = at.1; before = subst (TypedBefore c xs) (sym at.0) before }
 
--- what is refused behind them is of the expression that stands there
+-- what is refused after them is of the expression that stands there
 pub refused : (c : Context) (xs : List PlainExpression) (types lent : List TypeResolution) (h : ℕ) (expression : Expression) (refusal : TypingRefusal) (before left : List (ℕ × Expression))
     → Known c xs types before → before ≡ (h, expression) ∷ left → lent ≡ types
     → ((ys : List PlainExpression) → slice_get ys h ≡ Some (expression_view expression) → TypedSoFar c ys lent → RefusedAt c ys h refusal)

@@ -45,7 +45,7 @@ IsFirstUntyped c expressions (Fault expression error) = IsUntypedFirst c express
 abbrev pub OperandsBelow : ℕ → PlainExpression → Type 0
 OperandsBelow end expression = (o : ℕ) → IsAmong o (typing_operands expression) → o < end
 
--- an answer about an expression, in any list where its operands have these types and at any place where it stands there
+-- an answer about an expression, in any list where its operands have these types and at any place where it occurs there
 abbrev pub Decided : Context → List TypeResolution → PlainExpression → Result TypeResolution ResolveRefusal → Type 0
 Decided c types expression result =
     (expressions : List PlainExpression) (place : ℕ) → slice_get expressions place ≡ Some expression → TypedSoFar c expressions types → IsAnswer c expressions place result

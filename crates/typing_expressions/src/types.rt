@@ -37,7 +37,7 @@ fn found_at<'a>(
     }
 }
 
-// The type of an expression behind those that have these types.
+// The type of an expression after those that have these types.
 pub(crate) fn type_pointed(
     alloc: Global,
     context: &ResolveContext<'_>,

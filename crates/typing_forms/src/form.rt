@@ -66,7 +66,7 @@ pub enum Form {
         arrayed: bool,
         class: ImageClass,
     },
-    /// What tells how an image is sampled.
+    /// What says how an image is sampled.
     Sampler {
         comparison: bool,
     },

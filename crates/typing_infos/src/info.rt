@@ -11,9 +11,9 @@ use std::ops::Index;
 use typing_forms::TypeResolution;
 use typing_layout::{Layouter, TypeLayout};
 
-/// What is kept of a module (naga's `ModuleInfo`): what is told of its types and their layouts, the types of its global
+/// What is kept of a module (naga's `ModuleInfo`): what is reported of its types and their layouts, the types of its global
 /// expressions, and what is kept of its functions and of those of its entry points, each in order. Indexed by the handle of a
-/// type it is what is told of it, indexed by that of a global expression its type, indexed by that of a function what is kept
+/// type it is what is reported of it, indexed by that of a global expression its type, indexed by that of a function what is kept
 /// of it.
 #[derive(Drop)]
 pub struct ModuleInfo {
@@ -42,7 +42,7 @@ impl ModuleInfo {
         }
     }
 
-    /// What is kept of a module of which this is told, and nothing yet of its functions and entry points. It takes no memory.
+    /// What is kept of a module of which this is reported, and nothing yet of its functions and entry points. It takes no memory.
     pub fn of_parts(
         alloc: Global,
         types: Vec<TypeInfo>,
@@ -64,7 +64,7 @@ impl ModuleInfo {
         }
     }
 
-    /// What is told of a type of the module.
+    /// What is reported of a type of the module.
     pub fn type_info(&self, ty: Handle<key::IrType>) -> TypeInfo
         requires { ty < length self.now.types.items }
         ensures { slice_get self.now.types.items ty ≡ Some result }
@@ -80,7 +80,7 @@ impl ModuleInfo {
         self.layouter[ty]
     }
 
-    /// What is told of the types, in order.
+    /// What is reported of the types, in order.
     pub fn types(&self) -> &[TypeInfo]
         ensures { result.now ≡ self.now.types.items }
     {
@@ -178,7 +178,7 @@ impl Index<Handle<key::IrType>> for ModuleInfo {
 
     ghost index_gives = { λ info ty x. Some x ≡ slice_get info.types.items ty };
 
-    /// What is told of a type of the module.
+    /// What is reported of a type of the module.
     fn index(&self, handle: Handle<key::IrType>) -> &TypeInfo {
         &self.types[handle.index()]
     }

@@ -91,7 +91,7 @@ pub struct SampledKeys {
     items: Keys,
 }
 
-// These values behind others. The error is out of memory.
+// These values after others. The error is out of memory.
 fn append<T: Copy + Drop>(values: &mut Vec<T>, others: &[T]) -> Result<(), AllocError>
     ensures { OnOk result (values.new.items ≡ values.old.items ++ others.now) }
 {
@@ -333,7 +333,7 @@ impl SampledPairs {
         Ok(SampledKeys { items })
     }
 
-    /// Adds a pair behind them where they are fewer than [`FEW`] and no table, and says whether it did. The error is out of
+    /// Adds a pair after them where they are fewer than [`FEW`] and no table, and says whether it did. The error is out of
     /// memory; the pairs are as they were then.
     pub fn push_few(&mut self, pair: SamplingPair) -> Result<bool, AllocError>
         ensures added { IfOk result (λ added. self.new.items ≡ (if added then self.old.items ++ pair ∷ [] else self.old.items)) }

@@ -1,4 +1,4 @@
--- The tree of a type is made of the trees of the types that it names, and stays where types are added behind.
+-- The tree of a type is made of the trees of the types that it names, and stays where types are added after.
 use Rattle.std.proofs.Common.{◌≡◌, ◌<◌, ℕ, zero, suc, List, [], ◌∷◌, ◌++◌, Option, Some, None, map, option_map, length, slice_get, All, refl, ap, ◌∙◌, arith}
 use Rattle.ir_types.specs.Plain.{PlainMember, PlainInner, struct, plain, PlainType}
 use Rattle.ir_types.specs.declared.types.TypeInner.TheVariants as inner
@@ -56,7 +56,7 @@ tree_by_trees types back handle i at =
     ap (tree_found (tree_along types handle)) at
     ∙ tree_alike (tree_along types handle) (type_tree types) handle i (λ k lt. along_enough types back handle (suc k) k lt (omega arith)) (back.each handle i at)
 
--- ---- types that are added behind
+-- ---- types that are added after
 
 at_first : {A : Type 0} (xs ys : List A) (k : ℕ) → k < length xs → slice_get (xs ++ ys) k ≡ slice_get xs k
 at_first [] ys k lt = absurd (omega arith)

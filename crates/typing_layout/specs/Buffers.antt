@@ -1,4 +1,4 @@
--- Which types a host can lay out in storage buffers and in uniform ones, told at each array and struct inside.
+-- Which types a host can lay out in storage buffers and in uniform ones, reported at each array and struct inside.
 use Rattle.std.specs.Prelude.{◌≡◌, ◌≤◌, ℕ, List, Some, IfSome, max, slice_get}
 use Rattle.std.specs.Int.{◌∣◌}
 use Rattle.typing_forms.specs.Sizes.{rounded_up}
@@ -51,7 +51,7 @@ uniform_alignment (acceleration_structure vertex_return) = alignment (accelerati
 uniform_alignment (ray_query vertex_return) = alignment (ray_query vertex_return)
 uniform_alignment (binding_array base n) = alignment (binding_array base n)
 
--- where the next member may begin: behind a struct at its end, rounded up to 16
+-- where the next member may begin: after a struct at its end, rounded up to 16
 abbrev pub free_after : Part → Tree → ℕ
 free_after p (struct ms span) = rounded_up 16 (end_of p)
 free_after p (array base n stride) = 0

@@ -47,6 +47,6 @@ IsRefusal types layouts (refusal.Fault f) = IsRefused types layouts (error_of f)
 abbrev pub OneLayout : Type 0
 OneLayout = (types : List PlainType) (left right : List TypeLayout) → AreLayouts types left → AreLayouts types right → length left ≡ length right → left ≡ right
 
--- layouts are held on where types are added behind
+-- layouts are held on where types are added after
 abbrev pub LayoutsStay : Type 0
 LayoutsStay = (types more : List PlainType) (layouts : List TypeLayout) → TypesGoBack types → AreLayouts types layouts → AreLayouts (types ++ more) layouts

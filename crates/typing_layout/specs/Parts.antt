@@ -14,7 +14,7 @@ abbrev pub listed : Members → List Part
 listed no_members = []
 listed (member t binding offset ms) = record { of_type = t; binding = binding; offset = offset } ∷ listed ms
 
--- the first byte behind a member
+-- the first byte after a member
 abbrev pub end_of : Part → ℕ
 end_of p = p.offset + size p.of_type
 

@@ -77,7 +77,7 @@ IsBound (binding_array base n) = ⊥
 abbrev pub BindingArrayOK : (base : Tree) → ArraySize → Type 0
 BindingArrayOK base n = IsBound base × IsKnownCount true n
 
--- what is asked of a type itself, of those that it names only what they may be used for
+-- what is required of a type itself, of those that it names only what they may be used for
 abbrev pub ShapeOK : Capabilities → (resolved : Bool) → Tree → Type 0
 ShapeOK capabilities resolved (scalar s) = ScalarOK capabilities s
 ShapeOK capabilities resolved (vector n s) = ScalarOK capabilities s

@@ -52,7 +52,7 @@ abbrev pub TreeByTrees : Type 0
 TreeByTrees = (types : List PlainType) → TypesGoBack types → (handle : ℕ) (i : PlainInner) → inner_at types handle ≡ Some i
     → type_tree types handle ≡ tree_by (type_tree types) i
 
--- where types are added behind, the trees of the others stay
+-- where types are added after, the trees of the others stay
 abbrev pub TreesStay : Type 0
 TreesStay = (types more : List PlainType) → TypesGoBack types → (handle : ℕ) → handle < length types
     → type_tree (types ++ more) handle ≡ type_tree types handle

@@ -83,7 +83,7 @@ impl Alignment {
         n % self.get() == 0
     }
 
-    /// The least multiple of the alignment that is not below `n`. It asks that this fits.
+    /// The least multiple of the alignment that is not below `n`. It requires that this fits.
     pub fn round_up(&self, n: u32) -> u32
         requires { rounded_up self.now n < 2 ^ 32 }
         ensures { IsLeastMultiple self.now n result }
@@ -110,7 +110,7 @@ impl Mul<u32> for Alignment {
 
     ghost mul_gives = { λ a n product. product ≡ a * n };
 
-    /// So many times the alignment. It asks that this fits.
+    /// So many times the alignment. It requires that this fits.
     fn mul(self, rhs: u32) -> u32 {
         self.bytes * rhs
     }
@@ -125,7 +125,7 @@ impl Mul for Alignment {
 
     ghost mul_gives = { λ a b product. product ≡ a * b };
 
-    /// The product, which is a power of two as well. It asks that this fits.
+    /// The product, which is a power of two as well. It requires that this fits.
     #[tactic(auto, using(crate::proofs::Powers::power_of_product))]
     fn mul(self, rhs: Alignment) -> Alignment {
         Alignment {

@@ -6,7 +6,7 @@ use thiserror::Error;
 use typing_forms::MAX_TYPE_SIZE;
 
 /// What is wrong with a type that has no layout (naga's `LayoutErrorInner`, without the errors of types that name later ones:
-/// a layouter asks that there are none).
+/// a layouter requires that there are none).
 #[derive(Clone, Copy, PartialEq, Eq, Debug, Error)]
 pub enum LayoutErrorInner {
     /// Its scalars take a number of bytes that is no power of two.

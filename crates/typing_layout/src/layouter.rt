@@ -68,7 +68,7 @@ impl Layouter {
         }
     }
 
-    /// Lets go of all layouts. The layouter keeps its memory.
+    /// Frees all layouts. The layouter keeps its memory.
     pub fn clear(&mut self)
         ensures { self.new ≡ [] }
     {
@@ -76,7 +76,7 @@ impl Layouter {
     }
 
     /// Lays out the types that it holds no layout of (naga's `update`). The types go back, and each layout that is held is
-    /// that of the type at its index: so the types are those of the calls before, and perhaps more behind.
+    /// that of the type at its index: so the types are those of the calls before, and perhaps more after.
     ///
     /// # Errors
     ///

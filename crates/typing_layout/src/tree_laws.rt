@@ -8,7 +8,7 @@ pub fn tree_by_trees()
     ensures { TreeByTrees }
 {}
 
-/// The tree of a type stays as it is where types are added behind.
+/// The tree of a type stays as it is where types are added after.
 #[tactic(auto, using(crate::proofs::Trees::trees_stay))]
 pub fn trees_stay()
     ensures { TreesStay }

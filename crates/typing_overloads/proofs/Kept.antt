@@ -59,7 +59,7 @@ nothing_kept : (q : Rule → Bool) (p : Pattern) → ((n : ConstructorSize) (s :
 nothing_kept q p h ss [] = refl
 nothing_kept q p h ss (n ∷ ns) = filter-append q (row p ss n) (rules_over p ss ns) ∙ ap₂ (λ xs ys. xs ++ ys) (row_dropped q p n (h n) ss) (nothing_kept q p h ss ns)
 
--- ---- what is asked for at a place
+-- ---- what is required for at a place
 
 pub required_are : (p : Pattern) (n : ConstructorSize) (s : Scalar) → listed (arguments_of p n s) ≡ map (required_type n s) (required_by p)
 required_are pattern.Same n s = refl

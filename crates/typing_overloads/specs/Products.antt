@@ -1,4 +1,4 @@
--- Rules that are made of each of some shapes with each of some scalars, and what each asks for at a place.
+-- Rules that are made of each of some shapes with each of some scalars, and what each requires at a place.
 use Rattle.std.specs.Prelude.{List, [], ◌∷◌, Bool, true, not}
 use Rattle.ir_kinds.specs.declared.scalars.Scalar.{Scalar}
 use Rattle.typing_rules.specs.declared.patterns.Pattern.{Pattern}
@@ -18,7 +18,7 @@ use Rattle.typing_overloads.specs.declared.required.RequiredSize.{RequiredSize}
 use Rattle.typing_overloads.specs.declared.required.RequiredSize.TheVariants as sizes
 use Rattle.typing_overloads.specs.declared.product.Product.{Product}
 
--- ---- what a rule asks for
+-- ---- what a rule requires
 
 -- the shape, of the shape that the rule is made of
 abbrev pub required_size : RequiredSize → ConstructorSize → ConstructorSize

@@ -1,4 +1,4 @@
-//! What is asked of rules that are kept one by one.
+//! What is required of rules that are kept one by one.
 
 ghost use Rattle.std.specs.Prelude.{◌≡◌, IfOk, filter, max, min};
 ghost use Rattle.std.specs.List.{fold};

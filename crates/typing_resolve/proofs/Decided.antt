@@ -40,7 +40,7 @@ pub same_rule : (context : Context) (x : PlainExpression) (a b c d p q r s : For
 same_rule context x a b c d p q r s e f g h =
     ap (λ z. rule context x z b c d) e ∙ ap (λ z. rule context x p z c d) f ∙ ap (λ z. rule context x p q z d) g ∙ ap (λ z. rule context x p q r z) h
 
--- what is told of one outcome is told of the same
+-- what is reported of one outcome is reported of the same
 pub told_same : (types : List PlainType) (v w : Result Form TypingFault) (result : Result TypeResolution ResolveRefusal) → v ≡ w → told types (Some v) result ≡ Some v → told types (Some w) result ≡ Some w
 told_same types v w result e t = subst (λ z. told types (Some z) result ≡ Some z) e t
 
@@ -52,7 +52,7 @@ tells context xs place x forms (Some f) stands operands t =
     let faulty : IsFaulty context xs place f = record { expression = x; past = forms; stands = stands; operands = operands; refused = sym (some_is t) } in
     record { faulty = faulty; none = faulty_has_none context xs place f faulty }
 
--- an answer that tells what the rule says of the operands' types is one about the expression
+-- an answer that says what the rule says of the operands' types is one about the expression
 pub decided : (context : Context) (xs : List PlainExpression) (place : ℕ) (x : PlainExpression) (forms : ℕ → Form) (result : Result TypeResolution ResolveRefusal)
     → slice_get xs place ≡ Some x → ((o : ℕ) → IsAmong o (typing_operands x) → HasTypeAmong context xs o (forms o))
     → told context.types (Some (rule_at context x forms)) result ≡ Some (rule_at context x forms) → IsAnswer context xs place result
@@ -60,7 +60,7 @@ decided context xs place x forms (Ok r) stands operands t = has x forms stands o
 decided context xs place x forms (Err (Fault e)) stands operands t = tells context xs place x forms (fault_of e) stands operands t
 decided context xs place x forms (Err (Memory e)) stands operands t = tt
 
--- what four operands are read as, and what is told of the rule for what was read, is what is told of the rule for their types
+-- what four operands are read as, and what is reported of the rule for what was read, is what is reported of the rule for their types
 pub by_reads : (context : Context) (x : PlainExpression) (forms : ℕ → Form) (post : ℕ → Bor TypeResolution → Type 0) (a b c d : Option ℕ) (p q r s : Option (Bor TypeResolution)) (result : Result TypeResolution ResolveRefusal)
     → a ≡ slice_get (typing_operands x) 0 → b ≡ slice_get (typing_operands x) 1 → c ≡ slice_get (typing_operands x) 2 → d ≡ slice_get (typing_operands x) 3
     → (((o : ℕ) (z : Bor TypeResolution) → a ≡ Some o → post o z → form_given context.types z.now ≡ forms o) → given_form context.types p ≡ form_read forms a)

@@ -1,4 +1,4 @@
-//! Texels of images, and what is asked of images.
+//! Texels of images, and what is required of images.
 
 ghost use Rattle.std.specs.Prelude.{◌≡◌, List, None};
 ghost use Rattle.ir_types.specs.Plain.{PlainType, inner_view};
@@ -65,7 +65,7 @@ fn size_type(image: Handle<key::Expression>, of: Form) -> Result<TypeResolution,
     }
 }
 
-// What is asked of an image.
+// What is required of an image.
 pub(crate) fn image_query_type(
     image: Handle<key::Expression>,
     query: ImageQuery,

@@ -60,7 +60,7 @@ covers q r s =
     all_cover (listed q.arguments) (listed r.arguments) (listed s.arguments)
     && (if is_concrete r && is_concrete s then is_concrete q else true)
 
--- what is told already, or one of these rules is left wherever r and s are
+-- what is reported already, or one of these rules is left wherever r and s are
 abbrev pub or_covered : Bool → List Rule → Rule → Rule → Bool
 or_covered true qs r s = true
 or_covered false [] r s = false

@@ -21,7 +21,7 @@ abbrev pub powers : ℕ → ℕ → List ℕ
 powers power zero = []
 powers power (suc count) = power ∷ powers (2 * power) count
 
--- the one bits of a number of 64 bits, each as the power of two that it stands for
+-- the one bits of a number of 64 bits, each as the power of two that it denotes
 abbrev pub one_bits : ℕ → List ℕ
 one_bits bits = chosen bits (powers 1 64)
 

@@ -9,7 +9,7 @@ use Rattle.typing_rules.specs.Types.{value_type_of, listed}
 use Rattle.typing_rules.specs.Ranks.{rank_at, accepts_inner, is_concrete}
 use Rattle.typing_rules.specs.Tables.{table}
 
--- what is asked of rules: that they take an argument of this type at a place, or no abstract argument
+-- what is required of rules: that they take an argument of this type at a place, or no abstract argument
 pub data Demand : Type 0 where
   supplied : (place : ℕ) → (given : PlainInner) → Demand
   concrete : Demand
@@ -27,7 +27,7 @@ abbrev pub IsAmong : {A : Type 0} → A → List A → Type 0
 IsAmong x [] = ⊥
 IsAmong x (y ∷ ys) = (y ≡ x) ⊎ IsAmong x ys
 
--- whatever is asked of the rules of a function: at no supplied argument another rule that is left has a smaller rank than the first one
+-- whatever is required of the rules of a function: at no supplied argument another rule that is left has a smaller rank than the first one
 abbrev pub PreferredIsBest : Type 0
 PreferredIsBest =
     (function : MathFunction) (demands : List Demand) (preferred other : Rule)

@@ -1,4 +1,4 @@
--- What the bits of sets stand for.
+-- What the bits of sets denote.
 use Rattle.std.specs.Prelude.{ℕ, List, [], ◌∷◌, Option, Some, None, map}
 use Rattle.ir_kinds.specs.Scalars.{signed, unsigned, floating, boolean, abstract_int, abstract_float}
 use Rattle.ir_kinds.specs.declared.scalars.Scalar.{Scalar}

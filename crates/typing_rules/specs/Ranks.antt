@@ -18,7 +18,7 @@ abbrev pub rank_if : ValueType → Option ValueType → Option ℕ
 rank_if given (Some wanted) = type_rank given wanted
 rank_if given None = None
 
--- from what is given at a place to what the rule asks for there
+-- from what is given at a place to what the rule requires there
 abbrev pub rank_at : ℕ → ValueType → Rule → Option ℕ
 rank_at place given rule = rank_if given (slice_get (listed rule.arguments) place)
 

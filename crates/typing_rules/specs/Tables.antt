@@ -99,7 +99,7 @@ vector_size _ = None
 abbrev pub word : ValueType
 word = value_type size.Scalar u32
 
--- what a rule asks for
+-- what a rule requires
 abbrev pub arguments_of : Pattern → ConstructorSize → Scalar → Arguments
 arguments_of Same n s = One (value_type n s)
 arguments_of SameTwo n s = Two (value_type n s) (value_type n s)

@@ -120,7 +120,7 @@ static POWERS: [u64; 64] = [
     1 << 63,
 ];
 
-/// The one bits of a number, each as the power of two that it stands for, the lowest first (naga's `OneBitsIter`). In a
+/// The one bits of a number, each as the power of two that it denotes, the lowest first (naga's `OneBitsIter`). In a
 /// contract it is the list of those that are still to come.
 #[derive(Drop)]
 pub struct OneBitsIter {

@@ -197,7 +197,7 @@ pub struct Rule {
 }
 
 impl Rule {
-    /// How far a value of the type is from what the rule asks for at a place, counted from 0, or `None` where it does
+    /// How far a value of the type is from what the rule requires at a place, counted from 0, or `None` where it does
     /// not convert to it, or there is no such argument.
     pub fn rank_at(&self, place: usize, given: ValueType) -> Option<u32>
         ensures { result ≡ rank_at place given self.now }

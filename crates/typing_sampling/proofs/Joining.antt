@@ -135,7 +135,7 @@ module _ {T : Type 0} (eq : T → T → Bool) where
   at_place (x ∷ xs) (y ∷ ys) zero v o lv lo ev eo same rest = ((λ j. eq (sym eo j) (sym ev j)) ∙ same, rest)
   at_place (x ∷ xs) (y ∷ ys) (suc i) v o lv lo ev eo same rest = at_place xs ys i v o (omega (arith, lv)) (omega (arith, lo)) ev eo same rest
 
-  -- what begins so behind a place, and is equal at it, begins so from it on
+  -- what begins so after a place, and is equal at it, begins so from it on
   pub front_step : (vals others : List T) (i j : ℕ) (v o : T) → j ≡ suc i → i < length vals → i < length others → v ≡ get_or vals i v → o ≡ get_or others i o → eq o v ≡ true
       → BeginsWith eq (drop j vals) (drop j others) → BeginsWith eq (drop i vals) (drop i others)
   front_step vals others i j v o next lv lo ev eo same rest =

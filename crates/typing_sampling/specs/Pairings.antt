@@ -28,12 +28,12 @@ first_wrong None other = other
 abbrev pub with_wrong : Option ℕ → Paired → Paired
 with_wrong e t = record { pairs = t.pairs; wrong = first_wrong t.wrong e }
 
--- an expression is wrong where it stands for nothing
+-- an expression is wrong where it denotes nothing
 abbrev pub part_wrong : Option ℕ → Option GlobalOrArgument → Paired → Paired
 part_wrong wrong None t = with_wrong wrong t
 part_wrong wrong (Some part) t = t
 
--- an image and a sampler that stand for these, and the expressions that are wrong where they stand for nothing
+-- an image and a sampler that denote these, and the expressions that are wrong where they denote nothing
 abbrev pub pair_one : (wrong_image wrong_sampler : Option ℕ) → (image sampler : Option GlobalOrArgument) → Paired → Paired
 pair_one wi ws (Some image) (Some sampler) t = with_pair (image, sampler) t
 pair_one wi ws (Some image) None t = with_wrong ws t

@@ -1,4 +1,4 @@
-//! Pairs of images and samplers that a function samples: what its expressions stand for, and the pairs of what it calls, as it
+//! Pairs of images and samplers that a function samples: what its expressions denote, and the pairs of what it calls, as it
 //! sees them.
 #![tactic(auto)]
 

@@ -13,7 +13,7 @@ use std::hash::Hash;
 use typing_infos::SampledPairs;
 
 /// Pairs in the order in which they were found, each once. The first few are a list, or all those of a function that is called,
-/// which has them as well; only those behind them are found by hashes of this list's own: most functions sample few pairs, and a
+/// which has them as well; only those after them are found by hashes of this list's own: most functions sample few pairs, and a
 /// table is dear to make.
 #[derive(Drop)]
 pub struct PairList {
@@ -31,7 +31,7 @@ fn keep<T: Eq + Hash + Drop>(set: &mut IndexSet<T>, value: T) -> Result<(), Allo
     Ok(())
 }
 
-// These values behind others. The error is out of memory.
+// These values after others. The error is out of memory.
 fn append<T: Copy + Drop>(values: &mut Vec<T>, others: &[T]) -> Result<(), AllocError>
     ensures { OnOk result (values.new.items ≡ values.old.items ++ others.now) }
 {

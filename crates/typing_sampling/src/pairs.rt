@@ -26,16 +26,16 @@ pub struct Sampled {
     pub wrong: Option<Handle<key::Expression>>,
 }
 
-/// What an image or a sampler stands for, and the expression that is wrong where it stands for nothing.
+/// What an image or a sampler denotes, and the expression that is wrong where it denotes nothing.
 #[derive(Clone, Copy)]
 pub struct Part {
-    /// What it stands for.
+    /// What it denotes.
     pub means: Option<GlobalOrArgument>,
     /// The expression, if there is one.
     pub wrong: Option<Handle<key::Expression>>,
 }
 
-// What stands for this in a callee, seen from the caller that passes these arguments.
+// What denotes this in a callee, seen from the caller that passes these arguments.
 fn seen(
     expressions: &Expressions,
     arguments: &[Handle<key::Expression>],
@@ -167,7 +167,7 @@ impl Sampled {
         }
     }
 
-    /// Notes an image and a sampler: as a pair where both stand for something, and else the expression that is wrong. The error
+    /// Notes an image and a sampler: as a pair where both denote something, and else the expression that is wrong. The error
     /// is out of memory.
     pub fn pair(&mut self, image: Part, sampler: Part) -> Result<(), AllocError>
         ensures { OnOk result (paired self.new ≡ pair_one image.wrong sampler.wrong image.means sampler.means (paired self.old)) }

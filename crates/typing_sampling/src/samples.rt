@@ -12,7 +12,7 @@ use ir_arena::handle::Handle;
 use ir_types::{Expression, key};
 use std::alloc::AllocError;
 
-// What an operand of a sampling stands for; where it stands for nothing, the sampling is wrong.
+// What an operand of a sampling denotes; where it denotes nothing, the sampling is wrong.
 fn own_part(
     expressions: &Expressions,
     operand: Handle<key::Expression>,

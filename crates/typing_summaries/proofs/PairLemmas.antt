@@ -40,7 +40,7 @@ kept_or_added false ps q p there = (
 inserted : (ps : List SamplingPair) (q p : SamplingPair) → IsAmong p (insert_key pair_eq ps q) ↔ (IsAmong p ps ⊎ (q ≡ p))
 inserted ps q p = kept_or_added (list_any (pair_eq q) ps) ps q p (any_among q ps)
 
--- an image and a sampler stand for the parts of p
+-- an image and a sampler denote the parts of p
 abbrev pub Means : Option GlobalOrArgument → Option GlobalOrArgument → SamplingPair → Type 0
 Means a b p = (a ≡ Some p.0) × (b ≡ Some p.1)
 
@@ -99,7 +99,7 @@ wrong_comes : (o w : Option ℕ) → IsSome w → IsSome (first_wrong o w)
 wrong_comes (Some x) w h = (x, refl)
 wrong_comes None w h = h
 
--- an expression is wrong at a place that stands for nothing
+-- an expression is wrong at a place that denotes nothing
 abbrev pub WrongPart : Option ℕ → Option GlobalOrArgument → ℕ → Type 0
 WrongPart w a e = (w ≡ Some e) × (a ≡ None)
 

@@ -43,7 +43,7 @@ module _ (meaning : ℕ → Option GlobalOrArgument) where
   part_means (false ∷ marks) (x ∷ xs) zero part at e = absurd (cc (at))
   part_means (m ∷ marks) (x ∷ xs) (suc n) part at e = part_means marks xs n part at e
 
--- one part more behind those that were found
+-- one part more after those that were found
 pub one_more : (meaning : ℕ → Option GlobalOrArgument) (parts : List (Option GlobalOrArgument)) (marks : List Bool) (arguments : List ℕ) (i : ℕ) (part : Option GlobalOrArgument) → i < length marks → i < length arguments
     → part ≡ part_if (get_or marks i false) (meaning (get_or arguments i 0))
     → (parts ++ part ∷ []) ++ parts_of meaning (drop (i + 1) marks) (drop (i + 1) arguments) ≡ parts ++ parts_of meaning (drop i marks) (drop i arguments)

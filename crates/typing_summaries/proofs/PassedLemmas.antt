@@ -111,11 +111,11 @@ part_noted : (w : Option ℕ) (b : Option GlobalOrArgument) (t : Paired) (e : �
 part_noted w None t e is = noted w t e is
 part_noted w (Some b) t e is = refl
 
--- it stands for something
+-- it denotes something
 abbrev pub Means : Option GlobalOrArgument → Type 0
 Means a = (x : GlobalOrArgument) × (a ≡ Some x)
 
--- something is wrong, or both stand for something
+-- something is wrong, or both denote something
 abbrev pub Settled : Paired → Option GlobalOrArgument → Option GlobalOrArgument → Type 0
 Settled t a b = ((e : ℕ) × (t.wrong ≡ Some e)) ⊎ (Means a × Means b)
 

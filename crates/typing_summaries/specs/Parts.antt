@@ -2,7 +2,7 @@
 use Rattle.std.specs.Prelude.{◌≡◌, ℕ, Bool, true, false, List, [], ◌∷◌, Option, Some, None, slice_get}
 use Rattle.spec_analysis.specs.declared.sampling.GlobalOrArgument.{GlobalOrArgument}
 
--- what an argument stands for, where it is marked
+-- what an argument denotes, where it is marked
 abbrev pub part_if : Bool → Option GlobalOrArgument → Option GlobalOrArgument
 part_if true part = part
 part_if false part = None
@@ -13,7 +13,7 @@ parts_of meaning [] arguments = []
 parts_of meaning (mark ∷ marks) [] = []
 parts_of meaning (mark ∷ marks) (argument ∷ arguments) = part_if mark (meaning argument) ∷ parts_of meaning marks arguments
 
--- where an argument is marked, what is passed for it stands for something
+-- where an argument is marked, what is passed for it denotes something
 abbrev pub Stands : List Bool → List (Option GlobalOrArgument) → ℕ → Type 0
 Stands marks parts number = slice_get marks number ≡ Some true → (part : GlobalOrArgument) × (slice_get parts number ≡ Some (Some part))
 

@@ -96,7 +96,7 @@ impl Counts {
         self.read(globals, value);
     }
 
-    // The same behind the layer of an image.
+    // The same after the layer of an image.
     #[tactic(auto, using(crate::proofs::Counting::take_append))]
     fn read_texel(
         &mut self,

@@ -61,7 +61,7 @@ fn parts_of(
     Ok(parts)
 }
 
-// Whether something that stands for a part was passed for an argument, where it is marked.
+// Whether something that denotes a part was passed for an argument, where it is marked.
 fn stands(marks: &[bool], parts: &[Option<GlobalOrArgument>], number: usize) -> bool
     ensures { IsTrue result → Stands marks.now parts.now number }
 {

@@ -54,7 +54,7 @@ known_before known y e lt = ap inner_of (get_before known y e lt)
 known_last : (known : List (Option ℕ)) (y : Option ℕ) → known_at (known ++ y ∷ []) (length known) ≡ y
 known_last known y = ap inner_of (get_last known y)
 
--- what stands at p and behind it is this
+-- what stands at p and after it is this
 abbrev OccursFrom : List PlainExpression → ℕ → List (Expression × Span) → Type 0
 OccursFrom xs p entries = (i : ℕ) → slice_get xs (p + i) ≡ slice_get (map expression_view (values_of entries)) i
 

@@ -59,7 +59,7 @@ pub passed : (nodes : List PlainNode) (handle : ℕ) (node : PlainNode) (rule : 
     → slice_get nodes handle ≡ Some node → (¬ (node.rule ≡ standard rule)) → IsNearest nodes node.parent rule s → IsNearest nodes (Some handle) rule s
 passed nodes handle node rule s e other behind = (node ∷ behind.0, (e, behind.1), inr (other, behind.2))
 
--- the severity at a node is its own, or that of the nodes behind it
+-- the severity at a node is its own, or that of the nodes after it
 pub own_or_behind : (nodes : List PlainNode) → ParentsPrecede nodes → (handle : ℕ) (node : PlainNode) (behind s : Option Severity) → slice_get nodes handle ≡ Some node → IsNearest nodes node.parent DerivativeUniformity behind
     → (node.rule ≡ standard DerivativeUniformity) × (s ≡ Some node.severity) ⊎ (¬ (node.rule ≡ standard DerivativeUniformity)) × (s ≡ behind) → IsNearest nodes (Some handle) DerivativeUniformity s
 own_or_behind nodes precede handle node behind s e at (inl own) =
@@ -67,7 +67,7 @@ own_or_behind nodes precede handle node behind s e at (inl own) =
 own_or_behind nodes precede handle node behind s e at (inr other) =
     subst (IsNearest nodes (Some handle) DerivativeUniformity) (sym other.1) (passed nodes handle node DerivativeUniformity behind e other.0 at)
 
--- what stands in a list behind which one more stands
+-- what is in a list after which one more stands
 last_or_before : {X : Type 0} (xs : List X) (x y : X) (k : ℕ) → slice_get (xs ++ x ∷ []) k ≡ Some y → (slice_get xs k ≡ Some y) ⊎ ((k ≡ length xs) × (x ≡ y))
 last_or_before [] x y zero e = inr (refl, cc (e))
 last_or_before [] x y (suc k) e = absurd (cc (e))

@@ -47,7 +47,7 @@ pub record AreSources (m : PlainModule) (f : PlainFunction) (sources : List (Opt
   pub len : length sources ≡ length f.expressions
   pub each : (e : ℕ) → e < length f.expressions → IsExact (known_at sources e) (ComesFrom m f e)
 
--- It tells a source of the value of the expression at a place, if there is one, and what the expression asks for.
+-- It tells a source of the value of the expression at a place, if there is one, and what the expression requires.
 pub record IsUniformity (m : PlainModule) (f : PlainFunction) (e : ℕ) (u : Uniformity) : Type 0 where
   pub source : IsExact u.non_uniform_result (ComesFrom m f e)
   pub requirements : u.requirements.0 ≡ requirement_at f.expressions e

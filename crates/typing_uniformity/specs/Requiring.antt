@@ -19,7 +19,7 @@ abbrev pub requirement_in : Option Uniformity → ℕ
 requirement_in None = 0
 requirement_in (Some u) = u.requirements.0
 
--- what the expression asks for
+-- what the expression requires
 abbrev pub required_of : List Uniformity → ℕ → ℕ
 required_of uniformities e = requirement_in (slice_get uniformities e)
 
@@ -29,7 +29,7 @@ is_error Info = false
 is_error Warning = false
 is_error Error = true
 
--- what is asked for counts
+-- what is required for counts
 abbrev pub counts : Severity → ℕ → Bool
 counts severity bits = (bits == COOP_OPS.0) || (is_error severity && ((bits == DERIVATIVE.0) || (bits == IMPLICIT_LEVEL.0)))
 
@@ -48,7 +48,7 @@ pub record AreNext (test : ℕ → Bool) (count : ℕ) (next : List ℕ) : Type 
   pub len : length next ≡ count
   pub each : (k : ℕ) → k < count → IsNext test count k (slice_index_or next k 0)
 
--- a fault as what is asked
+-- a fault as what is required
 abbrev pub required_view : NonUniform → Required
 required_view f = record { requirement = f.requirements.0; expression = f.expression }
 

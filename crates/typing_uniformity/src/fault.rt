@@ -21,12 +21,12 @@ use spec_analysis::{Uniformity, UniformityRequirements};
 use std::alloc::{AllocError, Global};
 use typing_errors::{FunctionError, UniformityDisruptor};
 
-/// What asks that all invocations arrive at it together, and stands where they may not.
+/// What requires that all invocations arrive at it together, and stands where they may not.
 #[derive(Clone, Copy, Debug)]
 pub struct NonUniform {
     /// What it asks for.
     pub requirements: UniformityRequirements,
-    /// The expression that asks, or the answer of the statement that does.
+    /// The expression that asks, or the result of the statement that does.
     pub expression: Handle<key::Expression>,
     /// What makes invocations differ: the first of a choice around it and of an end before it.
     pub disruptor: UniformityDisruptor,

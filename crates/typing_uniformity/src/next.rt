@@ -16,7 +16,7 @@ fn is_error(severity: Severity) -> bool
     }
 }
 
-// Whether what is asked for counts.
+// Whether what is required for counts.
 fn counts(severity: Severity, requirements: UniformityRequirements) -> bool
     ensures { result ≡ counts severity requirements.0 }
 {

@@ -7,7 +7,7 @@ ghost use Rattle.spec_analysis.specs.Values.{requirements_of};
 use ir_types::Expression;
 use spec_analysis::UniformityRequirements;
 
-// What the expression itself asks of control flow, if anything.
+// What the expression itself requires of control flow, if anything.
 pub(crate) fn requirements_of(expression: &Expression) -> UniformityRequirements
     ensures { result.0 ≡ requirements_of (expression_view expression.now) }
 {

@@ -73,7 +73,7 @@ fn nearest_by(
     nearest(filters, start, DERIVATIVES)
 }
 
-// The severity at a node of which this is that of the nodes behind it.
+// The severity at a node of which this is that of the nodes after it.
 fn own_or(node: &DiagnosticFilterNode, behind: Option<Severity>) -> Option<Severity>
     ensures { ((node_view node.now).rule ≡ standard DerivativeUniformity) × (result ≡ Some (node_view node.now).severity)
         ⊎ (¬ ((node_view node.now).rule ≡ standard DerivativeUniformity)) × (result ≡ behind) }
@@ -127,7 +127,7 @@ pub fn derivative_severity(function: &Function, module: &Module) -> Severity
 }
 
 /// The same, where this is known of the module's diagnostic filters (see [`severities_of`]). Of a leaf of which nothing is known
-/// the nodes behind it are gone through.
+/// the nodes after it are gone through.
 pub fn derivative_severity_by(
     known: &[Option<Severity>],
     function: &Function,

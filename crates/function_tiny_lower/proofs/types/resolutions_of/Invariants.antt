@@ -1,4 +1,4 @@
--- What was told of the types that were passed, with what is told of the rest, is that of all.
+-- What was reported of the types that were passed, with what is reported of the rest, is that of all.
 use Rattle.std.proofs.Common.{◌≡◌, ◌++◌, drop, map}
 use Rattle.function_tiny_lower.specs.Values.{resolution_of}
 use Rattle.function_tiny_lower.proofs.types.resolutions_of.Given as goal

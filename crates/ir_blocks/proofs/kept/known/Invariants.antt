@@ -1,4 +1,4 @@
--- What is behind the first `count` is undefined.
+-- What is after the first `count` is undefined.
 use Rattle.std.proofs.Common.{◌≡◌, ◌≤◌, length, take}
 use Rattle.ir_blocks.specs.Padded.{up_to_defined}
 use Rattle.ir_blocks.proofs.kept.known.Given as goal

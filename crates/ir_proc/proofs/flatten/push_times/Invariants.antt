@@ -1,4 +1,4 @@
--- As many as were counted stand behind what stood.
+-- As many as were counted stand after what stood.
 use Rattle.std.proofs.Common.{◌≡◌, ◌++◌, replicate}
 use Rattle.ir_proc.proofs.flatten.push_times.Given as goal
 

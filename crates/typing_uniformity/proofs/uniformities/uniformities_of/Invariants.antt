@@ -1,4 +1,4 @@
--- What was told with what the rest tells is what all tell.
+-- What was reported with what the rest tells is what all tell.
 use Rattle.std.proofs.Common.{◌≡◌, ◌++◌, map}
 use Rattle.ir_arena.specs.Handles.{handles_from}
 use Rattle.typing_uniformity.specs.Reported.{told, all_reported}
