@@ -11,4 +11,4 @@ for name in functions whole; do
     python3 "$crate/make_data.py" --corpus "$name" "$1/$name.jsonl" "$room" || exit 1
 done
 echo '["functions.json", "whole.json"]' > "$room/files.json"
-cd "$room" && "$crate/out/cases" < /dev/null
+cd "$room" && "$crate/out/test_cases" < /dev/null

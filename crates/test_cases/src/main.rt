@@ -2,7 +2,7 @@
 //! checks and of items of the IR that standard input asks for, and prints the answers.
 //!
 //! A line of standard input is a list: the call, and what it is given. Beside it stands the answer. A line that is a text
-//! is a heading. The program runs where the data files lie: by hand it is `cd data && ../out/cases < ../stdin`.
+//! is a heading. The program runs where the data files lie: by hand it is `cd data && ../out/test_cases < ../stdin`.
 #![tactic(auto)]
 
 mod blocks;
