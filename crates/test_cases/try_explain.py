@@ -16,7 +16,7 @@ from pathlib import Path
 import format_cases
 
 DATA = Path(__file__).resolve().parent / "data"
-LINE = re.compile(r"no document: (?:(?P<place>[^:]*): )?(?P<wanted>.*) is wanted\n")
+LINE = re.compile(r"no document: (?:(?P<place>[^:]*): )?(?P<wanted>.*?) is wanted(?:;.*)?\n")
 SIMPLE = [None, True, 0, 1, 2, 8, "x", "xyzw", [], ["another name", ["Scalar", "u32"]]]
 
 

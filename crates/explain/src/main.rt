@@ -1,45 +1,75 @@
-// Tells in one line why the document on standard input is refused, and where; with the argument `--leaves` whether it is, and
-// of an accepted one what lies inside its buffers.
+// Prints why the document on standard input is refused, and where: in one line, with `--names` with the error by its name after it,
+// or with `--json` as one JSON object; with `--leaves` whether it is, and of an accepted one what lies inside its buffers.
 #![tactic(auto)]
 
-mod explanation;
-mod names;
-mod parts;
-mod place;
-
+use check_explanation::{Explanation, Requested, explain};
 use check_ports::{Source, TakeError};
-use explanation::{Explanation, explain};
 use shader_check::MAX_TAKEN;
 use std::env::args;
+use std::io;
 use std::process::ExitCode;
+
+// In which form.
+#[derive(Clone, Copy)]
+enum Form {
+    Line,
+    LineWithNames,
+    Leaves,
+    Object,
+}
 
 fn fault(rt: &HostRuntime, message: &str) -> ExitCode {
     let _ = eprintln!(rt; "fault: {message}");
     ExitCode::from(2)
 }
 
-// Whether the leaves of buffers are asked for. `None` says that there is no memory for the arguments.
-fn wants_leaves(rt: &HostRuntime) -> Option<bool> {
+// The form that the arguments name. `None` says that there is no memory for them.
+fn wanted_form(rt: &HostRuntime) -> Option<Form> {
     let Ok(words) = args(rt) else {
         return None;
     };
+    let mut form = Form::Line;
     for word in words {
-        if word.as_str() == "--leaves" {
-            return Some(true);
+        match word.as_str() {
+            "--leaves" => form = Form::Leaves,
+            "--json" => form = Form::Object,
+            "--names" => form = Form::LineWithNames,
+            _ => {}
         }
     }
-    Some(false)
+    Some(form)
 }
 
-// Says what is found, in one line or with the lines of buffers.
-fn tell(rt: &HostRuntime, leaves: bool, explanation: &Explanation) -> ExitCode {
-    let written = if leaves {
-        match explanation.listing(rt.alloc()) {
+// What is to be known of an accepted document for this form.
+fn requested_by(form: Form) -> Requested {
+    match form {
+        Form::Line | Form::LineWithNames => Requested::Nothing,
+        Form::Leaves => Requested::Leaves,
+        Form::Object => Requested::Report,
+    }
+}
+
+// Prints the line, with the error by its name after it.
+fn print_names(rt: &HostRuntime, explanation: &Explanation) -> io::Result<()> {
+    match explanation.error_name() {
+        Some(error) => println!(rt; "{explanation} ({error})"),
+        None => println!(rt; "{explanation}"),
+    }
+}
+
+// Prints what is found.
+fn print_explanation(rt: &HostRuntime, form: Form, explanation: &Explanation) -> ExitCode {
+    let written = match form {
+        Form::Line => println!(rt; "{explanation}"),
+        Form::LineWithNames => print_names(rt, explanation),
+        Form::Leaves => match explanation.listing(rt.alloc()) {
             Ok(text) => print!(rt; "{text}"),
             Err(_) => return fault(rt, "memory"),
-        }
-    } else {
-        println!(rt; "{explanation}")
+        },
+        Form::Object => match explanation.json(rt.alloc()) {
+            Ok(text) => println!(rt; "{text}"),
+            Err(_) => return fault(rt, "memory"),
+        },
     };
     match written {
         Ok(()) => ExitCode::from(status(explanation)),
@@ -50,12 +80,12 @@ fn tell(rt: &HostRuntime, leaves: bool, explanation: &Explanation) -> ExitCode {
 fn status(explanation: &Explanation) -> u8 {
     match explanation {
         Explanation::Accepted { .. } => 0,
-        Explanation::NoDocument(_) | Explanation::Refused(..) => 1,
+        Explanation::NoDocument(..) | Explanation::Refused(..) => 1,
     }
 }
 
 fn main(rt: HostRuntime) -> ExitCode {
-    let Some(leaves) = wants_leaves(&rt) else {
+    let Some(form) = wanted_form(&rt) else {
         return fault(&rt, "memory");
     };
     let mut source = Source::new(rt.reader());
@@ -64,8 +94,8 @@ fn main(rt: HostRuntime) -> ExitCode {
         Err(TakeError::Memory) => return fault(&rt, "memory"),
         Err(TakeError::Read) => return fault(&rt, "read"),
     };
-    match explain(rt.alloc(), leaves, &bytes) {
-        Ok(explanation) => tell(&rt, leaves, &explanation),
+    match explain(rt.alloc(), requested_by(form), &bytes) {
+        Ok(explanation) => print_explanation(&rt, form, &explanation),
         Err(_) => fault(&rt, "memory"),
     }
 }

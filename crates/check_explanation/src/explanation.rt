@@ -1,0 +1,288 @@
+// What is found of a document, and where that shows.
+ghost use Rattle.std.specs.Prelude.{◌≡◌, ◌++◌, IfOk, string_bytes};
+ghost use Rattle.check_explanation.specs.Explained.{finding_of};
+ghost use Rattle.judgement.specs.Text.{text_of};
+ghost use Rattle.check_explanation.specs.Listed.{CanReport, CanReportIn, Follows, FollowsOn, ListsAsRequested, lines_of};
+ghost use Rattle.ir_items.specs.View.{module_view};
+ghost use Rattle.shader_check.specs.Examined.{finding_in};
+ghost use Rattle.shader_check.specs.Theorem.{Judged};
+
+use crate::refused::{RefusedItem, refused_item, value_of};
+use crate::types::type_texts;
+use check_json::{Refused, accepted_value, no_document_value, refused_value};
+use check_reasons::{PathNames, Slip, hint};
+use check_report::{leaf_report, report};
+use document_forms::Place;
+use document_reader::{DocumentError, MAX_LEN, read_document};
+use ir_items::Module;
+use shader_check::{Examined, Finding, ValidationError, examine_document, refused_by};
+use std::alloc::{AllocError, Global};
+use std::fmt::{self, Display};
+use typing_infos::ModuleInfo;
+
+/// What is to be known of an accepted document beside that.
+#[derive(Clone, Copy, Debug, PartialEq, Eq)]
+pub enum Requested {
+    /// Nothing.
+    Nothing,
+    /// The lines of its buffers, each with those of its leaves.
+    Leaves,
+    /// The report.
+    Report,
+}
+
+/// What is found of a document, and where that shows.
+#[derive(Debug, Drop)]
+pub enum Explanation {
+    /// The bytes spell no document. The error is not of memory. With what they look like, or what stands where the slip is.
+    NoDocument(DocumentError, String),
+    /// No step fails.
+    Accepted {
+        /// Scope was checked strictly.
+        strict: bool,
+        /// The lines that were requested.
+        lines: String,
+    },
+    /// A step fails: why, and the first item that fails it.
+    Refused(ValidationError, RefusedItem),
+}
+
+// The lines of a module that are requested.
+fn lines(
+    alloc: Global,
+    requested: Requested,
+    module: &Module,
+    info: &ModuleInfo,
+) -> Result<String, AllocError>
+    requires can { CanReport (module_view «module».now) info.now }
+    ensures { IfOk result (λ lines. ListsAsRequested requested (module_view «module».now) (string_bytes lines)) }
+{
+    match requested {
+        Requested::Nothing => Ok(String::new(alloc)),
+        Requested::Leaves => leaf_report(alloc, module, info),
+        Requested::Report => report(alloc, module, info),
+    }
+}
+
+// The item of a module that is refused.
+fn item(
+    alloc: Global,
+    bytes: &[u8],
+    module: &Module,
+    error: &ValidationError,
+) -> Result<RefusedItem, AllocError> {
+    let types = type_texts(alloc, module, error)?;
+    refused_item(alloc, bytes, error, &types)
+}
+
+// The explanation of what is found.
+fn explained(
+    alloc: Global,
+    requested: Requested,
+    bytes: &[u8],
+    examined: Examined,
+    module: &Module,
+) -> Result<Explanation, AllocError>
+    requires can { CanReportIn (module_view «module».now) examined }
+    ensures finding { IfOk result (λ e. finding_of e ≡ finding_in examined) }
+    ensures lines { IfOk result (FollowsOn requested (module_view «module».now)) }
+{
+    match examined {
+        Examined::Accepted { strict, info } => Ok(Explanation::Accepted {
+            strict,
+            lines: lines(alloc, requested, module, &info)?,
+        }),
+        Examined::Refused(error) => {
+            let item = item(alloc, bytes, module, &error)?;
+            Ok(Explanation::Refused(error, item))
+        }
+    }
+}
+
+// What stands at a place of bytes that are no document, where this is wanted there.
+fn slip(alloc: Global, bytes: &[u8], place: &Place, wanted: &str) -> Result<String, AllocError> {
+    let document = value_of(alloc, bytes)?;
+    let slip = Slip {
+        document: &document,
+        path: place.steps(),
+        wanted,
+    };
+    format!(in alloc; "{slip}")
+}
+
+// What bytes look like that are no JSON.
+fn looks(alloc: Global, bytes: &[u8]) -> Result<String, AllocError> {
+    let found = hint(bytes);
+    if found.is_empty() {
+        Ok(String::new(alloc))
+    } else {
+        format!(in alloc; ": {found}")
+    }
+}
+
+/// The explanation of the document that the bytes spell, with the lines of its module that are requested, where that is accepted. The
+/// error says that there is no memory.
+pub fn explain(alloc: Global, requested: Requested, bytes: &[u8]) -> Result<Explanation, AllocError>
+    ensures finding { IfOk result (λ e. Judged bytes.now (finding_of e)) }
+    ensures lines { IfOk result (Follows requested bytes.now) }
+{
+    match read_document(alloc, bytes) {
+        Ok(mut document) => {
+            let examined = examine_document(alloc, &mut document)?;
+            explained(alloc, requested, bytes, examined, &document.module)
+        }
+        Err(DocumentError::Memory) => Err(AllocError),
+        Err(DocumentError::TooLong) => {
+            let hint = String::new(alloc);
+            Ok(Explanation::NoDocument(DocumentError::TooLong, hint))
+        }
+        Err(DocumentError::NotJson { line, column }) => {
+            let hint = looks(alloc, bytes)?;
+            Ok(Explanation::NoDocument(DocumentError::NotJson { line, column }, hint))
+        }
+        Err(DocumentError::Malformed { place, wanted }) => {
+            let hint = slip(alloc, bytes, &place, wanted.text())?;
+            Ok(Explanation::NoDocument(DocumentError::Malformed { place, wanted }, hint))
+        }
+    }
+}
+
+// Where in the document it is, unless it is the whole.
+fn write_place<W: fmt::Write>(f: &mut fmt::Formatter<W>, place: &Place) -> fmt::Result {
+    let steps = place.steps();
+    if steps.is_empty() {
+        return Ok(());
+    }
+    write!(f, "{}: ", PathNames(steps))
+}
+
+// Why the bytes spell no document.
+fn write_error<W: fmt::Write>(f: &mut fmt::Formatter<W>, error: &DocumentError) -> fmt::Result {
+    match error {
+        DocumentError::Memory => write!(f, "out of memory"),
+        DocumentError::TooLong => write!(f, "more than {} bytes", MAX_LEN),
+        DocumentError::NotJson { line, column } => {
+            write!(f, "no JSON at line {line}, column {column}")
+        }
+        DocumentError::Malformed { place, wanted } => {
+            write_place(f, place)?;
+            write!(f, "{} is wanted", wanted.text())
+        }
+    }
+}
+
+// The step that fails and the item that fails it, with its name.
+fn write_item<W: fmt::Write>(f: &mut fmt::Formatter<W>, item: &RefusedItem) -> fmt::Result {
+    let step = item.step;
+    match (item.index, &item.name) {
+        (Some(index), Some(name)) => write!(f, "refused {step} {index} {name:?}: "),
+        (Some(index), None) => write!(f, "refused {step} {index}: "),
+        (None, _) => write!(f, "refused {step}: "),
+    }
+}
+
+// The indexes of the place where bytes are no document.
+fn steps_of(error: &DocumentError) -> &[u32] {
+    match error {
+        DocumentError::Malformed { place, .. } => place.steps(),
+        DocumentError::Memory | DocumentError::TooLong | DocumentError::NotJson { .. } => &[],
+    }
+}
+
+// Why the bytes spell no document, with what stands there.
+#[derive(Clone, Copy)]
+struct Misformed<'a>(&'a DocumentError, &'a str);
+
+impl Display for Misformed<'_> {
+    fn fmt<W: fmt::Write>(&self, f: &mut fmt::Formatter<W>) -> fmt::Result {
+        write_error(f, self.0)?;
+        write!(f, "{}", self.1)
+    }
+}
+
+// The object of bytes that spell no document.
+fn no_document(alloc: Global, error: &DocumentError, hint: &str) -> Result<String, AllocError> {
+    let text = format!(in alloc; "{}", Misformed(error, hint))?;
+    let steps = steps_of(error);
+    let path = format!(in alloc; "{}", PathNames(steps))?;
+    no_document_value(alloc, &path, steps, &text)?.to_string(alloc)
+}
+
+// The object of a refused item.
+fn refused_object(alloc: Global, item: &RefusedItem) -> Result<String, AllocError> {
+    let steps: &[u32] = &item.path;
+    let path = format!(in alloc; "{}", PathNames(steps))?;
+    let name = match &item.name {
+        Some(name) => Some(name.as_str()),
+        None => None,
+    };
+    let refused = Refused {
+        step: item.step,
+        index: item.index,
+        name,
+        error: &item.error,
+        path: &path,
+        steps,
+        text: &item.text,
+    };
+    refused_value(alloc, &refused)?.to_string(alloc)
+}
+
+impl Explanation {
+    /// What is found.
+    pub fn finding(&self) -> Finding
+        ensures { result ≡ finding_of self.now }
+    {
+        match self {
+            Explanation::NoDocument(..) => Finding::RefusedDocument,
+            Explanation::Accepted { strict, .. } => Finding::Accepted { strict: *strict },
+            Explanation::Refused(error, _) => refused_by(error),
+        }
+    }
+
+    /// The line of what is found, and after it the lines that were requested. The error is out of memory.
+    pub fn listing(&self, alloc: Global) -> Result<String, AllocError>
+        ensures { IfOk result (λ text. string_bytes text ≡ text_of (finding_of self.now) ++ lines_of self.now) }
+    {
+        let mut text = self.finding().text(alloc)?;
+        if let Explanation::Accepted { lines, .. } = self {
+            text.push_str(lines)?;
+        }
+        Ok(text)
+    }
+
+    /// One JSON object with all of it, in one line without its end. The error is out of memory.
+    pub fn json(&self, alloc: Global) -> Result<String, AllocError> {
+        match self {
+            Explanation::NoDocument(error, hint) => no_document(alloc, error, hint),
+            Explanation::Accepted { strict, lines } => {
+                accepted_value(alloc, *strict, lines)?.to_string(alloc)
+            }
+            Explanation::Refused(_, item) => refused_object(alloc, item),
+        }
+    }
+
+    /// The error by its name, with all that it holds, of a document that a step refuses.
+    pub fn error_name(&self) -> Option<&str> {
+        match self {
+            Explanation::Refused(_, item) => Some(item.error.as_str()),
+            Explanation::NoDocument(..) | Explanation::Accepted { .. } => None,
+        }
+    }
+}
+
+impl Display for Explanation {
+    fn fmt<W: fmt::Write>(&self, f: &mut fmt::Formatter<W>) -> fmt::Result {
+        match self {
+            Explanation::NoDocument(error, hint) => {
+                write!(f, "no document: {}", Misformed(error, hint))
+            }
+            Explanation::Accepted { strict: false, .. } => write!(f, "accepted"),
+            Explanation::Accepted { strict: true, .. } => write!(f, "accepted strict"),
+            Explanation::Refused(_, item) => {
+                write_item(f, item)?;
+                write!(f, "{}", item.text.as_str())
+            }
+        }
+    }
+}

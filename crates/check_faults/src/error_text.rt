@@ -1,0 +1,212 @@
+// An error as its name tells it, cut into its parts: `Name`, `Name(part, part)` or `Name { field: part }`.
+
+use std::str::from_utf8;
+
+// Where a look through an error is: how many brackets are open, and whether it is inside a text.
+#[derive(Clone, Copy)]
+struct Scan {
+    depth: u32,
+    quoted: bool,
+    escaped: bool,
+}
+
+impl Scan {
+    fn start() -> Scan {
+        Scan {
+            depth: 0,
+            quoted: false,
+            escaped: false,
+        }
+    }
+
+    // After one byte more.
+    fn after(self, byte: u8) -> Scan {
+        if self.quoted {
+            return Scan {
+                depth: self.depth,
+                quoted: self.escaped || byte != b'"',
+                escaped: !self.escaped && byte == b'\\',
+            };
+        }
+        let depth = match byte {
+            b'(' | b'[' | b'{' | b'<' => self.depth.saturating_add(1),
+            b')' | b']' | b'}' | b'>' => self.depth.saturating_sub(1),
+            _ => self.depth,
+        };
+        Scan {
+            depth,
+            quoted: byte == b'"',
+            escaped: false,
+        }
+    }
+
+    fn is_outside(self) -> bool {
+        self.depth == 0 && !self.quoted
+    }
+}
+
+// How many bytes come before the first such byte that stands in no brackets, or before the end.
+fn length_before(text: &[u8], end: u8) -> usize {
+    let mut scan = Scan::start();
+    for (index, byte) in text.iter().enumerate() {
+        if *byte == end && scan.is_outside() {
+            return index;
+        }
+        scan = scan.after(*byte);
+    }
+    text.len()
+}
+
+fn front(text: &[u8], count: usize) -> &[u8] {
+    text.get(..count).unwrap_or(&[])
+}
+
+fn back(text: &[u8], count: usize) -> &[u8] {
+    text.get(count..).unwrap_or(&[])
+}
+
+fn is_name(byte: u8) -> bool {
+    byte.is_ascii_alphanumeric() || byte == b'_'
+}
+
+// How many bytes of a name stand in front.
+fn name_length(text: &[u8]) -> usize {
+    for (index, byte) in text.iter().enumerate() {
+        if !is_name(*byte) {
+            return index;
+        }
+    }
+    text.len()
+}
+
+// The bytes without a space in front and one at the end.
+fn trimmed(text: &[u8]) -> &[u8] {
+    let rest = text.strip_prefix(b" ").unwrap_or(text);
+    rest.strip_suffix(b" ").unwrap_or(rest)
+}
+
+/// The name that an error begins with.
+pub fn head(error: &[u8]) -> &[u8] {
+    front(error, name_length(error))
+}
+
+/// What stands in the brackets after the name of an error.
+pub fn inside(error: &[u8]) -> &[u8] {
+    let rest = trimmed(back(error, name_length(error)));
+    match rest.split_first() {
+        Some((first, rest)) if *first == b'(' || *first == b'{' => {
+            trimmed(front(rest, rest.len().saturating_sub(1)))
+        }
+        _ => &[],
+    }
+}
+
+// The parts after the first one.
+fn later_parts(parts: &[u8]) -> &[u8] {
+    trimmed(back(parts, length_before(parts, b',').saturating_add(1)))
+}
+
+// A part without the name of its field.
+fn value_of(part: &[u8]) -> &[u8] {
+    let count = length_before(part, b':');
+    if count < part.len() {
+        trimmed(back(part, count.saturating_add(1)))
+    } else {
+        part
+    }
+}
+
+/// The part at an index, empty where there is none.
+pub fn part(error: &[u8], index: usize) -> &[u8] {
+    value_of(named_part(error, index))
+}
+
+/// The part of this name, which is the name of a field or a digit, empty where there is none.
+pub fn field<'a>(error: &'a [u8], name: &str) -> &'a [u8] {
+    if let Ok(index) = name.parse::<u8>() {
+        return part(error, usize::from(index));
+    }
+    let mut parts = inside(error);
+    for _ in 0..16 {
+        let first = front(parts, length_before(parts, b','));
+        if front(first, length_before(first, b':')) == name.as_bytes() {
+            return value_of(first);
+        }
+        parts = later_parts(parts);
+    }
+    &[]
+}
+
+// What is there, of a part that may be missing.
+fn given(part: &[u8]) -> &[u8] {
+    if name_of(part) == "Some" {
+        inside(part)
+    } else {
+        part
+    }
+}
+
+/// The bytes as a text.
+pub fn text_of(bytes: &[u8]) -> &str {
+    from_utf8(bytes).unwrap_or("")
+}
+
+/// The name that an error begins with, as a text.
+pub fn name_of(error: &[u8]) -> &str {
+    text_of(head(error))
+}
+
+/// The number that a part is, or that of the handle that it is.
+pub fn number(part: &[u8]) -> Option<usize> {
+    let bare = given(part);
+    let open = bare.strip_prefix(b"[").unwrap_or(bare);
+    let digits = open.strip_suffix(b"]").unwrap_or(open);
+    text_of(digits).parse::<usize>().ok()
+}
+
+/// A part that is a text, without its quotes.
+pub fn quoted(part: &[u8]) -> &[u8] {
+    let rest = part.strip_prefix(b"\"").unwrap_or(part);
+    rest.strip_suffix(b"\"").unwrap_or(rest)
+}
+
+// The part at an index with the name of its field.
+fn named_part(error: &[u8], index: usize) -> &[u8] {
+    let mut parts = inside(error);
+    for _ in 0..index {
+        parts = later_parts(parts);
+    }
+    front(parts, length_before(parts, b','))
+}
+
+/// The name of the field at an index, empty where it has none.
+pub fn field_name(error: &[u8], index: usize) -> &[u8] {
+    let found = named_part(error, index);
+    let count = length_before(found, b':');
+    if count < found.len() {
+        front(found, count)
+    } else {
+        &[]
+    }
+}
+
+/// How many parts an error has, of which it has 16 at most.
+pub fn part_count(error: &[u8]) -> usize {
+    let mut parts = inside(error);
+    for count in 0..16usize {
+        if parts.is_empty() {
+            return count;
+        }
+        parts = later_parts(parts);
+    }
+    16
+}
+
+/// The place of the handle that a part of an error is, nothing where it is something else.
+pub fn handle(part: &[u8]) -> Option<usize> {
+    if part.first() == Some(&b'[') {
+        number(part)
+    } else {
+        None
+    }
+}

@@ -1,0 +1,390 @@
+// The first item that names something which is not there, or comes too late.
+
+use crate::walk::{Rule, Scene, Search, find_statement, step};
+use check_faults::document::{along, at, number_at, parts, word};
+use check_faults::forms::{Names, Part, does_name, expression_parts};
+use serde_json::Value;
+use std::alloc::AllocError;
+
+/// What is named, and by which item where that is known.
+#[derive(Clone, Copy)]
+pub struct Target {
+    pub named: Names,
+    pub index: usize,
+    pub subject: Option<usize>,
+}
+
+const T: Names = Names::Type;
+
+const E: Names = Names::Expression;
+
+static CONSTANT: [Part; 2] = [(1, T), (2, E)];
+
+static OVERRIDE: [Part; 2] = [(2, T), (3, E)];
+
+static GLOBAL: [Part; 2] = [(3, T), (4, E)];
+
+static ARGUMENT: [Part; 1] = [(1, T)];
+
+static OUTPUT: [Part; 1] = [(0, T)];
+
+static LOCAL: [Part; 2] = [(1, T), (2, E)];
+
+static MESH: [Part; 5] = [(2, E), (4, E), (5, T), (6, T), (7, Names::Global)];
+
+static PAYLOAD: [Part; 1] = [(5, Names::Global)];
+
+static FILTER: [Part; 1] = [(2, Names::Filter)];
+
+static BASE: [Part; 2] = [(1, T), (2, Names::Override)];
+
+static SPECIAL: [Part; 3] = [(0, T), (1, T), (2, T)];
+
+static FUNCTION: [Part; 1] = [(6, Names::Filter)];
+
+impl Target {
+    // Whether it can be the item at this index that names it.
+    fn may_be(&self, index: usize) -> bool {
+        match self.subject {
+            Some(subject) => subject == index,
+            None => true,
+        }
+    }
+
+    fn is_named(&self, item: &Value, form: &[Part]) -> bool {
+        does_name(item, form, self.named, self.index)
+    }
+
+    // The index of the first item of a list that names it by these parts.
+    fn found_in(&self, list: Option<&Value>, form: &[Part]) -> Option<usize> {
+        for (index, item) in parts(list?).iter().enumerate() {
+            if self.may_be(index) && self.is_named(item, form) {
+                return Some(index);
+            }
+        }
+        None
+    }
+
+    // The same of expressions.
+    fn expression_in(&self, list: Option<&Value>) -> Option<usize> {
+        for (index, item) in parts(list?).iter().enumerate() {
+            let form = expression_parts(item);
+            let may_be = self.named != E || self.may_be(index);
+            if may_be && self.is_named(item, form) {
+                return Some(index);
+            }
+        }
+        None
+    }
+
+    fn is_in_inner(&self, inner: &Value) -> bool {
+        match word(inner) {
+            "Pointer" | "Array" | "BindingArray" => self.is_named(inner, &BASE),
+            "Struct" => match at(inner, 1) {
+                Some(members) => {
+                    let any = Target {
+                        named: self.named,
+                        index: self.index,
+                        subject: None,
+                    };
+                    any.found_in(Some(members), &ARGUMENT).is_some()
+                }
+                None => false,
+            },
+            _ => false,
+        }
+    }
+
+    // The same of types.
+    fn type_in(&self, document: &Value) -> Option<usize> {
+        for (index, item) in parts(at(document, 5)?).iter().enumerate() {
+            if let Some(inner) = at(item, 1) {
+                if self.may_be(index) && self.is_in_inner(inner) {
+                    return Some(index);
+                }
+            }
+        }
+        None
+    }
+
+    // The list of the document's own items and the index in it.
+    fn item_in(&self, document: &Value) -> Option<(u32, usize)> {
+        if let Some(index) = self.type_in(document) {
+            return Some((5, index));
+        }
+        if self.named == E && !self.may_lack(at(document, 10)) {
+            return None;
+        }
+        if let Some(index) = self.found_in(at(document, 8), &CONSTANT) {
+            return Some((8, index));
+        }
+        if let Some(index) = self.found_in(at(document, 9), &OVERRIDE) {
+            return Some((9, index));
+        }
+        if let Some(index) = self.found_in(at(document, 11), &GLOBAL) {
+            return Some((11, index));
+        }
+        let index = self.expression_in(at(document, 10))?;
+        Some((10, index))
+    }
+
+    // Whether a list of so many may lack it: a handle of a list that has it is none that is refused.
+    fn may_lack(&self, list: Option<&Value>) -> bool {
+        match list {
+            Some(list) => self.subject.is_some() || self.index >= parts(list).len(),
+            None => false,
+        }
+    }
+
+    // Whether it may be named in a function.
+    fn may_be_in(&self, function: &Value) -> bool {
+        match self.named {
+            Names::Expression => self.may_lack(at(function, 4)),
+            Names::Local => self.may_lack(at(function, 3)),
+            _ => true,
+        }
+    }
+
+    // The list of a function's items and the index in it.
+    fn item_of(&self, function: &Value) -> Option<(u32, usize)> {
+        if let Some(index) = self.found_in(at(function, 1), &ARGUMENT) {
+            return Some((1, index));
+        }
+        if let Some(index) = self.found_in(at(function, 3), &LOCAL) {
+            return Some((3, index));
+        }
+        let index = self.expression_in(at(function, 4))?;
+        Some((4, index))
+    }
+
+    // The part of a function that names it by itself.
+    fn part_of(&self, function: &Value) -> Option<u32> {
+        if let Some(output) = at(function, 2) {
+            if self.is_named(output, &OUTPUT) {
+                return Some(2);
+            }
+        }
+        if self.is_named(function, &FUNCTION) {
+            Some(6)
+        } else {
+            None
+        }
+    }
+}
+
+// Looks through a function, and puts the way at the end of the path.
+fn find_in_function(
+    target: &Target,
+    function: &Value,
+    path: &mut Vec<u32>,
+) -> Result<bool, AllocError> {
+    if !target.may_be_in(function) {
+        return Ok(false);
+    }
+    if let Some((list, index)) = target.item_of(function) {
+        path.push(list)?;
+        path.push(step(index))?;
+        return Ok(true);
+    }
+    if let Some(part) = target.part_of(function) {
+        path.push(part)?;
+        return Ok(true);
+    }
+    find_in_body(target, function, path)
+}
+
+// Where nothing is to be known of expressions.
+fn scene_of(value: &Value) -> Scene<'_> {
+    Scene {
+        document: value,
+        expressions: &[],
+        types: &[],
+    }
+}
+
+fn find_in_body(
+    target: &Target,
+    function: &Value,
+    path: &mut Vec<u32>,
+) -> Result<bool, AllocError> {
+    let search = Search {
+        rule: Rule::Refers(target.named),
+        words: "",
+        numbers: [Some(target.index), None],
+        scene: scene_of(function),
+    };
+    match at(function, 5) {
+        Some(body) if target.subject.is_none() || target.named != E => {
+            path.push(5)?;
+            if find_statement(&search, body, path)? {
+                return Ok(true);
+            }
+            path.pop();
+            Ok(false)
+        }
+        _ => Ok(false),
+    }
+}
+
+// Looks through the functions, of which only one may be it where what names and what is named are functions.
+fn find_in_functions(
+    target: &Target,
+    document: &Value,
+    path: &mut Vec<u32>,
+) -> Result<bool, AllocError> {
+    let Some(functions) = at(document, 12) else {
+        return Ok(false);
+    };
+    let is_one = target.named == Names::Function;
+    for (index, function) in parts(functions).iter().enumerate() {
+        if is_one && !target.may_be(index) {
+            continue;
+        }
+        path.push(12)?;
+        path.push(step(index))?;
+        if find_in_function(target, function, path)? {
+            return Ok(true);
+        }
+        path.clear();
+    }
+    Ok(false)
+}
+
+fn find_in_entry(target: &Target, entry: &Value, path: &mut Vec<u32>) -> Result<bool, AllocError> {
+    if target.is_named(entry, &PAYLOAD) {
+        path.push(5)?;
+        return Ok(true);
+    }
+    if let Some(mesh) = at(entry, 4) {
+        if target.is_named(mesh, &MESH) {
+            path.push(4)?;
+            return Ok(true);
+        }
+    }
+    match at(entry, 6) {
+        Some(function) => {
+            path.push(6)?;
+            find_in_function(target, function, path)
+        }
+        None => Ok(false),
+    }
+}
+
+fn find_in_entries(
+    target: &Target,
+    document: &Value,
+    path: &mut Vec<u32>,
+) -> Result<bool, AllocError> {
+    let Some(entries) = at(document, 13) else {
+        return Ok(false);
+    };
+    for (index, entry) in parts(entries).iter().enumerate() {
+        path.push(13)?;
+        path.push(step(index))?;
+        if find_in_entry(target, entry, path)? {
+            return Ok(true);
+        }
+        path.clear();
+    }
+    Ok(false)
+}
+
+// The special types and the filters.
+fn find_beside(target: &Target, document: &Value, path: &mut Vec<u32>) -> Result<bool, AllocError> {
+    if let Some(index) = target.found_in(along(document, &[7, 0]), &FILTER) {
+        path.push(7)?;
+        path.push(0)?;
+        path.push(step(index))?;
+        return Ok(true);
+    }
+    if let Some(special) = at(document, 6) {
+        if target.is_named(special, &SPECIAL) {
+            path.push(6)?;
+            return Ok(true);
+        }
+    }
+    if let Some(index) = target.found_in(along(document, &[6, 3]), &ARGUMENT) {
+        path.push(6)?;
+        path.push(3)?;
+        path.push(step(index))?;
+        return Ok(true);
+    }
+    Ok(false)
+}
+
+// Whether the filter that counts in the whole module is this one.
+fn is_filter_of_module(document: &Value, index: usize) -> bool {
+    match at(document, 7) {
+        Some(diagnostics) => number_at(diagnostics, 1) == Some(index),
+        None => false,
+    }
+}
+
+/// Puts the way to the first item that names it at the end of the path, which is empty. The error is out of memory.
+pub fn find_item(
+    target: &Target,
+    document: &Value,
+    path: &mut Vec<u32>,
+) -> Result<bool, AllocError> {
+    let is_filter = target.named == Names::Filter && target.subject.is_none();
+    if is_filter && is_filter_of_module(document, target.index) {
+        path.push(7)?;
+        path.push(1)?;
+        return Ok(true);
+    }
+    if let Some((list, index)) = target.item_in(document) {
+        path.push(list)?;
+        path.push(step(index))?;
+        return Ok(true);
+    }
+    if find_in_functions(target, document, path)? || find_in_entries(target, document, path)? {
+        return Ok(true);
+    }
+    find_beside(target, document, path)
+}
+
+// Looks for a range in the bodies of a list of functions, or of entry points.
+fn find_range_in(
+    search: &Search<'_>,
+    document: &Value,
+    list: usize,
+    way: &[usize],
+    path: &mut Vec<u32>,
+) -> Result<bool, AllocError> {
+    let Some(items) = at(document, list) else {
+        return Ok(false);
+    };
+    for (index, item) in parts(items).iter().enumerate() {
+        path.push(step(list))?;
+        path.push(step(index))?;
+        for part in way {
+            path.push(step(*part))?;
+        }
+        if let Some(body) = along(item, way) {
+            if find_statement(search, body, path)? {
+                return Ok(true);
+            }
+        }
+        path.clear();
+    }
+    Ok(false)
+}
+
+/// Puts the way to the first emit of this range at the end of the path, which is empty. The error is out of memory.
+pub fn find_range(
+    first: Option<usize>,
+    end: Option<usize>,
+    document: &Value,
+    path: &mut Vec<u32>,
+) -> Result<bool, AllocError> {
+    let search = Search {
+        rule: Rule::Range,
+        words: "",
+        numbers: [first, end],
+        scene: scene_of(document),
+    };
+    Ok(
+        find_range_in(&search, document, 12, &[5], path)?
+            || find_range_in(&search, document, 13, &[6, 5], path)?,
+    )
+}

@@ -1,0 +1,14 @@
+//! Why a document is refused, in words: what stands where the refusal points, the types of its operands, and what is required
+//! there.
+#![tactic(auto)]
+
+mod hints;
+mod kinds;
+mod reason;
+mod rules;
+mod show;
+
+pub use check_faults::PathNames;
+pub use check_places::{Refusal, path_of};
+pub use hints::{Slip, hint};
+pub use reason::{Reason, name_of};

@@ -1,0 +1,466 @@
+// Why a document is refused, in words.
+
+use crate::kinds::{arity, passed, required_of};
+use crate::rules::required;
+use crate::show::{NameIn, Plain, Shown, TypeAt, TypeOf, value_at};
+use check_faults::PathNames;
+use check_faults::document::{along, at, number, number_at, parts, word, word_at};
+use check_faults::error_text::{
+    field, head, name_of as error_name, number as handle, part, quoted, text_of,
+};
+use check_faults::forms::{Names, Part, expression_parts, statement_parts};
+use check_places::{Refusal, innermost};
+use serde_json::Value;
+use std::fmt::{self, Display};
+
+// More operands than these are shown without their types.
+const MOST_OPERANDS: usize = 4;
+// What a pointer is made from is followed so far.
+const MOST_STEPS: usize = 64;
+
+/// Why a document is refused: the refusal, and the way to what it speaks of.
+#[derive(Clone, Copy)]
+pub struct Reason<'a> {
+    /// The refusal.
+    pub refusal: Refusal<'a>,
+    /// The indexes that lead to what it speaks of.
+    pub path: &'a [u32],
+}
+
+// The part of a path inside the function that it leads into.
+fn inside_function<'p>(path: &'p [u32]) -> &'p [u32] {
+    match path.first() {
+        Some(12) => path.get(2..).unwrap_or(&[]),
+        Some(13) => path.get(3..).unwrap_or(&[]),
+        _ => &[],
+    }
+}
+
+// The function that a path leads into.
+fn function_of<'a>(document: &'a Value, path: &[u32]) -> Option<&'a Value> {
+    let list = *path.first()?;
+    let index = *path.get(1)? as usize;
+    match list {
+        12 => along(document, &[12, index]),
+        13 => along(document, &[13, index, 6]),
+        _ => None,
+    }
+}
+
+static CONSTANT: [Part; 2] = [(1, Names::Type), (2, Names::Expression)];
+
+static OVERRIDE: [Part; 2] = [(2, Names::Type), (3, Names::Expression)];
+
+static GLOBAL: [Part; 2] = [(3, Names::Type), (4, Names::Expression)];
+
+static OUTPUT: [Part; 1] = [(0, Names::Type)];
+
+// The parts of the item inside a function that name something.
+fn form_inside(inside: &[u32], item: &Value) -> &'static [Part] {
+    match inside.first() {
+        Some(1 | 3) => &CONSTANT,
+        Some(2) => &OUTPUT,
+        Some(4) => expression_parts(item),
+        Some(5) => statement_parts(item),
+        _ => &[],
+    }
+}
+
+// The parts of the item at a path that name something.
+fn form_at(path: &[u32], item: &Value) -> &'static [Part] {
+    match path.first() {
+        Some(8) => &CONSTANT,
+        Some(9) => &OVERRIDE,
+        Some(10) => expression_parts(item),
+        Some(11) => &GLOBAL,
+        _ => form_inside(inside_function(path), item),
+    }
+}
+
+// Whether the item at a path is shown: not a whole function or entry point, and not a whole body.
+fn is_shown(path: &[u32]) -> bool {
+    let inside = inside_function(path);
+    let is_part = inside.len() > 1 || inside.first() == Some(&2);
+    match path.first() {
+        Some(12) => is_part,
+        Some(13) => is_part || (path.len() == 3 && path.get(2) != Some(&6)),
+        Some(_) => path.len() > 1,
+        None => false,
+    }
+}
+
+// The values of a part: itself, or what is in it.
+fn values(item: &Value) -> &[Value] {
+    if item.is_array() {
+        parts(item)
+    } else {
+        std::slice::from_ref(item)
+    }
+}
+
+// The type of the document that a resolved type is, or that it points to.
+fn type_in(text: &[u8]) -> Option<usize> {
+    let inner = part(text, 0);
+    if error_name(text) == "Handle" {
+        handle(inner)
+    } else {
+        handle(field(inner, "base"))
+    }
+}
+
+// The name of the list of items of a kind.
+fn list_of(kind: &str) -> &'static str {
+    match kind {
+        "type" => "types",
+        "constant" => "constants",
+        "override" => "overrides",
+        "global" => "globals",
+        "function" => "functions",
+        "local" => "locals",
+        "filter" => "diagnostics.filters",
+        _ => "expressions",
+    }
+}
+
+impl Reason<'_> {
+    fn error(&self) -> &[u8] {
+        self.refusal.error.as_bytes()
+    }
+
+    fn item(&self) -> Option<&Value> {
+        value_at(self.refusal.document, self.path)
+    }
+
+    // Writes the type of an operand, after a word that says whether it is the first. Answers whether it is known.
+    fn write_operand<W: fmt::Write>(
+        &self,
+        f: &mut fmt::Formatter<W>,
+        operand: &Value,
+        is_first: bool,
+    ) -> Result<bool, fmt::Error> {
+        let Some(index) = number(operand) else {
+            return Ok(false);
+        };
+        let Some(text) = self.refusal.types.get(index) else {
+            return Ok(false);
+        };
+        let before = if is_first { ", where" } else { " and" };
+        let found = TypeOf(self.refusal.document, text.as_bytes());
+        write!(f, "{before} [{index}] is {found}")?;
+        self.write_origin(f, type_in(text.as_bytes()), self.root_of(index))?;
+        Ok(true)
+    }
+
+    // Writes the type of the document and the global variable that an operand comes from.
+    fn write_origin<W: fmt::Write>(
+        &self,
+        f: &mut fmt::Formatter<W>,
+        ty: Option<usize>,
+        global: Option<usize>,
+    ) -> fmt::Result {
+        match (ty, global) {
+            (Some(ty), Some(global)) => write!(f, " (types[{ty}], globals[{global}])"),
+            (Some(ty), None) => write!(f, " (types[{ty}])"),
+            (None, Some(global)) => write!(f, " (globals[{global}])"),
+            (None, None) => Ok(()),
+        }
+    }
+
+    // Writes the types of these operands. Answers whether the next one is the first.
+    fn write_each<W: fmt::Write>(
+        &self,
+        f: &mut fmt::Formatter<W>,
+        operands: &[Value],
+        is_first: bool,
+    ) -> Result<bool, fmt::Error> {
+        let mut still = is_first;
+        for operand in operands.iter().take(MOST_OPERANDS) {
+            let is_written = self.write_operand(f, operand, still)?;
+            still = still && !is_written;
+        }
+        Ok(still)
+    }
+
+    // Writes a type that the item names. Answers whether the next one is the first.
+    fn write_type<W: fmt::Write>(
+        &self,
+        f: &mut fmt::Formatter<W>,
+        named: &Value,
+        is_first: bool,
+    ) -> Result<bool, fmt::Error> {
+        let Some(index) = number(named) else {
+            return Ok(is_first);
+        };
+        let before = if is_first { ", where" } else { " and" };
+        let found = TypeAt(self.refusal.document, index);
+        write!(f, "{before} types[{index}] is {found}")?;
+        Ok(false)
+    }
+
+    // Writes the types of a part of the item. Answers whether the next one is the first.
+    fn write_part<W: fmt::Write>(
+        &self,
+        f: &mut fmt::Formatter<W>,
+        named: Names,
+        part: &Value,
+        is_first: bool,
+    ) -> Result<bool, fmt::Error> {
+        match named {
+            Names::Expression => self.write_each(f, values(part), is_first),
+            Names::Type => self.write_type(f, part, is_first),
+            Names::Constant
+            | Names::Override
+            | Names::Global
+            | Names::Function
+            | Names::Local
+            | Names::Filter => Ok(is_first),
+        }
+    }
+
+    // Writes the types of the item and of its operands.
+    fn write_operands<W: fmt::Write>(
+        &self,
+        f: &mut fmt::Formatter<W>,
+        item: &Value,
+    ) -> fmt::Result {
+        let mut is_first = true;
+        for form in form_at(self.path, item).iter().take(MOST_OPERANDS) {
+            if let Some(found) = at(item, form.0) {
+                is_first = self.write_part(f, form.1, found, is_first)?;
+            }
+        }
+        Ok(())
+    }
+
+    // Writes the path, and what stands there.
+    fn write_item<W: fmt::Write>(&self, f: &mut fmt::Formatter<W>) -> fmt::Result {
+        if self.path.is_empty() {
+            return Ok(());
+        }
+        write!(f, "{}", PathNames(self.path))?;
+        if is_shown(self.path) {
+            if let Some(item) = self.item() {
+                write!(f, " is {}", Shown(item))?;
+                self.write_operands(f, item)?;
+            }
+        }
+        write!(f, ": ")
+    }
+
+    // Writes a sentence with the parts of the error that it names.
+    fn write_sentence<W: fmt::Write>(
+        &self,
+        f: &mut fmt::Formatter<W>,
+        sentence: &str,
+        error: &[u8],
+    ) -> fmt::Result {
+        for (index, piece) in sentence.split('{').enumerate() {
+            match piece.split_once('}') {
+                Some((name, more)) if index > 0 => {
+                    let shown = Plain(self.refusal.document, field(error, name));
+                    write!(f, "{shown}{more}")?;
+                }
+                _ => write!(f, "{piece}")?,
+            }
+        }
+        Ok(())
+    }
+
+    // Writes what is required of the expression at the path, whose kind has no name for its error.
+    fn write_kind<W: fmt::Write>(&self, f: &mut fmt::Formatter<W>) -> fmt::Result {
+        let Some(item) = self.item() else {
+            return write!(f, "the expression keeps the rule of its kind");
+        };
+        let function = word_at(item, 1);
+        let count = passed(item);
+        let wanted = arity(function);
+        if word(item) == "Math" && count != wanted {
+            return write!(
+                f,
+                "{function} takes {wanted} arguments, and {count} are passed"
+            );
+        }
+        write!(f, "{}", required_of(item))
+    }
+
+    // How many items there are of the kind that a handle names.
+    fn count_of(&self, kind: &str) -> usize {
+        let document = self.refusal.document;
+        let inside = function_of(document, self.path);
+        let list = match kind {
+            "type" => at(document, 5),
+            "constant" => at(document, 8),
+            "override" => at(document, 9),
+            "global" => at(document, 11),
+            "function" => at(document, 12),
+            "filter" => along(document, &[7, 0]),
+            "local" => match inside {
+                Some(function) => at(function, 3),
+                None => None,
+            },
+            _ => match inside {
+                Some(function) => at(function, 4),
+                None => at(document, 10),
+            },
+        };
+        match list {
+            Some(list) => parts(list).len(),
+            None => 0,
+        }
+    }
+
+    // Writes what is wrong with a handle.
+    fn write_handle<W: fmt::Write>(&self, f: &mut fmt::Formatter<W>, error: &[u8]) -> fmt::Result {
+        match error_name(error) {
+            "BadHandle" => {
+                let kind = text_of(quoted(field(error, "kind")));
+                let index = text_of(field(error, "index"));
+                let count = self.count_of(kind);
+                write!(
+                    f,
+                    "it names {}[{index}], and there are {count}",
+                    list_of(kind)
+                )
+            }
+            "FwdDepError" => {
+                let kind = text_of(quoted(field(error, "depends_on_kind")));
+                let index = text_of(field(error, "depends_on"));
+                write!(
+                    f,
+                    "it names {}[{index}], which does not come before it",
+                    list_of(kind)
+                )
+            }
+            _ => write!(f, "{}", required("", error_name(error))),
+        }
+    }
+
+    // The global variable that a pointer is made from.
+    fn root_of(&self, pointer: usize) -> Option<usize> {
+        let function = function_of(self.refusal.document, self.path)?;
+        let expressions = at(function, 4)?;
+        let mut found = pointer;
+        for _ in 0..MOST_STEPS {
+            let expression = at(expressions, found)?;
+            match word(expression) {
+                "Access" | "AccessIndex" => found = number_at(expression, 1)?,
+                "GlobalVariable" => return number_at(expression, 1),
+                _ => return None,
+            }
+        }
+        None
+    }
+
+    // Writes why the global variable of a pointer is not written.
+    fn write_root<W: fmt::Write>(&self, f: &mut fmt::Formatter<W>, pointer: usize) -> fmt::Result {
+        let Some(index) = self.root_of(pointer) else {
+            return Ok(());
+        };
+        let name = NameIn(along(self.refusal.document, &[11, index, 0]));
+        let space = match along(self.refusal.document, &[11, index, 1]) {
+            Some(space) => word(space),
+            None => "",
+        };
+        if space == "Storage" {
+            write!(f, "; globals[{index}]{name} lacks STORE")
+        } else {
+            write!(f, "; globals[{index}]{name} lies in {space}")
+        }
+    }
+
+    // Writes what is required, and what the error tells besides.
+    fn write_required<W: fmt::Write>(&self, f: &mut fmt::Formatter<W>) -> fmt::Result {
+        if self.refusal.step == "handles" {
+            return self.write_handle(f, innermost("", self.error()).1);
+        }
+        let (outer, inner) = innermost(self.refusal.step, self.error());
+        let around = text_of(outer);
+        let name = error_name(inner);
+        let is_expression = around == "Expression" || around == "expression";
+        if name == "IncompatibleOperands"
+            || name == "BuiltinArgumentsInvalid"
+            || (name == "Other" && is_expression)
+        {
+            return self.write_kind(f);
+        }
+        self.write_sentence(f, required(around, name), inner)?;
+        self.write_besides(f, around)?;
+        match name {
+            "InvalidStorePointer" => self.write_root(f, handle(part(inner, 0)).unwrap_or(0)),
+            "NotInScope" => self.write_missing(f),
+            _ => Ok(()),
+        }
+    }
+
+    // Writes the stage that an entry point is refused at, the output of its mesh part, or the space of a global variable.
+    fn write_besides<W: fmt::Write>(&self, f: &mut fmt::Formatter<W>, around: &str) -> fmt::Result {
+        let document = self.refusal.document;
+        let index = self.refusal.index;
+        if self.refusal.step == "entry" && error_name(self.error()) != "Function" {
+            let stage = match along(document, &[13, index, 0]) {
+                Some(stage) => word(stage),
+                None => "",
+            };
+            write!(f, "; entry points[{index}].stage is {stage}")?;
+        }
+        if around == "Alignment" {
+            let space = match along(document, &[11, index, 1]) {
+                Some(space) => word(space),
+                None => "",
+            };
+            write!(f, "; globals[{index}] lies in {space}")?;
+        }
+        self.write_output(f)
+    }
+
+    // Writes the output of the mesh part that the path leads to.
+    fn write_output<W: fmt::Write>(&self, f: &mut fmt::Formatter<W>) -> fmt::Result {
+        let is_mesh = self.path.first() == Some(&13) && self.path.get(2) == Some(&4);
+        let output = match self.item() {
+            Some(mesh) if is_mesh => number_at(mesh, 7),
+            _ => None,
+        };
+        let Some(global) = output else {
+            return Ok(());
+        };
+        match along(self.refusal.document, &[11, global, 3]) {
+            Some(ty) => write!(f, "; globals[{global}] is of types[{}]", Shown(ty)),
+            None => Ok(()),
+        }
+    }
+
+    // Writes which expression is not in scope.
+    fn write_missing<W: fmt::Write>(&self, f: &mut fmt::Formatter<W>) -> fmt::Result {
+        let error = self.error();
+        let inner = if error_name(error) == "Function" {
+            part(error, 0)
+        } else {
+            error
+        };
+        match handle(field(inner, "handle")) {
+            Some(index) => write!(f, ", and expressions[{index}] is not there"),
+            None => Ok(()),
+        }
+    }
+}
+
+impl Display for Reason<'_> {
+    fn fmt<W: fmt::Write>(&self, f: &mut fmt::Formatter<W>) -> fmt::Result {
+        self.write_item(f)?;
+        self.write_required(f)
+    }
+}
+
+/// The name of the item that a step refuses, where it has one.
+pub fn name_of<'a>(document: &'a Value, step: &str, index: usize) -> Option<&'a str> {
+    let way: [usize; 3] = match step {
+        "layout" | "type" => [5, index, 0],
+        "constant" => [8, index, 0],
+        "override" => [9, index, 0],
+        "global" => [11, index, 0],
+        "function" => [12, index, 0],
+        "entry" => [13, index, 1],
+        _ => return None,
+    };
+    along(document, &way)?.as_str()
+}
