@@ -28,7 +28,7 @@ abbrev pub CanReportIn : PlainModule → Examined → Type 0
 CanReportIn m (examined.Accepted strict info) = CanReport m info
 CanReportIn m (examined.Refused e) = Unit {0}
 
--- the lines that are requested of a module: none, those of its buffers and their leaves, or its report
+-- the lines that are wanted of a module: none, those of its buffers and their leaves, or its report
 abbrev pub ListsAsRequested : (requested : Requested) → PlainModule → (lines : List ℕ) → Type 0
 ListsAsRequested Nothing m lines = lines ≡ []
 ListsAsRequested Leaves m lines = lines ≡ leaf_report m

@@ -40,14 +40,14 @@ pub enum Explanation {
     Accepted {
         /// Scope was checked strictly.
         strict: bool,
-        /// The lines that were requested.
+        /// The lines that were wanted.
         lines: String,
     },
     /// A step fails: why, and the first item that fails it.
     Refused(ValidationError, RefusedItem),
 }
 
-// The lines of a module that are requested.
+// The lines of a module that are wanted.
 fn lines(
     alloc: Global,
     requested: Requested,
@@ -120,7 +120,7 @@ fn looks(alloc: Global, bytes: &[u8]) -> Result<String, AllocError> {
     }
 }
 
-/// The explanation of the document that the bytes spell, with the lines of its module that are requested, where that is accepted. The
+/// The explanation of the document that the bytes spell, with the lines of its module that are wanted, where that is accepted. The
 /// error says that there is no memory.
 pub fn explain(alloc: Global, requested: Requested, bytes: &[u8]) -> Result<Explanation, AllocError>
     ensures finding { IfOk result (λ e. Judged bytes.now (finding_of e)) }
@@ -240,7 +240,7 @@ impl Explanation {
         }
     }
 
-    /// The line of what is found, and after it the lines that were requested. The error is out of memory.
+    /// The line of what is found, and after it the lines that were wanted. The error is out of memory.
     pub fn listing(&self, alloc: Global) -> Result<String, AllocError>
         ensures { IfOk result (λ text. string_bytes text ≡ text_of (finding_of self.now) ++ lines_of self.now) }
     {
