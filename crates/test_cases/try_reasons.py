@@ -8,8 +8,8 @@ some places are changed by chance, from a seed, so that it is refused.
 
 The reported path holds the slip where the slip lies in the part that it leads to, or is around it; or in an item that this
 part names by a handle; or where the text names what was changed (a capability that is missing, a list of which an item was
-taken away). Bytes that are no JSON have no path, and are not counted. Each kind is counted, and each document of which none is so is printed with --list. The status is 1 where the share of
-those that it holds is below 97 in 100.
+taken away). Bytes that are no JSON have no path, and are not counted. Each kind is counted, and each document of which none is so
+is printed with --list. The status is 1 where the share of those that it holds is below 97 in 100.
 """
 import collections
 import concurrent.futures
@@ -38,7 +38,7 @@ def documents(names):
                 continue
             try:
                 value = json.loads(given)
-            except ValueError:
+            except (ValueError, RecursionError):
                 continue
             if isinstance(value, list) and len(value) == 14:
                 seen[given] = value
