@@ -1,0 +1,84 @@
+//! The text on a document, in memory.
+
+ghost use Rattle.std.specs.Prelude.{◌≡◌, ◌<◌, IfSome};
+ghost use Rattle.shader_check.specs.Theorem.{Judged};
+ghost use Rattle.shader_check_c.specs.Answers.{IsAnswerOn, front_of, status_in, status_of};
+
+use check_explanation::{Requested, explain};
+use shader_check::{Finding, Sink, Source, Verdict, check_document};
+use std::alloc::Global;
+
+/// What the check answers of a document, with the text that it writes.
+#[derive(Drop)]
+pub(crate) struct Answer {
+    pub(crate) verdict: Verdict,
+    pub(crate) text: Vec<u8>,
+}
+
+/// What the check answers of these bytes; nothing where memory was refused.
+pub(crate) fn answer_on(alloc: Global, document: &[u8]) -> Option<Answer>
+    ensures { IfSome result (λ answer. IsAnswerOn document.now answer.verdict answer.text.items) }
+{
+    let mut source = Source::new(document);
+    let mut sink = Sink::new(Vec::new(alloc));
+    match check_document(alloc, &mut source, &mut sink) {
+        Ok(verdict) => Some(Answer {
+            verdict,
+            text: sink.into_inner(),
+        }),
+        Err(_) => None,
+    }
+}
+
+/// What is found of a document, with the object that has all of it.
+#[derive(Drop)]
+pub(crate) struct Explained {
+    pub(crate) finding: Finding,
+    pub(crate) text: String,
+}
+
+/// What is explained of these bytes; nothing where memory was refused.
+pub(crate) fn explained_on(alloc: Global, document: &[u8]) -> Option<Explained>
+    ensures { IfSome result (λ found. Judged document.now found.finding) }
+{
+    match explain(alloc, Requested::Report, document) {
+        Ok(explanation) => match explanation.json(alloc) {
+            Ok(text) => Some(Explained {
+                finding: explanation.finding(),
+                text,
+            }),
+            Err(_) => None,
+        },
+        Err(_) => None,
+    }
+}
+
+/// Writes the first bytes of a text to the front of `room`, as many as there is room for.
+pub(crate) fn put_front(room: &mut [u8], text: &[u8])
+    ensures { room.new ≡ front_of text.now room.old }
+{
+    let count = text.len().min(room.len());
+    room[..count].copy_from_slice(&text[..count]);
+}
+
+/// 0 for accepted, 1 for refused.
+pub(crate) fn status_of(verdict: Verdict) -> u32
+    ensures is { result ≡ status_of verdict }
+    ensures known { result < 2 }
+{
+    match verdict {
+        Verdict::Accepted => 0,
+        Verdict::Refused => 1,
+    }
+}
+
+/// The same of what is found.
+pub(crate) fn status_in(finding: Finding) -> u32
+    ensures is { result ≡ status_in finding }
+    ensures known { result < 2 }
+{
+    match finding {
+        Finding::Accepted { .. } => 0,
+        Finding::RefusedDocument | Finding::RefusedHandles | Finding::Refused(..) => 1,
+    }
+}

@@ -1,0 +1,65 @@
+//! The check of a document for hosts in C, or in any language that can call C: `include/shader_check.h` has the signatures.
+#![tactic(auto)]
+
+mod answer;
+
+ghost use Rattle.std.specs.Prelude.{◌≡◌, ◌<◌, ◌≤◌};
+ghost use Rattle.shader_check_c.specs.Answers.{IsGiven, IsExplained};
+
+use answer::{answer_on, explained_on, put_front, status_in, status_of};
+use std::alloc::Global;
+
+/// Judges the document that `document` holds, and writes the text of the verdict and the report to the front of `text`: as many
+/// of its bytes as there is room for. `needed` is then the length of the whole text in bytes, so that a host that had too little
+/// room can call again with as much.
+///
+/// Answers 0 for an accepted document, 1 for a refused one, and 2 where memory was refused; then `text` is as it was, and
+/// `needed` is 0.
+#[unsafe(no_mangle)]
+pub extern "C" fn shader_check(
+    alloc: Global,
+    document: &[u8],
+    text: &mut [u8],
+    needed: &mut usize,
+) -> u32
+    ensures known { result ≤ 2 }
+    ensures given { result < 2 → IsGiven document.now result text.old text.new needed.new }
+    ensures refused { result ≡ 2 → text.new ≡ text.old }
+    ensures refused_none { result ≡ 2 → needed.new ≡ 0 }
+{
+    *needed = 0;
+    match answer_on(alloc, document) {
+        Some(answer) => {
+            *needed = answer.text.len();
+            put_front(text, &answer.text);
+            status_of(answer.verdict)
+        }
+        None => 2,
+    }
+}
+
+/// Judges the document that `document` holds, and writes one JSON object with all of it, as `docs/answer.schema.json` says,
+/// to the front of `text`: the verdict, of a refused document the step, the item, the path, the error and the reason, of an accepted
+/// one the report. `needed`, the answer and a refusal of memory are as those of [`shader_check`].
+#[unsafe(no_mangle)]
+pub extern "C" fn shader_check_json(
+    alloc: Global,
+    document: &[u8],
+    text: &mut [u8],
+    needed: &mut usize,
+) -> u32
+    ensures known { result ≤ 2 }
+    ensures explained { result < 2 → IsExplained document.now result text.old text.new needed.new }
+    ensures refused { result ≡ 2 → text.new ≡ text.old }
+    ensures refused_none { result ≡ 2 → needed.new ≡ 0 }
+{
+    *needed = 0;
+    match explained_on(alloc, document) {
+        Some(found) => {
+            *needed = found.text.len();
+            put_front(text, found.text.as_bytes());
+            status_in(found.finding)
+        }
+        None => 2,
+    }
+}

@@ -1,0 +1,35 @@
+/* The check of a shader module, in process. docs/FORMAT.md tells what a document is and what the text says. */
+#ifndef SHADER_CHECK_H
+#define SHADER_CHECK_H
+
+#include <stddef.h>
+#include <stdint.h>
+
+#ifdef __cplusplus
+extern "C" {
+#endif
+
+enum {
+    SHADER_CHECK_ACCEPTED = 0,
+    SHADER_CHECK_REFUSED = 1,
+    SHADER_CHECK_NO_MEMORY = 2
+};
+
+/* Judges the document in the `length` bytes at `document`, and writes the text of the verdict and of the report to `text`: as many
+ * of its bytes as the `capacity` bytes there hold, without a 0 at its end. `*needed` is then the length of the whole text in bytes,
+ * so that a caller with too little room can call again with as much.
+ *
+ * Answers SHADER_CHECK_ACCEPTED, SHADER_CHECK_REFUSED, or SHADER_CHECK_NO_MEMORY where memory was refused: then `text` is as it was
+ * and `*needed` is 0. No pointer may be null, also where the length is 0, and the bytes of `document`, `text` and `needed` are apart.
+ * It keeps nothing between calls, and may be called from several threads at a time, but from no signal handler. */
+uint32_t shader_check(const uint8_t *document, size_t length, uint8_t *text, size_t capacity, size_t *needed);
+
+/* The same, but that the text is one JSON object, as docs/answer.schema.json says: the verdict, of a refused document the step, the
+ * item, the path to the part that is at fault, the error and the reason in words, of an accepted one the report as data. */
+uint32_t shader_check_json(const uint8_t *document, size_t length, uint8_t *text, size_t capacity, size_t *needed);
+
+#ifdef __cplusplus
+}
+#endif
+
+#endif
