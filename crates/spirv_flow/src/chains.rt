@@ -1,0 +1,87 @@
+// The steps of access chains.
+
+use spirv_numbers::ops;
+use spirv_words::{Feature, Instruction, Listing, Malformed, SpirvError, Unsupported, starts_text};
+
+/// A step from a type into one of its parts.
+#[derive(Clone, Copy)]
+pub struct Part {
+    /// The type from which it goes.
+    pub from: u32,
+    /// Which member of a struct it is; `None` for an element of anything else.
+    pub member: Option<u32>,
+    /// The type of the part.
+    pub ty: u32,
+}
+
+/// The value of a constant whole number, its low 32 bits.
+pub fn constant_word(listing: &Listing, id: u32) -> Option<u32> {
+    let constant = listing.definition(id)?;
+    match constant.opcode {
+        ops::CONSTANT | ops::SPEC_CONSTANT => listing.operand(&constant, 0),
+        ops::CONSTANT_NULL => Some(0),
+        _ => None,
+    }
+}
+
+/// The type that a pointer's type points to.
+pub fn pointee(listing: &Listing, ty: u32) -> Option<u32> {
+    let pointer = listing.definition(ty)?;
+    if pointer.opcode == ops::TYPE_POINTER {
+        listing.operand(&pointer, 1)
+    } else {
+        None
+    }
+}
+
+/// The part of a type that this index leads to.
+pub fn part_at(
+    listing: &Listing,
+    from: u32,
+    index: u32,
+    chain: &Instruction,
+) -> Result<Part, SpirvError> {
+    let Some(ty) = listing.definition(from) else {
+        return Err(chain.malformed(Malformed::NoType));
+    };
+    match ty.opcode {
+        ops::TYPE_STRUCT => {
+            let Some(member) = constant_word(listing, index) else {
+                return Err(chain.unsupported_by(Feature::DynamicMember));
+            };
+            match listing.operand(&ty, member as usize) {
+                Some(part) => Ok(Part {
+                    from,
+                    member: Some(member),
+                    ty: part,
+                }),
+                None => Err(chain.malformed(Malformed::Member)),
+            }
+        }
+        ops::TYPE_ARRAY | ops::TYPE_RUNTIME_ARRAY | ops::TYPE_VECTOR | ops::TYPE_MATRIX => Ok(
+            Part {
+                from,
+                member: None,
+                ty: listing.need(&ty, 0)?,
+            },
+        ),
+        _ => Err(chain.unsupported_as(Unsupported::ChainInto(ty.opcode))),
+    }
+}
+
+/// Whether the instruction makes a pointer of another one.
+pub fn is_chain(opcode: u16) -> bool {
+    matches!(opcode, ops::ACCESS_CHAIN | ops::IN_BOUNDS_ACCESS_CHAIN)
+}
+
+/// Whether an extended instruction only speaks of the source.
+pub fn is_debug(listing: &Listing, instruction: &Instruction) -> bool {
+    let Some(import) = listing
+        .operand(instruction, 0)
+        .and_then(|id| listing.definition(id))
+    else {
+        return false;
+    };
+    let name = listing.operands(&import);
+    starts_text(name, "NonSemantic", false) || starts_text(name, "OpenCL.DebugInfo", false)
+}

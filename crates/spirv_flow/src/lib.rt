@@ -1,0 +1,20 @@
+//! What is known of a SPIR-V module's functions before they are translated: their order, what variables are used for, which
+//! values outlive the scope of their block.
+#![tactic(auto)]
+
+mod chains;
+mod flow;
+mod kept;
+mod order;
+mod paths;
+mod uses;
+
+pub use chains::{Part, constant_word, is_chain, is_debug, part_at, pointee};
+pub use flow::{Flow, FunctionSteps, flow_of};
+pub use kept::{Incoming, Kept};
+pub use order::Order;
+pub use paths::{PathPart, Paths};
+pub use spirv_steps::{
+    Block, Blocks, BreakIf, Case, CaseBody, Choice, FunctionBlocks, Scopes, Step, Steps,
+};
+pub use uses::{Use, Uses, is_atomic};

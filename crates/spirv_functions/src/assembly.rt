@@ -1,0 +1,481 @@
+// Steps become blocks of statements.
+
+use crate::instructions::lower;
+use ir_arena::span::Span;
+use ir_blocks::{Block, Statement, SwitchCase};
+use ir_kinds::{Literal, Scalar, ScalarKind, SwitchValue, UnaryOperator};
+use ir_types::Expression;
+use spirv_expressions::{Operation, Value, operand_scalar};
+use spirv_flow::{BreakIf, Case, CaseBody, Choice, Flow, FunctionSteps, Step};
+use spirv_numbers::ops;
+use spirv_operations::{FunctionBuilder, phi_local, statement};
+use spirv_types::span_of;
+use spirv_words::{Feature, Instruction, Listing, Malformed, SpirvError};
+use std::alloc::Global;
+use std::collections::BTreeMap;
+
+// What is open around a step.
+#[derive(Clone, Copy)]
+enum Frame {
+    // an if on this condition
+    If(Value),
+    Loop,
+    Switch(OpenSwitch),
+}
+
+// A switch that is not ended.
+#[derive(Clone, Copy)]
+struct OpenSwitch {
+    selector: Value,
+    // whether its values are signed
+    signed: bool,
+    // the case that comes next, and the one after the last
+    next: u32,
+    end: u32,
+    // the step after it
+    after: u32,
+    // its first case among those that are done
+    first: usize,
+    block: u32,
+}
+
+// Steps on their way to blocks.
+#[derive(Drop)]
+struct Assembly {
+    frames: Vec<Frame>,
+    // the first blocks of what is open
+    done: Vec<Block>,
+    cases: Vec<SwitchCase>,
+    // the operand of the end of the block that was lowered last
+    value: Option<Value>,
+    // the flags of loops that are left from a switch in them
+    flags: BTreeMap<u32, Value>,
+}
+
+/// The body of a function.
+pub fn assemble<L: FunctionBuilder>(
+    alloc: Global,
+    source: Source,
+    lowering: &mut L,
+    steps: &FunctionSteps,
+) -> Result<Block, SpirvError> {
+    let mut assembly = Assembly {
+        frames: Vec::new(alloc),
+        done: Vec::new(alloc),
+        cases: Vec::new(alloc),
+        value: None,
+        flags: BTreeMap::new(alloc),
+    };
+    lowering.open()?;
+    let mut at = steps.first;
+    // each step is taken once
+    for _ in steps.first..steps.end {
+        if at >= steps.end {
+            break;
+        }
+        at = assembly.take(source, lowering, at)?;
+    }
+    lowering.close()
+}
+
+/// What functions are made of.
+#[derive(Clone, Copy)]
+pub struct Source<'a> {
+    /// The module.
+    pub listing: &'a Listing,
+    /// What its functions do, in order.
+    pub flow: &'a Flow,
+}
+
+impl<'a> Source<'a> {
+    /// An instruction with its operands.
+    pub fn operation(&self, instruction: Instruction) -> Operation<'a> {
+        Operation {
+            instruction,
+            operands: self.listing.operands(&instruction),
+        }
+    }
+
+    // The end of a block.
+    fn end_of(&self, block: u32) -> Instruction {
+        match self.flow.blocks.get(block) {
+            Some(block) => self.listing.at(block.end),
+            None => Instruction::NONE,
+        }
+    }
+
+    // The case at this place.
+    fn case(&self, place: u32) -> Result<Case, SpirvError> {
+        match self.flow.steps.cases.get(place as usize) {
+            Some(case) => Ok(*case),
+            None => Err(unbalanced()),
+        }
+    }
+}
+
+impl Assembly {
+    // Takes a step. Answers the next one.
+    fn take<L: FunctionBuilder>(
+        &mut self,
+        source: Source,
+        lowering: &mut L,
+        at: u32,
+    ) -> Result<u32, SpirvError> {
+        let next = at.saturating_add(1);
+        let Some(step) = source.flow.steps.steps.get(at as usize).copied() else {
+            return Ok(next);
+        };
+        match step {
+            Step::Block(block) => self.value = lower_block(source, lowering, block)?,
+            Step::If(block) => {
+                let condition = self.need(source, block)?;
+                self.frames.push(Frame::If(condition))?;
+                lowering.open()?;
+            }
+            Step::Else | Step::Continuing => {
+                self.done.push(lowering.close()?)?;
+                lowering.open()?;
+            }
+            Step::EndIf => self.end_if(lowering)?,
+            Step::Loop => {
+                self.frames.push(Frame::Loop)?;
+                lowering.open()?;
+            }
+            Step::EndLoop(condition) => self.end_loop(source, lowering, condition)?,
+            Step::Switch {
+                block,
+                first,
+                count,
+                after,
+            } => {
+                self.begin_switch(source, lowering, block, first, count, after)?;
+                return self.next_case(source, lowering, next);
+            }
+            Step::EndCase => {
+                self.end_case(source, lowering)?;
+                return self.next_case(source, lowering, next);
+            }
+            Step::SetFlag(token) => self.set_flag(lowering, token, true)?,
+            Step::ClearFlag(token) => self.set_flag(lowering, token, false)?,
+            Step::BreakIfFlag(token) => self.break_if_flag(lowering, token)?,
+            Step::Break => push(lowering, Statement::Break)?,
+            Step::Continue => push(lowering, Statement::Continue)?,
+            Step::Kill => push(lowering, Statement::Kill)?,
+            Step::Return(block) => self.end_function(source, lowering, block)?,
+        }
+        Ok(next)
+    }
+
+    // The pointer to the flag of a loop.
+    fn flag<L: FunctionBuilder>(
+        &mut self,
+        lowering: &mut L,
+        token: u32,
+    ) -> Result<Value, SpirvError> {
+        if let Some(pointer) = self.flags.get(&token) {
+            return Ok(*pointer);
+        }
+        let ty = lowering.vector(None, Scalar::BOOL)?;
+        let name = format!(in lowering.alloc(); "leaves_{token}")?;
+        let pointer = lowering.local(Some(name), ty, None, Span::UNDEFINED)?;
+        let _ = self.flags.insert(token, pointer)?;
+        Ok(pointer)
+    }
+
+    // Sets the flag of a loop, or takes it back.
+    fn set_flag<L: FunctionBuilder>(
+        &mut self,
+        lowering: &mut L,
+        token: u32,
+        set: bool,
+    ) -> Result<(), SpirvError> {
+        let pointer = self.flag(lowering, token)?;
+        let literal = Expression::Literal(Literal::Bool(set));
+        let value = lowering.place(literal, Span::UNDEFINED)?;
+        push(lowering, Statement::Store { pointer, value })
+    }
+
+    // Leaves the nearest loop or switch where the flag of a loop is set.
+    fn break_if_flag<L: FunctionBuilder>(
+        &mut self,
+        lowering: &mut L,
+        token: u32,
+    ) -> Result<(), SpirvError> {
+        let pointer = self.flag(lowering, token)?;
+        let condition = lowering.compute(Expression::Load { pointer }, Span::UNDEFINED)?;
+        lowering.open()?;
+        push(lowering, Statement::Break)?;
+        let accept = lowering.close()?;
+        lowering.open()?;
+        let reject = lowering.close()?;
+        push(
+            lowering,
+            Statement::If {
+                condition,
+                accept,
+                reject,
+            },
+        )
+    }
+
+    // The operand of the end of the block that was lowered last.
+    fn need(&self, source: Source, block: u32) -> Result<Value, SpirvError> {
+        match self.value {
+            Some(value) => Ok(value),
+            None => Err(source.end_of(block).malformed(Malformed::MissingOperand)),
+        }
+    }
+
+    fn end_if<L: FunctionBuilder>(&mut self, lowering: &mut L) -> Result<(), SpirvError> {
+        let reject = lowering.close()?;
+        let condition = match self.frames.pop() {
+            Some(frame) => condition_of(&frame),
+            None => None,
+        };
+        let (Some(condition), Some(accept)) = (condition, self.done.pop()) else {
+            return Err(unbalanced());
+        };
+        push(
+            lowering,
+            Statement::If {
+                condition,
+                accept,
+                reject,
+            },
+        )
+    }
+
+    fn end_loop<L: FunctionBuilder>(
+        &mut self,
+        source: Source,
+        lowering: &mut L,
+        condition: Option<BreakIf>,
+    ) -> Result<(), SpirvError> {
+        let break_if = match condition {
+            Some(condition) => Some(self.break_if(source, lowering, condition)?),
+            None => None,
+        };
+        let continuing = lowering.close()?;
+        match (self.frames.pop(), self.done.pop()) {
+            (Some(Frame::Loop), Some(body)) => push(
+                lowering,
+                Statement::Loop {
+                    body,
+                    continuing,
+                    break_if,
+                },
+            ),
+            _ => Err(unbalanced()),
+        }
+    }
+
+    // The condition that leaves a loop.
+    fn break_if<L: FunctionBuilder>(
+        &mut self,
+        source: Source,
+        lowering: &mut L,
+        condition: BreakIf,
+    ) -> Result<Value, SpirvError> {
+        let expr = self.need(source, condition.block)?;
+        if !condition.negated {
+            return Ok(expr);
+        }
+        let operation = source.operation(source.end_of(condition.block));
+        let op = UnaryOperator::LogicalNot;
+        lowering.emit(Expression::Unary { op, expr }, &operation)
+    }
+
+    fn begin_switch<L: FunctionBuilder>(
+        &mut self,
+        source: Source,
+        lowering: &mut L,
+        block: u32,
+        first: u32,
+        count: u32,
+        after: u32,
+    ) -> Result<(), SpirvError> {
+        let selector = self.need(source, block)?;
+        let operation = source.operation(source.end_of(block));
+        let signed = operand_scalar(lowering, &operation, 0)?.kind == ScalarKind::Sint;
+        self.frames.push(Frame::Switch(OpenSwitch {
+            selector,
+            signed,
+            next: first,
+            end: first.saturating_add(count),
+            after,
+            first: self.cases.len(),
+            block,
+        }))?;
+        Ok(())
+    }
+
+    // Goes on with the next case of the innermost switch, or ends it. Answers the next step.
+    fn next_case<L: FunctionBuilder>(
+        &mut self,
+        source: Source,
+        lowering: &mut L,
+        after: u32,
+    ) -> Result<u32, SpirvError> {
+        let Some(Frame::Switch(open)) = self.frames.last().copied() else {
+            return Ok(after);
+        };
+        for number in open.next..open.end {
+            let case = source.case(number)?;
+            match case.body {
+                CaseBody::Steps(at) => {
+                    if let Some(Frame::Switch(open)) = self.frames.last_mut() {
+                        open.next = number;
+                    }
+                    lowering.open()?;
+                    return Ok(at);
+                }
+                CaseBody::Empty => {
+                    lowering.open()?;
+                    self.add_case(lowering, &case, open.signed)?;
+                }
+                CaseBody::Break => {
+                    lowering.open()?;
+                    push(lowering, Statement::Break)?;
+                    self.add_case(lowering, &case, open.signed)?;
+                }
+            }
+        }
+        self.end_switch(source, lowering, &open)
+    }
+
+    // The case whose body was lowered.
+    fn end_case<L: FunctionBuilder>(
+        &mut self,
+        source: Source,
+        lowering: &mut L,
+    ) -> Result<(), SpirvError> {
+        let Some(Frame::Switch(open)) = self.frames.last().copied() else {
+            return Err(unbalanced());
+        };
+        let case = source.case(open.next)?;
+        if let Some(Frame::Switch(open)) = self.frames.last_mut() {
+            open.next = open.next.saturating_add(1);
+        }
+        self.add_case(lowering, &case, open.signed)
+    }
+
+    // A case whose body is the innermost block.
+    fn add_case<L: FunctionBuilder>(
+        &mut self,
+        lowering: &mut L,
+        case: &Case,
+        signed: bool,
+    ) -> Result<(), SpirvError> {
+        let value = match case.choice {
+            Choice::Word(word) if signed => SwitchValue::I32(word.cast_signed()),
+            Choice::Word(word) => SwitchValue::U32(word),
+            Choice::Default => SwitchValue::Default,
+        };
+        let body = lowering.close()?;
+        self.cases.push(SwitchCase {
+            value,
+            body,
+            fall_through: case.falls_through,
+        })?;
+        Ok(())
+    }
+
+    fn end_switch<L: FunctionBuilder>(
+        &mut self,
+        source: Source,
+        lowering: &mut L,
+        open: &OpenSwitch,
+    ) -> Result<u32, SpirvError> {
+        let _ = self.frames.pop();
+        let first = open.first.min(self.cases.len());
+        let cases = self.cases.split_off(first)?;
+        let operation = source.operation(source.end_of(open.block));
+        let switch = Statement::Switch {
+            selector: open.selector,
+            cases,
+        };
+        statement(lowering, &operation, switch)?;
+        Ok(open.after)
+    }
+
+    fn end_function<L: FunctionBuilder>(
+        &mut self,
+        source: Source,
+        lowering: &mut L,
+        block: u32,
+    ) -> Result<(), SpirvError> {
+        let end = source.end_of(block);
+        let value = if end.opcode == ops::RETURN_VALUE {
+            Some(self.need(source, block)?)
+        } else {
+            None
+        };
+        let operation = source.operation(end);
+        statement(lowering, &operation, Statement::Return { value })
+    }
+}
+
+// The condition of an if.
+fn condition_of(frame: &Frame) -> Option<Value> {
+    match frame {
+        Frame::If(condition) => Some(*condition),
+        Frame::Loop | Frame::Switch(_) => None,
+    }
+}
+
+// Steps that do not fit together, which the walk over blocks does not make.
+fn unbalanced() -> SpirvError {
+    SpirvError::untranslated(Feature::ControlFlow, 0)
+}
+
+// A statement that no instruction is alone.
+fn push<L: FunctionBuilder>(lowering: &mut L, statement: Statement) -> Result<(), SpirvError> {
+    lowering.add(statement, Span::UNDEFINED)
+}
+
+// The instructions of a block, and what goes from it into others. Answers the operand of its end.
+fn lower_block<L: FunctionBuilder>(
+    source: Source,
+    lowering: &mut L,
+    number: u32,
+) -> Result<Option<Value>, SpirvError> {
+    let flow = source.flow;
+    let Some(block) = flow.blocks.get(number) else {
+        return Err(unbalanced());
+    };
+    lowering.enter(flow.steps.scopes.of_block(number).unwrap_or(0));
+    for place in block.first..block.end {
+        let instruction = source.listing.at(place);
+        lower(source, lowering, instruction)?;
+    }
+    let end = source.listing.at(block.end);
+    let operation = source.operation(end);
+    let value = match end.opcode {
+        ops::BRANCH_CONDITIONAL | ops::SWITCH | ops::RETURN_VALUE => {
+            Some(lowering.value(operation.need(0)?, &operation)?)
+        }
+        _ => None,
+    };
+    lowering.flush()?;
+    for place in flow.kept.from_block(number) {
+        if let Some(incoming) = flow.kept.incoming.get(*place as usize) {
+            store_incoming(lowering, &operation, incoming.phi, incoming.value)?;
+        }
+    }
+    Ok(value)
+}
+
+// What an `OpPhi` becomes when it comes from this block.
+fn store_incoming<L: FunctionBuilder>(
+    lowering: &mut L,
+    operation: &Operation,
+    phi: u32,
+    id: u32,
+) -> Result<(), SpirvError> {
+    let pointer = phi_local(lowering, phi, operation)?;
+    let value = lowering.value(id, operation)?;
+    lowering.add(
+        Statement::Store { pointer, value },
+        span_of(&operation.instruction),
+    )
+}

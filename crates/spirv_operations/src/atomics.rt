@@ -1,0 +1,192 @@
+// Atomic operations (section 3.52.18), and stores to images.
+
+use crate::builder::{FunctionBuilder, Slot};
+use crate::storage::statement;
+use ir_blocks::{AtomicFunction, Statement};
+use ir_flags::Capabilities;
+use ir_kinds::{Literal, PredeclaredType, Scalar};
+use ir_types::Expression;
+use spirv_expressions::{Operation, Value, as_kind, part_of, result_scalar, signed};
+use spirv_images::{read_coordinates, widened};
+use spirv_numbers::ops;
+use spirv_types::Shape;
+use spirv_words::{Feature, Malformed, SpirvError};
+
+// What the opcode does, if it is one that takes a value.
+fn function(opcode: u16) -> Option<AtomicFunction> {
+    match opcode {
+        ops::ATOMIC_I_ADD | ops::ATOMIC_F_ADD_EXT => Some(AtomicFunction::Add),
+        ops::ATOMIC_I_SUB => Some(AtomicFunction::Subtract),
+        ops::ATOMIC_AND => Some(AtomicFunction::And),
+        ops::ATOMIC_OR => Some(AtomicFunction::InclusiveOr),
+        ops::ATOMIC_XOR => Some(AtomicFunction::ExclusiveOr),
+        ops::ATOMIC_S_MIN | ops::ATOMIC_U_MIN => Some(AtomicFunction::Min),
+        ops::ATOMIC_S_MAX | ops::ATOMIC_U_MAX => Some(AtomicFunction::Max),
+        ops::ATOMIC_EXCHANGE => Some(AtomicFunction::Exchange { compare: None }),
+        _ => None,
+    }
+}
+
+/// Does an atomic operation.
+pub fn atomic<L: FunctionBuilder>(
+    lowering: &mut L,
+    operation: &Operation,
+) -> Result<(), SpirvError> {
+    let id = operation.need(0)?;
+    if let Slot::Texel { image, .. } = lowering.slot(id) {
+        return change_texel(lowering, operation, image);
+    }
+    let place = lowering.pointer(id, operation)?;
+    let ty = lowering.pointer_at(place, operation)?.ty;
+    let Shape::Scalar(scalar) = lowering.shape(ty) else {
+        return Err(operation.malformed(Malformed::WrongType));
+    };
+    let pointer = lowering.way(place, operation)?;
+    match operation.instruction.opcode {
+        ops::ATOMIC_LOAD => {
+            let value = lowering.emit(Expression::Load { pointer }, operation)?;
+            lowering.define(operation, value)
+        }
+        ops::ATOMIC_STORE => {
+            let value = signed(lowering, operation, 3, scalar.kind)?;
+            statement(lowering, operation, Statement::Store { pointer, value })
+        }
+        ops::ATOMIC_COMPARE_EXCHANGE => compare(lowering, operation, pointer, scalar),
+        _ => change(lowering, operation, pointer, scalar),
+    }
+}
+
+// Exchanges what a pointer points to where it equals another value.
+fn compare<L: FunctionBuilder>(
+    lowering: &mut L,
+    operation: &Operation,
+    pointer: Value,
+    scalar: Scalar,
+) -> Result<(), SpirvError> {
+    let ty = lowering.predeclared(PredeclaredType::AtomicCompareExchangeWeakResult(scalar))?;
+    let value = signed(lowering, operation, 4, scalar.kind)?;
+    let compared = signed(lowering, operation, 5, scalar.kind)?;
+    let result = Expression::AtomicResult {
+        ty,
+        comparison: true,
+    };
+    let answer = lowering.always(result, operation)?;
+    let exchange = Statement::Atomic {
+        pointer,
+        fun: AtomicFunction::Exchange {
+            compare: Some(compared),
+        },
+        value,
+        result: Some(answer),
+    };
+    statement(lowering, operation, exchange)?;
+    let old = part_of(lowering, operation, answer, 0)?;
+    let to = result_scalar(lowering, operation)?;
+    let old = as_kind(lowering, operation, old, scalar.kind, to.kind)?;
+    lowering.define(operation, old)
+}
+
+// Changes what a pointer points to.
+fn change<L: FunctionBuilder>(
+    lowering: &mut L,
+    operation: &Operation,
+    pointer: Value,
+    scalar: Scalar,
+) -> Result<(), SpirvError> {
+    let (fun, value) = match operation.instruction.opcode {
+        ops::ATOMIC_I_INCREMENT => (AtomicFunction::Add, one(lowering, operation, scalar)?),
+        ops::ATOMIC_I_DECREMENT => (AtomicFunction::Subtract, one(lowering, operation, scalar)?),
+        opcode => match function(opcode) {
+            Some(fun) => (fun, signed(lowering, operation, 3, scalar.kind)?),
+            None => return Err(operation.unsupported()),
+        },
+    };
+    let ty = lowering.vector(None, scalar)?;
+    let result = Expression::AtomicResult {
+        ty,
+        comparison: false,
+    };
+    let answer = lowering.always(result, operation)?;
+    let change = Statement::Atomic {
+        pointer,
+        fun,
+        value,
+        result: Some(answer),
+    };
+    statement(lowering, operation, change)?;
+    let to = result_scalar(lowering, operation)?;
+    let old = as_kind(lowering, operation, answer, scalar.kind, to.kind)?;
+    lowering.define(operation, old)
+}
+
+// The number 1.
+fn one<L: FunctionBuilder>(
+    lowering: &mut L,
+    operation: &Operation,
+    scalar: Scalar,
+) -> Result<Value, SpirvError> {
+    match Literal::one(scalar) {
+        Some(literal) => lowering.literal(literal, operation),
+        None => Err(operation.malformed(Malformed::WrongType)),
+    }
+}
+
+// Changes a texel. The IR gives no result for it.
+fn change_texel<L: FunctionBuilder>(
+    lowering: &mut L,
+    operation: &Operation,
+    id: u32,
+) -> Result<(), SpirvError> {
+    let opcode = operation.instruction.opcode;
+    let fun = match function(opcode) {
+        Some(fun) if opcode != ops::ATOMIC_EXCHANGE => fun,
+        _ => return Err(operation.unsupported_by(Feature::ImageAtomic)),
+    };
+    let Slot::Texel { coordinate, .. } = lowering.slot(operation.need(0)?) else {
+        return Err(operation.malformed(Malformed::NoPointer));
+    };
+    lowering.require(Capabilities::TEXTURE_ATOMIC);
+    let image = lowering.image(id, operation)?;
+    let place = [id, coordinate];
+    let texel = Operation {
+        instruction: operation.instruction,
+        operands: &place,
+    };
+    let at = read_coordinates(lowering, &texel, &image, 1, false)?;
+    let value = signed(lowering, operation, 3, image.shape.scalar.kind)?;
+    let change = Statement::ImageAtomic {
+        image: image.value,
+        coordinate: at.coordinate,
+        array_index: at.layer,
+        fun,
+        value,
+    };
+    statement(lowering, operation, change)
+}
+
+// Operands of an image that only say how memory is ordered.
+const ORDERING: u32 = 0x7f00;
+
+/// Stores a texel.
+pub fn store_texel<L: FunctionBuilder>(
+    lowering: &mut L,
+    operation: &Operation,
+) -> Result<(), SpirvError> {
+    let image = lowering.image(operation.need(0)?, operation)?;
+    let at = read_coordinates(lowering, operation, &image, 1, false)?;
+    if operation
+        .operands
+        .get(3)
+        .is_some_and(|mask| mask & !ORDERING != 0)
+    {
+        return Err(operation.unsupported_by(Feature::ImageWriteOperands));
+    }
+    let value = widened(lowering, operation, 2)?;
+    let store = Statement::ImageStore {
+        image: image.value,
+        coordinate: at.coordinate,
+        array_index: at.layer,
+        value,
+    };
+    statement(lowering, operation, store)
+}

@@ -1,0 +1,187 @@
+// What operations change of the function that is built.
+
+use ir_arena::span::Span;
+use ir_blocks::{Block, Statement};
+use ir_flags::Capabilities;
+use ir_kinds::PredeclaredType;
+use ir_types::Expression;
+use spirv_expressions::{Builder, Operation, Value};
+use spirv_types::{ImageUse, TypeHandle};
+use spirv_words::SpirvError;
+
+/// What an id is in the function that is built.
+#[derive(Clone, Copy)]
+pub enum Slot {
+    /// Nothing yet.
+    Nothing,
+    /// A value.
+    Value {
+        /// The expression.
+        value: Value,
+        /// The scope in which it is; `None` where it is always there.
+        scope: Option<u32>,
+        /// The local in which it is kept.
+        local: Option<Value>,
+    },
+    /// A pointer, an image or a sampler, by its place among the pointers.
+    Pointer(u32),
+    /// An image with a sampler.
+    Pair {
+        /// The image.
+        image: u32,
+        /// The sampler.
+        sampler: u32,
+    },
+    /// A texel of an image at a coordinate, by their ids.
+    Texel {
+        /// The image.
+        image: u32,
+        /// The coordinate.
+        coordinate: u32,
+    },
+}
+
+/// A step from a pointer to a part.
+#[derive(Clone, Copy)]
+pub enum PointerStep {
+    /// None: it is a variable or an argument.
+    Root,
+    /// To the part at this index.
+    Index(u32),
+    /// To the part at the index that this id is.
+    Dynamic(u32),
+}
+
+/// A pointer, an image or a sampler.
+#[derive(Clone, Copy)]
+pub struct Pointer {
+    /// The pointer from which it goes on.
+    pub base: Option<u32>,
+    /// The step from there.
+    pub step: PointerStep,
+    /// The expression that was made for it last.
+    pub value: Value,
+    /// The scope of that one; `None` where it is always there.
+    pub scope: Option<u32>,
+    /// The type to which it points.
+    pub ty: u32,
+    /// The image that it is.
+    pub image: Option<ImageUse>,
+    /// Whether the matrices to which it leads are stored row by row.
+    pub row_major: bool,
+    /// It is this column of the matrix to which it leads, which is stored row by row.
+    pub column: Option<PointerStep>,
+    /// The type that was built for it in place of its own.
+    pub rebuilt: Option<TypeHandle>,
+}
+
+/// A pointer that is always there, to a value of this type.
+pub fn root(value: Value, ty: u32) -> Pointer {
+    Pointer {
+        base: None,
+        step: PointerStep::Root,
+        value,
+        scope: None,
+        ty,
+        image: None,
+        row_major: false,
+        column: None,
+        rebuilt: None,
+    }
+}
+
+/// A function that is being built, with its statements, and with what its ids are.
+pub trait FunctionBuilder: Builder {
+    /// The name of an id, if it has one.
+    fn name_of(&self, id: u32) -> Result<Option<String>, SpirvError>;
+
+    /// The place of the function with this id among those that are built.
+    fn place_of(&self, function: u32) -> Option<u32>;
+
+    /// Whether an id is of a constant or of a specialization constant.
+    fn is_known(&self, id: u32) -> bool;
+
+    /// What an id is.
+    fn slot(&self, id: u32) -> Slot;
+
+    /// An id is this.
+    fn set(&mut self, id: u32, slot: Slot);
+
+    /// What a variable or a pointer is; a variable is named where it was not before.
+    fn resolve(&mut self, id: u32, operation: &Operation) -> Result<Slot, SpirvError>;
+
+    /// The place of the pointer that an id is.
+    fn pointer(&mut self, id: u32, operation: &Operation) -> Result<u32, SpirvError>;
+
+    /// The pointer at a place.
+    fn pointer_at(&self, place: u32, operation: &Operation) -> Result<Pointer, SpirvError>;
+
+    /// A pointer more; answers its place.
+    fn add_pointer(&mut self, pointer: Pointer) -> Result<u32, SpirvError>;
+
+    /// The expression of a pointer, made anew where the one that it has is not in scope.
+    fn way(&mut self, place: u32, operation: &Operation) -> Result<Value, SpirvError>;
+
+    /// A part of a value or of what a pointer points to.
+    fn step(
+        &mut self,
+        base: Value,
+        step: PointerStep,
+        operation: &Operation,
+    ) -> Result<Value, SpirvError>;
+
+    /// The scope that is built.
+    fn scope(&self) -> u32;
+
+    /// What comes now is in this scope.
+    fn enter(&mut self, scope: u32);
+
+    /// The result of an instruction is this value; one that outlives its scope is kept in a local.
+    fn define(&mut self, operation: &Operation, value: Value) -> Result<(), SpirvError>;
+
+    /// An expression that is always there.
+    fn always(
+        &mut self,
+        expression: Expression,
+        operation: &Operation,
+    ) -> Result<Value, SpirvError>;
+
+    /// The expression that an id was named as before in the function that is built.
+    fn named_before(&self, id: u32) -> Option<Value>;
+
+    /// An id is named as this expression in the function that is built.
+    fn set_named(&mut self, id: u32, value: Value);
+
+    /// The struct that an expression gives, which is built once.
+    fn predeclared(&mut self, of: PredeclaredType) -> Result<TypeHandle, SpirvError>;
+
+    /// The module uses this.
+    fn require(&mut self, capability: Capabilities);
+
+    /// A local of this type; answers the pointer to it.
+    fn local(
+        &mut self,
+        name: Option<String>,
+        ty: TypeHandle,
+        init: Option<Value>,
+        span: Span,
+    ) -> Result<Value, SpirvError>;
+
+    /// An expression that is computed here, with this span.
+    fn compute(&mut self, expression: Expression, span: Span) -> Result<Value, SpirvError>;
+
+    /// An expression that is always there, with this span.
+    fn place(&mut self, expression: Expression, span: Span) -> Result<Value, SpirvError>;
+
+    /// A statement in the innermost block.
+    fn add(&mut self, statement: Statement, span: Span) -> Result<(), SpirvError>;
+
+    /// Opens a block.
+    fn open(&mut self) -> Result<(), SpirvError>;
+
+    /// Closes the innermost block.
+    fn close(&mut self) -> Result<Block, SpirvError>;
+
+    /// Emits what no statement emits yet.
+    fn flush(&mut self) -> Result<(), SpirvError>;
+}

@@ -1,0 +1,90 @@
+// Calls of functions.
+
+use crate::builder::{FunctionBuilder, Slot};
+use crate::storage::statement;
+use ir_arena::handle::{Handle, NonMaxU32};
+use ir_blocks::Statement;
+use ir_types::Expression;
+use spirv_expressions::{Operation, Value};
+use spirv_types::Shape;
+use spirv_words::{Feature, Malformed, SpirvError};
+
+/// A call of a function, which stands before this one.
+pub fn call_function<L: FunctionBuilder>(
+    lowering: &mut L,
+    operation: &Operation,
+) -> Result<(), SpirvError> {
+    let mut arguments = Vec::new(lowering.alloc());
+    for id in operation.operands.get(1..).unwrap_or(&[]) {
+        let [first, second] = argument(lowering, *id, operation)?;
+        if let Some(value) = first {
+            arguments.push(value)?;
+        }
+        if let Some(value) = second {
+            arguments.push(value)?;
+        }
+    }
+    let place = lowering
+        .place_of(operation.need(0)?)
+        .and_then(NonMaxU32::new);
+    let Some(place) = place else {
+        return Err(operation.malformed(Malformed::NoFunction));
+    };
+    let function = Handle::new(place);
+    if matches!(lowering.shape(operation.instruction.ty), Shape::Void) {
+        let call = Statement::Call {
+            function,
+            arguments,
+            result: None,
+        };
+        return statement(lowering, operation, call);
+    }
+    let value = lowering.always(Expression::CallResult(function), operation)?;
+    let call = Statement::Call {
+        function,
+        arguments,
+        result: Some(value),
+    };
+    statement(lowering, operation, call)?;
+    lowering.define(operation, value)
+}
+
+// What is passed for an argument: an image with a sampler as two.
+fn argument<L: FunctionBuilder>(
+    lowering: &mut L,
+    id: u32,
+    operation: &Operation,
+) -> Result<[Option<Value>; 2], SpirvError> {
+    let is_value = matches!(lowering.slot(id), Slot::Value { .. });
+    if is_value || lowering.is_known(id) {
+        return Ok([Some(lowering.value(id, operation)?), None]);
+    }
+    match lowering.resolve(id, operation)? {
+        Slot::Pair { image, sampler } => {
+            let image = pointer(lowering, image, operation)?;
+            let sampler = pointer(lowering, sampler, operation)?;
+            Ok([Some(image), Some(sampler)])
+        }
+        Slot::Pointer(place) => Ok([Some(pointer(lowering, place, operation)?), None]),
+        Slot::Nothing | Slot::Value { .. } | Slot::Texel { .. } => {
+            Err(operation.malformed(Malformed::NoValue))
+        }
+    }
+}
+
+// A pointer that is passed; none to matrices that are stored row by row.
+fn pointer<L: FunctionBuilder>(
+    lowering: &mut L,
+    place: u32,
+    operation: &Operation,
+) -> Result<Value, SpirvError> {
+    let pointer = lowering.pointer_at(place, operation)?;
+    let is_matrix = matches!(
+        lowering.shape(pointer.ty),
+        Shape::Matrix { .. } | Shape::Array { .. }
+    );
+    if pointer.column.is_some() || pointer.row_major && is_matrix {
+        return Err(operation.unsupported_by(Feature::RowMajorArgument));
+    }
+    lowering.way(place, operation)
+}

@@ -1,0 +1,18 @@
+//! Operations of SPIR-V that are statements, or that change what ids are: memory, calls, atomics, barriers, subgroups;
+//! whatever function they are built in.
+#![tactic(auto)]
+
+mod atomics;
+mod builder;
+mod calls;
+mod groups;
+mod pointers;
+mod splits;
+mod storage;
+
+pub use atomics::{atomic, store_texel};
+pub use builder::{FunctionBuilder, Pointer, PointerStep, Slot, root};
+pub use calls::call_function;
+pub use groups::{barrier, group};
+pub use splits::split;
+pub use storage::{memory, phi_local, statement};

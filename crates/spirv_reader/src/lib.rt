@@ -1,0 +1,7 @@
+//! From the bytes of a SPIR-V module to a module of the IR, with the settings that it is to be judged by.
+#![tactic(auto)]
+
+mod reader;
+
+pub use reader::read_spirv;
+pub use spirv_words::{MAX_LEN, SpirvError};

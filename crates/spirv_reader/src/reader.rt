@@ -1,0 +1,101 @@
+// From the bytes of a SPIR-V module to a module of the IR.
+
+use document_reader::{Document, Settings};
+use ir_arena::arena::Arena;
+use ir_flags::{ShaderStages, SubgroupOperationSet, ValidationFlags};
+use ir_items::{EntryPoint, Function, Module, SpecialTypes, key};
+use ir_sets::keyed::KeyedState;
+use spirv_bodies::{Lowering, lower_functions};
+use spirv_declarations::{Declarations, declare};
+use spirv_entries::lower_entries;
+use spirv_flow::{Flow, flow_of};
+use spirv_tables::Demands;
+use spirv_words::{Listing, SpirvError, list};
+use std::alloc::Global;
+
+/// The module that the bytes of SPIR-V say, with the settings that it is to be judged by: all checks, the capabilities that
+/// it names or uses, and returns put in. Its spans are in words. An error is out of memory, that the bytes are no SPIR-V,
+/// or what of it is not translated.
+pub fn read_spirv(alloc: Global, bytes: &[u8]) -> Result<Document, SpirvError> {
+    let listing = list(alloc, bytes)?;
+    read_listing(alloc, &listing, KeyedState::of_bytes(bytes))
+}
+
+// The same of a module whose words are sorted out.
+fn read_listing(alloc: Global, listing: &Listing, key: KeyedState) -> Result<Document, SpirvError> {
+    let flow = flow_of(alloc, listing)?;
+    let declared = declare(alloc, listing, &flow.uses, key)?;
+    read_functions(alloc, listing, &flow, declared)
+}
+
+// The same of one whose declarations are read.
+fn read_functions(
+    alloc: Global,
+    listing: &Listing,
+    flow: &Flow,
+    declared: Declarations,
+) -> Result<Document, SpirvError> {
+    let mut lowering = Lowering::new(alloc, listing, flow, declared)?;
+    let functions = lower_functions(alloc, &mut lowering)?;
+    let (declared, special_types) = lowering.finish();
+    read_entries(alloc, listing, flow, (declared, special_types), functions)
+}
+
+// The same of one whose functions are read.
+fn read_entries(
+    alloc: Global,
+    listing: &Listing,
+    flow: &Flow,
+    declared: (Declarations, SpecialTypes),
+    functions: Arena<Function, key::Function>,
+) -> Result<Document, SpirvError> {
+    let (mut declared, special_types) = declared;
+    let entry_points = lower_entries(alloc, listing, &flow.order, &mut declared)?;
+    Ok(document_of(alloc, declared, special_types, functions, entry_points))
+}
+
+// The settings of a module with these demands.
+fn settings_of(demands: &Demands) -> Settings {
+    let stages = if demands.operations == SubgroupOperationSet(0) {
+        0
+    } else {
+        ShaderStages::VERTEX.0 | ShaderStages::FRAGMENT.0 | ShaderStages::COMPUTE.0
+    };
+    Settings {
+        flags: ValidationFlags::default(),
+        capabilities: demands.capabilities,
+        subgroup_stages: ShaderStages(stages),
+        subgroup_operations: demands.operations,
+        returns: true,
+    }
+}
+
+// The document of a module with these parts.
+fn document_of(
+    alloc: Global,
+    declared: Declarations,
+    special_types: SpecialTypes,
+    functions: Arena<Function, key::Function>,
+    entry_points: Vec<EntryPoint>,
+) -> Document {
+    let settings = settings_of(&declared.demands);
+    let Declarations {
+        types,
+        constants,
+        variables,
+        demands: _,
+    } = declared;
+    let module = Module {
+        types: types.types,
+        special_types,
+        constants: constants.constants,
+        overrides: constants.overrides,
+        global_variables: variables.variables,
+        global_expressions: constants.expressions,
+        functions,
+        entry_points,
+        diagnostic_filters: Arena::new(alloc),
+        diagnostic_filter_leaf: None,
+    };
+    Document { settings, module }
+}

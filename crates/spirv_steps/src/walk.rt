@@ -1,0 +1,650 @@
+// From blocks with merges to steps (section 2.11, structured control flow).
+
+use crate::blocks::{Block, Blocks, FunctionBlocks};
+use crate::meanings::{Environment, Meaning, Meanings};
+use crate::scopes::Scopes;
+use crate::steps::{BreakIf, Case, Step};
+use crate::switches::Switches;
+use spirv_numbers::ops;
+use spirv_words::{Feature, FunctionParts, Instruction, Listing, Malformed, SpirvError};
+use std::alloc::Global;
+
+// How deep control flow may nest: the statements that are made of it are gone through by recursion.
+const MAX_NESTING: usize = 255;
+
+// What is open around the block that is walked.
+#[derive(Clone, Copy)]
+enum Frame {
+    // the part of an if where its condition holds
+    Accept {
+        reject: Option<u32>,
+        merge: Option<u32>,
+        outside: Environment,
+    },
+    // the part where it does not
+    Reject {
+        merge: Option<u32>,
+        outside: Environment,
+    },
+    // the body of a loop
+    Body {
+        header: u32,
+        merge: u32,
+        continuing: u32,
+        outside: Environment,
+    },
+    // its continuing part
+    Continuing {
+        merge: u32,
+        token: u32,
+        condition: Option<BreakIf>,
+        outside: Environment,
+    },
+    // a case of the innermost switch
+    Case {
+        outside: Environment,
+    },
+}
+
+/// The steps of all functions, with what they need.
+#[derive(Drop)]
+pub struct Steps {
+    /// The steps.
+    pub steps: Vec<Step>,
+    /// The cases of their switches.
+    pub cases: Vec<Case>,
+    /// The scope of each block.
+    pub scopes: Scopes,
+}
+
+//// What walks the blocks of functions. What is wrong first is kept, and the walk ends after the step that found it.
+#[derive(Drop)]
+pub struct Walk<'a> {
+    listing: &'a Listing,
+    blocks: &'a Blocks,
+    function: FunctionBlocks,
+    steps: Vec<Step>,
+    frames: Vec<Frame>,
+    // for each block whether it is walked
+    done: Vec<bool>,
+    meanings: Meanings,
+    scopes: Scopes,
+    switches: Switches,
+    environment: Environment,
+    // how many constructs there were
+    tokens: u32,
+    // the loops that are open and left from a switch in them
+    flagged: Vec<u32>,
+    // what is wrong first
+    failed: Option<SpirvError>,
+}
+
+// The block where the walk goes on; none where a path ends.
+type Next = Option<u32>;
+
+impl<'a> Walk<'a> {
+    /// One that has walked nothing.
+    pub fn new(
+        alloc: Global,
+        listing: &'a Listing,
+        blocks: &'a Blocks,
+    ) -> Result<Walk<'a>, SpirvError> {
+        let count = blocks.blocks.len();
+        let switches = Switches::new(alloc, count)?;
+        let meanings = Meanings::new(alloc, count)?;
+        let scopes = Scopes::new(alloc, count)?;
+        let done = vec![in alloc; false; count]?;
+        let none = FunctionBlocks {
+            parts: FunctionParts { start: 0, end: 0 },
+            first: 0,
+            end: 0,
+        };
+        Ok(Walk {
+            listing,
+            blocks,
+            function: none,
+            steps: Vec::new(alloc),
+            frames: Vec::new(alloc),
+            done,
+            meanings,
+            scopes,
+            switches,
+            environment: Environment::START,
+            tokens: 0,
+            flagged: Vec::new(alloc),
+            failed: None,
+        })
+    }
+
+    /// What it has walked.
+    pub fn finish(self) -> Steps {
+        let Walk {
+            listing: _,
+            blocks: _,
+            function: _,
+            steps,
+            frames,
+            done,
+            meanings,
+            scopes,
+            switches,
+            environment: _,
+            tokens: _,
+            flagged,
+            failed: _,
+        } = self;
+        drop(frames);
+        drop(done);
+        drop(meanings);
+        drop(flagged);
+        Steps {
+            steps,
+            cases: switches.into_cases(),
+            scopes,
+        }
+    }
+
+    /// How many steps there are.
+    pub fn count(&self) -> u32 {
+        u32::try_from(self.steps.len()).unwrap_or(u32::MAX)
+    }
+
+    /// Walks the blocks of a function.
+    pub fn walk_function(&mut self, function: FunctionBlocks) -> Result<(), SpirvError> {
+        self.function = function;
+        self.environment = Environment::START;
+        self.open_scope();
+        if function.first >= function.end {
+            let end = self.listing.at(function.parts.end);
+            return Err(end.unsupported_by(Feature::NoBody));
+        }
+        let mut next = Some(function.first);
+        let words = function.parts.end.saturating_sub(function.parts.start);
+        for _ in 0..u64::from(words).saturating_mul(16).saturating_add(64) {
+            next = match next {
+                Some(block) => self.visit(block),
+                None => match self.frames.pop() {
+                    Some(frame) => self.leave(frame),
+                    None => {
+                        self.scopes.close();
+                        self.meanings.undo(0);
+                        return Ok(());
+                    }
+                },
+            };
+            if let Some(error) = self.failed {
+                return Err(error);
+            }
+        }
+        let start = self.listing.at(function.parts.start);
+        Err(start.unsupported_by(Feature::ControlFlow))
+    }
+
+    // Something is wrong.
+    fn fail(&mut self, error: SpirvError) {
+        if self.failed.is_none() {
+            self.failed = Some(error);
+        }
+    }
+
+    // Control flow that is not structured as it is wanted here, at this block.
+    fn refuse(&mut self, feature: Feature, block: u32) {
+        let error = self.end_of(block).unsupported_by(feature);
+        self.fail(error);
+    }
+
+    // A step more.
+    fn add(&mut self, step: Step) {
+        if self.steps.push(step).is_err() {
+            self.fail(SpirvError::Memory);
+        }
+    }
+
+    // Opens a construct.
+    fn open(&mut self, frame: Frame) {
+        if self.frames.push(frame).is_err() {
+            self.fail(SpirvError::Memory);
+        }
+    }
+
+    // Opens a scope inside the innermost one.
+    fn open_scope(&mut self) {
+        if self.scopes.open().is_err() {
+            self.fail(SpirvError::Memory);
+        }
+    }
+
+    // A branch to a block means this from now on.
+    fn set_meaning(&mut self, block: u32, meaning: Meaning) {
+        if self.meanings.set(block, meaning).is_err() {
+            self.fail(SpirvError::Memory);
+        }
+    }
+
+    // The block with this number, which is one.
+    fn block(&self, number: u32) -> Block {
+        self.blocks.get(number).unwrap_or(Block {
+            label: 0,
+            first: 0,
+            merge: None,
+            end: 0,
+        })
+    }
+
+    // The instruction that ends a block.
+    fn end_of(&self, block: u32) -> Instruction {
+        self.listing.at(self.block(block).end)
+    }
+
+    // The block that an operand names; none is wrong.
+    fn target(&mut self, instruction: &Instruction, place: usize) -> Option<u32> {
+        let Some(label) = self.listing.operand(instruction, place) else {
+            self.fail(instruction.malformed(Malformed::MissingOperand));
+            return None;
+        };
+        let block = self.blocks.labelled(&self.function, label);
+        if block.is_none() {
+            self.fail(instruction.malformed(Malformed::NoBlock));
+        }
+        block
+    }
+
+    // Walks to a block: does what a branch there means, or the block's own instructions. Answers where to go on.
+    fn visit(&mut self, number: u32) -> Next {
+        match self.meanings.of(number) {
+            Meaning::Nothing => self.begin(number),
+            meaning => {
+                self.branch(number, meaning);
+                None
+            }
+        }
+    }
+
+    // A branch to a block that means something.
+    fn branch(&mut self, block: u32, meaning: Meaning) {
+        let here = self.environment;
+        match meaning {
+            Meaning::Nothing => {}
+            Meaning::Merge(token) if token == here.selection => {}
+            Meaning::Fall(token) if token == here.selection => self.switches.fall(here.case, block),
+            Meaning::Merge(_) | Meaning::Fall(_) => self.refuse(Feature::BranchOutOfTwo, block),
+            Meaning::Break(token) if token < here.floor => {
+                self.refuse(Feature::BreakInContinuing, block);
+            }
+            Meaning::Break(token) if token == here.breakable => self.add(Step::Break),
+            Meaning::Break(token) if token == here.looping => self.leave_loop(token),
+            Meaning::Break(_) => self.refuse(Feature::OuterBreak, block),
+            Meaning::Continue(token) if token == here.looping => self.add(Step::Continue),
+            Meaning::Continue(_) => self.refuse(Feature::OuterContinue, block),
+            Meaning::Back(token) if token == here.back => {}
+            Meaning::Back(_) => self.refuse(Feature::OuterHeader, block),
+        }
+    }
+
+    // Leaves the innermost loop from a switch in it: a flag says so after the switch.
+    fn leave_loop(&mut self, token: u32) {
+        self.switches.leave(token);
+        if self.flagged.last() != Some(&token) {
+            if self.flagged.push(token).is_err() {
+                self.fail(SpirvError::Memory);
+            }
+        }
+        self.add(Step::SetFlag(token));
+        self.add(Step::Break);
+    }
+
+    // A loop is ended: its flag is taken back where it has one.
+    fn end_loop(&mut self, token: u32, condition: Option<BreakIf>) {
+        self.add(Step::EndLoop(condition));
+        if self.flagged.last() == Some(&token) {
+            let _ = self.flagged.pop();
+            self.add(Step::ClearFlag(token));
+        }
+    }
+
+    // Walks a block itself.
+    fn begin(&mut self, number: u32) -> Next {
+        if self.frames.len() > MAX_NESTING {
+            self.refuse(Feature::DeepControlFlow, number);
+            return None;
+        }
+        if !self.is_first(number) {
+            self.refuse(Feature::BlockReachedTwice, number);
+            return None;
+        }
+        let place = match self.block(number).merge {
+            None => return self.finish_block(number, None),
+            Some(place) => place,
+        };
+        let merge = self.listing.at(place);
+        if merge.opcode == ops::SELECTION_MERGE {
+            return match self.target(&merge, 0) {
+                Some(to) => self.finish_block(number, Some(to)),
+                None => None,
+            };
+        }
+        self.begin_loop(number, &merge);
+        self.finish_block(number, None)
+    }
+
+    // Whether the block is walked for the first time, as it is from now on.
+    fn is_first(&mut self, number: u32) -> bool {
+        match self.done.get_mut(number as usize) {
+            Some(done) if !*done => {
+                *done = true;
+                true
+            }
+            _ => false,
+        }
+    }
+
+    // Opens the loop that this block begins.
+    fn begin_loop(&mut self, header: u32, merge: &Instruction) {
+        let (Some(to), Some(continuing)) = (self.target(merge, 0), self.target(merge, 1)) else {
+            return;
+        };
+        let outside = self.outside();
+        let token = self.token();
+        self.set_meaning(to, Meaning::Break(token));
+        self.set_meaning(continuing, Meaning::Continue(token));
+        self.environment.selection = self.token();
+        self.environment.breakable = token;
+        self.environment.looping = token;
+        self.environment.back = 0;
+        self.add(Step::Loop);
+        self.open_scope();
+        self.open(Frame::Body {
+            header,
+            merge: to,
+            continuing,
+            outside,
+        });
+    }
+
+    // The block's instructions and its end.
+    fn finish_block(&mut self, number: u32, merge: Option<u32>) -> Next {
+        self.scopes.enter(number);
+        self.add(Step::Block(number));
+        let end = self.end_of(number);
+        match end.opcode {
+            ops::BRANCH if merge.is_some() => self.refuse(Feature::MergeAtBranch, number),
+            ops::BRANCH => return self.target(&end, 0),
+            ops::BRANCH_CONDITIONAL => return self.conditional(number, &end, merge),
+            ops::SWITCH => return self.begin_switch(number, &end, merge),
+            ops::RETURN | ops::RETURN_VALUE => self.add(Step::Return(number)),
+            ops::KILL | ops::TERMINATE_INVOCATION => self.add(Step::Kill),
+            _ => {}
+        }
+        None
+    }
+
+    // Whether the branch is the one that ends a loop: to its header and to its merge.
+    fn ends_loop(&mut self, block: u32, accept: u32, reject: u32) -> bool {
+        let back = Meaning::Back(self.environment.back);
+        let Some(
+            Frame::Continuing {
+                merge,
+                token,
+                outside,
+                ..
+            },
+        ) = self.frames.last().copied()
+        else {
+            return false;
+        };
+        let accepts = self.meanings.of(accept) == back && reject == merge;
+        let rejects = self.meanings.of(reject) == back && accept == merge;
+        if !accepts && !rejects {
+            return false;
+        }
+        let _ = self.frames.pop();
+        self.open(Frame::Continuing {
+            merge,
+            token,
+            condition: Some(BreakIf {
+                block,
+                negated: accepts,
+            }),
+            outside,
+        });
+        true
+    }
+
+    // A branch on a condition.
+    fn conditional(&mut self, number: u32, end: &Instruction, merge: Option<u32>) -> Next {
+        let (Some(accept), Some(reject)) = (self.target(end, 1), self.target(end, 2)) else {
+            return None;
+        };
+        if merge.is_none() {
+            if self.ends_loop(number, accept, reject) {
+                return None;
+            }
+            if accept == reject {
+                return Some(accept);
+            }
+        }
+        let outside = self.outside();
+        if let Some(to) = merge {
+            self.merge_at(to);
+        }
+        self.add(Step::If(number));
+        self.open_scope();
+        self.open(Frame::Accept {
+            reject: if accept == reject { None } else { Some(reject) },
+            merge,
+            outside,
+        });
+        Some(accept)
+    }
+
+    // A selection ends at this block, unless a branch there means something else.
+    fn merge_at(&mut self, to: u32) {
+        if self.meanings.of(to) == Meaning::Nothing {
+            let token = self.token();
+            self.set_meaning(to, Meaning::Merge(token));
+            self.environment.selection = token;
+        }
+    }
+
+    // A branch on a selector.
+    fn begin_switch(&mut self, number: u32, end: &Instruction, merge: Option<u32>) -> Next {
+        let Some(to) = merge else {
+            self.refuse(Feature::SwitchWithoutMerge, number);
+            return None;
+        };
+        if let Err(error) = self.check_selector(end) {
+            self.fail(error);
+            return None;
+        }
+        let outside = self.outside();
+        let token = self.token();
+        let fall = self.token();
+        self.set_meaning(to, Meaning::Break(token));
+        if let Err(error) = self.add_targets(number, end, to) {
+            self.fail(error);
+            return None;
+        }
+        for target in self.switches.first()..self.switches.count() {
+            if let Some(block) = self.switches.block_of(target) {
+                self.set_meaning(block, Meaning::Fall(fall));
+            }
+        }
+        self.environment.selection = fall;
+        self.environment.breakable = token;
+        self.next_case(outside)
+    }
+
+    // The words and blocks that a switch names.
+    fn add_targets(&mut self, number: u32, end: &Instruction, to: u32) -> Result<(), SpirvError> {
+        let step = self.count();
+        self.add(Step::Kill);
+        let looping = self.environment.looping;
+        self.switches.open(looping, number, end.start, step, to)?;
+        let count = self.listing.operands(end).len() / 2;
+        for pair in 1..count {
+            let word = self.listing.need(end, pair.saturating_mul(2))?;
+            if let Some(block) = self.target(end, pair.saturating_mul(2).saturating_add(1)) {
+                self.switches.add(block, word)?;
+            }
+        }
+        if let Some(default) = self.target(end, 1) {
+            self.switches.add_default(default)?;
+        }
+        Ok(())
+    }
+
+    // A switch on words, and not on pairs of words.
+    fn check_selector(&self, end: &Instruction) -> Result<(), SpirvError> {
+        let selector = self.listing.need(end, 0)?;
+        let value = self
+            .listing
+            .definition(selector)
+            .unwrap_or(Instruction::NONE);
+        let ty = self
+            .listing
+            .definition(value.ty)
+            .unwrap_or(Instruction::NONE);
+        if ty.opcode == ops::TYPE_INT && self.listing.operand(&ty, 0) == Some(32) {
+            Ok(())
+        } else {
+            Err(end.unsupported_by(Feature::SwitchSelector))
+        }
+    }
+
+    // Goes on with the next case of the innermost switch, or ends it.
+    fn next_case(&mut self, outside: Environment) -> Next {
+        let step = self.count();
+        match self.switches.next(step) {
+            Some((case, block)) => {
+                self.environment.case = case;
+                self.set_meaning(block, Meaning::Nothing);
+                self.open_scope();
+                self.open(Frame::Case { outside });
+                Some(block)
+            }
+            None => self.end_switch(step, outside),
+        }
+    }
+
+    // Ends the innermost switch, whose last case ends before this step.
+    fn end_switch(&mut self, step: u32, outside: Environment) -> Next {
+        let left = self.switches.left();
+        let (at, whole, merge) = match self.switches.close(step) {
+            Ok(closed) => closed,
+            Err(error) => {
+                self.fail(error);
+                return None;
+            }
+        };
+        if let Some(place) = self.steps.get_mut(at as usize) {
+            *place = whole;
+        }
+        if let Some(token) = left {
+            self.add(Step::BreakIfFlag(token));
+        }
+        self.restore(outside);
+        Some(merge)
+    }
+
+    // Puts back what was outside of a construct.
+    fn restore(&mut self, outside: Environment) {
+        self.meanings.undo(outside.changes);
+        self.environment = outside;
+    }
+
+    // What is around, to be put back later.
+    fn outside(&self) -> Environment {
+        let mut now = self.environment;
+        now.changes = self.meanings.changes();
+        now
+    }
+
+    // A number for a construct.
+    fn token(&mut self) -> u32 {
+        self.tokens = self.tokens.saturating_add(1);
+        self.tokens
+    }
+
+    // Ends what is open. Answers where to go on.
+    fn leave(&mut self, frame: Frame) -> Next {
+        match frame {
+            Frame::Accept {
+                reject,
+                merge,
+                outside,
+            } => {
+                self.scopes.close();
+                self.add(Step::Else);
+                self.open_scope();
+                self.open(Frame::Reject { merge, outside });
+                reject
+            }
+            Frame::Reject { merge, outside } => {
+                self.scopes.close();
+                self.add(Step::EndIf);
+                self.restore(outside);
+                merge
+            }
+            Frame::Body {
+                header,
+                merge,
+                continuing,
+                outside,
+            } => self.begin_continuing(header, merge, continuing, outside),
+            Frame::Continuing {
+                merge,
+                token,
+                condition,
+                outside,
+            } => {
+                self.scopes.close();
+                self.scopes.close();
+                self.end_loop(token, condition);
+                self.restore(outside);
+                Some(merge)
+            }
+            Frame::Case { outside } => self.end_case(outside),
+        }
+    }
+
+    // Ends a case of the innermost switch.
+    fn end_case(&mut self, outside: Environment) -> Next {
+        self.scopes.close();
+        self.add(Step::EndCase);
+        if let Some(block) = self.switches.walked() {
+            self.set_meaning(block, Meaning::Fall(self.environment.selection));
+        }
+        self.next_case(outside)
+    }
+
+    // Opens the continuing part of a loop.
+    fn begin_continuing(
+        &mut self,
+        header: u32,
+        merge: u32,
+        continuing: u32,
+        outside: Environment,
+    ) -> Next {
+        self.add(Step::Continuing);
+        self.open_scope();
+        let looping = self.environment.looping;
+        self.open(Frame::Continuing {
+            merge,
+            token: looping,
+            condition: None,
+            outside,
+        });
+        if continuing == header {
+            return None;
+        }
+        let token = self.token();
+        self.environment.selection = token;
+        self.environment.breakable = 0;
+        self.environment.looping = 0;
+        self.environment.floor = token;
+        self.environment.back = token;
+        self.set_meaning(continuing, Meaning::Nothing);
+        self.set_meaning(header, Meaning::Back(token));
+        Some(continuing)
+    }
+}

@@ -1,0 +1,445 @@
+// The declarations of types (section 3.52.6).
+
+use crate::shapes::{
+    ImageShape, Layout, Shape, TypeHandle, TypeTable, matrix_layout, scalar_layout, span_of,
+    vector_layout, vector_size,
+};
+use ir_arena::span::Span;
+use ir_flags::{Capabilities, StorageAccess};
+use ir_kinds::{AddressSpace, ImageClass, Scalar, ScalarKind};
+use ir_types::{ArraySize, TypeInner};
+use spirv_flow::{Use, Uses};
+use spirv_numbers::{numbers, ops};
+use spirv_tables::{Decorated, Demands, Scan, dimension, format, is_norm16};
+use spirv_words::{Feature, Instruction, Listing, Malformed, SpirvError, Unsupported};
+use std::alloc::Global;
+
+/// What the declarations of types are read with.
+#[derive(Clone, Copy)]
+pub struct Reading<'a> {
+    /// The allocator.
+    pub alloc: Global,
+    /// The module.
+    pub listing: &'a Listing,
+    /// What was found of its types before.
+    pub scan: &'a Scan,
+    /// What its variables are used for.
+    pub uses: &'a Uses,
+}
+
+impl TypeTable {
+    /// A type that is not an array or a struct.
+    pub fn declare(
+        &mut self,
+        reading: &Reading,
+        instruction: &Instruction,
+        demands: &mut Demands,
+    ) -> Result<(), SpirvError> {
+        match instruction.opcode {
+            ops::TYPE_VOID => self.set(instruction.id, Shape::Void, None, Layout::NONE),
+            ops::TYPE_FUNCTION => self.set(instruction.id, Shape::Function, None, Layout::NONE),
+            ops::TYPE_BOOL => self.declare_scalar(instruction, Scalar::BOOL)?,
+            ops::TYPE_INT | ops::TYPE_FLOAT => {
+                let scalar = number(reading.listing, instruction)?;
+                self.declare_scalar(instruction, scalar)?;
+            }
+            ops::TYPE_VECTOR => self.declare_vector(reading.listing, instruction)?,
+            ops::TYPE_MATRIX => self.declare_matrix(reading.listing, instruction)?,
+            ops::TYPE_IMAGE => self.declare_image(reading.listing, instruction, demands)?,
+            ops::TYPE_SAMPLER => {
+                let inner = TypeInner::Sampler { comparison: false };
+                let handle = self.insert(None, inner, span_of(instruction))?;
+                self.set(instruction.id, Shape::Sampler, Some(handle), Layout::NONE);
+            }
+            ops::TYPE_SAMPLED_IMAGE => {
+                let image = reading.listing.need(instruction, 0)?;
+                let handle = self.need(image, instruction)?;
+                let shape = Shape::SampledImage(image);
+                self.set(instruction.id, shape, Some(handle), Layout::NONE);
+            }
+            ops::TYPE_POINTER => self.declare_pointer(reading, instruction)?,
+            _ => return Err(instruction.unsupported()),
+        }
+        Ok(())
+    }
+
+    fn declare_scalar(
+        &mut self,
+        instruction: &Instruction,
+        scalar: Scalar,
+    ) -> Result<(), SpirvError> {
+        let handle = self.insert(None, TypeInner::Scalar(scalar), span_of(instruction))?;
+        let shape = Shape::Scalar(scalar);
+        self.set(instruction.id, shape, Some(handle), scalar_layout(scalar));
+        Ok(())
+    }
+
+    fn declare_vector(
+        &mut self,
+        listing: &Listing,
+        instruction: &Instruction,
+    ) -> Result<(), SpirvError> {
+        let component = listing.need(instruction, 0)?;
+        let count = listing.need(instruction, 1)?;
+        let Some(size) = vector_size(count) else {
+            return Err(instruction.unsupported_as(Unsupported::VectorSize(count)));
+        };
+        let Shape::Scalar(scalar) = self.shape(component) else {
+            return Err(instruction.malformed(Malformed::WrongType));
+        };
+        let inner = TypeInner::Vector { size, scalar };
+        let handle = self.insert(None, inner, span_of(instruction))?;
+        let shape = Shape::Vector {
+            size,
+            scalar,
+            component,
+        };
+        self.set(
+            instruction.id,
+            shape,
+            Some(handle),
+            vector_layout(size, scalar),
+        );
+        Ok(())
+    }
+
+    fn declare_matrix(
+        &mut self,
+        listing: &Listing,
+        instruction: &Instruction,
+    ) -> Result<(), SpirvError> {
+        let column = listing.need(instruction, 0)?;
+        let Some(columns) = vector_size(listing.need(instruction, 1)?) else {
+            return Err(instruction.malformed(Malformed::WrongType));
+        };
+        let Shape::Vector {
+            size: rows,
+            scalar,
+            ..
+        } = self.shape(column)
+        else {
+            return Err(instruction.malformed(Malformed::WrongType));
+        };
+        let inner = TypeInner::Matrix {
+            columns,
+            rows,
+            scalar,
+        };
+        let handle = self.insert(None, inner, span_of(instruction))?;
+        let shape = Shape::Matrix {
+            columns,
+            rows,
+            scalar,
+            column,
+        };
+        self.set(
+            instruction.id,
+            shape,
+            Some(handle),
+            matrix_layout(columns, rows, scalar),
+        );
+        Ok(())
+    }
+
+    fn declare_image(
+        &mut self,
+        listing: &Listing,
+        instruction: &Instruction,
+        demands: &mut Demands,
+    ) -> Result<(), SpirvError> {
+        let sampled = listing.need(instruction, 0)?;
+        let Shape::Scalar(scalar) = self.shape(sampled) else {
+            return Err(instruction.unsupported_by(Feature::ImageOfNoNumber));
+        };
+        let image = read_image(listing, instruction, scalar)?;
+        if image.format.is_some_and(is_norm16) {
+            demands.ask(Capabilities::STORAGE_TEXTURE_16BIT_NORM_FORMATS);
+        }
+        let handle = self.image(&image, Use::NONE, StorageAccess(0), span_of(instruction))?;
+        self.set(
+            instruction.id,
+            Shape::Image(image),
+            Some(handle),
+            Layout::NONE,
+        );
+        Ok(())
+    }
+
+    /// The type of an image that is used so, and may be accessed so where it is for storage.
+    pub fn image(
+        &mut self,
+        image: &ImageShape,
+        used: Use,
+        access: StorageAccess,
+        span: Span,
+    ) -> Result<TypeHandle, SpirvError> {
+        let inner = TypeInner::Image {
+            dim: image.dim,
+            arrayed: image.arrayed,
+            class: image_class(image, used, access),
+        };
+        self.insert(None, inner, span)
+    }
+
+    fn declare_pointer(
+        &mut self,
+        reading: &Reading,
+        instruction: &Instruction,
+    ) -> Result<(), SpirvError> {
+        let class = reading.listing.need(instruction, 0)?;
+        let to = reading.listing.need(instruction, 1)?;
+        let handle = match self.shape(to) {
+            Shape::Nothing => return Err(instruction.unsupported_as(Unsupported::StorageClass(
+                class,
+            ))),
+            Shape::Function
+            | Shape::Void
+            | Shape::Pointer { .. }
+            | Shape::Image(_)
+            | Shape::Sampler
+            | Shape::SampledImage(_)
+            | Shape::Array { binding: true, .. } => None,
+            Shape::Scalar(_)
+            | Shape::Vector { .. }
+            | Shape::Matrix { .. }
+            | Shape::Array { .. }
+            | Shape::Struct { .. } => self.pointer(reading, instruction, class, to)?,
+        };
+        self.set(
+            instruction.id,
+            Shape::Pointer { class, to },
+            handle,
+            POINTER,
+        );
+        Ok(())
+    }
+
+    // The type of a pointer to a value.
+    fn pointer(
+        &mut self,
+        reading: &Reading,
+        instruction: &Instruction,
+        class: u32,
+        to: u32,
+    ) -> Result<Option<TypeHandle>, SpirvError> {
+        if class == numbers::CLASS_UNIFORM_CONSTANT || class == numbers::CLASS_IMAGE {
+            return Ok(None);
+        }
+        let base = self.need(to, instruction)?;
+        let space = match space_of(reading, class, to) {
+            Some(AddressSpace::Storage { .. }) => AddressSpace::Storage {
+                access: StorageAccess(0),
+            },
+            Some(space) => space,
+            None => return Err(instruction.unsupported_as(Unsupported::StorageClass(class))),
+        };
+        let inner = TypeInner::Pointer { base, space };
+        Ok(Some(self.insert(None, inner, span_of(instruction))?))
+    }
+
+    /// An array whose length is known, or is found when it runs.
+    pub fn declare_array(
+        &mut self,
+        reading: &Reading,
+        instruction: &Instruction,
+        size: &ArraySize,
+    ) -> Result<(), SpirvError> {
+        let element = reading.listing.need(instruction, 0)?;
+        let base = self.need(element, instruction)?;
+        if self.is_resource(reading, instruction, element)? {
+            return self.declare_resources(instruction, element, base, size);
+        }
+        let said = Decorated::of(reading.listing, instruction.id, None).array_stride;
+        let stride = said.unwrap_or(self.natural_stride(element));
+        let inner = TypeInner::Array {
+            base,
+            size: *size,
+            stride,
+        };
+        let handle = self.insert(None, inner, span_of(instruction))?;
+        let layout = self.array_layout(element, size, stride);
+        let shape = Shape::Array {
+            element,
+            size: *size,
+            binding: false,
+        };
+        self.set(instruction.id, shape, Some(handle), layout);
+        Ok(())
+    }
+
+    // An array of resources.
+    fn declare_resources(
+        &mut self,
+        instruction: &Instruction,
+        element: u32,
+        base: TypeHandle,
+        size: &ArraySize,
+    ) -> Result<(), SpirvError> {
+        let inner = TypeInner::BindingArray { base, size: *size };
+        let handle = self.insert(None, inner, span_of(instruction))?;
+        let shape = Shape::Array {
+            element,
+            size: *size,
+            binding: true,
+        };
+        self.set(instruction.id, shape, Some(handle), Layout::NONE);
+        Ok(())
+    }
+
+    // From element to element of an array where it is not said.
+    fn natural_stride(&self, element: u32) -> u32 {
+        let layout = self.layout(element);
+        u32::try_from(layout.round(layout.size)).unwrap_or(u32::MAX)
+    }
+
+    // How an array lies in memory; one whose length is not known as one of one element.
+    fn array_layout(&self, element: u32, size: &ArraySize, stride: u32) -> Layout {
+        let of_element = self.layout(element);
+        let count = match *size {
+            ArraySize::Constant(count) => count,
+            ArraySize::Pending(_) | ArraySize::Dynamic => 1,
+        };
+        Layout {
+            size: u64::from(count).saturating_mul(u64::from(stride)),
+            alignment: of_element.alignment,
+            locations: u64::from(count).saturating_mul(of_element.locations),
+        }
+    }
+
+    // Whether the elements of an array are resources: images, samplers, or blocks that are not between stages.
+    fn is_resource(
+        &self,
+        reading: &Reading,
+        instruction: &Instruction,
+        element: u32,
+    ) -> Result<bool, SpirvError> {
+        match self.shape(element) {
+            Shape::Image(_) | Shape::Sampler | Shape::SampledImage(_) => Ok(true),
+            Shape::Array { binding: true, .. } => {
+                Err(instruction.unsupported_by(Feature::ResourceArrays))
+            }
+            Shape::Struct { .. } => {
+                let said = Decorated::of(reading.listing, element, None);
+                let is_block = said.block || said.buffer_block;
+                Ok(is_block && !reading.scan.is_between(instruction.id))
+            }
+            _ => Ok(false),
+        }
+    }
+}
+
+// How a pointer lies in memory.
+const POINTER: Layout = Layout {
+    size: 4,
+    alignment: 4,
+    locations: 1,
+};
+
+// The scalar of a type of numbers.
+fn number(listing: &Listing, instruction: &Instruction) -> Result<Scalar, SpirvError> {
+    let bits = listing.need(instruction, 0)?;
+    let kind = if instruction.opcode == ops::TYPE_FLOAT {
+        ScalarKind::Float
+    } else if listing.need(instruction, 1)? == 1 {
+        ScalarKind::Sint
+    } else {
+        ScalarKind::Uint
+    };
+    let width = match bits {
+        16 => 2,
+        32 => 4,
+        64 => 8,
+        _ => {
+            let what = if kind == ScalarKind::Float {
+                Unsupported::FloatWidth(bits)
+            } else {
+                Unsupported::IntWidth(bits)
+            };
+            return Err(instruction.unsupported_as(what));
+        }
+    };
+    Ok(Scalar { kind, width })
+}
+
+// What an image is declared as: dimension, depth, layers, samples, whether sampled or for storage, format.
+fn read_image(
+    listing: &Listing,
+    instruction: &Instruction,
+    scalar: Scalar,
+) -> Result<ImageShape, SpirvError> {
+    let number = listing.need(instruction, 1)?;
+    let Some(dim) = dimension(number) else {
+        return Err(instruction.unsupported_as(Unsupported::Dimension(number)));
+    };
+    let multi = listing.need(instruction, 4)? != 0;
+    let format = if listing.need(instruction, 5)? == 2 {
+        Some(read_format(listing, instruction)?)
+    } else {
+        None
+    };
+    if multi && format.is_some() {
+        return Err(instruction.unsupported_by(Feature::MultisampledStorage));
+    }
+    let wide = format == Some(ir_kinds::StorageFormat::R64Uint);
+    if scalar.width != 4 && !wide {
+        return Err(instruction.unsupported_by(Feature::ImageWidth));
+    }
+    Ok(ImageShape {
+        dim,
+        arrayed: listing.need(instruction, 3)? != 0,
+        multi,
+        depth: listing.need(instruction, 2)? == 1,
+        scalar,
+        format,
+    })
+}
+
+// The format of a storage image.
+fn read_format(
+    listing: &Listing,
+    instruction: &Instruction,
+) -> Result<ir_kinds::StorageFormat, SpirvError> {
+    let number = listing.need(instruction, 6)?;
+    match format(number) {
+        Some(format) => Ok(format),
+        None => Err(instruction.unsupported_as(Unsupported::Format(number))),
+    }
+}
+
+/// The class of an image that is used so.
+pub fn image_class(image: &ImageShape, used: Use, access: StorageAccess) -> ImageClass {
+    match image.format {
+        Some(format) => ImageClass::Storage { format, access },
+        None if image.depth || used.compared => ImageClass::Depth { multi: image.multi },
+        None => ImageClass::Sampled {
+            kind: image.scalar.kind,
+            multi: image.multi,
+        },
+    }
+}
+
+/// The space of a storage class, for what points to a type; a storage buffer with all accesses.
+pub fn space_of(reading: &Reading, class: u32, to: u32) -> Option<AddressSpace> {
+    match class {
+        numbers::CLASS_STORAGE_BUFFER => Some(AddressSpace::Storage {
+            access: StorageAccess(0),
+        }),
+        numbers::CLASS_UNIFORM => {
+            if reading.scan.is_buffer_block(to) {
+                Some(AddressSpace::Storage {
+                    access: StorageAccess(0),
+                })
+            } else {
+                Some(AddressSpace::Uniform)
+            }
+        }
+        numbers::CLASS_INPUT | numbers::CLASS_OUTPUT | numbers::CLASS_PRIVATE => {
+            Some(AddressSpace::Private)
+        }
+        numbers::CLASS_WORKGROUP => Some(AddressSpace::WorkGroup),
+        numbers::CLASS_FUNCTION => Some(AddressSpace::Function),
+        numbers::CLASS_PUSH_CONSTANT => Some(AddressSpace::Immediate),
+        numbers::CLASS_UNIFORM_CONSTANT => Some(AddressSpace::Handle),
+        _ => None,
+    }
+}

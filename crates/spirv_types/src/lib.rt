@@ -1,0 +1,14 @@
+//! The types of a SPIR-V module, in the IR.
+#![tactic(auto)]
+
+mod declare;
+mod shapes;
+mod structs;
+mod upgrade;
+
+pub use declare::{Reading, image_class, space_of};
+pub use shapes::{
+    ImageShape, ImageUse, Layout, MemberShape, Shape, TypeHandle, TypeTable, round_up, span_of,
+    vector_size,
+};
+pub use structs::block_access;

@@ -1,0 +1,361 @@
+// What the types of a SPIR-V module are, by their ids.
+
+use ir_arena::handle::Handle;
+use ir_arena::span::Span;
+use ir_kinds::{ImageClass, ImageDimension, Scalar, StorageFormat, VectorSize};
+use ir_sets::keyed::KeyedState;
+use ir_sets::unique_arena::UniqueArena;
+use ir_types::{ArraySize, IrType, TypeInner, key};
+use spirv_words::{Instruction, Malformed, SpirvError};
+use std::alloc::Global;
+
+/// The handle of a type of the module that is built.
+pub type TypeHandle = Handle<key::IrType>;
+
+/// An image's type as it is declared.
+#[derive(Clone, Copy)]
+pub struct ImageShape {
+    /// How many dimensions it has.
+    pub dim: ImageDimension,
+    /// Whether it has layers.
+    pub arrayed: bool,
+    /// Whether it is multisampled.
+    pub multi: bool,
+    /// Whether it is declared as a depth image.
+    pub depth: bool,
+    /// What its texels are made of.
+    pub scalar: Scalar,
+    /// The format of a storage image.
+    pub format: Option<StorageFormat>,
+}
+
+/// An image that a variable or an argument is.
+#[derive(Clone, Copy)]
+pub struct ImageUse {
+    /// The image as it is declared.
+    pub shape: ImageShape,
+    /// Its class, as it is used.
+    pub class: ImageClass,
+}
+
+/// What a type is.
+#[derive(Clone, Copy)]
+pub enum Shape {
+    /// No type.
+    Nothing,
+    /// No value.
+    Void,
+    /// A number or a truth value.
+    Scalar(Scalar),
+    /// Scalars in a row.
+    Vector {
+        /// How many.
+        size: VectorSize,
+        /// What each is.
+        scalar: Scalar,
+        /// The type of one.
+        component: u32,
+    },
+    /// Columns in a row.
+    Matrix {
+        /// How many columns.
+        columns: VectorSize,
+        /// How many scalars a column has.
+        rows: VectorSize,
+        /// What each is.
+        scalar: Scalar,
+        /// The type of a column.
+        column: u32,
+    },
+    /// An image.
+    Image(ImageShape),
+    /// A sampler.
+    Sampler,
+    /// An image with a sampler, and the type of the image.
+    SampledImage(u32),
+    /// Elements in a row.
+    Array {
+        /// The type of one.
+        element: u32,
+        /// How many.
+        size: ArraySize,
+        /// Whether they are resources.
+        binding: bool,
+    },
+    /// Members, by their places in the table of members.
+    Struct {
+        /// The first of them.
+        first: u32,
+        /// How many.
+        count: u32,
+    },
+    /// A pointer into a storage class.
+    Pointer {
+        /// The class.
+        class: u32,
+        /// The type that it points to.
+        to: u32,
+    },
+    /// A function.
+    Function,
+}
+
+impl Shape {
+    /// Whether it is an image, a sampler or both.
+    pub fn is_handle(&self) -> bool {
+        matches!(
+            self,
+            Shape::Image(_) | Shape::Sampler | Shape::SampledImage(_)
+        )
+    }
+
+    /// The scalar of a number, a vector or a matrix.
+    pub fn scalar(&self) -> Option<Scalar> {
+        match *self {
+            Shape::Scalar(scalar) | Shape::Vector { scalar, .. } | Shape::Matrix { scalar, .. } =>
+                Some(scalar),
+            _ => None,
+        }
+    }
+
+    /// The size of a vector.
+    pub fn size(&self) -> Option<VectorSize> {
+        match *self {
+            Shape::Vector { size, .. } => Some(size),
+            _ => None,
+        }
+    }
+}
+
+/// A member of a struct.
+#[derive(Clone, Copy)]
+pub struct MemberShape {
+    /// Its type.
+    pub ty: u32,
+    /// Whether the matrices in it are stored row by row.
+    pub row_major: bool,
+}
+
+/// How a value lies in memory.
+#[derive(Clone, Copy)]
+pub struct Layout {
+    /// How many bytes it has.
+    pub size: u64,
+    /// A multiple of which it begins at.
+    pub alignment: u64,
+    /// How many locations it takes between stages.
+    pub locations: u64,
+}
+
+impl Layout {
+    /// Of what has no bytes.
+    pub const NONE: Layout = Layout {
+        size: 0,
+        alignment: 1,
+        locations: 1,
+    };
+
+    /// The number, rounded up to the alignment.
+    pub fn round(&self, number: u64) -> u64 {
+        round_up(number, self.alignment)
+    }
+}
+
+/// The least multiple that is not below a number.
+pub fn round_up(number: u64, multiple: u64) -> u64 {
+    match number.checked_rem(multiple) {
+        None | Some(0) => number,
+        Some(over) => number.saturating_add(multiple.saturating_sub(over)),
+    }
+}
+
+// What is known of a type.
+#[derive(Clone, Copy)]
+struct Entry {
+    shape: Shape,
+    handle: Option<TypeHandle>,
+    layout: Layout,
+}
+
+/// The types of a module: those that are built, and what each id of a type is.
+#[derive(Drop)]
+pub struct TypeTable {
+    /// The types that are built.
+    pub types: UniqueArena<IrType, key::IrType>,
+    entries: Vec<Entry>,
+    members: Vec<MemberShape>,
+}
+
+impl TypeTable {
+    /// None, with ids below the bound. Hashers of the types know the key.
+    pub fn new(alloc: Global, bound: usize, key: KeyedState) -> Result<TypeTable, SpirvError> {
+        let none = Entry {
+            shape: Shape::Nothing,
+            handle: None,
+            layout: Layout::NONE,
+        };
+        Ok(TypeTable {
+            types: UniqueArena::with_hasher(alloc, key),
+            entries: vec![in alloc; none; bound]?,
+            members: Vec::new(alloc),
+        })
+    }
+
+    /// What a type is.
+    pub fn shape(&self, id: u32) -> Shape {
+        match self.entries.get(id as usize) {
+            Some(entry) => entry.shape,
+            None => Shape::Nothing,
+        }
+    }
+
+    /// The type that is built for it, if any.
+    pub fn handle(&self, id: u32) -> Option<TypeHandle> {
+        self.entries.get(id as usize)?.handle
+    }
+
+    /// The type that is built for it, which an instruction has to have.
+    pub fn need(&self, id: u32, instruction: &Instruction) -> Result<TypeHandle, SpirvError> {
+        match self.handle(id) {
+            Some(handle) => Ok(handle),
+            None => Err(match self.shape(id) {
+                Shape::Nothing => instruction.malformed(Malformed::NoType),
+                _ => instruction.unsupported(),
+            }),
+        }
+    }
+
+    /// How a value of the type lies in memory.
+    pub fn layout(&self, id: u32) -> Layout {
+        match self.entries.get(id as usize) {
+            Some(entry) => entry.layout,
+            None => Layout::NONE,
+        }
+    }
+
+    /// A member of a struct.
+    pub fn member(&self, id: u32, place: u32) -> Option<MemberShape> {
+        match self.shape(id) {
+            Shape::Struct { first, count } if place < count => {
+                self.members
+                    .get(first.checked_add(place)? as usize)
+                    .copied()
+            }
+            _ => None,
+        }
+    }
+
+    /// The type of the part of a value at this index, and whether it is a member whose matrices are stored row by row.
+    pub fn part(&self, id: u32, index: u32) -> Option<MemberShape> {
+        let ty = match self.shape(id) {
+            Shape::Struct { .. } => return self.member(id, index),
+            Shape::Vector { component, .. } => component,
+            Shape::Matrix { column, .. } => column,
+            Shape::Array { element, .. } => element,
+            _ => return None,
+        };
+        Some(MemberShape {
+            ty,
+            row_major: false,
+        })
+    }
+
+    /// An id is of this type.
+    pub fn set(&mut self, id: u32, shape: Shape, handle: Option<TypeHandle>, layout: Layout) {
+        if let Some(entry) = self.entries.get_mut(id as usize) {
+            *entry = Entry {
+                shape,
+                handle,
+                layout,
+            };
+        }
+    }
+
+    /// The place of the next member.
+    pub fn next_member(&self) -> u32 {
+        u32::try_from(self.members.len()).unwrap_or(u32::MAX)
+    }
+
+    /// A member more.
+    pub fn add_member(&mut self, member: MemberShape) -> Result<(), SpirvError> {
+        self.members.push(member)?;
+        Ok(())
+    }
+
+    /// The type with this name that is made of this.
+    pub fn insert(
+        &mut self,
+        name: Option<String>,
+        inner: TypeInner,
+        span: Span,
+    ) -> Result<TypeHandle, SpirvError> {
+        let handle = self.types.insert(IrType { name, inner }, span)?;
+        Ok(handle)
+    }
+
+    /// The type of a scalar.
+    pub fn scalar(&mut self, scalar: Scalar) -> Result<TypeHandle, SpirvError> {
+        self.insert(None, TypeInner::Scalar(scalar), Span::UNDEFINED)
+    }
+
+    /// The type of a vector, of a scalar where there is no size.
+    pub fn vector(
+        &mut self,
+        size: Option<VectorSize>,
+        scalar: Scalar,
+    ) -> Result<TypeHandle, SpirvError> {
+        match size {
+            None => self.scalar(scalar),
+            Some(size) => self.insert(None, TypeInner::Vector { size, scalar }, Span::UNDEFINED),
+        }
+    }
+}
+
+/// How scalars lie in memory.
+pub fn scalar_layout(scalar: Scalar) -> Layout {
+    let width = u64::from(scalar.width);
+    Layout {
+        size: width,
+        alignment: width,
+        locations: 1,
+    }
+}
+
+/// How a vector lies in memory: one of three as one of four, but for its size.
+pub fn vector_layout(size: VectorSize, scalar: Scalar) -> Layout {
+    let width = u64::from(scalar.width);
+    let aligned = match size {
+        VectorSize::Bi => 2,
+        VectorSize::Tri | VectorSize::Quad => 4,
+    };
+    Layout {
+        size: width.saturating_mul(u64::from(u8::from(size))),
+        alignment: width.saturating_mul(aligned),
+        locations: if width == 8 && aligned == 4 { 2 } else { 1 },
+    }
+}
+
+/// How a matrix lies in memory.
+pub fn matrix_layout(columns: VectorSize, rows: VectorSize, scalar: Scalar) -> Layout {
+    let column = vector_layout(rows, scalar).alignment;
+    Layout {
+        size: column.saturating_mul(u64::from(u8::from(columns))),
+        alignment: column,
+        locations: u64::from(u8::from(columns)),
+    }
+}
+
+/// The size of a vector of so many components.
+pub fn vector_size(count: u32) -> Option<VectorSize> {
+    match count {
+        2 => Some(VectorSize::Bi),
+        3 => Some(VectorSize::Tri),
+        4 => Some(VectorSize::Quad),
+        _ => None,
+    }
+}
+
+/// The span of an instruction, in words.
+pub fn span_of(instruction: &Instruction) -> Span {
+    Span::new(instruction.start, instruction.end)
+}

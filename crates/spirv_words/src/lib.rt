@@ -1,0 +1,20 @@
+//! SPIR-V as words and instructions, and what is said of each id: the layer that knows nothing of what instructions do.
+#![tactic(auto)]
+
+mod error;
+mod groups;
+mod listing;
+mod parts;
+mod pieces;
+mod text;
+mod unsupported;
+mod words;
+
+pub use error::{Malformed, SpirvError};
+pub use groups::Groups;
+pub use listing::{Instruction, Listing, list};
+pub use parts::{FunctionParts, Parts};
+pub use pieces::{HEADER, Piece, cut};
+pub use text::{read_text, starts_text};
+pub use unsupported::{Feature, Unsupported};
+pub use words::{ByteOrder, MAX_LEN, read_words};

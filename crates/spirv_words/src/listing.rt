@@ -1,0 +1,396 @@
+// What each id is defined by, and what is said of it.
+
+use crate::error::{Malformed, SpirvError};
+use crate::groups::Groups;
+use crate::parts::{Parts, sort_out};
+use crate::pieces::{HEADER, Piece, cut};
+use crate::text::read_text;
+use crate::unsupported::{Feature, Unsupported};
+use crate::words::read_words;
+use spirv_numbers::{Results, ops, results_of};
+use std::alloc::{AllocError, Global};
+
+// How many ids there may be for each word, so that a table of ids is linear in the words.
+const IDS_A_WORD: usize = 16;
+
+/// An instruction. The places of words are counted from 0.
+#[derive(Clone, Copy)]
+pub struct Instruction {
+    /// The opcode.
+    pub opcode: u16,
+    /// The id of the result's type, or 0 where it has none.
+    pub ty: u32,
+    /// The id of the result, or 0 where it has none.
+    pub id: u32,
+    /// Its first word.
+    pub start: u32,
+    /// Its first operand, after the results.
+    pub first: u32,
+    /// The word after its last one.
+    pub end: u32,
+}
+
+impl Instruction {
+    /// No instruction.
+    pub const NONE: Instruction = Instruction {
+        opcode: 0,
+        ty: 0,
+        id: 0,
+        start: 0,
+        first: 0,
+        end: 0,
+    };
+
+    /// It is not translated.
+    pub fn unsupported(&self) -> SpirvError {
+        self.unsupported_as(Unsupported::Instruction(self.opcode))
+    }
+
+    /// What this says of it is not translated.
+    pub fn unsupported_as(&self, what: Unsupported) -> SpirvError {
+        SpirvError::unsupported(what, self.start)
+    }
+
+    /// This of it is not translated.
+    pub fn unsupported_by(&self, feature: Feature) -> SpirvError {
+        SpirvError::untranslated(feature, self.start)
+    }
+
+    /// It is no SPIR-V.
+    pub fn malformed(&self, what: Malformed) -> SpirvError {
+        SpirvError::malformed(what, self.start)
+    }
+}
+
+/// A module whose words are sorted out. Ids index its tables, so that each is below [`Listing::bound`].
+#[derive(Drop)]
+pub struct Listing {
+    /// The words, the header included.
+    pub words: Vec<u32>,
+    /// The instructions in order.
+    pub instructions: Vec<Instruction>,
+    // for each id the place of the instruction that defines it and one, or 0
+    defined: Vec<u32>,
+    // for each instruction the first of its slots
+    slots: Vec<u32>,
+    // for each slot the word where its name begins, or 0
+    names: Vec<u32>,
+    // for each slot the instructions that decorate it
+    decorations: Groups,
+    // for each id the instructions that say how it is executed, of an entry point's function
+    modes: Groups,
+    /// The parts of the module.
+    pub parts: Parts,
+}
+
+/// The module that the bytes are.
+pub fn list(alloc: Global, bytes: &[u8]) -> Result<Listing, SpirvError> {
+    let words = read_words(alloc, bytes)?;
+    let pieces = cut(alloc, &words)?;
+    let instructions = read_instructions(alloc, &words, &pieces)?;
+    let defined = define(alloc, &words, &instructions)?;
+    let slots = number_slots(alloc, &instructions)?;
+    let parts = sort_out(alloc, &instructions)?;
+    let said = Said {
+        words: &words,
+        instructions: &instructions,
+        defined: &defined,
+        slots: &slots,
+    };
+    let names = said.find_names(alloc, &parts.names)?;
+    let decorations = said.find_decorations(alloc, &parts.decorations)?;
+    let modes = said.find_modes(alloc, &parts.modes)?;
+    Ok(Listing {
+        words,
+        instructions,
+        defined,
+        slots,
+        names,
+        decorations,
+        modes,
+        parts,
+    })
+}
+
+// The instruction of these words.
+fn instruction_of(words: &[u32], piece: &Piece) -> Result<Instruction, SpirvError> {
+    let start = u32::try_from(piece.start).unwrap_or(u32::MAX);
+    let len = u32::try_from(piece.len).unwrap_or(u32::MAX);
+    let results = match results_of(piece.opcode) {
+        Results::Nothing => 0,
+        Results::Alone => 1,
+        Results::Typed => 2,
+    };
+    if len <= results {
+        return Err(SpirvError::malformed(Malformed::MissingOperand, start));
+    }
+    let first = words
+        .get(piece.start.saturating_add(1))
+        .copied()
+        .unwrap_or(0);
+    let second = words
+        .get(piece.start.saturating_add(2))
+        .copied()
+        .unwrap_or(0);
+    let (ty, id) = match results {
+        0 => (0, 0),
+        1 => (0, first),
+        _ => (first, second),
+    };
+    Ok(Instruction {
+        opcode: piece.opcode,
+        ty,
+        id,
+        start,
+        first: start.saturating_add(1).saturating_add(results),
+        end: start.saturating_add(len),
+    })
+}
+
+// All instructions.
+fn read_instructions(
+    alloc: Global,
+    words: &[u32],
+    pieces: &[Piece],
+) -> Result<Vec<Instruction>, SpirvError> {
+    let mut all = Vec::with_capacity(alloc, pieces.len())?;
+    for piece in pieces {
+        all.push(instruction_of(words, piece)?)?;
+    }
+    Ok(all)
+}
+
+// For each id the instruction that defines it.
+fn define(
+    alloc: Global,
+    words: &[u32],
+    instructions: &[Instruction],
+) -> Result<Vec<u32>, SpirvError> {
+    // the fourth word is the bound (section 2.3)
+    let bound = words.get(3).copied().unwrap_or(0);
+    let most = words.len().saturating_mul(IDS_A_WORD);
+    let mut defined = vec![in alloc; 0u32; most.min(bound as usize)]?;
+    let mut place = 0u32;
+    for instruction in instructions {
+        place = place.saturating_add(1);
+        if has_result(instruction.opcode) {
+            define_one(&mut defined, instruction, bound, place)?;
+        }
+    }
+    Ok(defined)
+}
+
+// Whether the opcode has a result.
+fn has_result(number: u16) -> bool {
+    results_of(number) != Results::Nothing
+}
+
+// Writes down that this id is defined by the instruction at `place`, counted from 1.
+fn define_one(
+    defined: &mut [u32],
+    instruction: &Instruction,
+    bound: u32,
+    place: u32,
+) -> Result<(), SpirvError> {
+    if instruction.id == 0 || instruction.id >= bound {
+        return Err(instruction.malformed(Malformed::IdBound));
+    }
+    let Some(slot) = defined.get_mut(instruction.id as usize) else {
+        return Err(instruction.unsupported_by(Feature::LargeId));
+    };
+    if *slot != 0 {
+        return Err(instruction.malformed(Malformed::DefinedTwice));
+    }
+    *slot = place;
+    Ok(())
+}
+
+// For each instruction the first of its slots: one for its result, one for each of a struct's members.
+fn number_slots(alloc: Global, instructions: &[Instruction]) -> Result<Vec<u32>, AllocError> {
+    let mut slots = Vec::with_capacity(alloc, instructions.len().saturating_add(1))?;
+    let mut next = 0u32;
+    for instruction in instructions {
+        slots.push(next)?;
+        if instruction.id != 0 {
+            next = next.saturating_add(1);
+        }
+        if instruction.opcode == ops::TYPE_STRUCT {
+            next = next.saturating_add(instruction.end.saturating_sub(instruction.first));
+        }
+    }
+    slots.push(next)?;
+    Ok(slots)
+}
+
+// What names, decorations and modes are found with.
+#[derive(Clone, Copy)]
+struct Said<'a> {
+    words: &'a [u32],
+    instructions: &'a [Instruction],
+    defined: &'a [u32],
+    slots: &'a [u32],
+}
+
+impl Said<'_> {
+    // How many slots there are.
+    fn count(&self) -> usize {
+        self.slots.last().copied().unwrap_or(0) as usize
+    }
+
+    // The word at this place.
+    fn word(&self, place: u32) -> u32 {
+        self.words.get(place as usize).copied().unwrap_or(0)
+    }
+
+    // The slot of what the instruction speaks of: of an id, or of a member where the operand after it counts.
+    fn slot(&self, instruction: &Instruction, of_member: bool) -> Option<u32> {
+        let id = self.word(instruction.first);
+        let place = self.defined.get(id as usize).copied()?.checked_sub(1)? as usize;
+        let first = self.slots.get(place).copied()?;
+        if !of_member {
+            return Some(first);
+        }
+        let member = self.word(instruction.first.saturating_add(1));
+        let slot = first.checked_add(member)?.checked_add(1)?;
+        let end = self.slots.get(place.saturating_add(1)).copied()?;
+        if slot < end { Some(slot) } else { None }
+    }
+
+    // For each slot the word where its name begins.
+    fn find_names(&self, alloc: Global, places: &[u32]) -> Result<Vec<u32>, AllocError> {
+        let mut names = vec![in alloc; 0u32; self.count()]?;
+        for place in places {
+            let Some(instruction) = self.instructions.get(*place as usize) else {
+                continue;
+            };
+            let of_member = instruction.opcode == ops::MEMBER_NAME;
+            let text = instruction
+                .first
+                .saturating_add(if of_member { 2 } else { 1 });
+            if let Some(slot) = self.slot(instruction, of_member) {
+                if let Some(name) = names.get_mut(slot as usize) {
+                    *name = text;
+                }
+            }
+        }
+        Ok(names)
+    }
+
+    // For each slot the instructions that decorate it.
+    fn find_decorations(&self, alloc: Global, places: &[u32]) -> Result<Groups, AllocError> {
+        let mut pairs = Vec::with_capacity(alloc, places.len())?;
+        for place in places {
+            if let Some(instruction) = self.instructions.get(*place as usize) {
+                let of_member = instruction.opcode == ops::MEMBER_DECORATE;
+                if let Some(slot) = self.slot(instruction, of_member) {
+                    pairs.push((slot, *place))?;
+                }
+            }
+        }
+        Groups::of_pairs(alloc, self.count(), &pairs)
+    }
+
+    // For each id the instructions that say how its function is executed.
+    fn find_modes(&self, alloc: Global, places: &[u32]) -> Result<Groups, AllocError> {
+        let mut pairs = Vec::with_capacity(alloc, places.len())?;
+        for place in places {
+            if let Some(instruction) = self.instructions.get(*place as usize) {
+                pairs.push((self.word(instruction.first), *place))?;
+            }
+        }
+        Groups::of_pairs(alloc, self.defined.len(), &pairs)
+    }
+}
+
+impl Listing {
+    /// Every id that is defined is below this.
+    pub fn bound(&self) -> usize {
+        self.defined.len()
+    }
+
+    /// The instruction at this place.
+    pub fn at(&self, place: u32) -> Instruction {
+        self.instructions
+            .get(place as usize)
+            .copied()
+            .unwrap_or(Instruction::NONE)
+    }
+
+    /// The place of the instruction that defines an id.
+    pub fn place_of(&self, id: u32) -> Option<u32> {
+        self.defined.get(id as usize).copied()?.checked_sub(1)
+    }
+
+    /// The instruction that defines an id.
+    pub fn definition(&self, id: u32) -> Option<Instruction> {
+        self.instructions.get(self.place_of(id)? as usize).copied()
+    }
+
+    /// The operands of an instruction, after its results.
+    pub fn operands(&self, instruction: &Instruction) -> &[u32] {
+        self.words
+            .get(instruction.first as usize..instruction.end as usize)
+            .unwrap_or(&[])
+    }
+
+    /// The operand at this place, if the instruction has so many.
+    pub fn operand(&self, instruction: &Instruction, place: usize) -> Option<u32> {
+        self.operands(instruction).get(place).copied()
+    }
+
+    /// The operand at this place, which the instruction has to have.
+    pub fn need(&self, instruction: &Instruction, place: usize) -> Result<u32, SpirvError> {
+        match self.operand(instruction, place) {
+            Some(word) => Ok(word),
+            None => Err(instruction.malformed(Malformed::MissingOperand)),
+        }
+    }
+
+    // The slot of an id, or of a member of its struct.
+    fn slot_of(&self, id: u32, member: Option<u32>) -> Option<usize> {
+        let place = self.place_of(id)? as usize;
+        let first = self.slots.get(place).copied()?;
+        let slot = match member {
+            None => first,
+            Some(member) => first.checked_add(member)?.checked_add(1)?,
+        };
+        let end = self.slots.get(place.saturating_add(1)).copied()?;
+        if slot < end {
+            Some(slot as usize)
+        } else {
+            None
+        }
+    }
+
+    /// The name of an id, or of a member of its struct, if it has one.
+    pub fn name(
+        &self,
+        alloc: Global,
+        id: u32,
+        member: Option<u32>,
+    ) -> Result<Option<String>, SpirvError> {
+        let Some(slot) = self.slot_of(id, member) else {
+            return Ok(None);
+        };
+        let start = self.names.get(slot).copied().unwrap_or(0) as usize;
+        if start < HEADER {
+            return Ok(None);
+        }
+        let words = self.words.get(start..).unwrap_or(&[]);
+        let (text, _) = read_text(alloc, words, start as u32)?;
+        Ok(Some(text))
+    }
+
+    /// The instructions that decorate an id, or a member of its struct.
+    pub fn decorations(&self, id: u32, member: Option<u32>) -> &[u32] {
+        match self.slot_of(id, member) {
+            Some(slot) => self.decorations.of(slot),
+            None => &[],
+        }
+    }
+
+    /// The instructions that say how a function is executed.
+    pub fn modes(&self, id: u32) -> &[u32] {
+        self.modes.of(id as usize)
+    }
+}
