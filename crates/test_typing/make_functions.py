@@ -8,7 +8,7 @@ beside this script where none is given. Without --all the shortest documents are
 and one for each set of flags; the worked rows below are always taken.
 
 The answer is `accepted`, or the first function that is refused, or else the first entry point's, with the error as
-model_functions.py tells it; where an entry point is refused for something else, its document is left out. The model has to refuse what the corpus says is refused. A case has two answers where either of
+model_functions.py tells it, as the program shows it; where an entry point is refused for something else, its document is left out. The model has to refuse what the corpus says is refused. A case has two answers where either of
 two errors may be told, and is left out where one of more.
 """
 import json
@@ -16,7 +16,7 @@ import sys
 from pathlib import Path
 
 from make_data import SIX, module
-from model_functions import Function, Module, places
+from model_functions import Function, Module, places, shown
 
 EACH = 2
 
@@ -258,10 +258,10 @@ def cases(folder):
 def chosen(found):
     """The shortest documents for each thing that they show, those that show something new first."""
     count, first, more = {}, [], []
-    for case, shown in sorted(found, key=lambda c: len(c[0][2])):
-        if any(count.get(mark, 0) < (1 if mark[0] == "flags" else EACH) for mark in shown):
-            (more if all(mark in count for mark in shown) else first).append(case)
-            for mark in shown:
+    for case, new in sorted(found, key=lambda c: len(c[0][2])):
+        if any(count.get(mark, 0) < (1 if mark[0] == "flags" else EACH) for mark in new):
+            (more if all(mark in count for mark in new) else first).append(case)
+            for mark in new:
                 count[mark] = count.get(mark, 0) + 1
     return first + more
 
@@ -274,7 +274,8 @@ def main():
     found = list(cases(folders[0]))
     taken = ROWS + ([case for case, _ in found] if "--all" in sys.argv else chosen(found))
     with open(out / "functions.jsonl", "w", encoding="utf-8") as file:
-        for case in taken:
+        for *asked, first in ([*case[:3], case[3:]] for case in taken):
+            case = asked + [shown(answer) for answer in first]
             file.write(json.dumps(case, ensure_ascii=False, separators=(",", ":")) + "\n")
     print(f"functions.jsonl: {len(taken)} of {len(ROWS) + len(found)} cases")
 

@@ -30,6 +30,31 @@ def told(*parts):
     return " ".join("-" if part is None else str(part) for part in parts)
 
 
+SETS = {
+    "MissingCapability": ("Capabilities", CAPABILITIES), "UnsupportedOperation": ("SubgroupOperationSet", SUBGROUP_WORDS),
+    "InvalidImageStorageAccess": ("StorageAccess", ACCESS),
+    "NonUniformControlFlow": ("UniformityRequirements", ("WORK_GROUP_BARRIER", "DERIVATIVE", "IMPLICIT_LEVEL", "COOP_OPS"))}
+MAY_BE_MISSING = ("InvalidReturnType", "ExpressionMismatch", "Exchange")
+
+
+def shown(error):
+    """An error as the program shows it: a set by its name and its words, and what may be missing as `Some` or `None`."""
+    parts, kind = [], None
+    for part in error.split():
+        if part[0].isupper():
+            kind = part
+            parts.append(part)
+        elif kind in SETS:
+            name, words = SETS[kind]
+            parts += [name, *(word for place, word in enumerate(words) if int(part) >> place & 1)]
+            kind = None
+        elif kind in MAY_BE_MISSING:
+            parts += ["None"] if part == "-" else ["Some", part]
+        else:
+            parts.append(part)
+    return " ".join(parts)
+
+
 def places(block):
     """All statements of a block, at any depth."""
     for statement in block:

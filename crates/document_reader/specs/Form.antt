@@ -27,7 +27,22 @@ TheSubgroups s = AnArray (ASet stages (record { 0 = 0 }) stage_union s.stages �
 -- expressions, globals, functions, entries
 abbrev pub ADocument : PlainDocument → Data → Type 0
 ADocument d =
-    AnArray (IsVersion ▸ ASet flags (record { 0 = 0 }) flag_union d.settings.flags ▸ ASet capabilities (record { 0 = 0 }) capability_union d.settings.capabilities ▸ TheSubgroups d.settings ▸ ABool d.settings.returns ▸ AList AType d.content.types ▸ ASpecial d.content.special ▸ AllFilters (d.content.filters, d.content.leaf) ▸ AList AConstant d.content.constants ▸ AList AnOverride d.content.overrides ▸ AList AnExpression d.content.global_expressions ▸ AList AGlobal d.content.globals ▸ AList AFunction d.content.functions ▸ AList AnEntry d.content.entries ▸ Ends)
+    AnArray (
+    IsVersion ▸
+    ASet flags (record { 0 = 0 }) flag_union d.settings.flags ▸
+    ASet capabilities (record { 0 = 0 }) capability_union d.settings.capabilities ▸
+    TheSubgroups d.settings ▸
+    ABool d.settings.returns ▸
+    AList AType d.content.types ▸
+    ASpecial d.content.special ▸
+    AllFilters (d.content.filters, d.content.leaf) ▸
+    AList AConstant d.content.constants ▸
+    AList AnOverride d.content.overrides ▸
+    AList AnExpression d.content.global_expressions ▸
+    AList AGlobal d.content.globals ▸
+    AList AFunction d.content.functions ▸
+    AList AnEntry d.content.entries ▸
+    Ends)
 
 -- The bytes are few enough, and the JSON reader reads them as this value.
 pub record IsValueOf (bytes : List ℕ) (value : Data) : Type 0 where

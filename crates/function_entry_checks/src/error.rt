@@ -12,35 +12,35 @@ use typing_errors::FunctionError;
 /// Why an entry point is refused (naga's `EntryPointError`).
 #[derive(Debug, Drop, Error)]
 pub enum EntryPointError {
-    /// An earlier entry point of the stage has the name.
-    #[error("an earlier entry point of the stage has the name")]
+    /// An earlier entry point of the same stage has the same name.
+    #[error("an earlier entry point of the same stage has the same name")]
     Conflict,
     /// A vertex shader, or a mesh shader with its vertices, gives no position.
-    #[error("vertices have no position")]
+    #[error("vertex and mesh shaders must output the built-in value Position")]
     MissingVertexOutputPosition,
-    /// Depth is tested early for fragments alone.
-    #[error("depth is tested early for fragments alone")]
+    /// Early depth testing is only for fragment shaders.
+    #[error("early depth testing is only for fragment shaders")]
     UnexpectedEarlyDepthTest,
-    /// The stage has no workgroups.
-    #[error("the stage has no workgroups")]
+    /// A workgroup size is only for compute, task and mesh shaders.
+    #[error("a workgroup size is only for compute, task and mesh shaders")]
     UnexpectedWorkgroupSize,
-    /// A workgroup has no invocations one way, or too many.
-    #[error("a workgroup has no invocations one way, or too many")]
+    /// The workgroup size is out of range.
+    #[error("the workgroup size is out of range")]
     OutOfRangeWorkgroupSize,
-    /// The stage may not run all that the function does.
-    #[error("the stage may not run all that the function does")]
+    /// The function executes operations that are forbidden at this stage.
+    #[error("the function executes operations that are forbidden at this stage")]
     ForbiddenStageOperations,
     /// A global variable is used as it may not be.
-    #[error("global variable {0:?} is used as it may not be: {1:?}")]
+    #[error("global variable {0:?} is used incorrectly as {1:?}")]
     InvalidGlobalUsage(Handle<key::GlobalVariable>, GlobalUse),
-    /// Two immediates are used.
-    #[error("two immediates are used")]
+    /// More than one immediate data variable is used.
+    #[error("more than one immediate data variable is used")]
     MoreThanOneImmediateUsed,
     /// Another global variable that is used has the same binding.
-    #[error("global variable {0:?} has the binding of another one")]
+    #[error("global variable {0:?} has the same binding as another global variable that is used")]
     BindingCollision(Handle<key::GlobalVariable>),
     /// The argument, counted from 0, is refused.
-    #[error("argument {0} is refused: {1}")]
+    #[error("argument {0} is invalid: {1}")]
     Argument(u32, VaryingError),
     /// The result is refused, or what a mesh shader gives.
     #[error("{0}")]
@@ -49,54 +49,54 @@ pub enum EntryPointError {
     #[error("{0}")]
     Function(FunctionError),
     /// A capability is missing.
-    #[error("{0:?} is not there")]
+    #[error("capability {0:?} is not supported")]
     UnsupportedCapability(Capabilities),
-    /// Nothing is said of what a mesh shader gives.
-    #[error("nothing is said of what a mesh shader gives")]
+    /// A mesh shader must have mesh shader attributes.
+    #[error("a mesh shader must have mesh shader attributes")]
     ExpectedMeshShaderAttributes,
     /// Something is said of what a mesh shader gives, and the entry point is none.
-    #[error("something is said of what a mesh shader gives, and it is none")]
+    #[error("only a mesh shader can have mesh shader attributes")]
     UnexpectedMeshShaderAttributes,
-    /// The stage has no payload of tasks.
-    #[error("the stage has no payload of tasks")]
+    /// Only task and mesh shaders can have a task payload.
+    #[error("only task and mesh shaders can have a task payload")]
     UnexpectedTaskPayload,
     /// The payload is no variable for such.
-    #[error("the payload is no variable in the space of such")]
+    #[error("the task payload must be a variable in the address space TaskPayload")]
     TaskPayloadWrongAddressSpace,
-    /// Another payload is used than the entry point's.
-    #[error("another payload is used than the entry point's")]
+    /// A task payload is used that is not the entry point's.
+    #[error("a task payload is used that is not the entry point's")]
     WrongTaskPayloadUsed,
-    /// A task shader answers something else than sizes.
-    #[error("a task shader answers something else than sizes")]
+    /// A task shader must return the built-in value MeshTaskSize, of type vec3<u32>.
+    #[error("a task shader must return the built-in value MeshTaskSize, of type vec3<u32>")]
     WrongTaskShaderEntryResult,
-    /// A task shader hands no payload on.
-    #[error("a task shader hands no payload on")]
+    /// A task shader must declare a task payload.
+    #[error("a task shader must declare a task payload")]
     ExpectedTaskPayload,
     /// The output of a mesh shader is no struct with its four parts, or implies something else than is said.
-    #[error("the output of a mesh shader is no struct of its parts, or implies something else than is said")]
+    #[error("the output variable of a mesh shader must be a struct of the built-in values of its output, and agree with the mesh shader attributes")]
     BadMeshOutputVariableType,
-    /// A part of the output of a mesh shader is of another type.
-    #[error("a part of the output of a mesh shader is of another type")]
+    /// A member of the output variable of a mesh shader has the wrong type.
+    #[error("a member of the output variable of a mesh shader has the wrong type")]
     BadMeshOutputVariableField,
-    /// A mesh shader answers something.
-    #[error("a mesh shader answers something")]
+    /// A mesh shader cannot have a result.
+    #[error("a mesh shader cannot have a result")]
     UnexpectedMeshShaderEntryResult,
-    /// What a mesh shader gives with a vertex or a primitive is no struct.
-    #[error("what a mesh shader gives with a vertex or a primitive is no struct")]
+    /// The vertex and primitive outputs of a mesh shader must be structs.
+    #[error("the vertex and primitive outputs of a mesh shader must be structs")]
     InvalidMeshOutputType,
-    /// A primitive doesn't name its vertices, or names them twice.
-    #[error("a primitive doesn't name its vertices, or names them twice")]
+    /// A primitive output must have exactly one of the built-in values TriangleIndices, LineIndices and PointIndex.
+    #[error("a primitive output must have exactly one of the built-in values TriangleIndices, LineIndices and PointIndex")]
     InvalidMeshPrimitiveOutputType,
-    /// The output of a mesh shader is no memory of its workgroup.
-    #[error("the output of a mesh shader is no memory of its workgroup")]
+    /// The output variable of a mesh shader must be in the address space WorkGroup.
+    #[error("the output variable of a mesh shader must be in the address space WorkGroup")]
     WrongMeshOutputAddressSpace,
     /// A payload takes fewer than four bytes.
-    #[error("a payload takes {0} bytes, and four at least are asked")]
+    #[error("a task payload must have at least 4 bytes, but has {0}")]
     TaskPayloadTooSmall(u32),
     /// The stage traces no rays with payloads.
-    #[error("no rays with payloads are traced at {0:?}")]
+    #[error("a {0:?} shader cannot use a global variable in the address space RayPayload")]
     RayPayloadInInvalidStage(ShaderStage),
     /// The stage runs for no ray with a payload.
-    #[error("no ray with a payload arrives at {0:?}")]
+    #[error("a {0:?} shader cannot use a global variable in the address space IncomingRayPayload")]
     IncomingRayPayloadInInvalidStage(ShaderStage),
 }

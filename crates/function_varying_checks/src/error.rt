@@ -11,16 +11,16 @@ use thiserror::Error;
 #[derive(Debug, Drop, Error)]
 pub enum VaryingError {
     /// No varying is of the type.
-    #[error("no varying is of the type")]
+    #[error("type {0:?} cannot be the type of a varying")]
     InvalidType(Handle<key::IrType>),
     /// Values of the type don't go from one stage to the next.
-    #[error("values of the type don't go between stages")]
+    #[error("type {0:?} cannot be passed between stages: only numeric scalars and vectors can")]
     NotIOShareableType(Handle<key::IrType>),
     /// A value is found so at the stage that is named alone.
-    #[error("a value is found so at another stage alone")]
+    #[error("interpolation {0:?} is only valid at stage {1:?}")]
     InvalidInterpolationInStage(Interpolation, ShaderStage),
     /// A value that is found so has no such place in a fragment.
-    #[error("a value that is found so is not taken there")]
+    #[error("interpolation {interpolation:?} cannot be combined with sampling {sampling:?}")]
     InvalidInterpolationSamplingCombination {
         /// How it is found.
         interpolation: Interpolation,
@@ -28,49 +28,49 @@ pub enum VaryingError {
         sampling: Sampling,
     },
     /// Integers lie in no way between vertices.
-    #[error("integers lie in no way between vertices: they are flat")]
+    #[error("integer inputs and outputs must have the interpolation Flat")]
     InvalidInterpolationForInteger,
-    /// It is not said how values between vertices are found.
-    #[error("it is not said how values between vertices are found")]
+    /// Vertex outputs and fragment inputs must have an interpolation.
+    #[error("vertex outputs and fragment inputs must have an interpolation")]
     MissingInterpolation,
     /// The stage has no such built-in value, or not this way.
-    #[error("the stage has no {0:?} that goes this way")]
+    #[error("built-in value {0:?} is not available at this stage, or not in this direction")]
     InvalidBuiltInStage(BuiltIn),
     /// The built-in value is of another type.
-    #[error("the built-in value {0:?} is of another type")]
+    #[error("built-in value {0:?} has the wrong type {1:?}")]
     InvalidBuiltInType(BuiltIn, TypeInner),
-    /// An argument or a result is not bound.
-    #[error("an argument or a result is not bound")]
+    /// Arguments and results of an entry point must have bindings.
+    #[error("arguments and results of an entry point must have bindings")]
     MissingBinding,
     /// The member of a struct at this place is not bound.
-    #[error("member {0} is not bound")]
+    #[error("struct member {0} has no binding")]
     MemberMissingBinding(u32),
     /// Several varyings take a location.
-    #[error("location {location} is taken twice")]
+    #[error("location {location} has more than one binding")]
     BindingCollision {
         /// The location.
         location: u32,
     },
     /// Several members are the same source of a blend.
-    #[error("several members are the same source")]
+    #[error("blend source {blend_src} has more than one binding")]
     BindingCollisionBlendSrc {
         /// The source.
         blend_src: u32,
     },
     /// A built-in value stands twice.
-    #[error("{0:?} stands twice")]
+    #[error("built-in value {0:?} is present more than once")]
     DuplicateBuiltIn(BuiltIn),
     /// A capability is missing.
-    #[error("{0:?} is not there")]
+    #[error("capability {0:?} is not supported")]
     UnsupportedCapability(Capabilities),
     /// What is named goes after the stage alone.
-    #[error("{0} goes behind the stage alone")]
+    #[error("attribute {0} is only valid for outputs of stage {1:?}")]
     InvalidInputAttributeInStage(&'static str, ShaderStage),
     /// What is named does not go with the stage.
-    #[error("{0} does not go with the stage")]
+    #[error("attribute {0} is not valid at stage {1:?}")]
     InvalidAttributeInStage(&'static str, ShaderStage),
     /// There are the sources 0 and 1 alone, at location 0.
-    #[error("there is no such source at this location")]
+    #[error("a blend source must be 0 or 1, at location 0: blend source {blend_src} at location {location}")]
     InvalidBlendSrcIndex {
         /// The member's location.
         location: u32,
@@ -78,42 +78,42 @@ pub enum VaryingError {
         blend_src: u32,
     },
     /// One of the two sources is missing.
-    #[error("one source stands without the other")]
+    #[error("both blend sources must be present: only {present_blend_src} is")]
     IncompleteBlendSrcUsage {
         /// The source that is there.
         present_blend_src: u32,
     },
     /// A member beside the sources has a location.
-    #[error("a member beside the sources has a location")]
+    #[error("a struct with blend sources cannot have other members with locations: location {location}")]
     InvalidBlendSrcWithOtherBindings {
         /// Its location.
         location: u32,
     },
     /// The types of the two sources are made of different things.
-    #[error("the types of the sources are made of different things")]
+    #[error("both blend sources must have the same type: {blend_src_0_type:?} and {blend_src_1_type:?}")]
     BlendSrcOutputTypeMismatch {
         /// The type of source 0.
         blend_src_0_type: Handle<key::IrType>,
         /// The type of source 1.
         blend_src_1_type: Handle<key::IrType>,
     },
-    /// Only members of a struct are sources of a blend.
-    #[error("only members of a struct are sources of a blend")]
+    /// Only struct members can have a blend source.
+    #[error("only struct members can have a blend source")]
     BlendSrcNotOnStructMember,
     /// What tells subgroups apart stands where workgroups are rows alone.
-    #[error("subgroups are told apart where workgroups are rows alone")]
+    #[error("the built-in values SubgroupId and SubgroupInvocationId need a one-dimensional workgroup")]
     InvalidMultiDimensionalSubgroupBuiltIn,
     /// Nothing but what a fragment is given belongs to a primitive, beside what a mesh shader gives with one.
-    #[error("it belongs to no primitive")]
+    #[error("per-primitive values can only be fragment inputs or primitive outputs of a mesh shader")]
     InvalidPerPrimitive,
     /// What a mesh shader gives with a primitive belongs to it.
-    #[error("it belongs to a primitive, which is not said")]
+    #[error("primitive outputs of a mesh shader must be per-primitive")]
     MissingPerPrimitive,
     /// Every vertex gives its own value: that is an array of three.
-    #[error("the values of each vertex are an array of three")]
+    #[error("per-vertex fragment inputs must be arrays of length 3")]
     PerVertexNotArrayOfThree,
-    /// A value of each vertex is taken nowhere in a fragment.
-    #[error("a value of each vertex is taken nowhere in a fragment")]
+    /// Per-vertex inputs can only have the sampling Center, or none.
+    #[error("per-vertex inputs can only have the sampling Center, or none")]
     InvalidPerVertexSampling,
 }
 

@@ -24,13 +24,34 @@ abbrev pub memory_decorations : List Row
 memory_decorations = numbered (codes "COHERENT" ∷ codes "VOLATILE" ∷ [])
 
 abbrev pub shader_stages : List Row
-shader_stages = numbered (codes "VERTEX" ∷ codes "FRAGMENT" ∷ codes "COMPUTE" ∷ codes "MESH" ∷ codes "TASK" ∷ codes "RAY_GENERATION" ∷ codes "ANY_HIT" ∷ codes "CLOSEST_HIT" ∷ codes "MISS" ∷ [])
+shader_stages =
+    numbered (
+    codes "VERTEX" ∷ codes "FRAGMENT" ∷ codes "COMPUTE" ∷ codes "MESH" ∷ codes "TASK" ∷ codes "RAY_GENERATION" ∷
+    codes "ANY_HIT" ∷ codes "CLOSEST_HIT" ∷ codes "MISS" ∷ [])
 
 abbrev pub subgroup_operations : List Row
-subgroup_operations = numbered (codes "BASIC" ∷ codes "VOTE" ∷ codes "ARITHMETIC" ∷ codes "BALLOT" ∷ codes "SHUFFLE" ∷ codes "SHUFFLE_RELATIVE" ∷ codes "QUAD" ∷ [])
+subgroup_operations =
+    numbered (
+    codes "BASIC" ∷ codes "VOTE" ∷ codes "ARITHMETIC" ∷ codes "BALLOT" ∷ codes "SHUFFLE" ∷ codes "SHUFFLE_RELATIVE" ∷
+    codes "QUAD" ∷ [])
 
 abbrev pub validation_flags : List Row
-validation_flags = numbered (codes "EXPRESSIONS" ∷ codes "BLOCKS" ∷ codes "CONTROL_FLOW_UNIFORMITY" ∷ codes "STRUCT_LAYOUTS" ∷ codes "CONSTANTS" ∷ codes "BINDINGS" ∷ codes "STRICT_SCOPE" ∷ [])
+validation_flags =
+    numbered (
+    codes "EXPRESSIONS" ∷ codes "BLOCKS" ∷ codes "CONTROL_FLOW_UNIFORMITY" ∷ codes "STRUCT_LAYOUTS" ∷ codes "CONSTANTS" ∷
+    codes "BINDINGS" ∷ codes "STRICT_SCOPE" ∷ [])
 
 abbrev pub capabilities : List Row
-capabilities = numbered (codes "IMMEDIATES" ∷ codes "FLOAT64" ∷ codes "SHADER_FLOAT16" ∷ codes "SHADER_INT16" ∷ codes "SHADER_INT64" ∷ codes "PRIMITIVE_INDEX" ∷ codes "BUFFER_BINDING_ARRAY" ∷ codes "STORAGE_BUFFER_BINDING_ARRAY" ∷ codes "TEXTURE_AND_SAMPLER_BINDING_ARRAY" ∷ codes "STORAGE_TEXTURE_BINDING_ARRAY" ∷ codes "ACCELERATION_STRUCTURE_BINDING_ARRAY" ∷ codes "STORAGE_TEXTURE_16BIT_NORM_FORMATS" ∷ codes "CUBE_ARRAY_TEXTURES" ∷ codes "CLIP_DISTANCES" ∷ codes "CULL_DISTANCE" ∷ codes "MULTIVIEW" ∷ codes "EARLY_DEPTH_TEST" ∷ codes "MULTISAMPLED_SHADING" ∷ codes "DUAL_SOURCE_BLENDING" ∷ codes "SUBGROUP" ∷ codes "SUBGROUP_BARRIER" ∷ codes "SHADER_INT64_ATOMIC_MIN_MAX" ∷ codes "SHADER_INT64_ATOMIC_ALL_OPS" ∷ codes "SHADER_FLOAT32_ATOMIC" ∷ codes "TEXTURE_ATOMIC" ∷ codes "TEXTURE_INT64_ATOMIC" ∷ codes "TEXTURE_EXTERNAL" ∷ codes "RAY_QUERY" ∷ codes "RAY_HIT_VERTEX_POSITION" ∷ codes "RAY_TRACING_PIPELINE" ∷ codes "SHADER_BARYCENTRICS" ∷ codes "MESH_SHADER" ∷ codes "MESH_SHADER_POINT_TOPOLOGY" ∷ codes "PER_VERTEX" ∷ codes "DRAW_INDEX" ∷ codes "COOPERATIVE_MATRIX" ∷ codes "MEMORY_DECORATION_COHERENT" ∷ codes "MEMORY_DECORATION_VOLATILE" ∷ [])
+capabilities =
+    numbered (
+    codes "IMMEDIATES" ∷ codes "FLOAT64" ∷ codes "SHADER_FLOAT16" ∷ codes "SHADER_INT16" ∷ codes "SHADER_INT64" ∷
+    codes "PRIMITIVE_INDEX" ∷ codes "BUFFER_BINDING_ARRAY" ∷ codes "STORAGE_BUFFER_BINDING_ARRAY" ∷
+    codes "TEXTURE_AND_SAMPLER_BINDING_ARRAY" ∷ codes "STORAGE_TEXTURE_BINDING_ARRAY" ∷
+    codes "ACCELERATION_STRUCTURE_BINDING_ARRAY" ∷ codes "STORAGE_TEXTURE_16BIT_NORM_FORMATS" ∷
+    codes "CUBE_ARRAY_TEXTURES" ∷ codes "CLIP_DISTANCES" ∷ codes "CULL_DISTANCE" ∷ codes "MULTIVIEW" ∷
+    codes "EARLY_DEPTH_TEST" ∷ codes "MULTISAMPLED_SHADING" ∷ codes "DUAL_SOURCE_BLENDING" ∷ codes "SUBGROUP" ∷
+    codes "SUBGROUP_BARRIER" ∷ codes "SHADER_INT64_ATOMIC_MIN_MAX" ∷ codes "SHADER_INT64_ATOMIC_ALL_OPS" ∷
+    codes "SHADER_FLOAT32_ATOMIC" ∷ codes "TEXTURE_ATOMIC" ∷ codes "TEXTURE_INT64_ATOMIC" ∷ codes "TEXTURE_EXTERNAL" ∷
+    codes "RAY_QUERY" ∷ codes "RAY_HIT_VERTEX_POSITION" ∷ codes "RAY_TRACING_PIPELINE" ∷ codes "SHADER_BARYCENTRICS" ∷
+    codes "MESH_SHADER" ∷ codes "MESH_SHADER_POINT_TOPOLOGY" ∷ codes "PER_VERTEX" ∷ codes "DRAW_INDEX" ∷
+    codes "COOPERATIVE_MATRIX" ∷ codes "MEMORY_DECORATION_COHERENT" ∷ codes "MEMORY_DECORATION_VOLATILE" ∷ [])

@@ -6,12 +6,12 @@ use thiserror::Error;
 #[derive(Clone, Copy, Debug, Error)]
 pub enum ConstantError {
     /// The value of its initialiser is not known as the module is written.
-    #[error("the initialiser is no constant")]
+    #[error("the initializer must be a const-expression")]
     InitializerExprType,
     /// Its initialiser is of another type than the constant.
-    #[error("the initialiser is of another type")]
+    #[error("the initializer has another type than the constant")]
     InvalidType,
     /// Values of its type can't be composed.
-    #[error("values of the type can't be composed")]
+    #[error("the type is not constructible")]
     NonConstructibleType,
 }

@@ -18,7 +18,7 @@ use typing_layout::ExpressionKind;
 
 /// A constant that is refused (naga's `ValidationError::Constant`).
 #[derive(Clone, Copy, Debug, Error)]
-#[error("constant {constant:?} is refused: {error}")]
+#[error("constant {constant:?} is invalid: {error}")]
 pub struct InvalidConstant {
     /// The constant.
     pub constant: Handle<key::Constant>,

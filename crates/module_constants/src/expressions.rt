@@ -24,7 +24,7 @@ use typing_layout::ExpressionKind;
 
 /// A global expression that is refused (naga's `ValidationError::ConstExpression`).
 #[derive(Debug, Drop, Error)]
-#[error("global expression {expression:?} is refused: {error}")]
+#[error("global expression {expression:?} is invalid: {error}")]
 pub struct InvalidGlobalExpression {
     /// The expression.
     pub expression: Handle<key::Expression>,

@@ -6,22 +6,22 @@ use thiserror::Error;
 #[derive(Clone, Copy, Debug, Error)]
 pub enum OverrideError {
     /// It has neither a name nor an id, so no pipeline can give it a value.
-    #[error("there is neither a name nor an id")]
+    #[error("the override must have a name or an id")]
     MissingNameAndID,
     /// An override before it has its id.
-    #[error("an override before it has the same id")]
+    #[error("an earlier override has the same id")]
     DuplicateID,
     /// The value of its initialiser is known only when the shader runs.
-    #[error("the initialiser is neither constant nor known by the overrides")]
+    #[error("the initializer must be a const-expression or an override-expression")]
     InitializerExprType,
     /// Its initialiser is of another type than the override.
-    #[error("the initialiser is of another type")]
+    #[error("the initializer has another type than the override")]
     InvalidType,
     /// Values of its type can't be composed.
-    #[error("values of the type can't be composed")]
+    #[error("the type is not constructible")]
     NonConstructibleType,
     /// It is of no scalar that a pipeline may give.
-    #[error("the type is no scalar that an override may have")]
+    #[error("the type of an override must be a scalar")]
     TypeNotScalar,
     /// Overrides are resolved, and it has no value.
     #[error("the override has no value")]

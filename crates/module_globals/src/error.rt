@@ -11,16 +11,16 @@ use thiserror::Error;
 #[derive(Clone, Copy, Debug, Error)]
 pub enum GlobalVariableError {
     /// No such variable lies in the space.
-    #[error("no such variable lies in {0:?}")]
+    #[error("this use of a global variable is incompatible with address space {0:?}")]
     InvalidUsage(AddressSpace),
     /// No variable of the type lies in the space.
-    #[error("no variable of the type lies in {0:?}")]
+    #[error("the type is incompatible with address space {0:?}")]
     InvalidType(AddressSpace),
     /// There are no binding arrays of this type.
-    #[error("there are no binding arrays of type {0:?}")]
+    #[error("type {0:?} is incompatible with binding arrays")]
     InvalidBindingArray(Handle<key::IrType>),
     /// The type is not to be used for all that the space asks.
-    #[error("the type may be used for {seen:?}, and {required:?} are asked")]
+    #[error("type flags {seen:?} do not meet the required {required:?}")]
     MissingTypeFlags {
         /// What the space requires.
         required: TypeFlags,
@@ -28,39 +28,39 @@ pub enum GlobalVariableError {
         seen: TypeFlags,
     },
     /// A capability is missing.
-    #[error("{0:?} is not there")]
+    #[error("capability {0:?} is not supported")]
     UnsupportedCapability(Capabilities),
     /// A binding is missing, or there is one that a host can't bind.
-    #[error("a binding is missing, or there is one for what no host binds")]
+    #[error("the binding is missing or not applicable")]
     InvalidBinding,
     /// A host can't lay out a buffer of the type in the space, by this type inside.
-    #[error("no host lays it out in {0:?}, by type {1:?}: {2}")]
+    #[error("the layout rules of address space {0:?} are not met by type {1:?}: {2}")]
     Alignment(AddressSpace, Handle<key::IrType>, Disalignment),
-    /// What it begins as is known only when the shader runs.
-    #[error("what it begins as is known only when the shader runs")]
+    /// The initializer must be a const-expression or an override-expression.
+    #[error("the initializer must be a const-expression or an override-expression")]
     InitializerExprType,
-    /// What it begins as is of another type.
-    #[error("what it begins as is of another type")]
+    /// The initializer has another type than the variable.
+    #[error("the initializer has another type than the variable")]
     InitializerType,
     /// No variable in the space begins as something.
-    #[error("no variable in {0:?} begins as something")]
+    #[error("variables in address space {0:?} cannot have an initializer")]
     InitializerNotAllowed(AddressSpace),
-    /// A storage buffer is only written.
-    #[error("a storage buffer is only written")]
+    /// Storage buffers cannot be write-only.
+    #[error("storage buffers cannot be write-only")]
     StorageAddressSpaceWriteOnlyNotSupported,
     /// Immediate data can't be of the type.
     #[error("{0}")]
     InvalidImmediateType(ImmediateError),
-    /// The payload of a task takes no byte.
-    #[error("the payload of a task takes no byte")]
+    /// A task payload cannot have size zero.
+    #[error("a task payload cannot have size zero")]
     ZeroSizedTaskPayload,
-    /// Something is said of the memory of what is no storage buffer.
-    #[error("something is said of the memory of what is no storage buffer")]
+    /// Memory decorations are only for variables in the address space Storage.
+    #[error("memory decorations are only for variables in the address space Storage")]
     InvalidMemoryDecorationsAddressSpace,
-    /// Coherent memory is not there.
-    #[error("coherent memory is not there")]
+    /// Coherent memory is not supported.
+    #[error("coherent memory is not supported")]
     CoherentNotSupported,
-    /// Volatile memory is not there.
-    #[error("volatile memory is not there")]
+    /// Volatile memory is not supported.
+    #[error("volatile memory is not supported")]
     VolatileNotSupported,
 }

@@ -11,13 +11,13 @@ use typing_layout::Alignment;
 #[derive(Clone, Copy, Debug, Error)]
 pub enum WidthError {
     /// No scalar of this kind takes so many bytes.
-    #[error("there is no {0:?} scalar of {1} bytes")]
+    #[error("a scalar of kind {0:?} cannot have a width of {1} bytes")]
     Invalid(ScalarKind, Bytes),
     /// It asks for this capability.
-    #[error("the capability {0:?} is missing")]
+    #[error("capability {0:?} is required")]
     MissingCapability(Capabilities),
     /// Abstract numbers stand in constants alone.
-    #[error("abstract numbers have no type at run time")]
+    #[error("abstract types are only for const-expressions")]
     Abstract,
 }
 
@@ -25,7 +25,7 @@ pub enum WidthError {
 #[derive(Clone, Copy, Debug, Error)]
 pub enum LiteralError {
     /// Its scalar is none that there is.
-    #[error("the literal's scalar: {0}")]
+    #[error("the scalar type of the literal is invalid: {0}")]
     Width(WidthError),
 }
 
@@ -33,7 +33,7 @@ pub enum LiteralError {
 #[derive(Clone, Copy, Debug, Error)]
 pub enum ImmediateError {
     /// This scalar is inside, which takes two bytes.
-    #[error("immediate data has no scalar {0:?}")]
+    #[error("immediate data cannot contain the scalar type {0:?}")]
     InvalidScalar(Scalar),
 }
 
@@ -41,7 +41,7 @@ pub enum ImmediateError {
 #[derive(Clone, Copy, Debug, Error)]
 pub enum Disalignment {
     /// The stride of an array is no multiple of what is required of it.
-    #[error("the stride {stride} is no multiple of {alignment}")]
+    #[error("the array stride {stride} is not a multiple of the required alignment {alignment}")]
     ArrayStride {
         /// In bytes.
         stride: u32,
@@ -49,7 +49,7 @@ pub enum Disalignment {
         alignment: Alignment,
     },
     /// The span of a struct is no multiple of its alignment.
-    #[error("the span {span} is no multiple of {alignment}")]
+    #[error("the struct span {span} is not a multiple of the required alignment {alignment}")]
     StructSpan {
         /// In bytes.
         span: u32,
@@ -57,7 +57,7 @@ pub enum Disalignment {
         alignment: Alignment,
     },
     /// A member does not begin at a multiple of what is required.
-    #[error("member {index} at {offset} does not begin at a multiple of {alignment}")]
+    #[error("the offset {offset} of struct member {index} is not a multiple of the required alignment {alignment}")]
     MemberOffset {
         /// The member's place, from 0.
         index: usize,
@@ -67,7 +67,7 @@ pub enum Disalignment {
         alignment: Alignment,
     },
     /// A member begins too near after a struct.
-    #[error("member {index} at {offset} begins before {expected}")]
+    #[error("the offset {offset} of struct member {index} must be at least {expected}, because it follows a struct")]
     MemberOffsetAfterStruct {
         /// The member's place, from 0.
         index: usize,
@@ -76,8 +76,8 @@ pub enum Disalignment {
         /// Where it may begin at least.
         expected: u64,
     },
-    /// No host lays out such values.
-    #[error("no host lays out such values")]
+    /// The type is not host-shareable.
+    #[error("the type is not host-shareable")]
     NonHostShareable,
 }
 
@@ -85,16 +85,16 @@ pub enum Disalignment {
 #[derive(Clone, Copy, Debug, Error)]
 pub enum VaryingError {
     /// Values of the type don't go from one stage to the next.
-    #[error("values of type {0:?} don't go between stages")]
+    #[error("type {0:?} cannot be passed between stages: only numeric scalars and vectors can")]
     NotIOShareableType(Handle<key::IrType>),
     /// Several members are the same source.
-    #[error("several members are source {blend_src}")]
+    #[error("blend source {blend_src} has more than one binding")]
     BindingCollisionBlendSrc {
         /// The source.
         blend_src: u32,
     },
     /// There are the sources 0 and 1 alone, at location 0.
-    #[error("there is no source {blend_src} at location {location}")]
+    #[error("a blend source must be 0 or 1, at location 0: blend source {blend_src} at location {location}")]
     InvalidBlendSrcIndex {
         /// The member's location.
         location: u32,
@@ -102,19 +102,19 @@ pub enum VaryingError {
         blend_src: u32,
     },
     /// One of the two sources is missing.
-    #[error("source {present_blend_src} stands without the other")]
+    #[error("both blend sources must be present: only {present_blend_src} is")]
     IncompleteBlendSrcUsage {
         /// The source that is there.
         present_blend_src: u32,
     },
     /// A member beside the sources has a location.
-    #[error("a member beside the sources has location {location}")]
+    #[error("a struct with blend sources cannot have other members with locations: location {location}")]
     InvalidBlendSrcWithOtherBindings {
         /// Its location.
         location: u32,
     },
     /// The types of the two sources are made of different things.
-    #[error("the sources are of types {blend_src_0_type:?} and {blend_src_1_type:?}")]
+    #[error("both blend sources must have the same type: {blend_src_0_type:?} and {blend_src_1_type:?}")]
     BlendSrcOutputTypeMismatch {
         /// The type of source 0.
         blend_src_0_type: Handle<key::IrType>,
@@ -130,16 +130,16 @@ pub enum TypeError {
     #[error("{0}")]
     WidthError(WidthError),
     /// It asks for this capability.
-    #[error("the capability {0:?} is missing")]
+    #[error("capability {0:?} is required")]
     MissingCapability(Capabilities),
     /// No atomic is a scalar of this kind and width.
-    #[error("there is no atomic {0:?} scalar of {1} bytes")]
+    #[error("an atomic of kind {0:?} cannot have a width of {1} bytes")]
     InvalidAtomicWidth(ScalarKind, Bytes),
     /// Values of this type can't be stored, so nothing points to one.
-    #[error("nothing points to a value of type {0:?}")]
+    #[error("the base type {0:?} of the pointer is invalid")]
     InvalidPointerBase(Handle<key::IrType>),
     /// Only in storage buffers lies what has no known size.
-    #[error("a value of type {base:?} has no known size, so it can't lie in {space:?}")]
+    #[error("the unsized type {base:?} cannot be the base of a pointer into address space {space:?}")]
     InvalidPointerToUnsized {
         /// What is pointed to.
         base: Handle<key::IrType>,
@@ -147,7 +147,7 @@ pub enum TypeError {
         space: AddressSpace,
     },
     /// Values of a member's type can't be stored.
-    #[error("member {index} is of type {ty:?}, whose values can't be stored")]
+    #[error("struct member {index} has type {ty:?}, which cannot be stored as data")]
     InvalidData {
         /// The member's place, from 0.
         index: usize,
@@ -155,13 +155,13 @@ pub enum TypeError {
         ty: Handle<key::IrType>,
     },
     /// Values of this type can't be stored, or have no known size.
-    #[error("there is no array of elements of type {0:?}")]
+    #[error("the base type {0:?} of the array is invalid")]
     InvalidArrayBaseType(Handle<key::IrType>),
     /// Matrices are of floats.
-    #[error("a matrix is of floats")]
+    #[error("matrix elements must be floating-point types")]
     MatrixElementNotFloat,
     /// There is no image of these dimensions and this class.
-    #[error("there is no image of {dim:?}, {class:?} (in layers: {arrayed})")]
+    #[error("images of dimension {dim:?}, class {class:?} and arrayed {arrayed} are not supported")]
     UnsupportedImageType {
         /// How many dimensions it has.
         dim: ImageDimension,
@@ -171,7 +171,7 @@ pub enum TypeError {
         class: ImageClass,
     },
     /// A member before the last has no known size.
-    #[error("member {index} is of type {ty:?}, which has no known size, and not the last")]
+    #[error("struct member {index} has the dynamically sized type {ty:?}, which only the last member can have")]
     InvalidDynamicArray {
         /// The member's place, from 0.
         index: usize,
@@ -179,7 +179,7 @@ pub enum TypeError {
         ty: Handle<key::IrType>,
     },
     /// A member begins inside the one before.
-    #[error("member {index} at {offset} begins inside the one before")]
+    #[error("struct member {index} at offset {offset} overlaps the previous member")]
     MemberOverlap {
         /// The member's place, from 0.
         index: usize,
@@ -187,7 +187,7 @@ pub enum TypeError {
         offset: u32,
     },
     /// A member ends past the struct's span.
-    #[error("member {index} at {offset} of {size} bytes ends past {span}")]
+    #[error("struct member {index} at offset {offset} with size {size} exceeds the struct span {span}")]
     MemberOutOfBounds {
         /// The member's place, from 0.
         index: usize,
@@ -198,16 +198,16 @@ pub enum TypeError {
         /// The struct's span.
         span: u32,
     },
-    /// A struct has a member at least.
-    #[error("a struct has a member at least")]
+    /// A struct must have at least one member.
+    #[error("a struct must have at least one member")]
     EmptyStruct,
     /// Members can't be sources of a blend.
-    #[error("sources of a blend: {0}")]
+    #[error("the blend sources of the struct are invalid: {0}")]
     InvalidBlendSrc(VaryingError),
     /// The size of this array is an override's, and overrides are resolved.
-    #[error("the size of type {0:?} is that of an override")]
+    #[error("the array length of type {0:?} is an override without a value")]
     UnresolvedOverride(Handle<key::IrType>),
     /// A fault without a name: the scalar of a cooperative matrix, or the elements or the size of a binding array.
-    #[error("there is no such cooperative matrix, or no such binding array")]
+    #[error("the cooperative matrix or binding array is invalid")]
     Other,
 }

@@ -22,7 +22,7 @@ use typing_layout::Layouter;
 
 /// A type that is refused (naga's `ValidationError::Type`).
 #[derive(Clone, Copy, Debug, Error)]
-#[error("type {ty:?} is refused: {error}")]
+#[error("type {ty:?} is invalid: {error}")]
 pub struct InvalidType {
     /// The type.
     pub ty: Handle<key::IrType>,

@@ -27,7 +27,7 @@ use typing_layout::ExpressionKindTracker;
 
 /// A global variable that is refused (naga's `ValidationError::GlobalVariable`).
 #[derive(Clone, Copy, Debug, Error)]
-#[error("global variable {global:?} is refused: {error}")]
+#[error("global variable {global:?} is invalid: {error}")]
 pub struct InvalidGlobalVariable {
     /// The variable.
     pub global: Handle<key::GlobalVariable>,

@@ -16,7 +16,7 @@ use thiserror::Error;
 
 /// An override that is refused (naga's `ValidationError::Override`).
 #[derive(Clone, Copy, Debug, Error)]
-#[error("override {id:?} is refused: {error}")]
+#[error("override {id:?} is invalid: {error}")]
 pub struct InvalidOverride {
     /// The override.
     pub id: Handle<key::Override>,

@@ -5,9 +5,9 @@ use Rattle.shader_check.proofs.Staged.{are_stages}
 use Rattle.shader_check.specs.Judged.{AreJudged}
 use Rattle.shader_check.specs.JudgedEntries.{AreEntriesJudged, AreEntryNotes, IsEntryRefusal, Note}
 use Rattle.shader_check.specs.Validated.{AreEntriesKept, IsEntryFault, IsFaultAfter, IsKeptWith, IsRefusedWith, IsReportedBy, IsValidated, IsValidationFault, module_settings}
-use Rattle.shader_check.specs.declared.entries.InvalidEntryPoint.{InvalidEntryPoint}
-use Rattle.shader_check.specs.declared.error.ValidationError.{ValidationError}
-use Rattle.shader_check.specs.declared.error.ValidationError.TheVariants as error
+use Rattle.check_errors.specs.declared.error.InvalidEntryPoint.{InvalidEntryPoint}
+use Rattle.check_errors.specs.declared.error.ValidationError.{ValidationError}
+use Rattle.check_errors.specs.declared.error.ValidationError.TheVariants as error
 use Rattle.ir_faults.specs.Faults.{error_of}
 use Rattle.ir_faults.specs.declared.refusal.Refusal.{Refusal}
 use Rattle.ir_faults.specs.declared.refusal.Refusal.TheVariants as refusal

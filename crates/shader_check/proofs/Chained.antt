@@ -7,7 +7,7 @@ use Rattle.function_validator.specs.Faults.{IsFunctionFault}
 use Rattle.function_interface.specs.Analysis.{Faults, IsRefusedFor}
 use Rattle.function_interface.specs.Question.{Question, question}
 use Rattle.shader_check.specs.Judged.{Preceding, IsAcceptedAt, IsRefusedAt, IsNotedAt, AreNoted, AreJudged, IsFirstRefused, IsReportedAt, IsRefusal}
-use Rattle.shader_check.specs.declared.functions.InvalidFunction.{InvalidFunction}
+use Rattle.check_errors.specs.declared.error.InvalidFunction.{InvalidFunction}
 use Rattle.ir_faults.specs.Faults.{error_of}
 use Rattle.ir_faults.specs.declared.refusal.Refusal.{Refusal}
 use Rattle.ir_faults.specs.declared.refusal.Refusal.TheVariants as refusal

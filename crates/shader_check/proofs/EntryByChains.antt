@@ -10,7 +10,7 @@ use Rattle.shader_check.proofs.EntryHeld.{one_entry_held}
 use Rattle.shader_check.proofs.EntrySteps.{entry_conditions, entry_known}
 use Rattle.shader_check.specs.JudgedEntries.{IsEntryAcceptedAt, IsEntryRefusedAt, IsWrong, conflicting, unaccepted, IsFirstEntryRefused}
 use Rattle.shader_check.specs.Validated.{IsEntryFault}
-use Rattle.shader_check.specs.declared.entries.InvalidEntryPoint.{InvalidEntryPoint}
+use Rattle.check_errors.specs.declared.error.InvalidEntryPoint.{InvalidEntryPoint}
 use Rattle.ir_flags.specs.declared.stages.ShaderStages.{ShaderStages}
 use Rattle.ir_items.specs.Plain.{PlainEntry, PlainFunction, PlainModule}
 use Rattle.module_handles.proofs.Whole.{order_gives_conditions}

@@ -14,8 +14,8 @@ use Rattle.shader_check.proofs.Once.{step_back}
 use Rattle.shader_check.specs.Examined.{refused_by}
 use Rattle.shader_check.specs.Fresh.{AreAlike, AnswersAreAlike}
 use Rattle.shader_check.specs.Validated.{IsValidated, IsValidationFault, module_settings}
-use Rattle.shader_check.specs.declared.error.ValidationError.{ValidationError}
-use Rattle.shader_check.specs.declared.error.ValidationError.TheVariants as validation
+use Rattle.check_errors.specs.declared.error.ValidationError.{ValidationError}
+use Rattle.check_errors.specs.declared.error.ValidationError.TheVariants as validation
 use Rattle.spec_handles.specs.InOrder.{HandlesOK}
 use Rattle.judgement.specs.ModuleSteps as step
 use Rattle.judgement.specs.ModuleSteps.{ModuleStep, IsFirstFailing}

@@ -5,7 +5,7 @@ use Rattle.shader_check.proofs.ByChains.{accepted_at, refused_at}
 use Rattle.shader_check.specs.Chains.{AreKept, IsFunctionFault}
 use Rattle.shader_check.specs.Judged.{AreJudged, IsFirstRefused, IsRefusal}
 use Rattle.shader_check.specs.Validated.{IsRefusedWith}
-use Rattle.shader_check.specs.declared.functions.InvalidFunction.{InvalidFunction}
+use Rattle.check_errors.specs.declared.error.InvalidFunction.{InvalidFunction}
 use Rattle.ir_faults.specs.declared.refusal.Refusal.{Refusal}
 use Rattle.ir_faults.specs.declared.refusal.Refusal.TheVariants as refusal
 use Rattle.ir_flags.specs.declared.stages.ShaderStages.{ShaderStages}

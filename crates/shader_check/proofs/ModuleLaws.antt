@@ -10,8 +10,8 @@ use Rattle.module_validator.specs.Faults.{IsExpressionRefused, IsModuleFault}
 use Rattle.module_validator.specs.declared.error.ModuleError.{ModuleError}
 use Rattle.module_validator.specs.declared.error.ModuleError.TheVariants as error
 use Rattle.shader_check.specs.Validated.{IsValidationFault}
-use Rattle.shader_check.specs.declared.error.ValidationError.{ValidationError}
-use Rattle.shader_check.specs.declared.error.ValidationError.TheVariants as validation
+use Rattle.check_errors.specs.declared.error.ValidationError.{ValidationError}
+use Rattle.check_errors.specs.declared.error.ValidationError.TheVariants as validation
 use Rattle.shader_check.specs.Examined.{step_of, refused_early, refused_by, finding_in, IsExamined}
 use Rattle.shader_check.specs.declared.examined.Examined.{Examined}
 use Rattle.shader_check.specs.declared.examined.Examined.TheVariants as examined

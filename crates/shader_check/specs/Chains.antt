@@ -1,7 +1,7 @@
 -- What is answered of the functions of a module, by all chains of calls.
 use Rattle.std.specs.Prelude.{◌≡◌, List, length}
 use Rattle.shader_check.specs.Judged.{IsRefusedAt}
-use Rattle.shader_check.specs.declared.functions.InvalidFunction.{InvalidFunction}
+use Rattle.check_errors.specs.declared.error.InvalidFunction.{InvalidFunction}
 use Rattle.ir_items.specs.Plain.{PlainModule}
 use Rattle.function_real_lower.specs.Readings.{reading_of, faults_of}
 use Rattle.spec_analysis.specs.Summaries.{Summary, AreSummaries}

@@ -4,8 +4,8 @@ use Rattle.document_reader.specs.Plain.{PlainDocument}
 use Rattle.typing_errors.specs.declared.const_expressions.ConstExpressionError.{ConstExpressionError}
 use Rattle.typing_errors.specs.declared.const_expressions.ConstExpressionError.TheVariants as constant
 use Rattle.shader_check.specs.Validated.{IsValidated, IsValidationFault}
-use Rattle.shader_check.specs.declared.error.ValidationError.{ValidationError}
-use Rattle.shader_check.specs.declared.error.ValidationError.TheVariants as error
+use Rattle.check_errors.specs.declared.error.ValidationError.{ValidationError}
+use Rattle.check_errors.specs.declared.error.ValidationError.TheVariants as error
 use Rattle.ir_flags.specs.Settings.{PlainSettings}
 use Rattle.ir_items.specs.Copies.{spanned_module}
 use Rattle.ir_items.specs.Plain.{PlainModule}

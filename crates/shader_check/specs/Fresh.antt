@@ -4,7 +4,7 @@ use Rattle.ir_items.specs.Plain.{PlainModule}
 use Rattle.typing_infos.specs.declared.info.ModuleInfo.{ModuleInfo}
 use Rattle.shader_check.specs.Examined.{refused_by}
 use Rattle.shader_check.specs.Validated.{IsValidated, IsValidationFault}
-use Rattle.shader_check.specs.declared.error.ValidationError.{ValidationError}
+use Rattle.check_errors.specs.declared.error.ValidationError.{ValidationError}
 use Rattle.spec_statements.specs.Functions.{FunctionSettings}
 
 -- no module is accepted and refused, and all its faults are at one step and one item

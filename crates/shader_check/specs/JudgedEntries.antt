@@ -6,7 +6,7 @@ use Rattle.function_interface.specs.Analysis.{Faults}
 use Rattle.function_interface.specs.Question.{Question, question}
 use Rattle.function_validator.specs.EntryFaults.{IsRefusedAs}
 use Rattle.function_validator.specs.Validated.{IsEntryNoted, IsEntrySummary}
-use Rattle.shader_check.specs.declared.entries.InvalidEntryPoint.{InvalidEntryPoint}
+use Rattle.check_errors.specs.declared.error.InvalidEntryPoint.{InvalidEntryPoint}
 use Rattle.ir_faults.specs.Faults.{error_of, spans_of}
 use Rattle.ir_faults.specs.declared.refusal.Refusal.{Refusal}
 use Rattle.ir_faults.specs.declared.refusal.Refusal.TheVariants as refusal

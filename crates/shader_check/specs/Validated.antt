@@ -4,9 +4,9 @@ use Rattle.typing_infos.specs.Infos.{summary_of}
 use Rattle.typing_infos.specs.declared.function_info.FunctionInfo.{FunctionInfo}
 use Rattle.shader_check.specs.Chains.{AreKept, IsFunctionFault}
 use Rattle.shader_check.specs.JudgedEntries.{AreEntryNotes, AreEntrySummaries, IsEntryRefusedAt, note_of}
-use Rattle.shader_check.specs.declared.entries.InvalidEntryPoint.{InvalidEntryPoint}
-use Rattle.shader_check.specs.declared.error.ValidationError.{ValidationError}
-use Rattle.shader_check.specs.declared.error.ValidationError.TheVariants as error
+use Rattle.check_errors.specs.declared.error.InvalidEntryPoint.{InvalidEntryPoint}
+use Rattle.check_errors.specs.declared.error.ValidationError.{ValidationError}
+use Rattle.check_errors.specs.declared.error.ValidationError.TheVariants as error
 use Rattle.ir_faults.specs.Faults.{error_of, spans_of}
 use Rattle.ir_faults.specs.declared.refusal.Refusal.{Refusal}
 use Rattle.ir_faults.specs.declared.refusal.Refusal.TheVariants as refusal

@@ -15,6 +15,7 @@ ghost use Rattle.function_statement_checks.specs.Descriptors.{AreDescriptors};
 
 use crate::functions::Judged;
 use crate::validator::Validator;
+use check_errors::InvalidEntryPoint;
 use function_entries::KnownInterfaces;
 use function_entry_checks::EntryPointError;
 use function_interface::Lower;
@@ -25,17 +26,6 @@ use ir_faults::with_span::WithSpan;
 use ir_items::{EntryPoint, Module};
 use ir_types::key;
 use std::alloc::Global;
-use thiserror::Error;
-
-/// An entry point that is refused (naga's `ValidationError::EntryPoint`).
-#[derive(Debug, Drop, Error)]
-#[error("entry point {index} is refused: {error}")]
-pub struct InvalidEntryPoint {
-    /// Its index among the module's entry points.
-    pub index: usize,
-    /// What is wrong with it.
-    pub error: EntryPointError,
-}
 
 // The refusal of the entry point at an index, as one of all entry points.
 fn refusal_at(

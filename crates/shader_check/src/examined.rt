@@ -2,7 +2,7 @@
 ghost use Rattle.std.specs.Prelude.{◌≡◌};
 ghost use Rattle.shader_check.specs.Examined.{step_of, refused_early, refused_by, finding_in};
 
-use crate::error::ValidationError;
+use check_errors::ValidationError;
 use judgement::{Finding, Step};
 use module_validator::ModuleError;
 use typing_errors::ConstExpressionError;

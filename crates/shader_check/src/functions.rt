@@ -8,6 +8,7 @@ ghost use Rattle.spec_handles.specs.InOrder.{HandlesOK};
 ghost use Rattle.function_statement_checks.specs.Descriptors.{AreDescriptors};
 
 use crate::validator::Validator;
+use check_errors::InvalidFunction;
 use function_interface::Lower;
 use function_validator::{FunctionSettings, Validated, validate_function_with};
 use ir_arena::handle::Handle;
@@ -16,18 +17,7 @@ use ir_faults::with_span::WithSpan;
 use ir_items::Module;
 use ir_types::key;
 use std::alloc::Global;
-use thiserror::Error;
 use typing_errors::FunctionError;
-
-/// A function that is refused (naga's `ValidationError::Function`).
-#[derive(Debug, Drop, Error)]
-#[error("function {function:?} is refused: {error}")]
-pub struct InvalidFunction {
-    /// The function.
-    pub function: Handle<key::Function>,
-    /// What is wrong with it.
-    pub error: FunctionError,
-}
 
 // What is kept of all functions, and the type of their payloads, if one has any.
 #[derive(Drop)]

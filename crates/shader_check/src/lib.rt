@@ -4,7 +4,6 @@
 
 mod check;
 mod entries;
-mod error;
 mod examined;
 mod functions;
 mod judge;
@@ -14,14 +13,12 @@ mod validator;
 mod whole;
 
 pub use check::{Fault, MAX_TAKEN, Verdict, check_document, outcome};
+pub use check_errors::{InvalidEntryPoint, InvalidFunction, Named, ValidationError};
 pub use check_ports::{ReadCall, Sink, Source, WriteCall};
 pub use document_reader::{
     Document, DocumentError, Settings, build_module, read_document, take_document,
 };
-pub use entries::InvalidEntryPoint;
-pub use error::{Named, ValidationError};
 pub use examined::{Examined, refused_by};
-pub use functions::InvalidFunction;
 pub use judge::{examine_document, judge_document};
 pub use judgement::{Finding, Step};
 pub use module_validator::{InvalidGlobalVariable, ModuleError};

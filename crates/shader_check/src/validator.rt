@@ -26,8 +26,9 @@ ghost use Rattle.spec_handles.specs.InOrder.{HandlesOK};
 ghost use Rattle.spec_statements.specs.Functions.{FunctionOK, AllowsStage};
 ghost use Rattle.spec_statements.specs.Payloads.{IsPayloadAfter};
 
-use crate::functions::{InvalidFunction, judge_all};
+use crate::functions::judge_all;
 use bitflags::Flags;
+use check_errors::InvalidFunction;
 use function_entry_checks::EntryPointError;
 use function_interface::Lower;
 use function_statement_checks::descriptors_of;

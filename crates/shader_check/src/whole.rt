@@ -2,8 +2,9 @@
 
 ghost use Rattle.std.specs.Prelude.{◌≡◌, IfErr, IfOk, MatchResult, None, OnOk, false, true};
 ghost use Rattle.shader_check.specs.Settings.{settings_in};
+ghost use Rattle.check_errors.specs.Spans.{IsRefusedAt};
 ghost use Rattle.shader_check.specs.Validated.{IsFaultAfter, IsKeptWith, IsRefusedWith, IsReportedBy, IsValidated, IsValidationFault, module_settings};
-ghost use Rattle.shader_check.specs.declared.error.ValidationError.TheVariants as error;
+ghost use Rattle.check_errors.specs.declared.error.ValidationError.TheVariants as error;
 ghost use Rattle.ir_items.specs.View.{module_view};
 ghost use Rattle.module_types.specs.Validated.{AreAccepted};
 ghost use Rattle.module_validator.specs.Faults.{IsModuleFault};
@@ -18,10 +19,10 @@ ghost use Rattle.spec_handles.specs.InOrder.{HandlesOK};
 ghost use Rattle.judgement.specs.ModuleSteps.{ModuleOK};
 ghost use Rattle.typing_expressions.specs.Types.{AreTypes};
 
-use crate::entries::{InvalidEntryPoint, judge_entries};
-use crate::error::ValidationError;
-use crate::functions::{InvalidFunction, judge_all};
+use crate::entries::judge_entries;
+use crate::functions::judge_all;
 use crate::validator::Validator;
+use check_errors::{InvalidEntryPoint, InvalidFunction, ValidationError, with_spans};
 use function_real_lower::RealLower;
 use function_statement_checks::descriptors_of;
 use ir_faults::refusal::Refusal;
@@ -227,12 +228,13 @@ impl Validator<RealLower> {
     ///
     /// # Errors
     ///
-    /// [`Refusal::Fault`], with no span, exactly where some step fails: the first that does, at the first item that fails it, with
-    /// a fault of its own. [`Refusal::Memory`] where memory ran out.
+    /// [`Refusal::Fault`] exactly where some step fails: the first that does, at the first item that fails it, with a fault of its
+    /// own. Its spans are those that are known of the items which it names: the expression or the variable of a function that is
+    /// at fault first, and then the function, or the item that is refused. [`Refusal::Memory`] where memory ran out.
     pub fn validate(&mut self, module: &Module) -> Result<ModuleInfo, Refusal<ValidationError>>
         ensures judged { MatchResult result
             (IsValidated (settings_in self.old) false (module_view «module».now))
-            (IsRefusedWith (IsValidationFault (settings_in self.old) false (module_view «module».now))) }
+            (IsRefusedAt (IsValidationFault (settings_in self.old) false (module_view «module».now)) «module».now) }
         ensures forgotten { self.new.held ≡ None }
         ensures lower { self.new.lower ≡ self.old.lower }
         ensures flags { self.new.flags ≡ self.old.flags }
@@ -241,7 +243,8 @@ impl Validator<RealLower> {
         ensures operations { self.new.operations ≡ self.old.operations }
     {
         self.reset();
-        judge(self, module, false)
+        let judged = judge(self, module, false);
+        with_spans(module, judged)
     }
 
     /// The same of a module whose overrides all have values given to them (naga's `Validator::validate_resolved_overrides`): an
@@ -256,7 +259,7 @@ impl Validator<RealLower> {
     ) -> Result<ModuleInfo, Refusal<ValidationError>>
         ensures judged { MatchResult result
             (IsValidated (settings_in self.old) true (module_view «module».now))
-            (IsRefusedWith (IsValidationFault (settings_in self.old) true (module_view «module».now))) }
+            (IsRefusedAt (IsValidationFault (settings_in self.old) true (module_view «module».now)) «module».now) }
         ensures forgotten { self.new.held ≡ None }
         ensures lower { self.new.lower ≡ self.old.lower }
         ensures flags { self.new.flags ≡ self.old.flags }
@@ -265,6 +268,7 @@ impl Validator<RealLower> {
         ensures operations { self.new.operations ≡ self.old.operations }
     {
         self.reset();
-        judge(self, module, true)
+        let judged = judge(self, module, true);
+        with_spans(module, judged)
     }
 }

@@ -6,6 +6,9 @@ use Rattle.judgement.specs.declared.finding.Finding.TheVariants as findings
 use Rattle.shader_check.specs.Theorem.{IsExpected, Judged, SoundText}
 use Rattle.shader_check.specs.declared.check.Verdict.{Verdict}
 use Rattle.shader_check.specs.declared.check.Verdict.TheVariants.{Accepted, Refused}
+use Rattle.check_explanation.specs.Answered.{IsAnswered}
+use Rattle.check_explanation.specs.declared.spirv.SpirvVerdict.{SpirvVerdict}
+use Rattle.check_explanation.specs.declared.spirv.SpirvVerdict.TheVariants as spirv
 
 -- The text is the one that is expected for the bytes, the verdict is what it begins with, and where it is that the document is
 -- accepted all holds that is promised of it.
@@ -43,5 +46,19 @@ pub record IsExplained (document : List ℕ) (status : ℕ) (old new : List ℕ)
   pub judged : Judged document finding
   pub status_is : status ≡ status_in finding
   pub text : List ℕ
+  pub written : new ≡ front_of text old
+  pub whole : needed ≡ length text
+
+abbrev pub status_of_spirv : SpirvVerdict → ℕ
+status_of_spirv spirv.Accepted = 0
+status_of_spirv spirv.Refused = 1
+status_of_spirv spirv.Unread = 3
+
+-- The host is given the front of a text and its length, and the status is that of a verdict which the text tells.
+pub record IsGivenOfSpirv (status : ℕ) (old new : List ℕ) (needed : ℕ) : Type 0 where
+  pub verdict : SpirvVerdict
+  pub text : List ℕ
+  pub answered : IsAnswered verdict text
+  pub status_is : status ≡ status_of_spirv verdict
   pub written : new ≡ front_of text old
   pub whole : needed ≡ length text

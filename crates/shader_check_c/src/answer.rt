@@ -1,10 +1,12 @@
 //! The text on a document, in memory.
 
-ghost use Rattle.std.specs.Prelude.{◌≡◌, ◌<◌, IfSome};
+ghost use Rattle.std.specs.Prelude.{◌≡◌, ◌<◌, ◌≢◌, ◌≤◌, IfSome, string_bytes};
 ghost use Rattle.shader_check.specs.Theorem.{Judged};
+ghost use Rattle.check_explanation.specs.Answered.{IsAnswered};
 ghost use Rattle.shader_check_c.specs.Answers.{IsAnswerOn, front_of, status_in, status_of};
+ghost use Rattle.shader_check_c.specs.Answers.{status_of_spirv};
 
-use check_explanation::{Requested, explain};
+use check_explanation::{Requested, SpirvAnswer, SpirvVerdict, check_spirv, explain};
 use shader_check::{Finding, Sink, Source, Verdict, check_document};
 use std::alloc::Global;
 
@@ -53,6 +55,16 @@ pub(crate) fn explained_on(alloc: Global, document: &[u8]) -> Option<Explained>
     }
 }
 
+/// What is answered of these bytes of SPIR-V; nothing where memory was refused.
+pub(crate) fn spirv_answer_on(alloc: Global, spirv: &[u8]) -> Option<SpirvAnswer>
+    ensures { IfSome result (λ answer. IsAnswered answer.verdict (string_bytes answer.text)) }
+{
+    match check_spirv(alloc, spirv) {
+        Ok(answer) => Some(answer),
+        Err(_) => None,
+    }
+}
+
 /// Writes the first bytes of a text to the front of `room`, as many as there is room for.
 pub(crate) fn put_front(room: &mut [u8], text: &[u8])
     ensures { room.new ≡ front_of text.now room.old }
@@ -80,5 +92,18 @@ pub(crate) fn status_in(finding: Finding) -> u32
     match finding {
         Finding::Accepted { .. } => 0,
         Finding::RefusedDocument | Finding::RefusedHandles | Finding::Refused(..) => 1,
+    }
+}
+
+/// 0 for accepted, 1 for refused, 3 for a module that was not read.
+pub(crate) fn status_of_spirv(verdict: SpirvVerdict) -> u32
+    ensures is { result ≡ status_of_spirv verdict }
+    ensures known { result ≤ 3 }
+    ensures memory { result ≢ 2 }
+{
+    match verdict {
+        SpirvVerdict::Accepted => 0,
+        SpirvVerdict::Refused => 1,
+        SpirvVerdict::Unread => 3,
     }
 }

@@ -1,8 +1,7 @@
-//! The intermediate representation of a shader from one place: the sets of words of `ir_flags`, the kinds of `ir_kinds`,
-//! the arenas of `ir_arena`, the sets of handles of `ir_sets`, the errors with spans of `ir_faults`, the types, the
-//! expressions and the items of `ir_types`, `ir_expressions` and `ir_items`, the emitter of `ir_proc`, the walks of
-//! `ir_proc`, and in `specs/`
-//! the words of their contracts.
+//! The intermediate representation of a shader from one place: sets of words (`ir_flags`), plain enums and structs (`ir_kinds`),
+//! arenas (`ir_arena`), sets of handles (`ir_sets`), errors with spans (`ir_faults`), types and expressions (`ir_types`), statements
+//! (`ir_blocks`), items (`ir_items`), the emitter and calls that follow handles (`ir_proc`), and in `specs/` the words of their
+//! contracts.
 //!
 //! Nothing is defined here. A crate that uses the representation as a whole names this crate alone.
 #![tactic(auto)]

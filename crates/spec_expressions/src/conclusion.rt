@@ -12,7 +12,7 @@ use typing_rules::Conclusion;
 
 /// The module has no type for what a function answers (naga's `MissingSpecialType`).
 #[derive(Clone, Copy, PartialEq, Eq, Debug, Error)]
-#[error("the module has no type for what the function answers")]
+#[error("the module has no predeclared type for the result of the function")]
 pub struct MissingSpecialType;
 
 /// What a conclusion has that needs a module (a call of naga's `Conclusion`).

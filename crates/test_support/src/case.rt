@@ -33,6 +33,14 @@ fn another(line: &Value) -> Option<&str> {
     }
 }
 
+// Whether a text begins with these words.
+fn begins_with(text: &str, words: &str) -> bool {
+    match text.strip_prefix(words) {
+        Some(rest) => rest.is_empty() || rest.starts_with(' '),
+        None => false,
+    }
+}
+
 impl Case<'_> {
     /// A case as a line has it: name, what is required, document, answer and, where there are two, the second one.
     pub fn read(line: &Value) -> Case<'_> {
@@ -51,5 +59,14 @@ impl Case<'_> {
             Some(also) => found == self.answer || found == also,
             None => found == self.answer,
         }
+    }
+
+    /// Whether an answer begins with a right one, and goes on with a further word if it goes on.
+    pub fn begins_right(&self, found: &str) -> bool {
+        let second = match self.also {
+            Some(also) => begins_with(found, also),
+            None => false,
+        };
+        second || begins_with(found, self.answer)
     }
 }

@@ -91,21 +91,33 @@ fn of_infos(alloc: Global) -> Result<Left, AllocError> {
     Ok(came_of(refused, has_functions(&info, 20)))
 }
 
-// What `build_module` leaves of the document.
-fn of_module(alloc: Global, document: &Document) -> Result<Left, AllocError> {
-    let copy = document.clone(alloc)?;
-    let refused = build_module(alloc, document).is_err();
+// Whether a module of its own is refused.
+fn is_build_refused(alloc: Global, document: &Document) -> bool {
+    build_module(alloc, document).is_err()
+}
+
+// Whether a module of its own is the document's.
+fn is_built(alloc: Global, document: &Document) -> Result<bool, AllocError> {
     let again = build_module(alloc, document)?;
-    let right = copy.module == document.module && again == document.module;
-    Ok(came_of(refused, right))
+    Ok(again == document.module)
+}
+
+// What `build_module` leaves of the document.
+fn of_module(alloc: Global, document: &Document, copy: &Document) -> Result<Left, AllocError> {
+    let refused = is_build_refused(alloc, document);
+    let again = is_built(alloc, document)?;
+    Ok(came_of(refused, again && copy.module == document.module))
 }
 
 // What `judge_document` leaves of a document, whose report is the last that it makes.
-fn of_judgement(alloc: Global, document: &mut Document) -> Result<Left, AllocError> {
-    let mut copy = document.clone(alloc)?;
+fn of_judgement(
+    alloc: Global,
+    document: &mut Document,
+    copy: &mut Document,
+) -> Result<Left, AllocError> {
     let refused = judge_document(alloc, document).is_err();
     let again = judge_document(alloc, document)?;
-    let other = judge_document(alloc, &mut copy)?;
+    let other = judge_document(alloc, copy)?;
     let right = again.finding == other.finding
         && again.report == other.report
         && copy.module == document.module;
@@ -113,8 +125,11 @@ fn of_judgement(alloc: Global, document: &mut Document) -> Result<Left, AllocErr
 }
 
 // What `ensure_block_returns` leaves of the module, into which they are put.
-fn of_returns(alloc: Global, document: &mut Document) -> Result<Left, AllocError> {
-    let mut copy = document.clone(alloc)?;
+fn of_returns(
+    alloc: Global,
+    document: &mut Document,
+    copy: &mut Document,
+) -> Result<Left, AllocError> {
     let module = &mut document.module;
     let refused = module.ensure_block_returns(alloc).is_err();
     let kept = !refused || copy.module == *module;
@@ -123,18 +138,39 @@ fn of_returns(alloc: Global, document: &mut Document) -> Result<Left, AllocError
     Ok(came_of(refused, kept && copy.module == *module))
 }
 
+// What a call leaves of the document, of which this is a copy.
+fn asked_of(
+    alloc: Global,
+    asked: &str,
+    document: &mut Document,
+    copy: &mut Document,
+) -> Result<Left, AllocError> {
+    match asked {
+        "left of layouts" => of_layouts(alloc, document),
+        "left of functions" => of_infos(alloc),
+        "left of a copy" => of_module(alloc, document, copy),
+        "left of a report" => of_judgement(alloc, document, copy),
+        _ => of_returns(alloc, document, copy),
+    }
+}
+
+// What it leaves, in a word.
+fn left_in_words(
+    alloc: Global,
+    asked: &str,
+    document: &mut Document,
+    copy: &mut Document,
+) -> Result<String, AllocError> {
+    let came = asked_of(alloc, asked, document, copy)?;
+    told(alloc, came)
+}
+
 /// What a call leaves where it is refused memory.
 pub fn left_told(
     alloc: Global,
     asked: &str,
     document: &mut Document,
 ) -> Result<String, AllocError> {
-    let came = match asked {
-        "left of layouts" => of_layouts(alloc, document)?,
-        "left of functions" => of_infos(alloc)?,
-        "left of a copy" => of_module(alloc, document)?,
-        "left of a report" => of_judgement(alloc, document)?,
-        _ => of_returns(alloc, document)?,
-    };
-    told(alloc, came)
+    let mut copy = document.clone(alloc)?;
+    left_in_words(alloc, asked, document, &mut copy)
 }

@@ -8,10 +8,11 @@
 // `make_chains.py`, `make_functions.py`, `make_names.py` and `make_turns.py` write these files. The answers come from two implementations that were written
 // independently of this one, those of chains of calls from the model in `make_chains.py`; which function is refused comes from
 // those two as well, and why from the model in `model_functions.py`. Beside that it makes each call of layouts, of kinds and of
-// slots of immediate data once.
+// slots of immediate data once, and judges a module that is built by calls.
 #![tactic(auto)]
 
 mod asked;
+mod built;
 mod calls;
 mod case;
 mod checks;
@@ -28,6 +29,7 @@ mod types;
 mod whole;
 
 use anyhow::{Context, Result, ensure};
+use built::judge_built;
 use calls::every_call;
 use case::judge;
 use serde_json::Value;
@@ -80,6 +82,7 @@ fn run_file(rt: &HostRuntime, name: &str) -> Result<usize> {
 
 fn main(rt: HostRuntime) -> Result<()> {
     every_call(&rt)?;
+    judge_built(rt.alloc())?;
     let mut differing = 0usize;
     for name in FILES {
         differing = differing.saturating_add(run_file(&rt, name)?);

@@ -9,7 +9,7 @@ use thiserror::Error;
 #[derive(Debug, Drop, Error)]
 pub enum CallError {
     /// What is passed is refused.
-    #[error("argument {index} is refused: {source}")]
+    #[error("argument {index} is invalid: {source}")]
     Argument {
         /// The argument, counted from 0.
         index: usize,
@@ -17,13 +17,13 @@ pub enum CallError {
         source: ExpressionError,
     },
     /// The answer denotes something already.
-    #[error("the answer {0:?} is in scope already")]
+    #[error("result expression {0:?} is already in scope")]
     ResultAlreadyInScope(Handle<key::Expression>),
     /// Another call answers by the same expression.
-    #[error("the answer {0:?} is that of another call")]
+    #[error("result expression {0:?} is already the result of another call")]
     ResultAlreadyPopulated(Handle<key::Expression>),
     /// Too few or too many arguments are passed.
-    #[error("{seen} arguments are passed where there are {required}")]
+    #[error("the function requires {required} arguments, but {seen} are provided")]
     ArgumentCount {
         /// How many the function has.
         required: usize,
@@ -31,7 +31,7 @@ pub enum CallError {
         seen: usize,
     },
     /// What is passed is of another type.
-    #[error("argument {index} is {seen_expression:?}, which is not of type {required:?}")]
+    #[error("argument {index} value {seen_expression:?} does not have the type {required:?}")]
     ArgumentType {
         /// The argument, counted from 0.
         index: usize,
@@ -41,6 +41,6 @@ pub enum CallError {
         seen_expression: Handle<key::Expression>,
     },
     /// The answer is no `CallResult` of the function, or is there exactly where there should be none.
-    #[error("the function doesn't answer by {0:?}")]
+    #[error("result expression {0:?} does not match the call")]
     ExpressionMismatch(Option<Handle<key::Expression>>),
 }

@@ -8,10 +8,10 @@ use thiserror::Error;
 #[derive(Clone, Copy, Debug, Error)]
 pub enum ComposeError {
     /// Nothing of this type is composed (naga's `Type`).
-    #[error("nothing of type {0:?} is composed")]
+    #[error("type {0:?} cannot be composed")]
     Typing(Handle<key::IrType>),
     /// There are too few or too many components.
-    #[error("there are {given} components where {expected} make the value")]
+    #[error("the composition requires {expected} components, but {given} are provided")]
     ComponentCount {
         /// How many there are.
         given: u32,
@@ -19,7 +19,7 @@ pub enum ComposeError {
         expected: u32,
     },
     /// A component is of another type.
-    #[error("component {index} is of another type")]
+    #[error("component {index} has the wrong type")]
     ComponentType {
         /// The component, counted from 0.
         index: u32,

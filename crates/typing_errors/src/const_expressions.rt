@@ -9,21 +9,21 @@ use thiserror::Error;
 #[derive(Debug, Drop, Error)]
 pub enum ConstExpressionError {
     /// Its value is known only when the shader runs.
-    #[error("the value is neither constant nor known by the overrides")]
+    #[error("the expression is not a const-expression or an override-expression")]
     NonConstOrOverride,
     /// It is constant, and was not worked out.
-    #[error("the constant was not worked out")]
+    #[error("the constant is not fully evaluated")]
     NonFullyEvaluatedConst,
     /// It is a composition that can't be made.
-    #[error("the composition can't be made: {0}")]
+    #[error("the composition is invalid: {0}")]
     Compose(ComposeError),
     /// It is a literal that may not be used.
-    #[error("the literal may not be used: {0}")]
+    #[error("the literal is invalid: {0}")]
     Literal(LiteralError),
     /// It has no type (naga's `Type`).
-    #[error("it has no type: {0}")]
+    #[error("the type cannot be resolved: {0}")]
     Typing(ResolveError),
     /// It breaks another rule.
-    #[error("it breaks a rule")]
+    #[error("the expression is invalid")]
     Other,
 }

@@ -8,12 +8,12 @@ use thiserror::Error;
 #[derive(Clone, Copy, Debug, Error)]
 pub enum UniformityDisruptor {
     /// A choice by a value that comes from this expression.
-    #[error("a choice by what expression {0:?} gives")]
+    #[error("a branch on the non-uniform expression {0:?}")]
     Expression(Handle<key::Expression>),
     /// A return that some invocations take.
-    #[error("a return that not all take")]
+    #[error("a return in non-uniform control flow")]
     Return,
     /// The end of some fragments.
-    #[error("an end of the fragment that not all take")]
+    #[error("a discard in non-uniform control flow")]
     Discard,
 }

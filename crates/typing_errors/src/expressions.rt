@@ -13,48 +13,48 @@ use thiserror::Error;
 #[derive(Debug, Drop, Error)]
 pub enum ExpressionError {
     /// A statement uses it where it is not yet in scope.
-    #[error("it is not in scope where it is used")]
+    #[error("the expression is used before it is in scope")]
     NotInScope,
     /// It has no type (naga's `Type`).
-    #[error("it has no type: {0}")]
+    #[error("the type cannot be resolved: {0}")]
     Typing(ResolveError),
     /// It is a literal that may not be used.
-    #[error("the literal may not be used: {0}")]
+    #[error("the literal is invalid: {0}")]
     Literal(LiteralError),
     /// It is a composition that can't be made.
-    #[error("the composition can't be made: {0}")]
+    #[error("the composition is invalid: {0}")]
     Compose(ComposeError),
     /// An image or a sampler is neither a global variable, nor an argument, nor an element of a global variable.
-    #[error("an image or a sampler is no global variable and no argument")]
+    #[error("the image or sampler must be a global variable or a function argument")]
     ExpectedGlobalOrArgument,
     /// An image is neither a global variable nor an element of one.
-    #[error("the image is no global variable")]
+    #[error("the image must be a global variable")]
     ExpectedGlobalVariable,
     /// What an element is taken of is no array of bindings.
-    #[error("type {0:?} is no array of bindings")]
+    #[error("type {0:?} is not a binding array")]
     ExpectedBindingArrayType(Handle<key::IrType>),
     /// What is written is no image.
-    #[error("type {0:?} is no image")]
+    #[error("type {0:?} is not an image")]
     ExpectedImageType(Handle<key::IrType>),
     /// The image is of a class that is not written.
-    #[error("an image of class {0:?} doesn't allow this")]
+    #[error("image class {0:?} does not support the operation")]
     InvalidImageClass(ImageClass),
     /// The image is of a format that doesn't allow this.
-    #[error("an image of format {0:?} doesn't allow this")]
+    #[error("image format {0:?} does not support the operation")]
     InvalidImageFormat(StorageFormat),
     /// The image may not be accessed so.
-    #[error("an image of access {0:?} doesn't allow this")]
+    #[error("storage access {0:?} does not support the operation")]
     InvalidImageStorageAccess(StorageAccess),
     /// There is a layer and the image has none, or the other way round.
-    #[error("a layer is named exactly where the image has layers")]
+    #[error("an array index must be present exactly when the image is arrayed")]
     InvalidImageArrayIndex,
     /// The layer is no integer scalar.
-    #[error("layer {0:?} is no integer scalar")]
+    #[error("array index {0:?} must be an integer scalar")]
     InvalidImageArrayIndexType(Handle<key::Expression>),
     /// The coordinate doesn't fit the image.
-    #[error("coordinate {1:?} doesn't fit an image of dimension {0:?}")]
+    #[error("coordinate {1:?} does not have the type that image dimension {0:?} requires")]
     InvalidImageCoordinateType(ImageDimension, Handle<key::Expression>),
     /// It breaks another rule.
-    #[error("it breaks a rule")]
+    #[error("the expression is invalid")]
     Other,
 }

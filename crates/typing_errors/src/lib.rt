@@ -15,7 +15,6 @@ mod locals;
 mod operands;
 mod resolve_error;
 mod subgroups;
-mod texts;
 
 pub use atomics::AtomicError;
 pub use calls::CallError;

@@ -8,12 +8,12 @@ use thiserror::Error;
 #[derive(Clone, Copy, Debug, Error)]
 pub enum LocalVariableError {
     /// No variable is of this type.
-    #[error("no variable is of type {0:?}")]
+    #[error("type {0:?} cannot be the type of a local variable")]
     InvalidType(Handle<key::IrType>),
-    /// What it begins as is of another type.
-    #[error("what it begins as is of another type")]
+    /// The initializer has another type than the variable.
+    #[error("the initializer has another type than the variable")]
     InitializerType,
     /// What it begins as is known only when the shader runs.
-    #[error("what it begins as is neither constant nor known by the overrides")]
+    #[error("the initializer is not a const-expression or an override-expression")]
     NonConstOrOverrideInitializer,
 }

@@ -13,7 +13,7 @@ use thiserror::Error;
 #[derive(Clone, Debug, PartialEq, Drop, Error)]
 pub enum ResolveError {
     /// What is accessed has no part of this number.
-    #[error("there is no part {index} of expression {expr:?}")]
+    #[error("index {index} is out of bounds for expression {expr:?}")]
     OutOfBoundsIndex {
         /// What is accessed.
         expr: Handle<key::Expression>,
@@ -21,7 +21,7 @@ pub enum ResolveError {
         index: u32,
     },
     /// What is accessed has no parts.
-    #[error("expression {expr:?} has no parts to access (by an expression: {indexed})")]
+    #[error("expression {expr:?} cannot be accessed (by a dynamic index: {indexed})")]
     InvalidAccess {
         /// What is accessed.
         expr: Handle<key::Expression>,
@@ -29,7 +29,7 @@ pub enum ResolveError {
         indexed: bool,
     },
     /// A part of what is accessed has no parts. No call answers it.
-    #[error("type {ty:?} has no parts to access (by an expression: {indexed})")]
+    #[error("type {ty:?} cannot be accessed (by a dynamic index: {indexed})")]
     InvalidSubAccess {
         /// The type.
         ty: Handle<key::IrType>,
@@ -37,37 +37,37 @@ pub enum ResolveError {
         indexed: bool,
     },
     /// What is spread over a vector is no scalar.
-    #[error("expression {0:?} is no scalar")]
+    #[error("expression {0:?} is not a scalar")]
     InvalidScalar(Handle<key::Expression>),
     /// What components are taken of is no vector.
-    #[error("expression {0:?} is no vector")]
+    #[error("expression {0:?} is not a vector")]
     InvalidVector(Handle<key::Expression>),
     /// What is loaded from is no pointer to what can be loaded.
-    #[error("expression {0:?} is no pointer to what can be loaded")]
+    #[error("expression {0:?} is not a pointer that can be loaded")]
     InvalidPointer(Handle<key::Expression>),
     /// What is sampled, loaded from or asked for its size is no image that allows it.
-    #[error("expression {0:?} is no image that allows this")]
+    #[error("expression {0:?} is not an image that supports the operation")]
     InvalidImage(Handle<key::Expression>),
     /// There is no function of this name. No call answers it.
-    #[error("there is no function {name}")]
+    #[error("function {name} is not defined")]
     FunctionNotDefined {
         /// The name.
         name: String,
     },
     /// The function that was called answers nothing.
-    #[error("the function answers nothing")]
+    #[error("the function has no result")]
     FunctionReturnsVoid,
     /// The operands are of types that the operation does not take.
-    #[error("the operands don't fit: {0}")]
+    #[error("incompatible operands: {0}")]
     IncompatibleOperands(String),
     /// The function has no argument of this number.
-    #[error("there is no argument {0}")]
+    #[error("function argument {0} does not exist")]
     FunctionArgumentNotFound(u32),
     /// The module has no type for what the expression gives.
-    #[error("the module has no special type for this")]
+    #[error("the special type for the expression is not registered in the module")]
     MissingSpecialType,
     /// No rule of the built-in function takes these arguments, or they are too many or too few.
-    #[error("the arguments don't fit: {0}")]
+    #[error("invalid arguments of a built-in function: {0}")]
     BuiltinArgumentsInvalid(String),
 }
 

@@ -9,18 +9,18 @@ use thiserror::Error;
 #[derive(Clone, Copy, Debug, Error)]
 pub enum SubgroupError {
     /// The operand is of another type.
-    #[error("operand {0:?} is of another type")]
+    #[error("operand {0:?} has the wrong type")]
     InvalidOperand(Handle<key::Expression>),
     /// The answer is of another type.
-    #[error("the answer {0:?} is of another type")]
+    #[error("result expression {0:?} has another type than the statement's result")]
     ResultTypeMismatch(Handle<key::Expression>),
     /// The validator doesn't allow the operation.
-    #[error("operation {0:?} is not allowed")]
+    #[error("subgroup operation {0:?} is not supported")]
     UnsupportedOperation(SubgroupOperationSet),
-    /// There is no such operation.
-    #[error("there is no such operation")]
+    /// Unknown subgroup operation.
+    #[error("unknown subgroup operation")]
     UnknownOperation,
     /// The number of the invocation is not constant.
-    #[error("the number of the invocation, {0:?}, is not constant")]
+    #[error("the invocation index {0:?} must be a const-expression")]
     InvalidInvocationIdExprType(Handle<key::Expression>),
 }

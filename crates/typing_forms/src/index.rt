@@ -24,10 +24,10 @@ pub enum IndexableLength {
 #[derive(Clone, Copy, PartialEq, Eq, Debug, Error)]
 pub enum ResolveArraySizeError {
     /// The value is no positive number.
-    #[error("an array has at least one element")]
+    #[error("an array length must be positive")]
     ExpectedPositiveArrayLength,
     /// The override has no value that is known.
-    #[error("the override that gives the array's length has no known value")]
+    #[error("the array length is an override without a value")]
     NonConstArrayLength,
 }
 
@@ -35,13 +35,13 @@ pub enum ResolveArraySizeError {
 #[derive(Clone, Copy, PartialEq, Eq, Debug, Error)]
 pub enum IndexableLengthError {
     /// It has no elements.
-    #[error("the type has no elements")]
+    #[error("the type is not indexable")]
     TypeNotIndexable,
     /// The value of an override gives none.
     #[error(transparent)]
     ResolveArraySizeError(ResolveArraySizeError),
     /// It is as long as an override will say.
-    #[error("the array is as long as an override will say")]
+    #[error("the array length is an override that is not resolved yet")]
     Pending(ArraySize),
 }
 

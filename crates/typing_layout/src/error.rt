@@ -10,16 +10,16 @@ use typing_forms::MAX_TYPE_SIZE;
 #[derive(Clone, Copy, PartialEq, Eq, Debug, Error)]
 pub enum LayoutErrorInner {
     /// Its scalars take a number of bytes that is no power of two.
-    #[error("the width of its scalars is no power of two")]
+    #[error("the scalar width is not a power of two")]
     NonPowerOfTwoWidth,
     /// A value takes more bytes than [`MAX_TYPE_SIZE`].
-    #[error("a value is larger than {max} bytes", max = MAX_TYPE_SIZE)]
+    #[error("the size is larger than {max} bytes", max = MAX_TYPE_SIZE)]
     TooLarge,
 }
 
 /// A type that has no layout (naga's `LayoutError`).
 #[derive(Clone, Copy, PartialEq, Eq, Debug, Error)]
-#[error("type {ty:?} has no layout: {inner}")]
+#[error("the layout of type {ty:?} is invalid: {inner}")]
 pub struct LayoutError {
     /// The type.
     pub ty: Handle<key::IrType>,

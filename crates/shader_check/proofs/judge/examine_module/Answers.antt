@@ -1,7 +1,8 @@
 use Rattle.std.proofs.Common.{subst, sym, false}
-use Rattle.shader_check.specs.Validated.{IsRefusedWith, IsValidated, IsValidationFault}
+use Rattle.check_errors.specs.Spans.{IsRefusedAt}
+use Rattle.shader_check.specs.Validated.{IsValidated, IsValidationFault}
 use Rattle.shader_check.specs.Settings.{settings_in}
-use Rattle.shader_check.specs.declared.error.ValidationError.{ValidationError}
+use Rattle.check_errors.specs.declared.error.ValidationError.{ValidationError}
 use Rattle.ir_faults.specs.declared.refusal.Refusal.{Refusal}
 use Rattle.ir_items.specs.View.{module_view}
 use Rattle.spec_statements.specs.Functions.{FunctionSettings}
@@ -17,6 +18,6 @@ pub returns : goal.returns
 returns c =
     let m = module_view c.args.«module».now in
     let own = settings_in c.validator_for-validator.result in
-    let refused = subst (λ (r : Refusal ValidationError). IsRefusedWith (IsValidationFault own false m) r) c.in-Err-Fault.field-0-is c.in-Err-Fault.ensures.judged in
+    let refused = subst (λ (r : Refusal ValidationError). IsRefusedAt (IsValidationFault own false m) c.args.«module».now r) c.in-Err-Fault.field-0-is c.in-Err-Fault.ensures.judged in
     subst (λ (z : FunctionSettings). IsValidationFault z false m c.into_inner.result) c.validator_for-validator.ensures
     (subst (λ (x : ValidationError). IsValidationFault own false m x) (sym c.into_inner.ensures) refused.0)

@@ -2,7 +2,7 @@ use Rattle.std.proofs.Common.{sym, subst}
 use Rattle.shader_check.proofs.Assembled.{fault_after, made_of, reported_by, validated, widened}
 use Rattle.shader_check.specs.Settings.{settings_in}
 use Rattle.shader_check.specs.Validated.{IsFaultAfter, IsKeptWith, IsRefusedWith, IsValidationFault, module_settings}
-use Rattle.shader_check.specs.declared.error.ValidationError.TheVariants as error
+use Rattle.check_errors.specs.declared.error.ValidationError.TheVariants as error
 use Rattle.ir_items.specs.View.{module_view}
 use Rattle.typing_infos.specs.declared.info.ModuleInfo.{ModuleInfo}
 use Rattle.module_handles.proofs.Whole.{order_gives_conditions}

@@ -9,7 +9,7 @@ use Rattle.shader_check.specs.Chains.{AreKept, IsFunctionFault}
 use Rattle.shader_check.specs.JudgedEntries.{AreEntriesJudged, IsEntryRefusal, note_of}
 use Rattle.shader_check.specs.Settings.{settings_in}
 use Rattle.shader_check.specs.Validated.{AreEntriesKept, AreNoted, IsEntryFault, IsFaultAfter}
-use Rattle.shader_check.specs.declared.error.ValidationError.TheVariants as error
+use Rattle.check_errors.specs.declared.error.ValidationError.TheVariants as error
 use Rattle.ir_items.specs.View.{module_view}
 use Rattle.typing_infos.specs.declared.info.ModuleInfo.{ModuleInfo}
 use Rattle.function_real_lower.specs.Readings.{reading_of, faults_of}

@@ -1,10 +1,32 @@
 //! Why a module is refused.
 
-use crate::entries::InvalidEntryPoint;
-use crate::functions::InvalidFunction;
+use function_entry_checks::EntryPointError;
+use ir_arena::handle::Handle;
+use ir_types::key;
 use module_validator::{InvalidGlobalVariable, ModuleError};
 use std::fmt::{self, Display};
 use thiserror::Error;
+use typing_errors::FunctionError;
+
+/// A function that is refused (naga's `ValidationError::Function`).
+#[derive(Debug, Drop, Error)]
+#[error("function {function:?} is invalid: {error}")]
+pub struct InvalidFunction {
+    /// The function.
+    pub function: Handle<key::Function>,
+    /// What is wrong with it.
+    pub error: FunctionError,
+}
+
+/// An entry point that is refused (naga's `ValidationError::EntryPoint`).
+#[derive(Debug, Drop, Error)]
+#[error("entry point {index} is invalid: {error}")]
+pub struct InvalidEntryPoint {
+    /// Its index among the module's entry points.
+    pub index: usize,
+    /// What is wrong with it.
+    pub error: EntryPointError,
+}
 
 /// Why a module is refused (naga's `ValidationError`): the first step that fails, at the first item that fails it, and why.
 #[derive(Debug, Drop, Error)]
