@@ -5,23 +5,30 @@ use Rattle.judgement.specs.declared.finding.Finding.{Finding}
 use Rattle.document_reader.specs.Plain.{PlainDocument}
 use Rattle.document_reader.specs.Form.{Reads}
 use Rattle.shader_check.specs.Theorem.{Judged, JudgedDocument}
-use Rattle.shader_check.proofs.JudgedLaws.{judged_if, kept_in}
+use Rattle.shader_check.proofs.JudgedLaws.{judged_document, judged_if, kept_in}
 use Rattle.check_explanation.specs.declared.explanation.Requested.{Requested}
 use Rattle.check_explanation.specs.declared.explanation.Explanation.{Explanation}
 use Rattle.check_explanation.specs.Explained.{finding_of}
-use Rattle.check_explanation.specs.Listed.{CanReportIn, Follows, FollowsOn}
+use Rattle.check_explanation.specs.Listed.{CanReportIn, Follows, FollowsIn, FollowsOn}
 use Rattle.check_explanation.specs.declared.explanation.Explanation.TheVariants.{NoDocument, Accepted, Refused}
 use Rattle.ir_items.specs.Plain.{PlainModule}
 use Rattle.judgement.specs.Steps.{IsPrepared}
-use Rattle.shader_check.specs.Examined.{IsExaminedDocument}
+use Rattle.shader_check.specs.Examined.{IsExaminedDocument, finding_in}
 use Rattle.shader_check.specs.declared.examined.Examined.{Examined}
 use Rattle.shader_check.specs.declared.examined.Examined.TheVariants as examined
 use Rattle.judgement.specs.ModuleSteps.{layout}
 
-pub explained_if : (bytes : List ℕ) (d : PlainDocument) (f : Finding) (r : Result Explanation AllocError) → Reads bytes d → JudgedDocument d f → IfOk r (λ e. finding_of e ≡ f)
+-- what is found of its module with the error is found of the document
+pub found_if : (d : PlainDocument) (m : PlainModule) (x : Examined) (r : Result Explanation AllocError) → IsExaminedDocument d m x → IfOk r (λ e. finding_of e ≡ finding_in x)
+    → IfOk r (λ e. JudgedDocument d (finding_of e))
+found_if d m x (Ok e) h is = subst (JudgedDocument d) (sym is) (judged_document d m x h)
+found_if d m x (Err a) h is = tt
+
+-- what is found of the document is found of the bytes that spell it
+pub explained_if : (bytes : List ℕ) (d : PlainDocument) (r : Result Explanation AllocError) → Reads bytes d → IfOk r (λ e. JudgedDocument d (finding_of e))
     → IfOk r (λ e. Judged bytes (finding_of e))
-explained_if bytes d f (Ok e) reads h is = subst (Judged bytes) (sym is) (judged_if bytes d (Ok f) reads h)
-explained_if bytes d f (Err a) reads h is = tt
+explained_if bytes d (Ok e) reads h = judged_if bytes d (Ok (finding_of e)) reads h
+explained_if bytes d (Err a) reads h = tt
 
 -- of an accepted module buffers and the report can be listed
 pub can_report : (d : PlainDocument) (m : PlainModule) (x : Examined) → IsExaminedDocument d m x → CanReportIn m x
@@ -33,9 +40,18 @@ can_report d m (examined.Accepted strict info) h = record {
 }
 can_report d m (examined.Refused e) h = tt
 
-pub listed_if : (requested : Requested) (bytes : List ℕ) (d : PlainDocument) (m : PlainModule) (r : Result Explanation AllocError) → Reads bytes d → IsPrepared d.settings.returns d.content m → IfOk r (FollowsOn requested m)
+-- the lines of a module are those of its document
+pub listed_in : (requested : Requested) (d : PlainDocument) (m : PlainModule) (r : Result Explanation AllocError) → IsPrepared d.settings.returns d.content m → IfOk r (FollowsOn requested m)
+    → IfOk r (FollowsIn requested d)
+listed_in requested d m (Ok (NoDocument error hint)) prepared h = tt
+listed_in requested d m (Ok (Accepted strict lines)) prepared h = record { judged = m; prepared = prepared; are = h }
+listed_in requested d m (Ok (Refused error item)) prepared h = tt
+listed_in requested d m (Err a) prepared h = tt
+
+-- and of the bytes that spell it
+pub listed_if : (requested : Requested) (bytes : List ℕ) (d : PlainDocument) (r : Result Explanation AllocError) → Reads bytes d → IfOk r (FollowsIn requested d)
     → IfOk r (Follows requested bytes)
-listed_if requested bytes d m (Ok (NoDocument error hint)) reads prepared h = tt
-listed_if requested bytes d m (Ok (Accepted strict lines)) reads prepared h = record { document = d; reads = reads; judged = m; prepared = prepared; are = h }
-listed_if requested bytes d m (Ok (Refused error item)) reads prepared h = tt
-listed_if requested bytes d m (Err a) reads prepared h = tt
+listed_if requested bytes d (Ok (NoDocument error hint)) reads h = tt
+listed_if requested bytes d (Ok (Accepted strict lines)) reads h = record { document = d; reads = reads; judged = h.judged; prepared = h.prepared; are = h.are }
+listed_if requested bytes d (Ok (Refused error item)) reads h = tt
+listed_if requested bytes d (Err a) reads h = tt

@@ -45,6 +45,17 @@ FollowsOn requested m (NoDocument error hint) = Unit {0}
 FollowsOn requested m (Accepted strict lines) = ListsAsRequested requested m (string_bytes lines)
 FollowsOn requested m (Refused error item) = Unit {0}
 
+-- They are those of the document's module, with returns put in where its settings ask for them.
+pub record AreListedIn (requested : Requested) (d : PlainDocument) (lines : List ℕ) : Type 0 where
+  pub judged : PlainModule
+  pub prepared : IsPrepared d.settings.returns d.content judged
+  pub are : ListsAsRequested requested judged lines
+
+abbrev pub FollowsIn : (requested : Requested) → PlainDocument → Explanation → Type 0
+FollowsIn requested d (NoDocument error hint) = Unit {0}
+FollowsIn requested d (Accepted strict lines) = AreListedIn requested d (string_bytes lines)
+FollowsIn requested d (Refused error item) = Unit {0}
+
 -- They are those of the module of the document that the bytes spell, with returns put in where its settings ask for them.
 pub record AreListed (requested : Requested) (bytes lines : List ℕ) : Type 0 where
   pub document : PlainDocument

@@ -2,10 +2,11 @@
 ghost use Rattle.std.specs.Prelude.{◌≡◌, ◌++◌, IfOk, string_bytes};
 ghost use Rattle.check_explanation.specs.Explained.{finding_of};
 ghost use Rattle.judgement.specs.Text.{text_of};
-ghost use Rattle.check_explanation.specs.Listed.{CanReport, CanReportIn, Follows, FollowsOn, ListsAsRequested, lines_of};
+ghost use Rattle.check_explanation.specs.Listed.{CanReport, CanReportIn, Follows, FollowsIn, FollowsOn, ListsAsRequested, lines_of};
+ghost use Rattle.document_reader.specs.View.{document_view};
 ghost use Rattle.ir_items.specs.View.{module_view};
 ghost use Rattle.shader_check.specs.Examined.{finding_in};
-ghost use Rattle.shader_check.specs.Theorem.{Judged};
+ghost use Rattle.shader_check.specs.Theorem.{Judged, JudgedDocument};
 
 use crate::refused::{RefusedItem, refused_item, value_of};
 use crate::types::type_texts;
@@ -13,8 +14,9 @@ use check_json::{Refused, accepted_value, no_document_value, refused_value};
 use check_reasons::{PathNames, Slip, hint};
 use check_report::{leaf_report, report};
 use document_forms::Place;
-use document_reader::{DocumentError, MAX_LEN, read_document};
+use document_reader::{Document, DocumentError, MAX_LEN, read_document};
 use ir_items::Module;
+use serde_json::Value;
 use shader_check::{Examined, Finding, ValidationError, examine_document, refused_by};
 use std::alloc::{AllocError, Global};
 use std::fmt::{self, Display};
@@ -120,6 +122,22 @@ fn looks(alloc: Global, bytes: &[u8]) -> Result<String, AllocError> {
     }
 }
 
+/// The explanation of a document, with the lines of its module that are wanted, where that is accepted; `text` is the document as
+/// JSON, of which a reason quotes parts. Returns are put into its module where its settings ask for them, and the module is left
+/// so. The error says that there is no memory.
+pub fn explain_document(
+    alloc: Global,
+    requested: Requested,
+    text: &[u8],
+    document: &mut Document,
+) -> Result<Explanation, AllocError>
+    ensures finding { IfOk result (λ e. JudgedDocument (document_view document.old) (finding_of e)) }
+    ensures lines { IfOk result (FollowsIn requested (document_view document.old)) }
+{
+    let examined = examine_document(alloc, document)?;
+    explained(alloc, requested, text, examined, &document.module)
+}
+
 /// The explanation of the document that the bytes spell, with the lines of its module that are wanted, where that is accepted. The
 /// error says that there is no memory.
 pub fn explain(alloc: Global, requested: Requested, bytes: &[u8]) -> Result<Explanation, AllocError>
@@ -127,10 +145,7 @@ pub fn explain(alloc: Global, requested: Requested, bytes: &[u8]) -> Result<Expl
     ensures lines { IfOk result (Follows requested bytes.now) }
 {
     match read_document(alloc, bytes) {
-        Ok(mut document) => {
-            let examined = examine_document(alloc, &mut document)?;
-            explained(alloc, requested, bytes, examined, &document.module)
-        }
+        Ok(mut document) => explain_document(alloc, requested, bytes, &mut document),
         Err(DocumentError::Memory) => Err(AllocError),
         Err(DocumentError::TooLong) => {
             let hint = String::new(alloc);
@@ -201,15 +216,15 @@ impl Display for Misformed<'_> {
 }
 
 // The object of bytes that spell no document.
-fn no_document(alloc: Global, error: &DocumentError, hint: &str) -> Result<String, AllocError> {
+fn no_document(alloc: Global, error: &DocumentError, hint: &str) -> Result<Value, AllocError> {
     let text = format!(in alloc; "{}", Misformed(error, hint))?;
     let steps = steps_of(error);
     let path = format!(in alloc; "{}", PathNames(steps))?;
-    no_document_value(alloc, &path, steps, &text)?.to_string(alloc)
+    no_document_value(alloc, &path, steps, &text)
 }
 
 // The object of a refused item.
-fn refused_object(alloc: Global, item: &RefusedItem) -> Result<String, AllocError> {
+fn refused_object(alloc: Global, item: &RefusedItem) -> Result<Value, AllocError> {
     let steps: &[u32] = &item.path;
     let path = format!(in alloc; "{}", PathNames(steps))?;
     let name = match &item.name {
@@ -225,7 +240,7 @@ fn refused_object(alloc: Global, item: &RefusedItem) -> Result<String, AllocErro
         steps,
         text: &item.text,
     };
-    refused_value(alloc, &refused)?.to_string(alloc)
+    refused_value(alloc, &refused)
 }
 
 impl Explanation {
@@ -251,15 +266,18 @@ impl Explanation {
         Ok(text)
     }
 
-    /// One JSON object with all of it, in one line without its end. The error is out of memory.
-    pub fn json(&self, alloc: Global) -> Result<String, AllocError> {
+    /// A JSON object with all of it. The error is out of memory.
+    pub fn value(&self, alloc: Global) -> Result<Value, AllocError> {
         match self {
             Explanation::NoDocument(error, hint) => no_document(alloc, error, hint),
-            Explanation::Accepted { strict, lines } => {
-                accepted_value(alloc, *strict, lines)?.to_string(alloc)
-            }
+            Explanation::Accepted { strict, lines } => accepted_value(alloc, *strict, lines),
             Explanation::Refused(_, item) => refused_object(alloc, item),
         }
+    }
+
+    /// The object in one line without its end. The error is out of memory.
+    pub fn json(&self, alloc: Global) -> Result<String, AllocError> {
+        self.value(alloc)?.to_string(alloc)
     }
 
     /// The error by its name, with all that it holds, of a document that a step refuses.

@@ -1,14 +1,23 @@
 // The document as a JSON value: what stands at which place.
 
+ghost use Rattle.std.specs.Prelude.{◌≡◌, option_map};
+ghost use Rattle.serde_json.specs.View.{items_view, view};
+ghost use Rattle.serde_json.specs.Find.{at as part_at};
+ghost use Rattle.check_faults.specs.Parts.{along as part_along, is_number_at as has_number_at, number as number_of, number_at as number_in, parts as parts_of, word as word_of, word_at as word_in};
+
 use serde_json::Value;
 
 /// The part at an index.
-pub fn at(value: &Value, index: usize) -> Option<&Value> {
+pub fn at(value: &Value, index: usize) -> Option<&Value>
+    ensures { option_map (λ d. view d.now) result ≡ part_at index (view value.now) }
+{
     value.get(index)
 }
 
 /// The part that these indexes lead to.
-pub fn along<'a>(value: &'a Value, steps: &[usize]) -> Option<&'a Value> {
+pub fn along<'a>(value: &'a Value, steps: &[usize]) -> Option<&'a Value>
+    ensures { option_map (λ d. view d.now) result ≡ part_along steps.now (view value.now) }
+{
     let mut found = value;
     for step in steps {
         found = at(found, *step)?;
@@ -17,7 +26,9 @@ pub fn along<'a>(value: &'a Value, steps: &[usize]) -> Option<&'a Value> {
 }
 
 /// The parts of an array, none of anything else.
-pub fn parts(value: &Value) -> &[Value] {
+pub fn parts(value: &Value) -> &[Value]
+    ensures { items_view result.now ≡ parts_of (view value.now) }
+{
     match value.as_array() {
         Some(items) => items.as_slice(),
         None => &[],
@@ -25,7 +36,9 @@ pub fn parts(value: &Value) -> &[Value] {
 }
 
 /// A word, or the word that an array begins with.
-pub fn word(value: &Value) -> &str {
+pub fn word(value: &Value) -> &str
+    ensures { result.now ≡ word_of (view value.now) }
+{
     match value.as_str() {
         Some(text) => text,
         None => match at(value, 0) {
@@ -36,7 +49,9 @@ pub fn word(value: &Value) -> &str {
 }
 
 /// The word that the part at an index is or begins with.
-pub fn word_at(value: &Value, index: usize) -> &str {
+pub fn word_at(value: &Value, index: usize) -> &str
+    ensures { result.now ≡ word_in (view value.now) index }
+{
     match at(value, index) {
         Some(part) => word(part),
         None => "",
@@ -44,7 +59,9 @@ pub fn word_at(value: &Value, index: usize) -> &str {
 }
 
 /// The number that a value is.
-pub fn number(value: &Value) -> Option<usize> {
+pub fn number(value: &Value) -> Option<usize>
+    ensures { result ≡ number_of (view value.now) }
+{
     match value.as_u64() {
         Some(number) => usize::try_from(number).ok(),
         None => None,
@@ -52,11 +69,15 @@ pub fn number(value: &Value) -> Option<usize> {
 }
 
 /// The number at an index.
-pub fn number_at(value: &Value, index: usize) -> Option<usize> {
+pub fn number_at(value: &Value, index: usize) -> Option<usize>
+    ensures { result ≡ number_in (view value.now) index }
+{
     number(at(value, index)?)
 }
 
 /// Whether the part at an index is this number.
-pub fn is_number_at(value: &Value, index: usize, wanted: usize) -> bool {
+pub fn is_number_at(value: &Value, index: usize, wanted: usize) -> bool
+    ensures { result ≡ has_number_at (view value.now) index wanted }
+{
     number_at(value, index) == Some(wanted)
 }

@@ -1,5 +1,8 @@
 // An error as its name tells it, cut into its parts: `Name`, `Name(part, part)` or `Name { field: part }`.
 
+ghost use Rattle.std.specs.Prelude.{◌≡◌, ◌≤◌, IsUtf8, length, take};
+ghost use Rattle.check_faults.specs.Names.{head as head_of, is_name as is_of_name, name_length as length_of_name};
+
 use std::str::from_utf8;
 
 // Where a look through an error is: how many brackets are open, and whether it is inside a text.
@@ -57,7 +60,9 @@ fn length_before(text: &[u8], end: u8) -> usize {
     text.len()
 }
 
-fn front(text: &[u8], count: usize) -> &[u8] {
+fn front(text: &[u8], count: usize) -> &[u8]
+    ensures { count ≤ length text.now → result.now ≡ take count text.now }
+{
     text.get(..count).unwrap_or(&[])
 }
 
@@ -65,12 +70,17 @@ fn back(text: &[u8], count: usize) -> &[u8] {
     text.get(count..).unwrap_or(&[])
 }
 
-fn is_name(byte: u8) -> bool {
+fn is_name(byte: u8) -> bool
+    ensures { result ≡ is_of_name byte }
+{
     byte.is_ascii_alphanumeric() || byte == b'_'
 }
 
 // How many bytes of a name stand in front.
-fn name_length(text: &[u8]) -> usize {
+fn name_length(text: &[u8]) -> usize
+    ensures length { result ≡ length_of_name text.now }
+    ensures within { result ≤ length text.now }
+{
     for (index, byte) in text.iter().enumerate() {
         if !is_name(*byte) {
             return index;
@@ -86,7 +96,9 @@ fn trimmed(text: &[u8]) -> &[u8] {
 }
 
 /// The name that an error begins with.
-pub fn head(error: &[u8]) -> &[u8] {
+pub fn head(error: &[u8]) -> &[u8]
+    ensures { result.now ≡ head_of error.now }
+{
     front(error, name_length(error))
 }
 
@@ -146,13 +158,17 @@ fn given(part: &[u8]) -> &[u8] {
     }
 }
 
-/// The bytes as a text.
-pub fn text_of(bytes: &[u8]) -> &str {
+/// The bytes as a text, nothing where they are no UTF-8.
+pub fn text_of(bytes: &[u8]) -> &str
+    ensures { IsUtf8 bytes.now → result.now ≡ bytes.now }
+{
     from_utf8(bytes).unwrap_or("")
 }
 
 /// The name that an error begins with, as a text.
-pub fn name_of(error: &[u8]) -> &str {
+pub fn name_of(error: &[u8]) -> &str
+    ensures { IsUtf8 (head_of error.now) → result.now ≡ head_of error.now }
+{
     text_of(head(error))
 }
 

@@ -1,6 +1,12 @@
 // Which parts of an expression or a statement name something, and what.
 
+ghost use Rattle.std.specs.Prelude.{◌≡◌, map};
+ghost use Rattle.check_faults.specs.Parts.{word as word_of};
+ghost use Rattle.check_faults.specs.Tables.{expression_forms, kinds as kinds_named, list_for, listed, lookup, spelled, statement_forms};
+ghost use Rattle.serde_json.specs.View.{view};
+
 use crate::document::{at, number, number_at, parts, word};
+use crate::tables::find_in;
 use serde_json::Value;
 
 /// What a part names.
@@ -16,19 +22,28 @@ pub enum Names {
     Filter,
 }
 
+static KINDS: [(&str, Names); 8] = [
+    ("type", Names::Type),
+    ("constant", Names::Constant),
+    ("override", Names::Override),
+    ("global", Names::Global),
+    ("function", Names::Function),
+    ("local", Names::Local),
+    ("expression", Names::Expression),
+    ("filter", Names::Filter),
+];
+
+fn kinds() -> &'static [(&'static str, Names)]
+    ensures { map spelled result.now ≡ kinds_named }
+{
+    &KINDS
+}
+
 /// What the handles of a kind name, by the word of the kind.
-pub fn names_of(kind: &str) -> Option<Names> {
-    match kind {
-        "type" => Some(Names::Type),
-        "constant" => Some(Names::Constant),
-        "override" => Some(Names::Override),
-        "global" => Some(Names::Global),
-        "function" => Some(Names::Function),
-        "local" => Some(Names::Local),
-        "expression" => Some(Names::Expression),
-        "filter" => Some(Names::Filter),
-        _ => None,
-    }
+pub fn names_of(kind: &str) -> Option<Names>
+    ensures { result ≡ lookup kind.now kinds_named }
+{
+    find_in(kinds(), kind)
 }
 
 /// A part by its index: a number, or an array in which each number names the same.
@@ -96,7 +111,21 @@ static STATEMENTS: [Form; 17] = [
     ("Emit", &[]),
 ];
 
-fn found_in(table: &'static [Form], item: &Value) -> &'static [Part] {
+fn expressions() -> &'static [Form]
+    ensures { map listed result.now ≡ expression_forms }
+{
+    &EXPRESSIONS
+}
+
+fn statements() -> &'static [Form]
+    ensures { map listed result.now ≡ statement_forms }
+{
+    &STATEMENTS
+}
+
+fn found_in(table: &'static [Form], item: &Value) -> &'static [Part]
+    ensures { result.now ≡ list_for (word_of (view item.now)) (map listed table.now) }
+{
     let wanted = word(item);
     for form in table {
         if wanted == form.0 {
@@ -107,13 +136,17 @@ fn found_in(table: &'static [Form], item: &Value) -> &'static [Part] {
 }
 
 /// The parts of an expression that name something.
-pub fn expression_parts(expression: &Value) -> &'static [Part] {
-    found_in(&EXPRESSIONS, expression)
+pub fn expression_parts(expression: &Value) -> &'static [Part]
+    ensures { result.now ≡ list_for (word_of (view expression.now)) expression_forms }
+{
+    found_in(expressions(), expression)
 }
 
 /// The parts of a statement that name something.
-pub fn statement_parts(statement: &Value) -> &'static [Part] {
-    found_in(&STATEMENTS, statement)
+pub fn statement_parts(statement: &Value) -> &'static [Part]
+    ensures { result.now ≡ list_for (word_of (view statement.now)) statement_forms }
+{
+    found_in(statements(), statement)
 }
 
 // Whether a part is this number, or an array in which it stands.

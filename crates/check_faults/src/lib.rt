@@ -9,6 +9,7 @@ pub mod members;
 mod parts;
 mod place;
 pub mod sets;
+pub mod tables;
 
 pub use parts::{Part, Row};
 pub use place::PathNames;

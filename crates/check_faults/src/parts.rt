@@ -1,4 +1,6 @@
 // The parts of a document that have names, in the order in which they are written.
+ghost use Rattle.std.specs.Prelude.{◌≡◌, map, option_map};
+ghost use Rattle.check_faults.specs.Tables.{name_inside, part_inside, row_parts, spelled};
 
 /// An array whose parts have names.
 #[derive(Clone, Copy)]
@@ -143,7 +145,9 @@ static MESH: [Named; 8] = [
     ("output", Part::Plain),
 ];
 
-fn names(row: Row) -> &'static [Named] {
+fn names(row: Row) -> &'static [Named]
+    ensures { map spelled result.now ≡ row_parts row }
+{
     match row {
         Row::Document => &DOCUMENT,
         Row::Subgroups => &SUBGROUPS,
@@ -167,7 +171,11 @@ fn names(row: Row) -> &'static [Named] {
 
 impl Part {
     /// What stands in it at an index: its name, where it has one, and what it is.
-    pub fn inside(self, index: usize) -> (Option<&'static str>, Part) {
+    #[tactic(auto, using(crate::proofs::Rows::entry_inside))]
+    pub fn inside(self, index: usize) -> (Option<&'static str>, Part)
+        ensures name { option_map (λ s. s.now) result.0 ≡ name_inside self index }
+        ensures inside { result.1 ≡ part_inside self index }
+    {
         match self {
             Part::Plain => (None, Part::Plain),
             Part::ListOf(row) => (None, Part::Row(row)),

@@ -1,4 +1,10 @@
 // Places by the names of parts.
+ghost use Rattle.std.specs.Prelude.{◌≡◌, IfOk, Some, codes};
+ghost use Rattle.std.specs.Fmt.{HasWritten, IsPlainFormatter};
+ghost use Rattle.check_faults.specs.Paths.{step_text, steps_text};
+ghost use Rattle.check_faults.specs.Tables.{name_inside, part_inside};
+ghost use Rattle.check_faults.specs.declared.parts.Part.TheVariants as parts;
+ghost use Rattle.check_faults.specs.declared.parts.Row.TheVariants as rows;
 
 use crate::parts::{Part, Row};
 use std::fmt::{self, Display};
@@ -13,7 +19,10 @@ fn write_step<W: fmt::Write>(
     part: Part,
     index: u32,
     dot: &str,
-) -> Result<Part, fmt::Error> {
+) -> Result<Part, fmt::Error>
+    ensures inside { IfOk result (λ inside. inside ≡ part_inside part index) }
+    ensures text { IfOk result (λ _. IsPlainFormatter f.old → HasWritten W.write_str_gives f.old (step_text dot.now index (name_inside part index)) f.new) }
+{
     let (name, inside) = part.inside(index as usize);
     match name {
         Some(name) => write!(f, "{dot}{name}")?,
@@ -23,6 +32,8 @@ fn write_step<W: fmt::Write>(
 }
 
 impl<'a> Display for PathNames<'a> {
+    ghost output = { λ path. Some (steps_text (codes "") (parts.Row rows.Document) path.0.now) };
+
     fn fmt<W: fmt::Write>(&self, f: &mut fmt::Formatter<W>) -> fmt::Result {
         let mut part = Part::Row(Row::Document);
         let mut dot = "";

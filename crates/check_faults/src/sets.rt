@@ -1,5 +1,8 @@
 // The words of each set, and where in a document which set is meant.
 
+ghost use Rattle.std.specs.Prelude.{◌≡◌, map};
+ghost use Rattle.check_faults.specs.Tables.{list_for, listed, sets as sets_named};
+
 use crate::document::{at, word};
 use serde_json::Value;
 
@@ -200,12 +203,26 @@ pub fn set_of(document: &Value, path: &[u32]) -> &'static str {
     }
 }
 
-/// The words of a set, with spaces between.
-pub fn words_of(set: &str) -> &'static str {
-    for row in SETS {
-        if row.0 == set {
+fn sets() -> &'static [Set]
+    ensures { map listed result.now ≡ sets_named }
+{
+    &SETS
+}
+
+fn text_in(table: &'static [Set], word: &str) -> &'static str
+    ensures { result.now ≡ list_for word.now (map listed table.now) }
+{
+    for row in table {
+        if word == row.0 {
             return row.1;
         }
     }
     ""
+}
+
+/// The words of a set, with spaces between, nothing of what is no set.
+pub fn words_of(set: &str) -> &'static str
+    ensures { result.now ≡ list_for set.now sets_named }
+{
+    text_in(sets(), set)
 }

@@ -141,7 +141,12 @@ impl Target {
         match self.named {
             Names::Expression => self.may_lack(at(function, 4)),
             Names::Local => self.may_lack(at(function, 3)),
-            _ => true,
+            Names::Type
+            | Names::Constant
+            | Names::Override
+            | Names::Global
+            | Names::Function
+            | Names::Filter => true,
         }
     }
 
@@ -222,7 +227,7 @@ fn find_in_body(
             path.pop();
             Ok(false)
         }
-        _ => Ok(false),
+        Some(_) | None => Ok(false),
     }
 }
 

@@ -1,5 +1,9 @@
 // Where in a document the item stands that a refusal speaks of.
 
+ghost use Rattle.std.specs.Prelude.{◌≡◌, IfOk};
+ghost use Rattle.serde_json.specs.View.{view};
+ghost use Rattle.check_places.specs.Leading.{Leads, lead_length as length_leading};
+
 use crate::handles::{Target, find_item, find_range};
 use crate::walk::{Rule, Scene, Search, find_statement, step as step_of};
 use check_faults::document::{along, at, number_at, parts, word, word_at};
@@ -153,21 +157,22 @@ struct Way {
     fields: &'static str,
 }
 
-fn rule_of(name: &str) -> Rule {
+fn rule_of(name: &str) -> Option<Rule> {
     match name {
-        "InScope" => Rule::InScope,
-        "Breaks" => Rule::Breaks,
-        "Continues" => Rule::Continues,
-        "Returns" => Rule::Returns,
-        "Answers" => Rule::Answers,
-        "SameCases" => Rule::SameCases,
-        "OtherCases" => Rule::OtherCases,
-        "NoDefault" => Rule::NoDefault,
-        "Defaults" => Rule::Defaults,
-        "FallsThrough" => Rule::FallsThrough,
-        "Emits" => Rule::Emits,
-        "Brings" => Rule::Brings,
-        _ => Rule::Names,
+        "Names" => Some(Rule::Names),
+        "InScope" => Some(Rule::InScope),
+        "Breaks" => Some(Rule::Breaks),
+        "Continues" => Some(Rule::Continues),
+        "Returns" => Some(Rule::Returns),
+        "Answers" => Some(Rule::Answers),
+        "SameCases" => Some(Rule::SameCases),
+        "OtherCases" => Some(Rule::OtherCases),
+        "NoDefault" => Some(Rule::NoDefault),
+        "Defaults" => Some(Rule::Defaults),
+        "FallsThrough" => Some(Rule::FallsThrough),
+        "Emits" => Some(Rule::Emits),
+        "Brings" => Some(Rule::Brings),
+        _ => None,
     }
 }
 
@@ -180,7 +185,7 @@ fn way_on(line: &'static str, name: &str) -> Option<Way> {
         return None;
     }
     Some(Way {
-        rule: rule_of(rule),
+        rule: rule_of(rule)?,
         words,
         fields,
     })
@@ -308,7 +313,24 @@ fn find_sought(search: &Search<'_>, body: &Value, path: &mut Vec<u32>) -> Result
     let (rule, numbers) = match search.rule {
         Rule::Names => (Rule::Names, [None, None]),
         Rule::NotInScope => (Rule::Skipped, search.numbers),
-        _ => return Ok(false),
+        Rule::Breaks
+        | Rule::Continues
+        | Rule::Returns
+        | Rule::Answers
+        | Rule::SameCases
+        | Rule::OtherCases
+        | Rule::NoDefault
+        | Rule::Defaults
+        | Rule::FallsThrough
+        | Rule::Skipped
+        | Rule::InScope
+        | Rule::Emits
+        | Rule::Brings
+        | Rule::Range
+        | Rule::Calls
+        | Rule::Passes
+        | Rule::CallsAlone
+        | Rule::Refers(_) => return Ok(false),
     };
     let another = Search {
         rule,
@@ -549,9 +571,36 @@ fn find_in_global(refusal: &Refusal<'_>, path: &mut Vec<u32>) -> Result<(), Allo
     Ok(())
 }
 
-/// The indexes that lead to the item that is refused, or to the part of it that the refusal speaks of, from the outermost on. The
-/// error is out of memory.
-pub fn path_of(alloc: Global, refusal: &Refusal<'_>) -> Result<Vec<u32>, AllocError> {
+// How many steps of a path lead to something in the document.
+fn lead_length(document: &Value, path: &[u32]) -> usize
+    ensures { result ≡ length_leading path.now (view document.now) }
+{
+    let mut found = document;
+    let mut count: usize = 0;
+    for step in path {
+        match at(found, *step as usize) {
+            Some(part) => found = part,
+            None => return count,
+        }
+        count = count.saturating_add(1);
+    }
+    count
+}
+
+/// The indexes that lead to the item that is refused, or to the part of it that the refusal speaks of, from the outermost on: always
+/// to a part of the document. The error is out of memory.
+#[tactic(auto, using(crate::proofs::Leading::leads))]
+pub fn path_of(alloc: Global, refusal: &Refusal<'_>) -> Result<Vec<u32>, AllocError>
+    ensures { IfOk result (λ path. Leads path.items (view refusal.now.document.now)) }
+{
+    let mut path = path_to(alloc, refusal)?;
+    let count = lead_length(refusal.document, &path);
+    path.truncate(count);
+    Ok(path)
+}
+
+// The same, where the error may speak of more than the document has.
+fn path_to(alloc: Global, refusal: &Refusal<'_>) -> Result<Vec<u32>, AllocError> {
     let mut path = Vec::new(alloc);
     if refusal.step == "handles" {
         find_handle(refusal, &mut path)?;

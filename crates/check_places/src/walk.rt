@@ -280,7 +280,21 @@ impl Search<'_> {
             Rule::NoDefault => word(statement) == "Switch" && defaults(cases) == 0,
             Rule::Defaults => defaults(cases) > 1,
             Rule::FallsThrough => falls_through(cases),
-            _ => false,
+            Rule::Names
+            | Rule::Breaks
+            | Rule::Continues
+            | Rule::Returns
+            | Rule::Answers
+            | Rule::NotInScope
+            | Rule::Skipped
+            | Rule::InScope
+            | Rule::Emits
+            | Rule::Brings
+            | Rule::Range
+            | Rule::Calls
+            | Rule::Passes
+            | Rule::CallsAlone
+            | Rule::Refers(_) => false,
         }
     }
 
@@ -304,18 +318,20 @@ impl Search<'_> {
         if word(statement) != "Call" || number_at(statement, 1) != function {
             return false;
         }
-        match (self.rule, second) {
-            (Rule::Calls, Some(wanted)) => {
-                does_name(
-                    statement,
-                    statement_parts(statement),
-                    Names::Expression,
-                    wanted,
-                )
-            }
-            (Rule::Passes, count) => { at(statement, 2).map(|passed| parts(passed).len()) == count }
-            (Rule::CallsAlone, _) => number_at(statement, 3).is_none(),
-            _ => true,
+        if self.rule == Rule::Passes {
+            return at(statement, 2).map(|passed| parts(passed).len()) == second;
+        }
+        if self.rule == Rule::CallsAlone {
+            return number_at(statement, 3).is_none();
+        }
+        match second {
+            Some(wanted) => does_name(
+                statement,
+                statement_parts(statement),
+                Names::Expression,
+                wanted,
+            ),
+            None => true,
         }
     }
 

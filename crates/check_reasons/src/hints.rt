@@ -1,5 +1,9 @@
 // What bytes look like that are no JSON, and what stands where a document is not of its form.
 
+ghost use Rattle.std.specs.Prelude.{◌≡◌, map};
+ghost use Rattle.check_faults.specs.Tables.{listed};
+ghost use Rattle.check_reasons.specs.Hints.{after_space as past_space, hint as hint_of, hint_for, hints as hints_listed};
+
 use crate::show::{Shown, value_at};
 use check_faults::document::{at, parts};
 use check_faults::sets::{set_of, words_of};
@@ -44,7 +48,9 @@ static HINTS: [Hint; 16] = [
 ];
 
 // The bytes after the white space in front.
-fn after_space(bytes: &[u8]) -> &[u8] {
+fn after_space(bytes: &[u8]) -> &[u8]
+    ensures { result.now ≡ past_space bytes.now }
+{
     for (index, byte) in bytes.iter().enumerate() {
         if !byte.is_ascii_whitespace() {
             return bytes.get(index..).unwrap_or(&[]);
@@ -53,18 +59,32 @@ fn after_space(bytes: &[u8]) -> &[u8] {
     &[]
 }
 
-/// What bytes look like that are no JSON, in one line without its end, or nothing.
-pub fn hint(bytes: &[u8]) -> &'static str {
-    let begin = after_space(bytes);
-    if begin.is_empty() {
-        return "there are no bytes but white space";
-    }
-    for row in HINTS {
+fn hints() -> &'static [Hint]
+    ensures { map listed result.now ≡ hints_listed }
+{
+    &HINTS
+}
+
+fn hint_on(table: &'static [Hint], begin: &[u8]) -> &'static str
+    ensures { result.now ≡ hint_for begin.now (map listed table.now) }
+{
+    for row in table {
         if begin.starts_with(row.0) {
             return row.1;
         }
     }
     ""
+}
+
+/// What bytes look like that are no JSON, in one line without its end, or nothing.
+pub fn hint(bytes: &[u8]) -> &'static str
+    ensures { result.now ≡ hint_of bytes.now }
+{
+    let begin = after_space(bytes);
+    if begin.is_empty() {
+        return "there are no bytes but white space";
+    }
+    hint_on(hints(), begin)
 }
 
 // Words of a set that are listed, at most.
@@ -163,6 +183,22 @@ impl Slip<'_> {
         }
     }
 
+    // Writes how many parts there are where one is missing, or is one too many.
+    fn write_count<W: fmt::Write>(&self, f: &mut fmt::Formatter<W>) -> fmt::Result {
+        let around = self
+            .path
+            .get(..self.path.len().saturating_sub(1))
+            .unwrap_or(&[]);
+        match value_at(self.document, around) {
+            Some(holder) if !around.is_empty() => {
+                let count = parts(holder).len();
+                write!(f, "; {} has {count} parts", Shown(holder))
+            }
+            Some(holder) => write!(f, "; the document has {} parts", parts(holder).len()),
+            None => Ok(()),
+        }
+    }
+
     // Writes which earlier item of the list is equal.
     fn write_equal<W: fmt::Write>(&self, f: &mut fmt::Formatter<W>) -> fmt::Result {
         let (Some(list), Some(index)) = (self.path.first(), self.path.get(1)) else {
@@ -191,7 +227,7 @@ impl Display for Slip<'_> {
                 self.write_set(f)
             }
             "what does not stand there yet" => self.write_equal(f),
-            "a further part" | "no further part" => Ok(()),
+            "a further part" | "no further part" => self.write_count(f),
             _ => self.write_found(f),
         }
     }

@@ -6,68 +6,68 @@ use serde_json::Value;
 // A line a kind: the kind of the expression; its operator, its function or its query, or nothing where that does not matter; and
 // what is required. The first line that fits counts.
 static KINDS: &str = "\
-Access||an index is one integer, and a literal index is not negative and below the length where that is known
-AccessIndex||an index is below the length where that is known
-ZeroValue||values of the type can be composed
-Swizzle||the letters name components that the vector has
-Splat||what is spread over a vector is a scalar
-Load||the pointer leads to what can be stored and has a known size
-ArrayLength||the operand is a pointer to an array that is as long as its buffer
-Unary|Negate|the operand is of signed integers or floats
-Unary|LogicalNot|the operand is of bool
-Unary|BitwiseNot|the operand is of integers
-Binary|Add|operands are of one type, numeric scalars, vectors or matrices
-Binary|Subtract|operands are of one type, numeric scalars, vectors or matrices
-Binary|Multiply|operands have the same numeric scalar, and shapes that fit: equal ones, a scalar with a vector or a matrix, a matrix with a vector, or two matrices
-Binary|Divide|operands are of one type, numeric scalars or vectors
-Binary|Modulo|operands are of one type, numeric scalars or vectors
-Binary|Equal|operands are of one type, scalars or vectors
-Binary|NotEqual|operands are of one type, scalars or vectors
-Binary|Less|operands are of one type, numeric scalars or vectors
-Binary|LessEqual|operands are of one type, numeric scalars or vectors
-Binary|Greater|operands are of one type, numeric scalars or vectors
-Binary|GreaterEqual|operands are of one type, numeric scalars or vectors
-Binary|LogicalAnd|operands are one bool each
-Binary|LogicalOr|operands are one bool each
-Binary|And|operands are of one type, integers or bool
-Binary|InclusiveOr|operands are of one type, integers or bool
-Binary|ExclusiveOr|operands are of one type, integers
-Binary|ShiftLeft|what is shifted is of integers, and the count is u32 of the same shape
-Binary|ShiftRight|what is shifted is of integers, and the count is u32 of the same shape
-Select||both values are of one type, scalars or vectors, and the condition is one bool or as many as they have components
-Derivative||the operand is of floats
-Relational|All|the operand is of bool
-Relational|Any|the operand is of bool
-Relational|IsNan|the operand is of floats
-Relational|IsInf|the operand is of floats
-Math||the function has a rule for arguments of these types
-As||the operand is a scalar, a vector or a matrix; with a width there is such a scalar, and without one bool is neither taken nor given
-Compose||the components make a value of the type
-Literal||there is the scalar under the document's capabilities
-FunctionArgument||the function has the argument
-CallResult||the function has a result
-AtomicResult||the result is of a scalar that atomics have, or with a comparison a struct of old_value and exchanged
-WorkGroupUniformLoadResult||the result is of a type of known size whose values can be composed
-SubgroupOperationResult||the result is of a numeric scalar or vector, or of bool
-RayQueryVertexPositions||the operand is a pointer to a ray query that gives vertices
-RayQueryGetIntersection||the operand is a pointer to a ray query
-CooperativeLoad||the pointer leads to scalars of a cooperative matrix, and the stride is one u32
-CooperativeMultiplyAdd||factors have the roles A, B and C, one scalar, and sizes that fit
-ImageSample||a sampled Float image or a Depth image is sampled; the sampler compares exactly where a reference depth is given; the coordinate, the layer, the offset and the level fit the image
-ImageLoad||the coordinate is of integers of the image's dimension; a layer is named exactly where there are layers, a sample exactly where the image is multisampled, and a level exactly where it has levels
-ImageQuery|Size|a level is one integer, and the image has levels
-ImageQuery|NumLevels|the image is one with levels
-ImageQuery|NumLayers|the image has layers
-ImageQuery|NumSamples|the image is multisampled
-ImageQuery||the image is one of which this is known
-GlobalVariable||the variable is there
-LocalVariable||the variable is there
-Constant||the constant is there
-Override||the override is there
-RayQueryProceedResult||a Proceed is answered by it
-SubgroupBallotResult||a ballot is answered by it
-Unary||the operand is of the operator's scalars
-Binary||operands are of one type that the operator takes
+Access||an index must be an integer scalar, and a literal index must be within bounds
+AccessIndex||the index must be within bounds
+ZeroValue||the type must be constructible
+Swizzle||the pattern must select components that the vector has
+Splat||the value must be a scalar
+Load||the pointer must point to a sized type that can be stored
+ArrayLength||the operand must be a pointer to a dynamically sized array
+Unary|Negate|the operand must be of signed integers or floats
+Unary|LogicalNot|the operand must be of bool
+Unary|BitwiseNot|the operand must be of integers
+Binary|Add|the operands must have the same type: numeric scalars, vectors or matrices
+Binary|Subtract|the operands must have the same type: numeric scalars, vectors or matrices
+Binary|Multiply|the operands must have the same numeric scalar and compatible shapes: equal ones, a scalar with a vector or a matrix, a matrix with a vector, or two matrices
+Binary|Divide|the operands must have the same type: numeric scalars or vectors
+Binary|Modulo|the operands must have the same type: numeric scalars or vectors
+Binary|Equal|the operands must have the same type: scalars or vectors
+Binary|NotEqual|the operands must have the same type: scalars or vectors
+Binary|Less|the operands must have the same type: numeric scalars or vectors
+Binary|LessEqual|the operands must have the same type: numeric scalars or vectors
+Binary|Greater|the operands must have the same type: numeric scalars or vectors
+Binary|GreaterEqual|the operands must have the same type: numeric scalars or vectors
+Binary|LogicalAnd|the operands must be bool scalars
+Binary|LogicalOr|the operands must be bool scalars
+Binary|And|the operands must have the same type: integers or bool
+Binary|InclusiveOr|the operands must have the same type: integers or bool
+Binary|ExclusiveOr|the operands must have the same type: integers
+Binary|ShiftLeft|the shifted operand must be of integers, and the shift amount u32 of the same shape
+Binary|ShiftRight|the shifted operand must be of integers, and the shift amount u32 of the same shape
+Select||both values must have the same type, scalars or vectors, and the condition must be bool: a scalar, or a vector of as many components
+Derivative||the operand must be of floats
+Relational|All|the operand must be of bool
+Relational|Any|the operand must be of bool
+Relational|IsNan|the operand must be of floats
+Relational|IsInf|the operand must be of floats
+Math||the function does not accept arguments of these types
+As||the operand must be a scalar, a vector or a matrix; a conversion needs a scalar of that kind and width, and a bitcast cannot be from or to bool
+Compose||the components must match the composed type
+Literal||the scalar type of the literal must be supported by the document's capabilities
+FunctionArgument||the function must have the argument
+CallResult||the function must have a result
+AtomicResult||the result must have the scalar type of an atomic, or with a comparison be a struct of old_value and exchanged
+WorkGroupUniformLoadResult||the result must have a sized, constructible type
+SubgroupOperationResult||the result must be a numeric or bool scalar or vector
+RayQueryVertexPositions||the operand must be a pointer to a ray query that returns vertices
+RayQueryGetIntersection||the operand must be a pointer to a ray query
+CooperativeLoad||the pointer must point to scalars of a cooperative matrix, and the stride must be a u32 scalar
+CooperativeMultiplyAdd||the operands must have the roles A, B and C, the same scalar, and compatible sizes
+ImageSample||the image must be a sampled Float image or a Depth image; the sampler must be a comparison sampler exactly when a depth reference is given; the coordinate, array index, offset and level must match the image
+ImageLoad||the coordinate must be of integers in the image's dimension; an array index must be present exactly when the image is arrayed, a sample exactly when it is multisampled, and a level exactly when it has mip levels
+ImageQuery|Size|a level must be an integer scalar, and the image must have mip levels
+ImageQuery|NumLevels|the image must have mip levels
+ImageQuery|NumLayers|the image must be arrayed
+ImageQuery|NumSamples|the image must be multisampled
+ImageQuery||the image must support the query
+GlobalVariable||the variable must exist
+LocalVariable||the variable must exist
+Constant||the constant must exist
+Override||the override must exist
+RayQueryProceedResult||the expression must be the result of a Proceed
+SubgroupBallotResult||the expression must be the result of a ballot
+Unary||the operand must have scalars that the operator accepts
+Binary||the operands must have one type that the operator accepts
 ";
 
 // What is required by a line of the table, where it is that of the expression.
@@ -100,7 +100,7 @@ pub(crate) fn required_of(expression: &Value) -> &'static str {
             return sentence;
         }
     }
-    "the expression keeps the rule of its kind"
+    "the expression breaks the rule of its kind"
 }
 
 static OF_TWO: &str =

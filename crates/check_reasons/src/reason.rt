@@ -1,5 +1,10 @@
 // Why a document is refused, in words.
 
+ghost use Rattle.std.specs.Prelude.{◌≡◌, map, option_map};
+ghost use Rattle.serde_json.specs.View.{view};
+ghost use Rattle.check_faults.specs.Tables.{spelled};
+ghost use Rattle.check_reasons.specs.ItemNames.{item_name, named as names_listed};
+
 use crate::kinds::{arity, passed, required_of};
 use crate::rules::required;
 use crate::show::{NameIn, Plain, Shown, TypeAt, TypeOf, value_at};
@@ -8,7 +13,8 @@ use check_faults::document::{along, at, number, number_at, parts, word, word_at}
 use check_faults::error_text::{
     field, head, name_of as error_name, number as handle, part, quoted, text_of,
 };
-use check_faults::forms::{Names, Part, expression_parts, statement_parts};
+use check_faults::forms::{Names, Part, expression_parts, names_of, statement_parts};
+use check_faults::tables::find_in;
 use check_places::{Refusal, innermost};
 use serde_json::Value;
 use std::fmt::{self, Display};
@@ -108,18 +114,23 @@ fn type_in(text: &[u8]) -> Option<usize> {
     }
 }
 
-// The name of the list of items of a kind.
-fn list_of(kind: &str) -> &'static str {
-    match kind {
-        "type" => "types",
-        "constant" => "constants",
-        "override" => "overrides",
-        "global" => "globals",
-        "function" => "functions",
-        "local" => "locals",
-        "filter" => "diagnostics.filters",
-        _ => "expressions",
+// The name of the list of what is named.
+fn list_of(named: Names) -> &'static str {
+    match named {
+        Names::Type => "types",
+        Names::Constant => "constants",
+        Names::Override => "overrides",
+        Names::Global => "globals",
+        Names::Function => "functions",
+        Names::Local => "locals",
+        Names::Filter => "diagnostics.filters",
+        Names::Expression => "expressions",
     }
+}
+
+// What the handle is of, by the field of an error that says it.
+fn named_by(error: &[u8], name: &str) -> Option<Names> {
+    names_of(text_of(quoted(field(error, name))))
 }
 
 impl Reason<'_> {
@@ -269,7 +280,7 @@ impl Reason<'_> {
     // Writes what is required of the expression at the path, whose kind has no name for its error.
     fn write_kind<W: fmt::Write>(&self, f: &mut fmt::Formatter<W>) -> fmt::Result {
         let Some(item) = self.item() else {
-            return write!(f, "the expression keeps the rule of its kind");
+            return write!(f, "the expression breaks the rule of its kind");
         };
         let function = word_at(item, 1);
         let count = passed(item);
@@ -283,22 +294,22 @@ impl Reason<'_> {
         write!(f, "{}", required_of(item))
     }
 
-    // How many items there are of the kind that a handle names.
-    fn count_of(&self, kind: &str) -> usize {
+    // How many items there are of what a handle names.
+    fn count_of(&self, named: Names) -> usize {
         let document = self.refusal.document;
         let inside = function_of(document, self.path);
-        let list = match kind {
-            "type" => at(document, 5),
-            "constant" => at(document, 8),
-            "override" => at(document, 9),
-            "global" => at(document, 11),
-            "function" => at(document, 12),
-            "filter" => along(document, &[7, 0]),
-            "local" => match inside {
+        let list = match named {
+            Names::Type => at(document, 5),
+            Names::Constant => at(document, 8),
+            Names::Override => at(document, 9),
+            Names::Global => at(document, 11),
+            Names::Function => at(document, 12),
+            Names::Filter => along(document, &[7, 0]),
+            Names::Local => match inside {
                 Some(function) => at(function, 3),
                 None => None,
             },
-            _ => match inside {
+            Names::Expression => match inside {
                 Some(function) => at(function, 4),
                 None => at(document, 10),
             },
@@ -311,28 +322,24 @@ impl Reason<'_> {
 
     // Writes what is wrong with a handle.
     fn write_handle<W: fmt::Write>(&self, f: &mut fmt::Formatter<W>, error: &[u8]) -> fmt::Result {
-        match error_name(error) {
-            "BadHandle" => {
-                let kind = text_of(quoted(field(error, "kind")));
-                let index = text_of(field(error, "index"));
-                let count = self.count_of(kind);
-                write!(
-                    f,
-                    "it names {}[{index}], and there are {count}",
-                    list_of(kind)
-                )
-            }
-            "FwdDepError" => {
-                let kind = text_of(quoted(field(error, "depends_on_kind")));
-                let index = text_of(field(error, "depends_on"));
-                write!(
-                    f,
-                    "it names {}[{index}], which does not come before it",
-                    list_of(kind)
-                )
-            }
-            _ => write!(f, "{}", required("", error_name(error))),
+        if let Some(named) = named_by(error, "kind") {
+            let index = text_of(field(error, "index"));
+            let count = self.count_of(named);
+            return write!(
+                f,
+                "it names {}[{index}], and there are {count}",
+                list_of(named)
+            );
         }
+        if let Some(named) = named_by(error, "depends_on_kind") {
+            let index = text_of(field(error, "depends_on"));
+            return write!(
+                f,
+                "it names {}[{index}], which does not come before it",
+                list_of(named)
+            );
+        }
+        write!(f, "{}", required("", error_name(error)))
     }
 
     // The global variable that a pointer is made from.
@@ -451,16 +458,27 @@ impl Display for Reason<'_> {
     }
 }
 
+// The list of a step, and which part of an item of it is the name.
+static NAMED: [(&str, (usize, usize)); 7] = [
+    ("layout", (5, 0)),
+    ("type", (5, 0)),
+    ("constant", (8, 0)),
+    ("override", (9, 0)),
+    ("global", (11, 0)),
+    ("function", (12, 0)),
+    ("entry", (13, 1)),
+];
+
+fn named() -> &'static [(&'static str, (usize, usize))]
+    ensures { map spelled result.now ≡ names_listed }
+{
+    &NAMED
+}
+
 /// The name of the item that a step refuses, where it has one.
-pub fn name_of<'a>(document: &'a Value, step: &str, index: usize) -> Option<&'a str> {
-    let way: [usize; 3] = match step {
-        "layout" | "type" => [5, index, 0],
-        "constant" => [8, index, 0],
-        "override" => [9, index, 0],
-        "global" => [11, index, 0],
-        "function" => [12, index, 0],
-        "entry" => [13, index, 1],
-        _ => return None,
-    };
-    along(document, &way)?.as_str()
+pub fn name_of<'a>(document: &'a Value, step: &str, index: usize) -> Option<&'a str>
+    ensures { option_map (λ t. t.now) result ≡ item_name (view document.now) step.now index }
+{
+    let (list, place) = find_in(named(), step)?;
+    along(document, &[list, index, place])?.as_str()
 }

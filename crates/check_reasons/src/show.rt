@@ -260,7 +260,7 @@ fn is_wrapper(name: &[u8]) -> bool {
 }
 
 // What types of a flag do.
-fn flag_words(flag: &str) -> &'static str {
+fn flag_words(flag: &str) -> &str {
     match flag {
         "DATA" => "can be stored",
         "SIZED" => "has a known size",
@@ -269,7 +269,8 @@ fn flag_words(flag: &str) -> &'static str {
         "HOST_SHAREABLE" => "can be laid out by a host",
         "CREATION_RESOLVED" => "has its size without overrides",
         "ARGUMENT" => "can be passed to functions",
-        _ => "can be composed",
+        "CONSTRUCTIBLE" => "can be composed",
+        other => other,
     }
 }
 

@@ -1,10 +1,16 @@
 // Prints why the document on standard input is refused, and where: in one line, with `--names` with the error by its name after it,
-// or with `--json` as one JSON object; with `--leaves` whether it is, and of an accepted one what lies inside its buffers.
+// or with `--json` as one JSON object; with `--leaves` whether it is, and of an accepted one what lies inside its buffers, with
+// `--verdict` the report. With `--spirv` the module of SPIR-V there, in the same forms, and with `--document` the document that it
+// says.
 #![tactic(auto)]
 
-use check_explanation::{Explanation, Requested, explain};
+use check_explanation::{
+    Explanation, Requested, SpirvAnswer, SpirvError, SpirvVerdict, Traced, check_spirv,
+    document_text, explain, explain_spirv, refusal_json,
+};
 use check_ports::{Source, TakeError};
 use shader_check::MAX_TAKEN;
+use std::alloc::AllocError;
 use std::env::args;
 use std::io;
 use std::process::ExitCode;
@@ -12,10 +18,19 @@ use std::process::ExitCode;
 // In which form.
 #[derive(Clone, Copy)]
 enum Form {
+    Verdict,
     Line,
     LineWithNames,
     Leaves,
     Object,
+    Document,
+}
+
+// What the arguments say.
+#[derive(Clone, Copy)]
+struct Arguments {
+    form: Form,
+    is_spirv: bool,
 }
 
 fn fault(rt: &HostRuntime, message: &str) -> ExitCode {
@@ -23,21 +38,39 @@ fn fault(rt: &HostRuntime, message: &str) -> ExitCode {
     ExitCode::from(2)
 }
 
-// The form that the arguments name. `None` says that there is no memory for them.
-fn wanted_form(rt: &HostRuntime) -> Option<Form> {
+// The form of this name.
+fn form_of(word: &str) -> Option<Form> {
+    match word {
+        "--explain" => Some(Form::Line),
+        "--names" => Some(Form::LineWithNames),
+        "--leaves" => Some(Form::Leaves),
+        "--json" => Some(Form::Object),
+        "--verdict" => Some(Form::Verdict),
+        "--document" => Some(Form::Document),
+        _ => None,
+    }
+}
+
+// What the arguments say, the last of them that names a form, or else what is wrong with them.
+fn read_arguments(rt: &HostRuntime) -> Result<Arguments, &'static str> {
     let Ok(words) = args(rt) else {
-        return None;
+        return Err("the arguments are no UTF-8, or there is no memory for them");
     };
-    let mut form = Form::Line;
-    for word in words {
-        match word.as_str() {
-            "--leaves" => form = Form::Leaves,
-            "--json" => form = Form::Object,
-            "--names" => form = Form::LineWithNames,
-            _ => {}
+    let mut wanted = Arguments {
+        form: Form::Line,
+        is_spirv: false,
+    };
+    for word in words.skip(1) {
+        if word.as_str() == "--spirv" {
+            wanted.is_spirv = true;
+            continue;
+        }
+        match form_of(word.as_str()) {
+            Some(found) => wanted.form = found,
+            None => return Err("an argument is no form (see shader-check --help), and not --spirv"),
         }
     }
-    Some(form)
+    Ok(wanted)
 }
 
 // What is to be known of an accepted document for this form.
@@ -45,35 +78,36 @@ fn requested_by(form: Form) -> Requested {
     match form {
         Form::Line | Form::LineWithNames => Requested::Nothing,
         Form::Leaves => Requested::Leaves,
-        Form::Object => Requested::Report,
+        Form::Verdict | Form::Object | Form::Document => Requested::Report,
+    }
+}
+
+// Ends with this status, if all was written.
+fn ended(rt: &HostRuntime, written: io::Result<()>, status: u8) -> ExitCode {
+    match written {
+        Ok(()) => ExitCode::from(status),
+        Err(_) => fault(rt, "write"),
+    }
+}
+
+// Prints a text, unless there was no memory for it.
+fn print_text(
+    rt: &HostRuntime,
+    text: Result<String, AllocError>,
+    end: &str,
+    status: u8,
+) -> ExitCode {
+    match text {
+        Ok(text) => ended(rt, print!(rt; "{text}{end}"), status),
+        Err(_) => fault(rt, "memory"),
     }
 }
 
 // Prints the line, with the error by its name after it.
-fn print_names(rt: &HostRuntime, explanation: &Explanation) -> io::Result<()> {
-    match explanation.error_name() {
-        Some(error) => println!(rt; "{explanation} ({error})"),
-        None => println!(rt; "{explanation}"),
-    }
-}
-
-// Prints what is found.
-fn print_explanation(rt: &HostRuntime, form: Form, explanation: &Explanation) -> ExitCode {
-    let written = match form {
-        Form::Line => println!(rt; "{explanation}"),
-        Form::LineWithNames => print_names(rt, explanation),
-        Form::Leaves => match explanation.listing(rt.alloc()) {
-            Ok(text) => print!(rt; "{text}"),
-            Err(_) => return fault(rt, "memory"),
-        },
-        Form::Object => match explanation.json(rt.alloc()) {
-            Ok(text) => println!(rt; "{text}"),
-            Err(_) => return fault(rt, "memory"),
-        },
-    };
-    match written {
-        Ok(()) => ExitCode::from(status(explanation)),
-        Err(_) => fault(rt, "write"),
+fn print_names(rt: &HostRuntime, traced: &Traced) -> io::Result<()> {
+    match traced.explanation.error_name() {
+        Some(error) => println!(rt; "{traced} ({error})"),
+        None => println!(rt; "{traced}"),
     }
 }
 
@@ -84,9 +118,83 @@ fn status(explanation: &Explanation) -> u8 {
     }
 }
 
+// Prints what is found.
+fn print_explanation(rt: &HostRuntime, form: Form, traced: &Traced) -> ExitCode {
+    let status = status(&traced.explanation);
+    match form {
+        Form::Line => ended(rt, println!(rt; "{traced}"), status),
+        Form::LineWithNames => ended(rt, print_names(rt, traced), status),
+        Form::Object => print_text(rt, traced.json(rt.alloc()), "\n", status),
+        Form::Verdict | Form::Leaves | Form::Document => {
+            print_text(rt, traced.explanation.listing(rt.alloc()), "", status)
+        }
+    }
+}
+
+// The status of what a module of SPIR-V is found to be.
+fn spirv_status(answer: &SpirvAnswer) -> u8 {
+    match answer.verdict {
+        SpirvVerdict::Accepted => 0,
+        SpirvVerdict::Refused => 1,
+        SpirvVerdict::Unread => 3,
+    }
+}
+
+// Prints why no module was read.
+fn print_unread(rt: &HostRuntime, form: Form, error: &SpirvError) -> ExitCode {
+    match error {
+        SpirvError::Memory => fault(rt, "memory"),
+        SpirvError::Malformed { .. } | SpirvError::Unsupported { .. } => match form {
+            Form::Object => print_text(rt, refusal_json(rt.alloc(), error), "\n", 3),
+            Form::Verdict | Form::Line | Form::LineWithNames | Form::Leaves | Form::Document =>
+                ended(rt, println!(rt; "{error}"), 3),
+        },
+    }
+}
+
+// Prints what the module of SPIR-V is found to be.
+fn print_spirv(rt: &HostRuntime, form: Form, bytes: &[u8]) -> ExitCode {
+    match form {
+        Form::Verdict => match check_spirv(rt.alloc(), bytes) {
+            Ok(answer) => {
+                let status = spirv_status(&answer);
+                print_text(rt, Ok(answer.text), "", status)
+            }
+            Err(_) => fault(rt, "memory"),
+        },
+        Form::Document => match document_text(rt.alloc(), bytes) {
+            Ok(text) => print_text(rt, Ok(text), "\n", 0),
+            Err(error) => print_unread(rt, form, &error),
+        },
+        Form::Line | Form::LineWithNames | Form::Leaves | Form::Object => match explain_spirv(
+            rt.alloc(),
+            requested_by(form),
+            bytes,
+        ) {
+            Ok(traced) => print_explanation(rt, form, &traced),
+            Err(error) => print_unread(rt, form, &error),
+        },
+    }
+}
+
+// Prints what the document is found to be.
+fn print_document(rt: &HostRuntime, form: Form, bytes: &[u8]) -> ExitCode {
+    match explain(rt.alloc(), requested_by(form), bytes) {
+        Ok(explanation) => {
+            let traced = Traced {
+                explanation,
+                origin: None,
+            };
+            print_explanation(rt, form, &traced)
+        }
+        Err(_) => fault(rt, "memory"),
+    }
+}
+
 fn main(rt: HostRuntime) -> ExitCode {
-    let Some(form) = wanted_form(&rt) else {
-        return fault(&rt, "memory");
+    let wanted = match read_arguments(&rt) {
+        Ok(wanted) => wanted,
+        Err(why) => return fault(&rt, why),
     };
     let mut source = Source::new(rt.reader());
     let bytes = match source.take_all(rt.alloc(), MAX_TAKEN) {
@@ -94,8 +202,9 @@ fn main(rt: HostRuntime) -> ExitCode {
         Err(TakeError::Memory) => return fault(&rt, "memory"),
         Err(TakeError::Read) => return fault(&rt, "read"),
     };
-    match explain(rt.alloc(), requested_by(form), &bytes) {
-        Ok(explanation) => print_explanation(&rt, form, &explanation),
-        Err(_) => fault(&rt, "memory"),
+    if wanted.is_spirv {
+        print_spirv(&rt, wanted.form, &bytes)
+    } else {
+        print_document(&rt, wanted.form, &bytes)
     }
 }

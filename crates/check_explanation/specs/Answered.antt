@@ -1,0 +1,45 @@
+-- What is found of a module of SPIR-V is what is found of a document. That the document means what the module does, no word says.
+use Rattle.std.specs.Prelude.{◌≡◌, ◌++◌, ℕ, List, string_bytes}
+use Rattle.document_reader.specs.Plain.{PlainDocument}
+use Rattle.judgement.specs.Text.{text_of}
+use Rattle.judgement.specs.declared.finding.Finding.{Finding}
+use Rattle.judgement.specs.declared.finding.Finding.TheVariants as findings
+use Rattle.shader_check.specs.Judgements.{IsJudgementOf}
+use Rattle.shader_check.specs.Theorem.{JudgedDocument}
+use Rattle.shader_check.specs.declared.reported.Judgement.{Judgement}
+use Rattle.check_explanation.specs.Explained.{finding_of}
+use Rattle.check_explanation.specs.Listed.{FollowsIn}
+use Rattle.check_explanation.specs.declared.explanation.Explanation.{Explanation}
+use Rattle.check_explanation.specs.declared.explanation.Requested.{Requested}
+use Rattle.check_explanation.specs.declared.spirv.SpirvVerdict.{SpirvVerdict}
+use Rattle.check_explanation.specs.declared.spirv.SpirvVerdict.TheVariants.{Accepted, Refused, Unread}
+
+-- this is found of some document, and reported of it
+pub record IsOfSome (j : Judgement) : Type 0 where
+  pub document : PlainDocument
+  pub is : IsJudgementOf document j
+
+abbrev pub verdict_of : Finding → SpirvVerdict
+verdict_of (findings.Accepted strict) = Accepted
+verdict_of findings.RefusedDocument = Refused
+verdict_of findings.RefusedHandles = Refused
+verdict_of (findings.Refused step index) = Refused
+
+-- The text is the one of what is found of some document, with the report on it, and the verdict is that of what is found.
+pub record IsTextOfSome (verdict : SpirvVerdict) (text : List ℕ) : Type 0 where
+  pub judgement : Judgement
+  pub of : IsOfSome judgement
+  pub verdict_is : verdict ≡ verdict_of judgement.finding
+  pub text_is : text ≡ text_of judgement.finding ++ string_bytes judgement.report
+
+-- of a module that was not read nothing is said
+abbrev pub IsAnswered : SpirvVerdict → (text : List ℕ) → Type 0
+IsAnswered Accepted text = IsTextOfSome Accepted text
+IsAnswered Refused text = IsTextOfSome Refused text
+IsAnswered Unread text = Unit {0}
+
+-- this is found of some document, and the lines that are wanted are those of its module
+pub record IsExplained (requested : Requested) (e : Explanation) : Type 0 where
+  pub document : PlainDocument
+  pub judged : JudgedDocument document (finding_of e)
+  pub lines : FollowsIn requested document e

@@ -1,0 +1,156 @@
+// The instruction that a part of a module comes from.
+
+use crate::spans::{entry_at, member_at, span_at};
+use crate::varyings::varying_at;
+use ir_items::Module;
+use serde_json::{Value, json};
+use spirv_numbers::names::opcode_name;
+use spirv_numbers::ops;
+use spirv_words::{Instruction, Listing, SpirvError, list};
+use std::alloc::{AllocError, Global};
+use std::fmt::{self, Display};
+
+/// The instruction that a part of a module comes from.
+#[derive(Drop)]
+pub struct Origin {
+    /// Its first word, counted from 0.
+    pub word: u32,
+    /// The name of its opcode, without `Op`.
+    pub opcode: &'static str,
+    /// The id of its result, 0 where it has none.
+    pub id: u32,
+    /// The name of that, or of the variable or function that it works on, where it has one.
+    pub name: Option<String>,
+}
+
+// Whether its first operand is a pointer or a function, whose name says what it works on.
+fn works_on_first(opcode: u16) -> bool {
+    matches!(
+        opcode,
+        ops::LOAD
+            | ops::STORE
+            | ops::ACCESS_CHAIN
+            | ops::IN_BOUNDS_ACCESS_CHAIN
+            | ops::ARRAY_LENGTH
+            | ops::FUNCTION_CALL
+            | ops::IMAGE_TEXEL_POINTER
+    )
+}
+
+// The name of an id or its member, if it has one that is not empty.
+fn name_of(
+    alloc: Global,
+    listing: &Listing,
+    id: u32,
+    member: Option<u32>,
+) -> Result<Option<String>, SpirvError> {
+    match listing.name(alloc, id, member)? {
+        Some(name) if !name.is_empty() => Ok(Some(name)),
+        Some(_) | None => Ok(None),
+    }
+}
+
+// The name that goes with an instruction, or with a member of the type that it makes.
+fn name_at(
+    alloc: Global,
+    listing: &Listing,
+    instruction: &Instruction,
+    member: Option<u32>,
+) -> Result<Option<String>, SpirvError> {
+    if member.is_some() {
+        let name = name_of(alloc, listing, instruction.id, member)?;
+        if name.is_some() {
+            return Ok(name);
+        }
+    }
+    let name = name_of(alloc, listing, instruction.id, None)?;
+    if name.is_some() || !works_on_first(instruction.opcode) {
+        return Ok(name);
+    }
+    let first = listing.operand(instruction, 0).unwrap_or(0);
+    name_of(alloc, listing, first, None)
+}
+
+// The instruction that begins at this word.
+fn instruction_at(listing: &Listing, word: u32) -> Option<Instruction> {
+    for instruction in &listing.instructions {
+        if instruction.start == word {
+            return Some(*instruction);
+        }
+    }
+    None
+}
+
+// The instruction whose words the part at a path comes from.
+fn spanned(listing: &Listing, module: &Module, path: &[u32]) -> Option<Instruction> {
+    if let Some(range) = span_at(module, path).to_range() {
+        return instruction_at(listing, u32::try_from(range.start).ok()?);
+    }
+    let entry = entry_at(path)?;
+    let place = listing.parts.entry_points.get(entry as usize)?;
+    Some(listing.at(*place))
+}
+
+// The instruction that the part at a path comes from: of what goes between stages its variable.
+fn instruction_of(listing: &Listing, module: &Module, path: &[u32]) -> Option<Instruction> {
+    let found = spanned(listing, module, path)?;
+    if found.opcode == ops::ENTRY_POINT {
+        if let Some(variable) = varying_at(listing, module, path, &found) {
+            return Some(variable);
+        }
+    }
+    Some(found)
+}
+
+/// The instruction of these bytes of SPIR-V that the part at a path of their module comes from, where it is known.
+pub(crate) fn origin_of(
+    alloc: Global,
+    bytes: &[u8],
+    module: &Module,
+    path: &[u32],
+) -> Result<Option<Origin>, SpirvError> {
+    let listing = list(alloc, bytes)?;
+    let Some(instruction) = instruction_of(&listing, module, path) else {
+        return Ok(None);
+    };
+    let name = name_at(alloc, &listing, &instruction, member_at(path))?;
+    Ok(Some(Origin {
+        word: instruction.start,
+        opcode: opcode_name(instruction.opcode),
+        id: instruction.id,
+        name,
+    }))
+}
+
+impl Display for Origin {
+    fn fmt<W: fmt::Write>(&self, f: &mut fmt::Formatter<W>) -> fmt::Result {
+        let (opcode, word) = (self.opcode, self.word);
+        match &self.name {
+            Some(name) => write!(f, "Op{opcode} {name:?} at word {word}"),
+            None => write!(f, "Op{opcode} at word {word}"),
+        }
+    }
+}
+
+impl Origin {
+    // As a JSON object.
+    pub(crate) fn value(&self, alloc: Global) -> Result<Value, AllocError> {
+        let opcode = format!(in alloc; "Op{}", self.opcode)?;
+        let opcode = opcode.as_str();
+        let word = Value::from(u64::from(self.word));
+        let id = match self.id {
+            0 => Value::Null,
+            id => Value::from(u64::from(id)),
+        };
+        let name = match &self.name {
+            Some(name) => Value::try_from_str(alloc, name)?,
+            None => Value::Null,
+        };
+        json!(in alloc; {
+            "word": word,
+            "opcode": opcode,
+            "id": id,
+            "name": name
+        })
+    }
+}

@@ -1,0 +1,106 @@
+// What is answered of a module of SPIR-V.
+ghost use Rattle.std.specs.Prelude.{◌≡◌, IfOk, string_bytes};
+ghost use Rattle.check_explanation.specs.Answered.{IsOfSome, IsAnswered, verdict_of};
+
+use document_writer::write_document;
+use serde_json::{Value, json};
+use shader_check::{Finding, Judgement, judge_document};
+use spirv_reader::{SpirvError, read_spirv};
+use std::alloc::{AllocError, Global};
+
+/// What the module was found to be.
+#[derive(Clone, Copy, Debug, PartialEq, Eq)]
+pub enum SpirvVerdict {
+    /// No step of the judgement fails.
+    Accepted,
+    /// Some step fails.
+    Refused,
+    /// No module was read: the words are no SPIR-V, or say what is not translated.
+    Unread,
+}
+
+/// What the module was found to be, with the text that tells it: the verdict and the report, or why no module was read.
+#[derive(Drop)]
+pub struct SpirvAnswer {
+    /// What it was found to be.
+    pub verdict: SpirvVerdict,
+    /// The text.
+    pub text: String,
+}
+
+fn verdict_of(finding: Finding) -> SpirvVerdict
+    ensures { result ≡ verdict_of finding }
+{
+    match finding {
+        Finding::Accepted { .. } => SpirvVerdict::Accepted,
+        Finding::RefusedDocument | Finding::RefusedHandles | Finding::Refused(..) =>
+            SpirvVerdict::Refused,
+    }
+}
+
+// What is found of the document that the module says, and the report on it.
+fn judge_spirv(alloc: Global, bytes: &[u8]) -> Result<Judgement, SpirvError>
+    ensures { IfOk result IsOfSome }
+{
+    let mut document = read_spirv(alloc, bytes)?;
+    match judge_document(alloc, &mut document) {
+        Ok(judgement) => Ok(judgement),
+        Err(_) => Err(SpirvError::Memory),
+    }
+}
+
+// The answer of a judgement.
+fn answer_of(alloc: Global, judgement: &Judgement) -> Result<SpirvAnswer, AllocError>
+    requires { IsOfSome judgement.now }
+    ensures { IfOk result (λ a. IsAnswered a.verdict (string_bytes a.text)) }
+{
+    let text = judgement.text(alloc)?;
+    Ok(SpirvAnswer {
+        verdict: verdict_of(judgement.finding),
+        text,
+    })
+}
+
+/// What the module is found to be that these bytes of SPIR-V say. The error is out of memory.
+pub fn check_spirv(alloc: Global, bytes: &[u8]) -> Result<SpirvAnswer, AllocError>
+    ensures { IfOk result (λ a. IsAnswered a.verdict (string_bytes a.text)) }
+{
+    match judge_spirv(alloc, bytes) {
+        Ok(judgement) => answer_of(alloc, &judgement),
+        Err(SpirvError::Memory) => Err(AllocError),
+        Err(error) => {
+            let text = format!(in alloc; "{error}\n")?;
+            Ok(SpirvAnswer {
+                verdict: SpirvVerdict::Unread,
+                text,
+            })
+        }
+    }
+}
+
+/// The document that the module says, as JSON in one line without its end.
+pub fn document_text(alloc: Global, bytes: &[u8]) -> Result<String, SpirvError> {
+    let document = read_spirv(alloc, bytes)?;
+    match write_document(alloc, &document) {
+        Ok(text) => Ok(text),
+        Err(_) => Err(SpirvError::Memory),
+    }
+}
+
+/// One JSON object that tells why no module was read, in one line without its end. The error is out of memory.
+pub fn refusal_json(alloc: Global, error: &SpirvError) -> Result<String, AllocError> {
+    let text = format!(in alloc; "{error}")?;
+    let (verdict, word) = match error {
+        SpirvError::Memory => return Err(AllocError),
+        SpirvError::Malformed { word, .. } => ("malformed", *word),
+        SpirvError::Unsupported { word, .. } => ("unsupported", *word),
+    };
+    let place = Value::from(u64::from(word));
+    let text = text.as_str();
+    json!(in alloc; {
+        "verdict": verdict,
+        "word": place,
+        "text": text
+    })?
+    .to_string(alloc)
+}

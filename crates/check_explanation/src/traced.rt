@@ -1,0 +1,95 @@
+// What is found of a module of SPIR-V, explained.
+ghost use Rattle.std.specs.Prelude.{IfOk};
+ghost use Rattle.check_explanation.specs.Answered.{IsExplained};
+
+use crate::explanation::{Explanation, Requested, explain_document};
+use crate::origin::{Origin, origin_of};
+use crate::spans::FUNCTIONS;
+use document_writer::write_document;
+use ir_items::Module;
+use serde_json::{Value, put};
+use shader_check::ValidationError;
+use spirv_reader::{SpirvError, read_spirv};
+use std::alloc::{AllocError, Global};
+use std::fmt::{self, Display};
+use typing_errors::FunctionError;
+
+/// An explanation, with the instruction of SPIR-V that a refused part comes from.
+#[derive(Drop)]
+pub struct Traced {
+    /// What is found of the document.
+    pub explanation: Explanation,
+    /// The instruction, where it is known; never of a document that was not made of SPIR-V.
+    pub origin: Option<Origin>,
+}
+
+// The path of the expression at which all invocations have to arrive together and may not: the path of the refusal leads to the
+// range that it is emitted in.
+fn diverging_path(error: &ValidationError) -> Option<[u32; 4]> {
+    let ValidationError::Function(refused) = error else {
+        return None;
+    };
+    let FunctionError::NonUniformControlFlow(_, expression, _) = &refused.error else {
+        return None;
+    };
+    let function = u32::try_from(refused.function.index()).ok()?;
+    let expression = u32::try_from(expression.index()).ok()?;
+    Some([FUNCTIONS, function, 4, expression])
+}
+
+// The instruction that the refused part comes from.
+fn trace(
+    alloc: Global,
+    bytes: &[u8],
+    module: &Module,
+    explanation: &Explanation,
+) -> Result<Option<Origin>, SpirvError> {
+    match explanation {
+        Explanation::Refused(error, item) => match diverging_path(error) {
+            Some(path) => origin_of(alloc, bytes, module, &path),
+            None => origin_of(alloc, bytes, module, &item.path),
+        },
+        Explanation::NoDocument(..) | Explanation::Accepted { .. } => Ok(None),
+    }
+}
+
+/// The explanation of the document that these bytes of SPIR-V say, with the lines that are wanted, where it is accepted.
+pub fn explain_spirv(
+    alloc: Global,
+    requested: Requested,
+    bytes: &[u8],
+) -> Result<Traced, SpirvError>
+    ensures { IfOk result (λ t. IsExplained requested t.explanation) }
+{
+    let mut document = read_spirv(alloc, bytes)?;
+    let text = write_document(alloc, &document)?;
+    let explanation = explain_document(alloc, requested, text.as_bytes(), &mut document)?;
+    let origin = trace(alloc, bytes, &document.module, &explanation)?;
+    Ok(Traced {
+        explanation,
+        origin,
+    })
+}
+
+impl Display for Traced {
+    fn fmt<W: fmt::Write>(&self, f: &mut fmt::Formatter<W>) -> fmt::Result {
+        let explanation = &self.explanation;
+        match &self.origin {
+            Some(origin) => write!(f, "{explanation} ({origin})"),
+            None => write!(f, "{explanation}"),
+        }
+    }
+}
+
+impl Traced {
+    /// One JSON object with all of it, in one line without its end. The error is out of memory.
+    pub fn json(&self, alloc: Global) -> Result<String, AllocError> {
+        let mut value = self.explanation.value(alloc)?;
+        if let Value::Object(map) = &mut value {
+            if let Some(origin) = &self.origin {
+                put(map, alloc, "spirv", origin.value(alloc)?)?;
+            }
+        }
+        value.to_string(alloc)
+    }
+}

@@ -1,0 +1,4 @@
+pub mod Parts
+pub mod Tables
+pub mod Names
+pub mod Paths
