@@ -12,7 +12,8 @@ extern "C" {
 enum {
     SHADER_CHECK_ACCEPTED = 0,
     SHADER_CHECK_REFUSED = 1,
-    SHADER_CHECK_NO_MEMORY = 2
+    SHADER_CHECK_NO_MEMORY = 2,
+    SHADER_CHECK_UNREAD = 3
 };
 
 /* Judges the document in the `length` bytes at `document`, and writes the text of the verdict and of the report to `text`: as many
@@ -27,6 +28,11 @@ uint32_t shader_check(const uint8_t *document, size_t length, uint8_t *text, siz
 /* The same, but that the text is one JSON object, as docs/answer.schema.json says: the verdict, of a refused document the step, the
  * item, the path to the part that is at fault, the error and the reason in words, of an accepted one the report as data. */
 uint32_t shader_check_json(const uint8_t *document, size_t length, uint8_t *text, size_t capacity, size_t *needed);
+
+/* The same for the module of SPIR-V in the `length` bytes at `spirv`, in either order of bytes: the text is that of
+ * ./shader-check --spirv. Answers SHADER_CHECK_UNREAD besides, where the words are no SPIR-V or say what is not translated; the text
+ * then is one line that says what, and at which word. */
+uint32_t shader_check_spirv(const uint8_t *spirv, size_t length, uint8_t *text, size_t capacity, size_t *needed);
 
 #ifdef __cplusplus
 }

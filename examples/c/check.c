@@ -1,4 +1,4 @@
-/* Judges the document in each file that is named, as ./shader-check does; with --json in front as ./shader-check --json. */
+/* Judges the document in each file that is named, as ./shader-check does; with --json or --spirv in front as that does with it. */
 #include "shader_check.h"
 
 #include <stdio.h>
@@ -33,7 +33,7 @@ static uint8_t *bytes_of(const char *name, size_t *length)
 
 typedef uint32_t call(const uint8_t *, size_t, uint8_t *, size_t, size_t *);
 
-/* Judges a document, with as much room for the text as it takes. */
+/* Judges a document or a module of SPIR-V, with as much room for the text as it takes. */
 static uint32_t judge(call *check, const uint8_t *bytes, size_t length, uint8_t **text, size_t *needed)
 {
     uint8_t small[256];
@@ -48,7 +48,10 @@ static uint32_t judge(call *check, const uint8_t *bytes, size_t length, uint8_t 
 int main(int count, char **names)
 {
     uint32_t worst = SHADER_CHECK_ACCEPTED;
-    int first = count > 1 && strcmp(names[1], "--json") == 0 ? 2 : 1;
+    int is_json = count > 1 && strcmp(names[1], "--json") == 0;
+    int is_spirv = count > 1 && strcmp(names[1], "--spirv") == 0;
+    call *check = is_json ? shader_check_json : is_spirv ? shader_check_spirv : shader_check;
+    int first = is_json || is_spirv ? 2 : 1;
     for (int at = first; at < count; at++) {
         size_t length, needed;
         uint8_t *text, *bytes = bytes_of(names[at], &length);
@@ -56,10 +59,10 @@ int main(int count, char **names)
             fprintf(stderr, "%s cannot be read\n", names[at]);
             return 125;
         }
-        uint32_t status = judge(first == 2 ? shader_check_json : shader_check, bytes, length, &text, &needed);
+        uint32_t status = judge(check, bytes, length, &text, &needed);
         if (text) {
             fwrite(text, 1, needed, stdout);
-            if (first == 2)
+            if (is_json)
                 putchar('\n');
         } else
             fputs("fault: memory\n", stderr);

@@ -1,4 +1,4 @@
-//! The check of a shader module, in process: [`check`] of the bytes of a document.
+//! The check of a shader module, in process: [`check`] of the bytes of a document, [`check_spirv`] of those of SPIR-V.
 
 use std::error::Error;
 use std::fmt;
@@ -8,6 +8,8 @@ use std::fmt;
 pub enum Verdict {
     Accepted(String),
     Refused(String),
+    /// Only of SPIR-V: the words are none, or say what is not translated. The text says what, and at which word.
+    Unread(String),
 }
 
 /// Memory was refused.
@@ -25,6 +27,7 @@ impl Error for NoMemory {}
 extern "C" {
     fn shader_check(document: *const u8, length: usize, text: *mut u8, capacity: usize, needed: *mut usize) -> u32;
     fn shader_check_json(document: *const u8, length: usize, text: *mut u8, capacity: usize, needed: *mut usize) -> u32;
+    fn shader_check_spirv(spirv: *const u8, length: usize, text: *mut u8, capacity: usize, needed: *mut usize) -> u32;
 }
 
 type Call = unsafe extern "C" fn(*const u8, usize, *mut u8, usize, *mut usize) -> u32;
@@ -49,6 +52,7 @@ fn verdict(check: Call, document: &[u8]) -> Result<Verdict, NoMemory> {
     match status {
         0 => Ok(Verdict::Accepted(text)),
         1 => Ok(Verdict::Refused(text)),
+        3 => Ok(Verdict::Unread(text)),
         _ => Err(NoMemory),
     }
 }
@@ -61,4 +65,9 @@ pub fn check(document: &[u8]) -> Result<Verdict, NoMemory> {
 /// Judges a document: the text is the object of `./shader-check --json`.
 pub fn check_json(document: &[u8]) -> Result<Verdict, NoMemory> {
     verdict(shader_check_json, document)
+}
+
+/// Judges a module of SPIR-V: the text is that of `./shader-check --spirv`.
+pub fn check_spirv(spirv: &[u8]) -> Result<Verdict, NoMemory> {
+    verdict(shader_check_spirv, spirv)
 }
