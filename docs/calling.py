@@ -11,21 +11,22 @@ from pathlib import Path
 TOP = Path(__file__).resolve().parent.parent
 CRATES = TOP / "crates"
 
-# a page: its crate, what it is for, the caller as (file, first line), the crates whose calls it quotes
+# a page: its crate, what it is for, the callers as what each is and (file, first line), the crates whose calls it quotes
 PAGES = [
     ("check_ports", "Readers and writers with a mark that failed calls leave.",
-     ("checker/src/main.rt", "fn main("), ["check_ports"]),
+     [("A caller", "checker/src/main.rt", "fn main(")], ["check_ports"]),
     ("shader_ir", "The representation of a shader module: arenas, types, expressions, blocks, items, and calls over them.",
-     ("test_cases/src/returns.rt", None), ["ir_flags", "ir_kinds", "ir_arena", "ir_sets", "ir_faults", "ir_types",
+     [("A caller", "test_cases/src/returns.rt", None)], ["ir_flags", "ir_kinds", "ir_arena", "ir_sets", "ir_faults", "ir_types",
                                         "ir_blocks", "ir_items", "ir_proc"]),
     ("shader_typing", "What is asked of types, their layouts, the kinds and types of expressions, and the overload sets of the math functions.",
-     ("test_kinds/src/overload_alone.rt", None), ["typing_forms", "typing_expressions", "typing_layout", "typing_rules",
+     [("A caller", "test_kinds/src/overload_alone.rt", None)], ["typing_forms", "typing_expressions", "typing_layout", "typing_rules",
                                             "typing_overloads",
                                             "spec_expressions", "typing_resolve"]),
     ("document_reader", "From bytes to a document.",
-     ("test_cases/src/modules.rt", "pub fn document_of("), ["document_forms", "document_reader"]),
-    ("shader_check", "The check of a document, from a reader to a writer.",
-     ("checker/src/main.rt", "fn main("), ["judgement", "shader_check"]),
+     [("A caller", "test_cases/src/modules.rt", "pub fn document_of(")], ["document_forms", "document_reader"]),
+    ("shader_check", "The check of a module that is built by calls, and of a document from a reader to a writer.",
+     [("A caller that builds a module", "test_typing/src/built.rt", None),
+      ("A caller that has a document", "checker/src/main.rt", "fn main(")], ["judgement", "shader_check"]),
 ]
 
 
@@ -107,21 +108,21 @@ def calls_of(path, names, whole):
         yield (owner if indented else None), doc_above(lines, number), signature(lines, number)
 
 
-def caller(place):
-    file, first = place
+def caller(file, first):
     lines = (CRATES / file).read_text().rstrip("\n").split("\n")
     if first is None:
-        return file, lines
+        return lines
     start = next(n for n, line in enumerate(lines) if line.startswith(first))
     end = next(n for n in range(start, len(lines)) if lines[n] == "}")
-    return file, lines[start: end + 1]
+    return lines[start: end + 1]
 
 
-def page(crate, purpose, place, crates):
-    file, lines = caller(place)
+def page(crate, purpose, callers, crates):
     out = [f"# Calling `{crate}`", "", purpose + " This page is written by `docs/calling.py` from the sources; "
-           "the words of the clauses stand in each crate's `specs/`.", "", "## A caller", "",
-           f"From `crates/{file}`, which is proved.", "", "```rust", *lines, "```", "", "## Contracts"]
+           "the words of the clauses stand in each crate's `specs/`.", ""]
+    for heading, file, first in callers:
+        out += [f"## {heading}", "", f"From `crates/{file}`, which is proved.", "", "```rust", *caller(file, first), "```", ""]
+    out += ["## Contracts"]
     for part in crates:
         names, modules = exported(part)
         out += ["", f"### `{part}`"]
@@ -135,9 +136,9 @@ def page(crate, purpose, place, crates):
 
 def main():
     stale = 0
-    for crate, purpose, place, crates in PAGES:
+    for crate, purpose, callers, crates in PAGES:
         path = CRATES / crate / "CALLING.md"
-        text = page(crate, purpose, place, crates)
+        text = page(crate, purpose, callers, crates)
         if "--check" in sys.argv[1:]:
             if not path.exists() or path.read_text() != text:
                 print(f"{path.relative_to(TOP)} is not as docs/calling.py writes it")
