@@ -2,17 +2,18 @@
 
 use crate::writer::Writer;
 use document_reader::{Document, Settings};
+use ir_arena::handle::Handle;
 use ir_items::{
-    Constant, EntryPoint, Function, FunctionArgument, GlobalVariable, LocalVariable, Module,
-    Override, SpecialTypes,
+    Constant, DiagnosticFilterNode, FilterableTriggeringRule, GlobalVariable, Module, Override,
+    SpecialTypes,
 };
-use ir_kinds::{EarlyDepthTest, PredeclaredType, ShaderStage};
+use ir_kinds::PredeclaredType;
+use ir_types::key;
 use std::alloc::{AllocError, Global};
 
 const VERSION: u64 = 1;
 
-/// The document as JSON. It has no spans, and nothing of what no SPIR-V gives: filters, mesh stages, statements of rays and
-/// of cooperative matrices.
+/// The document as JSON in plain lists, without spans. The error is out of memory.
 pub fn write_document(alloc: Global, document: &Document) -> Result<String, AllocError> {
     let mut writer = Writer::new(alloc);
     writer.open();
@@ -22,21 +23,6 @@ pub fn write_document(alloc: Global, document: &Document) -> Result<String, Allo
     writer.items(&document.module);
     writer.close();
     writer.finish()
-}
-
-// The word of a stage.
-fn stage_word(stage: ShaderStage) -> &'static str {
-    match stage {
-        ShaderStage::Vertex => "Vertex",
-        ShaderStage::Fragment => "Fragment",
-        ShaderStage::Compute => "Compute",
-        ShaderStage::Mesh => "Mesh",
-        ShaderStage::Task => "Task",
-        ShaderStage::RayGeneration => "RayGeneration",
-        ShaderStage::AnyHit => "AnyHit",
-        ShaderStage::ClosestHit => "ClosestHit",
-        ShaderStage::Miss => "Miss",
-    }
 }
 
 impl Writer {
@@ -60,9 +46,44 @@ impl Writer {
         self.special(&module.special_types);
         self.open();
         self.open();
+        for (_, node) in module.diagnostic_filters.iter() {
+            self.filter(node);
+        }
         self.close();
-        self.null();
+        self.leaf(module.diagnostic_filter_leaf);
         self.close();
+    }
+
+    fn filter(&mut self, node: &DiagnosticFilterNode) {
+        self.open();
+        self.word_of(node.inner.new_severity);
+        self.open();
+        match &node.inner.triggering_rule {
+            FilterableTriggeringRule::Standard(rule) => {
+                self.word("Standard");
+                self.word_of(*rule);
+            }
+            FilterableTriggeringRule::Unknown(name) => {
+                self.word("Unknown");
+                self.text(name);
+            }
+            FilterableTriggeringRule::User(tool, name) => {
+                self.word("User");
+                self.text(tool);
+                self.text(name);
+            }
+        }
+        self.close();
+        self.leaf(node.parent);
+        self.close();
+    }
+
+    /// The handle of a filter, or nothing.
+    pub fn leaf(&mut self, leaf: Option<Handle<key::DiagnosticFilterNode>>) {
+        match leaf {
+            Some(handle) => self.handle(handle),
+            None => self.null(),
+        }
     }
 
     fn special(&mut self, special: &SpecialTypes) {
@@ -180,81 +201,6 @@ impl Writer {
         self.handle(variable.ty);
         self.maybe(variable.init);
         self.set_of(variable.memory_decorations);
-        self.close();
-    }
-
-    fn argument(&mut self, argument: &FunctionArgument) {
-        self.open();
-        self.name(argument.name.as_deref());
-        self.handle(argument.ty);
-        self.binding(argument.binding);
-        self.close();
-    }
-
-    fn local(&mut self, local: &LocalVariable) {
-        self.open();
-        self.name(local.name.as_deref());
-        self.handle(local.ty);
-        self.maybe(local.init);
-        self.close();
-    }
-
-    fn function(&mut self, function: &Function) {
-        self.open();
-        self.name(function.name.as_deref());
-        self.open();
-        for argument in &function.arguments {
-            self.argument(argument);
-        }
-        self.close();
-        match function.result {
-            Some(given) => {
-                self.open();
-                self.handle(given.ty);
-                self.binding(given.binding);
-                self.close();
-            }
-            None => self.null(),
-        }
-        self.open();
-        for (_, local) in function.local_variables.iter() {
-            self.local(local);
-        }
-        self.close();
-        self.open();
-        for (_, expression) in function.expressions.iter() {
-            self.expression(expression);
-        }
-        self.close();
-        self.body(&function.body);
-        self.null();
-        self.close();
-    }
-
-    fn entry(&mut self, entry: &EntryPoint) {
-        self.open();
-        self.word(stage_word(entry.stage));
-        self.text(entry.name.as_str());
-        match entry.early_depth_test {
-            Some(EarlyDepthTest::Force) => self.alone("Force"),
-            Some(EarlyDepthTest::Allow { conservative }) => {
-                self.begin("Allow");
-                self.word_of(conservative);
-                self.close();
-            }
-            None => self.null(),
-        }
-        self.open();
-        for size in entry.workgroup_size {
-            self.number(u64::from(size));
-        }
-        self.close();
-        self.null();
-        match entry.task_payload {
-            Some(handle) => self.handle(handle),
-            None => self.null(),
-        }
-        self.function(&entry.function);
         self.close();
     }
 }

@@ -1,9 +1,12 @@
-//! A document as JSON. Filters of diagnostics, mesh stages, rays and cooperative matrices are not written whole.
+//! A document as JSON, each kind of each part of it.
 #![tactic(auto)]
 
 mod documents;
+mod entries;
 mod expressions;
+mod images;
 mod statements;
+mod subgroups;
 mod types;
 mod writer;
 

@@ -1,8 +1,16 @@
 // How statements are written.
 
 use crate::writer::Writer;
-use ir_blocks::{AtomicFunction, Block, GatherMode, Statement, SwitchCase};
+use ir_arena::handle::Handle;
+use ir_arena::range::Range;
+use ir_blocks::{
+    AtomicFunction, Block, RayPipelineFunction, RayQueryFunction, Statement, SwitchCase,
+};
+use ir_flags::Barrier;
 use ir_kinds::SwitchValue;
+use ir_types::{CooperativeData, key};
+
+type E = Handle<key::Expression>;
 
 impl Writer {
     /// A body.
@@ -10,16 +18,18 @@ impl Writer {
     pub fn body(&mut self, block: &Block) {
         self.open();
         for statement in block.as_slice() {
+            self.open();
             self.statement(statement);
+            self.close();
         }
         self.close();
     }
 
-    // A statement.
+    // What a statement has between its brackets.
     #[cycle(blocks)]
     fn statement(&mut self, statement: &Statement) {
-        self.open();
         match statement {
+            Statement::Emit(range) => self.emit(range),
             Statement::Block(block) => {
                 self.word("Block");
                 self.body(block);
@@ -29,19 +39,13 @@ impl Writer {
                 accept,
                 reject,
             } => {
-                self.word("If");
-                self.handle(*condition);
+                self.one("If", *condition);
                 self.body(accept);
                 self.body(reject);
             }
             Statement::Switch { selector, cases } => {
-                self.word("Switch");
-                self.handle(*selector);
-                self.open();
-                for case in cases {
-                    self.case(case);
-                }
-                self.close();
+                self.one("Switch", *selector);
+                self.cases(cases);
             }
             Statement::Loop {
                 body,
@@ -53,15 +57,48 @@ impl Writer {
                 self.body(continuing);
                 self.maybe(*break_if);
             }
-            step => self.step(step),
+            Statement::Break => self.word("Break"),
+            Statement::Continue => self.word("Continue"),
+            Statement::Return { value } => self.returned(*value),
+            Statement::Kill => self.word("Kill"),
+            Statement::ControlBarrier(barrier) => self.barrier("ControlBarrier", *barrier),
+            Statement::MemoryBarrier(barrier) => self.barrier("MemoryBarrier", *barrier),
+            Statement::Store { pointer, value } => self.two("Store", *pointer, *value),
+            Statement::ImageStore { .. } => self.image_store(statement),
+            Statement::Atomic { .. } => self.atomic(statement),
+            Statement::ImageAtomic { .. } => self.image_atomic(statement),
+            Statement::WorkGroupUniformLoad { pointer, result } => {
+                self.two("WorkGroupUniformLoad", *pointer, *result);
+            }
+            Statement::Call { .. } => self.call(statement),
+            Statement::RayQuery { query, fun } => self.ray_query(*query, *fun),
+            Statement::SubgroupBallot { result, predicate } => self.ballot(*result, *predicate),
+            Statement::SubgroupCollectiveOperation { .. } => self.collective(statement),
+            Statement::SubgroupGather { .. } => self.gather(statement),
+            Statement::CooperativeStore { target, block } => {
+                self.cooperative_store(*target, *block);
+            }
+            Statement::RayPipelineFunction(fun) => self.ray_pipeline(*fun),
+        }
+    }
+}
+
+impl Writer {
+    #[cycle(blocks)]
+    fn cases(&mut self, cases: &[SwitchCase]) {
+        self.open();
+        for case in cases {
+            self.open();
+            self.value(case.value);
+            self.body(&case.body);
+            self.truth(case.fall_through);
+            self.close();
         }
         self.close();
     }
 
-    #[cycle(blocks)]
-    fn case(&mut self, case: &SwitchCase) {
-        self.open();
-        match case.value {
+    fn value(&mut self, value: SwitchValue) {
+        match value {
             SwitchValue::I32(value) => {
                 self.begin("I32");
                 self.signed(i64::from(value));
@@ -73,181 +110,57 @@ impl Writer {
             SwitchValue::Default => self.begin("Default"),
         }
         self.close();
-        self.body(&case.body);
-        self.truth(case.fall_through);
-        self.close();
     }
 
-    // A statement without blocks.
-    fn step(&mut self, statement: &Statement) {
-        match statement {
-            Statement::Emit(range) => {
-                let places = range.index_range();
-                self.word("Emit");
-                self.number(u64::from(places.start));
-                self.number(u64::from(places.end));
-            }
-            Statement::Break => self.word("Break"),
-            Statement::Continue => self.word("Continue"),
-            Statement::Kill => self.word("Kill"),
-            Statement::Return { value } => {
-                self.word("Return");
-                self.maybe(*value);
-            }
-            Statement::ControlBarrier(barrier) => {
-                self.word("ControlBarrier");
-                self.set_of(*barrier);
-            }
-            Statement::MemoryBarrier(barrier) => {
-                self.word("MemoryBarrier");
-                self.set_of(*barrier);
-            }
-            _ => self.memory(statement),
-        }
+    fn emit(&mut self, range: &Range<key::Expression>) {
+        let places = range.index_range();
+        self.word("Emit");
+        self.number(u64::from(places.start));
+        self.number(u64::from(places.end));
     }
 
-    // A store or a call.
-    fn memory(&mut self, statement: &Statement) {
-        match statement {
-            Statement::Store { pointer, value } => {
-                self.word("Store");
-                self.handle(*pointer);
-                self.handle(*value);
-            }
-            Statement::Call {
-                function,
-                arguments,
-                result,
-            } => {
-                self.word("Call");
-                self.handle(*function);
-                self.handles(arguments);
-                self.maybe(*result);
-            }
-            _ => self.operation(statement),
-        }
+    fn returned(&mut self, value: Option<E>) {
+        self.word("Return");
+        self.maybe(value);
     }
 
-    // A store to an image, or an atomic operation.
-    fn operation(&mut self, statement: &Statement) {
-        match *statement {
-            Statement::ImageStore {
-                image,
-                coordinate,
-                array_index,
-                value,
-            } => {
-                self.word("ImageStore");
-                self.handle(image);
-                self.handle(coordinate);
-                self.maybe(array_index);
-                self.handle(value);
-            }
-            Statement::Atomic {
-                pointer,
-                fun,
-                value,
-                result,
-            } => {
-                self.word("Atomic");
-                self.handle(pointer);
-                self.atomic(fun);
-                self.handle(value);
-                self.maybe(result);
-            }
-            _ => self.workgroup(statement),
-        }
+    fn barrier(&mut self, word: &str, barrier: Barrier) {
+        self.word(word);
+        self.set_of(barrier);
     }
 
-    // An atomic operation on an image, or a load that is the same in a workgroup.
-    fn workgroup(&mut self, statement: &Statement) {
-        match *statement {
-            Statement::ImageAtomic {
-                image,
-                coordinate,
-                array_index,
-                fun,
-                value,
-            } => {
-                self.word("ImageAtomic");
-                self.handle(image);
-                self.handle(coordinate);
-                self.maybe(array_index);
-                self.atomic(fun);
-                self.handle(value);
-            }
-            Statement::WorkGroupUniformLoad { pointer, result } => {
-                self.word("WorkGroupUniformLoad");
-                self.handle(pointer);
-                self.handle(result);
-            }
-            _ => self.subgroup(statement),
-        }
+    fn call(&mut self, statement: &Statement) {
+        let Statement::Call {
+            function,
+            arguments,
+            result,
+        } = statement
+        else {
+            return;
+        };
+        self.one("Call", *function);
+        self.handles(arguments);
+        self.maybe(*result);
     }
 
-    // An operation of a subgroup.
-    fn subgroup(&mut self, statement: &Statement) {
-        match *statement {
-            Statement::SubgroupBallot { result, predicate } => {
-                self.word("SubgroupBallot");
-                self.handle(result);
-                self.maybe(predicate);
-            }
-            Statement::SubgroupCollectiveOperation {
-                op,
-                collective_op,
-                argument,
-                result,
-            } => {
-                self.word("SubgroupCollectiveOperation");
-                self.word_of(op);
-                self.word_of(collective_op);
-                self.handle(argument);
-                self.handle(result);
-            }
-            _ => self.gathered(statement),
-        }
+    fn atomic(&mut self, statement: &Statement) {
+        let Statement::Atomic {
+            pointer,
+            fun,
+            value,
+            result,
+        } = *statement
+        else {
+            return;
+        };
+        self.one("Atomic", pointer);
+        self.atomic_function(fun);
+        self.handle(value);
+        self.maybe(result);
     }
 
-    // A value of another invocation of a subgroup.
-    fn gathered(&mut self, statement: &Statement) {
-        match *statement {
-            Statement::SubgroupGather {
-                mode,
-                argument,
-                result,
-            } => {
-                self.word("SubgroupGather");
-                self.gather(mode);
-                self.handle(argument);
-                self.handle(result);
-            }
-            Statement::Emit(_)
-            | Statement::Block(_)
-            | Statement::If { .. }
-            | Statement::Switch { .. }
-            | Statement::Loop { .. }
-            | Statement::Break
-            | Statement::Continue
-            | Statement::Return { .. }
-            | Statement::Kill
-            | Statement::ControlBarrier(_)
-            | Statement::MemoryBarrier(_)
-            | Statement::Store { .. }
-            | Statement::Call { .. }
-            | Statement::ImageStore { .. }
-            | Statement::Atomic { .. }
-            | Statement::ImageAtomic { .. }
-            | Statement::WorkGroupUniformLoad { .. }
-            | Statement::SubgroupBallot { .. }
-            | Statement::SubgroupCollectiveOperation { .. }
-            | Statement::RayQuery { .. }
-            | Statement::CooperativeStore { .. }
-            | Statement::RayPipelineFunction(_) => {}
-        }
-    }
-
-    fn atomic(&mut self, fun: AtomicFunction) {
+    /// What is done to a value in memory.
+    pub fn atomic_function(&mut self, fun: AtomicFunction) {
         let word = match fun {
             AtomicFunction::Add => "Add",
             AtomicFunction::Subtract => "Subtract",
@@ -265,23 +178,46 @@ impl Writer {
         self.alone(word);
     }
 
-    fn gather(&mut self, mode: GatherMode) {
-        let (word, index) = match mode {
-            GatherMode::BroadcastFirst => return self.alone("BroadcastFirst"),
-            GatherMode::QuadSwap(direction) => {
-                self.begin("QuadSwap");
-                self.word_of(direction);
-                return self.close();
+    fn ray_query(&mut self, query: E, fun: RayQueryFunction) {
+        self.one("RayQuery", query);
+        self.open();
+        match fun {
+            RayQueryFunction::Initialize {
+                acceleration_structure,
+                descriptor,
+            } => self.two("Initialize", acceleration_structure, descriptor),
+            RayQueryFunction::Proceed { result } => self.one("Proceed", result),
+            RayQueryFunction::GenerateIntersection { hit_t } => {
+                self.one("GenerateIntersection", hit_t);
             }
-            GatherMode::Broadcast(index) => ("Broadcast", index),
-            GatherMode::Shuffle(index) => ("Shuffle", index),
-            GatherMode::ShuffleDown(index) => ("ShuffleDown", index),
-            GatherMode::ShuffleUp(index) => ("ShuffleUp", index),
-            GatherMode::ShuffleXor(index) => ("ShuffleXor", index),
-            GatherMode::QuadBroadcast(index) => ("QuadBroadcast", index),
-        };
-        self.begin(word);
-        self.handle(index);
+            RayQueryFunction::ConfirmIntersection => self.word("ConfirmIntersection"),
+            RayQueryFunction::Terminate => self.word("Terminate"),
+        }
+        self.close();
+    }
+
+    fn cooperative_store(&mut self, target: E, block: CooperativeData) {
+        self.one("CooperativeStore", target);
+        self.cooperative_data(block);
+    }
+
+    /// The memory of a cooperative matrix.
+    pub fn cooperative_data(&mut self, block: CooperativeData) {
+        self.handle(block.pointer);
+        self.handle(block.stride);
+        self.truth(block.row_major);
+    }
+
+    fn ray_pipeline(&mut self, fun: RayPipelineFunction) {
+        self.word("RayPipelineFunction");
+        let RayPipelineFunction::TraceRay {
+            acceleration_structure,
+            descriptor,
+            payload,
+        } = fun;
+        self.open();
+        self.two("TraceRay", acceleration_structure, descriptor);
+        self.handle(payload);
         self.close();
     }
 }

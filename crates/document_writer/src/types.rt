@@ -1,11 +1,12 @@
 // How types and bindings are written.
 
 use crate::writer::Writer;
-use ir_kinds::{AddressSpace, Binding, BuiltIn, ImageClass, VectorSize};
+use ir_kinds::{AddressSpace, Binding, BuiltIn, ImageClass, Scalar, VectorSize};
 use ir_types::{ArraySize, IrType, StructMember, TypeInner};
 
 impl Writer {
-    fn vector_size(&mut self, size: VectorSize) {
+    /// How many components a vector has.
+    pub fn size(&mut self, size: VectorSize) {
         self.number(u64::from(u32::from(size)));
     }
 
@@ -26,139 +27,123 @@ impl Writer {
 
     // What a type is made of.
     fn inner(&mut self, inner: &TypeInner) {
-        match *inner {
-            TypeInner::Scalar(scalar) => {
-                self.word("Scalar");
-                self.word_of(scalar);
-            }
-            TypeInner::Vector { size, scalar } => {
-                self.word("Vector");
-                self.vector_size(size);
-                self.word_of(scalar);
-            }
-            TypeInner::Matrix {
-                columns,
-                rows,
-                scalar,
-            } => {
-                self.word("Matrix");
-                self.vector_size(columns);
-                self.vector_size(rows);
-                self.word_of(scalar);
-            }
-            TypeInner::Atomic(scalar) => {
-                self.word("Atomic");
-                self.word_of(scalar);
-            }
-            _ => self.pointed(inner),
-        }
-    }
-
-    // The same of pointers.
-    fn pointed(&mut self, inner: &TypeInner) {
-        match *inner {
-            TypeInner::Pointer { base, space } => {
-                self.word("Pointer");
-                self.handle(base);
-                self.space(space);
-            }
-            TypeInner::ValuePointer {
-                size,
-                scalar,
-                space,
-            } => {
-                self.word("ValuePointer");
-                self.optional_size(size);
-                self.word_of(scalar);
-                self.space(space);
-            }
-            _ => self.more(inner),
-        }
-    }
-
-    // The same of arrays and structs.
-    fn more(&mut self, inner: &TypeInner) {
         match inner {
+            TypeInner::Scalar(scalar) => self.scalar("Scalar", *scalar),
+            TypeInner::Vector { size, scalar } => self.vector(*size, *scalar),
+            TypeInner::Matrix { .. } => self.matrix(inner),
+            TypeInner::Atomic(scalar) => self.scalar("Atomic", *scalar),
+            TypeInner::Pointer { base, space } => {
+                self.one("Pointer", *base);
+                self.space(*space);
+            }
+            TypeInner::ValuePointer { .. } => self.value_pointer(inner),
             TypeInner::Array { base, size, stride } => {
-                self.word("Array");
-                self.handle(*base);
+                self.one("Array", *base);
                 self.array_size(*size);
                 self.number(u64::from(*stride));
             }
-            TypeInner::Struct { members, span } => {
-                self.word("Struct");
-                self.open();
-                for member in members {
-                    self.member(member);
-                }
-                self.close();
-                self.number(u64::from(*span));
+            TypeInner::Struct { members, span } => self.members(members, *span),
+            TypeInner::Image { .. } => self.image(inner),
+            TypeInner::Sampler { comparison } => self.marked("Sampler", *comparison),
+            TypeInner::AccelerationStructure { vertex_return } => {
+                self.marked("AccelerationStructure", *vertex_return);
             }
-            _ => self.resource(inner),
-        }
-    }
-
-    // The same of resources.
-    fn resource(&mut self, inner: &TypeInner) {
-        match inner {
-            TypeInner::Image {
-                dim,
-                arrayed,
-                class,
-            } => {
-                self.word("Image");
-                self.word_of(*dim);
-                self.truth(*arrayed);
-                self.class(*class);
-            }
-            TypeInner::Sampler { comparison } => {
-                self.word("Sampler");
-                self.truth(*comparison);
-            }
+            TypeInner::RayQuery { vertex_return } => self.marked("RayQuery", *vertex_return),
             TypeInner::BindingArray { base, size } => {
-                self.word("BindingArray");
-                self.handle(*base);
+                self.one("BindingArray", *base);
                 self.array_size(*size);
             }
-            _ => self.rare_type(inner),
+            TypeInner::CooperativeMatrix { .. } => self.cooperative_matrix(inner),
         }
     }
 
-    // The same of rays and of cooperative matrices.
-    fn rare_type(&mut self, inner: &TypeInner) {
-        match inner {
-            TypeInner::AccelerationStructure { vertex_return } => {
-                self.word("AccelerationStructure");
-                self.truth(*vertex_return);
-            }
-            TypeInner::RayQuery { vertex_return } => {
-                self.word("RayQuery");
-                self.truth(*vertex_return);
-            }
-            TypeInner::CooperativeMatrix {
-                columns,
-                rows,
-                scalar,
-                role,
-            } => {
-                self.word("CooperativeMatrix");
-                self.number(*columns as u64);
-                self.number(*rows as u64);
-                self.word_of(*scalar);
-                self.word_of(*role);
-            }
-            TypeInner::Scalar(_)
-            | TypeInner::Vector { .. }
-            | TypeInner::Matrix { .. }
-            | TypeInner::Atomic(_)
-            | TypeInner::Pointer { .. }
-            | TypeInner::ValuePointer { .. }
-            | TypeInner::Array { .. }
-            | TypeInner::Struct { .. }
-            | TypeInner::Image { .. }
-            | TypeInner::Sampler { .. }
-            | TypeInner::BindingArray { .. } => {}
+    fn scalar(&mut self, word: &str, scalar: Scalar) {
+        self.word(word);
+        self.word_of(scalar);
+    }
+
+    fn vector(&mut self, size: VectorSize, scalar: Scalar) {
+        self.word("Vector");
+        self.size(size);
+        self.word_of(scalar);
+    }
+
+    fn matrix(&mut self, inner: &TypeInner) {
+        let TypeInner::Matrix {
+            columns,
+            rows,
+            scalar,
+        } = *inner
+        else {
+            return;
+        };
+        self.word("Matrix");
+        self.size(columns);
+        self.size(rows);
+        self.word_of(scalar);
+    }
+
+    fn value_pointer(&mut self, inner: &TypeInner) {
+        let TypeInner::ValuePointer {
+            size,
+            scalar,
+            space,
+        } = *inner
+        else {
+            return;
+        };
+        self.word("ValuePointer");
+        self.optional_size(size);
+        self.word_of(scalar);
+        self.space(space);
+    }
+
+    fn members(&mut self, members: &[StructMember], span: u32) {
+        self.word("Struct");
+        self.open();
+        for member in members {
+            self.member(member);
         }
+        self.close();
+        self.number(u64::from(span));
+    }
+
+    fn image(&mut self, inner: &TypeInner) {
+        let TypeInner::Image {
+            dim,
+            arrayed,
+            class,
+        } = *inner
+        else {
+            return;
+        };
+        self.word("Image");
+        self.word_of(dim);
+        self.truth(arrayed);
+        self.class(class);
+    }
+
+    // A word and a truth value.
+    fn marked(&mut self, word: &str, value: bool) {
+        self.word(word);
+        self.truth(value);
+    }
+
+    fn cooperative_matrix(&mut self, inner: &TypeInner) {
+        let TypeInner::CooperativeMatrix {
+            columns,
+            rows,
+            scalar,
+            role,
+        } = *inner
+        else {
+            return;
+        };
+        self.word("CooperativeMatrix");
+        self.number(columns as u64);
+        self.number(rows as u64);
+        self.word_of(scalar);
+        self.word_of(role);
     }
 
     fn member(&mut self, member: &StructMember) {
