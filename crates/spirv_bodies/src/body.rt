@@ -1,23 +1,24 @@
 // A function's expressions, locals and statements, as they come.
 
+use crate::writing::Writing;
 use ir_arena::arena::Arena;
 use ir_arena::range::Range;
 use ir_arena::span::Span;
-use ir_items::{Block, Expression, LocalVariable, Statement, key};
-use spirv_expressions::Value;
-use spirv_types::TypeHandle;
+use ir_items::{
+    Block, Expression, Function, FunctionArgument, FunctionResult, LocalVariable, Statement, key,
+};
+use spirv_expressions::{Value, no_value};
 use spirv_words::{Feature, SpirvError};
 use std::alloc::Global;
 use std::mem;
 
-/// A function's expressions, locals and statements, as they come.
+/// A function's expressions, locals and statements, as they come, and the functions before it.
 #[derive(Drop)]
 pub struct Body {
     alloc: Global,
-    /// The expressions.
-    pub expressions: Arena<Expression, key::Expression>,
-    /// The locals.
-    pub locals: Arena<LocalVariable, key::LocalVariable>,
+    functions: Arena<Function, key::Function>,
+    expressions: Arena<Expression, key::Expression>,
+    locals: Arena<LocalVariable, key::LocalVariable>,
     // the blocks that are open, the innermost last
     open: Vec<Block>,
     // the first expression that no statement emits yet, and the spans from it on
@@ -25,6 +26,8 @@ pub struct Body {
     span: Span,
     // how many expressions there may still be
     left: u64,
+    // what was wrong first
+    failure: Option<SpirvError>,
 }
 
 impl Body {
@@ -32,38 +35,104 @@ impl Body {
     pub fn new(alloc: Global, left: u64) -> Body {
         Body {
             alloc,
+            functions: Arena::new(alloc),
             expressions: Arena::new(alloc),
             locals: Arena::new(alloc),
             open: Vec::new(alloc),
             start: None,
             span: Span::UNDEFINED,
             left,
+            failure: None,
         }
     }
 
-    /// How many expressions there may still be.
-    pub fn left(&self) -> u64 {
-        self.left
-    }
-
     // An expression.
-    fn append(&mut self, expression: Expression, span: Span) -> Result<Value, SpirvError> {
-        let Some(left) = self.left.checked_sub(1) else {
+    fn append(&mut self, expression: Expression, span: Span) -> Value {
+        let left = self.left.checked_sub(1);
+        if left.is_none() {
             let word = span.to_range().map_or(0, |range| range.start);
             let word = u32::try_from(word).unwrap_or(u32::MAX);
-            return Err(SpirvError::untranslated(Feature::ExpressionLimit, word));
-        };
-        self.left = left;
-        let handle = self.expressions.append(expression, span)?;
-        Ok(handle)
+            self.fail(SpirvError::untranslated(Feature::ExpressionLimit, word));
+        }
+        self.left = left.unwrap_or(0);
+        if self.failure.is_some() {
+            return no_value();
+        }
+        match self.expressions.append(expression, span) {
+            Ok(handle) => handle,
+            Err(_) => {
+                self.fail(SpirvError::Memory);
+                no_value()
+            }
+        }
     }
 
     fn count(&self) -> u32 {
         u32::try_from(self.expressions.len()).unwrap_or(u32::MAX)
     }
 
-    /// An expression that is computed here.
-    pub fn emit(&mut self, expression: Expression, span: Span) -> Result<Value, SpirvError> {
+    // A statement in the innermost block.
+    fn push(&mut self, statement: Statement, span: Span) {
+        if self.failure.is_some() {
+            return;
+        }
+        if let Some(block) = self.open.last_mut() {
+            if block.push(statement, span).is_err() {
+                self.fail(SpirvError::Memory);
+            }
+        }
+    }
+
+    // What was written, as a function.
+    fn take(
+        &mut self,
+        name: Option<String>,
+        arguments: Vec<FunctionArgument>,
+        gives: Option<FunctionResult>,
+        body: Block,
+    ) -> Function {
+        let expressions = mem::replace(&mut self.expressions, Arena::new(self.alloc));
+        let local_variables = mem::replace(&mut self.locals, Arena::new(self.alloc));
+        self.start = None;
+        Function {
+            name,
+            arguments,
+            result: gives,
+            local_variables,
+            expressions,
+            body,
+            diagnostic_filter_leaf: None,
+        }
+    }
+
+    /// The one function that was written.
+    pub fn into_function(
+        self,
+        name: Option<String>,
+        arguments: Vec<FunctionArgument>,
+        gives: Option<FunctionResult>,
+    ) -> Result<Function, SpirvError> {
+        let mut body = self;
+        let block = body.close();
+        match body.failure {
+            Some(error) => Err(error),
+            None => Ok(body.take(name, arguments, gives, block)),
+        }
+    }
+}
+
+impl Writing for Body {
+    fn fail(&mut self, error: SpirvError) {
+        if self.failure.is_none() {
+            self.failure = Some(error);
+        }
+    }
+
+    fn failure(&self) -> Option<SpirvError> {
+        self.failure
+    }
+
+    fn emit(&mut self, expression: Expression, span: Span) -> Value {
         match self.start {
             None => {
                 self.start = Some(self.count());
@@ -74,77 +143,68 @@ impl Body {
         self.append(expression, span)
     }
 
-    /// An expression that is always there, or that a statement gives.
-    pub fn place(&mut self, expression: Expression, span: Span) -> Result<Value, SpirvError> {
-        self.flush()?;
+    fn place(&mut self, expression: Expression, span: Span) -> Value {
+        self.flush();
         self.append(expression, span)
     }
 
-    /// Emits what no statement emits yet.
-    pub fn flush(&mut self) -> Result<(), SpirvError> {
+    fn flush(&mut self) {
         let Some(start) = self.start.take() else {
-            return Ok(());
+            return;
         };
         let end = self.count();
         let span = self.span;
         if start < end {
-            self.push(Statement::Emit(Range::new(start, end)), span)?;
+            self.push(Statement::Emit(Range::new(start, end)), span);
         }
-        Ok(())
     }
 
-    // A statement in the innermost block.
-    fn push(&mut self, statement: Statement, span: Span) -> Result<(), SpirvError> {
-        if let Some(block) = self.open.last_mut() {
-            block.push(statement, span)?;
+    fn statement(&mut self, statement: Statement, span: Span) {
+        self.flush();
+        self.push(statement, span);
+    }
+
+    fn open(&mut self) {
+        self.flush();
+        if self.open.push(Block::new(self.alloc)).is_err() {
+            self.fail(SpirvError::Memory);
         }
-        Ok(())
     }
 
-    /// A statement, after what no statement emits yet.
-    pub fn statement(&mut self, statement: Statement, span: Span) -> Result<(), SpirvError> {
-        self.flush()?;
-        self.push(statement, span)
-    }
-
-    /// Opens a block.
-    pub fn open(&mut self) -> Result<(), SpirvError> {
-        self.flush()?;
-        self.open.push(Block::new(self.alloc))?;
-        Ok(())
-    }
-
-    /// Closes the innermost block.
-    pub fn close(&mut self) -> Result<Block, SpirvError> {
-        self.flush()?;
+    fn close(&mut self) -> Block {
+        self.flush();
         match self.open.pop() {
-            Some(block) => Ok(block),
-            None => Ok(Block::new(self.alloc)),
+            Some(block) => block,
+            None => Block::new(self.alloc),
         }
     }
 
-    /// A local of this type; answers the pointer to it.
-    pub fn local(
+    fn local(&mut self, local: LocalVariable, span: Span) -> Value {
+        match self.locals.append(local, span) {
+            Ok(handle) => self.place(Expression::LocalVariable(handle), span),
+            Err(_) => {
+                self.fail(SpirvError::Memory);
+                no_value()
+            }
+        }
+    }
+
+    fn end_function(
         &mut self,
         name: Option<String>,
-        ty: TypeHandle,
-        init: Option<Value>,
+        arguments: Vec<FunctionArgument>,
+        gives: Option<FunctionResult>,
+        body: Block,
         span: Span,
-    ) -> Result<Value, SpirvError> {
-        let handle = self.locals.append(LocalVariable { name, ty, init }, span)?;
-        self.place(Expression::LocalVariable(handle), span)
+    ) {
+        let function = self.take(name, arguments, gives, body);
+        if self.functions.append(function, span).is_err() {
+            self.fail(SpirvError::Memory);
+        }
     }
 
-    /// Its expressions and locals; it is without any afterwards.
-    pub fn take_arenas(
-        &mut self,
-    ) -> (
-        Arena<Expression, key::Expression>,
-        Arena<LocalVariable, key::LocalVariable>,
-    ) {
-        let expressions = mem::replace(&mut self.expressions, Arena::new(self.alloc));
-        let locals = mem::replace(&mut self.locals, Arena::new(self.alloc));
-        self.start = None;
-        (expressions, locals)
+    fn finish(self) -> Arena<Function, key::Function> {
+        let mut body = self;
+        mem::replace(&mut body.functions, Arena::new(body.alloc))
     }
 }

@@ -95,10 +95,10 @@ impl ConstantTable {
         }
     }
 
-    /// The constants that one is put together of.
-    pub fn parts(&self, first: u32, count: u32) -> &[u32] {
-        let end = first.saturating_add(count);
-        self.parts.get(first as usize..end as usize).unwrap_or(&[])
+    /// The constant at a place among those that one is put together of, which begin at the first; 0 where there is none.
+    pub fn part(&self, first: u32, place: u32) -> u32 {
+        let at = first.saturating_add(place);
+        self.parts.get(at as usize).copied().unwrap_or(0)
     }
 
     /// The length of an array that a constant says.
@@ -289,8 +289,8 @@ fn pending(made: &Made) -> Option<ArraySize> {
     }
 }
 
-// The expression that names a constant or an override.
-fn named(made: &Made) -> Option<Expression> {
+/// The expression that names a constant or an override.
+pub fn named(made: &Made) -> Option<Expression> {
     match made {
         Made::Constant(handle) => Some(Expression::Constant(*handle)),
         Made::Override(handle) => Some(Expression::Override(*handle)),

@@ -7,7 +7,7 @@ mod spec_ops;
 mod variables;
 mod varyings;
 
-pub use constants::{ConstantTable, ExpressionHandle, Known, Made, literal};
+pub use constants::{ConstantTable, ExpressionHandle, Known, Made, literal, named};
 pub use declarations::{Declarations, declare};
 pub use variables::{GlobalHandle, Variable, VariableTable, Varying, sampler_name};
 pub use varyings::scalar_kind;

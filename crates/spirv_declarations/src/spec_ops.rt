@@ -1,6 +1,7 @@
 // Specialization constants that an operation computes (`OpSpecConstantOp`).
 
 use crate::constants::{ConstantTable, ExpressionHandle, Made, literal};
+use ir_arena::span::Span;
 use ir_kinds::{BinaryOperator, Scalar, ScalarKind, UnaryOperator};
 use ir_types::Expression;
 use spirv_numbers::ops;
@@ -67,6 +68,44 @@ impl ConstantTable {
         self.put_override(instruction, Some(name), None, ty, init, value)
     }
 
+    // The remainder with the sign of the divisor: x % y, and y more where that has another sign and is not 0.
+    fn signed_modulo(
+        &mut self,
+        types: &TypeTable,
+        operation: &Operation,
+    ) -> Result<Expression, SpirvError> {
+        let span = span_of(operation.instruction);
+        let Some(literal) = literal(operation.scalar, 0) else {
+            return Err(operation.unsupported());
+        };
+        let kind = ScalarKind::Sint;
+        let zero = self.add(Expression::Literal(literal), span)?;
+        let remainder = self.binary(types, operation, BinaryOperator::Modulo, kind, kind)?;
+        let left = self.add(remainder, span)?;
+        let right = self.signed(types, operation, 1, kind)?;
+        let differs = self.pair(span, BinaryOperator::ExclusiveOr, left, right)?;
+        let is_other = self.pair(span, BinaryOperator::Less, differs, zero)?;
+        let is_some = self.pair(span, BinaryOperator::NotEqual, left, zero)?;
+        let condition = self.pair(span, BinaryOperator::LogicalAnd, is_other, is_some)?;
+        let accept = self.pair(span, BinaryOperator::Add, left, right)?;
+        Ok(Expression::Select {
+            condition,
+            accept,
+            reject: left,
+        })
+    }
+
+    // An expression of the module of two others.
+    fn pair(
+        &mut self,
+        span: Span,
+        op: BinaryOperator,
+        left: ExpressionHandle,
+        right: ExpressionHandle,
+    ) -> Result<ExpressionHandle, SpirvError> {
+        self.add(Expression::Binary { op, left, right }, span)
+    }
+
     // A part of a composite that is kept as its parts.
     fn extract(&mut self, instruction: &Instruction, operands: &[u32]) -> bool {
         let [composite, index] = operands else {
@@ -78,13 +117,12 @@ impl ConstantTable {
         let Made::Parts { first, count } = known.made else {
             return false;
         };
-        match self.parts(first, count).get(*index as usize).copied() {
-            Some(part) => {
-                self.set_same(instruction.id, part);
-                true
-            }
-            None => false,
+        if *index >= count {
+            return false;
         }
+        let part = self.part(first, *index);
+        self.set_same(instruction.id, part);
+        true
     }
 
     // The scalar of an operand.
@@ -141,6 +179,9 @@ impl ConstantTable {
         operation: &Operation,
     ) -> Result<Expression, SpirvError> {
         let opcode = operation.opcode;
+        if opcode == ops::S_MOD {
+            return self.signed_modulo(types, operation);
+        }
         if let Some(op) = find_operator(&INTEGER, opcode) {
             let kind = operation.scalar.kind;
             return self.binary(types, operation, op, kind, kind);
@@ -206,9 +247,18 @@ impl ConstantTable {
 
     // What it is with the defaults, where it is computed of whole numbers here.
     fn compute(&self, operation: &Operation) -> Option<i64> {
-        let op = find_operator(&INTEGER, operation.opcode)?;
         let left = self.value(*operation.operands.first()?)?;
         let right = self.value(*operation.operands.get(1)?)?;
+        if operation.opcode == ops::S_MOD {
+            let remainder = left.checked_rem(right)?;
+            let is_other = remainder != 0 && (remainder < 0) != (right < 0);
+            return if is_other {
+                remainder.checked_add(right)
+            } else {
+                Some(remainder)
+            };
+        }
+        let op = find_operator(&INTEGER, operation.opcode)?;
         match op {
             BinaryOperator::Add => left.checked_add(right),
             BinaryOperator::Subtract => left.checked_sub(right),

@@ -1,9 +1,9 @@
 // What expressions are made with.
 
 use ir_arena::handle::Handle;
-use ir_kinds::{ImageClass, Literal, Scalar, ScalarKind, VectorSize};
+use ir_kinds::{BinaryOperator, ImageClass, Literal, Scalar, ScalarKind, VectorSize};
 use ir_types::{Expression, key};
-use spirv_types::{ImageShape, MemberShape, Shape, TypeHandle};
+use spirv_types::{ImageShape, MatrixShape, MemberShape, Shape, Stored, TypeHandle};
 use spirv_words::{Feature, Instruction, Malformed, SpirvError};
 use std::alloc::Global;
 
@@ -21,10 +21,17 @@ pub struct ImageValue {
     pub class: ImageClass,
 }
 
-/// A function that is being built.
+/// A function that is being built. What is wrong first is kept: after that nothing more is made, and what its calls answer
+/// is of no use.
 pub trait Builder {
     /// The allocator.
     fn alloc(&self) -> Global;
+
+    /// This is wrong. It is kept where nothing was before.
+    fn fail(&mut self, error: SpirvError);
+
+    /// Whether something was wrong.
+    fn has_failed(&self) -> bool;
 
     /// What a type is.
     fn shape(&self, ty: u32) -> Shape;
@@ -36,14 +43,13 @@ pub trait Builder {
     fn type_of(&self, id: u32) -> u32;
 
     /// The type that is built for one.
-    fn built(&self, ty: u32, operation: &Operation) -> Result<TypeHandle, SpirvError>;
+    fn built(&mut self, ty: u32, operation: &Operation) -> TypeHandle;
 
     /// The type of a vector, of a scalar where there is no size.
-    fn vector(
-        &mut self,
-        size: Option<VectorSize>,
-        scalar: Scalar,
-    ) -> Result<TypeHandle, SpirvError>;
+    fn vector(&mut self, size: Option<VectorSize>, scalar: Scalar) -> TypeHandle;
+
+    /// The type that a matrix is stored as.
+    fn stored_matrix(&mut self, matrix: &MatrixShape, stored: Stored) -> TypeHandle;
 
     /// Whether an id is of a constant, and not of a specialization constant.
     fn is_constant(&self, id: u32) -> bool;
@@ -52,19 +58,19 @@ pub trait Builder {
     fn constant(&self, id: u32) -> Option<i64>;
 
     /// The value of an id.
-    fn value(&mut self, id: u32, operation: &Operation) -> Result<Value, SpirvError>;
+    fn value(&mut self, id: u32, operation: &Operation) -> Value;
 
     /// The image of an id.
-    fn image(&mut self, id: u32, operation: &Operation) -> Result<ImageValue, SpirvError>;
+    fn image(&mut self, id: u32, operation: &Operation) -> ImageValue;
 
     /// The sampler of an id.
-    fn sampler(&mut self, id: u32, operation: &Operation) -> Result<Value, SpirvError>;
+    fn sampler(&mut self, id: u32, operation: &Operation) -> Value;
 
     /// An expression that is computed here.
-    fn emit(&mut self, expression: Expression, operation: &Operation) -> Result<Value, SpirvError>;
+    fn emit(&mut self, expression: Expression, operation: &Operation) -> Value;
 
     /// A literal.
-    fn literal(&mut self, literal: Literal, operation: &Operation) -> Result<Value, SpirvError>;
+    fn literal(&mut self, literal: Literal, operation: &Operation) -> Value;
 }
 
 /// An instruction with its operands.
@@ -77,14 +83,6 @@ pub struct Operation<'a> {
 }
 
 impl Operation<'_> {
-    /// The operand at this place.
-    pub fn need(&self, place: usize) -> Result<u32, SpirvError> {
-        match self.operands.get(place) {
-            Some(word) => Ok(*word),
-            None => Err(self.malformed(Malformed::MissingOperand)),
-        }
-    }
-
     /// It is no SPIR-V.
     pub fn malformed(&self, what: Malformed) -> SpirvError {
         self.instruction.malformed(what)
@@ -101,39 +99,133 @@ impl Operation<'_> {
     }
 }
 
-/// The value of the operand at this place.
-pub fn operand<B: Builder>(
-    builder: &mut B,
-    operation: &Operation,
-    place: usize,
-) -> Result<Value, SpirvError> {
-    builder.value(operation.need(place)?, operation)
+/// An expression that is not made.
+pub fn no_value() -> Value {
+    Handle::at(0)
 }
 
-/// The scalar of the result.
-pub fn result_scalar<B: Builder>(builder: &B, operation: &Operation) -> Result<Scalar, SpirvError> {
-    scalar_of(builder, operation.instruction.ty, operation)
+/// The type of what is not made.
+pub fn no_type() -> TypeHandle {
+    Handle::at(0)
 }
 
-/// The scalar of a type of numbers.
-pub fn scalar_of<B: Builder>(
-    builder: &B,
-    ty: u32,
-    operation: &Operation,
-) -> Result<Scalar, SpirvError> {
-    match builder.shape(ty).scalar() {
-        Some(scalar) => Ok(scalar),
-        None => Err(operation.malformed(Malformed::WrongType)),
+/// A value that is not made, since this is wrong.
+pub fn refuse<B: Builder>(builder: &mut B, error: SpirvError) -> Value {
+    builder.fail(error);
+    no_value()
+}
+
+/// The operand at this place; where it is missing, 0.
+pub fn need<B: Builder>(builder: &mut B, operation: &Operation, place: usize) -> u32 {
+    match operation.operands.get(place) {
+        Some(word) => *word,
+        None => {
+            builder.fail(operation.malformed(Malformed::MissingOperand));
+            0
+        }
     }
 }
 
+/// One more in a list.
+pub fn keep<B: Builder, T: Drop>(builder: &mut B, list: &mut Vec<T>, item: T) {
+    if list.push(item).is_err() {
+        builder.fail(SpirvError::Memory);
+    }
+}
+
+/// The value of the operand at this place.
+pub fn operand<B: Builder>(builder: &mut B, operation: &Operation, place: usize) -> Value {
+    let id = need(builder, operation, place);
+    builder.value(id, operation)
+}
+
+/// What the type of the operand at this place is.
+pub fn operand_shape<B: Builder>(builder: &mut B, operation: &Operation, place: usize) -> Shape {
+    let id = need(builder, operation, place);
+    builder.shape(builder.type_of(id))
+}
+
+/// The scalar of a type of numbers.
+pub fn scalar_of<B: Builder>(builder: &mut B, shape: &Shape, operation: &Operation) -> Scalar {
+    match shape.scalar() {
+        Some(scalar) => scalar,
+        None => {
+            builder.fail(operation.malformed(Malformed::WrongType));
+            Scalar::U32
+        }
+    }
+}
+
+/// The scalar of the result.
+pub fn result_scalar<B: Builder>(builder: &mut B, operation: &Operation) -> Scalar {
+    let shape = builder.shape(operation.instruction.ty);
+    scalar_of(builder, &shape, operation)
+}
+
 /// The scalar of the operand at this place.
-pub fn operand_scalar<B: Builder>(
-    builder: &B,
+pub fn operand_scalar<B: Builder>(builder: &mut B, operation: &Operation, place: usize) -> Scalar {
+    let shape = operand_shape(builder, operation, place);
+    scalar_of(builder, &shape, operation)
+}
+
+/// A value that is put together of others as this type.
+pub fn compose<B: Builder>(
+    builder: &mut B,
     operation: &Operation,
-    place: usize,
-) -> Result<Scalar, SpirvError> {
-    scalar_of(builder, builder.type_of(operation.need(place)?), operation)
+    ty: TypeHandle,
+    components: Vec<Value>,
+) -> Value {
+    builder.emit(Expression::Compose { ty, components }, operation)
+}
+
+/// A value of the result's type that is put together of others.
+pub fn compose_result<B: Builder>(
+    builder: &mut B,
+    operation: &Operation,
+    components: Vec<Value>,
+) -> Value {
+    let ty = builder.built(operation.instruction.ty, operation);
+    compose(builder, operation, ty, components)
+}
+
+/// A vector of this size whose components are all one value; the value itself where there is no size.
+pub fn splat<B: Builder>(
+    builder: &mut B,
+    operation: &Operation,
+    size: Option<VectorSize>,
+    value: Value,
+) -> Value {
+    match size {
+        Some(size) => builder.emit(Expression::Splat { size, value }, operation),
+        None => value,
+    }
+}
+
+/// An operator of two values.
+pub fn binary<B: Builder>(
+    builder: &mut B,
+    operation: &Operation,
+    op: BinaryOperator,
+    left: Value,
+    right: Value,
+) -> Value {
+    builder.emit(Expression::Binary { op, left, right }, operation)
+}
+
+/// One value where a condition holds, else another.
+pub fn select<B: Builder>(
+    builder: &mut B,
+    operation: &Operation,
+    condition: Value,
+    accept: Value,
+    reject: Value,
+) -> Value {
+    let select = Expression::Select {
+        condition,
+        accept,
+        reject,
+    };
+    builder.emit(select, operation)
 }
 
 /// A conversion of a value.
@@ -143,7 +235,7 @@ pub fn convert<B: Builder>(
     expr: Value,
     kind: ScalarKind,
     width: Option<u8>,
-) -> Result<Value, SpirvError> {
+) -> Value {
     builder.emit(
         Expression::As {
             expr,
@@ -161,9 +253,9 @@ pub fn as_kind<B: Builder>(
     value: Value,
     from: ScalarKind,
     to: ScalarKind,
-) -> Result<Value, SpirvError> {
+) -> Value {
     if from == to {
-        Ok(value)
+        value
     } else {
         convert(builder, operation, value, to, None)
     }
@@ -175,9 +267,9 @@ pub fn signed<B: Builder>(
     operation: &Operation,
     place: usize,
     kind: ScalarKind,
-) -> Result<Value, SpirvError> {
-    let value = operand(builder, operation, place)?;
-    let scalar = operand_scalar(builder, operation, place)?;
+) -> Value {
+    let value = operand(builder, operation, place);
+    let scalar = operand_scalar(builder, operation, place);
     as_kind(builder, operation, value, scalar.kind, kind)
 }
 
@@ -187,7 +279,7 @@ pub fn part_of<B: Builder>(
     operation: &Operation,
     base: Value,
     index: u32,
-) -> Result<Value, SpirvError> {
+) -> Value {
     builder.emit(Expression::AccessIndex { base, index }, operation)
 }
 

@@ -1,44 +1,39 @@
 // Composites (section 3.52.12).
 
-use crate::builder::{Builder, Operation, Value, operand, part_of};
+use crate::builder::{
+    Builder, Operation, Value, binary, compose, compose_result, keep, need, operand,
+    operand_scalar, operand_shape, part_of, refuse, select,
+};
 use ir_kinds::{
     BinaryOperator, Literal, MathFunction, Scalar, ScalarKind, SwizzleComponent, VectorSize,
 };
 use ir_types::{ArraySize, Expression};
 use spirv_numbers::ops;
-use spirv_types::{Shape, vector_size};
-use spirv_words::{Feature, Malformed, SpirvError};
+use spirv_types::{MatrixShape, Shape, Stored, vector_size};
+use spirv_words::{Feature, Malformed};
 
 // How many parts a value may have that is put together anew.
 const MAX_PARTS: u32 = 1024;
 
 /// What an operation on composites is, if it is one.
-pub fn composite<B: Builder>(
-    builder: &mut B,
-    operation: &Operation,
-) -> Result<Option<Value>, SpirvError> {
+pub fn composite<B: Builder>(builder: &mut B, operation: &Operation) -> Option<Value> {
     let value = match operation.instruction.opcode {
-        ops::COMPOSITE_EXTRACT => extract(builder, operation)?,
-        ops::COMPOSITE_CONSTRUCT => construct(builder, operation)?,
-        ops::COMPOSITE_INSERT => insert(builder, operation)?,
+        ops::COMPOSITE_EXTRACT => extract(builder, operation),
+        ops::COMPOSITE_CONSTRUCT => construct(builder, operation),
+        ops::COMPOSITE_INSERT => insert(builder, operation),
         ops::COPY_LOGICAL => {
-            let value = operand(builder, operation, 0)?;
-            let from = builder.type_of(operation.need(0)?);
-            copy_logical(
-                builder,
-                operation,
-                value,
-                from,
-                operation.instruction.ty,
-                MAX_DEPTH,
-            )?
+            let value = operand(builder, operation, 0);
+            let id = need(builder, operation, 0);
+            let from = builder.type_of(id);
+            let to = operation.instruction.ty;
+            copy_logical(builder, operation, value, from, to, MAX_DEPTH)
         }
-        ops::VECTOR_SHUFFLE => shuffle(builder, operation)?,
-        ops::VECTOR_EXTRACT_DYNAMIC => extract_dynamic(builder, operation)?,
-        ops::VECTOR_INSERT_DYNAMIC => insert_dynamic(builder, operation)?,
-        _ => return Ok(None),
+        ops::VECTOR_SHUFFLE => shuffle(builder, operation),
+        ops::VECTOR_EXTRACT_DYNAMIC => extract_dynamic(builder, operation),
+        ops::VECTOR_INSERT_DYNAMIC => insert_dynamic(builder, operation),
+        _ => return None,
     };
-    Ok(Some(value))
+    Some(value)
 }
 
 // How deep types may nest that are copied part by part.
@@ -52,89 +47,160 @@ fn copy_logical<B: Builder>(
     from: u32,
     to: u32,
     depth: u32,
-) -> Result<Value, SpirvError> {
-    let ty = builder.built(to, operation)?;
-    if builder.built(from, operation)? == ty {
-        return Ok(value);
+) -> Value {
+    let ty = builder.built(to, operation);
+    if builder.built(from, operation) == ty {
+        return value;
     }
     let Some(depth) = depth.checked_sub(1) else {
-        return Err(operation.unsupported_by(Feature::DeepCopy));
+        return refuse(builder, operation.unsupported_by(Feature::DeepCopy));
     };
-    refuse_row_major(builder, operation, from)?;
-    refuse_row_major(builder, operation, to)?;
-    let count = count_parts(builder, operation, to)?;
+    refuse_relaid(builder, operation, from);
+    refuse_relaid(builder, operation, to);
+    let count = count_parts(builder, operation, to);
     let mut components = Vec::new(builder.alloc());
     for index in 0..count {
         let (Some(old), Some(new)) = (builder.part(from, index), builder.part(to, index)) else {
-            return Err(operation.malformed(Malformed::WrongType));
+            return refuse(builder, operation.malformed(Malformed::WrongType));
         };
-        let part = part_of(builder, operation, value, index)?;
-        let copy = copy_logical(builder, operation, part, old.ty, new.ty, depth)?;
-        components.push(copy)?;
+        let part = part_of(builder, operation, value, index);
+        let copy = copy_logical(builder, operation, part, old.ty, new.ty, depth);
+        keep(builder, &mut components, copy);
     }
-    builder.emit(Expression::Compose { ty, components }, operation)
+    compose(builder, operation, ty, components)
 }
 
-// A part of a value. A struct's value holds its matrices as they are stored.
-fn extract<B: Builder>(builder: &mut B, operation: &Operation) -> Result<Value, SpirvError> {
-    let mut value = operand(builder, operation, 0)?;
-    let mut ty = builder.type_of(operation.need(0)?);
-    let mut row_major = false;
+// A part of a value. A struct's value has its matrices as they are stored.
+fn extract<B: Builder>(builder: &mut B, operation: &Operation) -> Value {
+    let id = need(builder, operation, 0);
+    let mut value = builder.value(id, operation);
+    let mut ty = builder.type_of(id);
+    let mut stored = Stored::PLAIN;
     for index in operation.operands.get(1..).unwrap_or(&[]) {
         let Some(part) = builder.part(ty, *index) else {
-            return Err(operation.malformed(Malformed::Index));
+            return refuse(builder, operation.malformed(Malformed::Index));
         };
-        value = part_of(builder, operation, value, *index)?;
+        value = part_of(builder, operation, value, *index);
         ty = part.ty;
-        row_major |= part.row_major;
-        if row_major && matches!(builder.shape(ty), Shape::Matrix { .. }) {
-            let none = [None, None, None];
-            value = crate::functions::call(
-                builder,
-                operation,
-                MathFunction::Transpose,
-                value,
-                none,
-            )?;
-            row_major = false;
+        stored = stored.around(&part.stored);
+        if let Some(matrix) = MatrixShape::of(&builder.shape(ty)) {
+            value = plain_matrix(builder, operation, value, &matrix, stored);
+            stored = Stored::PLAIN;
         }
     }
-    if row_major {
-        return Err(operation.unsupported_by(Feature::ExtractOfRowMajor));
+    if stored.is_plain() {
+        value
+    } else {
+        refuse(
+            builder,
+            stored.unsupported(&operation.instruction, Feature::ExtractOfRowMajor),
+        )
     }
-    Ok(value)
+}
+
+/// A matrix that is stored so, as the IR has it.
+pub fn plain_matrix<B: Builder>(
+    builder: &mut B,
+    operation: &Operation,
+    value: Value,
+    matrix: &MatrixShape,
+    stored: Stored,
+) -> Value {
+    let mut value = value;
+    if stored.stride != 0 {
+        let unstrided = Stored {
+            row_major: stored.row_major,
+            stride: 0,
+        };
+        value = repacked(
+            builder,
+            operation,
+            value,
+            matrix,
+            stored.row_major,
+            unstrided,
+        );
+    }
+    transposed(builder, operation, value, stored.row_major)
+}
+
+/// A matrix as it is stored so.
+pub fn relaid_matrix<B: Builder>(
+    builder: &mut B,
+    operation: &Operation,
+    value: Value,
+    matrix: &MatrixShape,
+    stored: Stored,
+) -> Value {
+    let value = transposed(builder, operation, value, stored.row_major);
+    if stored.stride == 0 {
+        return value;
+    }
+    repacked(builder, operation, value, matrix, stored.row_major, stored)
+}
+
+// The columns of a matrix or its rows, put together as what it is stored as.
+fn repacked<B: Builder>(
+    builder: &mut B,
+    operation: &Operation,
+    value: Value,
+    matrix: &MatrixShape,
+    row_major: bool,
+    to: Stored,
+) -> Value {
+    let (lines, _) = matrix.lines(row_major);
+    let mut components = Vec::new(builder.alloc());
+    for index in 0..u32::from(lines) {
+        let part = part_of(builder, operation, value, index);
+        keep(builder, &mut components, part);
+    }
+    let ty = builder.stored_matrix(matrix, to);
+    compose(builder, operation, ty, components)
+}
+
+// A matrix, transposed where it is stored row by row.
+fn transposed<B: Builder>(
+    builder: &mut B,
+    operation: &Operation,
+    value: Value,
+    row_major: bool,
+) -> Value {
+    if !row_major {
+        return value;
+    }
+    let none = [None, None, None];
+    crate::functions::call(builder, operation, MathFunction::Transpose, value, none)
 }
 
 // A value of all its parts; a vector may be given as smaller ones.
-fn construct<B: Builder>(builder: &mut B, operation: &Operation) -> Result<Value, SpirvError> {
-    let mut components = Vec::with_capacity(builder.alloc(), operation.operands.len())?;
+fn construct<B: Builder>(builder: &mut B, operation: &Operation) -> Value {
+    let mut components = Vec::new(builder.alloc());
     for id in operation.operands {
-        components.push(builder.value(*id, operation)?)?;
+        let part = builder.value(*id, operation);
+        keep(builder, &mut components, part);
     }
-    refuse_row_major(builder, operation, operation.instruction.ty)?;
-    let ty = builder.built(operation.instruction.ty, operation)?;
-    builder.emit(Expression::Compose { ty, components }, operation)
+    refuse_relaid(builder, operation, operation.instruction.ty);
+    compose_result(builder, operation, components)
 }
 
-// Refuses structs whose matrices are stored row by row.
-fn refuse_row_major<B: Builder>(
-    builder: &B,
-    operation: &Operation,
-    ty: u32,
-) -> Result<(), SpirvError> {
+// Refuses structs whose matrices are stored otherwise than as the IR has them.
+fn refuse_relaid<B: Builder>(builder: &mut B, operation: &Operation, ty: u32) {
     let Shape::Struct { count, .. } = builder.shape(ty) else {
-        return Ok(());
+        return;
     };
     for place in 0..count {
-        if builder.part(ty, place).is_some_and(|part| part.row_major) {
-            return Err(operation.unsupported_by(Feature::RowMajorStruct));
+        let stored = builder
+            .part(ty, place)
+            .map_or(Stored::PLAIN, |part| part.stored);
+        if !stored.is_plain() {
+            builder.fail(stored.unsupported(&operation.instruction, Feature::RowMajorStruct));
+            return;
         }
     }
-    Ok(())
 }
 
-// How many parts a value of a type has.
-fn count_parts<B: Builder>(builder: &B, operation: &Operation, ty: u32) -> Result<u32, SpirvError> {
+// How many parts a value of a type has; none where something was wrong.
+fn count_parts<B: Builder>(builder: &mut B, operation: &Operation, ty: u32) -> u32 {
     let count = match builder.shape(ty) {
         Shape::Vector { size, .. } => u32::from(size),
         Shape::Matrix { columns, .. } => u32::from(columns),
@@ -143,13 +209,15 @@ fn count_parts<B: Builder>(builder: &B, operation: &Operation, ty: u32) -> Resul
             size: ArraySize::Constant(count),
             ..
         } => count,
-        _ => return Err(operation.malformed(Malformed::WrongType)),
+        _ => {
+            builder.fail(operation.malformed(Malformed::WrongType));
+            0
+        }
     };
-    if count <= MAX_PARTS {
-        Ok(count)
-    } else {
-        Err(operation.unsupported_by(Feature::LargeInsert))
+    if count > MAX_PARTS {
+        builder.fail(operation.unsupported_by(Feature::LargeInsert));
     }
+    if builder.has_failed() { 0 } else { count }
 }
 
 // A value around the part that is replaced.
@@ -161,28 +229,32 @@ struct Around {
 }
 
 // A value of which a part is another: from the outside in the values around the part, and then back.
-fn insert<B: Builder>(builder: &mut B, operation: &Operation) -> Result<Value, SpirvError> {
-    let mut value = operand(builder, operation, 1)?;
+fn insert<B: Builder>(builder: &mut B, operation: &Operation) -> Value {
+    let mut value = operand(builder, operation, 1);
     let mut ty = operation.instruction.ty;
     let mut around = Vec::new(builder.alloc());
     for index in operation.operands.get(2..).unwrap_or(&[]) {
-        refuse_row_major(builder, operation, ty)?;
-        around.push(Around {
-            value,
-            ty,
-            index: *index,
-        })?;
+        refuse_relaid(builder, operation, ty);
+        keep(
+            builder,
+            &mut around,
+            Around {
+                value,
+                ty,
+                index: *index,
+            },
+        );
         let Some(part) = builder.part(ty, *index) else {
-            return Err(operation.malformed(Malformed::Index));
+            return refuse(builder, operation.malformed(Malformed::Index));
         };
-        value = part_of(builder, operation, value, *index)?;
+        value = part_of(builder, operation, value, *index);
         ty = part.ty;
     }
-    let mut whole = operand(builder, operation, 0)?;
+    let mut whole = operand(builder, operation, 0);
     for place in around.iter().rev() {
-        whole = replace(builder, operation, place, whole)?;
+        whole = replace(builder, operation, place, whole);
     }
-    Ok(whole)
+    whole
 }
 
 // The value with this part in place of its own.
@@ -191,61 +263,54 @@ fn replace<B: Builder>(
     operation: &Operation,
     around: &Around,
     part: Value,
-) -> Result<Value, SpirvError> {
-    let count = count_parts(builder, operation, around.ty)?;
+) -> Value {
+    let count = count_parts(builder, operation, around.ty);
     let mut components = Vec::new(builder.alloc());
     for index in 0..count {
         if index == around.index {
-            components.push(part)?;
+            keep(builder, &mut components, part);
         } else {
-            components.push(part_of(builder, operation, around.value, index)?)?;
+            let part = part_of(builder, operation, around.value, index);
+            keep(builder, &mut components, part);
         }
     }
-    let ty = builder.built(around.ty, operation)?;
-    builder.emit(Expression::Compose { ty, components }, operation)
+    let ty = builder.built(around.ty, operation);
+    compose(builder, operation, ty, components)
 }
 
-// The size of the vector that an operand is.
-fn vector_of<B: Builder>(
-    builder: &B,
-    operation: &Operation,
-    ty: u32,
-) -> Result<(VectorSize, Scalar), SpirvError> {
-    match builder.shape(ty) {
-        Shape::Vector { size, scalar, .. } => Ok((size, scalar)),
-        _ => Err(operation.malformed(Malformed::WrongType)),
+// How many components the vector of this shape has.
+fn size_of<B: Builder>(builder: &mut B, operation: &Operation, shape: &Shape) -> u32 {
+    match *shape {
+        Shape::Vector { size, .. } => u32::from(size),
+        _ => {
+            builder.fail(operation.malformed(Malformed::WrongType));
+            1
+        }
     }
 }
 
 // Components of two vectors: a swizzle where all are of one, else put together.
-fn shuffle<B: Builder>(builder: &mut B, operation: &Operation) -> Result<Value, SpirvError> {
-    let left = operation.need(0)?;
-    let right = operation.need(1)?;
-    let (first, _) = vector_of(builder, operation, builder.type_of(left))?;
-    let (second, _) = vector_of(builder, operation, builder.type_of(right))?;
-    let split = u32::from(first);
-    let end = split.saturating_add(u32::from(second));
+fn shuffle<B: Builder>(builder: &mut B, operation: &Operation) -> Value {
+    let left = need(builder, operation, 0);
+    let right = need(builder, operation, 1);
+    let first = builder.shape(builder.type_of(left));
+    let second = builder.shape(builder.type_of(right));
+    let split = size_of(builder, operation, &first);
+    let end = split.saturating_add(size_of(builder, operation, &second));
     let mut indexes = Vec::new(builder.alloc());
+    let (mut low, mut high) = (true, true);
     for word in operation.operands.get(2..).unwrap_or(&[]) {
-        let index = if *word == u32::MAX { 0 } else { *word };
+        let index = index_of(*word, split, left == right);
         if index >= end {
-            return Err(operation.malformed(Malformed::Index));
+            return refuse(builder, operation.malformed(Malformed::Index));
         }
-        let one = left == right;
-        indexes.push(if one {
-            index.checked_rem(split).unwrap_or(0)
-        } else {
-            index
-        })?;
+        low &= index < split;
+        high &= index >= split;
+        keep(builder, &mut indexes, index);
     }
     let Some(size) = u32::try_from(indexes.len()).ok().and_then(vector_size) else {
-        return Err(operation.malformed(Malformed::WrongType));
+        return refuse(builder, operation.malformed(Malformed::WrongType));
     };
-    let (mut low, mut high) = (true, true);
-    for index in &indexes {
-        low &= *index < split;
-        high &= *index >= split;
-    }
     if low {
         return swizzle(builder, operation, left, size, &indexes, 0);
     }
@@ -253,6 +318,16 @@ fn shuffle<B: Builder>(builder: &mut B, operation: &Operation) -> Result<Value, 
         return swizzle(builder, operation, right, size, &indexes, split);
     }
     mix(builder, operation, &indexes, split)
+}
+
+// Which component a word of a shuffle means; the first where it may be any, and one of the first vector where both are one.
+fn index_of(word: u32, split: u32, is_one: bool) -> u32 {
+    let index = if word == u32::MAX { 0 } else { word };
+    if is_one && index < split.saturating_mul(2) {
+        index.checked_rem(split).unwrap_or(0)
+    } else {
+        index
+    }
 }
 
 // Components of one vector.
@@ -263,8 +338,8 @@ fn swizzle<B: Builder>(
     size: VectorSize,
     indexes: &[u32],
     offset: u32,
-) -> Result<Value, SpirvError> {
-    let vector = builder.value(id, operation)?;
+) -> Value {
+    let vector = builder.value(id, operation);
     let pattern = [
         letter(indexes, offset, 0),
         letter(indexes, offset, 1),
@@ -286,24 +361,18 @@ fn letter(indexes: &[u32], offset: u32, place: usize) -> SwizzleComponent {
 }
 
 // Components of two vectors, put together.
-fn mix<B: Builder>(
-    builder: &mut B,
-    operation: &Operation,
-    indexes: &[u32],
-    split: u32,
-) -> Result<Value, SpirvError> {
-    let left = operand(builder, operation, 0)?;
-    let right = operand(builder, operation, 1)?;
+fn mix<B: Builder>(builder: &mut B, operation: &Operation, indexes: &[u32], split: u32) -> Value {
+    let left = operand(builder, operation, 0);
+    let right = operand(builder, operation, 1);
     let mut components = Vec::new(builder.alloc());
     for index in indexes {
         let part = match index.checked_sub(split) {
-            Some(after) => part_of(builder, operation, right, after)?,
-            None => part_of(builder, operation, left, *index)?,
+            Some(after) => part_of(builder, operation, right, after),
+            None => part_of(builder, operation, left, *index),
         };
-        components.push(part)?;
+        keep(builder, &mut components, part);
     }
-    let ty = builder.built(operation.instruction.ty, operation)?;
-    builder.emit(Expression::Compose { ty, components }, operation)
+    compose_result(builder, operation, components)
 }
 
 // The index of a component as a literal of the type of an operand.
@@ -312,11 +381,11 @@ fn index_literal<B: Builder>(
     operation: &Operation,
     scalar: Scalar,
     index: u32,
-) -> Result<Value, SpirvError> {
+) -> Value {
     let literal = match (scalar.kind, scalar.width) {
         (ScalarKind::Sint, 4) => Literal::I32(i32::try_from(index).unwrap_or(0)),
         (ScalarKind::Uint, 4) => Literal::U32(index),
-        _ => return Err(operation.unsupported()),
+        _ => return refuse(builder, operation.unsupported()),
     };
     builder.literal(literal, operation)
 }
@@ -328,66 +397,41 @@ fn is_index<B: Builder>(
     index: Value,
     scalar: Scalar,
     number: u32,
-) -> Result<Value, SpirvError> {
-    let right = index_literal(builder, operation, scalar, number)?;
-    let equal = Expression::Binary {
-        op: BinaryOperator::Equal,
-        left: index,
-        right,
-    };
-    builder.emit(equal, operation)
-}
-
-// The scalar of the index at this place.
-fn index_scalar<B: Builder>(
-    builder: &B,
-    operation: &Operation,
-    place: usize,
-) -> Result<Scalar, SpirvError> {
-    crate::builder::operand_scalar(builder, operation, place)
+) -> Value {
+    let right = index_literal(builder, operation, scalar, number);
+    binary(builder, operation, BinaryOperator::Equal, index, right)
 }
 
 // A component at an index that is a value: chosen among all.
-fn extract_dynamic<B: Builder>(
-    builder: &mut B,
-    operation: &Operation,
-) -> Result<Value, SpirvError> {
-    let (size, _) = vector_of(builder, operation, builder.type_of(operation.need(0)?))?;
-    let scalar = index_scalar(builder, operation, 1)?;
-    let vector = operand(builder, operation, 0)?;
-    let index = operand(builder, operation, 1)?;
-    let mut chosen = part_of(builder, operation, vector, 0)?;
-    for number in 1..u32::from(size) {
-        let accept = part_of(builder, operation, vector, number)?;
-        let condition = is_index(builder, operation, index, scalar, number)?;
-        let select = Expression::Select {
-            condition,
-            accept,
-            reject: chosen,
-        };
-        chosen = builder.emit(select, operation)?;
+fn extract_dynamic<B: Builder>(builder: &mut B, operation: &Operation) -> Value {
+    let shape = operand_shape(builder, operation, 0);
+    let size = size_of(builder, operation, &shape);
+    let scalar = operand_scalar(builder, operation, 1);
+    let vector = operand(builder, operation, 0);
+    let index = operand(builder, operation, 1);
+    let mut chosen = part_of(builder, operation, vector, 0);
+    for number in 1..size {
+        let accept = part_of(builder, operation, vector, number);
+        let condition = is_index(builder, operation, index, scalar, number);
+        chosen = select(builder, operation, condition, accept, chosen);
     }
-    Ok(chosen)
+    chosen
 }
 
 // A vector of which a component at an index that is a value is another.
-fn insert_dynamic<B: Builder>(builder: &mut B, operation: &Operation) -> Result<Value, SpirvError> {
-    let (size, _) = vector_of(builder, operation, operation.instruction.ty)?;
-    let scalar = index_scalar(builder, operation, 2)?;
-    let vector = operand(builder, operation, 0)?;
-    let accept = operand(builder, operation, 1)?;
-    let index = operand(builder, operation, 2)?;
+fn insert_dynamic<B: Builder>(builder: &mut B, operation: &Operation) -> Value {
+    let shape = builder.shape(operation.instruction.ty);
+    let size = size_of(builder, operation, &shape);
+    let scalar = operand_scalar(builder, operation, 2);
+    let vector = operand(builder, operation, 0);
+    let accept = operand(builder, operation, 1);
+    let index = operand(builder, operation, 2);
     let mut components = Vec::new(builder.alloc());
-    for number in 0..u32::from(size) {
-        let condition = is_index(builder, operation, index, scalar, number)?;
-        let reject = part_of(builder, operation, vector, number)?;
-        let select = Expression::Select {
-            condition,
-            accept,
-            reject,
-        };
-        components.push(builder.emit(select, operation)?)?;
+    for number in 0..size {
+        let condition = is_index(builder, operation, index, scalar, number);
+        let reject = part_of(builder, operation, vector, number);
+        let part = select(builder, operation, condition, accept, reject);
+        keep(builder, &mut components, part);
     }
-    let ty = builder.built(operation.instruction.ty, operation)?;
-    builder.emit(Expression::Compose { ty, components }, operation)
+    compose_result(builder, operation, components)
 }

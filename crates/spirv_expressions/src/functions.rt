@@ -1,9 +1,11 @@
 // The functions of the extended set GLSL.std.450.
 
-use crate::builder::{Builder, Operation, Value, as_kind, convert, operand, result_scalar};
+use crate::builder::{
+    Builder, Operation, Value, as_kind, convert, operand, operand_shape, refuse, result_scalar,
+};
 use ir_kinds::{MathFunction, ScalarKind};
 use ir_types::Expression;
-use spirv_words::{SpirvError, Unsupported};
+use spirv_words::Unsupported;
 
 // The functions by their numbers, with the sign that their arguments get.
 static FUNCTIONS: [(u32, MathFunction, Option<ScalarKind>); 69] = [
@@ -85,7 +87,7 @@ pub fn call<B: Builder>(
     fun: MathFunction,
     arg: Value,
     rest: [Option<Value>; 3],
-) -> Result<Value, SpirvError> {
+) -> Value {
     let [arg1, arg2, arg3] = rest;
     builder.emit(
         Expression::Math {
@@ -120,17 +122,15 @@ fn argument<B: Builder>(
     operation: &Operation,
     place: usize,
     sign: Option<ScalarKind>,
-) -> Result<Option<Value>, SpirvError> {
-    let Some(id) = operation.operands.get(place) else {
-        return Ok(None);
-    };
-    let value = builder.value(*id, operation)?;
+) -> Option<Value> {
+    let id = operation.operands.get(place)?;
+    let value = builder.value(*id, operation);
     let from = builder.shape(builder.type_of(*id)).scalar();
     match (sign, from) {
         (Some(kind), Some(scalar)) => {
-            Ok(Some(as_kind(builder, operation, value, scalar.kind, kind)?))
+            Some(as_kind(builder, operation, value, scalar.kind, kind))
         }
-        _ => Ok(Some(value)),
+        _ => Some(value),
     }
 }
 
@@ -139,15 +139,15 @@ fn exponent<B: Builder>(
     builder: &mut B,
     operation: &Operation,
     value: Option<Value>,
-) -> Result<Option<Value>, SpirvError> {
+) -> Option<Value> {
     let (Some(id), Some(value)) = (operation.operands.get(3), value) else {
-        return Ok(value);
+        return value;
     };
     match builder.shape(builder.type_of(*id)).scalar() {
         Some(scalar) if scalar.kind != ScalarKind::Sint || scalar.width != 4 => {
-            Ok(Some(convert(builder, operation, value, ScalarKind::Sint, Some(4))?))
+            Some(convert(builder, operation, value, ScalarKind::Sint, Some(4)))
         }
-        _ => Ok(Some(value)),
+        _ => Some(value),
     }
 }
 
@@ -159,32 +159,27 @@ fn are_integers(left: ScalarKind, right: ScalarKind) -> bool {
 }
 
 /// The call of the function with this number; the operands begin with the set and the number.
-pub fn math<B: Builder>(
-    builder: &mut B,
-    operation: &Operation,
-    number: u32,
-) -> Result<Value, SpirvError> {
+pub fn math<B: Builder>(builder: &mut B, operation: &Operation, number: u32) -> Value {
     let Some((fun, sign)) = function(number) else {
         let what = Unsupported::MathFunction(number);
-        return Err(operation.instruction.unsupported_as(what));
+        return refuse(builder, operation.instruction.unsupported_as(what));
     };
-    let first = operation.need(2)?;
-    let arg = operand(builder, operation, 2)?;
-    let from = builder.shape(builder.type_of(first)).scalar();
+    let arg = operand(builder, operation, 2);
+    let from = operand_shape(builder, operation, 2).scalar();
     let given = from.map_or(ScalarKind::Float, |scalar| scalar.kind);
     let kind = sign.unwrap_or(given);
-    let arg = as_kind(builder, operation, arg, given, kind)?;
-    let mut second = argument(builder, operation, 3, sign)?;
+    let arg = as_kind(builder, operation, arg, given, kind);
+    let mut second = argument(builder, operation, 3, sign);
     if fun == MathFunction::Ldexp {
-        second = exponent(builder, operation, second)?;
+        second = exponent(builder, operation, second);
     }
-    let third = argument(builder, operation, 4, sign)?;
-    let value = call(builder, operation, fun, arg, [second, third, None])?;
+    let third = argument(builder, operation, 4, sign);
+    let value = call(builder, operation, fun, arg, [second, third, None]);
     let packs = 54 <= number && number <= 65;
-    let to = result_scalar(builder, operation)?.kind;
+    let to = result_scalar(builder, operation).kind;
     if !packs && are_integers(kind, to) {
         as_kind(builder, operation, value, kind, to)
     } else {
-        Ok(value)
+        value
     }
 }

@@ -7,9 +7,10 @@ mod functions;
 mod operators;
 
 pub use builder::{
-    Builder, ImageValue, Operation, Value, as_kind, component_count, convert, operand,
-    operand_scalar, part_of, result_scalar, scalar_of, signed,
+    Builder, ImageValue, Operation, Value, as_kind, binary, component_count, compose,
+    compose_result, convert, keep, need, no_type, no_value, operand, operand_scalar, operand_shape,
+    part_of, refuse, result_scalar, scalar_of, select, signed, splat,
 };
-pub use composites::composite;
+pub use composites::{composite, plain_matrix, relaid_matrix};
 pub use functions::{call, math};
 pub use operators::{arithmetic, conversion, resized};

@@ -1,18 +1,18 @@
 // Arithmetic, bits, relations and logic (sections 3.52.13 to 3.52.16).
 
 use crate::builder::{
-    Builder, Operation, Value, as_kind, convert, operand, operand_scalar, result_scalar, signed,
+    Builder, Operation, Value, as_kind, binary, compose_result, convert, keep, operand,
+    operand_scalar, operand_shape, refuse, result_scalar, select, signed, splat,
 };
 use crate::functions::call;
 use ir_kinds::{
-    BinaryOperator, DerivativeAxis, DerivativeControl, MathFunction, RelationalFunction, Scalar,
-    ScalarKind, UnaryOperator,
+    BinaryOperator, DerivativeAxis, DerivativeControl, Literal, MathFunction, RelationalFunction,
+    Scalar, ScalarKind, UnaryOperator,
 };
 use ir_types::Expression;
 use spirv_numbers::ops;
 use spirv_tables::operators::{COMPARISONS, INTEGER, PLAIN, SHIFTS, find_operator, find_signed};
 use spirv_types::Shape;
-use spirv_words::SpirvError;
 
 static DERIVATIVES: [(u16, (DerivativeAxis, DerivativeControl)); 9] = [
     (ops::D_PDX, (DerivativeAxis::X, DerivativeControl::None)),
@@ -54,133 +54,102 @@ static RELATIONS: [(u16, RelationalFunction); 4] = [
     (ops::IS_INF, RelationalFunction::IsInf),
 ];
 
-// An operator of two values.
-fn binary<B: Builder>(
-    builder: &mut B,
-    operation: &Operation,
-    op: BinaryOperator,
-    left: Value,
-    right: Value,
-) -> Result<Value, SpirvError> {
-    builder.emit(Expression::Binary { op, left, right }, operation)
-}
-
 /// What an operation of numbers or truth values is, if it is one.
-pub fn arithmetic<B: Builder>(
-    builder: &mut B,
-    operation: &Operation,
-) -> Result<Option<Value>, SpirvError> {
+pub fn arithmetic<B: Builder>(builder: &mut B, operation: &Operation) -> Option<Value> {
     let opcode = operation.instruction.opcode;
     if let Some(op) = find_operator(&PLAIN, opcode) {
-        return Ok(Some(plain(builder, operation, op)?));
+        return Some(plain(builder, operation, op));
     }
     if let Some(op) = find_operator(&INTEGER, opcode) {
-        return Ok(Some(integer(builder, operation, op)?));
+        return Some(integer(builder, operation, op));
     }
     if let Some((op, sign)) = find_signed(&COMPARISONS, opcode) {
-        return Ok(Some(comparison(builder, operation, op, sign)?));
+        return Some(comparison(builder, operation, op, sign));
     }
     if let Some((op, sign)) = find_signed(&SHIFTS, opcode) {
-        return Ok(Some(shift(builder, operation, op, sign)?));
+        return Some(shift(builder, operation, op, sign));
     }
     if let Some((axis, ctrl)) = find_operator(&DERIVATIVES, opcode) {
-        let expr = operand(builder, operation, 0)?;
+        let expr = operand(builder, operation, 0);
         let derivative = Expression::Derivative { axis, ctrl, expr };
-        return Ok(Some(builder.emit(derivative, operation)?));
+        return Some(builder.emit(derivative, operation));
     }
     if let Some(fun) = find_operator(&RELATIONS, opcode) {
-        let argument = operand(builder, operation, 0)?;
+        let argument = operand(builder, operation, 0);
         let relation = Expression::Relational { fun, argument };
-        return Ok(Some(builder.emit(relation, operation)?));
+        return Some(builder.emit(relation, operation));
     }
     other(builder, operation)
 }
 
 // An operation that stands in no table.
-fn other<B: Builder>(builder: &mut B, operation: &Operation) -> Result<Option<Value>, SpirvError> {
+fn other<B: Builder>(builder: &mut B, operation: &Operation) -> Option<Value> {
     let value = match operation.instruction.opcode {
-        ops::S_NEGATE | ops::F_NEGATE => negate(builder, operation)?,
+        ops::S_NEGATE | ops::F_NEGATE => negate(builder, operation),
         ops::LOGICAL_NOT => {
-            let expr = operand(builder, operation, 0)?;
+            let expr = operand(builder, operation, 0);
             let op = UnaryOperator::LogicalNot;
-            builder.emit(Expression::Unary { op, expr }, operation)?
+            builder.emit(Expression::Unary { op, expr }, operation)
         }
         ops::NOT => {
-            let kind = result_scalar(builder, operation)?.kind;
-            let expr = signed(builder, operation, 0, kind)?;
+            let kind = result_scalar(builder, operation).kind;
+            let expr = signed(builder, operation, 0, kind);
             let op = UnaryOperator::BitwiseNot;
-            builder.emit(Expression::Unary { op, expr }, operation)?
+            builder.emit(Expression::Unary { op, expr }, operation)
         }
         ops::SELECT => {
-            let condition = operand(builder, operation, 0)?;
-            let accept = operand(builder, operation, 1)?;
-            let reject = operand(builder, operation, 2)?;
-            let select = Expression::Select {
-                condition,
-                accept,
-                reject,
-            };
-            builder.emit(select, operation)?
+            let condition = operand(builder, operation, 0);
+            let accept = operand(builder, operation, 1);
+            let reject = operand(builder, operation, 2);
+            select(builder, operation, condition, accept, reject)
         }
-        ops::F_MOD => float_modulo(builder, operation)?,
-        ops::S_MOD => signed_modulo(builder, operation)?,
-        ops::I_ADD_CARRY => with_carry(builder, operation, BinaryOperator::Add)?,
-        ops::I_SUB_BORROW => with_carry(builder, operation, BinaryOperator::Subtract)?,
+        ops::F_MOD => float_modulo(builder, operation),
+        ops::S_MOD => signed_modulo(builder, operation),
+        ops::I_ADD_CARRY => with_carry(builder, operation, BinaryOperator::Add),
+        ops::I_SUB_BORROW => with_carry(builder, operation, BinaryOperator::Subtract),
         _ => return bits(builder, operation),
     };
-    Ok(Some(value))
+    Some(value)
 }
 
 // Operations of bits, and products with a function of their own.
-fn bits<B: Builder>(builder: &mut B, operation: &Operation) -> Result<Option<Value>, SpirvError> {
+fn bits<B: Builder>(builder: &mut B, operation: &Operation) -> Option<Value> {
     let value = match operation.instruction.opcode {
-        ops::DOT => of_two(builder, operation, MathFunction::Dot)?,
-        ops::OUTER_PRODUCT => of_two(builder, operation, MathFunction::Outer)?,
-        ops::TRANSPOSE => of_one(builder, operation, MathFunction::Transpose)?,
-        ops::QUANTIZE_TO_F16 => of_one(builder, operation, MathFunction::QuantizeToF16)?,
-        ops::BIT_COUNT => counted(builder, operation, MathFunction::CountOneBits)?,
-        ops::BIT_REVERSE => counted(builder, operation, MathFunction::ReverseBits)?,
-        ops::BIT_FIELD_S_EXTRACT => extract_bits(builder, operation, ScalarKind::Sint)?,
-        ops::BIT_FIELD_U_EXTRACT => extract_bits(builder, operation, ScalarKind::Uint)?,
+        ops::DOT => of_two(builder, operation, MathFunction::Dot),
+        ops::OUTER_PRODUCT => of_two(builder, operation, MathFunction::Outer),
+        ops::TRANSPOSE => of_one(builder, operation, MathFunction::Transpose),
+        ops::QUANTIZE_TO_F16 => of_one(builder, operation, MathFunction::QuantizeToF16),
+        ops::BIT_COUNT => counted(builder, operation, MathFunction::CountOneBits),
+        ops::BIT_REVERSE => counted(builder, operation, MathFunction::ReverseBits),
+        ops::BIT_FIELD_S_EXTRACT => extract_bits(builder, operation, ScalarKind::Sint),
+        ops::BIT_FIELD_U_EXTRACT => extract_bits(builder, operation, ScalarKind::Uint),
         ops::BIT_FIELD_INSERT => {
-            let kind = result_scalar(builder, operation)?.kind;
-            let base = signed(builder, operation, 0, kind)?;
-            let insert = signed(builder, operation, 1, kind)?;
-            let offset = signed(builder, operation, 2, ScalarKind::Uint)?;
-            let count = signed(builder, operation, 3, ScalarKind::Uint)?;
+            let kind = result_scalar(builder, operation).kind;
+            let base = signed(builder, operation, 0, kind);
+            let insert = signed(builder, operation, 1, kind);
+            let offset = signed(builder, operation, 2, ScalarKind::Uint);
+            let count = signed(builder, operation, 3, ScalarKind::Uint);
             let rest = [Some(insert), Some(offset), Some(count)];
-            call(builder, operation, MathFunction::InsertBits, base, rest)?
+            call(builder, operation, MathFunction::InsertBits, base, rest)
         }
-        _ => return Ok(None),
+        _ => return None,
     };
-    Ok(Some(value))
+    Some(value)
 }
 
-fn of_one<B: Builder>(
-    builder: &mut B,
-    operation: &Operation,
-    fun: MathFunction,
-) -> Result<Value, SpirvError> {
-    let arg = operand(builder, operation, 0)?;
+fn of_one<B: Builder>(builder: &mut B, operation: &Operation, fun: MathFunction) -> Value {
+    let arg = operand(builder, operation, 0);
     call(builder, operation, fun, arg, [None, None, None])
 }
 
-fn of_two<B: Builder>(
-    builder: &mut B,
-    operation: &Operation,
-    fun: MathFunction,
-) -> Result<Value, SpirvError> {
-    let arg = operand(builder, operation, 0)?;
-    let second = operand(builder, operation, 1)?;
+fn of_two<B: Builder>(builder: &mut B, operation: &Operation, fun: MathFunction) -> Value {
+    let arg = operand(builder, operation, 0);
+    let second = operand(builder, operation, 1);
     call(builder, operation, fun, arg, [Some(second), None, None])
 }
 
 // An operator whose operands are taken as they are; logic of vectors is of their bits.
-fn plain<B: Builder>(
-    builder: &mut B,
-    operation: &Operation,
-    op: BinaryOperator,
-) -> Result<Value, SpirvError> {
+fn plain<B: Builder>(builder: &mut B, operation: &Operation, op: BinaryOperator) -> Value {
     let is_vector = matches!(
         builder.shape(operation.instruction.ty),
         Shape::Vector { .. }
@@ -190,24 +159,20 @@ fn plain<B: Builder>(
         BinaryOperator::LogicalAnd if is_vector => BinaryOperator::And,
         other => other,
     };
-    let left = operand(builder, operation, 0)?;
-    let right = operand(builder, operation, 1)?;
+    let left = operand(builder, operation, 0);
+    let right = operand(builder, operation, 1);
     binary(builder, operation, op, left, right)
 }
 
 // An operator whose operands get the sign of the result.
-fn integer<B: Builder>(
-    builder: &mut B,
-    operation: &Operation,
-    op: BinaryOperator,
-) -> Result<Value, SpirvError> {
-    let kind = result_scalar(builder, operation)?.kind;
+fn integer<B: Builder>(builder: &mut B, operation: &Operation, op: BinaryOperator) -> Value {
+    let kind = result_scalar(builder, operation).kind;
     let unsigned = matches!(operation.instruction.opcode, ops::U_DIV | ops::U_MOD);
     if unsigned && kind != ScalarKind::Uint {
-        return Err(operation.unsupported());
+        return refuse(builder, operation.unsupported());
     }
-    let left = signed(builder, operation, 0, kind)?;
-    let right = signed(builder, operation, 1, kind)?;
+    let left = signed(builder, operation, 0, kind);
+    let right = signed(builder, operation, 1, kind);
     binary(builder, operation, op, left, right)
 }
 
@@ -217,13 +182,13 @@ fn comparison<B: Builder>(
     operation: &Operation,
     op: BinaryOperator,
     sign: Option<ScalarKind>,
-) -> Result<Value, SpirvError> {
+) -> Value {
     let kind = match sign {
         Some(kind) => kind,
-        None => operand_scalar(builder, operation, 0)?.kind,
+        None => operand_scalar(builder, operation, 0).kind,
     };
-    let left = signed(builder, operation, 0, kind)?;
-    let right = signed(builder, operation, 1, kind)?;
+    let left = signed(builder, operation, 0, kind);
+    let right = signed(builder, operation, 1, kind);
     binary(builder, operation, op, left, right)
 }
 
@@ -233,118 +198,87 @@ fn shift<B: Builder>(
     operation: &Operation,
     op: BinaryOperator,
     sign: Option<ScalarKind>,
-) -> Result<Value, SpirvError> {
-    let scalar = result_scalar(builder, operation)?;
+) -> Value {
+    let scalar = result_scalar(builder, operation);
     let kind = sign.unwrap_or(scalar.kind);
-    let left = signed(builder, operation, 0, kind)?;
-    let count = operand(builder, operation, 1)?;
-    let wide = operand_scalar(builder, operation, 1)?;
+    let left = signed(builder, operation, 0, kind);
+    let count = operand(builder, operation, 1);
+    let wide = operand_scalar(builder, operation, 1);
     let width = if wide.width == 4 { None } else { Some(4) };
-    let right = convert(builder, operation, count, ScalarKind::Uint, width)?;
-    let shifted = binary(builder, operation, op, left, right)?;
+    let right = convert(builder, operation, count, ScalarKind::Uint, width);
+    let shifted = binary(builder, operation, op, left, right);
     as_kind(builder, operation, shifted, kind, scalar.kind)
 }
 
 // The negative; of an unsigned value by way of the signed one.
-fn negate<B: Builder>(builder: &mut B, operation: &Operation) -> Result<Value, SpirvError> {
-    let scalar = result_scalar(builder, operation)?;
+fn negate<B: Builder>(builder: &mut B, operation: &Operation) -> Value {
+    let scalar = result_scalar(builder, operation);
     let kind = match scalar.kind {
         ScalarKind::Uint => ScalarKind::Sint,
         other => other,
     };
-    let expr = signed(builder, operation, 0, kind)?;
+    let expr = signed(builder, operation, 0, kind);
     let op = UnaryOperator::Negate;
-    let negative = builder.emit(Expression::Unary { op, expr }, operation)?;
+    let negative = builder.emit(Expression::Unary { op, expr }, operation);
     as_kind(builder, operation, negative, kind, scalar.kind)
 }
 
 // x - floor(x / y) * y
-fn float_modulo<B: Builder>(builder: &mut B, operation: &Operation) -> Result<Value, SpirvError> {
-    let x = operand(builder, operation, 0)?;
-    let y = operand(builder, operation, 1)?;
-    let quotient = binary(builder, operation, BinaryOperator::Divide, x, y)?;
-    let floor = call(
-        builder,
-        operation,
-        MathFunction::Floor,
-        quotient,
-        [None, None, None],
-    )?;
-    let whole = binary(builder, operation, BinaryOperator::Multiply, floor, y)?;
+fn float_modulo<B: Builder>(builder: &mut B, operation: &Operation) -> Value {
+    let x = operand(builder, operation, 0);
+    let y = operand(builder, operation, 1);
+    let quotient = binary(builder, operation, BinaryOperator::Divide, x, y);
+    let none = [None, None, None];
+    let floor = call(builder, operation, MathFunction::Floor, quotient, none);
+    let whole = binary(builder, operation, BinaryOperator::Multiply, floor, y);
     binary(builder, operation, BinaryOperator::Subtract, x, whole)
 }
 
 // The same of signed integers, whose quotient is rounded as a float.
-fn signed_modulo<B: Builder>(builder: &mut B, operation: &Operation) -> Result<Value, SpirvError> {
-    let scalar = result_scalar(builder, operation)?;
+fn signed_modulo<B: Builder>(builder: &mut B, operation: &Operation) -> Value {
+    let scalar = result_scalar(builder, operation);
     if scalar.kind != ScalarKind::Sint {
-        return Err(operation.unsupported());
+        return refuse(builder, operation.unsupported());
     }
     let width = scalar.width.max(4);
-    let x = signed(builder, operation, 0, ScalarKind::Sint)?;
-    let y = signed(builder, operation, 1, ScalarKind::Sint)?;
-    let left = convert(builder, operation, x, ScalarKind::Float, Some(width))?;
-    let right = convert(builder, operation, y, ScalarKind::Float, Some(width))?;
-    let quotient = binary(builder, operation, BinaryOperator::Divide, left, right)?;
-    let floor = call(
-        builder,
-        operation,
-        MathFunction::Floor,
-        quotient,
-        [None, None, None],
-    )?;
-    let rounded = convert(
-        builder,
-        operation,
-        floor,
-        ScalarKind::Sint,
-        Some(scalar.width),
-    )?;
-    let whole = binary(builder, operation, BinaryOperator::Multiply, rounded, y)?;
+    let x = signed(builder, operation, 0, ScalarKind::Sint);
+    let y = signed(builder, operation, 1, ScalarKind::Sint);
+    let left = convert(builder, operation, x, ScalarKind::Float, Some(width));
+    let right = convert(builder, operation, y, ScalarKind::Float, Some(width));
+    let quotient = binary(builder, operation, BinaryOperator::Divide, left, right);
+    let none = [None, None, None];
+    let floor = call(builder, operation, MathFunction::Floor, quotient, none);
+    let width = Some(scalar.width);
+    let rounded = convert(builder, operation, floor, ScalarKind::Sint, width);
+    let whole = binary(builder, operation, BinaryOperator::Multiply, rounded, y);
     binary(builder, operation, BinaryOperator::Subtract, x, whole)
 }
 
 // A sum or a difference, and whether it went over, as a struct of both.
-fn with_carry<B: Builder>(
-    builder: &mut B,
-    operation: &Operation,
-    op: BinaryOperator,
-) -> Result<Value, SpirvError> {
-    let x = operand(builder, operation, 0)?;
-    let y = operand(builder, operation, 1)?;
-    let shape = builder.shape(builder.type_of(operation.need(0)?));
-    let mut one = builder.literal(ir_kinds::Literal::U32(1), operation)?;
-    let mut zero = builder.literal(ir_kinds::Literal::U32(0), operation)?;
-    if let Some(size) = shape.size() {
-        one = builder.emit(Expression::Splat { size, value: one }, operation)?;
-        zero = builder.emit(Expression::Splat { size, value: zero }, operation)?;
-    }
-    let value = binary(builder, operation, op, x, y)?;
-    let condition = if op == BinaryOperator::Add {
-        binary(builder, operation, BinaryOperator::Less, value, x)?
-    } else {
-        binary(builder, operation, BinaryOperator::Less, x, y)?
-    };
-    let carry = Expression::Select {
-        condition,
-        accept: one,
-        reject: zero,
-    };
-    let carried = builder.emit(carry, operation)?;
-    let ty = builder.built(operation.instruction.ty, operation)?;
-    let components = vec![in builder.alloc(); value, carried]?;
-    builder.emit(Expression::Compose { ty, components }, operation)
+fn with_carry<B: Builder>(builder: &mut B, operation: &Operation, op: BinaryOperator) -> Value {
+    let x = operand(builder, operation, 0);
+    let y = operand(builder, operation, 1);
+    let size = operand_shape(builder, operation, 0).size();
+    let one = builder.literal(Literal::U32(1), operation);
+    let zero = builder.literal(Literal::U32(0), operation);
+    let accept = splat(builder, operation, size, one);
+    let reject = splat(builder, operation, size, zero);
+    let value = binary(builder, operation, op, x, y);
+    let left = if op == BinaryOperator::Add { value } else { x };
+    let right = if op == BinaryOperator::Add { x } else { y };
+    let condition = binary(builder, operation, BinaryOperator::Less, left, right);
+    let carried = select(builder, operation, condition, accept, reject);
+    let mut components = Vec::new(builder.alloc());
+    keep(builder, &mut components, value);
+    keep(builder, &mut components, carried);
+    compose_result(builder, operation, components)
 }
 
 // A count or a reversal of bits, as the result's type.
-fn counted<B: Builder>(
-    builder: &mut B,
-    operation: &Operation,
-    fun: MathFunction,
-) -> Result<Value, SpirvError> {
-    let from = operand_scalar(builder, operation, 0)?;
-    let to = result_scalar(builder, operation)?;
-    let value = of_one(builder, operation, fun)?;
+fn counted<B: Builder>(builder: &mut B, operation: &Operation, fun: MathFunction) -> Value {
+    let from = operand_scalar(builder, operation, 0);
+    let to = result_scalar(builder, operation);
+    let value = of_one(builder, operation, fun);
     resized(builder, operation, value, from, to)
 }
 
@@ -355,7 +289,7 @@ pub fn resized<B: Builder>(
     value: Value,
     from: Scalar,
     to: Scalar,
-) -> Result<Value, SpirvError> {
+) -> Value {
     if from.width == to.width {
         as_kind(builder, operation, value, from.kind, to.kind)
     } else {
@@ -364,25 +298,18 @@ pub fn resized<B: Builder>(
 }
 
 // Some bits of a value, with or without a sign.
-fn extract_bits<B: Builder>(
-    builder: &mut B,
-    operation: &Operation,
-    kind: ScalarKind,
-) -> Result<Value, SpirvError> {
-    let to = result_scalar(builder, operation)?;
-    let base = signed(builder, operation, 0, kind)?;
-    let offset = signed(builder, operation, 1, ScalarKind::Uint)?;
-    let count = signed(builder, operation, 2, ScalarKind::Uint)?;
+fn extract_bits<B: Builder>(builder: &mut B, operation: &Operation, kind: ScalarKind) -> Value {
+    let to = result_scalar(builder, operation);
+    let base = signed(builder, operation, 0, kind);
+    let offset = signed(builder, operation, 1, ScalarKind::Uint);
+    let count = signed(builder, operation, 2, ScalarKind::Uint);
     let rest = [Some(offset), Some(count), None];
-    let value = call(builder, operation, MathFunction::ExtractBits, base, rest)?;
+    let value = call(builder, operation, MathFunction::ExtractBits, base, rest);
     as_kind(builder, operation, value, kind, to.kind)
 }
 
 /// What a conversion is, if it is one.
-pub fn conversion<B: Builder>(
-    builder: &mut B,
-    operation: &Operation,
-) -> Result<Option<Value>, SpirvError> {
+pub fn conversion<B: Builder>(builder: &mut B, operation: &Operation) -> Option<Value> {
     match operation.instruction.opcode {
         ops::CONVERT_F_TO_U
         | ops::CONVERT_F_TO_S
@@ -391,19 +318,10 @@ pub fn conversion<B: Builder>(
         | ops::U_CONVERT
         | ops::S_CONVERT
         | ops::F_CONVERT => {
-            let to = result_scalar(builder, operation)?;
-            let value = operand(builder, operation, 0)?;
-            Ok(Some(convert(builder, operation, value, to.kind, Some(to.width))?))
+            let to = result_scalar(builder, operation);
+            let value = operand(builder, operation, 0);
+            Some(convert(builder, operation, value, to.kind, Some(to.width)))
         }
-        ops::BITCAST => {
-            let to = result_scalar(builder, operation)?;
-            let from = operand_scalar(builder, operation, 0)?;
-            if from.width != to.width {
-                return Err(operation.unsupported());
-            }
-            let value = operand(builder, operation, 0)?;
-            Ok(Some(convert(builder, operation, value, to.kind, None)?))
-        }
-        _ => Ok(None),
+        _ => None,
     }
 }

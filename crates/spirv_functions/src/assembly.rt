@@ -5,10 +5,10 @@ use ir_arena::span::Span;
 use ir_blocks::{Block, Statement, SwitchCase};
 use ir_kinds::{Literal, Scalar, ScalarKind, SwitchValue, UnaryOperator};
 use ir_types::Expression;
-use spirv_expressions::{Operation, Value, operand_scalar};
+use spirv_expressions::{Operation, Value, keep, need, operand_scalar, refuse};
 use spirv_flow::{BreakIf, Case, CaseBody, Choice, Flow, FunctionSteps, Step};
 use spirv_numbers::ops;
-use spirv_operations::{FunctionBuilder, phi_local, statement};
+use spirv_operations::{FunctionBuilder, made_name, phi_local, statement};
 use spirv_types::span_of;
 use spirv_words::{Feature, Instruction, Listing, Malformed, SpirvError};
 use std::alloc::Global;
@@ -52,13 +52,13 @@ struct Assembly {
     flags: BTreeMap<u32, Value>,
 }
 
-/// The body of a function.
+/// The body of a function; of no use where something was wrong.
 pub fn assemble<L: FunctionBuilder>(
     alloc: Global,
     source: Source,
     lowering: &mut L,
     steps: &FunctionSteps,
-) -> Result<Block, SpirvError> {
+) -> Block {
     let mut assembly = Assembly {
         frames: Vec::new(alloc),
         done: Vec::new(alloc),
@@ -66,14 +66,14 @@ pub fn assemble<L: FunctionBuilder>(
         value: None,
         flags: BTreeMap::new(alloc),
     };
-    lowering.open()?;
+    lowering.open();
     let mut at = steps.first;
     // each step is taken once
     for _ in steps.first..steps.end {
-        if at >= steps.end {
+        if at >= steps.end || lowering.has_failed() {
             break;
         }
-        at = assembly.take(source, lowering, at)?;
+        at = assembly.take(source, lowering, at);
     }
     lowering.close()
 }
@@ -105,109 +105,101 @@ impl<'a> Source<'a> {
     }
 
     // The case at this place.
-    fn case(&self, place: u32) -> Result<Case, SpirvError> {
+    fn case<L: FunctionBuilder>(&self, lowering: &mut L, place: u32) -> Case {
         match self.flow.steps.cases.get(place as usize) {
-            Some(case) => Ok(*case),
-            None => Err(unbalanced()),
+            Some(case) => *case,
+            None => {
+                lowering.fail(unbalanced());
+                Case {
+                    choice: Choice::Default,
+                    body: CaseBody::Empty,
+                    falls_through: false,
+                }
+            }
         }
     }
 }
 
 impl Assembly {
     // Takes a step. Answers the next one.
-    fn take<L: FunctionBuilder>(
-        &mut self,
-        source: Source,
-        lowering: &mut L,
-        at: u32,
-    ) -> Result<u32, SpirvError> {
+    fn take<L: FunctionBuilder>(&mut self, source: Source, lowering: &mut L, at: u32) -> u32 {
         let next = at.saturating_add(1);
         let Some(step) = source.flow.steps.steps.get(at as usize).copied() else {
-            return Ok(next);
+            return next;
         };
         match step {
-            Step::Block(block) => self.value = lower_block(source, lowering, block)?,
+            Step::Block(block) => self.value = lower_block(source, lowering, block),
             Step::If(block) => {
-                let condition = self.need(source, block)?;
-                self.frames.push(Frame::If(condition))?;
-                lowering.open()?;
+                let condition = self.need(source, lowering, block);
+                self.begin(lowering, Frame::If(condition));
             }
             Step::Else | Step::Continuing => {
-                self.done.push(lowering.close()?)?;
-                lowering.open()?;
+                let part = lowering.close();
+                keep(lowering, &mut self.done, part);
+                lowering.open();
             }
-            Step::EndIf => self.end_if(lowering)?,
-            Step::Loop => {
-                self.frames.push(Frame::Loop)?;
-                lowering.open()?;
-            }
-            Step::EndLoop(condition) => self.end_loop(source, lowering, condition)?,
+            Step::EndIf => self.end_if(lowering),
+            Step::Loop => self.begin(lowering, Frame::Loop),
+            Step::EndLoop(condition) => self.end_loop(source, lowering, condition),
             Step::Switch {
                 block,
                 first,
                 count,
                 after,
             } => {
-                self.begin_switch(source, lowering, block, first, count, after)?;
+                self.begin_switch(source, lowering, block, first, count, after);
                 return self.next_case(source, lowering, next);
             }
-            Step::EndCase => {
-                self.end_case(source, lowering)?;
-                return self.next_case(source, lowering, next);
-            }
-            Step::SetFlag(token) => self.set_flag(lowering, token, true)?,
-            Step::ClearFlag(token) => self.set_flag(lowering, token, false)?,
-            Step::BreakIfFlag(token) => self.break_if_flag(lowering, token)?,
-            Step::Break => push(lowering, Statement::Break)?,
-            Step::Continue => push(lowering, Statement::Continue)?,
-            Step::Kill => push(lowering, Statement::Kill)?,
-            Step::Return(block) => self.end_function(source, lowering, block)?,
+            Step::EndCase => return self.end_case(source, lowering, next),
+            Step::SetFlag(token) => self.set_flag(lowering, token, true),
+            Step::ClearFlag(token) => self.set_flag(lowering, token, false),
+            Step::BreakIfFlag(token) => self.break_if_flag(lowering, token),
+            Step::Break => push(lowering, Statement::Break),
+            Step::Continue => push(lowering, Statement::Continue),
+            Step::Kill => push(lowering, Statement::Kill),
+            Step::Return(block) => self.end_function(source, lowering, block),
         }
-        Ok(next)
+        next
+    }
+
+    // Begins an if or a loop.
+    fn begin<L: FunctionBuilder>(&mut self, lowering: &mut L, frame: Frame) {
+        keep(lowering, &mut self.frames, frame);
+        lowering.open();
     }
 
     // The pointer to the flag of a loop.
-    fn flag<L: FunctionBuilder>(
-        &mut self,
-        lowering: &mut L,
-        token: u32,
-    ) -> Result<Value, SpirvError> {
+    fn flag<L: FunctionBuilder>(&mut self, lowering: &mut L, token: u32) -> Value {
         if let Some(pointer) = self.flags.get(&token) {
-            return Ok(*pointer);
+            return *pointer;
         }
-        let ty = lowering.vector(None, Scalar::BOOL)?;
-        let name = format!(in lowering.alloc(); "leaves_{token}")?;
-        let pointer = lowering.local(Some(name), ty, None, Span::UNDEFINED)?;
-        let _ = self.flags.insert(token, pointer)?;
-        Ok(pointer)
+        let ty = lowering.vector(None, Scalar::BOOL);
+        let name = format!(in lowering.alloc(); "leaves_{token}");
+        let name = made_name(lowering, name);
+        let pointer = lowering.local(name, ty, None, Span::UNDEFINED);
+        if self.flags.insert(token, pointer).is_err() {
+            lowering.fail(SpirvError::Memory);
+        }
+        pointer
     }
 
     // Sets the flag of a loop, or takes it back.
-    fn set_flag<L: FunctionBuilder>(
-        &mut self,
-        lowering: &mut L,
-        token: u32,
-        set: bool,
-    ) -> Result<(), SpirvError> {
-        let pointer = self.flag(lowering, token)?;
+    fn set_flag<L: FunctionBuilder>(&mut self, lowering: &mut L, token: u32, set: bool) {
+        let pointer = self.flag(lowering, token);
         let literal = Expression::Literal(Literal::Bool(set));
-        let value = lowering.place(literal, Span::UNDEFINED)?;
+        let value = lowering.place(literal, Span::UNDEFINED);
         push(lowering, Statement::Store { pointer, value })
     }
 
     // Leaves the nearest loop or switch where the flag of a loop is set.
-    fn break_if_flag<L: FunctionBuilder>(
-        &mut self,
-        lowering: &mut L,
-        token: u32,
-    ) -> Result<(), SpirvError> {
-        let pointer = self.flag(lowering, token)?;
-        let condition = lowering.compute(Expression::Load { pointer }, Span::UNDEFINED)?;
-        lowering.open()?;
-        push(lowering, Statement::Break)?;
-        let accept = lowering.close()?;
-        lowering.open()?;
-        let reject = lowering.close()?;
+    fn break_if_flag<L: FunctionBuilder>(&mut self, lowering: &mut L, token: u32) {
+        let pointer = self.flag(lowering, token);
+        let condition = lowering.compute(Expression::Load { pointer }, Span::UNDEFINED);
+        lowering.open();
+        push(lowering, Statement::Break);
+        let accept = lowering.close();
+        lowering.open();
+        let reject = lowering.close();
         push(
             lowering,
             Statement::If {
@@ -219,21 +211,25 @@ impl Assembly {
     }
 
     // The operand of the end of the block that was lowered last.
-    fn need(&self, source: Source, block: u32) -> Result<Value, SpirvError> {
+    fn need<L: FunctionBuilder>(&self, source: Source, lowering: &mut L, block: u32) -> Value {
         match self.value {
-            Some(value) => Ok(value),
-            None => Err(source.end_of(block).malformed(Malformed::MissingOperand)),
+            Some(value) => value,
+            None => refuse(
+                lowering,
+                source.end_of(block).malformed(Malformed::MissingOperand),
+            ),
         }
     }
 
-    fn end_if<L: FunctionBuilder>(&mut self, lowering: &mut L) -> Result<(), SpirvError> {
-        let reject = lowering.close()?;
+    fn end_if<L: FunctionBuilder>(&mut self, lowering: &mut L) {
+        let reject = lowering.close();
         let condition = match self.frames.pop() {
             Some(frame) => condition_of(&frame),
             None => None,
         };
         let (Some(condition), Some(accept)) = (condition, self.done.pop()) else {
-            return Err(unbalanced());
+            lowering.fail(unbalanced());
+            return;
         };
         push(
             lowering,
@@ -250,12 +246,12 @@ impl Assembly {
         source: Source,
         lowering: &mut L,
         condition: Option<BreakIf>,
-    ) -> Result<(), SpirvError> {
+    ) {
         let break_if = match condition {
-            Some(condition) => Some(self.break_if(source, lowering, condition)?),
+            Some(condition) => Some(self.break_if(source, lowering, condition)),
             None => None,
         };
-        let continuing = lowering.close()?;
+        let continuing = lowering.close();
         match (self.frames.pop(), self.done.pop()) {
             (Some(Frame::Loop), Some(body)) => push(
                 lowering,
@@ -265,7 +261,7 @@ impl Assembly {
                     break_if,
                 },
             ),
-            _ => Err(unbalanced()),
+            _ => lowering.fail(unbalanced()),
         }
     }
 
@@ -275,10 +271,10 @@ impl Assembly {
         source: Source,
         lowering: &mut L,
         condition: BreakIf,
-    ) -> Result<Value, SpirvError> {
-        let expr = self.need(source, condition.block)?;
+    ) -> Value {
+        let expr = self.need(source, lowering, condition.block);
         if !condition.negated {
-            return Ok(expr);
+            return expr;
         }
         let operation = source.operation(source.end_of(condition.block));
         let op = UnaryOperator::LogicalNot;
@@ -293,11 +289,11 @@ impl Assembly {
         first: u32,
         count: u32,
         after: u32,
-    ) -> Result<(), SpirvError> {
-        let selector = self.need(source, block)?;
+    ) {
+        let selector = self.need(source, lowering, block);
         let operation = source.operation(source.end_of(block));
-        let signed = operand_scalar(lowering, &operation, 0)?.kind == ScalarKind::Sint;
-        self.frames.push(Frame::Switch(OpenSwitch {
+        let signed = operand_scalar(lowering, &operation, 0).kind == ScalarKind::Sint;
+        let open = OpenSwitch {
             selector,
             signed,
             next: first,
@@ -305,8 +301,8 @@ impl Assembly {
             after,
             first: self.cases.len(),
             block,
-        }))?;
-        Ok(())
+        };
+        keep(lowering, &mut self.frames, Frame::Switch(open));
     }
 
     // Goes on with the next case of the innermost switch, or ends it. Answers the next step.
@@ -315,69 +311,70 @@ impl Assembly {
         source: Source,
         lowering: &mut L,
         after: u32,
-    ) -> Result<u32, SpirvError> {
+    ) -> u32 {
         let Some(Frame::Switch(open)) = self.frames.last().copied() else {
-            return Ok(after);
+            return after;
         };
         for number in open.next..open.end {
-            let case = source.case(number)?;
+            let case = source.case(lowering, number);
             match case.body {
                 CaseBody::Steps(at) => {
                     if let Some(Frame::Switch(open)) = self.frames.last_mut() {
                         open.next = number;
                     }
-                    lowering.open()?;
-                    return Ok(at);
+                    lowering.open();
+                    return at;
                 }
                 CaseBody::Empty => {
-                    lowering.open()?;
-                    self.add_case(lowering, &case, open.signed)?;
+                    lowering.open();
+                    self.add_case(lowering, &case, open.signed);
                 }
                 CaseBody::Break => {
-                    lowering.open()?;
-                    push(lowering, Statement::Break)?;
-                    self.add_case(lowering, &case, open.signed)?;
+                    lowering.open();
+                    push(lowering, Statement::Break);
+                    self.add_case(lowering, &case, open.signed);
                 }
             }
         }
         self.end_switch(source, lowering, &open)
     }
 
-    // The case whose body was lowered.
+    // Ends the case whose body was lowered. Answers the next step.
     fn end_case<L: FunctionBuilder>(
         &mut self,
         source: Source,
         lowering: &mut L,
-    ) -> Result<(), SpirvError> {
+        after: u32,
+    ) -> u32 {
         let Some(Frame::Switch(open)) = self.frames.last().copied() else {
-            return Err(unbalanced());
+            lowering.fail(unbalanced());
+            return after;
         };
-        let case = source.case(open.next)?;
+        let case = source.case(lowering, open.next);
         if let Some(Frame::Switch(open)) = self.frames.last_mut() {
             open.next = open.next.saturating_add(1);
         }
-        self.add_case(lowering, &case, open.signed)
+        self.add_case(lowering, &case, open.signed);
+        self.next_case(source, lowering, after)
     }
 
     // A case whose body is the innermost block.
-    fn add_case<L: FunctionBuilder>(
-        &mut self,
-        lowering: &mut L,
-        case: &Case,
-        signed: bool,
-    ) -> Result<(), SpirvError> {
+    fn add_case<L: FunctionBuilder>(&mut self, lowering: &mut L, case: &Case, signed: bool) {
         let value = match case.choice {
             Choice::Word(word) if signed => SwitchValue::I32(word.cast_signed()),
             Choice::Word(word) => SwitchValue::U32(word),
             Choice::Default => SwitchValue::Default,
         };
-        let body = lowering.close()?;
-        self.cases.push(SwitchCase {
-            value,
-            body,
-            fall_through: case.falls_through,
-        })?;
-        Ok(())
+        let body = lowering.close();
+        keep(
+            lowering,
+            &mut self.cases,
+            SwitchCase {
+                value,
+                body,
+                fall_through: case.falls_through,
+            },
+        );
     }
 
     fn end_switch<L: FunctionBuilder>(
@@ -385,28 +382,27 @@ impl Assembly {
         source: Source,
         lowering: &mut L,
         open: &OpenSwitch,
-    ) -> Result<u32, SpirvError> {
+    ) -> u32 {
         let _ = self.frames.pop();
         let first = open.first.min(self.cases.len());
-        let cases = self.cases.split_off(first)?;
         let operation = source.operation(source.end_of(open.block));
-        let switch = Statement::Switch {
-            selector: open.selector,
-            cases,
-        };
-        statement(lowering, &operation, switch)?;
-        Ok(open.after)
+        match self.cases.split_off(first) {
+            Ok(cases) => {
+                let switch = Statement::Switch {
+                    selector: open.selector,
+                    cases,
+                };
+                statement(lowering, &operation, switch);
+            }
+            Err(_) => lowering.fail(SpirvError::Memory),
+        }
+        open.after
     }
 
-    fn end_function<L: FunctionBuilder>(
-        &mut self,
-        source: Source,
-        lowering: &mut L,
-        block: u32,
-    ) -> Result<(), SpirvError> {
+    fn end_function<L: FunctionBuilder>(&mut self, source: Source, lowering: &mut L, block: u32) {
         let end = source.end_of(block);
         let value = if end.opcode == ops::RETURN_VALUE {
-            Some(self.need(source, block)?)
+            Some(self.need(source, lowering, block))
         } else {
             None
         };
@@ -429,51 +425,46 @@ fn unbalanced() -> SpirvError {
 }
 
 // A statement that no instruction is alone.
-fn push<L: FunctionBuilder>(lowering: &mut L, statement: Statement) -> Result<(), SpirvError> {
+fn push<L: FunctionBuilder>(lowering: &mut L, statement: Statement) {
     lowering.add(statement, Span::UNDEFINED)
 }
 
 // The instructions of a block, and what goes from it into others. Answers the operand of its end.
-fn lower_block<L: FunctionBuilder>(
-    source: Source,
-    lowering: &mut L,
-    number: u32,
-) -> Result<Option<Value>, SpirvError> {
+fn lower_block<L: FunctionBuilder>(source: Source, lowering: &mut L, number: u32) -> Option<Value> {
     let flow = source.flow;
     let Some(block) = flow.blocks.get(number) else {
-        return Err(unbalanced());
+        lowering.fail(unbalanced());
+        return None;
     };
     lowering.enter(flow.steps.scopes.of_block(number).unwrap_or(0));
     for place in block.first..block.end {
-        let instruction = source.listing.at(place);
-        lower(source, lowering, instruction)?;
+        if lowering.has_failed() {
+            break;
+        }
+        lower(source, lowering, source.listing.at(place));
     }
     let end = source.listing.at(block.end);
     let operation = source.operation(end);
     let value = match end.opcode {
         ops::BRANCH_CONDITIONAL | ops::SWITCH | ops::RETURN_VALUE => {
-            Some(lowering.value(operation.need(0)?, &operation)?)
+            let id = need(lowering, &operation, 0);
+            Some(lowering.value(id, &operation))
         }
         _ => None,
     };
-    lowering.flush()?;
+    lowering.flush();
     for place in flow.kept.from_block(number) {
         if let Some(incoming) = flow.kept.incoming.get(*place as usize) {
-            store_incoming(lowering, &operation, incoming.phi, incoming.value)?;
+            store_incoming(lowering, &operation, incoming.phi, incoming.value);
         }
     }
-    Ok(value)
+    value
 }
 
 // What an `OpPhi` becomes when it comes from this block.
-fn store_incoming<L: FunctionBuilder>(
-    lowering: &mut L,
-    operation: &Operation,
-    phi: u32,
-    id: u32,
-) -> Result<(), SpirvError> {
-    let pointer = phi_local(lowering, phi, operation)?;
-    let value = lowering.value(id, operation)?;
+fn store_incoming<L: FunctionBuilder>(lowering: &mut L, operation: &Operation, phi: u32, id: u32) {
+    let pointer = phi_local(lowering, phi, operation);
+    let value = lowering.value(id, operation);
     lowering.add(
         Statement::Store { pointer, value },
         span_of(&operation.instruction),

@@ -3,5 +3,6 @@
 
 mod assembly;
 mod instructions;
+mod wide;
 
 pub use assembly::{Source, assemble};

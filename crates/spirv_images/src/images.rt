@@ -8,29 +8,27 @@ use ir_kinds::{
 };
 use ir_types::{Expression, ImageQuery, SampleLevel};
 use spirv_expressions::{
-    Builder, ImageValue, Operation, Value, convert, operand, part_of, result_scalar,
+    Builder, ImageValue, Operation, Value, binary, compose, convert, keep, need, operand, part_of,
+    result_scalar, splat,
 };
 use spirv_numbers::ops;
 use spirv_types::Shape;
-use spirv_words::{Feature, SpirvError};
+use spirv_words::Feature;
 
 /// What an operation on an image is, if it is one.
-pub fn image_operation<B: Builder>(
-    builder: &mut B,
-    operation: &Operation,
-) -> Result<Option<Value>, SpirvError> {
+pub fn image_operation<B: Builder>(builder: &mut B, operation: &Operation) -> Option<Value> {
     let value = match operation.instruction.opcode {
         ops::IMAGE_SAMPLE_IMPLICIT_LOD..=ops::IMAGE_SAMPLE_PROJ_DREF_EXPLICIT_LOD
         | ops::IMAGE_GATHER
-        | ops::IMAGE_DREF_GATHER => sample(builder, operation)?,
-        ops::IMAGE_FETCH | ops::IMAGE_READ => fetch(builder, operation)?,
-        ops::IMAGE_QUERY_SIZE_LOD => size(builder, operation, true)?,
-        ops::IMAGE_QUERY_SIZE => size(builder, operation, false)?,
-        ops::IMAGE_QUERY_LEVELS => query(builder, operation, ImageQuery::NumLevels)?,
-        ops::IMAGE_QUERY_SAMPLES => query(builder, operation, ImageQuery::NumSamples)?,
-        _ => return Ok(None),
+        | ops::IMAGE_DREF_GATHER => sample(builder, operation),
+        ops::IMAGE_FETCH | ops::IMAGE_READ => fetch(builder, operation),
+        ops::IMAGE_QUERY_SIZE_LOD => size(builder, operation, true),
+        ops::IMAGE_QUERY_SIZE => size(builder, operation, false),
+        ops::IMAGE_QUERY_LEVELS => query(builder, operation, ImageQuery::NumLevels),
+        ops::IMAGE_QUERY_SAMPLES => query(builder, operation, ImageQuery::NumSamples),
+        _ => return None,
     };
-    Ok(Some(value))
+    Some(value)
 }
 
 // Whether it is sampled with a comparison.
@@ -54,56 +52,39 @@ fn projects(opcode: u16) -> bool {
 }
 
 // The component that a gather takes.
-fn gathered<B: Builder>(
-    builder: &B,
-    operation: &Operation,
-) -> Result<Option<SwizzleComponent>, SpirvError> {
+fn gathered<B: Builder>(builder: &mut B, operation: &Operation) -> Option<SwizzleComponent> {
     match operation.instruction.opcode {
-        ops::IMAGE_DREF_GATHER => Ok(Some(SwizzleComponent::X)),
-        ops::IMAGE_GATHER => match builder.constant(operation.need(2)?) {
-            Some(number) if 0 <= number && number <= 3 => {
-                let index = u32::try_from(number).unwrap_or(0);
-                Ok(Some(SwizzleComponent::from_index(index)))
+        ops::IMAGE_DREF_GATHER => Some(SwizzleComponent::X),
+        ops::IMAGE_GATHER => {
+            let id = need(builder, operation, 2);
+            let number = builder.constant(id).unwrap_or(-1);
+            if number < 0 || 3 < number {
+                builder.fail(operation.unsupported_by(Feature::GatherComponent));
             }
-            _ => Err(operation.unsupported_by(Feature::GatherComponent)),
-        },
-        _ => Ok(None),
+            let index = u32::try_from(number).unwrap_or(0);
+            Some(SwizzleComponent::from_index(index))
+        }
+        _ => None,
     }
 }
 
 // A sample.
-fn sample<B: Builder>(builder: &mut B, operation: &Operation) -> Result<Value, SpirvError> {
+fn sample<B: Builder>(builder: &mut B, operation: &Operation) -> Value {
     let opcode = operation.instruction.opcode;
-    let pair = operation.need(0)?;
-    let image = builder.image(pair, operation)?;
-    let is_depth = matches!(image.class, ImageClass::Depth { .. });
-    let at = read_coordinates(builder, operation, &image, 1, projects(opcode))?;
-    let gather = gathered(builder, operation)?;
-    let compared = compares(opcode);
-    let depth_ref = if compared {
-        Some(reference(builder, operation, &at)?)
-    } else {
-        None
-    };
-    let after = if compared || opcode == ops::IMAGE_GATHER {
-        3
-    } else {
-        2
-    };
-    let options = image_operands(builder, operation, after)?;
-    let level = level_of(
-        builder,
-        operation,
-        &options,
-        gather.is_some(),
-        compared,
-        is_depth,
-    )?;
-    let offset = match options.offset {
-        Some(id) => Some(builder.value(id, operation)?),
-        None => None,
-    };
-    let sampler = builder.sampler(pair, operation)?;
+    let pair = need(builder, operation, 0);
+    let image = builder.image(pair, operation);
+    let at = read_coordinates(builder, operation, &image, 1, projects(opcode));
+    let gather = gathered(builder, operation);
+    let mut depth_ref = None;
+    let mut mask = if opcode == ops::IMAGE_GATHER { 3 } else { 2 };
+    if compares(opcode) {
+        depth_ref = Some(reference(builder, operation, &at));
+        mask = 3;
+    }
+    let options = image_operands(builder, operation, mask);
+    let level = level_of(builder, operation, &options, &image, gather.is_some());
+    let offset = value_of(builder, operation, options.offset);
+    let sampler = builder.sampler(pair, operation);
     let sampled = Expression::ImageSample {
         image: image.value,
         sampler,
@@ -115,40 +96,39 @@ fn sample<B: Builder>(builder: &mut B, operation: &Operation) -> Result<Value, S
         depth_ref,
         clamp_to_edge: false,
     };
-    let value = builder.emit(sampled, operation)?;
-    let is_vector = matches!(
-        builder.shape(operation.instruction.ty),
-        Shape::Vector { .. }
-    );
-    if is_depth && !compared && gather.is_none() && is_vector {
-        return splat(builder, operation, value);
+    let value = builder.emit(sampled, operation);
+    if is_depth(&image) && depth_ref.is_none() && gather.is_none() {
+        return filled(builder, operation, value);
     }
-    Ok(value)
+    value
 }
 
-// A vector of four of one value.
-fn splat<B: Builder>(
-    builder: &mut B,
-    operation: &Operation,
-    value: Value,
-) -> Result<Value, SpirvError> {
-    let size = VectorSize::Quad;
-    builder.emit(Expression::Splat { size, value }, operation)
+// A depth as the vector that the result is, if it is one.
+fn filled<B: Builder>(builder: &mut B, operation: &Operation, value: Value) -> Value {
+    let size = match builder.shape(operation.instruction.ty) {
+        Shape::Vector { .. } => Some(VectorSize::Quad),
+        _ => None,
+    };
+    splat(builder, operation, size, value)
+}
+
+// Whether an image is of depths, as it is used.
+fn is_depth(image: &ImageValue) -> bool {
+    matches!(image.class, ImageClass::Depth { .. })
+}
+
+// The value of an operand that may be missing.
+fn value_of<B: Builder>(builder: &mut B, operation: &Operation, id: Option<u32>) -> Option<Value> {
+    let id = id?;
+    Some(builder.value(id, operation))
 }
 
 // The reference depth, divided as the coordinate is.
-fn reference<B: Builder>(
-    builder: &mut B,
-    operation: &Operation,
-    at: &Coordinates,
-) -> Result<Value, SpirvError> {
-    let left = operand(builder, operation, 2)?;
+fn reference<B: Builder>(builder: &mut B, operation: &Operation, at: &Coordinates) -> Value {
+    let left = operand(builder, operation, 2);
     match at.divisor {
-        Some(right) => {
-            let op = BinaryOperator::Divide;
-            builder.emit(Expression::Binary { op, left, right }, operation)
-        }
-        None => Ok(left),
+        Some(right) => binary(builder, operation, BinaryOperator::Divide, left, right),
+        None => left,
     }
 }
 
@@ -157,46 +137,43 @@ fn level_of<B: Builder>(
     builder: &mut B,
     operation: &Operation,
     options: &ImageOperands,
+    image: &ImageValue,
     gathers: bool,
-    compared: bool,
-    is_depth: bool,
-) -> Result<SampleLevel, SpirvError> {
+) -> SampleLevel {
     if let Some(bias) = options.bias {
-        return Ok(SampleLevel::Bias(builder.value(bias, operation)?));
+        return SampleLevel::Bias(builder.value(bias, operation));
     }
     if let Some(level) = options.level {
-        if compared {
-            return Ok(SampleLevel::Zero);
+        if compares(operation.instruction.opcode) {
+            return SampleLevel::Zero;
         }
         let scalar = builder.shape(builder.type_of(level)).scalar();
-        if !is_depth && scalar.map(|scalar| scalar.kind) != Some(ScalarKind::Float) {
-            return Err(operation.unsupported_by(Feature::IntegerLod));
+        if !is_depth(image) && scalar.map(|scalar| scalar.kind) != Some(ScalarKind::Float) {
+            builder.fail(operation.unsupported_by(Feature::IntegerLod));
         }
-        return Ok(SampleLevel::Exact(builder.value(level, operation)?));
+        return SampleLevel::Exact(builder.value(level, operation));
     }
     if let Some((along_x, along_y)) = options.gradient {
-        let x = builder.value(along_x, operation)?;
-        let y = builder.value(along_y, operation)?;
-        return Ok(SampleLevel::Gradient { x, y });
+        let x = builder.value(along_x, operation);
+        let y = builder.value(along_y, operation);
+        return SampleLevel::Gradient { x, y };
     }
-    Ok(if gathers {
+    if gathers {
         SampleLevel::Zero
     } else {
         SampleLevel::Auto
-    })
+    }
 }
 
 // A texel.
-fn fetch<B: Builder>(builder: &mut B, operation: &Operation) -> Result<Value, SpirvError> {
-    let image = builder.image(operation.need(0)?, operation)?;
-    let at = read_coordinates(builder, operation, &image, 1, false)?;
-    let options = image_operands(builder, operation, 2)?;
-    let sample = match options.sample {
-        Some(id) => Some(builder.value(id, operation)?),
-        None => None,
-    };
-    let coordinate = moved(builder, operation, at.coordinate, &options)?;
-    let level = fetched_level(builder, operation, &options, &image)?;
+fn fetch<B: Builder>(builder: &mut B, operation: &Operation) -> Value {
+    let id = need(builder, operation, 0);
+    let image = builder.image(id, operation);
+    let at = read_coordinates(builder, operation, &image, 1, false);
+    let options = image_operands(builder, operation, 2);
+    let sample = value_of(builder, operation, options.sample);
+    let coordinate = moved(builder, operation, at.coordinate, &options);
+    let level = fetched_level(builder, operation, &options, &image);
     let load = Expression::ImageLoad {
         image: image.value,
         coordinate,
@@ -204,10 +181,13 @@ fn fetch<B: Builder>(builder: &mut B, operation: &Operation) -> Result<Value, Sp
         sample,
         level,
     };
-    let mut value = builder.emit(load, operation)?;
-    if matches!(image.class, ImageClass::Depth { .. }) {
-        value = splat(builder, operation, value)?;
-    }
+    let value = builder.emit(load, operation);
+    let size = if is_depth(&image) {
+        Some(VectorSize::Quad)
+    } else {
+        None
+    };
+    let value = splat(builder, operation, size, value);
     narrowed(builder, operation, value)
 }
 
@@ -217,17 +197,12 @@ fn moved<B: Builder>(
     operation: &Operation,
     coordinate: Value,
     options: &ImageOperands,
-) -> Result<Value, SpirvError> {
+) -> Value {
     let Some(offset) = options.offset else {
-        return Ok(coordinate);
+        return coordinate;
     };
-    let right = builder.value(offset, operation)?;
-    let sum = Expression::Binary {
-        op: BinaryOperator::Add,
-        left: coordinate,
-        right,
-    };
-    builder.emit(sum, operation)
+    let right = builder.value(offset, operation);
+    binary(builder, operation, BinaryOperator::Add, coordinate, right)
 }
 
 // The level that is fetched: the finest where none is named.
@@ -236,23 +211,19 @@ fn fetched_level<B: Builder>(
     operation: &Operation,
     options: &ImageOperands,
     image: &ImageValue,
-) -> Result<Option<Value>, SpirvError> {
+) -> Option<Value> {
     if operation.instruction.opcode == ops::IMAGE_READ {
-        return Ok(None);
+        return None;
     }
     match options.level {
-        Some(id) => Ok(Some(builder.value(id, operation)?)),
-        None if image.shape.multi => Ok(None),
-        None => Ok(Some(builder.literal(Literal::I32(0), operation)?)),
+        Some(id) => Some(builder.value(id, operation)),
+        None if image.shape.multi => None,
+        None => Some(builder.literal(Literal::I32(0), operation)),
     }
 }
 
 // As many of four components as the result has.
-fn narrowed<B: Builder>(
-    builder: &mut B,
-    operation: &Operation,
-    vector: Value,
-) -> Result<Value, SpirvError> {
+fn narrowed<B: Builder>(builder: &mut B, operation: &Operation, vector: Value) -> Value {
     match builder.shape(operation.instruction.ty) {
         Shape::Scalar(_) => part_of(builder, operation, vector, 0),
         Shape::Vector { size, .. } if size != VectorSize::Quad => {
@@ -264,7 +235,7 @@ fn narrowed<B: Builder>(
             };
             builder.emit(swizzle, operation)
         }
-        _ => Ok(vector),
+        _ => vector,
     }
 }
 
@@ -274,7 +245,7 @@ fn ask<B: Builder>(
     operation: &Operation,
     image: &ImageValue,
     query: ImageQuery,
-) -> Result<Value, SpirvError> {
+) -> Value {
     let query = Expression::ImageQuery {
         image: image.value,
         query,
@@ -283,55 +254,48 @@ fn ask<B: Builder>(
 }
 
 // The answer with the sign of the result.
-fn answered<B: Builder>(
-    builder: &mut B,
-    operation: &Operation,
-    value: Value,
-) -> Result<Value, SpirvError> {
-    if result_scalar(builder, operation)?.kind == ScalarKind::Sint {
+fn answered<B: Builder>(builder: &mut B, operation: &Operation, value: Value) -> Value {
+    if result_scalar(builder, operation).kind == ScalarKind::Sint {
         convert(builder, operation, value, ScalarKind::Sint, Some(4))
     } else {
-        Ok(value)
+        value
     }
 }
 
-fn query<B: Builder>(
-    builder: &mut B,
-    operation: &Operation,
-    query: ImageQuery,
-) -> Result<Value, SpirvError> {
-    let image = builder.image(operation.need(0)?, operation)?;
-    let value = ask(builder, operation, &image, query)?;
+fn query<B: Builder>(builder: &mut B, operation: &Operation, query: ImageQuery) -> Value {
+    let id = need(builder, operation, 0);
+    let image = builder.image(id, operation);
+    let value = ask(builder, operation, &image, query);
     answered(builder, operation, value)
 }
 
 // The size of an image, and how many layers it has after that.
-fn size<B: Builder>(
-    builder: &mut B,
-    operation: &Operation,
-    has_level: bool,
-) -> Result<Value, SpirvError> {
-    let image = builder.image(operation.need(0)?, operation)?;
+fn size<B: Builder>(builder: &mut B, operation: &Operation, has_level: bool) -> Value {
+    let id = need(builder, operation, 0);
+    let image = builder.image(id, operation);
     let level = if has_level {
-        Some(operand(builder, operation, 1)?)
+        Some(operand(builder, operation, 1))
     } else {
         None
     };
-    let size = ask(builder, operation, &image, ImageQuery::Size { level })?;
+    let size = ask(builder, operation, &image, ImageQuery::Size { level });
     if !image.shape.arrayed {
         return answered(builder, operation, size);
     }
     let mut components = Vec::new(builder.alloc());
     let whole = if image.shape.dim == ImageDimension::D1 {
-        components.push(size)?;
+        keep(builder, &mut components, size);
         VectorSize::Bi
     } else {
-        components.push(part_of(builder, operation, size, 0)?)?;
-        components.push(part_of(builder, operation, size, 1)?)?;
+        for index in 0..2u32 {
+            let part = part_of(builder, operation, size, index);
+            keep(builder, &mut components, part);
+        }
         VectorSize::Tri
     };
-    components.push(ask(builder, operation, &image, ImageQuery::NumLayers)?)?;
-    let ty = builder.vector(Some(whole), Scalar::U32)?;
-    let value = builder.emit(Expression::Compose { ty, components }, operation)?;
+    let layers = ask(builder, operation, &image, ImageQuery::NumLayers);
+    keep(builder, &mut components, layers);
+    let ty = builder.vector(Some(whole), Scalar::U32);
+    let value = compose(builder, operation, ty, components);
     answered(builder, operation, value)
 }

@@ -1,7 +1,7 @@
 // The operands of images that a mask names (section 3.14).
 
-use spirv_expressions::{Builder, Operation};
-use spirv_words::{Feature, SpirvError};
+use spirv_expressions::{Builder, Operation, need};
+use spirv_words::Feature;
 
 /// The operands of images, by the ids of their values.
 #[derive(Clone, Copy)]
@@ -34,64 +34,56 @@ const SAMPLE: u32 = 64;
 
 const MIN_LOD: u32 = 128;
 
-// Takes the operands of a mask one after the other.
-#[derive(Clone, Copy)]
-struct Taking<'a> {
-    operation: &'a Operation<'a>,
-    mask: u32,
-    place: usize,
-}
-
-impl Taking<'_> {
-    // The next operand, if the mask has this bit.
-    fn next(&mut self, bit: u32) -> Result<Option<u32>, SpirvError> {
-        if self.mask & bit == 0 {
-            return Ok(None);
-        }
-        let id = self.operation.need(self.place)?;
-        self.place = self.place.saturating_add(1);
-        Ok(Some(id))
+// The operand at this place, if the mask has this bit; the place is then the next one.
+fn taken<B: Builder>(
+    builder: &mut B,
+    operation: &Operation,
+    has: bool,
+    place: &mut usize,
+) -> Option<u32> {
+    if !has {
+        return None;
     }
+    let id = need(builder, operation, *place);
+    *place = place.saturating_add(1);
+    Some(id)
 }
 
 /// The operands after the mask at this place.
 pub fn image_operands<B: Builder>(
-    builder: &B,
+    builder: &mut B,
     operation: &Operation,
     place: usize,
-) -> Result<ImageOperands, SpirvError> {
+) -> ImageOperands {
     let mask = operation.operands.get(place).copied().unwrap_or(0);
     if mask & CONST_OFFSETS != 0 {
-        return Err(operation.unsupported_by(Feature::ConstOffsets));
+        builder.fail(operation.unsupported_by(Feature::ConstOffsets));
     }
     if mask & MIN_LOD != 0 {
-        return Err(operation.unsupported_by(Feature::MinLod));
+        builder.fail(operation.unsupported_by(Feature::MinLod));
     }
-    let mut taking = Taking {
-        operation,
-        mask,
-        place: place.saturating_add(1),
-    };
-    let bias = taking.next(BIAS)?;
-    let level = taking.next(LOD)?;
-    let along_x = taking.next(GRAD)?;
-    let gradient = match along_x {
-        Some(x) => Some((x, taking.next(GRAD)?.unwrap_or(x))),
-        None => None,
-    };
-    let constant = taking.next(CONST_OFFSET)?;
-    let offset = taking.next(OFFSET)?;
+    let mut place = place.saturating_add(1);
+    let bias = taken(builder, operation, mask & BIAS != 0, &mut place);
+    let level = taken(builder, operation, mask & LOD != 0, &mut place);
+    let along_x = taken(builder, operation, mask & GRAD != 0, &mut place);
+    let along_y = taken(builder, operation, mask & GRAD != 0, &mut place);
+    let constant = taken(builder, operation, mask & CONST_OFFSET != 0, &mut place);
+    let offset = taken(builder, operation, mask & OFFSET != 0, &mut place);
     if let Some(id) = offset {
         if !builder.is_constant(id) {
-            return Err(operation.unsupported_by(Feature::Offset));
+            builder.fail(operation.unsupported_by(Feature::Offset));
         }
     }
-    let sample = taking.next(SAMPLE)?;
-    Ok(ImageOperands {
+    let sample = taken(builder, operation, mask & SAMPLE != 0, &mut place);
+    let gradient = match (along_x, along_y) {
+        (Some(x), Some(y)) => Some((x, y)),
+        _ => None,
+    };
+    ImageOperands {
         bias,
         level,
         gradient,
         offset: offset.or(constant),
         sample,
-    })
+    }
 }

@@ -1,13 +1,12 @@
 // Where an image is sampled or a texel lies.
 
 use ir_kinds::{BinaryOperator, ImageDimension, Scalar, ScalarKind};
-use ir_types::Expression;
 use spirv_expressions::{
-    Builder, ImageValue, Operation, Value, component_count, convert, operand, operand_scalar,
-    part_of,
+    Builder, ImageValue, Operation, Value, binary, component_count, compose, convert, keep,
+    operand, operand_scalar, operand_shape, part_of, refuse, splat,
 };
 use spirv_types::vector_size;
-use spirv_words::{Feature, Malformed, SpirvError};
+use spirv_words::{Feature, Malformed};
 
 /// Where an image is sampled or a texel lies.
 #[derive(Clone, Copy)]
@@ -36,44 +35,55 @@ pub fn read_coordinates<B: Builder>(
     image: &ImageValue,
     place: usize,
     project: bool,
-) -> Result<Coordinates, SpirvError> {
-    let scalar = operand_scalar(builder, operation, place)?;
+) -> Coordinates {
+    let scalar = operand_scalar(builder, operation, place);
     let is_float = scalar.kind == ScalarKind::Float;
     if image.shape.dim == ImageDimension::Cube && image.shape.arrayed && !is_float {
-        return Err(operation.unsupported_by(Feature::CubeArrayTexel));
+        builder.fail(operation.unsupported_by(Feature::CubeArrayTexel));
     }
-    let value = operand(builder, operation, place)?;
-    let given = component_count(builder.shape(builder.type_of(operation.need(place)?)));
+    let value = operand(builder, operation, place);
+    let given = component_count(operand_shape(builder, operation, place));
     let wanted = coordinate_count(image.shape.dim);
     let layer = if image.shape.arrayed {
-        let layer = part_of(builder, operation, value, wanted)?;
-        Some(if is_float {
-            convert(builder, operation, layer, ScalarKind::Sint, Some(4))?
-        } else {
-            layer
-        })
+        Some(layer_of(builder, operation, value, wanted, is_float))
     } else {
         None
     };
     let coordinate = if given > wanted {
-        first_components(builder, operation, value, wanted, scalar)?
+        first_components(builder, operation, value, wanted, scalar)
     } else {
         value
     };
     if !project {
-        return Ok(Coordinates {
+        return Coordinates {
             coordinate,
             layer,
             divisor: None,
-        });
+        };
     }
-    let divisor = part_of(builder, operation, value, given.saturating_sub(1))?;
-    let coordinate = divide(builder, operation, coordinate, divisor, wanted)?;
-    Ok(Coordinates {
+    let divisor = part_of(builder, operation, value, given.saturating_sub(1));
+    let coordinate = divide(builder, operation, coordinate, divisor, wanted);
+    Coordinates {
         coordinate,
         layer,
         divisor: Some(divisor),
-    })
+    }
+}
+
+// The layer, which is the component at this index, as a whole number.
+fn layer_of<B: Builder>(
+    builder: &mut B,
+    operation: &Operation,
+    value: Value,
+    index: u32,
+    is_float: bool,
+) -> Value {
+    let layer = part_of(builder, operation, value, index);
+    if is_float {
+        convert(builder, operation, layer, ScalarKind::Sint, Some(4))
+    } else {
+        layer
+    }
 }
 
 // The first components of a vector.
@@ -83,16 +93,17 @@ fn first_components<B: Builder>(
     value: Value,
     count: u32,
     scalar: Scalar,
-) -> Result<Value, SpirvError> {
+) -> Value {
     let Some(size) = vector_size(count) else {
         return part_of(builder, operation, value, 0);
     };
     let mut components = Vec::new(builder.alloc());
     for index in 0..count {
-        components.push(part_of(builder, operation, value, index)?)?;
+        let part = part_of(builder, operation, value, index);
+        keep(builder, &mut components, part);
     }
-    let ty = builder.vector(Some(size), scalar)?;
-    builder.emit(Expression::Compose { ty, components }, operation)
+    let ty = builder.vector(Some(size), scalar);
+    compose(builder, operation, ty, components)
 }
 
 // A coordinate divided by one number.
@@ -102,37 +113,23 @@ fn divide<B: Builder>(
     left: Value,
     divisor: Value,
     count: u32,
-) -> Result<Value, SpirvError> {
-    let right = match vector_size(count) {
-        Some(size) => builder.emit(
-            Expression::Splat {
-                size,
-                value: divisor,
-            },
-            operation,
-        )?,
-        None => divisor,
-    };
-    let op = BinaryOperator::Divide;
-    builder.emit(Expression::Binary { op, left, right }, operation)
+) -> Value {
+    let right = splat(builder, operation, vector_size(count), divisor);
+    binary(builder, operation, BinaryOperator::Divide, left, right)
 }
 
 /// A texel of four components, the missing ones 0.
-pub fn widened<B: Builder>(
-    builder: &mut B,
-    operation: &Operation,
-    place: usize,
-) -> Result<Value, SpirvError> {
-    let value = operand(builder, operation, place)?;
-    let scalar = operand_scalar(builder, operation, place)?;
-    let count = component_count(builder.shape(builder.type_of(operation.need(place)?)));
+pub fn widened<B: Builder>(builder: &mut B, operation: &Operation, place: usize) -> Value {
+    let value = operand(builder, operation, place);
+    let scalar = operand_scalar(builder, operation, place);
+    let count = component_count(operand_shape(builder, operation, place));
     if count == 4 {
-        return Ok(value);
+        return value;
     }
     let Some(zero) = ir_kinds::Literal::zero(scalar) else {
-        return Err(operation.malformed(Malformed::WrongType));
+        return refuse(builder, operation.malformed(Malformed::WrongType));
     };
-    let zero = builder.literal(zero, operation)?;
+    let zero = builder.literal(zero, operation);
     let mut components = Vec::new(builder.alloc());
     for index in 0..4u32 {
         let part = if index >= count {
@@ -140,10 +137,10 @@ pub fn widened<B: Builder>(
         } else if count == 1 {
             value
         } else {
-            part_of(builder, operation, value, index)?
+            part_of(builder, operation, value, index)
         };
-        components.push(part)?;
+        keep(builder, &mut components, part);
     }
-    let ty = builder.vector(vector_size(4), scalar)?;
-    builder.emit(Expression::Compose { ty, components }, operation)
+    let ty = builder.vector(vector_size(4), scalar);
+    compose(builder, operation, ty, components)
 }

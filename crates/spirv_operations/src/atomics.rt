@@ -6,11 +6,11 @@ use ir_blocks::{AtomicFunction, Statement};
 use ir_flags::Capabilities;
 use ir_kinds::{Literal, PredeclaredType, Scalar};
 use ir_types::Expression;
-use spirv_expressions::{Operation, Value, as_kind, part_of, result_scalar, signed};
+use spirv_expressions::{Operation, Value, as_kind, need, part_of, refuse, result_scalar, signed};
 use spirv_images::{read_coordinates, widened};
 use spirv_numbers::ops;
 use spirv_types::Shape;
-use spirv_words::{Feature, Malformed, SpirvError};
+use spirv_words::{Feature, Malformed};
 
 // What the opcode does, if it is one that takes a value.
 fn function(opcode: u16) -> Option<AtomicFunction> {
@@ -28,27 +28,25 @@ fn function(opcode: u16) -> Option<AtomicFunction> {
 }
 
 /// Does an atomic operation.
-pub fn atomic<L: FunctionBuilder>(
-    lowering: &mut L,
-    operation: &Operation,
-) -> Result<(), SpirvError> {
-    let id = operation.need(0)?;
+pub fn atomic<L: FunctionBuilder>(lowering: &mut L, operation: &Operation) {
+    let id = need(lowering, operation, 0);
     if let Slot::Texel { image, .. } = lowering.slot(id) {
         return change_texel(lowering, operation, image);
     }
-    let place = lowering.pointer(id, operation)?;
-    let ty = lowering.pointer_at(place, operation)?.ty;
+    let place = lowering.pointer(id, operation);
+    let ty = lowering.pointer_at(place, operation).ty;
     let Shape::Scalar(scalar) = lowering.shape(ty) else {
-        return Err(operation.malformed(Malformed::WrongType));
+        lowering.fail(operation.malformed(Malformed::WrongType));
+        return;
     };
-    let pointer = lowering.way(place, operation)?;
+    let pointer = lowering.way(place, operation);
     match operation.instruction.opcode {
         ops::ATOMIC_LOAD => {
-            let value = lowering.emit(Expression::Load { pointer }, operation)?;
+            let value = lowering.emit(Expression::Load { pointer }, operation);
             lowering.define(operation, value)
         }
         ops::ATOMIC_STORE => {
-            let value = signed(lowering, operation, 3, scalar.kind)?;
+            let value = signed(lowering, operation, 3, scalar.kind);
             statement(lowering, operation, Statement::Store { pointer, value })
         }
         ops::ATOMIC_COMPARE_EXCHANGE => compare(lowering, operation, pointer, scalar),
@@ -62,15 +60,15 @@ fn compare<L: FunctionBuilder>(
     operation: &Operation,
     pointer: Value,
     scalar: Scalar,
-) -> Result<(), SpirvError> {
-    let ty = lowering.predeclared(PredeclaredType::AtomicCompareExchangeWeakResult(scalar))?;
-    let value = signed(lowering, operation, 4, scalar.kind)?;
-    let compared = signed(lowering, operation, 5, scalar.kind)?;
+) {
+    let ty = lowering.predeclared(PredeclaredType::AtomicCompareExchangeWeakResult(scalar));
+    let value = signed(lowering, operation, 4, scalar.kind);
+    let compared = signed(lowering, operation, 5, scalar.kind);
     let result = Expression::AtomicResult {
         ty,
         comparison: true,
     };
-    let answer = lowering.always(result, operation)?;
+    let answer = lowering.always(result, operation);
     let exchange = Statement::Atomic {
         pointer,
         fun: AtomicFunction::Exchange {
@@ -79,10 +77,10 @@ fn compare<L: FunctionBuilder>(
         value,
         result: Some(answer),
     };
-    statement(lowering, operation, exchange)?;
-    let old = part_of(lowering, operation, answer, 0)?;
-    let to = result_scalar(lowering, operation)?;
-    let old = as_kind(lowering, operation, old, scalar.kind, to.kind)?;
+    statement(lowering, operation, exchange);
+    let old = part_of(lowering, operation, answer, 0);
+    let to = result_scalar(lowering, operation);
+    let old = as_kind(lowering, operation, old, scalar.kind, to.kind);
     lowering.define(operation, old)
 }
 
@@ -92,68 +90,68 @@ fn change<L: FunctionBuilder>(
     operation: &Operation,
     pointer: Value,
     scalar: Scalar,
-) -> Result<(), SpirvError> {
+) {
     let (fun, value) = match operation.instruction.opcode {
-        ops::ATOMIC_I_INCREMENT => (AtomicFunction::Add, one(lowering, operation, scalar)?),
-        ops::ATOMIC_I_DECREMENT => (AtomicFunction::Subtract, one(lowering, operation, scalar)?),
+        ops::ATOMIC_I_INCREMENT => (AtomicFunction::Add, one(lowering, operation, scalar)),
+        ops::ATOMIC_I_DECREMENT => (AtomicFunction::Subtract, one(lowering, operation, scalar)),
         opcode => match function(opcode) {
-            Some(fun) => (fun, signed(lowering, operation, 3, scalar.kind)?),
-            None => return Err(operation.unsupported()),
+            Some(fun) => (fun, signed(lowering, operation, 3, scalar.kind)),
+            None => {
+                lowering.fail(operation.unsupported());
+                return;
+            }
         },
     };
-    let ty = lowering.vector(None, scalar)?;
+    let ty = lowering.vector(None, scalar);
     let result = Expression::AtomicResult {
         ty,
         comparison: false,
     };
-    let answer = lowering.always(result, operation)?;
+    let answer = lowering.always(result, operation);
     let change = Statement::Atomic {
         pointer,
         fun,
         value,
         result: Some(answer),
     };
-    statement(lowering, operation, change)?;
-    let to = result_scalar(lowering, operation)?;
-    let old = as_kind(lowering, operation, answer, scalar.kind, to.kind)?;
+    statement(lowering, operation, change);
+    let to = result_scalar(lowering, operation);
+    let old = as_kind(lowering, operation, answer, scalar.kind, to.kind);
     lowering.define(operation, old)
 }
 
 // The number 1.
-fn one<L: FunctionBuilder>(
-    lowering: &mut L,
-    operation: &Operation,
-    scalar: Scalar,
-) -> Result<Value, SpirvError> {
+fn one<L: FunctionBuilder>(lowering: &mut L, operation: &Operation, scalar: Scalar) -> Value {
     match Literal::one(scalar) {
         Some(literal) => lowering.literal(literal, operation),
-        None => Err(operation.malformed(Malformed::WrongType)),
+        None => refuse(lowering, operation.malformed(Malformed::WrongType)),
     }
 }
 
 // Changes a texel. The IR gives no result for it.
-fn change_texel<L: FunctionBuilder>(
-    lowering: &mut L,
-    operation: &Operation,
-    id: u32,
-) -> Result<(), SpirvError> {
+fn change_texel<L: FunctionBuilder>(lowering: &mut L, operation: &Operation, id: u32) {
     let opcode = operation.instruction.opcode;
     let fun = match function(opcode) {
         Some(fun) if opcode != ops::ATOMIC_EXCHANGE => fun,
-        _ => return Err(operation.unsupported_by(Feature::ImageAtomic)),
+        _ => {
+            lowering.fail(operation.unsupported_by(Feature::ImageAtomic));
+            return;
+        }
     };
-    let Slot::Texel { coordinate, .. } = lowering.slot(operation.need(0)?) else {
-        return Err(operation.malformed(Malformed::NoPointer));
+    let pointer = need(lowering, operation, 0);
+    let Slot::Texel { coordinate, .. } = lowering.slot(pointer) else {
+        lowering.fail(operation.malformed(Malformed::NoPointer));
+        return;
     };
     lowering.require(Capabilities::TEXTURE_ATOMIC);
-    let image = lowering.image(id, operation)?;
+    let image = lowering.image(id, operation);
     let place = [id, coordinate];
     let texel = Operation {
         instruction: operation.instruction,
         operands: &place,
     };
-    let at = read_coordinates(lowering, &texel, &image, 1, false)?;
-    let value = signed(lowering, operation, 3, image.shape.scalar.kind)?;
+    let at = read_coordinates(lowering, &texel, &image, 1, false);
+    let value = signed(lowering, operation, 3, image.shape.scalar.kind);
     let change = Statement::ImageAtomic {
         image: image.value,
         coordinate: at.coordinate,
@@ -168,20 +166,19 @@ fn change_texel<L: FunctionBuilder>(
 const ORDERING: u32 = 0x7f00;
 
 /// Stores a texel.
-pub fn store_texel<L: FunctionBuilder>(
-    lowering: &mut L,
-    operation: &Operation,
-) -> Result<(), SpirvError> {
-    let image = lowering.image(operation.need(0)?, operation)?;
-    let at = read_coordinates(lowering, operation, &image, 1, false)?;
+pub fn store_texel<L: FunctionBuilder>(lowering: &mut L, operation: &Operation) {
+    let id = need(lowering, operation, 0);
+    let image = lowering.image(id, operation);
+    let at = read_coordinates(lowering, operation, &image, 1, false);
     if operation
         .operands
         .get(3)
         .is_some_and(|mask| mask & !ORDERING != 0)
     {
-        return Err(operation.unsupported_by(Feature::ImageWriteOperands));
+        lowering.fail(operation.unsupported_by(Feature::ImageWriteOperands));
+        return;
     }
-    let value = widened(lowering, operation, 2)?;
+    let value = widened(lowering, operation, 2);
     let store = Statement::ImageStore {
         image: image.value,
         coordinate: at.coordinate,

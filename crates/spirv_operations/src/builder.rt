@@ -2,12 +2,11 @@
 
 use ir_arena::span::Span;
 use ir_blocks::{Block, Statement};
-use ir_flags::Capabilities;
+use ir_flags::{Capabilities, SubgroupOperationSet};
 use ir_kinds::PredeclaredType;
 use ir_types::Expression;
-use spirv_expressions::{Builder, Operation, Value};
-use spirv_types::{ImageUse, TypeHandle};
-use spirv_words::SpirvError;
+use spirv_expressions::{Builder, Operation, Value, no_value};
+use spirv_types::{ImageUse, Stored, TypeHandle};
 
 /// What an id is in the function that is built.
 #[derive(Clone, Copy)]
@@ -67,8 +66,8 @@ pub struct Pointer {
     pub ty: u32,
     /// The image that it is.
     pub image: Option<ImageUse>,
-    /// Whether the matrices to which it leads are stored row by row.
-    pub row_major: bool,
+    /// How the matrices to which it leads are stored.
+    pub stored: Stored,
     /// It is this column of the matrix to which it leads, which is stored row by row.
     pub column: Option<PointerStep>,
     /// The type that was built for it in place of its own.
@@ -84,16 +83,21 @@ pub fn root(value: Value, ty: u32) -> Pointer {
         scope: None,
         ty,
         image: None,
-        row_major: false,
+        stored: Stored::PLAIN,
         column: None,
         rebuilt: None,
     }
 }
 
+/// No pointer.
+pub fn no_pointer() -> Pointer {
+    root(no_value(), 0)
+}
+
 /// A function that is being built, with its statements, and with what its ids are.
 pub trait FunctionBuilder: Builder {
     /// The name of an id, if it has one.
-    fn name_of(&self, id: u32) -> Result<Option<String>, SpirvError>;
+    fn name_of(&mut self, id: u32) -> Option<String>;
 
     /// The place of the function with this id among those that are built.
     fn place_of(&self, function: u32) -> Option<u32>;
@@ -108,27 +112,22 @@ pub trait FunctionBuilder: Builder {
     fn set(&mut self, id: u32, slot: Slot);
 
     /// What a variable or a pointer is; a variable is named where it was not before.
-    fn resolve(&mut self, id: u32, operation: &Operation) -> Result<Slot, SpirvError>;
+    fn resolve(&mut self, id: u32, operation: &Operation) -> Slot;
 
     /// The place of the pointer that an id is.
-    fn pointer(&mut self, id: u32, operation: &Operation) -> Result<u32, SpirvError>;
+    fn pointer(&mut self, id: u32, operation: &Operation) -> u32;
 
     /// The pointer at a place.
-    fn pointer_at(&self, place: u32, operation: &Operation) -> Result<Pointer, SpirvError>;
+    fn pointer_at(&mut self, place: u32, operation: &Operation) -> Pointer;
 
     /// A pointer more; answers its place.
-    fn add_pointer(&mut self, pointer: Pointer) -> Result<u32, SpirvError>;
+    fn add_pointer(&mut self, pointer: Pointer) -> u32;
 
     /// The expression of a pointer, made anew where the one that it has is not in scope.
-    fn way(&mut self, place: u32, operation: &Operation) -> Result<Value, SpirvError>;
+    fn way(&mut self, place: u32, operation: &Operation) -> Value;
 
     /// A part of a value or of what a pointer points to.
-    fn step(
-        &mut self,
-        base: Value,
-        step: PointerStep,
-        operation: &Operation,
-    ) -> Result<Value, SpirvError>;
+    fn step(&mut self, base: Value, step: PointerStep, operation: &Operation) -> Value;
 
     /// The scope that is built.
     fn scope(&self) -> u32;
@@ -137,14 +136,10 @@ pub trait FunctionBuilder: Builder {
     fn enter(&mut self, scope: u32);
 
     /// The result of an instruction is this value; one that outlives its scope is kept in a local.
-    fn define(&mut self, operation: &Operation, value: Value) -> Result<(), SpirvError>;
+    fn define(&mut self, operation: &Operation, value: Value);
 
     /// An expression that is always there.
-    fn always(
-        &mut self,
-        expression: Expression,
-        operation: &Operation,
-    ) -> Result<Value, SpirvError>;
+    fn always(&mut self, expression: Expression, operation: &Operation) -> Value;
 
     /// The expression that an id was named as before in the function that is built.
     fn named_before(&self, id: u32) -> Option<Value>;
@@ -153,10 +148,13 @@ pub trait FunctionBuilder: Builder {
     fn set_named(&mut self, id: u32, value: Value);
 
     /// The struct that an expression gives, which is built once.
-    fn predeclared(&mut self, of: PredeclaredType) -> Result<TypeHandle, SpirvError>;
+    fn predeclared(&mut self, of: PredeclaredType) -> TypeHandle;
 
     /// The module uses this.
     fn require(&mut self, capability: Capabilities);
+
+    /// The module uses these operations of subgroups.
+    fn require_operations(&mut self, operations: SubgroupOperationSet);
 
     /// A local of this type; answers the pointer to it.
     fn local(
@@ -165,23 +163,23 @@ pub trait FunctionBuilder: Builder {
         ty: TypeHandle,
         init: Option<Value>,
         span: Span,
-    ) -> Result<Value, SpirvError>;
+    ) -> Value;
 
     /// An expression that is computed here, with this span.
-    fn compute(&mut self, expression: Expression, span: Span) -> Result<Value, SpirvError>;
+    fn compute(&mut self, expression: Expression, span: Span) -> Value;
 
     /// An expression that is always there, with this span.
-    fn place(&mut self, expression: Expression, span: Span) -> Result<Value, SpirvError>;
+    fn place(&mut self, expression: Expression, span: Span) -> Value;
 
     /// A statement in the innermost block.
-    fn add(&mut self, statement: Statement, span: Span) -> Result<(), SpirvError>;
+    fn add(&mut self, statement: Statement, span: Span);
 
     /// Opens a block.
-    fn open(&mut self) -> Result<(), SpirvError>;
+    fn open(&mut self);
 
     /// Closes the innermost block.
-    fn close(&mut self) -> Result<Block, SpirvError>;
+    fn close(&mut self) -> Block;
 
     /// Emits what no statement emits yet.
-    fn flush(&mut self) -> Result<(), SpirvError>;
+    fn flush(&mut self);
 }

@@ -5,30 +5,27 @@ use crate::storage::statement;
 use ir_arena::handle::{Handle, NonMaxU32};
 use ir_blocks::Statement;
 use ir_types::Expression;
-use spirv_expressions::{Operation, Value};
+use spirv_expressions::{Operation, Value, keep, need, refuse};
 use spirv_types::Shape;
-use spirv_words::{Feature, Malformed, SpirvError};
+use spirv_words::{Feature, Malformed};
 
 /// A call of a function, which stands before this one.
-pub fn call_function<L: FunctionBuilder>(
-    lowering: &mut L,
-    operation: &Operation,
-) -> Result<(), SpirvError> {
+pub fn call_function<L: FunctionBuilder>(lowering: &mut L, operation: &Operation) {
     let mut arguments = Vec::new(lowering.alloc());
     for id in operation.operands.get(1..).unwrap_or(&[]) {
-        let [first, second] = argument(lowering, *id, operation)?;
+        let [first, second] = argument(lowering, *id, operation);
         if let Some(value) = first {
-            arguments.push(value)?;
+            keep(lowering, &mut arguments, value);
         }
         if let Some(value) = second {
-            arguments.push(value)?;
+            keep(lowering, &mut arguments, value);
         }
     }
-    let place = lowering
-        .place_of(operation.need(0)?)
-        .and_then(NonMaxU32::new);
+    let callee = need(lowering, operation, 0);
+    let place = lowering.place_of(callee).and_then(NonMaxU32::new);
     let Some(place) = place else {
-        return Err(operation.malformed(Malformed::NoFunction));
+        lowering.fail(operation.malformed(Malformed::NoFunction));
+        return;
     };
     let function = Handle::new(place);
     if matches!(lowering.shape(operation.instruction.ty), Shape::Void) {
@@ -39,13 +36,13 @@ pub fn call_function<L: FunctionBuilder>(
         };
         return statement(lowering, operation, call);
     }
-    let value = lowering.always(Expression::CallResult(function), operation)?;
+    let value = lowering.always(Expression::CallResult(function), operation);
     let call = Statement::Call {
         function,
         arguments,
         result: Some(value),
     };
-    statement(lowering, operation, call)?;
+    statement(lowering, operation, call);
     lowering.define(operation, value)
 }
 
@@ -54,37 +51,38 @@ fn argument<L: FunctionBuilder>(
     lowering: &mut L,
     id: u32,
     operation: &Operation,
-) -> Result<[Option<Value>; 2], SpirvError> {
+) -> [Option<Value>; 2] {
     let is_value = matches!(lowering.slot(id), Slot::Value { .. });
     if is_value || lowering.is_known(id) {
-        return Ok([Some(lowering.value(id, operation)?), None]);
+        return [Some(lowering.value(id, operation)), None];
     }
-    match lowering.resolve(id, operation)? {
+    match lowering.resolve(id, operation) {
         Slot::Pair { image, sampler } => {
-            let image = pointer(lowering, image, operation)?;
-            let sampler = pointer(lowering, sampler, operation)?;
-            Ok([Some(image), Some(sampler)])
+            let image = pointer(lowering, image, operation);
+            let sampler = pointer(lowering, sampler, operation);
+            [Some(image), Some(sampler)]
         }
-        Slot::Pointer(place) => Ok([Some(pointer(lowering, place, operation)?), None]),
+        Slot::Pointer(place) => [Some(pointer(lowering, place, operation)), None],
         Slot::Nothing | Slot::Value { .. } | Slot::Texel { .. } => {
-            Err(operation.malformed(Malformed::NoValue))
+            lowering.fail(operation.malformed(Malformed::NoValue));
+            [None, None]
         }
     }
 }
 
 // A pointer that is passed; none to matrices that are stored row by row.
-fn pointer<L: FunctionBuilder>(
-    lowering: &mut L,
-    place: u32,
-    operation: &Operation,
-) -> Result<Value, SpirvError> {
-    let pointer = lowering.pointer_at(place, operation)?;
+fn pointer<L: FunctionBuilder>(lowering: &mut L, place: u32, operation: &Operation) -> Value {
+    let pointer = lowering.pointer_at(place, operation);
     let is_matrix = matches!(
         lowering.shape(pointer.ty),
         Shape::Matrix { .. } | Shape::Array { .. }
     );
-    if pointer.column.is_some() || pointer.row_major && is_matrix {
-        return Err(operation.unsupported_by(Feature::RowMajorArgument));
+    if pointer.column.is_some() || !pointer.stored.is_plain() && is_matrix {
+        let instruction = &operation.instruction;
+        let error = pointer
+            .stored
+            .unsupported(instruction, Feature::RowMajorArgument);
+        return refuse(lowering, error);
     }
     lowering.way(place, operation)
 }

@@ -3,13 +3,18 @@
 use crate::builder::FunctionBuilder;
 use crate::storage::statement;
 use ir_blocks::{GatherMode, Statement};
-use ir_flags::{Barrier, Capabilities};
-use ir_kinds::{CollectiveOperation, Direction, ScalarKind, SubgroupOperation};
+use ir_flags::{Barrier, Capabilities, SubgroupOperationSet};
+use ir_kinds::{
+    BinaryOperator, CollectiveOperation, Direction, Literal, RelationalFunction, Scalar,
+    ScalarKind, SubgroupOperation, VectorSize,
+};
 use ir_types::Expression;
-use spirv_expressions::{Operation, Value, as_kind, operand, result_scalar, signed};
+use spirv_expressions::{
+    Operation, Value, as_kind, binary, need, operand, result_scalar, select, signed, splat,
+};
 use spirv_numbers::ops;
 use spirv_types::TypeHandle;
-use spirv_words::{Feature, SpirvError};
+use spirv_words::Feature;
 
 // Whose scope a barrier or an operation has (section 3.27).
 const WORKGROUP: i64 = 2;
@@ -25,15 +30,14 @@ static MEMORY: [(i64, Barrier); 4] = [
 ];
 
 /// Waits for other invocations, or for memory.
-pub fn barrier<L: FunctionBuilder>(
-    lowering: &mut L,
-    operation: &Operation,
-) -> Result<(), SpirvError> {
+pub fn barrier<L: FunctionBuilder>(lowering: &mut L, operation: &Operation) {
     let is_control = operation.instruction.opcode == ops::CONTROL_BARRIER;
-    let semantics = lowering.constant(operation.need(if is_control { 2 } else { 1 })?);
-    let scope = lowering.constant(operation.need(0)?);
-    let (Some(semantics), Some(scope)) = (semantics, scope) else {
-        return Err(operation.unsupported_by(Feature::BarrierOperand));
+    let semantics = need(lowering, operation, if is_control { 2 } else { 1 });
+    let scope = need(lowering, operation, 0);
+    let (Some(semantics), Some(scope)) = (lowering.constant(semantics), lowering.constant(scope))
+    else {
+        lowering.fail(operation.unsupported_by(Feature::BarrierOperand));
+        return;
     };
     let mut set = 0;
     for row in &MEMORY {
@@ -41,12 +45,10 @@ pub fn barrier<L: FunctionBuilder>(
             set |= row.1.0;
         }
     }
-    if is_control {
-        match scope {
-            SUBGROUP => set |= Barrier::SUB_GROUP.0,
-            WORKGROUP => {}
-            _ => return Err(operation.unsupported_by(Feature::BarrierScope)),
-        }
+    if is_control && scope == SUBGROUP {
+        set |= Barrier::SUB_GROUP.0;
+    } else if is_control && scope != WORKGROUP {
+        lowering.fail(operation.unsupported_by(Feature::BarrierScope));
     }
     if set & Barrier::SUB_GROUP.0 != 0 {
         lowering.require(Capabilities::SUBGROUP);
@@ -57,7 +59,7 @@ pub fn barrier<L: FunctionBuilder>(
     } else {
         Statement::MemoryBarrier(Barrier(set))
     };
-    statement(lowering, operation, barrier)
+    statement(lowering, operation, barrier);
 }
 
 // Operations over a subgroup, with the sign that their argument gets.
@@ -120,13 +122,49 @@ static COLLECTIVES: [(u16, SubgroupOperation, Option<ScalarKind>); 16] = [
     ),
 ];
 
+// Opcodes of operations that have no scope among their operands (the extensions shader_ballot and subgroup_vote), and two that
+// are made of others.
+const ELECT: u16 = 333;
+
+const ALL_EQUAL: u16 = 336;
+
+const BALLOT_KHR: u16 = 4421;
+
+const FIRST_INVOCATION_KHR: u16 = 4422;
+
+const ALL_KHR: u16 = 4428;
+
+const ANY_KHR: u16 = 4429;
+
+const ALL_EQUAL_KHR: u16 = 4430;
+
+/// Whether it is an operation of a subgroup.
+pub fn is_group(opcode: u16) -> bool {
+    matches!(
+        opcode,
+        ELECT..=ops::GROUP_NON_UNIFORM_QUAD_SWAP
+            | BALLOT_KHR
+            | FIRST_INVOCATION_KHR
+            | ALL_KHR
+            | ANY_KHR
+            | ALL_EQUAL_KHR
+    )
+}
+
 /// Does an operation of a subgroup.
-pub fn group<L: FunctionBuilder>(
-    lowering: &mut L,
-    operation: &Operation,
-) -> Result<(), SpirvError> {
-    if lowering.constant(operation.need(0)?) != Some(SUBGROUP) {
-        return Err(operation.unsupported_by(Feature::GroupScope));
+pub fn group<L: FunctionBuilder>(lowering: &mut L, operation: &Operation) {
+    match operation.instruction.opcode {
+        BALLOT_KHR => return ballot(lowering, operation, 0),
+        FIRST_INVOCATION_KHR => return first_value(lowering, operation),
+        ALL_KHR => return vote(lowering, operation, SubgroupOperation::All, 0),
+        ANY_KHR => return vote(lowering, operation, SubgroupOperation::Any, 0),
+        ALL_EQUAL_KHR => return all_equal(lowering, operation, 0),
+        _ => {}
+    }
+    let scope = need(lowering, operation, 0);
+    if lowering.constant(scope) != Some(SUBGROUP) {
+        lowering.fail(operation.unsupported_by(Feature::GroupScope));
+        return;
     }
     let opcode = operation.instruction.opcode;
     for row in &COLLECTIVES {
@@ -135,47 +173,142 @@ pub fn group<L: FunctionBuilder>(
         }
     }
     match opcode {
-        ops::GROUP_NON_UNIFORM_ALL => vote(lowering, operation, SubgroupOperation::All),
-        ops::GROUP_NON_UNIFORM_ANY => vote(lowering, operation, SubgroupOperation::Any),
-        ops::GROUP_NON_UNIFORM_BALLOT => {
-            let predicate = Some(operand(lowering, operation, 1)?);
-            let value = lowering.always(Expression::SubgroupBallotResult, operation)?;
-            let ballot = Statement::SubgroupBallot {
-                result: value,
-                predicate,
-            };
-            statement(lowering, operation, ballot)?;
-            lowering.define(operation, value)
-        }
+        ELECT => elect(lowering, operation),
+        ALL_EQUAL => all_equal(lowering, operation, 1),
+        ops::GROUP_NON_UNIFORM_ALL => vote(lowering, operation, SubgroupOperation::All, 1),
+        ops::GROUP_NON_UNIFORM_ANY => vote(lowering, operation, SubgroupOperation::Any, 1),
+        ops::GROUP_NON_UNIFORM_BALLOT => ballot(lowering, operation, 1),
         _ => gather(lowering, operation),
     }
 }
 
-// The result of an operation of a subgroup.
-fn result_of<L: FunctionBuilder>(
+// Which invocations have a predicate, the operand at this place.
+fn ballot<L: FunctionBuilder>(lowering: &mut L, operation: &Operation, place: usize) {
+    lowering.require_operations(SubgroupOperationSet::BALLOT);
+    let predicate = Some(operand(lowering, operation, place));
+    let value = lowering.always(Expression::SubgroupBallotResult, operation);
+    let ballot = Statement::SubgroupBallot {
+        result: value,
+        predicate,
+    };
+    statement(lowering, operation, ballot);
+    lowering.define(operation, value)
+}
+
+// The value of the first invocation.
+fn first_value<L: FunctionBuilder>(lowering: &mut L, operation: &Operation) {
+    let argument = operand(lowering, operation, 0);
+    let ty = lowering.built(operation.instruction.ty, operation);
+    let value = broadcast_first(lowering, operation, argument, ty);
+    lowering.define(operation, value)
+}
+
+// A value of this type as the first invocation has it.
+fn broadcast_first<L: FunctionBuilder>(
     lowering: &mut L,
     operation: &Operation,
+    argument: Value,
     ty: TypeHandle,
-) -> Result<Value, SpirvError> {
+) -> Value {
+    lowering.require_operations(SubgroupOperationSet::BALLOT);
+    let first = result_of(lowering, operation, ty);
+    let gather = Statement::SubgroupGather {
+        mode: GatherMode::BroadcastFirst,
+        argument,
+        result: first,
+    };
+    statement(lowering, operation, gather);
+    first
+}
+
+// Truth values as the numbers 1 and 0, since no truth values are taken from other invocations.
+fn numbers_of<L: FunctionBuilder>(
+    lowering: &mut L,
+    operation: &Operation,
+    condition: Value,
+    size: Option<VectorSize>,
+) -> Value {
+    let one = lowering.literal(Literal::U32(1), operation);
+    let zero = lowering.literal(Literal::U32(0), operation);
+    let accept = splat(lowering, operation, size, one);
+    let reject = splat(lowering, operation, size, zero);
+    select(lowering, operation, condition, accept, reject)
+}
+
+// Whether all invocations have the same value, the operand at this place: that of the first one.
+fn all_equal<L: FunctionBuilder>(lowering: &mut L, operation: &Operation, place: usize) {
+    let id = need(lowering, operation, place);
+    let ty = lowering.type_of(id);
+    let shape = lowering.shape(ty);
+    let mut left = operand(lowering, operation, place);
+    let is_truth = shape.scalar().map(|scalar| scalar.kind) == Some(ScalarKind::Bool);
+    let of_value = if is_truth {
+        left = numbers_of(lowering, operation, left, shape.size());
+        lowering.vector(shape.size(), Scalar::U32)
+    } else {
+        lowering.built(ty, operation)
+    };
+    let right = broadcast_first(lowering, operation, left, of_value);
+    let mut equal = binary(lowering, operation, BinaryOperator::Equal, left, right);
+    if shape.size().is_some() {
+        let fun = RelationalFunction::All;
+        let argument = equal;
+        equal = lowering.emit(Expression::Relational { fun, argument }, operation);
+    }
+    vote_on(lowering, operation, SubgroupOperation::All, equal);
+}
+
+// Whether no active invocation comes before: the sum of ones over those before is 0.
+fn elect<L: FunctionBuilder>(lowering: &mut L, operation: &Operation) {
+    lowering.require_operations(SubgroupOperationSet::ARITHMETIC);
+    let argument = lowering.literal(Literal::U32(1), operation);
+    let right = lowering.literal(Literal::U32(0), operation);
+    let ty = lowering.vector(None, Scalar::U32);
+    let left = result_of(lowering, operation, ty);
+    let sum = Statement::SubgroupCollectiveOperation {
+        op: SubgroupOperation::Add,
+        collective_op: CollectiveOperation::ExclusiveScan,
+        argument,
+        result: left,
+    };
+    statement(lowering, operation, sum);
+    let value = binary(lowering, operation, BinaryOperator::Equal, left, right);
+    lowering.define(operation, value)
+}
+
+// The result of an operation of a subgroup.
+fn result_of<L: FunctionBuilder>(lowering: &mut L, operation: &Operation, ty: TypeHandle) -> Value {
     lowering.always(Expression::SubgroupOperationResult { ty }, operation)
 }
 
-// A vote.
+// A vote on the operand at this place.
 fn vote<L: FunctionBuilder>(
     lowering: &mut L,
     operation: &Operation,
     op: SubgroupOperation,
-) -> Result<(), SpirvError> {
-    let argument = operand(lowering, operation, 1)?;
-    let ty = lowering.built(operation.instruction.ty, operation)?;
-    let value = result_of(lowering, operation, ty)?;
+    place: usize,
+) {
+    let argument = operand(lowering, operation, place);
+    vote_on(lowering, operation, op, argument)
+}
+
+// A vote on a value.
+fn vote_on<L: FunctionBuilder>(
+    lowering: &mut L,
+    operation: &Operation,
+    op: SubgroupOperation,
+    argument: Value,
+) {
+    lowering.require_operations(SubgroupOperationSet::VOTE);
+    let ty = lowering.built(operation.instruction.ty, operation);
+    let value = result_of(lowering, operation, ty);
     let vote = Statement::SubgroupCollectiveOperation {
         op,
         collective_op: CollectiveOperation::Reduce,
         argument,
         result: value,
     };
-    statement(lowering, operation, vote)?;
+    statement(lowering, operation, vote);
     lowering.define(operation, value)
 }
 
@@ -185,47 +318,51 @@ fn collective<L: FunctionBuilder>(
     operation: &Operation,
     op: SubgroupOperation,
     sign: Option<ScalarKind>,
-) -> Result<(), SpirvError> {
-    let collective_op = match operation.need(1)? {
+) {
+    let collective_op = match need(lowering, operation, 1) {
         0 => CollectiveOperation::Reduce,
         1 => CollectiveOperation::InclusiveScan,
         2 => CollectiveOperation::ExclusiveScan,
-        _ => return Err(operation.unsupported_by(Feature::PartOfSubgroup)),
+        _ => {
+            lowering.fail(operation.unsupported_by(Feature::PartOfSubgroup));
+            return;
+        }
     };
-    let to = result_scalar(lowering, operation)?;
+    let to = result_scalar(lowering, operation);
     let kind = sign.unwrap_or(to.kind);
-    let argument = signed(lowering, operation, 2, kind)?;
+    let argument = signed(lowering, operation, 2, kind);
     let mut of_kind = to;
     of_kind.kind = kind;
     let size = lowering.shape(operation.instruction.ty).size();
-    let ty = lowering.vector(size, of_kind)?;
-    let value = result_of(lowering, operation, ty)?;
+    let ty = lowering.vector(size, of_kind);
+    let value = result_of(lowering, operation, ty);
     let collect = Statement::SubgroupCollectiveOperation {
         op,
         collective_op,
         argument,
         result: value,
     };
-    statement(lowering, operation, collect)?;
-    let value = as_kind(lowering, operation, value, kind, to.kind)?;
+    statement(lowering, operation, collect);
+    let value = as_kind(lowering, operation, value, kind, to.kind);
     lowering.define(operation, value)
 }
 
 // A value of another invocation.
-fn gather<L: FunctionBuilder>(lowering: &mut L, operation: &Operation) -> Result<(), SpirvError> {
+fn gather<L: FunctionBuilder>(lowering: &mut L, operation: &Operation) {
     if !is_gather(operation.instruction.opcode) {
-        return Err(operation.unsupported());
+        lowering.fail(operation.unsupported());
+        return;
     }
-    let argument = operand(lowering, operation, 1)?;
-    let mode = gather_mode(lowering, operation)?;
-    let ty = lowering.built(operation.instruction.ty, operation)?;
-    let value = result_of(lowering, operation, ty)?;
+    let argument = operand(lowering, operation, 1);
+    let mode = gather_mode(lowering, operation);
+    let ty = lowering.built(operation.instruction.ty, operation);
+    let value = result_of(lowering, operation, ty);
     let gather = Statement::SubgroupGather {
         mode,
         argument,
         result: value,
     };
-    statement(lowering, operation, gather)?;
+    statement(lowering, operation, gather);
     lowering.define(operation, value)
 }
 
@@ -245,30 +382,35 @@ fn is_gather(opcode: u16) -> bool {
 }
 
 // Of which invocation the value is.
-fn gather_mode<L: FunctionBuilder>(
-    lowering: &mut L,
-    operation: &Operation,
-) -> Result<GatherMode, SpirvError> {
+fn gather_mode<L: FunctionBuilder>(lowering: &mut L, operation: &Operation) -> GatherMode {
     let opcode = operation.instruction.opcode;
     if opcode == ops::GROUP_NON_UNIFORM_BROADCAST_FIRST {
-        return Ok(GatherMode::BroadcastFirst);
+        return GatherMode::BroadcastFirst;
     }
     if opcode == ops::GROUP_NON_UNIFORM_QUAD_SWAP {
-        return match lowering.constant(operation.need(2)?) {
-            Some(0) => Ok(GatherMode::QuadSwap(Direction::X)),
-            Some(1) => Ok(GatherMode::QuadSwap(Direction::Y)),
-            Some(2) => Ok(GatherMode::QuadSwap(Direction::Diagonal)),
-            _ => Err(operation.unsupported_by(Feature::QuadSwapDirection)),
-        };
+        return GatherMode::QuadSwap(direction(lowering, operation));
     }
-    let index = operand(lowering, operation, 2)?;
+    let index = operand(lowering, operation, 2);
     match opcode {
-        ops::GROUP_NON_UNIFORM_BROADCAST => Ok(GatherMode::Broadcast(index)),
-        ops::GROUP_NON_UNIFORM_SHUFFLE => Ok(GatherMode::Shuffle(index)),
-        ops::GROUP_NON_UNIFORM_SHUFFLE_XOR => Ok(GatherMode::ShuffleXor(index)),
-        ops::GROUP_NON_UNIFORM_SHUFFLE_UP => Ok(GatherMode::ShuffleUp(index)),
-        ops::GROUP_NON_UNIFORM_SHUFFLE_DOWN => Ok(GatherMode::ShuffleDown(index)),
-        ops::GROUP_NON_UNIFORM_QUAD_BROADCAST => Ok(GatherMode::QuadBroadcast(index)),
-        _ => Err(operation.unsupported()),
+        ops::GROUP_NON_UNIFORM_BROADCAST => GatherMode::Broadcast(index),
+        ops::GROUP_NON_UNIFORM_SHUFFLE => GatherMode::Shuffle(index),
+        ops::GROUP_NON_UNIFORM_SHUFFLE_XOR => GatherMode::ShuffleXor(index),
+        ops::GROUP_NON_UNIFORM_SHUFFLE_UP => GatherMode::ShuffleUp(index),
+        ops::GROUP_NON_UNIFORM_SHUFFLE_DOWN => GatherMode::ShuffleDown(index),
+        _ => GatherMode::QuadBroadcast(index),
+    }
+}
+
+// Along what values of a quad are exchanged.
+fn direction<L: FunctionBuilder>(lowering: &mut L, operation: &Operation) -> Direction {
+    let id = need(lowering, operation, 2);
+    match lowering.constant(id) {
+        Some(0) => Direction::X,
+        Some(1) => Direction::Y,
+        Some(2) => Direction::Diagonal,
+        _ => {
+            lowering.fail(operation.unsupported_by(Feature::QuadSwapDirection));
+            Direction::X
+        }
     }
 }

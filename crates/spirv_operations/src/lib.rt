@@ -11,8 +11,8 @@ mod splits;
 mod storage;
 
 pub use atomics::{atomic, store_texel};
-pub use builder::{FunctionBuilder, Pointer, PointerStep, Slot, root};
+pub use builder::{FunctionBuilder, Pointer, PointerStep, Slot, no_pointer, root};
 pub use calls::call_function;
-pub use groups::{barrier, group};
+pub use groups::{barrier, group, is_group};
 pub use splits::split;
-pub use storage::{memory, phi_local, statement};
+pub use storage::{made_name, memory, phi_local, statement};

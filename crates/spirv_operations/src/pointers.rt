@@ -1,33 +1,36 @@
 // Pointers: a variable and steps from it.
 
 use crate::builder::{FunctionBuilder, Pointer, PointerStep, Slot};
+use ir_blocks::Statement;
 use ir_kinds::MathFunction;
 use ir_types::Expression;
-use spirv_expressions::{Operation, Value, call};
-use spirv_types::{Shape, TypeHandle};
-use spirv_words::{Feature, Malformed, SpirvError};
+use spirv_expressions::{
+    Operation, Value, call, component_count, compose, keep, need, part_of, plain_matrix, refuse,
+    relaid_matrix,
+};
+use spirv_types::{MatrixShape, MemberShape, Shape, TypeHandle, span_of};
+use spirv_words::{Feature, Malformed};
 
-// The pointer that is a step on, to what has this type.
+// The pointer that is a step on, to this part.
 fn go_on<L: FunctionBuilder>(
     lowering: &mut L,
     place: u32,
     step: PointerStep,
-    ty: u32,
-    row_major: bool,
+    part: MemberShape,
     operation: &Operation,
-) -> Result<u32, SpirvError> {
-    let from = lowering.pointer_at(place, operation)?;
-    let base = lowering.way(place, operation)?;
-    let value = lowering.step(base, step, operation)?;
+) -> u32 {
+    let from = lowering.pointer_at(place, operation);
+    let base = lowering.way(place, operation);
+    let value = lowering.step(base, step, operation);
     let scope = Some(lowering.scope());
     lowering.add_pointer(Pointer {
         base: Some(place),
         step,
         value,
         scope,
-        ty,
+        ty: part.ty,
         image: from.image,
-        row_major,
+        stored: part.stored,
         column: None,
         rebuilt: None,
     })
@@ -35,42 +38,41 @@ fn go_on<L: FunctionBuilder>(
 
 // The step that an index of an access chain is.
 fn index_step<L: FunctionBuilder>(
-    lowering: &L,
+    lowering: &mut L,
     ty: u32,
     id: u32,
     operation: &Operation,
-) -> Result<PointerStep, SpirvError> {
+) -> PointerStep {
     let constant = match lowering.constant(id) {
         Some(value) => u32::try_from(value).ok(),
         None => None,
     };
     let fixed = lowering.is_constant(id);
     match (lowering.shape(ty), constant) {
-        (Shape::Struct { .. }, Some(index)) => Ok(PointerStep::Index(index)),
-        (Shape::Struct { .. }, None) => { Err(operation.unsupported_by(Feature::DynamicMember)) }
-        (_, Some(index)) if fixed => Ok(PointerStep::Index(index)),
-        _ => Ok(PointerStep::Dynamic(id)),
+        (Shape::Struct { .. }, Some(index)) => PointerStep::Index(index),
+        (Shape::Struct { .. }, None) => {
+            lowering.fail(operation.unsupported_by(Feature::DynamicMember));
+            PointerStep::Root
+        }
+        (_, Some(index)) if fixed => PointerStep::Index(index),
+        _ => PointerStep::Dynamic(id),
     }
 }
 
 // The pointer to the part of what a pointer points to at the index that an id is.
-fn follow<L: FunctionBuilder>(
-    lowering: &mut L,
-    place: u32,
-    id: u32,
-    operation: &Operation,
-) -> Result<u32, SpirvError> {
-    let from = lowering.pointer_at(place, operation)?;
-    let step = index_step(lowering, from.ty, id, operation)?;
+fn follow<L: FunctionBuilder>(lowering: &mut L, place: u32, id: u32, operation: &Operation) -> u32 {
+    let from = lowering.pointer_at(place, operation);
+    let step = index_step(lowering, from.ty, id, operation);
     let index = match step {
         PointerStep::Index(index) => index,
         PointerStep::Root | PointerStep::Dynamic(_) => 0,
     };
-    let Some(part) = lowering.part(from.ty, index) else {
-        return Err(operation.malformed(Malformed::Index));
+    let Some(mut part) = lowering.part(from.ty, index) else {
+        lowering.fail(operation.malformed(Malformed::Index));
+        return place;
     };
     let is_matrix = matches!(lowering.shape(from.ty), Shape::Matrix { .. });
-    if from.row_major && is_matrix {
+    if from.stored.row_major && is_matrix {
         // a column has no place of its own: the pointer stays at the matrix
         let mut column = from;
         column.column = Some(step);
@@ -78,82 +80,102 @@ fn follow<L: FunctionBuilder>(
         return lowering.add_pointer(column);
     }
     if let Some(of_row) = from.column {
-        let matrix = matrix_of(lowering, place, operation)?;
-        let row = go_on(lowering, matrix, step, part.ty, false, operation)?;
-        return go_on(lowering, row, of_row, part.ty, false, operation);
+        let matrix = matrix_of(lowering, place, operation);
+        let row = go_on(lowering, matrix, step, part, operation);
+        return go_on(lowering, row, of_row, part, operation);
     }
-    let row_major = from.row_major || part.row_major;
-    go_on(lowering, place, step, part.ty, row_major, operation)
+    if !is_matrix {
+        part.stored = from.stored.around(&part.stored);
+    }
+    go_on(lowering, place, step, part, operation)
 }
 
 // The pointer to the matrix of which a pointer is a column.
-fn matrix_of<L: FunctionBuilder>(
-    lowering: &mut L,
-    place: u32,
-    operation: &Operation,
-) -> Result<u32, SpirvError> {
-    let mut matrix = lowering.pointer_at(place, operation)?;
+fn matrix_of<L: FunctionBuilder>(lowering: &mut L, place: u32, operation: &Operation) -> u32 {
+    let mut matrix = lowering.pointer_at(place, operation);
     matrix.column = None;
     lowering.add_pointer(matrix)
 }
 
 /// An access chain.
-pub fn chain<L: FunctionBuilder>(
-    lowering: &mut L,
-    operation: &Operation,
-) -> Result<(), SpirvError> {
-    let slot = lowering.resolve(operation.need(0)?, operation)?;
-    let slot = match slot {
+pub fn chain<L: FunctionBuilder>(lowering: &mut L, operation: &Operation) {
+    let id = need(lowering, operation, 0);
+    let slot = match lowering.resolve(id, operation) {
         Slot::Pair { image, sampler } => Slot::Pair {
-            image: follow_all(lowering, image, operation)?,
-            sampler: follow_all(lowering, sampler, operation)?,
+            image: follow_all(lowering, image, operation),
+            sampler: follow_all(lowering, sampler, operation),
         },
-        Slot::Pointer(place) => Slot::Pointer(follow_all(lowering, place, operation)?),
+        Slot::Pointer(place) => Slot::Pointer(follow_all(lowering, place, operation)),
         Slot::Nothing | Slot::Value { .. } | Slot::Texel { .. } => {
-            return Err(operation.malformed(Malformed::NoPointer));
+            lowering.fail(operation.malformed(Malformed::NoPointer));
+            return;
         }
     };
     lowering.set(operation.instruction.id, slot);
-    Ok(())
 }
 
-fn follow_all<L: FunctionBuilder>(
-    lowering: &mut L,
-    place: u32,
-    operation: &Operation,
-) -> Result<u32, SpirvError> {
+fn follow_all<L: FunctionBuilder>(lowering: &mut L, place: u32, operation: &Operation) -> u32 {
     let mut at = place;
     for id in operation.operands.get(1..).unwrap_or(&[]) {
-        at = follow(lowering, at, *id, operation)?;
+        at = follow(lowering, at, *id, operation);
     }
-    Ok(at)
+    at
 }
 
 /// What a pointer points to.
-pub fn load<L: FunctionBuilder>(
-    lowering: &mut L,
-    place: u32,
-    operation: &Operation,
-) -> Result<Value, SpirvError> {
-    let from = lowering.pointer_at(place, operation)?;
-    let pointer = lowering.way(place, operation)?;
-    let value = lowering.emit(Expression::Load { pointer }, operation)?;
+pub fn load<L: FunctionBuilder>(lowering: &mut L, place: u32, operation: &Operation) -> Value {
+    let from = lowering.pointer_at(place, operation);
+    let pointer = lowering.way(place, operation);
+    let value = lowering.emit(Expression::Load { pointer }, operation);
     if let Some(column) = from.column {
-        let matrix = transpose(lowering, value, operation)?;
-        return lowering.step(matrix, column, operation);
+        return load_column(lowering, value, &from, column, operation);
     }
     if let Some(count) = rebuilt_parts(lowering, &from) {
-        let ty = lowering.built(from.ty, operation)?;
+        let ty = lowering.built(from.ty, operation);
         return compose_again(lowering, value, ty, count, operation);
     }
-    if !from.row_major {
-        return Ok(value);
+    let shape = lowering.shape(from.ty);
+    if let Some(matrix) = MatrixShape::of(&shape) {
+        return plain_matrix(lowering, operation, value, &matrix, from.stored);
     }
-    match lowering.shape(from.ty) {
-        Shape::Matrix { .. } => transpose(lowering, value, operation),
-        Shape::Array { .. } => { Err(operation.unsupported_by(Feature::LoadOfRowMajor)) }
-        _ => Ok(value),
+    refuse_arrays(lowering, operation, &from, &shape, Feature::LoadOfRowMajor);
+    value
+}
+
+// Refuses arrays of matrices that are stored otherwise than as the IR has them.
+fn refuse_arrays<L: FunctionBuilder>(
+    lowering: &mut L,
+    operation: &Operation,
+    pointer: &Pointer,
+    shape: &Shape,
+    feature: Feature,
+) {
+    if matches!(shape, Shape::Array { .. }) && !pointer.stored.is_plain() {
+        lowering.fail(pointer.stored.unsupported(&operation.instruction, feature));
     }
+}
+
+// A column of a matrix that is stored row by row and was loaded so: a component of each row.
+fn load_column<L: FunctionBuilder>(
+    lowering: &mut L,
+    value: Value,
+    pointer: &Pointer,
+    column: PointerStep,
+    operation: &Operation,
+) -> Value {
+    if pointer.stored.stride == 0 {
+        let none = [None, None, None];
+        let matrix = call(lowering, operation, MathFunction::Transpose, value, none);
+        return lowering.step(matrix, column, operation);
+    }
+    let mut components = Vec::new(lowering.alloc());
+    for index in 0..component_count(lowering.shape(pointer.ty)) {
+        let row = part_of(lowering, operation, value, index);
+        let part = lowering.step(row, column, operation);
+        keep(lowering, &mut components, part);
+    }
+    let ty = lowering.built(pointer.ty, operation);
+    compose(lowering, operation, ty, components)
 }
 
 // How many members a struct has that was built anew for a variable.
@@ -165,20 +187,6 @@ fn rebuilt_parts<L: FunctionBuilder>(lowering: &L, pointer: &Pointer) -> Option<
     }
 }
 
-fn transpose<L: FunctionBuilder>(
-    lowering: &mut L,
-    value: Value,
-    operation: &Operation,
-) -> Result<Value, SpirvError> {
-    call(
-        lowering,
-        operation,
-        MathFunction::Transpose,
-        value,
-        [None, None, None],
-    )
-}
-
 // The members of a struct, put together as another type.
 fn compose_again<L: FunctionBuilder>(
     lowering: &mut L,
@@ -186,38 +194,52 @@ fn compose_again<L: FunctionBuilder>(
     ty: TypeHandle,
     count: u32,
     operation: &Operation,
-) -> Result<Value, SpirvError> {
+) -> Value {
     let mut components = Vec::new(lowering.alloc());
     for index in 0..count {
-        components.push(lowering.emit(Expression::AccessIndex { base, index }, operation)?)?;
+        if lowering.has_failed() {
+            break;
+        }
+        let part = part_of(lowering, operation, base, index);
+        keep(lowering, &mut components, part);
     }
-    lowering.emit(Expression::Compose { ty, components }, operation)
+    compose(lowering, operation, ty, components)
 }
 
-/// The pointer to which a value is stored, and the value as it is stored there.
-pub fn target<L: FunctionBuilder>(
+// The value as it is stored into what a pointer points to.
+fn stored_value<L: FunctionBuilder>(
+    lowering: &mut L,
+    to: &Pointer,
+    value: Value,
+    operation: &Operation,
+) -> Value {
+    let mut value = value;
+    if let (Some(ty), Some(count)) = (to.rebuilt, rebuilt_parts(lowering, to)) {
+        value = compose_again(lowering, value, ty, count, operation);
+    }
+    let shape = lowering.shape(to.ty);
+    if let Some(matrix) = MatrixShape::of(&shape) {
+        return relaid_matrix(lowering, operation, value, &matrix, to.stored);
+    }
+    refuse_arrays(lowering, operation, to, &shape, Feature::StoreOfRowMajor);
+    value
+}
+
+/// Stores a value into what a pointer points to.
+pub fn store_into<L: FunctionBuilder>(
     lowering: &mut L,
     place: u32,
     value: Value,
     operation: &Operation,
-) -> Result<(Value, Value), SpirvError> {
-    let to = lowering.pointer_at(place, operation)?;
+) {
+    let to = lowering.pointer_at(place, operation);
     if to.column.is_some() {
-        return Err(operation.unsupported_by(Feature::StoreIntoColumn));
+        lowering.fail(operation.unsupported_by(Feature::StoreIntoColumn));
     }
-    let mut value = value;
-    if let (Some(ty), Some(count)) = (to.rebuilt, rebuilt_parts(lowering, &to)) {
-        value = compose_again(lowering, value, ty, count, operation)?;
-    }
-    if to.row_major {
-        value = match lowering.shape(to.ty) {
-            Shape::Matrix { .. } => transpose(lowering, value, operation)?,
-            Shape::Array { .. } => {
-                return Err(operation.unsupported_by(Feature::StoreOfRowMajor));
-            }
-            _ => value,
-        };
-    }
-    let pointer = lowering.way(place, operation)?;
-    Ok((pointer, value))
+    let value = stored_value(lowering, &to, value, operation);
+    let pointer = lowering.way(place, operation);
+    lowering.add(
+        Statement::Store { pointer, value },
+        span_of(&operation.instruction),
+    );
 }

@@ -1,15 +1,13 @@
 // Functions of GLSL.std.450 that give two values.
 
 use crate::builder::FunctionBuilder;
-use crate::pointers::target;
-use crate::storage::statement;
-use ir_blocks::Statement;
+use crate::pointers::store_into;
 use ir_kinds::{MathFunction, PredeclaredType, Scalar};
-use ir_types::Expression;
 use spirv_expressions::{
-    Operation, Value, call, operand, operand_scalar, part_of, resized, scalar_of,
+    Operation, Value, call, compose_result, keep, need, operand, operand_scalar, operand_shape,
+    part_of, refuse, resized, scalar_of,
 };
-use spirv_words::{Malformed, SpirvError};
+use spirv_words::Malformed;
 
 const MODF: u32 = 35;
 
@@ -24,31 +22,31 @@ pub fn split<L: FunctionBuilder>(
     lowering: &mut L,
     operation: &Operation,
     number: u32,
-) -> Result<Option<Value>, SpirvError> {
+) -> Option<Value> {
     let (fun, is_struct) = match number {
         MODF => (MathFunction::Modf, false),
         MODF_STRUCT => (MathFunction::Modf, true),
         FREXP => (MathFunction::Frexp, false),
         FREXP_STRUCT => (MathFunction::Frexp, true),
-        _ => return Ok(None),
+        _ => return None,
     };
-    let scalar = operand_scalar(lowering, operation, 2)?;
-    let size = lowering.shape(lowering.type_of(operation.need(2)?)).size();
+    let scalar = operand_scalar(lowering, operation, 2);
+    let size = operand_shape(lowering, operation, 2).size();
     let (of, exponent) = if fun == MathFunction::Modf {
         (PredeclaredType::ModfResult { size, scalar }, scalar)
     } else {
         (PredeclaredType::FrexpResult { size, scalar }, Scalar::I32)
     };
-    lowering.predeclared(of)?;
-    let argument = operand(lowering, operation, 2)?;
-    let both = call(lowering, operation, fun, argument, [None, None, None])?;
-    let first = part_of(lowering, operation, both, 0)?;
-    let second = part_of(lowering, operation, both, 1)?;
+    lowering.predeclared(of);
+    let argument = operand(lowering, operation, 2);
+    let both = call(lowering, operation, fun, argument, [None, None, None]);
+    let first = part_of(lowering, operation, both, 0);
+    let second = part_of(lowering, operation, both, 1);
     if is_struct {
-        return Ok(Some(as_struct(lowering, operation, first, second, exponent)?));
+        return Some(as_struct(lowering, operation, first, second, exponent));
     }
-    store_second(lowering, operation, second, exponent)?;
-    Ok(Some(first))
+    store_second(lowering, operation, second, exponent);
+    Some(first)
 }
 
 // Both values as the struct that is the result.
@@ -58,16 +56,17 @@ fn as_struct<L: FunctionBuilder>(
     first: Value,
     second: Value,
     from: Scalar,
-) -> Result<Value, SpirvError> {
-    let ty = operation.instruction.ty;
-    let Some(part) = lowering.part(ty, 1) else {
-        return Err(operation.malformed(Malformed::WrongType));
+) -> Value {
+    let Some(part) = lowering.part(operation.instruction.ty, 1) else {
+        return refuse(lowering, operation.malformed(Malformed::WrongType));
     };
-    let to = scalar_of(lowering, part.ty, operation)?;
-    let second = resized(lowering, operation, second, from, to)?;
-    let components = vec![in lowering.alloc(); first, second]?;
-    let ty = lowering.built(ty, operation)?;
-    lowering.emit(Expression::Compose { ty, components }, operation)
+    let shape = lowering.shape(part.ty);
+    let to = scalar_of(lowering, &shape, operation);
+    let second = resized(lowering, operation, second, from, to);
+    let mut components = Vec::new(lowering.alloc());
+    keep(lowering, &mut components, first);
+    keep(lowering, &mut components, second);
+    compose_result(lowering, operation, components)
 }
 
 // The second value into what a pointer points to.
@@ -76,11 +75,12 @@ fn store_second<L: FunctionBuilder>(
     operation: &Operation,
     second: Value,
     from: Scalar,
-) -> Result<(), SpirvError> {
-    let place = lowering.pointer(operation.need(3)?, operation)?;
-    let ty = lowering.pointer_at(place, operation)?.ty;
-    let to = scalar_of(lowering, ty, operation)?;
-    let value = resized(lowering, operation, second, from, to)?;
-    let (pointer, value) = target(lowering, place, value, operation)?;
-    statement(lowering, operation, Statement::Store { pointer, value })
+) {
+    let id = need(lowering, operation, 3);
+    let place = lowering.pointer(id, operation);
+    let ty = lowering.pointer_at(place, operation).ty;
+    let shape = lowering.shape(ty);
+    let to = scalar_of(lowering, &shape, operation);
+    let value = resized(lowering, operation, second, from, to);
+    store_into(lowering, place, value, operation);
 }

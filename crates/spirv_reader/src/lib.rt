@@ -1,6 +1,9 @@
 //! From the bytes of a SPIR-V module to a module of the IR, with the settings that it is to be judged by.
 #![tactic(auto)]
 
+mod entries;
+mod interface;
+mod modes;
 mod reader;
 
 pub use reader::read_spirv;

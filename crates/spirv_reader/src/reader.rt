@@ -1,14 +1,16 @@
 // From the bytes of a SPIR-V module to a module of the IR.
 
+use crate::entries::lower_entries;
+use crate::interface::Interface;
 use document_reader::{Document, Settings};
 use ir_arena::arena::Arena;
 use ir_flags::{ShaderStages, SubgroupOperationSet, ValidationFlags};
 use ir_items::{EntryPoint, Function, Module, SpecialTypes, key};
 use ir_sets::keyed::KeyedState;
-use spirv_bodies::{Lowering, lower_functions};
+use spirv_bodies::{Special, lower_functions};
 use spirv_declarations::{Declarations, declare};
-use spirv_entries::lower_entries;
-use spirv_flow::{Flow, flow_of};
+use spirv_flow::{Flow, Order, flow_of};
+use spirv_functions::Source;
 use spirv_tables::Demands;
 use spirv_words::{Listing, SpirvError, list};
 use std::alloc::Global;
@@ -35,10 +37,9 @@ fn read_functions(
     flow: &Flow,
     declared: Declarations,
 ) -> Result<Document, SpirvError> {
-    let mut lowering = Lowering::new(alloc, listing, flow, declared)?;
-    let functions = lower_functions(alloc, &mut lowering)?;
-    let (declared, special_types) = lowering.finish();
-    read_entries(alloc, listing, flow, (declared, special_types), functions)
+    let source = Source { listing, flow };
+    let (declared, functions, special) = lower_functions(alloc, source, declared)?;
+    read_entries(alloc, listing, flow, declared, functions, special)
 }
 
 // The same of one whose functions are read.
@@ -46,12 +47,37 @@ fn read_entries(
     alloc: Global,
     listing: &Listing,
     flow: &Flow,
-    declared: (Declarations, SpecialTypes),
+    declared: Declarations,
     functions: Arena<Function, key::Function>,
+    special: Vec<Special>,
 ) -> Result<Document, SpirvError> {
-    let (mut declared, special_types) = declared;
-    let entry_points = lower_entries(alloc, listing, &flow.order, &mut declared)?;
+    let (declared, functions, special_types, entry_points) = with_entries(
+        alloc,
+        listing,
+        &flow.order,
+        declared,
+        functions,
+        &special,
+    )?;
     Ok(document_of(alloc, declared, special_types, functions, entry_points))
+}
+
+// The structs that expressions give, and the entry points, beside what was read before.
+fn with_entries<I: Interface, R: Drop>(
+    alloc: Global,
+    listing: &Listing,
+    order: &Order,
+    declared: I,
+    rest: R,
+    special: &[Special],
+) -> Result<(I, R, SpecialTypes, Vec<EntryPoint>), SpirvError> {
+    let mut declared = declared;
+    let mut special_types = SpecialTypes::new(alloc);
+    for each in special {
+        let _ = special_types.predeclared_types.insert(each.of, each.ty)?;
+    }
+    let entry_points = lower_entries(alloc, listing, order, &mut declared)?;
+    Ok((declared, rest, special_types, entry_points))
 }
 
 // The settings of a module with these demands.

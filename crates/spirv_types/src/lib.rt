@@ -8,7 +8,7 @@ mod upgrade;
 
 pub use declare::{Reading, image_class, space_of};
 pub use shapes::{
-    ImageShape, ImageUse, Layout, MemberShape, Shape, TypeHandle, TypeTable, round_up, span_of,
-    vector_size,
+    ImageShape, ImageUse, Layout, MatrixShape, MemberShape, Shape, Stored, TypeHandle, TypeTable,
+    round_up, span_of, vector_size,
 };
 pub use structs::block_access;

@@ -6,7 +6,7 @@ use ir_kinds::{ImageClass, ImageDimension, Scalar, StorageFormat, VectorSize};
 use ir_sets::keyed::KeyedState;
 use ir_sets::unique_arena::UniqueArena;
 use ir_types::{ArraySize, IrType, TypeInner, key};
-use spirv_words::{Instruction, Malformed, SpirvError};
+use spirv_words::{Feature, Instruction, Malformed, SpirvError, Unsupported};
 use std::alloc::Global;
 
 /// The handle of a type of the module that is built.
@@ -127,13 +127,91 @@ impl Shape {
     }
 }
 
+/// How the matrices in a part are stored.
+#[derive(Clone, Copy)]
+pub struct Stored {
+    /// Row by row.
+    pub row_major: bool,
+    /// The bytes from column to column, or from row to row, where they are stored as arrays of these; else 0.
+    pub stride: u32,
+}
+
+impl Stored {
+    /// As the IR has them.
+    pub const PLAIN: Stored = Stored {
+        row_major: false,
+        stride: 0,
+    };
+
+    /// Whether they are stored as the IR has them.
+    pub fn is_plain(&self) -> bool {
+        !self.row_major && self.stride == 0
+    }
+
+    /// Those in a part of what is stored so.
+    pub fn around(&self, part: &Stored) -> Stored {
+        Stored {
+            row_major: self.row_major || part.row_major,
+            stride: self.stride.max(part.stride),
+        }
+    }
+
+    /// Why an operation of such matrices is not translated: their stride, or else this.
+    pub fn unsupported(&self, instruction: &Instruction, feature: Feature) -> SpirvError {
+        if self.stride == 0 {
+            instruction.unsupported_by(feature)
+        } else {
+            instruction.unsupported_as(Unsupported::MatrixStride(self.stride))
+        }
+    }
+}
+
+/// A matrix.
+#[derive(Clone, Copy)]
+pub struct MatrixShape {
+    /// How many columns.
+    pub columns: VectorSize,
+    /// How many scalars a column has.
+    pub rows: VectorSize,
+    /// What each is.
+    pub scalar: Scalar,
+}
+
+impl MatrixShape {
+    /// The matrix that a type is, if it is one.
+    pub fn of(shape: &Shape) -> Option<MatrixShape> {
+        match *shape {
+            Shape::Matrix {
+                columns,
+                rows,
+                scalar,
+                ..
+            } => Some(MatrixShape {
+                columns,
+                rows,
+                scalar,
+            }),
+            _ => None,
+        }
+    }
+
+    /// How many columns or rows it is stored as, and how many scalars each has.
+    pub fn lines(&self, row_major: bool) -> (VectorSize, VectorSize) {
+        if row_major {
+            (self.rows, self.columns)
+        } else {
+            (self.columns, self.rows)
+        }
+    }
+}
+
 /// A member of a struct.
 #[derive(Clone, Copy)]
 pub struct MemberShape {
     /// Its type.
     pub ty: u32,
-    /// Whether the matrices in it are stored row by row.
-    pub row_major: bool,
+    /// How the matrices in it are stored.
+    pub stored: Stored,
 }
 
 /// How a value lies in memory.
@@ -245,7 +323,7 @@ impl TypeTable {
         }
     }
 
-    /// The type of the part of a value at this index, and whether it is a member whose matrices are stored row by row.
+    /// The type of the part of a value at this index, and how the matrices in it are stored.
     pub fn part(&self, id: u32, index: u32) -> Option<MemberShape> {
         let ty = match self.shape(id) {
             Shape::Struct { .. } => return self.member(id, index),
@@ -256,7 +334,7 @@ impl TypeTable {
         };
         Some(MemberShape {
             ty,
-            row_major: false,
+            stored: Stored::PLAIN,
         })
     }
 

@@ -2,11 +2,12 @@
 
 use crate::declare::Reading;
 use crate::shapes::{
-    Layout, MemberShape, Shape, TypeHandle, TypeTable, matrix_layout, round_up, span_of,
+    Layout, MatrixShape, MemberShape, Shape, Stored, TypeHandle, TypeTable, matrix_layout,
+    round_up, span_of, vector_layout,
 };
 use ir_arena::span::Span;
 use ir_flags::StorageAccess;
-use ir_kinds::{Binding, VectorSize};
+use ir_kinds::Binding;
 use ir_types::{ArraySize, StructMember, TypeInner};
 use spirv_tables::{Decorated, Demands};
 use spirv_words::{Feature, Instruction, SpirvError, Unsupported};
@@ -18,6 +19,31 @@ struct Extent {
     end: u64,
     alignment: u64,
     locations: u64,
+    // the stride of the matrices in the last one
+    stride: u32,
+}
+
+impl Extent {
+    // Where a member begins.
+    fn offset_of(
+        &self,
+        instruction: &Instruction,
+        said: &Decorated,
+        layout: &Layout,
+    ) -> Result<u32, SpirvError> {
+        let Some(offset) = said.offset else {
+            let natural = layout.round(self.end);
+            return match u32::try_from(natural) {
+                Ok(offset) => Ok(offset),
+                Err(_) => Err(instruction.unsupported_by(Feature::LargeStruct)),
+            };
+        };
+        if u64::from(offset) < self.end && self.stride != 0 {
+            // the IR has the bytes after the last column as the matrix's own
+            return Err(instruction.unsupported_as(Unsupported::MatrixStride(self.stride)));
+        }
+        Ok(offset)
+    }
 }
 
 // An array in which a matrix lies.
@@ -42,6 +68,7 @@ impl TypeTable {
             end: 0,
             alignment: 1,
             locations: 0,
+            stride: 0,
         };
         let mut place = 0u32;
         for ty in reading.listing.operands(instruction) {
@@ -89,18 +116,14 @@ impl TypeTable {
         if self.shape(ty).is_handle() {
             return Err(instruction.unsupported_by(Feature::HandleMember));
         }
-        let row_major = said.row_major && self.holds_matrix(ty);
-        let (handle, layout) = self.stored(reading, ty, row_major, instruction)?;
-        self.check_stride(instruction, ty, &said, row_major)?;
-        self.add_member(MemberShape { ty, row_major })?;
-        let natural = layout.round(extent.end);
-        let offset = match said.offset {
-            Some(offset) => offset,
-            None => match u32::try_from(natural) {
-                Ok(offset) => offset,
-                Err(_) => return Err(instruction.unsupported_by(Feature::LargeStruct)),
-            },
+        let stored = Stored {
+            row_major: said.row_major && self.holds_matrix(ty),
+            stride: self.stride_between(instruction, ty, &said)?,
         };
+        let (handle, layout) = self.stored(reading, ty, stored, instruction)?;
+        self.add_member(MemberShape { ty, stored })?;
+        let offset = extent.offset_of(instruction, &said, &layout)?;
+        extent.stride = stored.stride;
         extent.end = u64::from(offset).saturating_add(layout.size);
         extent.alignment = extent.alignment.max(layout.alignment);
         extent.locations = extent.locations.saturating_add(layout.locations);
@@ -120,60 +143,62 @@ impl TypeTable {
     }
 
     // The matrix that a type is, or that the elements of an array are.
-    fn matrix_in(&self, id: u32) -> Option<Shape> {
+    fn matrix_in(&self, id: u32) -> Option<MatrixShape> {
         let mut at = id;
         for _ in 0..MAX_DEPTH {
             match self.shape(at) {
                 Shape::Array { element, .. } => at = element,
-                Shape::Matrix {
-                    columns,
-                    rows,
-                    scalar,
-                    column,
-                } => {
-                    return Some(Shape::Matrix {
-                        columns,
-                        rows,
-                        scalar,
-                        column,
-                    });
-                }
-                _ => return None,
+                shape => return MatrixShape::of(&shape),
             }
         }
         None
     }
 
-    // The type that a member is stored as, with its layout: one of matrices that are stored row by row as their
-    // transposed ones.
+    /// The type that a matrix is stored as: an array of its columns or rows where there is a stride, and one that is stored row by
+    /// row as its transposed one.
+    pub fn stored_matrix(
+        &mut self,
+        matrix: &MatrixShape,
+        stored: Stored,
+    ) -> Result<TypeHandle, SpirvError> {
+        let (lines, length) = matrix.lines(stored.row_major);
+        let scalar = matrix.scalar;
+        if stored.stride == 0 {
+            let inner = TypeInner::Matrix {
+                columns: lines,
+                rows: length,
+                scalar,
+            };
+            return self.insert(None, inner, Span::UNDEFINED);
+        }
+        let inner = TypeInner::Array {
+            base: self.vector(Some(length), scalar)?,
+            size: ArraySize::Constant(u32::from(lines)),
+            stride: stored.stride,
+        };
+        self.insert(None, inner, Span::UNDEFINED)
+    }
+
+    // The type that a member is stored as, with its layout.
     fn stored(
         &mut self,
         reading: &Reading,
         ty: u32,
-        row_major: bool,
+        stored: Stored,
         instruction: &Instruction,
     ) -> Result<(TypeHandle, Layout), SpirvError> {
-        if !row_major {
+        if stored.is_plain() {
             return Ok((self.need(ty, instruction)?, self.layout(ty)));
         }
-        let Some(
-            Shape::Matrix {
-                columns,
-                rows,
-                scalar,
-                ..
-            },
-        ) = self.matrix_in(ty)
-        else {
+        let Some(matrix) = self.matrix_in(ty) else {
             return Err(instruction.unsupported_by(Feature::RowMajorOfNoMatrix));
         };
-        let inner = TypeInner::Matrix {
-            columns: rows,
-            rows: columns,
-            scalar,
-        };
-        let mut handle = self.insert(None, inner, Span::UNDEFINED)?;
-        let mut layout = matrix_layout(rows, columns, scalar);
+        let (lines, length) = matrix.lines(stored.row_major);
+        let mut handle = self.stored_matrix(&matrix, stored)?;
+        let mut layout = matrix_layout(lines, length, matrix.scalar);
+        if stored.stride != 0 {
+            layout.size = u64::from(stored.stride).saturating_mul(u64::from(u8::from(lines)));
+        }
         let arrays = self.arrays_around(reading.alloc, ty)?;
         for array in arrays.iter().rev() {
             let inner = TypeInner::Array {
@@ -220,38 +245,24 @@ impl TypeTable {
         }
     }
 
-    // Refuses a stride of matrices that the IR does not have.
-    fn check_stride(
+    // The stride of the matrices in a member, where that is not the one that the IR has; 0 where it is.
+    fn stride_between(
         &self,
         instruction: &Instruction,
         ty: u32,
         said: &Decorated,
-        row_major: bool,
-    ) -> Result<(), SpirvError> {
-        let Some(stride) = said.matrix_stride else {
-            return Ok(());
+    ) -> Result<u32, SpirvError> {
+        let (Some(stride), Some(matrix)) = (said.matrix_stride, self.matrix_in(ty)) else {
+            return Ok(0);
         };
-        let Some(
-            Shape::Matrix {
-                columns,
-                rows,
-                scalar,
-                ..
-            },
-        ) = self.matrix_in(ty)
-        else {
-            return Ok(());
-        };
-        let length = if row_major { columns } else { rows };
-        let wanted = match length {
-            VectorSize::Bi => 2,
-            VectorSize::Tri | VectorSize::Quad => 4,
-        };
-        let natural = u64::from(scalar.width).saturating_mul(wanted);
+        let (_, length) = matrix.lines(said.row_major);
+        let natural = vector_layout(length, matrix.scalar).alignment;
         if u64::from(stride) == natural {
-            Ok(())
-        } else {
-            Err(instruction.unsupported_as(Unsupported::MatrixStride(stride)))
+            return Ok(0);
+        }
+        match u64::from(stride).checked_rem(natural) {
+            Some(0) if stride != 0 => Ok(stride),
+            Some(_) | None => Err(instruction.unsupported_as(Unsupported::MatrixStride(stride))),
         }
     }
 }

@@ -1,10 +1,10 @@
 // How entry points are executed (sections 3.3 and 3.6).
 
+use crate::interface::Interface;
 use ir_flags::Capabilities;
 use ir_kinds::{EarlyDepthTest, ShaderStage};
-use spirv_declarations::ConstantTable;
 use spirv_numbers::{numbers, ops};
-use spirv_tables::{Decorated, Demands};
+use spirv_tables::Decorated;
 use spirv_words::{Feature, Instruction, Listing, SpirvError, Unsupported};
 
 /// How an entry point is executed.
@@ -28,24 +28,22 @@ pub fn stage_of(listing: &Listing, entry: &Instruction) -> Result<ShaderStage, S
 }
 
 // The value of a constant that a size is.
-fn size_of(
-    constants: &ConstantTable,
+fn size_of<I: Interface>(
+    declared: &I,
     id: u32,
     instruction: &Instruction,
 ) -> Result<u32, SpirvError> {
-    match constants
-        .value(id)
-        .and_then(|value| u32::try_from(value).ok())
-    {
-        Some(value) => Ok(value),
-        None => Err(instruction.unsupported_by(Feature::WorkgroupSize)),
+    let value = declared.constant(id).unwrap_or(-1);
+    match u32::try_from(value) {
+        Ok(value) => Ok(value),
+        Err(_) => Err(instruction.unsupported_by(Feature::WorkgroupSize)),
     }
 }
 
 /// The size of workgroups that a constant of the module says, if one is decorated so.
-pub fn decorated_size(
+pub fn decorated_size<I: Interface>(
     listing: &Listing,
-    constants: &ConstantTable,
+    declared: &I,
 ) -> Result<Option<[u32; 3]>, SpirvError> {
     for place in &listing.parts.declarations {
         let instruction = listing.at(*place);
@@ -60,7 +58,7 @@ pub fn decorated_size(
         if said == Some(numbers::BUILT_IN_WORKGROUP_SIZE) {
             let mut size = [0, 0, 0];
             for (number, word) in size.iter_mut().enumerate() {
-                *word = size_of(constants, listing.need(&instruction, number)?, &instruction)?;
+                *word = size_of(declared, listing.need(&instruction, number)?, &instruction)?;
             }
             return Ok(Some(size));
         }
@@ -69,10 +67,9 @@ pub fn decorated_size(
 }
 
 /// How the entry point with this function is executed.
-pub fn modes_of(
+pub fn modes_of<I: Interface>(
     listing: &Listing,
-    constants: &ConstantTable,
-    demands: &mut Demands,
+    declared: &mut I,
     function: u32,
 ) -> Result<Modes, SpirvError> {
     let mut modes = Modes {
@@ -84,7 +81,7 @@ pub fn modes_of(
         match listing.need(&mode, 1)? {
             numbers::MODE_EARLY_FRAGMENT_TESTS => {
                 modes.early = Some(EarlyDepthTest::Force);
-                demands.ask(Capabilities::EARLY_DEPTH_TEST);
+                declared.require(Capabilities::EARLY_DEPTH_TEST);
             }
             numbers::MODE_LOCAL_SIZE => {
                 modes.size = [
@@ -95,9 +92,9 @@ pub fn modes_of(
             }
             numbers::MODE_LOCAL_SIZE_ID => {
                 modes.size = [
-                    size_of(constants, listing.need(&mode, 2)?, &mode)?,
-                    size_of(constants, listing.need(&mode, 3)?, &mode)?,
-                    size_of(constants, listing.need(&mode, 4)?, &mode)?,
+                    size_of(declared, listing.need(&mode, 2)?, &mode)?,
+                    size_of(declared, listing.need(&mode, 3)?, &mode)?,
+                    size_of(declared, listing.need(&mode, 4)?, &mode)?,
                 ];
             }
             _ => {}

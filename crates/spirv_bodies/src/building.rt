@@ -1,0 +1,376 @@
+// What instructions do with the function that is built.
+
+use crate::lowering::Lowering;
+use crate::tables::Tables;
+use crate::writing::{Writing, keep_in, read_in, refuse_in, type_in};
+use ir_arena::span::Span;
+use ir_flags::{Capabilities, SubgroupOperationSet};
+use ir_items::{Block, Expression, LocalVariable, Statement};
+use ir_kinds::{
+    ImageClass, ImageDimension, Literal, PredeclaredType, Scalar, ScalarKind, VectorSize,
+};
+use ir_types::TypeInner;
+use spirv_declarations::Made;
+use spirv_expressions::{Builder, ImageValue, Operation, Value, no_type, no_value};
+use spirv_operations::{FunctionBuilder, Pointer, PointerStep, Slot, no_pointer};
+use spirv_types::{
+    ImageShape, ImageUse, MatrixShape, MemberShape, Shape, Stored, TypeHandle, span_of,
+};
+use spirv_words::{Feature, Malformed, SpirvError};
+use std::alloc::Global;
+
+// No image.
+const NO_IMAGE: ImageUse = ImageUse {
+    shape: ImageShape {
+        dim: ImageDimension::D2,
+        arrayed: false,
+        multi: false,
+        depth: false,
+        scalar: Scalar::U32,
+        format: None,
+    },
+    class: ImageClass::Sampled {
+        kind: ScalarKind::Uint,
+        multi: false,
+    },
+};
+
+// How many steps a pointer may have from its variable (universal limit of the standard).
+const MAX_STEPS: usize = 255;
+
+impl<T: Tables, W: Writing> Builder for Lowering<'_, T, W> {
+    fn alloc(&self) -> Global {
+        self.alloc
+    }
+
+    fn fail(&mut self, error: SpirvError) {
+        self.body.fail(error);
+    }
+
+    fn has_failed(&self) -> bool {
+        self.body.failure().is_some()
+    }
+
+    fn shape(&self, ty: u32) -> Shape {
+        self.tables.shape(ty)
+    }
+
+    fn part(&self, ty: u32, index: u32) -> Option<MemberShape> {
+        self.tables.part(ty, index)
+    }
+
+    fn type_of(&self, id: u32) -> u32 {
+        self.source.listing.definition(id).map_or(0, |made| made.ty)
+    }
+
+    fn built(&mut self, ty: u32, operation: &Operation) -> TypeHandle {
+        match (self.tables.handle(ty), self.tables.shape(ty)) {
+            (Some(handle), _) => handle,
+            (None, Shape::Nothing) => {
+                self.body.fail(operation.malformed(Malformed::NoType));
+                no_type()
+            }
+            (None, _) => {
+                self.body.fail(operation.unsupported());
+                no_type()
+            }
+        }
+    }
+
+    fn vector(&mut self, size: Option<VectorSize>, scalar: Scalar) -> TypeHandle {
+        let inner = match size {
+            None => TypeInner::Scalar(scalar),
+            Some(size) => TypeInner::Vector { size, scalar },
+        };
+        let made = self.tables.insert(None, inner, Span::UNDEFINED);
+        type_in(&mut self.body, made)
+    }
+
+    fn stored_matrix(&mut self, matrix: &MatrixShape, stored: Stored) -> TypeHandle {
+        let made = self.tables.stored_matrix(matrix, stored);
+        type_in(&mut self.body, made)
+    }
+
+    fn is_constant(&self, id: u32) -> bool {
+        match self.tables.known(id) {
+            Some(known) => matches!(known.made, Made::Constant(_)),
+            None => false,
+        }
+    }
+
+    fn constant(&self, id: u32) -> Option<i64> {
+        self.tables.known(id)?.value
+    }
+
+    fn value(&mut self, id: u32, operation: &Operation) -> Value {
+        if self.has_failed() {
+            return no_value();
+        }
+        if let Some(value) = self.plain_value(id, operation) {
+            return value;
+        }
+        if matches!(self.names.slot(id), Slot::Pair { .. }) {
+            return refuse_in(
+                &mut self.body,
+                operation.unsupported_by(Feature::PairAsValue),
+            );
+        }
+        let place = self.pointer(id, operation);
+        self.way(place, operation)
+    }
+
+    fn image(&mut self, id: u32, operation: &Operation) -> ImageValue {
+        let place = self.pointer(id, operation);
+        let image = self.pointer_at(place, operation).image;
+        let value = self.way(place, operation);
+        if image.is_none() {
+            self.body.fail(operation.malformed(Malformed::WrongType));
+        }
+        let image = image.unwrap_or(NO_IMAGE);
+        ImageValue {
+            value,
+            shape: image.shape,
+            class: image.class,
+        }
+    }
+
+    fn sampler(&mut self, id: u32, operation: &Operation) -> Value {
+        match self.resolve(id, operation) {
+            Slot::Pair { sampler, .. } => self.way(sampler, operation),
+            _ => refuse_in(&mut self.body, operation.unsupported_by(Feature::NoSampler)),
+        }
+    }
+
+    fn emit(&mut self, expression: Expression, operation: &Operation) -> Value {
+        self.body.emit(expression, span_of(&operation.instruction))
+    }
+
+    fn literal(&mut self, literal: Literal, operation: &Operation) -> Value {
+        self.always(Expression::Literal(literal), operation)
+    }
+}
+
+impl<T: Tables, W: Writing> FunctionBuilder for Lowering<'_, T, W> {
+    fn name_of(&mut self, id: u32) -> Option<String> {
+        let name = self.source.listing.name(self.alloc, id, None);
+        read_in(&mut self.body, name)
+    }
+
+    fn place_of(&self, function: u32) -> Option<u32> {
+        self.source.flow.order.place_of(function)
+    }
+
+    fn is_known(&self, id: u32) -> bool {
+        self.tables.known(id).is_some()
+    }
+
+    fn slot(&self, id: u32) -> Slot {
+        self.names.slot(id)
+    }
+
+    fn set(&mut self, id: u32, slot: Slot) {
+        self.names.set(id, slot);
+    }
+
+    fn resolve(&mut self, id: u32, operation: &Operation) -> Slot {
+        match self.names.slot(id) {
+            Slot::Nothing | Slot::Value { .. } => {}
+            slot => return slot,
+        }
+        let Some(variable) = self.tables.variable(id) else {
+            let error = self.missing(id, operation);
+            self.body.fail(error);
+            return Slot::Nothing;
+        };
+        let value = self.name(id, Expression::GlobalVariable(variable.handle), operation);
+        let is_rebuilt = self.tables.handle(variable.ty) != Some(variable.built);
+        let pointer = Pointer {
+            base: None,
+            step: PointerStep::Root,
+            value,
+            scope: None,
+            ty: variable.ty,
+            image: variable.image,
+            stored: Stored::PLAIN,
+            column: None,
+            rebuilt: if is_rebuilt {
+                Some(variable.built)
+            } else {
+                None
+            },
+        };
+        let image = self.add_pointer(pointer);
+        let Some(sampler) = variable.sampler else {
+            return Slot::Pointer(image);
+        };
+        let mut beside = pointer;
+        beside.value = self.name_sampler(id, Expression::GlobalVariable(sampler), operation);
+        beside.image = None;
+        let sampler = self.add_pointer(beside);
+        Slot::Pair { image, sampler }
+    }
+
+    fn pointer(&mut self, id: u32, operation: &Operation) -> u32 {
+        match self.resolve(id, operation) {
+            Slot::Pointer(place) => place,
+            Slot::Pair { image, .. } => image,
+            Slot::Nothing | Slot::Value { .. } | Slot::Texel { .. } => {
+                self.body.fail(operation.malformed(Malformed::NoPointer));
+                0
+            }
+        }
+    }
+
+    fn pointer_at(&mut self, place: u32, operation: &Operation) -> Pointer {
+        match self.names.pointer(place) {
+            Some(pointer) => pointer,
+            None => {
+                self.body.fail(operation.malformed(Malformed::NoPointer));
+                no_pointer()
+            }
+        }
+    }
+
+    fn add_pointer(&mut self, pointer: Pointer) -> u32 {
+        match self.names.add(pointer, pointer.rebuilt) {
+            Ok(place) => place,
+            Err(error) => {
+                self.body.fail(error);
+                0
+            }
+        }
+    }
+
+    fn way(&mut self, place: u32, operation: &Operation) -> Value {
+        let mut above = Vec::new(self.alloc);
+        let mut at = place;
+        let mut value = None;
+        for _ in 0..MAX_STEPS {
+            let pointer = self.pointer_at(at, operation);
+            if self.reaches(pointer.scope) {
+                value = Some(pointer.value);
+                break;
+            }
+            keep_in(&mut self.body, &mut above, at);
+            match pointer.base {
+                Some(base) => at = base,
+                None => return refuse_in(
+                    &mut self.body,
+                    operation.unsupported_by(Feature::PointerOutOfScope),
+                ),
+            }
+        }
+        let Some(mut value) = value else {
+            return refuse_in(
+                &mut self.body,
+                operation.unsupported_by(Feature::LongPointer),
+            );
+        };
+        for place in above.iter().rev() {
+            let step = self.pointer_at(*place, operation).step;
+            value = self.step(value, step, operation);
+            self.names.renew(*place, value, Some(self.scope));
+        }
+        value
+    }
+
+    fn step(&mut self, base: Value, step: PointerStep, operation: &Operation) -> Value {
+        match step {
+            PointerStep::Root => base,
+            PointerStep::Index(index) => self.emit(
+                Expression::AccessIndex { base, index },
+                operation,
+            ),
+            PointerStep::Dynamic(id) => match self.plain_value(id, operation) {
+                Some(index) => self.emit(Expression::Access { base, index }, operation),
+                None => refuse_in(&mut self.body, operation.malformed(Malformed::NoValue)),
+            },
+        }
+    }
+
+    fn scope(&self) -> u32 {
+        self.scope
+    }
+
+    fn enter(&mut self, scope: u32) {
+        self.scope = scope;
+    }
+
+    fn define(&mut self, operation: &Operation, value: Value) {
+        let id = operation.instruction.id;
+        let span = span_of(&operation.instruction);
+        let local = if self.source.flow.kept.is_kept(id) {
+            let ty = self.built(operation.instruction.ty, operation);
+            let pointer = self.local(None, ty, None, span);
+            self.body
+                .statement(Statement::Store { pointer, value }, span);
+            Some(pointer)
+        } else {
+            None
+        };
+        let slot = Slot::Value {
+            value,
+            scope: Some(self.scope),
+            local,
+        };
+        self.names.set(id, slot);
+    }
+
+    fn always(&mut self, expression: Expression, operation: &Operation) -> Value {
+        self.body.place(expression, span_of(&operation.instruction))
+    }
+
+    fn named_before(&self, id: u32) -> Option<Value> {
+        self.names.named(id)
+    }
+
+    fn set_named(&mut self, id: u32, value: Value) {
+        self.names.set_named(id, value);
+    }
+
+    fn predeclared(&mut self, of: PredeclaredType) -> TypeHandle {
+        self.special_type(of)
+    }
+
+    fn require_operations(&mut self, operations: SubgroupOperationSet) {
+        self.tables.require(Capabilities::SUBGROUP, operations);
+    }
+
+    fn require(&mut self, capability: Capabilities) {
+        self.tables.require(capability, SubgroupOperationSet(0));
+    }
+
+    fn local(
+        &mut self,
+        name: Option<String>,
+        ty: TypeHandle,
+        init: Option<Value>,
+        span: Span,
+    ) -> Value {
+        self.body.local(LocalVariable { name, ty, init }, span)
+    }
+
+    fn compute(&mut self, expression: Expression, span: Span) -> Value {
+        self.body.emit(expression, span)
+    }
+
+    fn place(&mut self, expression: Expression, span: Span) -> Value {
+        self.body.place(expression, span)
+    }
+
+    fn add(&mut self, statement: Statement, span: Span) {
+        self.body.statement(statement, span);
+    }
+
+    fn open(&mut self) {
+        self.body.open();
+    }
+
+    fn close(&mut self) -> Block {
+        self.body.close()
+    }
+
+    fn flush(&mut self) {
+        self.body.flush();
+    }
+}

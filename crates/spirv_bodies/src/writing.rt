@@ -1,0 +1,104 @@
+// What functions are written with.
+
+use ir_arena::arena::Arena;
+use ir_arena::span::Span;
+use ir_items::{
+    Block, Expression, Function, FunctionArgument, FunctionResult, LocalVariable, Statement, key,
+};
+use spirv_expressions::{Value, no_type, no_value};
+use spirv_types::TypeHandle;
+use spirv_words::SpirvError;
+use std::alloc::AllocError;
+
+/// What functions are written with, one after the other. What is wrong first is kept, and after that nothing is written.
+pub trait Writing: Drop {
+    /// This is wrong. It is kept where nothing was before.
+    fn fail(&mut self, error: SpirvError);
+
+    /// What was wrong first.
+    fn failure(&self) -> Option<SpirvError>;
+
+    /// An expression that is computed here.
+    fn emit(&mut self, expression: Expression, span: Span) -> Value;
+
+    /// An expression that is always there, or that a statement gives.
+    fn place(&mut self, expression: Expression, span: Span) -> Value;
+
+    /// Emits what no statement emits yet.
+    fn flush(&mut self);
+
+    /// A statement, after what no statement emits yet.
+    fn statement(&mut self, statement: Statement, span: Span);
+
+    /// Opens a block.
+    fn open(&mut self);
+
+    /// Closes the innermost block.
+    fn close(&mut self) -> Block;
+
+    /// A local; answers the pointer to it.
+    fn local(&mut self, local: LocalVariable, span: Span) -> Value;
+
+    /// Ends a function, whose name and body this is, and which takes and gives this. Its expressions and locals are those that
+    /// were written.
+    fn end_function(
+        &mut self,
+        name: Option<String>,
+        arguments: Vec<FunctionArgument>,
+        gives: Option<FunctionResult>,
+        body: Block,
+        span: Span,
+    );
+
+    /// All functions, in the order in which they were written.
+    fn finish(self) -> Arena<Function, key::Function>;
+}
+
+/// One more in a list.
+pub fn keep_in<W: Writing, T: Drop>(body: &mut W, list: &mut Vec<T>, item: T) {
+    if list.push(item).is_err() {
+        body.fail(SpirvError::Memory);
+    }
+}
+
+/// A value that is not made, since this is wrong.
+pub fn refuse_in<W: Writing>(body: &mut W, error: SpirvError) -> Value {
+    body.fail(error);
+    no_value()
+}
+
+/// The type that was made, if it was.
+pub fn type_in<W: Writing>(body: &mut W, made: Result<TypeHandle, SpirvError>) -> TypeHandle {
+    match made {
+        Ok(ty) => ty,
+        Err(error) => {
+            body.fail(error);
+            no_type()
+        }
+    }
+}
+
+/// The name that was made, if it was.
+pub fn made_in<W: Writing>(body: &mut W, name: Result<String, AllocError>) -> Option<String> {
+    match name {
+        Ok(name) => Some(name),
+        Err(_) => {
+            body.fail(SpirvError::Memory);
+            None
+        }
+    }
+}
+
+/// The name that was read, if it was.
+pub fn read_in<W: Writing>(
+    body: &mut W,
+    name: Result<Option<String>, SpirvError>,
+) -> Option<String> {
+    match name {
+        Ok(name) => name,
+        Err(error) => {
+            body.fail(error);
+            None
+        }
+    }
+}
