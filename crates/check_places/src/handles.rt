@@ -187,8 +187,7 @@ fn find_in_function(
         return Ok(false);
     }
     if let Some((list, index)) = target.item_of(function) {
-        path.push(list)?;
-        path.push(step(index))?;
+        path.extend_from_slice(&[list, step(index)])?;
         return Ok(true);
     }
     if let Some(part) = target.part_of(function) {
@@ -245,8 +244,7 @@ fn find_in_functions(
         if is_one && !target.may_be(index) {
             continue;
         }
-        path.push(12)?;
-        path.push(step(index))?;
+        path.extend_from_slice(&[12, step(index)])?;
         if find_in_function(target, function, path)? {
             return Ok(true);
         }
@@ -284,8 +282,7 @@ fn find_in_entries(
         return Ok(false);
     };
     for (index, entry) in parts(entries).iter().enumerate() {
-        path.push(13)?;
-        path.push(step(index))?;
+        path.extend_from_slice(&[13, step(index)])?;
         if find_in_entry(target, entry, path)? {
             return Ok(true);
         }
@@ -297,9 +294,7 @@ fn find_in_entries(
 // The special types and the filters.
 fn find_beside(target: &Target, document: &Value, path: &mut Vec<u32>) -> Result<bool, AllocError> {
     if let Some(index) = target.found_in(along(document, &[7, 0]), &FILTER) {
-        path.push(7)?;
-        path.push(0)?;
-        path.push(step(index))?;
+        path.extend_from_slice(&[7, 0, step(index)])?;
         return Ok(true);
     }
     if let Some(special) = at(document, 6) {
@@ -309,9 +304,7 @@ fn find_beside(target: &Target, document: &Value, path: &mut Vec<u32>) -> Result
         }
     }
     if let Some(index) = target.found_in(along(document, &[6, 3]), &ARGUMENT) {
-        path.push(6)?;
-        path.push(3)?;
-        path.push(step(index))?;
+        path.extend_from_slice(&[6, 3, step(index)])?;
         return Ok(true);
     }
     Ok(false)
@@ -333,13 +326,11 @@ pub fn find_item(
 ) -> Result<bool, AllocError> {
     let is_filter = target.named == Names::Filter && target.subject.is_none();
     if is_filter && is_filter_of_module(document, target.index) {
-        path.push(7)?;
-        path.push(1)?;
+        path.extend_from_slice(&[7, 1])?;
         return Ok(true);
     }
     if let Some((list, index)) = target.item_in(document) {
-        path.push(list)?;
-        path.push(step(index))?;
+        path.extend_from_slice(&[list, step(index)])?;
         return Ok(true);
     }
     if find_in_functions(target, document, path)? || find_in_entries(target, document, path)? {
@@ -360,8 +351,7 @@ fn find_range_in(
         return Ok(false);
     };
     for (index, item) in parts(items).iter().enumerate() {
-        path.push(step(list))?;
-        path.push(step(index))?;
+        path.extend_from_slice(&[step(list), step(index)])?;
         for part in way {
             path.push(step(*part))?;
         }

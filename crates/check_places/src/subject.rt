@@ -5,7 +5,7 @@ ghost use Rattle.serde_json.specs.View.{view};
 ghost use Rattle.check_places.specs.Leading.{Leads, lead_length as length_leading};
 
 use crate::handles::{Target, find_item, find_range};
-use crate::walk::{Rule, Scene, Search, find_statement, step as step_of};
+use crate::walk::{Rule, Scene, Search, find_statement, has, step as step_of};
 use check_faults::document::{along, at, number_at, parts, word, word_at};
 use check_faults::error_text::{field, handle, head, name_of, number, part, quoted, text_of};
 use check_faults::forms::{Names, names_of};
@@ -88,20 +88,21 @@ pub fn innermost<'a>(step: &'a str, error: &'a [u8]) -> (&'a [u8], &'a [u8]) {
     (around, inner)
 }
 
-// A line an error: its name, the rule of the statement, its words, and the parts of the error that are expressions.
+// A line an error: its name, the rule of the statement, its words, and the parts of the error that are expressions or numbers. At
+// the end the errors of calls, and a line a capability, or an operation of subgroups: the statements that need it.
 static WAYS: &str = "\
 ExpressionAlreadyInScope|InScope||0
-BreakOutsideOfLoopOrSwitch|Breaks||
-ContinueOutsideOfLoop|Continues||
-InvalidReturnSpot|Returns||
+BreakOutsideOfLoopOrSwitch|Leaves|Break|
+ContinueOutsideOfLoop|Leaves|Continue|
+InvalidReturnSpot|Leaves|Return|
 InvalidReturnType|Answers||expression
 InvalidIfType|Names|If Loop|0
 InvalidSwitchType|Names|Switch|0
-ConflictingSwitchCase|SameCases||
-ConflictingCaseType|OtherCases||
-MissingDefaultCase|NoDefault||
-MultipleDefaultCases|Defaults||
-LastCaseFallTrough|FallsThrough||
+ConflictingSwitchCase|Cases|same|
+ConflictingCaseType|Cases|other|
+MissingDefaultCase|Cases|none|
+MultipleDefaultCases|Cases|several|
+LastCaseFallTrough|Cases|through|
 EmitResult|Emits||0
 NonUniformControlFlow|Brings||1
 InvalidStorePointer|Names|Store CooperativeStore|0
@@ -131,10 +132,9 @@ InvalidPayloadAddressSpace|Names|RayPipelineFunction|
 MismatchedPayloadType|Names|RayPipelineFunction|
 PayloadPointerNotGlobal|Names|RayPipelineFunction|
 StrictResultMismatch|Names|RayQuery SubgroupBallot|0
-";
-
-// The statements that need a capability, or an operation of subgroups.
-static NEEDS: &str = "\
+ArgumentCount|Passes||seen
+ArgumentType|Calls||seen_expression
+ExpressionMismatch|Calls||0
 BASIC|Names|ControlBarrier MemoryBarrier|
 BALLOT|Names|SubgroupBallot SubgroupGather|
 VOTE|Names|SubgroupCollectiveOperation|
@@ -161,17 +161,13 @@ fn rule_of(name: &str) -> Option<Rule> {
     match name {
         "Names" => Some(Rule::Names),
         "InScope" => Some(Rule::InScope),
-        "Breaks" => Some(Rule::Breaks),
-        "Continues" => Some(Rule::Continues),
-        "Returns" => Some(Rule::Returns),
+        "Leaves" => Some(Rule::Leaves),
         "Answers" => Some(Rule::Answers),
-        "SameCases" => Some(Rule::SameCases),
-        "OtherCases" => Some(Rule::OtherCases),
-        "NoDefault" => Some(Rule::NoDefault),
-        "Defaults" => Some(Rule::Defaults),
-        "FallsThrough" => Some(Rule::FallsThrough),
+        "Cases" => Some(Rule::Cases),
         "Emits" => Some(Rule::Emits),
         "Brings" => Some(Rule::Brings),
+        "Calls" => Some(Rule::Calls),
+        "Passes" => Some(Rule::Passes),
         _ => None,
     }
 }
@@ -191,8 +187,8 @@ fn way_on(line: &'static str, name: &str) -> Option<Way> {
     })
 }
 
-fn way_in(table: &'static str, name: &str) -> Option<Way> {
-    for line in table.lines() {
+fn way_in_table(name: &str) -> Option<Way> {
+    for line in WAYS.lines() {
         if let Some(way) = way_on(line, name) {
             return Some(way);
         }
@@ -210,66 +206,58 @@ fn last_word(text: &str) -> &str {
 fn way_of(error: &[u8]) -> Option<Way> {
     let inner = innermost("", error).1;
     if name_of(error) == "MissingCapability" || name_of(inner) == "UnsupportedOperation" {
-        return way_in(NEEDS, last_word(text_of(part(part(inner, 0), 0))));
+        return way_in_table(last_word(text_of(part(part(inner, 0), 0))));
     }
-    way_in(WAYS, name_of(error))
+    way_in_table(name_of(error))
 }
 
-// The expressions that the error names by these parts.
+// The expressions, or numbers, that the error names by these parts.
 fn handles(error: &[u8], fields: &str) -> [Option<usize>; 2] {
     let mut found = [None, None];
     for (index, name) in fields.split_whitespace().enumerate() {
-        let value = field(error, name);
-        let given = if name_of(value) == "Some" {
-            part(value, 0)
-        } else {
-            value
-        };
         if let Some(place) = found.get_mut(index) {
-            *place = handle(given);
+            *place = number(field(error, name));
         }
     }
     found
 }
 
-// What is looked for where a call is refused.
-fn call_sought<'a>(error: &[u8], scene: Scene<'a>) -> Search<'a> {
-    let inner = field(error, "error");
-    let (rule, second) = match name_of(inner) {
-        "ArgumentCount" => (Rule::Passes, number(field(inner, "seen"))),
-        "ArgumentType" => (Rule::Calls, handle(field(inner, "seen_expression"))),
-        "ExpressionMismatch" if name_of(part(inner, 0)) == "None" => (Rule::CallsAlone, None),
-        "ExpressionMismatch" => (Rule::Calls, handle(part(part(inner, 0), 0))),
-        _ => (Rule::Calls, handle(part(inner, 0))),
+// The rule by which a call is refused so, and what is looked for beside its function.
+fn call_rule(inner: &[u8]) -> (Rule, Option<usize>) {
+    let Some(way) = way_in_table(name_of(inner)) else {
+        return (Rule::Calls, handle(part(inner, 0)));
     };
-    Search {
-        rule,
-        words: "",
-        numbers: [handle(field(error, "function")), second],
-        scene,
+    let [second, _] = handles(inner, way.fields);
+    if name_of(inner) == "ExpressionMismatch" && second.is_none() {
+        (Rule::CallsAlone, None)
+    } else {
+        (way.rule, second)
     }
 }
 
-// What is looked for in the body of a function where it is refused so.
-fn sought<'a>(error: &[u8], scene: Scene<'a>) -> Option<Search<'a>> {
+// The rule, the words and the numbers that are looked for in the body of a function where it is refused so.
+fn wanted_in(error: &[u8]) -> Option<(Rule, &'static str, [Option<usize>; 2])> {
     if name_of(error) == "InvalidCall" {
-        return Some(call_sought(error, scene));
+        let (rule, second) = call_rule(field(error, "error"));
+        return Some((rule, "", [handle(field(error, "function")), second]));
     }
     let is_scope = name_of(field(error, "source")) == "NotInScope";
     if name_of(error) == "Expression" && is_scope {
-        return Some(Search {
-            rule: Rule::NotInScope,
-            words: "",
-            numbers: [handle(field(error, "handle")), None],
-            scene,
-        });
+        let numbers = [handle(field(error, "handle")), None];
+        return Some((Rule::NotInScope, "", numbers));
     }
     let way = way_of(error)?;
-    let inner = innermost("", error).1;
+    let numbers = handles(innermost("", error).1, way.fields);
+    Some((way.rule, way.words, numbers))
+}
+
+// What is looked for there.
+fn sought<'a>(error: &[u8], scene: Scene<'a>) -> Option<Search<'a>> {
+    let (rule, words, numbers) = wanted_in(error)?;
     Some(Search {
-        rule: way.rule,
-        words: way.words,
-        numbers: handles(inner, way.fields),
+        rule,
+        words,
+        numbers,
         scene,
     })
 }
@@ -313,15 +301,9 @@ fn find_sought(search: &Search<'_>, body: &Value, path: &mut Vec<u32>) -> Result
     let (rule, numbers) = match search.rule {
         Rule::Names => (Rule::Names, [None, None]),
         Rule::NotInScope => (Rule::Skipped, search.numbers),
-        Rule::Breaks
-        | Rule::Continues
-        | Rule::Returns
+        Rule::Leaves
         | Rule::Answers
-        | Rule::SameCases
-        | Rule::OtherCases
-        | Rule::NoDefault
-        | Rule::Defaults
-        | Rule::FallsThrough
+        | Rule::Cases
         | Rule::Skipped
         | Rule::InScope
         | Rule::Emits
@@ -447,32 +429,22 @@ fn find_result(refusal: &Refusal<'_>, path: &mut Vec<u32>) -> Result<(), AllocEr
     path.push(4).map_err(AllocError::from)
 }
 
-// The part of an entry point that an error speaks of.
+// The parts of an entry point, each with the errors that speak of it.
 static ENTRY_PARTS: &str = "\
-UnsupportedCapability|0
-ForbiddenStageOperations|6
-TaskPayloadTooSmall|5
-Conflict|1
-UnexpectedEarlyDepthTest|2
-UnexpectedWorkgroupSize|3
-OutOfRangeWorkgroupSize|3
-ExpectedMeshShaderAttributes|4
-UnexpectedMeshShaderAttributes|4
-BadMeshOutputVariableType|4
-BadMeshOutputVariableField|4
-InvalidMeshOutputType|4
-InvalidMeshPrimitiveOutputType|4
-WrongMeshOutputAddressSpace|4
-UnexpectedTaskPayload|5
-TaskPayloadWrongAddressSpace|5
-WrongTaskPayloadUsed|5
-ExpectedTaskPayload|5
+0|UnsupportedCapability
+1|Conflict
+2|UnexpectedEarlyDepthTest
+3|UnexpectedWorkgroupSize OutOfRangeWorkgroupSize
+4|ExpectedMeshShaderAttributes UnexpectedMeshShaderAttributes BadMeshOutputVariableType BadMeshOutputVariableField
+4|InvalidMeshOutputType InvalidMeshPrimitiveOutputType WrongMeshOutputAddressSpace
+5|TaskPayloadTooSmall UnexpectedTaskPayload TaskPayloadWrongAddressSpace WrongTaskPayloadUsed ExpectedTaskPayload
+6|ForbiddenStageOperations
 ";
 
 fn entry_part(error: &[u8]) -> Option<u32> {
     for line in ENTRY_PARTS.lines() {
-        if let Some((own, part)) = line.split_once('|') {
-            if own == name_of(error) {
+        if let Some((part, errors)) = line.split_once('|') {
+            if has(errors, name_of(error)) {
                 return part.parse::<u32>().ok();
             }
         }
@@ -510,41 +482,46 @@ fn find_in_entry(refusal: &Refusal<'_>, path: &mut Vec<u32>) -> Result<(), Alloc
     }
 }
 
-// Puts the way to the item whose handle is refused at the end of the path, which is empty.
-fn find_handle(refusal: &Refusal<'_>, path: &mut Vec<u32>) -> Result<(), AllocError> {
-    let error = refusal.error.as_bytes();
-    let inner = part(error, 0);
-    if name_of(error) == "BadRange" {
-        let range = field(inner, "range");
-        let _ = find_range(
-            number(field(range, "first")),
-            number(field(range, "end")),
-            refusal.document,
-            path,
-        )?;
-        return Ok(());
-    }
-    let is_forward = name_of(error) == "ForwardDependency";
-    let (kind, index) = if is_forward {
+// What names a handle that is refused so.
+fn target_of(error: &[u8]) -> Option<Target> {
+    let (kind, index) = if name_of(error) == "ForwardDependency" {
         ("depends_on_kind", "depends_on")
     } else {
         ("kind", "index")
     };
-    let Some(named) = names_of(text_of(quoted(field(inner, kind)))) else {
-        return Ok(());
-    };
-    let target = Target {
-        named,
+    let inner = part(error, 0);
+    Some(Target {
+        named: names_of(text_of(quoted(field(inner, kind))))?,
         index: number(field(inner, index)).unwrap_or(usize::MAX),
         subject: number(field(inner, "subject")),
-    };
-    if !find_item(&target, refusal.document, path)? {
-        if let Some(subject) = target.subject {
-            let list = if named == Names::Type { 5 } else { 10 };
-            path.extend_from_slice(&[list, step_of(subject)])?;
+    })
+}
+
+// Puts the way to what names a handle at the end of the path, which is empty; or to the item that is said to.
+fn find_target(document: &Value, target: &Target, path: &mut Vec<u32>) -> Result<(), AllocError> {
+    let is_found = find_item(target, document, path)?;
+    match target.subject {
+        Some(subject) if !is_found => {
+            let list = if target.named == Names::Type { 5 } else { 10 };
+            path.extend_from_slice(&[list, step_of(subject)])
         }
+        Some(_) | None => Ok(()),
     }
-    Ok(())
+}
+
+// Puts the way to the item whose handle is refused at the end of the path, which is empty.
+fn find_handle(refusal: &Refusal<'_>, path: &mut Vec<u32>) -> Result<(), AllocError> {
+    let error = refusal.error.as_bytes();
+    if name_of(error) == "BadRange" {
+        let range = field(part(error, 0), "range");
+        let (first, end) = (number(field(range, "first")), number(field(range, "end")));
+        let _ = find_range(first, end, refusal.document, path)?;
+        return Ok(());
+    }
+    match target_of(error) {
+        Some(target) => find_target(refusal.document, &target, path),
+        None => Ok(()),
+    }
 }
 
 // Where the list of a step stands in the document.
@@ -593,39 +570,37 @@ fn lead_length(document: &Value, path: &[u32]) -> usize
 pub fn path_of(alloc: Global, refusal: &Refusal<'_>) -> Result<Vec<u32>, AllocError>
     ensures { IfOk result (λ path. Leads path.items (view refusal.now.document.now)) }
 {
-    let mut path = path_to(alloc, refusal)?;
+    let mut path = Vec::new(alloc);
+    find_path(refusal, &mut path)?;
     let count = lead_length(refusal.document, &path);
     path.truncate(count);
     Ok(path)
 }
 
-// The same, where the error may speak of more than the document has.
-fn path_to(alloc: Global, refusal: &Refusal<'_>) -> Result<Vec<u32>, AllocError> {
-    let mut path = Vec::new(alloc);
-    if refusal.step == "handles" {
-        find_handle(refusal, &mut path)?;
-        return Ok(path);
-    }
-    let error = refusal.error.as_bytes();
-    if refusal.step == "type" {
-        find_type(
-            refusal.document,
-            refusal.index,
-            innermost("", error).1,
-            &mut path,
-        )?;
-        return Ok(path);
-    }
+// Puts the way to the item of a list at the end of the path, which is empty, and the way inside it.
+fn find_in_list(refusal: &Refusal<'_>, path: &mut Vec<u32>) -> Result<(), AllocError> {
     path.extend_from_slice(&[list_of(refusal.step), step_of(refusal.index)])?;
     match refusal.step {
-        "global" => find_in_global(refusal, &mut path)?,
-        "entry" => find_in_entry(refusal, &mut path)?,
-        "function" => {
-            if let Some(function) = along(refusal.document, &[12, refusal.index]) {
-                find_in_function(refusal, function, error, &mut path)?;
+        "global" => find_in_global(refusal, path),
+        "entry" => find_in_entry(refusal, path),
+        "function" => match along(refusal.document, &[12, refusal.index]) {
+            Some(function) => {
+                find_in_function(refusal, function, refusal.error.as_bytes(), path)
             }
-        }
-        _ => {}
+            None => Ok(()),
+        },
+        _ => Ok(()),
     }
-    Ok(path)
+}
+
+// The same, where the error may speak of more than the document has.
+fn find_path(refusal: &Refusal<'_>, path: &mut Vec<u32>) -> Result<(), AllocError> {
+    match refusal.step {
+        "handles" => find_handle(refusal, path),
+        "type" => {
+            let inner = innermost("", refusal.error.as_bytes()).1;
+            find_type(refusal.document, refusal.index, inner, path)
+        }
+        _ => find_in_list(refusal, path),
+    }
 }

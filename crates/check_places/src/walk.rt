@@ -7,28 +7,17 @@ use serde_json::Value;
 use std::alloc::AllocError;
 
 /// What is so of the statement that is looked for.
-#[derive(Clone, Copy, PartialEq, Eq)]
+#[derive(Clone, Copy)]
 pub enum Rule {
     /// It has one of these words, and names all of these expressions.
     Names,
-    /// A break that may not stand there.
-    Breaks,
-    /// A continue that may not stand there.
-    Continues,
-    /// A return that may not stand there.
-    Returns,
+    /// It leaves by this word where that may not stand.
+    Leaves,
     /// It returns this, or nothing.
     Answers,
-    /// It is a switch with two cases of the same value.
-    SameCases,
-    /// It is a switch of which a case is not of this kind.
-    OtherCases,
-    /// It is a switch without a default.
-    NoDefault,
-    /// It is a switch with several.
-    Defaults,
-    /// It is a switch of which the last case goes on.
-    FallsThrough,
+    /// It is a switch with two cases of one value (`same`), with a case that is not of its kind (`other`), without a default
+    /// (`none`) or with several (`several`), or of which the last case goes on (`through`).
+    Cases,
     /// It uses the expression where that is not there, or its range holds one that does.
     NotInScope,
     /// The same, where nothing that the body of a loop emits is there in its continuing part.
@@ -114,7 +103,8 @@ struct Around {
     returns: bool,
 }
 
-fn has(words: &str, wanted: &str) -> bool {
+/// Whether a word is one of these.
+pub fn has(words: &str, wanted: &str) -> bool {
     for word in words.split_whitespace() {
         if word == wanted {
             return true;
@@ -274,37 +264,24 @@ impl Search<'_> {
     // Whether a switch is the one.
     fn is_switch(&self, statement: &Value) -> bool {
         let cases = cases(statement);
-        match self.rule {
-            Rule::SameCases => has_same_cases(cases),
-            Rule::OtherCases => has_other_case(cases, self.case_word(statement)),
-            Rule::NoDefault => word(statement) == "Switch" && defaults(cases) == 0,
-            Rule::Defaults => defaults(cases) > 1,
-            Rule::FallsThrough => falls_through(cases),
-            Rule::Names
-            | Rule::Breaks
-            | Rule::Continues
-            | Rule::Returns
-            | Rule::Answers
-            | Rule::NotInScope
-            | Rule::Skipped
-            | Rule::InScope
-            | Rule::Emits
-            | Rule::Brings
-            | Rule::Range
-            | Rule::Calls
-            | Rule::Passes
-            | Rule::CallsAlone
-            | Rule::Refers(_) => false,
+        match self.words {
+            "same" => has_same_cases(cases),
+            "other" => has_other_case(cases, self.case_word(statement)),
+            "none" => word(statement) == "Switch" && defaults(cases) == 0,
+            "several" => defaults(cases) > 1,
+            "through" => falls_through(cases),
+            _ => false,
         }
     }
 
     fn may_not_leave(&self, statement: &Value, around: Around) -> bool {
-        match word(statement) {
-            "Break" => self.rule == Rule::Breaks && !around.breaks,
-            "Continue" => self.rule == Rule::Continues && !around.continues,
-            "Return" => self.rule == Rule::Returns && !around.returns,
-            _ => false,
-        }
+        let may = match self.words {
+            "Break" => around.breaks,
+            "Continue" => around.continues,
+            "Return" => around.returns,
+            _ => true,
+        };
+        !may && word(statement) == self.words
     }
 
     // Whether the statement names what is looked for.
@@ -318,10 +295,10 @@ impl Search<'_> {
         if word(statement) != "Call" || number_at(statement, 1) != function {
             return false;
         }
-        if self.rule == Rule::Passes {
+        if matches!(self.rule, Rule::Passes) {
             return at(statement, 2).map(|passed| parts(passed).len()) == second;
         }
-        if self.rule == Rule::CallsAlone {
+        if matches!(self.rule, Rule::CallsAlone) {
             return number_at(statement, 3).is_none();
         }
         match second {
@@ -335,12 +312,6 @@ impl Search<'_> {
         }
     }
 
-    // Whether a statement returns what is looked for.
-    fn is_return(&self, statement: &Value) -> bool {
-        let [value, _] = self.numbers;
-        word(statement) == "Return" && number_at(statement, 1) == value
-    }
-
     fn is_range(&self, statement: &Value) -> bool {
         let [first, end] = self.numbers;
         word(statement) == "Emit"
@@ -350,15 +321,12 @@ impl Search<'_> {
 
     // Whether it is the statement, where it stands. `live` says whether the expression is there.
     fn is_met(&self, statement: &Value, around: Around, live: bool) -> bool {
+        let [first, _] = self.numbers;
         match self.rule {
             Rule::Names => self.names_all(statement),
-            Rule::Breaks | Rule::Continues | Rule::Returns => self.may_not_leave(statement, around),
-            Rule::Answers => self.is_return(statement),
-            Rule::SameCases
-            | Rule::OtherCases
-            | Rule::NoDefault
-            | Rule::Defaults
-            | Rule::FallsThrough => self.is_switch(statement),
+            Rule::Leaves => self.may_not_leave(statement, around),
+            Rule::Answers => word(statement) == "Return" && number_at(statement, 1) == first,
+            Rule::Cases => self.is_switch(statement),
             Rule::NotInScope | Rule::Skipped => !live && self.uses(statement),
             Rule::InScope => live && brings(statement, self.number()),
             Rule::Emits => emits(statement, self.number()),
@@ -409,7 +377,7 @@ pub fn step(index: usize) -> u32 {
 
 // Whether it is a loop whose condition is looked at after its blocks.
 fn is_scoped_loop(search: &Search<'_>, statement: &Value) -> bool {
-    word(statement) == "Loop" && (search.rule == Rule::NotInScope || search.rule == Rule::Skipped)
+    word(statement) == "Loop" && matches!(search.rule, Rule::NotInScope | Rule::Skipped)
 }
 
 // Looks through the cases of a switch.
@@ -436,9 +404,7 @@ fn find_in_cases(
                 trail,
                 depth - 1,
             )? {
-                trail.push(1)?;
-                trail.push(step(index))?;
-                trail.push(2)?;
+                trail.extend_from_slice(&[1, step(index), 2])?;
                 return Ok(true);
             }
         }
@@ -461,7 +427,7 @@ fn find_in_blocks(
     }
     let mut there = live;
     for part in blocks(statement) {
-        if word(statement) != "Loop" || search.rule == Rule::Skipped {
+        if word(statement) != "Loop" || matches!(search.rule, Rule::Skipped) {
             there = live;
         }
         if let Some(body) = at(statement, *part) {
