@@ -1,15 +1,18 @@
 -- What is explained goes with the judgement over the bytes.
-use Rattle.std.proofs.Common.{◌≡◌, ℕ, List, Ok, Err, Result, IfOk, sym, subst}
+use Rattle.std.proofs.Common.{◌≡◌, ◌≢◌, ℕ, Bool, List, Ok, Err, Result, IfOk, ap, sym, subst}
 use Rattle.std.specs.declared.alloc.AllocError.{AllocError}
+use Rattle.document_reader.specs.declared.error.DocumentError.{DocumentError}
+use Rattle.document_reader.specs.declared.error.DocumentError.TheVariants as unread
 use Rattle.judgement.specs.declared.finding.Finding.{Finding}
+use Rattle.judgement.specs.declared.finding.Finding.TheVariants as findings
 use Rattle.document_reader.specs.Plain.{PlainDocument}
 use Rattle.document_reader.specs.Form.{Reads}
 use Rattle.shader_check.specs.Theorem.{Judged, JudgedDocument}
 use Rattle.shader_check.proofs.JudgedLaws.{judged_document, judged_if, kept_in}
 use Rattle.check_explanation.specs.declared.explanation.Requested.{Requested}
 use Rattle.check_explanation.specs.declared.explanation.Explanation.{Explanation}
-use Rattle.check_explanation.specs.Explained.{finding_of}
-use Rattle.check_explanation.specs.Listed.{CanReportIn, Follows, FollowsIn, FollowsOn}
+use Rattle.check_explanation.specs.Explained.{IsMisread, IsRefusedAt, finding_of}
+use Rattle.check_explanation.specs.Listed.{CanReportIn, Follows, FollowsIn, FollowsOn, IsAccepted}
 use Rattle.check_explanation.specs.declared.explanation.Explanation.TheVariants.{NoDocument, Accepted, Refused}
 use Rattle.ir_items.specs.Plain.{PlainModule}
 use Rattle.judgement.specs.Steps.{IsPrepared}
@@ -17,12 +20,55 @@ use Rattle.shader_check.specs.Examined.{IsExaminedDocument, finding_in}
 use Rattle.shader_check.specs.declared.examined.Examined.{Examined}
 use Rattle.shader_check.specs.declared.examined.Examined.TheVariants as examined
 use Rattle.judgement.specs.ModuleSteps.{layout}
+use Rattle.spirv_words.specs.declared.error.SpirvError.{SpirvError}
+use Rattle.check_explanation.specs.Answered.{IsExplained}
+use Rattle.check_explanation.specs.declared.traced.Traced.{Traced}
 
 -- what is found of its module with the error is found of the document
 pub found_if : (d : PlainDocument) (m : PlainModule) (x : Examined) (r : Result Explanation AllocError) → IsExaminedDocument d m x → IfOk r (λ e. finding_of e ≡ finding_in x)
     → IfOk r (λ e. JudgedDocument d (finding_of e))
 found_if d m x (Ok e) h is = subst (JudgedDocument d) (sym is) (judged_document d m x h)
 found_if d m x (Err a) h is = tt
+
+-- an accepted module is found to be one
+pub accepted_if : (requested : Requested) (m : PlainModule) (strict : Bool) (r : Result Explanation AllocError) → IfOk r (IsAccepted requested m strict) → IfOk r (λ e. finding_of e ≡ findings.Accepted strict)
+accepted_if requested m strict (Ok (Accepted found lines)) h = ap findings.Accepted h.0
+accepted_if requested m strict (Ok (NoDocument _ _)) h = elim h [ ]
+accepted_if requested m strict (Ok (Refused _ _)) h = elim h [ ]
+accepted_if requested m strict (Err a) h = tt
+
+pub accepted_lines : (requested : Requested) (m : PlainModule) (strict : Bool) (r : Result Explanation AllocError) → IfOk r (IsAccepted requested m strict) → IfOk r (FollowsOn requested m)
+accepted_lines requested m strict (Ok (Accepted found lines)) h = h.1
+accepted_lines requested m strict (Ok (NoDocument _ _)) h = elim h [ ]
+accepted_lines requested m strict (Ok (Refused _ _)) h = elim h [ ]
+accepted_lines requested m strict (Err a) h = tt
+
+-- one that is refused is found to be so, and no lines are wanted of it
+pub refused_if : (finding : Finding) (r : Result Explanation AllocError) → IfOk r (IsRefusedAt finding) → IfOk r (λ e. finding_of e ≡ finding)
+refused_if finding (Ok (Refused error item)) h = h
+refused_if finding (Ok (NoDocument _ _)) h = elim h [ ]
+refused_if finding (Ok (Accepted _ _)) h = elim h [ ]
+refused_if finding (Err a) h = tt
+
+pub refused_lines : (requested : Requested) (m : PlainModule) (finding : Finding) (r : Result Explanation AllocError) → IfOk r (IsRefusedAt finding) → IfOk r (FollowsOn requested m)
+refused_lines requested m finding (Ok (Refused error item)) h = tt
+refused_lines requested m finding (Ok (NoDocument _ _)) h = elim h [ ]
+refused_lines requested m finding (Ok (Accepted _ _)) h = elim h [ ]
+refused_lines requested m finding (Err a) h = tt
+
+-- bytes that spell no document are found to be so, and no lines are wanted of them
+pub misread_if : (bytes : List ℕ) (error : DocumentError) (r : Result Explanation AllocError) → (error ≢ unread.Memory → (d : PlainDocument) → ¬ Reads bytes d) → IfOk r (IsMisread error)
+    → IfOk r (λ e. Judged bytes (finding_of e))
+misread_if bytes error (Ok (NoDocument found hint)) none h = none h
+misread_if bytes error (Ok (Accepted _ _)) none h = elim h [ ]
+misread_if bytes error (Ok (Refused _ _)) none h = elim h [ ]
+misread_if bytes error (Err a) none h = tt
+
+pub misread_lines : (requested : Requested) (bytes : List ℕ) (error : DocumentError) (r : Result Explanation AllocError) → IfOk r (IsMisread error) → IfOk r (Follows requested bytes)
+misread_lines requested bytes error (Ok (NoDocument found hint)) h = tt
+misread_lines requested bytes error (Ok (Accepted _ _)) h = elim h [ ]
+misread_lines requested bytes error (Ok (Refused _ _)) h = elim h [ ]
+misread_lines requested bytes error (Err a) h = tt
 
 -- what is found of the document is found of the bytes that spell it
 pub explained_if : (bytes : List ℕ) (d : PlainDocument) (r : Result Explanation AllocError) → Reads bytes d → IfOk r (λ e. JudgedDocument d (finding_of e))
@@ -55,3 +101,8 @@ listed_if requested bytes d (Ok (NoDocument error hint)) reads h = tt
 listed_if requested bytes d (Ok (Accepted strict lines)) reads h = record { document = d; reads = reads; judged = h.judged; prepared = h.prepared; are = h.are }
 listed_if requested bytes d (Ok (Refused error item)) reads h = tt
 listed_if requested bytes d (Err a) reads h = tt
+
+-- what is explained stays so with the instruction that it comes from
+pub traced_if : (requested : Requested) (e : Explanation) (r : Result Traced SpirvError) → IsExplained requested e → IfOk r (λ t. t.explanation ≡ e) → IfOk r (λ t. IsExplained requested t.explanation)
+traced_if requested e (Ok t) h is = subst (IsExplained requested) (sym is) h
+traced_if requested e (Err a) h is = tt

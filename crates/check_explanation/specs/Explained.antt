@@ -1,4 +1,7 @@
 -- The explanation of a document goes with what is found of it.
+use Rattle.std.specs.Prelude.{◌≡◌, ◌≢◌}
+use Rattle.document_reader.specs.declared.error.DocumentError.{DocumentError}
+use Rattle.document_reader.specs.declared.error.DocumentError.TheVariants as unread
 use Rattle.judgement.specs.declared.finding.Finding.{Finding}
 use Rattle.judgement.specs.declared.finding.Finding.TheVariants as findings
 use Rattle.shader_check.specs.Examined.{refused_by}
@@ -10,3 +13,15 @@ abbrev pub finding_of : Explanation → Finding
 finding_of (NoDocument error hint) = findings.RefusedDocument
 finding_of (Accepted strict lines) = findings.Accepted strict
 finding_of (Refused error item) = refused_by error
+
+-- the explanation of bytes that spell no document, for a reason that is not that there was no memory
+abbrev pub IsMisread : DocumentError → Explanation → Type 0
+IsMisread error (NoDocument found hint) = error ≢ unread.Memory
+IsMisread error (Accepted strict lines) = ⊥
+IsMisread error (Refused found item) = ⊥
+
+-- the explanation of a module of which this is found, which is refused
+abbrev pub IsRefusedAt : Finding → Explanation → Type 0
+IsRefusedAt finding (NoDocument error hint) = ⊥
+IsRefusedAt finding (Accepted strict lines) = ⊥
+IsRefusedAt finding (Refused error item) = refused_by error ≡ finding

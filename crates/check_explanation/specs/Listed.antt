@@ -1,5 +1,5 @@
 -- The lines that an explanation has of a document.
-use Rattle.std.specs.Prelude.{◌≡◌, ℕ, List, [], string_bytes}
+use Rattle.std.specs.Prelude.{◌≡◌, ℕ, Bool, List, [], string_bytes}
 use Rattle.document_reader.specs.Form.{Reads}
 use Rattle.document_reader.specs.Plain.{PlainDocument}
 use Rattle.check_explanation.specs.declared.explanation.Requested.{Requested}
@@ -44,6 +44,12 @@ abbrev pub FollowsOn : (requested : Requested) → PlainModule → Explanation �
 FollowsOn requested m (NoDocument error hint) = Unit {0}
 FollowsOn requested m (Accepted strict lines) = ListsAsRequested requested m (string_bytes lines)
 FollowsOn requested m (Refused error item) = Unit {0}
+
+-- the explanation of an accepted module
+abbrev pub IsAccepted : (requested : Requested) → PlainModule → Bool → Explanation → Type 0
+IsAccepted requested m strict (NoDocument error hint) = ⊥
+IsAccepted requested m strict (Accepted found lines) = (found ≡ strict) × ListsAsRequested requested m (string_bytes lines)
+IsAccepted requested m strict (Refused error item) = ⊥
 
 -- They are those of the document's module, with returns put in where its settings ask for them.
 pub record AreListedIn (requested : Requested) (d : PlainDocument) (lines : List ℕ) : Type 0 where

@@ -1,11 +1,12 @@
 // What is found of a document, and where that shows.
-ghost use Rattle.std.specs.Prelude.{◌≡◌, ◌++◌, IfOk, string_bytes};
-ghost use Rattle.check_explanation.specs.Explained.{finding_of};
+ghost use Rattle.std.specs.Prelude.{◌≡◌, ◌≢◌, ◌++◌, IfOk, string_bytes};
+ghost use Rattle.check_explanation.specs.Explained.{IsMisread, IsRefusedAt, finding_of};
 ghost use Rattle.judgement.specs.Text.{text_of};
-ghost use Rattle.check_explanation.specs.Listed.{CanReport, CanReportIn, Follows, FollowsIn, FollowsOn, ListsAsRequested, lines_of};
+ghost use Rattle.check_explanation.specs.Listed.{CanReport, CanReportIn, Follows, FollowsIn, FollowsOn, IsAccepted, ListsAsRequested, lines_of};
 ghost use Rattle.document_reader.specs.View.{document_view};
+ghost use Rattle.document_reader.specs.declared.error.DocumentError.TheVariants.{Memory as no_memory};
 ghost use Rattle.ir_items.specs.View.{module_view};
-ghost use Rattle.shader_check.specs.Examined.{finding_in};
+ghost use Rattle.shader_check.specs.Examined.{finding_in, refused_by};
 ghost use Rattle.shader_check.specs.Theorem.{Judged, JudgedDocument};
 
 use crate::refused::{RefusedItem, refused_item, value_of};
@@ -34,7 +35,7 @@ pub enum Requested {
 }
 
 /// What is found of a document, and where that shows.
-#[derive(Debug, Drop)]
+#[derive(Drop)]
 pub enum Explanation {
     /// The bytes spell no document. The error is not of memory. With what they look like, or what stands where the slip is.
     NoDocument(DocumentError, String),
@@ -77,6 +78,34 @@ fn item(
     refused_item(alloc, bytes, error, &types)
 }
 
+// The explanation of an accepted module.
+fn accepted(
+    alloc: Global,
+    requested: Requested,
+    strict: bool,
+    module: &Module,
+    info: &ModuleInfo,
+) -> Result<Explanation, AllocError>
+    requires can { CanReport (module_view «module».now) info.now }
+    ensures { IfOk result (IsAccepted requested (module_view «module».now) strict) }
+{
+    let lines = lines(alloc, requested, module, info)?;
+    Ok(Explanation::Accepted { strict, lines })
+}
+
+// The explanation of a module that is refused so, unless there was no memory for what is told of it.
+fn refused(
+    error: ValidationError,
+    item: Result<RefusedItem, AllocError>,
+) -> Result<Explanation, AllocError>
+    ensures { IfOk result (IsRefusedAt (refused_by error)) }
+{
+    match item {
+        Ok(item) => Ok(Explanation::Refused(error, item)),
+        Err(memory) => Err(memory),
+    }
+}
+
 // The explanation of what is found.
 fn explained(
     alloc: Global,
@@ -90,13 +119,10 @@ fn explained(
     ensures lines { IfOk result (FollowsOn requested (module_view «module».now)) }
 {
     match examined {
-        Examined::Accepted { strict, info } => Ok(Explanation::Accepted {
-            strict,
-            lines: lines(alloc, requested, module, &info)?,
-        }),
+        Examined::Accepted { strict, info } => accepted(alloc, requested, strict, module, &info),
         Examined::Refused(error) => {
-            let item = item(alloc, bytes, module, &error)?;
-            Ok(Explanation::Refused(error, item))
+            let item = item(alloc, bytes, module, &error);
+            refused(error, item)
         }
     }
 }
@@ -138,6 +164,31 @@ pub fn explain_document(
     explained(alloc, requested, text, examined, &document.module)
 }
 
+// The explanation of bytes that spell no document, unless there was no memory for what they look like.
+fn unread(error: DocumentError, hint: Result<String, AllocError>) -> Result<Explanation, AllocError>
+    requires { error ≢ no_memory }
+    ensures { IfOk result (IsMisread error) }
+{
+    match hint {
+        Ok(hint) => Ok(Explanation::NoDocument(error, hint)),
+        Err(memory) => Err(memory),
+    }
+}
+
+// The same, with what they look like, or what stands where the slip is. The error is out of memory.
+fn misread(alloc: Global, bytes: &[u8], error: DocumentError) -> Result<Explanation, AllocError>
+    ensures { IfOk result (IsMisread error) }
+{
+    match error {
+        DocumentError::Memory => Err(AllocError),
+        DocumentError::TooLong => unread(error, Ok(String::new(alloc))),
+        DocumentError::NotJson { .. } => unread(error, looks(alloc, bytes)),
+        DocumentError::Malformed { place, wanted } => {
+            unread(error, slip(alloc, bytes, &place, wanted.text()))
+        }
+    }
+}
+
 /// The explanation of the document that the bytes spell, with the lines of its module that are wanted, where that is accepted. The
 /// error says that there is no memory.
 pub fn explain(alloc: Global, requested: Requested, bytes: &[u8]) -> Result<Explanation, AllocError>
@@ -146,19 +197,7 @@ pub fn explain(alloc: Global, requested: Requested, bytes: &[u8]) -> Result<Expl
 {
     match read_document(alloc, bytes) {
         Ok(mut document) => explain_document(alloc, requested, bytes, &mut document),
-        Err(DocumentError::Memory) => Err(AllocError),
-        Err(DocumentError::TooLong) => {
-            let hint = String::new(alloc);
-            Ok(Explanation::NoDocument(DocumentError::TooLong, hint))
-        }
-        Err(DocumentError::NotJson { line, column }) => {
-            let hint = looks(alloc, bytes)?;
-            Ok(Explanation::NoDocument(DocumentError::NotJson { line, column }, hint))
-        }
-        Err(DocumentError::Malformed { place, wanted }) => {
-            let hint = slip(alloc, bytes, &place, wanted.text())?;
-            Ok(Explanation::NoDocument(DocumentError::Malformed { place, wanted }, hint))
-        }
+        Err(error) => misread(alloc, bytes, error),
     }
 }
 

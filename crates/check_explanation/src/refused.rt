@@ -7,7 +7,7 @@ use std::alloc::{AllocError, Global};
 use std::str::from_utf8;
 
 /// The item that a step refuses, and why.
-#[derive(Debug, Drop)]
+#[derive(Drop)]
 pub struct RefusedItem {
     /// The word of the step.
     pub step: &'static str,
@@ -67,6 +67,31 @@ fn copied(alloc: Global, name: Option<&str>) -> Result<Option<String>, AllocErro
     }
 }
 
+// The way to the item, and the reason.
+fn reason_of(alloc: Global, refusal: &Refusal<'_>) -> Result<(Vec<u32>, String), AllocError> {
+    let path = path_of(alloc, refusal)?;
+    let reason = Reason {
+        refusal: *refusal,
+        path: &path,
+    };
+    match format!(in alloc; "{reason}") {
+        Ok(text) => Ok((path, text)),
+        Err(error) => Err(error),
+    }
+}
+
+// The name of the item, and the error by its name.
+fn names_in(alloc: Global, refusal: &Refusal<'_>) -> Result<(Option<String>, String), AllocError> {
+    let name = copied(
+        alloc,
+        name_of(refusal.document, refusal.step, refusal.index),
+    )?;
+    match String::from_str(alloc, refusal.error) {
+        Ok(error) => Ok((name, error)),
+        Err(error) => Err(AllocError::from(error)),
+    }
+}
+
 // Puts the item together from the refusal.
 fn item_of(
     alloc: Global,
@@ -74,14 +99,8 @@ fn item_of(
     step: &'static str,
     index: Option<usize>,
 ) -> Result<RefusedItem, AllocError> {
-    let path = path_of(alloc, refusal)?;
-    let reason = Reason {
-        refusal: *refusal,
-        path: &path,
-    };
-    let text = format!(in alloc; "{reason}")?;
-    let name = copied(alloc, name_of(refusal.document, step, refusal.index))?;
-    let error = String::from_str(alloc, refusal.error)?;
+    let (path, text) = reason_of(alloc, refusal)?;
+    let (name, error) = names_in(alloc, refusal)?;
     Ok(RefusedItem {
         step,
         index,
@@ -104,6 +123,25 @@ fn name_with_fields(alloc: Global, error: &ValidationError) -> Result<String, Al
     }
 }
 
+// The item of a document that is refused so.
+fn item_in(
+    alloc: Global,
+    document: &Value,
+    error: &ValidationError,
+    types: &[String],
+) -> Result<RefusedItem, AllocError> {
+    let named = name_with_fields(alloc, error)?;
+    let (step, index) = step_of(refused_by(error));
+    let refusal = Refusal {
+        document,
+        step,
+        index: index.unwrap_or(0),
+        error: &named,
+        types,
+    };
+    item_of(alloc, &refusal, step, index)
+}
+
 /// The item of the document that these bytes spell which is refused so, where the expressions of its function have these types.
 /// The error is out of memory.
 pub(crate) fn refused_item(
@@ -112,15 +150,8 @@ pub(crate) fn refused_item(
     error: &ValidationError,
     types: &[String],
 ) -> Result<RefusedItem, AllocError> {
-    let document = value_of(alloc, bytes)?;
-    let named = name_with_fields(alloc, error)?;
-    let (step, index) = step_of(refused_by(error));
-    let refusal = Refusal {
-        document: &document,
-        step,
-        index: index.unwrap_or(0),
-        error: &named,
-        types,
-    };
-    item_of(alloc, &refusal, step, index)
+    match value_of(alloc, bytes) {
+        Ok(document) => item_in(alloc, &document, error, types),
+        Err(memory) => Err(memory),
+    }
 }

@@ -2,6 +2,7 @@
 ghost use Rattle.std.specs.Prelude.{◌≡◌, IfOk, string_bytes};
 ghost use Rattle.check_explanation.specs.Answered.{IsOfSome, IsAnswered, verdict_of};
 
+use document_reader::Document;
 use document_writer::write_document;
 use serde_json::{Value, json};
 use shader_check::{Finding, Judgement, judge_document};
@@ -38,14 +39,23 @@ fn verdict_of(finding: Finding) -> SpirvVerdict
     }
 }
 
+// What is found of a document, and the report on it.
+fn judge_read(alloc: Global, document: &mut Document) -> Result<Judgement, SpirvError>
+    ensures { IfOk result IsOfSome }
+{
+    match judge_document(alloc, document) {
+        Ok(judgement) => Ok(judgement),
+        Err(_) => Err(SpirvError::Memory),
+    }
+}
+
 // What is found of the document that the module says, and the report on it.
 fn judge_spirv(alloc: Global, bytes: &[u8]) -> Result<Judgement, SpirvError>
     ensures { IfOk result IsOfSome }
 {
-    let mut document = read_spirv(alloc, bytes)?;
-    match judge_document(alloc, &mut document) {
-        Ok(judgement) => Ok(judgement),
-        Err(_) => Err(SpirvError::Memory),
+    match read_spirv(alloc, bytes) {
+        Ok(mut document) => judge_read(alloc, &mut document),
+        Err(error) => Err(error),
     }
 }
 
@@ -78,12 +88,19 @@ pub fn check_spirv(alloc: Global, bytes: &[u8]) -> Result<SpirvAnswer, AllocErro
     }
 }
 
-/// The document that the module says, as JSON in one line without its end.
-pub fn document_text(alloc: Global, bytes: &[u8]) -> Result<String, SpirvError> {
-    let document = read_spirv(alloc, bytes)?;
-    match write_document(alloc, &document) {
+/// A document as JSON in one line without its end.
+pub(crate) fn written(alloc: Global, document: &Document) -> Result<String, SpirvError> {
+    match write_document(alloc, document) {
         Ok(text) => Ok(text),
         Err(_) => Err(SpirvError::Memory),
+    }
+}
+
+/// The document that the module says, as JSON in one line without its end.
+pub fn document_text(alloc: Global, bytes: &[u8]) -> Result<String, SpirvError> {
+    match read_spirv(alloc, bytes) {
+        Ok(document) => written(alloc, &document),
+        Err(error) => Err(error),
     }
 }
 

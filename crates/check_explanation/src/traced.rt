@@ -1,11 +1,12 @@
 // What is found of a module of SPIR-V, explained.
-ghost use Rattle.std.specs.Prelude.{IfOk};
+ghost use Rattle.std.specs.Prelude.{◌≡◌, IfOk};
 ghost use Rattle.check_explanation.specs.Answered.{IsExplained};
 
 use crate::explanation::{Explanation, Requested, explain_document};
 use crate::origin::{Origin, origin_of};
 use crate::spans::FUNCTIONS;
-use document_writer::write_document;
+use crate::spirv::written;
+use document_reader::Document;
 use ir_items::Module;
 use serde_json::{Value, put};
 use shader_check::ValidationError;
@@ -53,6 +54,55 @@ fn trace(
     }
 }
 
+// The explanation with the instruction that the refused part comes from.
+fn with_origin(
+    alloc: Global,
+    bytes: &[u8],
+    module: &Module,
+    explanation: Explanation,
+) -> Result<Traced, SpirvError>
+    ensures { IfOk result (λ t. t.explanation ≡ explanation) }
+{
+    match trace(alloc, bytes, module, &explanation) {
+        Ok(origin) => Ok(Traced {
+            explanation,
+            origin,
+        }),
+        Err(error) => Err(error),
+    }
+}
+
+// The explanation of a document that was made of these bytes and is written so.
+fn explain_written(
+    alloc: Global,
+    requested: Requested,
+    bytes: &[u8],
+    text: &[u8],
+    document: &mut Document,
+) -> Result<Traced, SpirvError>
+    ensures { IfOk result (λ t. IsExplained requested t.explanation) }
+{
+    match explain_document(alloc, requested, text, document) {
+        Ok(explanation) => with_origin(alloc, bytes, &document.module, explanation),
+        Err(_) => Err(SpirvError::Memory),
+    }
+}
+
+// The explanation of a document that was made of these bytes.
+fn explain_read(
+    alloc: Global,
+    requested: Requested,
+    bytes: &[u8],
+    document: &mut Document,
+) -> Result<Traced, SpirvError>
+    ensures { IfOk result (λ t. IsExplained requested t.explanation) }
+{
+    match written(alloc, document) {
+        Ok(text) => explain_written(alloc, requested, bytes, text.as_bytes(), document),
+        Err(error) => Err(error),
+    }
+}
+
 /// The explanation of the document that these bytes of SPIR-V say, with the lines that are wanted, where it is accepted.
 pub fn explain_spirv(
     alloc: Global,
@@ -61,14 +111,10 @@ pub fn explain_spirv(
 ) -> Result<Traced, SpirvError>
     ensures { IfOk result (λ t. IsExplained requested t.explanation) }
 {
-    let mut document = read_spirv(alloc, bytes)?;
-    let text = write_document(alloc, &document)?;
-    let explanation = explain_document(alloc, requested, text.as_bytes(), &mut document)?;
-    let origin = trace(alloc, bytes, &document.module, &explanation)?;
-    Ok(Traced {
-        explanation,
-        origin,
-    })
+    match read_spirv(alloc, bytes) {
+        Ok(mut document) => explain_read(alloc, requested, bytes, &mut document),
+        Err(error) => Err(error),
+    }
 }
 
 impl Display for Traced {

@@ -1,5 +1,5 @@
 use Rattle.document_reader.specs.View.{document_view}
-use Rattle.check_explanation.proofs.ExplainedLaws.{explained_if, listed_if}
+use Rattle.check_explanation.proofs.ExplainedLaws.{explained_if, listed_if, misread_if, misread_lines}
 use Rattle.check_explanation.proofs.explanation.explain.Goals as goal
 
 pub returns-in-Ok-clause-finding : goal.returns-in-Ok-clause-finding
@@ -8,11 +8,8 @@ returns-in-Ok-clause-finding c = explained_if c.args.bytes.now (document_view c.
 pub returns-in-Ok-clause-lines : goal.returns-in-Ok-clause-lines
 returns-in-Ok-clause-lines c = listed_if c.args.requested c.args.bytes.now (document_view c.in-Ok.document) c.explain_document.result c.in-Ok.ensures.found c.explain_document.ensures.lines
 
-pub returns-in-Err-TooLong-clause-finding : goal.returns-in-Err-TooLong-clause-finding
-returns-in-Err-TooLong-clause-finding c = λ d reads. c.in-Err-TooLong.ensures.refused (λ e. let x = e in cc) d reads
+pub returns-in-Err-clause-finding : goal.returns-in-Err-clause-finding
+returns-in-Err-clause-finding c = misread_if c.args.bytes.now c.in-Err.error c.misread.result c.in-Err.ensures.refused c.misread.ensures
 
-pub returns-in_ok-hint-in-Err-NotJson-clause-finding : goal.returns-in_ok-hint-in-Err-NotJson-clause-finding
-returns-in_ok-hint-in-Err-NotJson-clause-finding c = λ d reads. c.in-Err-NotJson.ensures.refused (λ e. let x = e in cc) d reads
-
-pub returns-in_ok-hint-in-Err-Malformed-clause-finding : goal.returns-in_ok-hint-in-Err-Malformed-clause-finding
-returns-in_ok-hint-in-Err-Malformed-clause-finding c = λ d reads. c.in-Err-Malformed.ensures.refused (λ e. let x = e in cc) d reads
+pub returns-in-Err-clause-lines : goal.returns-in-Err-clause-lines
+returns-in-Err-clause-lines c = misread_lines c.args.requested c.args.bytes.now c.in-Err.error c.misread.result c.misread.ensures
