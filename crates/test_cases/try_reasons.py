@@ -10,6 +10,9 @@ The reported path holds the slip where the slip lies in the part that it leads t
 part names by a handle; or where the text names what was changed (a capability that is missing, a list of which an item was
 taken away). Bytes that are no JSON have no path, and are not counted. Each kind is counted, and each document of which none is so
 is printed with --list. The status is 1 where the share of those that it holds is below 97 in 100.
+
+With --write every third document of the corpora that is refused by one slip goes to crates/explain/stdin, a line each: the steps to
+the slip, a tab, the document. `explain --measure` counts by them in `rt ci` how many paths lead to the slip, or to what names it.
 """
 import collections
 import concurrent.futures
@@ -21,6 +24,8 @@ import sys
 from pathlib import Path
 
 DATA = Path(__file__).resolve().parent / "data"
+LINES = DATA.parent.parent / "explain/stdin"
+EACH = 3
 LEAST = 97
 MADE = 3
 MASK = (1 << 64) - 1
@@ -167,14 +172,24 @@ def holds(document, answer, slip):
     return "elsewhere"
 
 
+def write_lines(program, slips):
+    """Writes every third slip of a document that is JSON."""
+    told = [(value, slip) for value, slip in slips if not answer_of(program, value)["text"].startswith("no JSON")]
+    lines = [" ".join(map(str, slip)) + "\t" + json.dumps(value, separators=(",", ":")) for value, slip in told[::EACH]]
+    LINES.write_text("".join(line + "\n" for line in lines))
+
+
 def main():
-    words = [word for word in sys.argv[1:] if word != "--list"]
+    words = [word for word in sys.argv[1:] if not word.startswith("--")]
     program, names = words[0], [Path(name) for name in words[1:]]
     found = documents(names)
     with concurrent.futures.ThreadPoolExecutor(2) as pool:
         answers = list(pool.map(lambda value: answer_of(program, value), found))
     accepted = [value for value, answer in zip(found, answers) if answer["verdict"] == "accepted"]
     refused = [value for value, answer in zip(found, answers) if answer["verdict"] == "refused"]
+    if "--write" in sys.argv:
+        write_lines(program, pairs(accepted, refused))
+        return 0
     rng = random.Random(1)
     made = [one for value in accepted for _ in range(MADE) if (one := changed(rng, value))]
     bad = 0

@@ -1,19 +1,23 @@
 // Prints why the document on standard input is refused, and where: in one line, with `--names` with the error by its name after it,
 // or with `--json` as one JSON object; with `--leaves` whether it is, and of an accepted one what lies inside its buffers, with
 // `--verdict` the report. With `--spirv` the module of SPIR-V there, in the same forms, and with `--document` the document that it
-// says.
+// says. With `--measure` how often the path that is reported leads to a slip that is known.
 #![tactic(auto)]
+
+mod measure;
 
 use check_explanation::{
     Explanation, Requested, SpirvAnswer, SpirvError, SpirvVerdict, Traced, check_spirv,
     document_text, explain, explain_spirv, refusal_json,
 };
 use check_ports::{Source, TakeError};
+use measure::Measured;
 use shader_check::MAX_TAKEN;
 use std::alloc::AllocError;
 use std::env::args;
 use std::io;
 use std::process::ExitCode;
+use std::str::from_utf8;
 
 // In which form.
 #[derive(Clone, Copy)]
@@ -24,6 +28,7 @@ enum Form {
     Leaves,
     Object,
     Document,
+    Measure,
 }
 
 // What the arguments say.
@@ -47,6 +52,7 @@ fn form_of(word: &str) -> Option<Form> {
         "--json" => Some(Form::Object),
         "--verdict" => Some(Form::Verdict),
         "--document" => Some(Form::Document),
+        "--measure" => Some(Form::Measure),
         _ => None,
     }
 }
@@ -76,7 +82,7 @@ fn read_arguments(rt: &HostRuntime) -> Result<Arguments, &'static str> {
 // What is to be known of an accepted document for this form.
 fn requested_by(form: Form) -> Requested {
     match form {
-        Form::Line | Form::LineWithNames => Requested::Nothing,
+        Form::Line | Form::LineWithNames | Form::Measure => Requested::Nothing,
         Form::Leaves => Requested::Leaves,
         Form::Verdict | Form::Object | Form::Document => Requested::Report,
     }
@@ -125,7 +131,7 @@ fn print_explanation(rt: &HostRuntime, form: Form, traced: &Traced) -> ExitCode 
         Form::Line => ended(rt, println!(rt; "{traced}"), status),
         Form::LineWithNames => ended(rt, print_names(rt, traced), status),
         Form::Object => print_text(rt, traced.json(rt.alloc()), "\n", status),
-        Form::Verdict | Form::Leaves | Form::Document => {
+        Form::Verdict | Form::Leaves | Form::Document | Form::Measure => {
             print_text(rt, traced.explanation.listing(rt.alloc()), "", status)
         }
     }
@@ -146,8 +152,12 @@ fn print_unread(rt: &HostRuntime, form: Form, error: &SpirvError) -> ExitCode {
         SpirvError::Memory => fault(rt, "memory"),
         SpirvError::Malformed { .. } | SpirvError::Unsupported { .. } => match form {
             Form::Object => print_text(rt, refusal_json(rt.alloc(), error), "\n", 3),
-            Form::Verdict | Form::Line | Form::LineWithNames | Form::Leaves | Form::Document =>
-                ended(rt, println!(rt; "{error}"), 3),
+            Form::Verdict
+            | Form::Line
+            | Form::LineWithNames
+            | Form::Leaves
+            | Form::Document
+            | Form::Measure => ended(rt, println!(rt; "{error}"), 3),
         },
     }
 }
@@ -166,14 +176,11 @@ fn print_spirv(rt: &HostRuntime, form: Form, bytes: &[u8]) -> ExitCode {
             Ok(text) => print_text(rt, Ok(text), "\n", 0),
             Err(error) => print_unread(rt, form, &error),
         },
-        Form::Line | Form::LineWithNames | Form::Leaves | Form::Object => match explain_spirv(
-            rt.alloc(),
-            requested_by(form),
-            bytes,
-        ) {
-            Ok(traced) => print_explanation(rt, form, &traced),
-            Err(error) => print_unread(rt, form, &error),
-        },
+        Form::Line | Form::LineWithNames | Form::Leaves | Form::Object | Form::Measure =>
+            match explain_spirv(rt.alloc(), requested_by(form), bytes) {
+                Ok(traced) => print_explanation(rt, form, &traced),
+                Err(error) => print_unread(rt, form, &error),
+            },
     }
 }
 
@@ -191,6 +198,15 @@ fn print_document(rt: &HostRuntime, form: Form, bytes: &[u8]) -> ExitCode {
     }
 }
 
+// Prints how often the path leads to the slip.
+fn print_measured(rt: &HostRuntime, bytes: &[u8]) -> ExitCode {
+    let mut measured = Measured::new();
+    match measured.read_all(rt.alloc(), from_utf8(bytes).unwrap_or("")) {
+        Ok(()) => ended(rt, println!(rt; "{measured}"), 0),
+        Err(_) => fault(rt, "memory"),
+    }
+}
+
 fn main(rt: HostRuntime) -> ExitCode {
     let wanted = match read_arguments(&rt) {
         Ok(wanted) => wanted,
@@ -202,7 +218,9 @@ fn main(rt: HostRuntime) -> ExitCode {
         Err(TakeError::Memory) => return fault(&rt, "memory"),
         Err(TakeError::Read) => return fault(&rt, "read"),
     };
-    if wanted.is_spirv {
+    if let Form::Measure = wanted.form {
+        print_measured(&rt, &bytes)
+    } else if wanted.is_spirv {
         print_spirv(&rt, wanted.form, &bytes)
     } else {
         print_document(&rt, wanted.form, &bytes)

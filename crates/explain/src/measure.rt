@@ -1,0 +1,177 @@
+// How often the path that is reported leads to a slip that is known: over lines with the steps to the slip, a tab, and the document
+// that is refused for it.
+
+use check_explanation::{Explanation, Requested, explain};
+use check_faults::document::{at, number, parts};
+use serde_json::Value;
+use shader_check::DocumentError;
+use std::alloc::{AllocError, Global};
+use std::fmt::{self, Display};
+
+/// How many documents are refused, and how many of their paths lead to the slip, or to a part that names the item in which it is.
+#[derive(Clone, Copy)]
+pub struct Measured {
+    refused: usize,
+    leading: usize,
+    naming: usize,
+}
+
+// The number at a place of the steps to a slip.
+fn slip_at(slip: &str, place: usize) -> Option<u32> {
+    match slip.split(' ').nth(place) {
+        Some(word) => word.parse::<u32>().ok(),
+        None => None,
+    }
+}
+
+// Whether the path and the slip begin with the same steps, so many.
+fn same(path: &[u32], slip: &str, count: usize) -> bool {
+    for place in 0..count {
+        let step = path.get(place).copied();
+        if step.is_none() || step != slip_at(slip, place) {
+            return false;
+        }
+    }
+    true
+}
+
+// Whether the slip is in the part that the path leads to, or around it.
+fn leads(path: &[u32], slip: &str) -> bool {
+    let count = slip.split(' ').count().min(path.len());
+    count > 0 && same(path, slip, count)
+}
+
+// Whether a number stands in a value, so deep at most.
+fn has_number(value: &Value, wanted: usize, depth: u32) -> bool {
+    if number(value) == Some(wanted) {
+        return true;
+    }
+    if depth == 0 {
+        return false;
+    }
+    for part in parts(value) {
+        if has_number(part, wanted, depth - 1) {
+            return true;
+        }
+    }
+    false
+}
+
+// Whether a part names the item that a slip leads into, by its list and its index at these places of the slip.
+fn names_item(part: &Value, slip: &str, place: usize) -> bool {
+    match slip_at(slip, place.saturating_add(1)) {
+        Some(index) => has_number(part, index as usize, 3),
+        None => false,
+    }
+}
+
+// The part of a document that a path leads to.
+fn part_at<'a>(document: &'a Value, path: &[u32]) -> Option<&'a Value> {
+    let mut found = document;
+    for step in path {
+        found = at(found, *step as usize)?;
+    }
+    Some(found)
+}
+
+// Whether the part that the path leads to names the item in which the slip is.
+fn names(document: &Value, path: &[u32], slip: &str) -> bool {
+    let Some(part) = part_at(document, path) else {
+        return false;
+    };
+    if matches!(slip_at(slip, 0), Some(5 | 8..=12)) && names_item(part, slip, 0) {
+        return true;
+    }
+    let inside = match path.first() {
+        Some(12) => 2,
+        Some(13) => 3,
+        _ => return false,
+    };
+    same(path, slip, inside)
+        && matches!(slip_at(slip, inside), Some(1 | 3 | 4))
+        && names_item(part, slip, inside)
+}
+
+// The path to what is refused.
+fn path_of(explanation: &Explanation) -> &[u32] {
+    match explanation {
+        Explanation::Refused(_, item) => &item.path,
+        Explanation::NoDocument(DocumentError::Malformed { place, .. }, _) => place.steps(),
+        Explanation::NoDocument(
+            DocumentError::Memory | DocumentError::TooLong | DocumentError::NotJson { .. },
+            _,
+        )
+        | Explanation::Accepted { .. } => &[],
+    }
+}
+
+impl Measured {
+    /// Nothing yet.
+    pub fn new() -> Measured {
+        Measured {
+            refused: 0,
+            leading: 0,
+            naming: 0,
+        }
+    }
+
+    // Notes what is explained of a document, where it is refused.
+    fn note(
+        &mut self,
+        alloc: Global,
+        slip: &str,
+        text: &str,
+        explanation: &Explanation,
+    ) -> Result<(), AllocError> {
+        if let Explanation::Accepted { .. } = explanation {
+            return Ok(());
+        }
+        self.refused = self.refused.saturating_add(1);
+        let path = path_of(explanation);
+        if leads(path, slip) {
+            self.leading = self.leading.saturating_add(1);
+            return Ok(());
+        }
+        match Value::from_str(alloc, text) {
+            Ok(document) => {
+                self.naming = self
+                    .naming
+                    .saturating_add(usize::from(names(&document, path, slip)));
+                Ok(())
+            }
+            Err(error) if error.is_memory() => Err(AllocError),
+            Err(_) => Ok(()),
+        }
+    }
+
+    // Explains the document of a line.
+    fn read(&mut self, alloc: Global, line: &str) -> Result<(), AllocError> {
+        let Some((slip, text)) = line.split_once('\t') else {
+            return Ok(());
+        };
+        match explain(alloc, Requested::Nothing, text.as_bytes()) {
+            Ok(explanation) => self.note(alloc, slip, text, &explanation),
+            Err(memory) => Err(memory),
+        }
+    }
+
+    /// Explains the document of each line. The error is out of memory.
+    pub fn read_all(&mut self, alloc: Global, text: &str) -> Result<(), AllocError> {
+        for line in text.lines() {
+            self.read(alloc, line)?;
+        }
+        Ok(())
+    }
+}
+
+impl Display for Measured {
+    fn fmt<W: fmt::Write>(&self, f: &mut fmt::Formatter<W>) -> fmt::Result {
+        let (refused, leading, naming) = (self.refused, self.leading, self.naming);
+        let held = leading.saturating_add(naming);
+        let share = held.saturating_mul(1000) / refused.max(1);
+        write!(
+            f,
+            "{refused} refused by one slip: {leading} paths lead to it, {naming} to what names it; {share} in 1000"
+        )
+    }
+}
