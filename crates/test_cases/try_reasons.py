@@ -174,8 +174,8 @@ def holds(document, answer, slip):
 
 def write_lines(program, slips):
     """Writes every third slip of a document that is JSON."""
-    told = [(value, slip) for value, slip in slips if not answer_of(program, value)["text"].startswith("no JSON")]
-    lines = [" ".join(map(str, slip)) + "\t" + json.dumps(value, separators=(",", ":")) for value, slip in told[::EACH]]
+    known = [(value, slip) for value, slip in slips if not answer_of(program, value)["text"].startswith("no JSON")]
+    lines = [" ".join(map(str, slip)) + "\t" + json.dumps(value, separators=(",", ":")) for value, slip in known[::EACH]]
     LINES.write_text("".join(line + "\n" for line in lines))
 
 

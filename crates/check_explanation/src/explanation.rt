@@ -93,7 +93,7 @@ fn accepted(
     Ok(Explanation::Accepted { strict, lines })
 }
 
-// The explanation of a module that is refused so, unless there was no memory for what is told of it.
+// The explanation of a module that is refused so, unless there was no memory for its item.
 fn refused(
     error: ValidationError,
     item: Result<RefusedItem, AllocError>,

@@ -167,8 +167,8 @@ impl Measured {
 impl Display for Measured {
     fn fmt<W: fmt::Write>(&self, f: &mut fmt::Formatter<W>) -> fmt::Result {
         let (refused, leading, naming) = (self.refused, self.leading, self.naming);
-        let held = leading.saturating_add(naming);
-        let share = held.saturating_mul(1000) / refused.max(1);
+        let good = leading.saturating_add(naming);
+        let share = good.saturating_mul(1000) / refused.max(1);
         write!(
             f,
             "{refused} refused by one slip: {leading} paths lead to it, {naming} to what names it; {share} in 1000"
