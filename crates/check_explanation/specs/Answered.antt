@@ -1,9 +1,14 @@
--- What is found of a module of SPIR-V is what is found of a document. That the document means what the module does, no word says.
-use Rattle.std.specs.Prelude.{◌≡◌, ◌++◌, ℕ, List, string_bytes}
+-- What is found of a module of SPIR-V is what is found of a document, and what is promised of an accepted document holds of that one. That
+-- the document means what the module does, no word says.
+use Rattle.std.specs.Prelude.{◌≡◌, ◌++◌, ℕ, Bool, List, string_bytes}
+use Rattle.ir_items.specs.Plain.{PlainModule}
 use Rattle.document_reader.specs.Plain.{PlainDocument}
+use Rattle.judgement.specs.Reports.{IsReport}
+use Rattle.judgement.specs.Steps.{IsFinding, IsPrepared}
 use Rattle.judgement.specs.Text.{text_of}
 use Rattle.judgement.specs.declared.finding.Finding.{Finding}
 use Rattle.judgement.specs.declared.finding.Finding.TheVariants as findings
+use Rattle.judgement_runs.specs.Sound.{AreChecked, ModuleIsSound}
 use Rattle.shader_check.specs.Judgements.{IsJudgementOf}
 use Rattle.shader_check.specs.Theorem.{JudgedDocument}
 use Rattle.shader_check.specs.declared.reported.Judgement.{Judgement}
@@ -14,9 +19,10 @@ use Rattle.check_explanation.specs.declared.explanation.Requested.{Requested}
 use Rattle.check_explanation.specs.declared.spirv.SpirvVerdict.{SpirvVerdict}
 use Rattle.check_explanation.specs.declared.spirv.SpirvVerdict.TheVariants.{Accepted, Refused, Unread}
 
--- this is found of some document, and reported of it
+-- this is found of some document whose settings have the checks for layouts, bodies and expressions, and reported of it
 pub record IsOfSome (j : Judgement) : Type 0 where
   pub document : PlainDocument
+  pub checked : AreChecked document.settings
   pub is : IsJudgementOf document j
 
 abbrev pub verdict_of : Finding → SpirvVerdict
@@ -32,14 +38,32 @@ pub record IsTextOfSome (verdict : SpirvVerdict) (text : List ℕ) : Type 0 wher
   pub verdict_is : verdict ≡ verdict_of judgement.finding
   pub text_is : text ≡ text_of judgement.finding ++ string_bytes judgement.report
 
+-- What is promised of an accepted module of SPIR-V.
+pub record IsSoundText (text : List ℕ) : Type 0 where
+  -- The document that it is read as,
+  pub document : PlainDocument
+  -- whose module, with returns put in where its settings want them, is judged
+  pub judged : PlainModule
+  pub prepared : IsPrepared document.settings.returns document.content judged
+  -- and accepted, its scope checked strictly or not.
+  pub strict : Bool
+  pub accepted : IsFinding document.settings judged (findings.Accepted strict)
+  -- The text is `accepted` or `accepted strict`, and the report on the module.
+  pub report : List ℕ
+  pub reports : IsReport judged report
+  pub text_is : text ≡ text_of (findings.Accepted strict) ++ report
+  -- What lies in each buffer is in order, and every run of each entry point is good, with what it names and samples in this report.
+  pub sound : ModuleIsSound document.settings.returns document.settings judged report
+
 -- of a module that was not read nothing is said
 abbrev pub IsAnswered : SpirvVerdict → (text : List ℕ) → Type 0
 IsAnswered Accepted text = IsTextOfSome Accepted text
 IsAnswered Refused text = IsTextOfSome Refused text
 IsAnswered Unread text = Unit {0}
 
--- this is found of some document, and the lines that are wanted are those of its module
+-- this is found of some such document, and the lines that are wanted are those of its module
 pub record IsExplained (requested : Requested) (e : Explanation) : Type 0 where
   pub document : PlainDocument
+  pub checked : AreChecked document.settings
   pub judged : JudgedDocument document (finding_of e)
   pub lines : FollowsIn requested document e

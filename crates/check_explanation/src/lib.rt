@@ -15,6 +15,7 @@ mod varyings;
 pub use explanation::{Explanation, Requested, explain, explain_document};
 pub use origin::Origin;
 pub use refused::RefusedItem;
+pub use shader_check::{DocumentError, MAX_TAKEN};
 pub use spirv::{SpirvAnswer, SpirvVerdict, check_spirv, document_text, refusal_json};
 pub use spirv_reader::SpirvError;
 pub use traced::{Traced, explain_spirv};

@@ -1,6 +1,8 @@
 // What is answered of a module of SPIR-V.
 ghost use Rattle.std.specs.Prelude.{◌≡◌, IfOk, string_bytes};
-ghost use Rattle.check_explanation.specs.Answered.{IsOfSome, IsAnswered, verdict_of};
+ghost use Rattle.spirv_reader.specs.Checks.{MakesSixChecks};
+ghost use Rattle.check_explanation.specs.Answered.{IsOfSome, IsAnswered, IsSoundText, verdict_of};
+ghost use Rattle.check_explanation.specs.declared.spirv.SpirvVerdict.TheVariants.{Accepted};
 
 use document_reader::Document;
 use document_writer::write_document;
@@ -41,6 +43,7 @@ fn verdict_of(finding: Finding) -> SpirvVerdict
 
 // What is found of a document, and the report on it.
 fn judge_read(alloc: Global, document: &mut Document) -> Result<Judgement, SpirvError>
+    requires { MakesSixChecks document.old.settings.flags }
     ensures { IfOk result IsOfSome }
 {
     match judge_document(alloc, document) {
@@ -71,9 +74,12 @@ fn answer_of(alloc: Global, judgement: &Judgement) -> Result<SpirvAnswer, AllocE
     })
 }
 
-/// What the module is found to be that these bytes of SPIR-V say. The error is out of memory.
+/// What the module is found to be that these bytes of SPIR-V say. Where it is accepted, what is promised of an accepted document holds
+/// of the one that it is read as. The error is out of memory.
+#[tactic(auto, using(crate::proofs::Soundness::sound_answer))]
 pub fn check_spirv(alloc: Global, bytes: &[u8]) -> Result<SpirvAnswer, AllocError>
-    ensures { IfOk result (λ a. IsAnswered a.verdict (string_bytes a.text)) }
+    ensures answered { IfOk result (λ a. IsAnswered a.verdict (string_bytes a.text)) }
+    ensures sound { IfOk result (λ a. a.verdict ≡ Accepted → IsSoundText (string_bytes a.text)) }
 {
     match judge_spirv(alloc, bytes) {
         Ok(judgement) => answer_of(alloc, &judgement),

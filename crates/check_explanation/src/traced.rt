@@ -1,5 +1,6 @@
 // What is found of a module of SPIR-V, explained.
 ghost use Rattle.std.specs.Prelude.{◌≡◌, IfOk};
+ghost use Rattle.spirv_reader.specs.Checks.{MakesSixChecks};
 ghost use Rattle.check_explanation.specs.Answered.{IsExplained};
 
 use crate::explanation::{Explanation, Requested, explain_document};
@@ -80,6 +81,7 @@ fn explain_written(
     text: &[u8],
     document: &mut Document,
 ) -> Result<Traced, SpirvError>
+    requires { MakesSixChecks document.old.settings.flags }
     ensures { IfOk result (λ t. IsExplained requested t.explanation) }
 {
     match explain_document(alloc, requested, text, document) {
@@ -95,6 +97,7 @@ fn explain_read(
     bytes: &[u8],
     document: &mut Document,
 ) -> Result<Traced, SpirvError>
+    requires { MakesSixChecks document.old.settings.flags }
     ensures { IfOk result (λ t. IsExplained requested t.explanation) }
 {
     match written(alloc, document) {

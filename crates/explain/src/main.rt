@@ -7,12 +7,11 @@
 mod measure;
 
 use check_explanation::{
-    Explanation, Requested, SpirvAnswer, SpirvError, SpirvVerdict, Traced, check_spirv,
+    Explanation, MAX_TAKEN, Requested, SpirvAnswer, SpirvError, SpirvVerdict, Traced, check_spirv,
     document_text, explain, explain_spirv, refusal_json,
 };
 use check_ports::{Source, TakeError};
 use measure::Measured;
-use shader_check::MAX_TAKEN;
 use std::alloc::AllocError;
 use std::env::args;
 use std::io;

@@ -1,10 +1,9 @@
 // How often the path that is reported leads to a slip that is known: over lines with the steps to the slip, a tab, and the document
 // that is refused for it.
 
-use check_explanation::{Explanation, Requested, explain};
+use check_explanation::{DocumentError, Explanation, Requested, explain};
 use check_faults::document::{at, number, parts};
 use serde_json::Value;
-use shader_check::DocumentError;
 use std::alloc::{AllocError, Global};
 use std::fmt::{self, Display};
 

@@ -1,4 +1,6 @@
 // From the bytes of a SPIR-V module to a module of the IR.
+ghost use Rattle.std.specs.Prelude.{IfOk};
+ghost use Rattle.spirv_reader.specs.Checks.{MakesSixChecks};
 
 use crate::entries::lower_entries;
 use crate::interface::Interface;
@@ -18,13 +20,17 @@ use std::alloc::Global;
 /// The module that the bytes of SPIR-V say, with the settings that it is to be judged by: all checks, the capabilities that
 /// it names or uses, and returns put in. Its spans are in words. An error is out of memory, that the bytes are no SPIR-V,
 /// or what of it is not translated.
-pub fn read_spirv(alloc: Global, bytes: &[u8]) -> Result<Document, SpirvError> {
+pub fn read_spirv(alloc: Global, bytes: &[u8]) -> Result<Document, SpirvError>
+    ensures { IfOk result (λ d. MakesSixChecks d.settings.flags) }
+{
     let listing = list(alloc, bytes)?;
     read_listing(alloc, &listing, KeyedState::of_bytes(bytes))
 }
 
 // The same of a module whose words are sorted out.
-fn read_listing(alloc: Global, listing: &Listing, key: KeyedState) -> Result<Document, SpirvError> {
+fn read_listing(alloc: Global, listing: &Listing, key: KeyedState) -> Result<Document, SpirvError>
+    ensures { IfOk result (λ d. MakesSixChecks d.settings.flags) }
+{
     let flow = flow_of(alloc, listing)?;
     let declared = declare(alloc, listing, &flow.uses, key)?;
     read_functions(alloc, listing, &flow, declared)
@@ -36,7 +42,9 @@ fn read_functions(
     listing: &Listing,
     flow: &Flow,
     declared: Declarations,
-) -> Result<Document, SpirvError> {
+) -> Result<Document, SpirvError>
+    ensures { IfOk result (λ d. MakesSixChecks d.settings.flags) }
+{
     let source = Source { listing, flow };
     let (declared, functions, special) = lower_functions(alloc, source, declared)?;
     read_entries(alloc, listing, flow, declared, functions, special)
@@ -50,7 +58,9 @@ fn read_entries(
     declared: Declarations,
     functions: Arena<Function, key::Function>,
     special: Vec<Special>,
-) -> Result<Document, SpirvError> {
+) -> Result<Document, SpirvError>
+    ensures { IfOk result (λ d. MakesSixChecks d.settings.flags) }
+{
     let (declared, functions, special_types, entry_points) = with_entries(
         alloc,
         listing,
@@ -81,7 +91,9 @@ fn with_entries<I: Interface, R: Drop>(
 }
 
 // The settings of a module with these demands.
-fn settings_of(demands: &Demands) -> Settings {
+fn settings_of(demands: &Demands) -> Settings
+    ensures { MakesSixChecks result.flags }
+{
     let stages = if demands.operations == SubgroupOperationSet(0) {
         0
     } else {
@@ -103,7 +115,9 @@ fn document_of(
     special_types: SpecialTypes,
     functions: Arena<Function, key::Function>,
     entry_points: Vec<EntryPoint>,
-) -> Document {
+) -> Document
+    ensures { MakesSixChecks result.settings.flags }
+{
     let settings = settings_of(&declared.demands);
     let Declarations {
         types,

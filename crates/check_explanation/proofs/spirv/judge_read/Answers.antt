@@ -1,5 +1,6 @@
 -- proofs/spirv/judge_read/Answers.antt
+use Rattle.check_explanation.proofs.Soundness.{checked}
 use Rattle.check_explanation.proofs.spirv.judge_read.Goals as goal
 
 pub returns-in-Ok : goal.returns-in-Ok
-returns-in-Ok c = record { document = _; is = c.in-Ok.ensures.judged }
+returns-in-Ok c = record { document = _; checked = checked _ c.requires; is = c.in-Ok.ensures.judged }
