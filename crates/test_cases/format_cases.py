@@ -13,7 +13,7 @@ from pathlib import Path
 PAGE = Path(__file__).resolve().parent.parent.parent / "docs" / "FORMAT.md"
 
 FLAGS = ["EXPRESSIONS", "BLOCKS", "CONTROL_FLOW_UNIFORMITY", "STRUCT_LAYOUTS", "CONSTANTS", "BINDINGS"]
-WIDE = ["SHADER_INT16", "SHADER_INT64", "SHADER_FLOAT16", "FLOAT64"]
+WIDE = ["FLOAT64", "SHADER_FLOAT16", "SHADER_INT16", "SHADER_INT64"]
 STAGED = ["EARLY_DEPTH_TEST", "RAY_TRACING_PIPELINE"]
 NO_SPECIAL, NO_FILTERS = [None, None, None, []], [[], None]
 SIMPLE = [["Literal", "bool", True], ["Literal", "u32", 0], ["Literal", "i32", 0]]

@@ -2,6 +2,8 @@
 use crate::rows::{Answer, Row};
 use anyhow::{Result, anyhow};
 use base64::engine::general_purpose::STANDARD;
+use document_reader::Document;
+use document_writer::write_document;
 use serde_json::Value;
 use shader_check::{DocumentError, Sink, Source, check_document, read_document};
 use std::alloc::{AllocError, Global};
@@ -63,18 +65,32 @@ fn first_line(text: &str) -> &str {
     text.lines().next().unwrap_or("")
 }
 
-// Reads the case's bytes as a document. Answers how that differs from what is expected, or `None` where it does not.
+// Whether the document is written as it was read.
+fn is_written_so(alloc: Global, document: &Document, input: &[u8]) -> Result<bool, AllocError> {
+    match write_document(alloc, document) {
+        Ok(text) => Ok(text.as_bytes() == input),
+        Err(error) => Err(error),
+    }
+}
+
+// Whether the bytes are a document that is written as it was read, or `None` where they are no document.
+fn form_of(alloc: Global, input: &[u8]) -> Result<Option<bool>, AllocError> {
+    match read_document(alloc, input) {
+        Ok(document) => is_written_so(alloc, &document, input).map(Some),
+        Err(DocumentError::Memory) => Err(AllocError),
+        Err(_) => Ok(None),
+    }
+}
+
+// Reads the case's bytes as a document, and writes it. Answers how that differs from what is expected, or `None` where it
+// does not.
 fn judge_form(alloc: Global, case: &Case<'_>, form: bool) -> Result<Option<String>, AllocError> {
-    let read = match read_document(alloc, case.input.as_slice()) {
-        Ok(_) => true,
-        Err(DocumentError::Memory) => return Err(AllocError),
-        Err(_) => false,
-    };
-    if read == form {
+    let found = form_of(alloc, case.input.as_slice())?;
+    if found == form.then_some(true) {
         return Ok(None);
     }
     let difference = format!(in alloc;
-        "a document: {form} is expected, but it was read as one: {read}"
+        "a document: {form} is expected, but whether it was read and written as it was read is {found:?}"
     )?;
     Ok(Some(difference))
 }
