@@ -1,5 +1,5 @@
--- What is found of a module of SPIR-V is what is found of a document, and what is promised of an accepted document holds of that one. That
--- the document means what the module does, no word says.
+-- What is found of a module of SPIR-V is what is found of a document, and an accepted one is sound with its report. That the document means
+-- what the module does, no word says.
 use Rattle.std.specs.Prelude.{◌≡◌, ◌++◌, ℕ, Bool, List, string_bytes}
 use Rattle.ir_items.specs.Plain.{PlainModule}
 use Rattle.document_reader.specs.Plain.{PlainDocument}

@@ -74,8 +74,8 @@ fn answer_of(alloc: Global, judgement: &Judgement) -> Result<SpirvAnswer, AllocE
     })
 }
 
-/// What the module is found to be that these bytes of SPIR-V say. Where it is accepted, what is promised of an accepted document holds
-/// of the one that it is read as. The error is out of memory.
+/// What the module is found to be that these bytes of SPIR-V say. Where it is accepted, the document that it is read as has good runs and
+/// sound buffers, with the report that is in the text. The error is out of memory.
 #[tactic(auto, using(crate::proofs::Soundness::sound_answer))]
 pub fn check_spirv(alloc: Global, bytes: &[u8]) -> Result<SpirvAnswer, AllocError>
     ensures answered { IfOk result (λ a. IsAnswered a.verdict (string_bytes a.text)) }
