@@ -228,7 +228,143 @@ def phis(n):
     return end(m)
 
 
-KINDS = [nested_ifs, long_switch, wide_struct, deep_types, copies, doubled, inserts, chained_calls, many_entries, phis]
+def decoration_groups(n):
+    """A group with n decorations that is given to n variables."""
+    m = Module()
+    main = shader(m)
+    group = m.id()
+    targets = [m.id() for _ in range(n)]
+    for k in range(n):
+        m.op(71, group, 33, k)
+    m.op(73, group)
+    for at in range(0, n, 60000):
+        m.op(74, group, *targets[at : at + 60000])
+    void, function, word, truth = types(m)
+    pointer = m.plain(32, 6, word)
+    for target in targets:
+        m.op(59, pointer, target, 6)
+    begin(m, main, void, function)
+    return end(m)
+
+
+def long_switch_of_64_bits(n):
+    m = Module()
+    main = shader(m)
+    m.words[0:0] = [2 << 16 | 17, 11]
+    void, function, word, truth = types(m)
+    long = m.plain(21, 64, 0)
+    zero = m.typed(43, long, 0, 0)
+    begin(m, main, void, function)
+    merge = m.id()
+    labels = [m.id() for _ in range(min(n, 21000))]
+    m.op(247, merge, 0)
+    m.op(251, zero, merge, *[x for k, label in enumerate(labels) for x in (k, 7, label)])
+    for label in labels:
+        m.op(248, label)
+        m.op(249, merge)
+    m.op(248, merge)
+    return end(m)
+
+
+def components(n):
+    """Inputs of a fragment shader, four of each location, each of which is loaded by each of a few functions."""
+    m = Module()
+    main = m.id()
+    inputs = [m.id() for _ in range(n)]
+    m.op(17, 1)
+    m.op(14, 0, 1)
+    m.op(15, 4, main, *text("main"), *inputs[:60000])
+    m.op(16, main, 7)
+    for k, each in enumerate(inputs):
+        m.op(71, each, 30, k // 4)
+        m.op(71, each, 31, k % 4)
+    void, function, word, truth = types(m)
+    real = m.plain(22, 32)
+    pointer = m.plain(32, 1, real)
+    for each in inputs:
+        m.op(59, pointer, each, 1)
+    begin(m, main, void, function)
+    for each in inputs:
+        m.typed(61, real, each)
+    return end(m)
+
+
+def clusters(n):
+    """Sums over clusters of 64 invocations, each of which is 63 values of others."""
+    m = Module()
+    main = m.id()
+    for capability in (1, 61, 63, 67):
+        m.op(17, capability)
+    m.op(14, 0, 1)
+    m.op(15, 5, main, *text("main"))
+    m.op(16, main, 17, 1, 1, 1)
+    void, function, word, truth = types(m)
+    scope = m.typed(43, word, 3)
+    size = m.typed(43, word, 64)
+    begin(m, main, void, function)
+    value = scope
+    for _ in range(n):
+        value = m.typed(349, word, scope, 3, value, size)
+    return end(m)
+
+
+def arrays_as_arguments(n):
+    """A chain of functions each of which passes its argument, an array of images, on to the next."""
+    m = Module()
+    main = shader(m)
+    images = m.id()
+    m.op(71, images, 34, 0)
+    m.op(71, images, 33, 0)
+    void, function, word, truth = types(m)
+    real = m.plain(22, 32)
+    image = m.plain(25, real, 1, 0, 0, 0, 1, 0)
+    four = m.typed(43, word, 4)
+    array = m.plain(28, image, four)
+    pointer = m.plain(32, 0, array)
+    takes = m.plain(33, void, pointer)
+    m.op(59, pointer, images, 0)
+    before = None
+    for _ in range(n):
+        made = m.id()
+        m.op(54, void, made, 0, takes)
+        given = m.typed(55, pointer)
+        m.plain(248)
+        if before is not None:
+            m.typed(57, void, before, given)
+        m.op(253)
+        m.op(56)
+        before = made
+    begin(m, main, void, function)
+    m.typed(57, void, before, images)
+    return end(m)
+
+
+def packed_matrices(n):
+    """A struct of n matrices whose columns have a stride of 12 bytes."""
+    m = Module()
+    main = shader(m)
+    whole = m.id()
+    for k in range(n):
+        m.op(72, whole, k, 35, 36 * k)
+        m.op(72, whole, k, 5)
+        m.op(72, whole, k, 7, 12)
+    void, function, word, truth = types(m)
+    real = m.plain(22, 32)
+    vector = m.plain(23, real, 3)
+    matrix = m.plain(24, vector, 3)
+    m.op(30, whole, *[matrix] * min(n, 65000))
+    pointer = m.plain(32, 2, whole)
+    block = m.typed(59, pointer, 2)
+    one = m.plain(32, 2, matrix)
+    places = [m.typed(43, word, k) for k in range(n)]
+    begin(m, main, void, function)
+    for place in places:
+        m.typed(61, matrix, m.typed(65, one, block, place))
+    return end(m)
+
+
+KINDS = [nested_ifs, long_switch, wide_struct, deep_types, copies, doubled, inserts, chained_calls, many_entries, phis,
+         decoration_groups, long_switch_of_64_bits, components, clusters, arrays_as_arguments, packed_matrices]
 
 
 def spent():

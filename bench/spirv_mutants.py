@@ -3,15 +3,15 @@
 
 spirv_mutants.py PROGRAM FOLDER [COUNT] [SEED]: COUNT (1000) times a module of the FOLDER (*.spv) with bits flipped, words
 changed, cut out, repeated or exchanged, judged or explained. Any status but 0, 1 and 3, any line of another form, and any run of
-more than ten seconds is reported, and the module kept as mutant-N.spv; so are the slowest runs for their size.
+more than ten seconds is reported, and the module kept as mutant-N.spv; so are the runs that took the most processor time.
 """
 import pathlib
 import random
 import re
+import resource
 import struct
 import subprocess
 import sys
-import time
 
 FORMS = ["--verdict", "--verdict", "--names", "--json", "--leaves", "--document"]
 UNREAD = re.compile(rb"(unsupported|malformed): .+ at word [0-9]+\n")
@@ -42,6 +42,12 @@ def mutate(random_, words):
     return words
 
 
+def spent():
+    """The processor seconds of all programs that were run."""
+    used = resource.getrusage(resource.RUSAGE_CHILDREN)
+    return used.ru_utime + used.ru_stime
+
+
 def main():
     program, folder = sys.argv[1], pathlib.Path(sys.argv[2])
     count = int(sys.argv[3]) if len(sys.argv) > 3 else 1000
@@ -54,13 +60,13 @@ def main():
         words = mutate(random_, struct.unpack("<%dI" % (len(data) // 4), data[: len(data) // 4 * 4]))
         made = struct.pack("<%dI" % len(words), *words)
         form, text = random_.choice(FORMS), b""
-        began = time.monotonic()
+        began = spent()
         try:
             done = subprocess.run([program, "--spirv", form], input=made, capture_output=True, timeout=10)
             status, text = done.returncode, done.stdout
         except subprocess.TimeoutExpired:
             status = "timeout"
-        slowest = sorted([*slowest, (time.monotonic() - began, len(made), number, name.name)], reverse=True)[:3]
+        slowest = sorted([*slowest, (spent() - began, len(made), number, name.name)], reverse=True)[:3]
         found[status] = found.get(status, 0) + 1
         is_unread = UNREAD.fullmatch(text) is not None or text.startswith(b'{"text":') and form == "--json"
         if status not in (0, 1, 3) or is_unread != (status == 3):

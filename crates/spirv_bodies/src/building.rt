@@ -1,44 +1,25 @@
 // What instructions do with the function that is built.
 
 use crate::lowering::Lowering;
-use crate::tables::Tables;
+use crate::origin::Origin;
 use crate::writing::{Writing, keep_in, read_in, refuse_in, type_in};
 use ir_arena::span::Span;
 use ir_flags::{Capabilities, SubgroupOperationSet};
 use ir_items::{Block, Expression, LocalVariable, Statement};
-use ir_kinds::{
-    ImageClass, ImageDimension, Literal, PredeclaredType, Scalar, ScalarKind, VectorSize,
-};
+use ir_kinds::{BinaryOperator, Literal, PredeclaredType, Scalar, ScalarKind, VectorSize};
 use ir_types::TypeInner;
-use spirv_declarations::Made;
+use spirv_constants::Made;
+use spirv_declarations::Tables;
 use spirv_expressions::{Builder, ImageValue, Operation, Value, no_type, no_value};
-use spirv_operations::{FunctionBuilder, Pointer, PointerStep, Slot, no_pointer};
-use spirv_types::{
-    ImageShape, ImageUse, MatrixShape, MemberShape, Shape, Stored, TypeHandle, span_of,
-};
+use spirv_operations::{FunctionBuilder, NO_IMAGE, Pointer, PointerStep, Slot, no_pointer};
+use spirv_types::{MatrixShape, MemberShape, Shape, Stored, TypeHandle, span_of};
 use spirv_words::{Feature, Malformed, SpirvError};
 use std::alloc::Global;
-
-// No image.
-const NO_IMAGE: ImageUse = ImageUse {
-    shape: ImageShape {
-        dim: ImageDimension::D2,
-        arrayed: false,
-        multi: false,
-        depth: false,
-        scalar: Scalar::U32,
-        format: None,
-    },
-    class: ImageClass::Sampled {
-        kind: ScalarKind::Uint,
-        multi: false,
-    },
-};
 
 // How many steps a pointer may have from its variable (universal limit of the standard).
 const MAX_STEPS: usize = 255;
 
-impl<T: Tables, W: Writing> Builder for Lowering<'_, T, W> {
+impl<O: Origin, T: Tables, W: Writing> Builder for Lowering<O, T, W> {
     fn alloc(&self) -> Global {
         self.alloc
     }
@@ -60,7 +41,7 @@ impl<T: Tables, W: Writing> Builder for Lowering<'_, T, W> {
     }
 
     fn type_of(&self, id: u32) -> u32 {
-        self.source.listing.definition(id).map_or(0, |made| made.ty)
+        self.source.definition(id).map_or(0, |made| made.ty)
     }
 
     fn built(&mut self, ty: u32, operation: &Operation) -> TypeHandle {
@@ -88,6 +69,11 @@ impl<T: Tables, W: Writing> Builder for Lowering<'_, T, W> {
 
     fn stored_matrix(&mut self, matrix: &MatrixShape, stored: Stored) -> TypeHandle {
         let made = self.tables.stored_matrix(matrix, stored);
+        type_in(&mut self.body, made)
+    }
+
+    fn packed_line(&mut self, length: VectorSize, scalar: Scalar) -> TypeHandle {
+        let made = self.tables.packed_line(length, scalar);
         type_in(&mut self.body, made)
     }
 
@@ -150,14 +136,99 @@ impl<T: Tables, W: Writing> Builder for Lowering<'_, T, W> {
     }
 }
 
-impl<T: Tables, W: Writing> FunctionBuilder for Lowering<'_, T, W> {
+// An index into all resources of an array of arrays.
+#[derive(Clone, Copy)]
+enum WholeIndex {
+    Fixed(u32),
+    Computed(Value),
+}
+
+impl<O: Origin, T: Tables, W: Writing> Lowering<O, T, W> {
+    // The index into all resources of an array of arrays: the steps to the array at this place, each by how many resources it
+    // counts, and the last one.
+    fn whole_index(&mut self, place: u32, last: PointerStep, operation: &Operation) -> WholeIndex {
+        let mut whole = self.counted(last, 1, operation);
+        let mut at = place;
+        for _ in 0..MAX_STEPS {
+            let pointer = self.pointer_at(at, operation);
+            let (Some(count), Some(base)) = (pointer.resources, pointer.base) else {
+                break;
+            };
+            let more = self.counted(pointer.step, count, operation);
+            whole = self.sum(more, whole, operation);
+            at = base;
+        }
+        whole
+    }
+
+    // An index that counts so many.
+    fn counted(&mut self, step: PointerStep, count: u32, operation: &Operation) -> WholeIndex {
+        let id = match step {
+            PointerStep::Root => return WholeIndex::Fixed(0),
+            PointerStep::Index(index) => {
+                return WholeIndex::Fixed(index.saturating_mul(count));
+            }
+            PointerStep::Dynamic(id) => id,
+        };
+        let Some(mut value) = self.plain_value(id, operation) else {
+            self.body.fail(operation.malformed(Malformed::NoValue));
+            return WholeIndex::Fixed(0);
+        };
+        let ty = self.type_of(id);
+        let is_word = matches!(
+            self.shape(ty),
+            Shape::Scalar(Scalar {
+                kind: ScalarKind::Uint,
+                width: 4
+            })
+        );
+        if !is_word {
+            let word = Expression::As {
+                expr: value,
+                kind: ScalarKind::Uint,
+                convert: Some(4),
+            };
+            value = self.emit(word, operation);
+        }
+        if count == 1 {
+            return WholeIndex::Computed(value);
+        }
+        let right = self.literal(Literal::U32(count), operation);
+        let product = Expression::Binary {
+            op: BinaryOperator::Multiply,
+            left: value,
+            right,
+        };
+        WholeIndex::Computed(self.emit(product, operation))
+    }
+
+    // The sum of two such indexes.
+    fn sum(&mut self, left: WholeIndex, right: WholeIndex, operation: &Operation) -> WholeIndex {
+        if let (WholeIndex::Fixed(left), WholeIndex::Fixed(right)) = (left, right) {
+            return WholeIndex::Fixed(left.saturating_add(right));
+        }
+        let left = self.index_value(left, operation);
+        let right = self.index_value(right, operation);
+        let op = BinaryOperator::Add;
+        WholeIndex::Computed(self.emit(Expression::Binary { op, left, right }, operation))
+    }
+
+    fn index_value(&mut self, index: WholeIndex, operation: &Operation) -> Value {
+        match index {
+            WholeIndex::Fixed(index) => self.literal(Literal::U32(index), operation),
+            WholeIndex::Computed(value) => value,
+        }
+    }
+}
+
+impl<O: Origin, T: Tables, W: Writing> FunctionBuilder for Lowering<O, T, W> {
     fn name_of(&mut self, id: u32) -> Option<String> {
-        let name = self.source.listing.name(self.alloc, id, None);
+        let name = self.source.name(self.alloc, id);
         read_in(&mut self.body, name)
     }
 
     fn place_of(&self, function: u32) -> Option<u32> {
-        self.source.flow.order.place_of(function)
+        self.source.place_of(function)
     }
 
     fn is_known(&self, id: u32) -> bool {
@@ -193,6 +264,8 @@ impl<T: Tables, W: Writing> FunctionBuilder for Lowering<'_, T, W> {
             image: variable.image,
             stored: Stored::PLAIN,
             column: None,
+            split: None,
+            resources: None,
             rebuilt: if is_rebuilt {
                 Some(variable.built)
             } else {
@@ -267,11 +340,34 @@ impl<T: Tables, W: Writing> FunctionBuilder for Lowering<'_, T, W> {
             );
         };
         for place in above.iter().rev() {
-            let step = self.pointer_at(*place, operation).step;
-            value = self.step(value, step, operation);
+            let pointer = self.pointer_at(*place, operation);
+            value = match (pointer.resources, pointer.base) {
+                (Some(_), _) => value,
+                (None, Some(base)) => self.step_from(base, value, pointer.step, operation),
+                (None, None) => self.step(value, pointer.step, operation),
+            };
             self.names.renew(*place, value, Some(self.scope));
         }
         value
+    }
+
+    fn step_from(
+        &mut self,
+        place: u32,
+        base: Value,
+        step: PointerStep,
+        operation: &Operation,
+    ) -> Value {
+        if self.pointer_at(place, operation).resources.is_none() {
+            return self.step(base, step, operation);
+        }
+        match self.whole_index(place, step, operation) {
+            WholeIndex::Fixed(index) => self.emit(
+                Expression::AccessIndex { base, index },
+                operation,
+            ),
+            WholeIndex::Computed(index) => self.emit(Expression::Access { base, index }, operation),
+        }
     }
 
     fn step(&mut self, base: Value, step: PointerStep, operation: &Operation) -> Value {
@@ -299,7 +395,7 @@ impl<T: Tables, W: Writing> FunctionBuilder for Lowering<'_, T, W> {
     fn define(&mut self, operation: &Operation, value: Value) {
         let id = operation.instruction.id;
         let span = span_of(&operation.instruction);
-        let local = if self.source.flow.kept.is_kept(id) {
+        let local = if self.source.is_kept(id) {
             let ty = self.built(operation.instruction.ty, operation);
             let pointer = self.local(None, ty, None, span);
             self.body

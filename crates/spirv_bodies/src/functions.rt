@@ -2,19 +2,18 @@
 
 use crate::body::Body;
 use crate::lowering::Lowering;
-use crate::names::{Names, Special};
-use crate::tables::Tables;
+use crate::origin::Origin;
 use crate::writing::{Writing, keep_in, read_in, type_in};
 use ir_arena::arena::Arena;
 use ir_flags::StorageAccess;
 use ir_items::{Expression, Function, FunctionArgument, FunctionResult, key};
 use ir_types::TypeInner;
-use spirv_declarations::{Declarations, sampler_name};
+use spirv_declarations::{Tables, sampler_name};
 use spirv_expressions::{Builder, Operation, Value};
 use spirv_flow::{FunctionSteps, Use};
 use spirv_functions::{Source, assemble};
 use spirv_numbers::{numbers, ops};
-use spirv_operations::{FunctionBuilder, Slot, root};
+use spirv_operations::{FunctionBuilder, Names, Slot, Special, root};
 use spirv_tables::Decorated;
 use spirv_types::{ImageShape, ImageUse, Shape, TypeHandle, image_class, span_of};
 use spirv_words::{Feature, FunctionParts, Malformed, SpirvError};
@@ -22,17 +21,17 @@ use std::alloc::Global;
 
 /// What a module declares with what its functions needed besides, its functions, callees first, and the structs that their
 /// expressions give.
-pub fn lower_functions(
+pub fn lower_functions<T: Tables>(
     alloc: Global,
     source: Source,
-    declared: Declarations,
-) -> Result<(Declarations, Arena<Function, key::Function>, Vec<Special>), SpirvError> {
+    declared: T,
+) -> Result<(T, Arena<Function, key::Function>, Vec<Special>), SpirvError> {
     let words = u64::try_from(source.listing.words.len()).unwrap_or(0);
     let body = Body::new(alloc, words.saturating_mul(64).saturating_add(1024));
     lower_with(alloc, source, declared, body)
 }
 
-// The same with any tables, and with whatever writes functions.
+// The same, with whatever writes functions.
 fn lower_with<T: Tables, W: Writing>(
     alloc: Global,
     source: Source,
@@ -48,11 +47,11 @@ fn lower_with<T: Tables, W: Writing>(
         names,
         scope: 0,
     };
-    lowering.lower_all();
+    lowering.lower_all(source);
     lowering.finish()
 }
 
-impl<T: Tables, W: Writing> Lowering<'_, T, W> {
+impl<O: Origin, T: Tables, W: Writing> Lowering<O, T, W> {
     // What was built, where nothing was wrong.
     fn finish(self) -> Result<(T, Arena<Function, key::Function>, Vec<Special>), SpirvError> {
         if let Some(error) = self.body.failure() {
@@ -60,33 +59,34 @@ impl<T: Tables, W: Writing> Lowering<'_, T, W> {
         }
         let Lowering {
             alloc: _,
-            source: _,
+            source,
             tables,
             body,
             names,
             scope: _,
         } = self;
+        drop(source);
         Ok((tables, body.finish(), names.finish()))
     }
 
     // Builds all functions.
-    fn lower_all(&mut self) {
-        let flow = self.source.flow;
+    fn lower_all(&mut self, source: Source) {
+        let flow = source.flow;
         for steps in &flow.functions {
             if self.has_failed() {
                 break;
             }
             if let Some(blocks) = flow.blocks.functions.get(steps.function as usize) {
-                self.lower_function(&blocks.parts, steps);
+                self.lower_function(source, &blocks.parts, steps);
             }
         }
     }
 
     // Builds one function.
-    fn lower_function(&mut self, parts: &FunctionParts, steps: &FunctionSteps) {
+    fn lower_function(&mut self, source: Source, parts: &FunctionParts, steps: &FunctionSteps) {
         self.names.begin();
-        let start = self.source.listing.at(parts.start);
-        let operation = self.source.operation(start);
+        let start = source.listing.at(parts.start);
+        let operation = source.operation(start);
         let name = self.name_of(start.id);
         let result = match self.shape(start.ty) {
             Shape::Void => None,
@@ -95,24 +95,23 @@ impl<T: Tables, W: Writing> Lowering<'_, T, W> {
                 binding: None,
             }),
         };
-        let arguments = self.take_parameters(parts);
-        let source = self.source;
+        let arguments = self.take_parameters(source, parts);
         let body = assemble(self.alloc, source, self, steps);
         self.body
             .end_function(name, arguments, result, body, span_of(&start));
     }
 
     // The arguments of a function.
-    fn take_parameters(&mut self, parts: &FunctionParts) -> Vec<FunctionArgument> {
+    fn take_parameters(&mut self, source: Source, parts: &FunctionParts) -> Vec<FunctionArgument> {
         let mut arguments = Vec::new(self.alloc);
         for place in parts.start.saturating_add(1)..parts.end {
-            let parameter = self.source.listing.at(place);
+            let parameter = source.listing.at(place);
             if parameter.opcode == ops::LABEL {
                 break;
             }
             if parameter.opcode == ops::FUNCTION_PARAMETER {
-                let operation = self.source.operation(parameter);
-                self.take_parameter(&operation, &mut arguments);
+                let operation = source.operation(parameter);
+                self.take_parameter(source, &operation, &mut arguments);
             }
         }
         arguments
@@ -137,15 +136,24 @@ impl<T: Tables, W: Writing> Lowering<'_, T, W> {
     }
 
     // A parameter: a value, a pointer, an image, a sampler, or an image with a sampler as two arguments.
-    fn take_parameter(&mut self, operation: &Operation, arguments: &mut Vec<FunctionArgument>) {
+    fn take_parameter(
+        &mut self,
+        source: Source,
+        operation: &Operation,
+        arguments: &mut Vec<FunctionArgument>,
+    ) {
         let parameter = operation.instruction;
         let (class, ty) = match self.shape(parameter.ty) {
             Shape::Pointer { class, to } => (Some(class), to),
             _ => (None, parameter.ty),
         };
         let leaf = self.shape(ty);
+        if matches!(leaf, Shape::Array { binding: true, .. }) {
+            self.take_resources(source, operation);
+            return;
+        }
         if class == Some(numbers::CLASS_UNIFORM_CONSTANT) || class.is_none() && leaf.is_handle() {
-            self.take_handle(operation, arguments, ty);
+            self.take_handle(source, operation, arguments, ty);
             return;
         }
         if leaf.is_handle() {
@@ -166,27 +174,42 @@ impl<T: Tables, W: Writing> Lowering<'_, T, W> {
         self.names.set(parameter.id, slot);
     }
 
+    // A parameter that is an array of resources: the variable that every call passes for it, which is no argument here.
+    fn take_resources(&mut self, source: Source, operation: &Operation) {
+        let id = operation.instruction.id;
+        let Some(variable) = source.flow.uses.always_passed(source.listing, id) else {
+            self.fail(operation.unsupported_by(Feature::ImageArrayArgument));
+            return;
+        };
+        let slot = self.resolve(variable, operation);
+        self.names.set(id, slot);
+    }
+
     // A parameter that is an image, a sampler, or both.
     fn take_handle(
         &mut self,
+        source: Source,
         operation: &Operation,
         arguments: &mut Vec<FunctionArgument>,
         ty: u32,
     ) {
         let id = operation.instruction.id;
-        let used = self.source.flow.uses.of(id);
-        if used.compared && used.sampled {
+        let used = source.flow.uses.of(id);
+        let shape = self.shape(ty);
+        if used.compared && used.sampled && !matches!(shape, Shape::Image(_)) {
             self.fail(operation.unsupported_by(Feature::MixedComparison));
         }
-        let slot = match self.shape(ty) {
+        let slot = match shape {
             Shape::Image(image) => {
-                Slot::Pointer(self.take_image(operation, arguments, ty, &image, used))
+                Slot::Pointer(self.take_image(source, operation, arguments, ty, &image, used))
             }
-            Shape::Sampler => Slot::Pointer(self.take_sampler(operation, arguments, ty, false)),
+            Shape::Sampler => Slot::Pointer(self.take_sampler(
+                source, operation, arguments, ty, false,
+            )),
             Shape::SampledImage(of) => match self.shape(of) {
                 Shape::Image(image) => Slot::Pair {
-                    image: self.take_image(operation, arguments, ty, &image, used),
-                    sampler: self.take_sampler(operation, arguments, ty, true),
+                    image: self.take_image(source, operation, arguments, ty, &image, used),
+                    sampler: self.take_sampler(source, operation, arguments, ty, true),
                 },
                 _ => {
                     self.fail(operation.malformed(Malformed::WrongType));
@@ -204,6 +227,7 @@ impl<T: Tables, W: Writing> Lowering<'_, T, W> {
     // A parameter that is an image.
     fn take_image(
         &mut self,
+        source: Source,
         operation: &Operation,
         arguments: &mut Vec<FunctionArgument>,
         ty: u32,
@@ -218,7 +242,7 @@ impl<T: Tables, W: Writing> Lowering<'_, T, W> {
             } else {
                 0
             };
-            let said = Decorated::of(self.source.listing, id, None);
+            let said = Decorated::of(source.listing, id, None);
             access = StorageAccess(said.access().0 | atomic);
         }
         let span = span_of(&operation.instruction);
@@ -237,19 +261,20 @@ impl<T: Tables, W: Writing> Lowering<'_, T, W> {
     // A parameter that is a sampler, alone or beside an image.
     fn take_sampler(
         &mut self,
+        source: Source,
         operation: &Operation,
         arguments: &mut Vec<FunctionArgument>,
         ty: u32,
         beside: bool,
     ) -> u32 {
         let id = operation.instruction.id;
-        let comparison = self.source.flow.uses.of(id).compared;
+        let comparison = source.flow.uses.of(id).compared;
         let span = span_of(&operation.instruction);
         let inner = TypeInner::Sampler { comparison };
         let made = self.tables.insert(None, inner, span);
         let built = type_in(&mut self.body, made);
         let name = if beside {
-            let name = sampler_name(self.alloc, self.source.listing, id);
+            let name = sampler_name(self.alloc, source.listing, id);
             read_in(&mut self.body, name.map(Some))
         } else {
             self.name_of(id)

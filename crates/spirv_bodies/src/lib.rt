@@ -1,17 +1,18 @@
-//! The functions of a SPIR-V module, in the IR: each as it is built, what its ids are, and its pointers. They are built over
-//! any tables and with whatever writes functions, so that all tables of a module are looked at in few places.
+//! The functions of a SPIR-V module, in the IR: each as it is built. They are built over any tables and with whatever writes
+//! functions, so that all tables of a module are looked at in few places.
 #![tactic(auto)]
 
 mod body;
 mod building;
 mod functions;
 mod lowering;
-mod names;
+mod masks;
+mod origin;
 mod predeclared;
-mod tables;
 mod writing;
 
 pub use body::Body;
 pub use functions::lower_functions;
-pub use names::Special;
-pub use writing::{Writing, keep_in, read_in, type_in};
+pub use masks::Words;
+pub use spirv_operations::Special;
+pub use writing::{Writing, keep_in, read_in, refuse_in, type_in};

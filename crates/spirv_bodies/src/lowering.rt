@@ -1,24 +1,23 @@
 // A function that is being built out of its instructions.
 
-use crate::names::Names;
-use crate::tables::Tables;
+use crate::origin::Origin;
 use crate::writing::{Writing, keep_in, refuse_in};
 use ir_items::Expression;
-use spirv_declarations::{Made, named};
+use spirv_constants::{Known, Made, named};
+use spirv_declarations::Tables;
 use spirv_expressions::{Builder, Operation, Value};
 use spirv_flow::is_chain;
-use spirv_functions::Source;
-use spirv_operations::Slot;
+use spirv_operations::{Names, Slot};
 use spirv_types::span_of;
 use spirv_words::{Feature, Malformed, SpirvError, Unsupported};
 use std::alloc::Global;
 
 /// What functions are built with, one after the other.
 #[derive(Drop)]
-pub struct Lowering<'a, T: Tables, W: Writing> {
+pub struct Lowering<O: Origin, T: Tables, W: Writing> {
     pub(crate) alloc: Global,
-    /// The module, and what its functions do, in order.
-    pub source: Source<'a>,
+    /// What functions are built out of.
+    pub source: O,
     /// What it declares.
     pub tables: T,
     /// The function that is built.
@@ -40,12 +39,12 @@ fn parts_of(made: &Made) -> Option<(u32, u32)> {
 // How deep composites of specialization constants may nest.
 const MAX_DEPTH: u32 = 32;
 
-impl<T: Tables, W: Writing> Lowering<'_, T, W> {
+impl<O: Origin, T: Tables, W: Writing> Lowering<O, T, W> {
     /// Whether what is in a scope is so here.
     pub(crate) fn reaches(&self, scope: Option<u32>) -> bool {
         match scope {
             None => true,
-            Some(scope) => self.source.flow.steps.scopes.reaches(scope, self.scope),
+            Some(scope) => self.source.reaches(scope, self.scope),
         }
     }
 
@@ -74,10 +73,16 @@ impl<T: Tables, W: Writing> Lowering<'_, T, W> {
         value
     }
 
-    // The value of a constant, if the id is of one.
+    // The value of a constant of which this is known, if it is one.
     #[cycle(constants)]
-    fn constant_value(&mut self, id: u32, operation: &Operation, depth: u32) -> Option<Value> {
-        let known = self.tables.known(id)?;
+    fn constant_value(
+        &mut self,
+        id: u32,
+        known: Option<Known>,
+        operation: &Operation,
+        depth: u32,
+    ) -> Option<Value> {
+        let known = known?;
         if let Some(expression) = named(&known.made) {
             return Some(self.name(id, expression, operation));
         }
@@ -107,7 +112,8 @@ impl<T: Tables, W: Writing> Lowering<'_, T, W> {
                 break;
             }
             let part = self.tables.constant_part(first, place);
-            match self.constant_value(part, operation, depth) {
+            let known = self.tables.known_part(part);
+            match self.constant_value(part, known, operation, depth) {
                 Some(value) => keep_in(&mut self.body, &mut components, value),
                 None => self.body.fail(operation.malformed(Malformed::NoConstant)),
             }
@@ -124,7 +130,8 @@ impl<T: Tables, W: Writing> Lowering<'_, T, W> {
             local,
         } = self.names.slot(id)
         else {
-            return self.constant_value(id, operation, MAX_DEPTH);
+            let known = self.tables.known(id);
+            return self.constant_value(id, known, operation, MAX_DEPTH);
         };
         if self.reaches(scope) {
             return Some(value);
@@ -140,7 +147,7 @@ impl<T: Tables, W: Writing> Lowering<'_, T, W> {
 
     /// What is wrong with an id that is no value and no pointer here.
     pub(crate) fn missing(&self, id: u32, operation: &Operation) -> SpirvError {
-        match self.source.listing.definition(id) {
+        match self.source.definition(id) {
             None => operation.malformed(Malformed::Undefined),
             Some(made) if is_chain(made.opcode) => operation.malformed(Malformed::NoPointer),
             Some(made) => operation

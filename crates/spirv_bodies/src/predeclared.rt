@@ -1,15 +1,16 @@
 // The structs that some expressions give.
 
 use crate::lowering::Lowering;
-use crate::tables::Tables;
+use crate::origin::Origin;
 use crate::writing::{Writing, keep_in, made_in, type_in};
 use ir_arena::span::Span;
 use ir_kinds::{PredeclaredType, Scalar, ScalarKind, VectorSize};
 use ir_types::{StructMember, TypeInner};
+use spirv_declarations::Tables;
 use spirv_expressions::Builder;
 use spirv_types::TypeHandle;
 
-impl<T: Tables, W: Writing> Lowering<'_, T, W> {
+impl<O: Origin, T: Tables, W: Writing> Lowering<O, T, W> {
     /// The struct that an expression gives, which is built once.
     pub fn special_type(&mut self, of: PredeclaredType) -> TypeHandle {
         if let Some(handle) = self.names.special(of) {

@@ -1,25 +1,28 @@
 // All declarations of a module, in order.
 
-use crate::constants::ConstantTable;
-use crate::variables::VariableTable;
+use crate::building::{BuiltConstants, BuiltTypes, BuiltVariables};
+use crate::variables::{VariableTable, Variables};
+use ir_flags::Capabilities;
+use ir_kinds::{Scalar, VectorSize};
 use ir_sets::keyed::KeyedState;
 use ir_types::ArraySize;
-use spirv_flow::{Uses, is_debug};
+use spirv_constants::{ConstantTable, Constants};
+use spirv_flow::{FRAGMENT_PLACE, SUBGROUP_NUMBERS, Uses, is_debug};
 use spirv_numbers::ops;
 use spirv_tables::{Demands, Scan};
-use spirv_types::{Reading, TypeTable};
+use spirv_types::{Reading, TypeTable, Types};
 use spirv_words::{Instruction, Listing, SpirvError};
 use std::alloc::Global;
 
-/// What a module declares.
+/// What a module declares, wherever it is built.
 #[derive(Drop)]
-pub struct Declarations {
+pub struct Declarations<T: Types, C: Constants, V: Variables> {
     /// Its types.
-    pub types: TypeTable,
+    pub types: TypeTable<T>,
     /// Its constants.
-    pub constants: ConstantTable,
+    pub constants: ConstantTable<C>,
     /// Its global variables.
-    pub variables: VariableTable,
+    pub variables: VariableTable<V>,
     /// What it requires of the validator.
     pub demands: Demands,
 }
@@ -30,47 +33,54 @@ pub fn declare(
     listing: &Listing,
     uses: &Uses,
     key: KeyedState,
-) -> Result<Declarations, SpirvError> {
+) -> Result<Declarations<BuiltTypes, BuiltConstants, BuiltVariables>, SpirvError> {
+    declare_in(
+        alloc,
+        listing,
+        uses,
+        BuiltTypes::new(alloc, key),
+        BuiltConstants::new(alloc),
+        BuiltVariables::new(alloc),
+    )
+}
+
+// The same, built there.
+fn declare_in<T: Types, C: Constants, V: Variables>(
+    alloc: Global,
+    listing: &Listing,
+    uses: &Uses,
+    types: T,
+    constants: C,
+    variables: V,
+) -> Result<Declarations<T, C, V>, SpirvError> {
     let scan = Scan::of_module(alloc, listing)?;
+    let bound = listing.bound();
+    let mut declared = Declarations {
+        types: TypeTable::new(alloc, bound, types)?,
+        constants: ConstantTable::new(alloc, bound, constants)?,
+        variables: VariableTable::new(alloc, listing, variables)?,
+        demands: demands_of(listing)?,
+    };
     let reading = Reading {
         alloc,
         listing,
         scan: &scan,
         uses,
     };
-    let mut types = TypeTable::new(alloc, listing.bound(), key)?;
-    let mut constants = ConstantTable::new(alloc, listing.bound())?;
-    let mut variables = VariableTable::new(alloc, listing)?;
-    let mut demands = demands_of(listing)?;
     for place in &listing.parts.declarations {
-        let instruction = listing.at(*place);
-        if instruction.opcode == ops::VARIABLE {
-            variables.declare(
-                &reading,
-                &mut types,
-                &mut constants,
-                &mut demands,
-                &instruction,
-            )?;
-        } else {
-            declare_one(
-                &reading,
-                &mut types,
-                &mut constants,
-                &mut demands,
-                &instruction,
-            )?;
-        }
+        declared.take(&reading, &listing.at(*place))?;
     }
-    Ok(Declarations {
-        types,
-        constants,
-        variables,
-        demands,
-    })
+    if uses.numbered {
+        declared.demands.ask(Capabilities::SUBGROUP);
+        declared.add_hidden(SUBGROUP_NUMBERS)?;
+    }
+    if uses.placed {
+        declared.add_hidden(FRAGMENT_PLACE)?;
+    }
+    Ok(declared)
 }
 
-// What the capabilities of a module ask for.
+// What the capabilities of a module require.
 fn demands_of(listing: &Listing) -> Result<Demands, SpirvError> {
     let mut demands = Demands::NONE;
     for place in &listing.parts.capabilities {
@@ -79,27 +89,38 @@ fn demands_of(listing: &Listing) -> Result<Demands, SpirvError> {
     Ok(demands)
 }
 
-// A type or a constant.
-fn declare_one(
-    reading: &Reading,
-    types: &mut TypeTable,
-    constants: &mut ConstantTable,
-    demands: &mut Demands,
-    instruction: &Instruction,
-) -> Result<(), SpirvError> {
-    match instruction.opcode {
-        ops::TYPE_ARRAY => {
-            let size = constants.length(reading.listing.need(instruction, 1)?, instruction)?;
-            types.declare_array(reading, instruction, &size)
+impl<T: Types, C: Constants, V: Variables> Declarations<T, C, V> {
+    // A variable of two words that no id of the module is.
+    fn add_hidden(&mut self, id: u32) -> Result<(), SpirvError> {
+        let built = self.types.vector(Some(VectorSize::Bi), Scalar::U32)?;
+        self.variables.add_hidden(id, built)
+    }
+
+    // A type, a constant or a variable.
+    fn take(&mut self, reading: &Reading, instruction: &Instruction) -> Result<(), SpirvError> {
+        let Declarations {
+            types,
+            constants,
+            variables,
+            demands,
+        } = self;
+        match instruction.opcode {
+            ops::VARIABLE => variables.declare(reading, types, constants, demands, instruction),
+            ops::TYPE_ARRAY => {
+                let size = constants.length(reading.listing.need(instruction, 1)?, instruction)?;
+                types.declare_array(reading, instruction, &size)
+            }
+            ops::TYPE_RUNTIME_ARRAY => {
+                types.declare_array(reading, instruction, &ArraySize::Dynamic)
+            }
+            ops::TYPE_STRUCT => types.declare_struct(reading, instruction, demands),
+            ops::TYPE_VOID..=ops::TYPE_FUNCTION => types.declare(reading, instruction, demands),
+            ops::SPEC_CONSTANT_OP => constants.declare_operation(reading, types, instruction),
+            ops::UNDEF | ops::CONSTANT_TRUE..=ops::SPEC_CONSTANT_COMPOSITE => {
+                constants.declare(reading, types, instruction)
+            }
+            ops::EXT_INST if is_debug(reading.listing, instruction) => Ok(()),
+            _ => Err(instruction.unsupported()),
         }
-        ops::TYPE_RUNTIME_ARRAY => types.declare_array(reading, instruction, &ArraySize::Dynamic),
-        ops::TYPE_STRUCT => types.declare_struct(reading, instruction, demands),
-        ops::TYPE_VOID..=ops::TYPE_FUNCTION => types.declare(reading, instruction, demands),
-        ops::SPEC_CONSTANT_OP => constants.declare_operation(reading, types, instruction),
-        ops::UNDEF | ops::CONSTANT_TRUE..=ops::SPEC_CONSTANT_COMPOSITE => {
-            constants.declare(reading, types, instruction)
-        }
-        ops::EXT_INST if is_debug(reading.listing, instruction) => Ok(()),
-        _ => Err(instruction.unsupported()),
     }
 }

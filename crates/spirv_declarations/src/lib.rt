@@ -1,13 +1,16 @@
-//! The declarations of a SPIR-V module, in the IR: its types with its constants and global variables.
+//! The declarations of a SPIR-V module, in the IR: its types with its constants and global variables. They are declared
+//! over whatever these are built in, so that a module's arenas are looked at in one place.
 #![tactic(auto)]
 
-mod constants;
+mod building;
 mod declarations;
-mod spec_ops;
+mod tables;
+mod upgrades;
 mod variables;
 mod varyings;
 
-pub use constants::{ConstantTable, ExpressionHandle, Known, Made, literal, named};
+pub use building::{BuiltConstants, BuiltTypes, BuiltVariables};
 pub use declarations::{Declarations, declare};
-pub use variables::{GlobalHandle, Variable, VariableTable, Varying, sampler_name};
+pub use tables::Tables;
+pub use variables::{GlobalHandle, Variable, VariableTable, Variables, Varying, sampler_name};
 pub use varyings::scalar_kind;

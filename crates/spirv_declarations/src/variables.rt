@@ -1,18 +1,19 @@
 // Global variables.
 
-use crate::constants::ConstantTable;
-use ir_arena::arena::Arena;
+use crate::upgrades::upgraded;
 use ir_arena::handle::Handle;
+use ir_arena::span::Span;
 use ir_flags::{Capabilities, MemoryDecorations, StorageAccess};
 use ir_items::GlobalVariable;
 use ir_kinds::{AddressSpace, Binding, ImageClass, ResourceBinding};
 use ir_types::{TypeInner, key};
+use spirv_constants::{ConstantTable, Constants};
 use spirv_flow::Use;
 use spirv_numbers::{numbers, ops};
 use spirv_tables::{Decorated, Demands};
 use spirv_types::{
-    ImageShape, ImageUse, Reading, Shape, TypeHandle, TypeTable, block_access, image_class,
-    space_of, span_of,
+    ImageShape, ImageUse, Reading, Resources, Shape, TypeHandle, TypeTable, Types, block_access,
+    image_class, space_of, span_of,
 };
 use spirv_words::{Feature, Instruction, Listing, Malformed, SpirvError};
 use std::alloc::Global;
@@ -26,6 +27,8 @@ pub type GlobalHandle = Handle<key::GlobalVariable>;
 pub struct Varying {
     /// What binds it, if it is not a struct of bound members.
     pub binding: Option<Binding>,
+    /// The component of its location that is its first, where that is said.
+    pub component: Option<u32>,
     /// The type that an entry point takes or gives it as.
     pub ty: TypeHandle,
 }
@@ -51,15 +54,23 @@ pub struct Variable {
     pub varying: Option<Varying>,
 }
 
+/// Where the global variables of a module are built.
+pub trait Variables: Drop {
+    /// A variable.
+    fn add(&mut self, variable: GlobalVariable, span: Span) -> Result<GlobalHandle, SpirvError>;
+}
+
 /// The global variables of a module: those that are built, and what each id of one is.
 #[derive(Drop)]
-pub struct VariableTable {
+pub struct VariableTable<V: Variables> {
     /// The variables that are built.
-    pub variables: Arena<GlobalVariable, key::GlobalVariable>,
+    pub built: V,
     /// The variables in order.
     pub all: Vec<Variable>,
     // for each id its place in that order and one, or 0
     places: Vec<u32>,
+    // those that no id of the module is
+    hidden: Vec<Variable>,
     // for each group the binding after the last one that is taken
     free: BTreeMap<u32, u32>,
 }
@@ -76,6 +87,13 @@ pub(crate) struct Draft<'a> {
 }
 
 impl Draft<'_> {
+    // The name of the variable.
+    pub(crate) fn name(&self, reading: &Reading) -> Result<Option<String>, SpirvError> {
+        reading
+            .listing
+            .name(reading.alloc, self.instruction.id, None)
+    }
+
     fn resource(&self) -> Option<ResourceBinding> {
         Some(ResourceBinding {
             group: self.said.set?,
@@ -84,24 +102,34 @@ impl Draft<'_> {
     }
 }
 
-// The type of a resource, an array of those where the variable is one.
-fn resource_type(
-    types: &mut TypeTable,
-    draft: &Draft,
-    base: TypeHandle,
-) -> Result<TypeHandle, SpirvError> {
-    match draft.shape {
-        Shape::Array { size, .. } => {
-            let inner = TypeInner::BindingArray { base, size };
-            types.insert(None, inner, span_of(draft.instruction))
-        }
-        _ => Ok(base),
+// The elements that a variable has that is an array; of arrays of resources all of them together.
+fn all_of<T: Types>(types: &TypeTable<T>, draft: &Draft) -> Option<Resources> {
+    match (types.resources(draft.ty), draft.shape) {
+        (Some(all), _) => Some(all),
+        (None, Shape::Array { element, size, .. }) => Some(Resources { element, size }),
+        (None, _) => None,
     }
 }
 
-impl VariableTable {
-    /// None, with the bindings that the variables of the module take.
-    pub fn new(alloc: Global, listing: &Listing) -> Result<VariableTable, SpirvError> {
+// The type of a resource, an array of those where the variable is one.
+fn resource_type<T: Types>(
+    types: &mut TypeTable<T>,
+    draft: &Draft,
+    base: TypeHandle,
+) -> Result<TypeHandle, SpirvError> {
+    match all_of(types, draft) {
+        Some(all) => {
+            let size = all.size;
+            let inner = TypeInner::BindingArray { base, size };
+            types.insert(None, inner, span_of(draft.instruction))
+        }
+        None => Ok(base),
+    }
+}
+
+impl<V: Variables> VariableTable<V> {
+    /// None, with the bindings that the variables of the module take, to be built there.
+    pub fn new(alloc: Global, listing: &Listing, built: V) -> Result<VariableTable<V>, SpirvError> {
         let mut free = BTreeMap::new(alloc);
         for place in &listing.parts.declarations {
             let instruction = listing.at(*place);
@@ -113,17 +141,26 @@ impl VariableTable {
             }
         }
         Ok(VariableTable {
-            variables: Arena::new(alloc),
+            built,
             all: Vec::new(alloc),
             places: vec![in alloc; 0u32; listing.bound()]?,
+            hidden: Vec::new(alloc),
             free,
         })
     }
 
     /// The variable with this id.
     pub fn of(&self, id: u32) -> Option<Variable> {
-        let place = self.places.get(id as usize).copied()?.checked_sub(1)?;
-        self.all.get(place as usize).copied()
+        let place = self.places.get(id as usize).copied().unwrap_or(0);
+        if let Some(place) = place.checked_sub(1) {
+            return self.all.get(place as usize).copied();
+        }
+        for hidden in &self.hidden {
+            if hidden.id == id {
+                return Some(*hidden);
+            }
+        }
+        None
     }
 
     // The variable of a draft, as which this was built.
@@ -153,14 +190,37 @@ impl VariableTable {
         Ok(())
     }
 
+    // What entry points say to functions, as a variable of this type that no id of the module is.
+    pub(crate) fn add_hidden(&mut self, id: u32, built: TypeHandle) -> Result<(), SpirvError> {
+        let variable = GlobalVariable {
+            name: None,
+            space: AddressSpace::Private,
+            binding: None,
+            ty: built,
+            init: None,
+            memory_decorations: MemoryDecorations(0),
+        };
+        let handle = self.built.add(variable, Span::UNDEFINED)?;
+        self.hidden.push(Variable {
+            id,
+            handle,
+            ty: 0,
+            built,
+            class: numbers::CLASS_PRIVATE,
+            sampler: None,
+            image: None,
+            varying: None,
+        })?;
+        Ok(())
+    }
+
     // A variable that is built.
     pub(crate) fn append(
         &mut self,
         draft: &Draft,
         variable: GlobalVariable,
     ) -> Result<GlobalHandle, SpirvError> {
-        let handle = self.variables.append(variable, span_of(draft.instruction))?;
-        Ok(handle)
+        self.built.add(variable, span_of(draft.instruction))
     }
 
     // The next binding of a group that no variable takes.
@@ -171,11 +231,11 @@ impl VariableTable {
     }
 
     /// A variable as it is declared.
-    pub fn declare(
+    pub fn declare<T: Types, C: Constants>(
         &mut self,
         reading: &Reading,
-        types: &mut TypeTable,
-        constants: &mut ConstantTable,
+        types: &mut TypeTable<T>,
+        constants: &mut ConstantTable<C>,
         demands: &mut Demands,
         instruction: &Instruction,
     ) -> Result<(), SpirvError> {
@@ -203,66 +263,42 @@ impl VariableTable {
     }
 
     // An image, a sampler, or both.
-    fn declare_handle(
+    fn declare_handle<T: Types>(
         &mut self,
         reading: &Reading,
-        types: &mut TypeTable,
+        types: &mut TypeTable<T>,
         demands: &mut Demands,
         draft: &Draft,
     ) -> Result<(), SpirvError> {
-        let leaf = match draft.shape {
-            Shape::Array { element, .. } => types.shape(element),
-            other => other,
-        };
-        let image = match leaf {
-            Shape::Image(image) => Some(image),
-            Shape::SampledImage(id) => match types.shape(id) {
-                Shape::Image(image) => Some(image),
-                _ => None,
-            },
-            Shape::Sampler => None,
-            _ => return Err(draft.instruction.unsupported_by(Feature::LooseUniform)),
-        };
-        let depth = matches!(leaf, Shape::Image(image) if image.depth);
-        if draft.used.compared && draft.used.sampled && !depth {
-            return Err(draft.instruction.unsupported_by(Feature::MixedComparison));
-        }
+        let resource = resource_of(types, draft)?;
         let is_array = matches!(draft.shape, Shape::Array { .. });
-        ask_for_arrays(demands, image.as_ref(), is_array);
-        let (built, image) = match image {
-            Some(image) => {
-                let access = image_access(&image, draft);
-                let span = span_of(draft.instruction);
-                let base = types.image(&image, draft.used, access, span)?;
-                let class = image_class(&image, draft.used, access);
-                let built = resource_type(types, draft, base)?;
-                (
-                    built,
-                    Some(ImageUse {
-                        shape: image,
-                        class,
-                    }),
-                )
-            }
-            None => (sampler_type(types, draft)?, None),
+        ask_for_arrays(demands, resource.image.as_ref(), is_array);
+        let Some(image) = resource.image else {
+            let built = sampler_type(types, draft)?;
+            return self.add_handle(reading, types, draft, built, None, resource.combined);
         };
-        let combined = matches!(leaf, Shape::SampledImage(_));
-        self.add_handle(reading, types, draft, built, image, combined)
+        let access = image_access(&image, draft);
+        let span = span_of(draft.instruction);
+        let base = types.image(&image, draft.used, access, span)?;
+        let built = resource_type(types, draft, base)?;
+        let used = ImageUse {
+            shape: image,
+            class: image_class(&image, draft.used, access),
+        };
+        self.add_handle(reading, types, draft, built, Some(used), resource.combined)
     }
 
     // The variables of an image, a sampler or both.
-    fn add_handle(
+    fn add_handle<T: Types>(
         &mut self,
         reading: &Reading,
-        types: &mut TypeTable,
+        types: &mut TypeTable<T>,
         draft: &Draft,
         built: TypeHandle,
         image: Option<ImageUse>,
         combined: bool,
     ) -> Result<(), SpirvError> {
-        let name = reading
-            .listing
-            .name(reading.alloc, draft.instruction.id, None)?;
+        let name = draft.name(reading)?;
         let binding = draft.resource();
         let handle = self.append(draft, handle_variable(name, binding, built))?;
         let sampler = if combined {
@@ -282,11 +318,11 @@ impl VariableTable {
     }
 
     // A buffer, immediate data, or a variable of an invocation or a workgroup.
-    fn declare_plain(
+    fn declare_plain<T: Types, C: Constants>(
         &mut self,
         reading: &Reading,
-        types: &mut TypeTable,
-        constants: &mut ConstantTable,
+        types: &mut TypeTable<T>,
+        constants: &mut ConstantTable<C>,
         demands: &mut Demands,
         draft: &Draft,
     ) -> Result<(), SpirvError> {
@@ -300,20 +336,14 @@ impl VariableTable {
         if space == AddressSpace::Immediate {
             demands.ask(Capabilities::IMMEDIATES);
         }
-        let whole = buffer_type(types, demands, draft, space)?;
-        let built = match reading.uses.atomics.of(draft.instruction.id) {
-            Some(place) => types.upgrade(reading, draft.instruction, whole, place, MAX_STEPS)?,
-            None => whole,
-        };
+        let built = plain_type(reading, types, demands, draft, space)?;
         let init = match reading.listing.operand(draft.instruction, 1) {
             Some(id) => Some(constants.expression(id, draft.instruction)?),
             None => None,
         };
         let is_bound = matches!(space, AddressSpace::Storage { .. } | AddressSpace::Uniform);
         let variable = GlobalVariable {
-            name: reading
-                .listing
-                .name(reading.alloc, draft.instruction.id, None)?,
+            name: draft.name(reading)?,
             space,
             binding: if is_bound { draft.resource() } else { None },
             ty: built,
@@ -323,6 +353,56 @@ impl VariableTable {
         let handle = self.append(draft, variable)?;
         self.add(draft, handle, built, (None, None), None)
     }
+}
+
+// The type that is built for a variable, with atomics in it where it is changed so.
+fn plain_type<T: Types>(
+    reading: &Reading,
+    types: &mut TypeTable<T>,
+    demands: &mut Demands,
+    draft: &Draft,
+    space: AddressSpace,
+) -> Result<TypeHandle, SpirvError> {
+    let whole = buffer_type(types, demands, draft, space)?;
+    match reading.uses.atomics.of(draft.instruction.id) {
+        // members of structs have other places than in the paths
+        Some(_) if types.splits() => {
+            Err(draft.instruction.unsupported_by(Feature::AtomicOfNoNumber))
+        }
+        Some(place) => upgraded(types, reading, draft.instruction, whole, place, MAX_STEPS),
+        None => Ok(whole),
+    }
+}
+
+// What a variable is that is an image, a sampler or both, or an array of those.
+#[derive(Clone, Copy)]
+struct Resource {
+    image: Option<ImageShape>,
+    // whether it is an image with a sampler
+    combined: bool,
+}
+
+// What such a variable is.
+fn resource_of<T: Types>(types: &TypeTable<T>, draft: &Draft) -> Result<Resource, SpirvError> {
+    let leaf = match all_of(types, draft) {
+        Some(all) => types.shape(all.element),
+        None => draft.shape,
+    };
+    let combined = matches!(leaf, Shape::SampledImage(_));
+    let image = match leaf {
+        Shape::Image(image) => Some(image),
+        Shape::SampledImage(id) => match types.shape(id) {
+            Shape::Image(image) => Some(image),
+            _ => None,
+        },
+        Shape::Sampler => None,
+        _ => return Err(draft.instruction.unsupported_by(Feature::LooseUniform)),
+    };
+    let alone = matches!(leaf, Shape::Image(_));
+    if draft.used.compared && draft.used.sampled && !alone {
+        return Err(draft.instruction.unsupported_by(Feature::MixedComparison));
+    }
+    Ok(Resource { image, combined })
 }
 
 // How many steps a part of a variable may lie deep (universal limit of the standard).
@@ -362,7 +442,10 @@ pub fn sampler_name(alloc: Global, listing: &Listing, id: u32) -> Result<String,
 }
 
 // The type of a sampler that is used so.
-fn sampler_type(types: &mut TypeTable, draft: &Draft) -> Result<TypeHandle, SpirvError> {
+fn sampler_type<T: Types>(
+    types: &mut TypeTable<T>,
+    draft: &Draft,
+) -> Result<TypeHandle, SpirvError> {
     let comparison = draft.used.compared && !draft.used.sampled;
     let inner = TypeInner::Sampler { comparison };
     let base = types.insert(None, inner, span_of(draft.instruction))?;
@@ -393,15 +476,15 @@ fn ask_for_arrays(demands: &mut Demands, image: Option<&ImageShape>, is_array: b
 }
 
 // The space of a storage buffer with its accesses, and what is said of its memory.
-fn storage(
+fn storage<T: Types>(
     reading: &Reading,
-    types: &TypeTable,
+    types: &TypeTable<T>,
     demands: &mut Demands,
     draft: &Draft,
 ) -> (AddressSpace, MemoryDecorations) {
-    let block = match draft.shape {
-        Shape::Array { element, .. } => element,
-        _ => draft.ty,
+    let block = match all_of(types, draft) {
+        Some(all) => all.element,
+        None => draft.ty,
     };
     let count = match types.shape(block) {
         Shape::Struct { count, .. } => count,
@@ -433,8 +516,8 @@ fn storage(
 }
 
 // The type of a buffer: an array of blocks is an array of bindings.
-fn buffer_type(
-    types: &mut TypeTable,
+fn buffer_type<T: Types>(
+    types: &mut TypeTable<T>,
     demands: &mut Demands,
     draft: &Draft,
     space: AddressSpace,
@@ -445,14 +528,15 @@ fn buffer_type(
         AddressSpace::Uniform => Capabilities::BUFFER_BINDING_ARRAY,
         _ => return Ok(built),
     };
-    let Shape::Array { element, size, .. } = draft.shape else {
+    let Some(all) = all_of(types, draft) else {
         return Ok(built);
     };
-    if !matches!(types.shape(element), Shape::Struct { .. }) {
+    if !matches!(types.shape(all.element), Shape::Struct { .. }) {
         return Err(draft.instruction.unsupported_by(Feature::BufferArrays));
     }
     demands.ask(capability);
-    let base = types.need(element, draft.instruction)?;
+    let base = types.need(all.element, draft.instruction)?;
+    let size = all.size;
     types.insert(
         None,
         TypeInner::BindingArray { base, size },

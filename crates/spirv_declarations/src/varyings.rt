@@ -1,57 +1,38 @@
 // What goes between stages.
 
-use crate::constants::{ConstantTable, ExpressionHandle};
-use crate::variables::{Draft, VariableTable, Varying};
+use crate::variables::{Draft, VariableTable, Variables, Varying};
 use ir_arena::span::Span;
 use ir_flags::{Capabilities, MemoryDecorations};
 use ir_items::GlobalVariable;
-use ir_kinds::{AddressSpace, Binding, BuiltIn, Literal, Scalar, ScalarKind};
+use ir_kinds::{AddressSpace, Binding, BuiltIn, Literal, Scalar, ScalarKind, VectorSize};
 use ir_types::{Expression, IrType, StructMember, TypeInner};
+use spirv_constants::{ConstantTable, Constants, ExpressionHandle};
 use spirv_numbers::{numbers, ops};
 use spirv_tables::{Decorated, Demands, is_unsigned, with_default};
-use spirv_types::{Reading, Shape, TypeHandle, TypeTable, span_of};
+use spirv_types::{Reading, Shape, TypeHandle, TypeTable, Types, span_of};
 use spirv_words::{Feature, Malformed, SpirvError, Unsupported};
+use std::alloc::Global;
 
-impl VariableTable {
+impl<V: Variables> VariableTable<V> {
     // An input or an output: a private variable, and what an entry point takes or gives it as.
-    pub(crate) fn declare_varying(
+    pub(crate) fn declare_varying<T: Types, C: Constants>(
         &mut self,
         reading: &Reading,
-        types: &mut TypeTable,
-        constants: &mut ConstantTable,
+        types: &mut TypeTable<T>,
+        constants: &mut ConstantTable<C>,
         demands: &mut Demands,
         draft: &Draft,
     ) -> Result<(), SpirvError> {
-        let is_struct = matches!(draft.shape, Shape::Struct { .. });
-        if let Some(number) = draft.said.foreign_built_in() {
-            return Err(
-                draft
-                    .instruction
-                    .unsupported_as(Unsupported::BuiltIn(number)),
-            );
-        }
-        let plain = types.need(draft.ty, draft.instruction)?;
-        let said = draft.said.bound(demands);
-        if said.is_none() && !is_struct {
-            return Err(draft.instruction.unsupported_by(Feature::UnboundVarying));
-        }
+        let (built, binding) = bound_type(reading, types, demands, draft)?;
         let is_input = draft.class == numbers::CLASS_INPUT;
-        let rebuilt = is_struct && (said.is_some() || is_input);
-        let (built, binding) = if rebuilt {
-            (bound_struct(reading, types, demands, draft, plain)?, None)
-        } else {
-            (plain, said)
-        };
         let init = if is_input {
             None
         } else {
-            Some(self.initial(reading, types, constants, draft, built, binding)?)
+            Some(initial(reading, types, constants, draft, built, binding)?)
         };
         let taken = argument_type(types, demands, draft, built, binding)?;
         let variable = GlobalVariable {
-            name: reading
-                .listing
-                .name(reading.alloc, draft.instruction.id, None)?,
+            name: draft.name(reading)?,
             space: AddressSpace::Private,
             binding: None,
             ty: built,
@@ -61,57 +42,102 @@ impl VariableTable {
         let handle = self.append(draft, variable)?;
         let varying = Varying {
             binding,
+            component: draft.said.component,
             ty: if is_input { taken } else { built },
         };
         self.add(draft, handle, built, (None, None), Some(varying))
     }
+}
 
-    // What an output begins as.
-    fn initial(
-        &mut self,
-        reading: &Reading,
-        types: &TypeTable,
-        constants: &mut ConstantTable,
-        draft: &Draft,
-        built: TypeHandle,
-        binding: Option<Binding>,
-    ) -> Result<ExpressionHandle, SpirvError> {
-        let span = span_of(draft.instruction);
-        if let Some(id) = reading.listing.operand(draft.instruction, 1) {
-            return given(reading, types, constants, draft, built, id);
-        }
-        if binding.is_some() {
-            return default_value(reading, types, constants, binding, built, span);
-        }
-        let members = match types.types.get_handle(built) {
-            Ok(
-                IrType {
-                    inner: TypeInner::Struct { members, .. },
-                    ..
-                },
-            ) => members.as_slice(),
-            _ => &[],
+// The type that is built for an input or an output, and what binds it, if it is not a struct of bound members.
+fn bound_type<T: Types>(
+    reading: &Reading,
+    types: &mut TypeTable<T>,
+    demands: &mut Demands,
+    draft: &Draft,
+) -> Result<(TypeHandle, Option<Binding>), SpirvError> {
+    let instruction = draft.instruction;
+    let said = bound_as(demands, draft)?;
+    let plain = types.need(draft.ty, instruction)?;
+    if !matches!(draft.shape, Shape::Struct { .. }) {
+        return match said {
+            Some(_) => Ok((plain, said)),
+            None => Err(instruction.unsupported_by(Feature::UnboundVarying)),
         };
-        let mut components = Vec::new(reading.alloc);
-        for member in members {
-            let value = default_value(reading, types, constants, member.binding, member.ty, span)?;
-            components.push(value)?;
-        }
-        constants.add(
-            Expression::Compose {
-                ty: built,
-                components,
-            },
-            span,
-        )
+    }
+    if said.is_some() || draft.class == numbers::CLASS_INPUT {
+        Ok((bound_struct(reading, types, demands, draft, plain)?, None))
+    } else {
+        Ok((plain, None))
     }
 }
 
-// The initializer that a variable is given; of a struct that was built anew put together again.
-fn given(
+// Whether it is a mask of a subgroup's invocations as it is taken: four words.
+fn is_mask(draft: &Draft) -> bool {
+    let is_words = matches!(
+        draft.shape,
+        Shape::Vector {
+            size: VectorSize::Quad,
+            scalar: Scalar {
+                kind: ScalarKind::Uint,
+                width: 4
+            },
+            ..
+        }
+    );
+    draft.class == numbers::CLASS_INPUT && is_words && draft.said.mask().is_some()
+}
+
+// What binds it. A mask of a subgroup's invocations is computed of the number of this one.
+fn bound_as(demands: &mut Demands, draft: &Draft) -> Result<Option<Binding>, SpirvError> {
+    if is_mask(draft) {
+        demands.ask(Capabilities::SUBGROUP);
+        return Ok(Some(Binding::BuiltIn(BuiltIn::SubgroupInvocationId)));
+    }
+    match draft.said.foreign_built_in() {
+        Some(number) => Err(
+            draft
+                .instruction
+                .unsupported_as(Unsupported::BuiltIn(number)),
+        ),
+        None => Ok(draft.said.bound(demands)),
+    }
+}
+
+// What an output begins as.
+fn initial<T: Types, C: Constants>(
     reading: &Reading,
-    types: &TypeTable,
-    constants: &mut ConstantTable,
+    types: &TypeTable<T>,
+    constants: &mut ConstantTable<C>,
+    draft: &Draft,
+    built: TypeHandle,
+    binding: Option<Binding>,
+) -> Result<ExpressionHandle, SpirvError> {
+    let span = span_of(draft.instruction);
+    if let Some(id) = reading.listing.operand(draft.instruction, 1) {
+        return given(reading, types, constants, draft, built, id);
+    }
+    if binding.is_some() {
+        return default_value(reading.alloc, types, constants, binding, built, span);
+    }
+    let members = match types.types.inner(built) {
+        Some(TypeInner::Struct { members, .. }) => members.as_slice(),
+        _ => &[],
+    };
+    let mut components = Vec::new(reading.alloc);
+    for member in members {
+        let (ty, bound) = (member.ty, member.binding);
+        components.push(default_value(reading.alloc, types, constants, bound, ty, span)?)?;
+    }
+    let ty = built;
+    constants.add(Expression::Compose { ty, components }, span)
+}
+
+// The initializer that a variable is given; of a struct that was built anew put together again.
+fn given<T: Types, C: Constants>(
+    reading: &Reading,
+    types: &TypeTable<T>,
+    constants: &mut ConstantTable<C>,
     draft: &Draft,
     built: TypeHandle,
     id: u32,
@@ -126,17 +152,10 @@ fn given(
     match constant.opcode {
         ops::CONSTANT_NULL => constants.add(Expression::ZeroValue(built), span),
         ops::CONSTANT_COMPOSITE => {
-            let mut components = Vec::new(reading.alloc);
-            for part in reading.listing.operands(&constant) {
-                components.push(constants.expression(*part, draft.instruction)?)?;
-            }
-            constants.add(
-                Expression::Compose {
-                    ty: built,
-                    components,
-                },
-                span,
-            )
+            let parts = reading.listing.operands(&constant);
+            let components = constants.expressions_of(reading.alloc, parts, draft.instruction)?;
+            let ty = built;
+            constants.add(Expression::Compose { ty, components }, span)
         }
         _ => Err(draft.instruction.unsupported_by(Feature::BlockInitializer)),
     }
@@ -146,10 +165,10 @@ fn given(
 const ONE: u32 = 0x3f80_0000;
 
 // What a value with this binding begins as.
-fn default_value(
-    reading: &Reading,
-    types: &TypeTable,
-    constants: &mut ConstantTable,
+fn default_value<T: Types, C: Constants>(
+    alloc: Global,
+    types: &TypeTable<T>,
+    constants: &mut ConstantTable<C>,
     binding: Option<Binding>,
     ty: TypeHandle,
     span: Span,
@@ -158,7 +177,7 @@ fn default_value(
         Some(Binding::BuiltIn(BuiltIn::Position { .. })) => {
             let zero = constants.add(Expression::Literal(Literal::F32(0)), span)?;
             let one = constants.add(Expression::Literal(Literal::F32(ONE)), span)?;
-            let components = vec![in reading.alloc; zero, zero, zero, one]?;
+            let components = vec![in alloc; zero, zero, zero, one]?;
             return constants.add(Expression::Compose { ty, components }, span);
         }
         Some(Binding::BuiltIn(BuiltIn::PointSize)) => Literal::F32(ONE),
@@ -169,22 +188,19 @@ fn default_value(
 }
 
 // Whether a type is `u32`.
-fn is_word(types: &TypeTable, ty: TypeHandle) -> bool {
-    match types.types.get_handle(ty) {
-        Ok(built) => matches!(
-            built.inner,
-            TypeInner::Scalar(Scalar {
-                kind: ScalarKind::Uint,
-                width: 4
-            })
-        ),
-        Err(_) => false,
-    }
+fn is_word<T: Types>(types: &TypeTable<T>, ty: TypeHandle) -> bool {
+    matches!(
+        types.types.inner(ty),
+        Some(TypeInner::Scalar(Scalar {
+            kind: ScalarKind::Uint,
+            width: 4
+        }))
+    )
 }
 
 // The type that an input is taken as: a signed built-in without its sign.
-fn argument_type(
-    types: &mut TypeTable,
+fn argument_type<T: Types>(
+    types: &mut TypeTable<T>,
     demands: &mut Demands,
     draft: &Draft,
     built: TypeHandle,
@@ -196,6 +212,9 @@ fn argument_type(
     if built_in == BuiltIn::SampleIndex {
         demands.ask(Capabilities::MULTISAMPLED_SHADING);
     }
+    if is_mask(draft) {
+        return types.vector(None, Scalar::U32);
+    }
     match draft.shape.scalar() {
         Some(scalar) if scalar.kind == ScalarKind::Sint && is_unsigned(built_in) => {
             types.vector(draft.shape.size(), Scalar::U32)
@@ -205,83 +224,107 @@ fn argument_type(
 }
 
 /// The kind of the scalars that a type is made of, where it is a number or a vector.
-pub fn scalar_kind(types: &TypeTable, ty: TypeHandle) -> Option<ScalarKind> {
-    match types.types.get_handle(ty) {
-        Ok(built) => match built.inner {
-            TypeInner::Scalar(scalar) | TypeInner::Vector { scalar, .. } => Some(scalar.kind),
-            _ => None,
-        },
-        Err(_) => None,
+pub fn scalar_kind<T: Types>(types: &TypeTable<T>, ty: TypeHandle) -> Option<ScalarKind> {
+    match types.types.inner(ty) {
+        Some(TypeInner::Scalar(scalar) | TypeInner::Vector { scalar, .. }) => Some(scalar.kind),
+        _ => None,
     }
 }
 
 // The struct of a block that goes between stages: locations are counted on from the block's.
-fn bound_struct(
+fn bound_struct<T: Types>(
     reading: &Reading,
-    types: &mut TypeTable,
+    types: &mut TypeTable<T>,
     demands: &mut Demands,
     draft: &Draft,
     plain: TypeHandle,
 ) -> Result<TypeHandle, SpirvError> {
-    let IrType { name, inner } = match types.types.get_handle(plain) {
-        Ok(built) => built.clone(reading.alloc)?,
-        Err(_) => return Err(draft.instruction.malformed(Malformed::NoType)),
+    let bindings = member_bindings(reading, types, demands, draft, plain)?;
+    let Some(IrType { name, inner }) = types.types.copy(reading.alloc, plain)? else {
+        return Err(draft.instruction.malformed(Malformed::NoType));
     };
     let TypeInner::Struct { members, span } = inner else {
         return Err(draft.instruction.malformed(Malformed::WrongType));
     };
-    let by_default = draft.class == numbers::CLASS_INPUT
-        && reading.scan.is_of_fragment(draft.instruction.id);
     let mut members = members;
-    let mut location = draft.said.location;
-    let mut place = 0u32;
-    for member in members.iter_mut() {
-        location = bind_member(
-            reading, types, demands, draft, member, place, location, by_default,
-        )?;
-        place = place.saturating_add(1);
-    }
-    types.insert(
-        name,
-        TypeInner::Struct { members, span },
-        span_of(draft.instruction),
-    )
+    bind_all(&mut members, &bindings);
+    let inner = TypeInner::Struct { members, span };
+    types.insert(name, inner, span_of(draft.instruction))
 }
 
-// Binds a member of such a block. Answers the location after it.
-fn bind_member(
+// Gives each member its binding.
+fn bind_all(members: &mut [StructMember], bindings: &[Option<Binding>]) {
+    let mut place = 0usize;
+    for member in members {
+        member.binding = bindings.get(place).copied().unwrap_or(None);
+        place = place.saturating_add(1);
+    }
+}
+
+// What binds each member of such a block.
+fn member_bindings<T: Types>(
     reading: &Reading,
-    types: &TypeTable,
+    types: &TypeTable<T>,
     demands: &mut Demands,
     draft: &Draft,
-    member: &mut StructMember,
-    place: u32,
-    location: Option<u32>,
-    by_default: bool,
-) -> Result<Option<u32>, SpirvError> {
-    let mut said = Decorated::of(reading.listing, draft.ty, Some(place));
-    if said.built_in.is_some() {
-        return Ok(location);
+    plain: TypeHandle,
+) -> Result<Vec<Option<Binding>>, SpirvError> {
+    let members = match types.types.inner(plain) {
+        Some(TypeInner::Struct { members, .. }) => members.as_slice(),
+        _ => &[],
+    };
+    let mut bindings = Vec::new(reading.alloc);
+    let mut location = draft.said.location;
+    let mut place = 0u32;
+    for member in members {
+        let mut said = between(reading, draft, place);
+        if said.built_in.is_some() {
+            bindings.push(member.binding)?;
+        } else {
+            let Some(here) = said.location.or(location) else {
+                let feature = Feature::BlockWithoutLocations;
+                return Err(draft.instruction.unsupported_by(feature));
+            };
+            said.location = Some(here);
+            let kind = scalar_kind(types, member.ty);
+            bindings.push(bound_member(reading, demands, draft, &said, kind))?;
+            location = Some(here.saturating_add(locations_of(types, draft.ty, place)));
+        }
+        place = place.saturating_add(1);
     }
+    Ok(bindings)
+}
+
+// What is said of a member of such a block, or of the variable.
+fn between(reading: &Reading, draft: &Draft, place: u32) -> Decorated {
+    let mut said = Decorated::of(reading.listing, draft.ty, Some(place));
     said.flat |= draft.said.flat;
     said.linear |= draft.said.linear;
     said.centroid |= draft.said.centroid;
     said.sample |= draft.said.sample;
-    let Some(here) = said.location.or(location) else {
-        return Err(
-            draft
-                .instruction
-                .unsupported_by(Feature::BlockWithoutLocations),
-        );
-    };
-    said.location = Some(here);
+    said
+}
+
+// What binds a member of such a block.
+fn bound_member(
+    reading: &Reading,
+    demands: &mut Demands,
+    draft: &Draft,
+    said: &Decorated,
+    kind: Option<ScalarKind>,
+) -> Option<Binding> {
+    let by_default = draft.class == numbers::CLASS_INPUT
+        && reading.scan.is_of_fragment(draft.instruction.id);
     let binding = said.bound(demands);
-    member.binding = if by_default {
-        with_default(binding, scalar_kind(types, member.ty))
+    if by_default {
+        with_default(binding, kind)
     } else {
         binding
-    };
-    let ty = types.member(draft.ty, place).map_or(0, |shape| shape.ty);
-    let taken = u32::try_from(types.layout(ty).locations).unwrap_or(u32::MAX);
-    Ok(Some(here.saturating_add(taken)))
+    }
+}
+
+// How many locations a member takes.
+fn locations_of<T: Types>(types: &TypeTable<T>, block: u32, place: u32) -> u32 {
+    let ty = types.member(block, place).map_or(0, |shape| shape.ty);
+    u32::try_from(types.layout(ty).locations).unwrap_or(u32::MAX)
 }

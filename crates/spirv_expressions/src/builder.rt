@@ -51,6 +51,9 @@ pub trait Builder {
     /// The type that a matrix is stored as.
     fn stored_matrix(&mut self, matrix: &MatrixShape, stored: Stored) -> TypeHandle;
 
+    /// The type of a column or a row of a matrix that is an array of scalars.
+    fn packed_line(&mut self, length: VectorSize, scalar: Scalar) -> TypeHandle;
+
     /// Whether an id is of a constant, and not of a specialization constant.
     fn is_constant(&self, id: u32) -> bool;
 

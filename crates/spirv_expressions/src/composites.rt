@@ -9,7 +9,7 @@ use ir_kinds::{
 };
 use ir_types::{ArraySize, Expression};
 use spirv_numbers::ops;
-use spirv_types::{MatrixShape, Shape, Stored, vector_size};
+use spirv_types::{MatrixShape, MemberShape, Shape, Stored, vector_size};
 use spirv_words::{Feature, Malformed};
 
 // How many parts a value may have that is put together anew.
@@ -55,8 +55,6 @@ fn copy_logical<B: Builder>(
     let Some(depth) = depth.checked_sub(1) else {
         return refuse(builder, operation.unsupported_by(Feature::DeepCopy));
     };
-    refuse_relaid(builder, operation, from);
-    refuse_relaid(builder, operation, to);
     let count = count_parts(builder, operation, to);
     let mut components = Vec::new(builder.alloc());
     for index in 0..count {
@@ -64,10 +62,53 @@ fn copy_logical<B: Builder>(
             return refuse(builder, operation.malformed(Malformed::WrongType));
         };
         let part = part_of(builder, operation, value, index);
-        let copy = copy_logical(builder, operation, part, old.ty, new.ty, depth);
+        let copy = if old.stored.is_plain() && new.stored.is_plain() {
+            copy_logical(builder, operation, part, old.ty, new.ty, depth)
+        } else {
+            let plain = part_as(builder, operation, part, &old, Form::Plain);
+            part_as(builder, operation, plain, &new, Form::Stored)
+        };
         keep(builder, &mut components, copy);
     }
     compose(builder, operation, ty, components)
+}
+
+// How a matrix is wanted that is a member of a struct.
+#[derive(Clone, Copy)]
+enum Form {
+    // as the IR has it
+    Plain,
+    // as the struct stores it
+    Stored,
+}
+
+// The member of a struct's value in this form.
+fn part_as<B: Builder>(
+    builder: &mut B,
+    operation: &Operation,
+    value: Value,
+    part: &MemberShape,
+    form: Form,
+) -> Value {
+    let stored = part.stored;
+    match MatrixShape::of(&builder.shape(part.ty)) {
+        _ if stored.is_plain() => value,
+        Some(matrix) if !part.split => match form {
+            Form::Plain => plain_matrix(builder, operation, value, &matrix, stored),
+            Form::Stored => relaid_matrix(builder, operation, value, &matrix, stored),
+        },
+        _ => refuse_stored(builder, operation, part),
+    }
+}
+
+// Arrays of matrices that are stored otherwise than as the IR has them are not translated.
+fn refuse_stored<B: Builder>(builder: &mut B, operation: &Operation, part: &MemberShape) -> Value {
+    let instruction = &operation.instruction;
+    refuse(
+        builder,
+        part.stored
+            .unsupported(instruction, Feature::RowMajorStruct),
+    )
 }
 
 // A part of a value. A struct's value has its matrices as they are stored.
@@ -80,7 +121,12 @@ fn extract<B: Builder>(builder: &mut B, operation: &Operation) -> Value {
         let Some(part) = builder.part(ty, *index) else {
             return refuse(builder, operation.malformed(Malformed::Index));
         };
-        value = part_of(builder, operation, value, *index);
+        if part.split {
+            value = split_matrix(builder, operation, value, &part);
+            ty = part.ty;
+            continue;
+        }
+        value = part_of(builder, operation, value, part.index);
         ty = part.ty;
         stored = stored.around(&part.stored);
         if let Some(matrix) = MatrixShape::of(&builder.shape(ty)) {
@@ -98,6 +144,27 @@ fn extract<B: Builder>(builder: &mut B, operation: &Operation) -> Value {
     }
 }
 
+// A matrix whose columns or rows are members of a struct's value.
+fn split_matrix<B: Builder>(
+    builder: &mut B,
+    operation: &Operation,
+    value: Value,
+    part: &MemberShape,
+) -> Value {
+    let Some(matrix) = MatrixShape::of(&builder.shape(part.ty)) else {
+        return refuse_stored(builder, operation, part);
+    };
+    let (lines, _) = matrix.lines(part.stored.row_major);
+    let mut components = Vec::new(builder.alloc());
+    for line in 0..u32::from(lines) {
+        let line = part_of(builder, operation, value, part.index.saturating_add(line));
+        keep(builder, &mut components, line);
+    }
+    let ty = builder.stored_matrix(&matrix, part.stored);
+    let whole = compose(builder, operation, ty, components);
+    plain_matrix(builder, operation, whole, &matrix, part.stored)
+}
+
 /// A matrix that is stored so, as the IR has it.
 pub fn plain_matrix<B: Builder>(
     builder: &mut B,
@@ -112,14 +179,7 @@ pub fn plain_matrix<B: Builder>(
             row_major: stored.row_major,
             stride: 0,
         };
-        value = repacked(
-            builder,
-            operation,
-            value,
-            matrix,
-            stored.row_major,
-            unstrided,
-        );
+        value = repacked(builder, operation, value, matrix, stored, unstrided);
     }
     transposed(builder, operation, value, stored.row_major)
 }
@@ -136,7 +196,11 @@ pub fn relaid_matrix<B: Builder>(
     if stored.stride == 0 {
         return value;
     }
-    repacked(builder, operation, value, matrix, stored.row_major, stored)
+    let unstrided = Stored {
+        row_major: stored.row_major,
+        stride: 0,
+    };
+    repacked(builder, operation, value, matrix, unstrided, stored)
 }
 
 // The columns of a matrix or its rows, put together as what it is stored as.
@@ -145,17 +209,64 @@ fn repacked<B: Builder>(
     operation: &Operation,
     value: Value,
     matrix: &MatrixShape,
-    row_major: bool,
+    from: Stored,
     to: Stored,
 ) -> Value {
-    let (lines, _) = matrix.lines(row_major);
+    let (lines, length) = matrix.lines(from.row_major);
     let mut components = Vec::new(builder.alloc());
     for index in 0..u32::from(lines) {
-        let part = part_of(builder, operation, value, index);
+        let mut part = part_of(builder, operation, value, index);
+        if from.is_packed(matrix) {
+            part = plain_line(builder, operation, part, length, matrix.scalar);
+        }
+        if to.is_packed(matrix) {
+            part = packed_line(builder, operation, part, length, matrix.scalar);
+        }
         keep(builder, &mut components, part);
     }
     let ty = builder.stored_matrix(matrix, to);
     compose(builder, operation, ty, components)
+}
+
+/// A vector that is stored as an array of scalars.
+pub fn plain_line<B: Builder>(
+    builder: &mut B,
+    operation: &Operation,
+    array: Value,
+    length: VectorSize,
+    scalar: Scalar,
+) -> Value {
+    let ty = builder.vector(Some(length), scalar);
+    let components = components_of(builder, operation, array, u32::from(length));
+    compose(builder, operation, ty, components)
+}
+
+/// A vector as the array of scalars that it is stored as.
+pub fn packed_line<B: Builder>(
+    builder: &mut B,
+    operation: &Operation,
+    vector: Value,
+    length: VectorSize,
+    scalar: Scalar,
+) -> Value {
+    let ty = builder.packed_line(length, scalar);
+    let components = components_of(builder, operation, vector, u32::from(length));
+    compose(builder, operation, ty, components)
+}
+
+// The first parts of a value.
+fn components_of<B: Builder>(
+    builder: &mut B,
+    operation: &Operation,
+    value: Value,
+    count: u32,
+) -> Vec<Value> {
+    let mut components = Vec::new(builder.alloc());
+    for index in 0..count {
+        let part = part_of(builder, operation, value, index);
+        keep(builder, &mut components, part);
+    }
+    components
 }
 
 // A matrix, transposed where it is stored row by row.
@@ -174,12 +285,18 @@ fn transposed<B: Builder>(
 
 // A value of all its parts; a vector may be given as smaller ones.
 fn construct<B: Builder>(builder: &mut B, operation: &Operation) -> Value {
+    let ty = operation.instruction.ty;
+    let is_struct = matches!(builder.shape(ty), Shape::Struct { .. });
     let mut components = Vec::new(builder.alloc());
+    let mut place = 0u32;
     for id in operation.operands {
-        let part = builder.value(*id, operation);
-        keep(builder, &mut components, part);
+        let mut value = builder.value(*id, operation);
+        if let (true, Some(part)) = (is_struct, builder.part(ty, place)) {
+            value = part_as(builder, operation, value, &part, Form::Stored);
+        }
+        keep(builder, &mut components, value);
+        place = place.saturating_add(1);
     }
-    refuse_relaid(builder, operation, operation.instruction.ty);
     compose_result(builder, operation, components)
 }
 

@@ -11,6 +11,6 @@ pub use builder::{
     compose_result, convert, keep, need, no_type, no_value, operand, operand_scalar, operand_shape,
     part_of, refuse, result_scalar, scalar_of, select, signed, splat,
 };
-pub use composites::{composite, plain_matrix, relaid_matrix};
+pub use composites::{composite, packed_line, plain_line, plain_matrix, relaid_matrix};
 pub use functions::{call, math};
 pub use operators::{arithmetic, conversion, resized};

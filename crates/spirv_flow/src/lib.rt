@@ -17,4 +17,4 @@ pub use paths::{PathPart, Paths};
 pub use spirv_steps::{
     Block, Blocks, BreakIf, Case, CaseBody, Choice, FunctionBlocks, Scopes, Step, Steps,
 };
-pub use uses::{Use, Uses, is_atomic};
+pub use uses::{DIM_SUBPASS_DATA, FRAGMENT_PLACE, SUBGROUP_NUMBERS, Use, Uses, is_atomic};

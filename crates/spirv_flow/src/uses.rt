@@ -4,7 +4,7 @@ use crate::chains::{is_chain, part_at, pointee};
 use crate::order::Order;
 use crate::paths::Paths;
 use spirv_numbers::{numbers, ops};
-use spirv_steps::Blocks;
+use spirv_steps::{Blocks, FunctionBlocks};
 use spirv_words::{Feature, Instruction, Listing, SpirvError};
 use std::alloc::Global;
 
@@ -34,15 +34,50 @@ pub struct Uses {
     // for each id the variable or argument that it leads from, or 0
     roots: Vec<u32>,
     uses: Vec<Use>,
+    // for each parameter the variable or argument that every call passes for it; 0 for none, or where they differ `DIFFERENT`
+    passed: Vec<u32>,
     // the built-ins below 64 that an access chain touches in a block
     touched: u64,
     /// What is changed atomically.
     pub atomics: Paths,
+    /// Whether functions need to know the number of the invocation in its subgroup and the subgroup's size.
+    pub numbered: bool,
+    /// Whether functions need to know the place of the fragment.
+    pub placed: bool,
 }
+
+// More than one variable.
+const DIFFERENT: u32 = u32::MAX;
+
+// How many calls a variable may be passed through.
+const MAX_CALLS: usize = 255;
+
+/// The id of the variable of these two numbers, which no id of a module is.
+pub const SUBGROUP_NUMBERS: u32 = 0;
+
+/// The id of the variable of the fragment's place, which no id of a module is: each is below the bound, which is a word.
+pub const FRAGMENT_PLACE: u32 = u32::MAX;
+
+/// The dimension of attachments (section 3.8).
+pub const DIM_SUBPASS_DATA: u32 = 6;
+
+// Operations on sets of a subgroup's invocations that depend on its size or on which invocation it is.
+const INVERSE_BALLOT: u16 = 340;
+
+const BALLOT_BIT_COUNT: u16 = 342;
+
+const BALLOT_FIND_MSB: u16 = 344;
+
+// The operation over the values of each cluster (section 3.29).
+const CLUSTERED_REDUCE: u32 = 3;
 
 // Whether the instruction leads from the variable from which its first operand does.
 fn leads_on(opcode: u16) -> bool {
-    is_chain(opcode) || matches!(opcode, ops::COPY_OBJECT | ops::LOAD | ops::IMAGE)
+    let leads = matches!(
+        opcode,
+        ops::COPY_OBJECT | ops::LOAD | ops::IMAGE | ops::COMPOSITE_EXTRACT
+    );
+    leads || is_chain(opcode)
 }
 
 /// Whether the instruction changes or reads a value atomically.
@@ -70,6 +105,54 @@ fn samples(opcode: u16) -> Option<bool> {
     }
 }
 
+// Whether an operation of a subgroup needs to know which invocation it is, or how many there are.
+fn is_numbered(listing: &Listing, instruction: &Instruction) -> bool {
+    match instruction.opcode {
+        INVERSE_BALLOT | BALLOT_BIT_COUNT..=BALLOT_FIND_MSB => true,
+        ops::GROUP_NON_UNIFORM_I_ADD..=ops::GROUP_NON_UNIFORM_LOGICAL_XOR => {
+            listing.operand(instruction, 1) == Some(CLUSTERED_REDUCE)
+        }
+        _ => false,
+    }
+}
+
+// Whether the image that is read is an attachment.
+fn reads_attachment(listing: &Listing, read: &Instruction) -> bool {
+    let image = listing.operand(read, 0).unwrap_or(0);
+    let made = listing.definition(image).unwrap_or(Instruction::NONE);
+    match listing.definition(made.ty) {
+        Some(ty) => {
+            ty.opcode == ops::TYPE_IMAGE && listing.operand(&ty, 1) == Some(DIM_SUBPASS_DATA)
+        }
+        None => false,
+    }
+}
+
+// The arguments of a call; none where it is none.
+fn arguments_of<'a>(listing: &'a Listing, call: &Instruction) -> &'a [u32] {
+    if call.opcode == ops::FUNCTION_CALL {
+        listing.operands(call).get(1..).unwrap_or(&[])
+    } else {
+        &[]
+    }
+}
+
+// The place of the function that is called, after which its parameters stand.
+fn parameters_of(listing: &Listing, call: &Instruction) -> u32 {
+    let callee = listing.operand(call, 0).unwrap_or(0);
+    listing.place_of(callee).unwrap_or(u32::MAX)
+}
+
+// Whether it is a parameter that takes an image without a sampler.
+fn takes_image(listing: &Listing, parameter: &Instruction) -> bool {
+    if parameter.opcode != ops::FUNCTION_PARAMETER {
+        return false;
+    }
+    let ty = pointee(listing, parameter.ty).unwrap_or(parameter.ty);
+    let made = listing.definition(ty).unwrap_or(Instruction::NONE);
+    made.opcode == ops::TYPE_IMAGE
+}
+
 impl Uses {
     /// What the functions do, callees first.
     pub fn of_module(
@@ -81,8 +164,11 @@ impl Uses {
         let mut uses = Uses {
             roots: vec![in alloc; 0u32; listing.bound()]?,
             uses: vec![in alloc; Use::NONE; listing.bound()]?,
+            passed: vec![in alloc; 0u32; listing.bound()]?,
             touched: 0,
             atomics: Paths::new(alloc, listing.bound())?,
+            numbered: false,
+            placed: false,
         };
         for number in &order.functions {
             if let Some(function) = blocks.functions.get(*number as usize) {
@@ -91,7 +177,48 @@ impl Uses {
                 }
             }
         }
+        for number in order.functions.iter().rev() {
+            if let Some(function) = blocks.functions.get(*number as usize) {
+                uses.pass_down(listing, function);
+            }
+        }
+        for function in &blocks.functions {
+            uses.check_calls(listing, function)?;
+        }
         Ok(uses)
+    }
+
+    // An image that is sampled with a comparison somewhere is one of depths wherever it is passed to.
+    fn pass_down(&mut self, listing: &Listing, function: &FunctionBlocks) {
+        for place in function.parts.start..function.parts.end {
+            let call = listing.at(place);
+            let mut at = parameters_of(listing, &call);
+            for argument in arguments_of(listing, &call) {
+                at = at.saturating_add(1);
+                let parameter = listing.at(at);
+                if self.of(self.root(*argument)).compared && takes_image(listing, &parameter) {
+                    if let Some(place) = self.uses.get_mut(parameter.id as usize) {
+                        place.compared = true;
+                    }
+                }
+            }
+        }
+    }
+
+    // Refuses other images where one of depths is taken.
+    fn check_calls(&self, listing: &Listing, function: &FunctionBlocks) -> Result<(), SpirvError> {
+        for place in function.parts.start..function.parts.end {
+            let call = listing.at(place);
+            let mut at = parameters_of(listing, &call);
+            for argument in arguments_of(listing, &call) {
+                at = at.saturating_add(1);
+                let is_compared = self.of(listing.at(at).id).compared;
+                if is_compared && !self.of(self.root(*argument)).compared {
+                    return Err(call.unsupported_by(Feature::MixedComparison));
+                }
+            }
+        }
+        Ok(())
     }
 
     /// The variable or argument from which an id leads.
@@ -100,6 +227,19 @@ impl Uses {
             Some(root) if root != 0 => root,
             _ => id,
         }
+    }
+
+    /// The variable of the module that every call passes for a parameter, be it by way of other functions, if there is one.
+    pub fn always_passed(&self, listing: &Listing, parameter: u32) -> Option<u32> {
+        let mut at = parameter;
+        for _ in 0..MAX_CALLS {
+            match listing.definition(at)?.opcode {
+                ops::FUNCTION_PARAMETER => at = self.passed.get(at as usize).copied()?,
+                ops::VARIABLE => return Some(at),
+                _ => return None,
+            }
+        }
+        None
     }
 
     /// What a variable or an argument is used for.
@@ -133,6 +273,8 @@ impl Uses {
         if is_atomic(opcode) {
             return self.change(listing, instruction);
         }
+        self.numbered |= is_numbered(listing, instruction);
+        self.placed |= opcode == ops::IMAGE_READ && reads_attachment(listing, instruction);
         Ok(())
     }
 
@@ -159,8 +301,14 @@ impl Uses {
     fn touch_member(&mut self, listing: &Listing, ty: u32, member: Option<u32>) {
         for place in listing.decorations(ty, member) {
             let decoration = listing.at(*place);
-            if listing.operand(&decoration, 2) == Some(numbers::DECORATION_BUILT_IN) {
-                let number = listing.operand(&decoration, 3).unwrap_or(u32::MAX);
+            // a group's decorations speak of no member
+            let after = if decoration.opcode == ops::MEMBER_DECORATE {
+                2
+            } else {
+                1
+            };
+            if listing.operand(&decoration, after) == Some(numbers::DECORATION_BUILT_IN) {
+                let number = listing.operand(&decoration, after + 1).unwrap_or(u32::MAX);
                 if number < 64 {
                     self.touched |= 1u64 << number;
                 }
@@ -215,9 +363,21 @@ impl Uses {
                     return Err(call.unsupported_by(Feature::AtomicArgument));
                 }
                 self.add(*argument, self.of(parameter.id));
+                self.pass(parameter.id, *argument);
             }
         }
         Ok(())
+    }
+
+    // A call passes this for a parameter.
+    fn pass(&mut self, parameter: u32, argument: u32) {
+        if let Some(place) = self.passed.get_mut(parameter as usize) {
+            *place = if *place == 0 || *place == argument {
+                argument
+            } else {
+                DIFFERENT
+            };
+        }
     }
 
     // An atomic operation on a texel or on a part of a variable.

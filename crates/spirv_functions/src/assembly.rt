@@ -3,10 +3,11 @@
 use crate::instructions::lower;
 use ir_arena::span::Span;
 use ir_blocks::{Block, Statement, SwitchCase};
-use ir_kinds::{Literal, Scalar, ScalarKind, SwitchValue, UnaryOperator};
+use ir_kinds::{Literal, Scalar, SwitchValue, UnaryOperator};
 use ir_types::Expression;
-use spirv_expressions::{Operation, Value, keep, need, operand_scalar, refuse};
+use spirv_expressions::{Operation, Value, keep, need, refuse};
 use spirv_flow::{BreakIf, Case, CaseBody, Choice, Flow, FunctionSteps, Step};
+use spirv_images::selector_of;
 use spirv_numbers::ops;
 use spirv_operations::{FunctionBuilder, made_name, phi_local, statement};
 use spirv_types::span_of;
@@ -290,9 +291,9 @@ impl Assembly {
         count: u32,
         after: u32,
     ) {
-        let selector = self.need(source, lowering, block);
+        let value = self.need(source, lowering, block);
         let operation = source.operation(source.end_of(block));
-        let signed = operand_scalar(lowering, &operation, 0).kind == ScalarKind::Sint;
+        let (selector, signed) = selector_of(lowering, &operation, value);
         let open = OpenSwitch {
             selector,
             signed,

@@ -1,17 +1,15 @@
 // What an instruction of a block does.
 
 use crate::assembly::Source;
-use crate::wide::wide;
+use crate::extended::extended;
+use crate::groups::{barrier, group, is_group};
 use ir_types::Expression;
-use spirv_expressions::{Operation, Value, arithmetic, composite, conversion, math, need};
-use spirv_flow::{is_atomic, is_debug};
-use spirv_images::image_operation;
+use spirv_expressions::{Operation, Value, arithmetic, composite, conversion};
+use spirv_flow::is_atomic;
+use spirv_images::{image_operation, wide};
 use spirv_numbers::ops;
-use spirv_operations::{
-    FunctionBuilder, atomic, barrier, call_function, group, is_group, memory, phi_local, split,
-    store_texel,
-};
-use spirv_words::{Feature, Instruction, starts_text};
+use spirv_operations::{FunctionBuilder, atomic, call_function, memory, phi_local, store_texel};
+use spirv_words::Instruction;
 
 /// Does what an instruction does.
 pub fn lower<L: FunctionBuilder>(source: Source, lowering: &mut L, instruction: Instruction) {
@@ -56,23 +54,4 @@ fn computed<L: FunctionBuilder>(lowering: &mut L, operation: &Operation) -> Opti
         return Some(value);
     }
     image_operation(lowering, operation)
-}
-
-// An instruction of an extended set.
-fn extended<L: FunctionBuilder>(source: Source, lowering: &mut L, operation: &Operation) {
-    if is_debug(source.listing, &operation.instruction) {
-        return;
-    }
-    let set = need(lowering, operation, 0);
-    let import = source.listing.definition(set).unwrap_or(Instruction::NONE);
-    if !starts_text(source.listing.operands(&import), "GLSL.std.450", true) {
-        lowering.fail(operation.unsupported_by(Feature::InstructionSet));
-        return;
-    }
-    let number = need(lowering, operation, 1);
-    let value = match split(lowering, operation, number) {
-        Some(value) => value,
-        None => math(lowering, operation, number),
-    };
-    lowering.define(operation, value)
 }

@@ -2,7 +2,10 @@
 #![tactic(auto)]
 
 mod assembly;
+mod ballots;
+mod clusters;
+mod extended;
+mod groups;
 mod instructions;
-mod wide;
 
 pub use assembly::{Source, assemble};

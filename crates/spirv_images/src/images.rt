@@ -8,9 +8,10 @@ use ir_kinds::{
 };
 use ir_types::{Expression, ImageQuery, SampleLevel};
 use spirv_expressions::{
-    Builder, ImageValue, Operation, Value, binary, compose, convert, keep, need, operand, part_of,
-    result_scalar, splat,
+    Builder, ImageValue, Operation, Value, as_kind, binary, compose, convert, keep, need, operand,
+    operand_scalar, part_of, result_scalar, splat,
 };
+use spirv_flow::FRAGMENT_PLACE;
 use spirv_numbers::ops;
 use spirv_types::Shape;
 use spirv_words::Feature;
@@ -172,7 +173,10 @@ fn fetch<B: Builder>(builder: &mut B, operation: &Operation) -> Value {
     let at = read_coordinates(builder, operation, &image, 1, false);
     let options = image_operands(builder, operation, 2);
     let sample = value_of(builder, operation, options.sample);
-    let coordinate = moved(builder, operation, at.coordinate, &options);
+    let mut coordinate = moved(builder, operation, at.coordinate, &options);
+    if image.shape.attachment {
+        coordinate = at_fragment(builder, operation, coordinate);
+    }
     let level = fetched_level(builder, operation, &options, &image);
     let load = Expression::ImageLoad {
         image: image.value,
@@ -189,6 +193,15 @@ fn fetch<B: Builder>(builder: &mut B, operation: &Operation) -> Value {
     };
     let value = splat(builder, operation, size, value);
     narrowed(builder, operation, value)
+}
+
+// The coordinate counted from the place of the fragment.
+fn at_fragment<B: Builder>(builder: &mut B, operation: &Operation, coordinate: Value) -> Value {
+    let pointer = builder.value(FRAGMENT_PLACE, operation);
+    let place = builder.emit(Expression::Load { pointer }, operation);
+    let kind = operand_scalar(builder, operation, 1).kind;
+    let place = as_kind(builder, operation, place, ScalarKind::Uint, kind);
+    binary(builder, operation, BinaryOperator::Add, place, coordinate)
 }
 
 // The coordinate with an offset.
@@ -212,7 +225,7 @@ fn fetched_level<B: Builder>(
     options: &ImageOperands,
     image: &ImageValue,
 ) -> Option<Value> {
-    if operation.instruction.opcode == ops::IMAGE_READ {
+    if operation.instruction.opcode == ops::IMAGE_READ && !image.shape.attachment {
         return None;
     }
     match options.level {

@@ -24,6 +24,11 @@ pub fn results_of(number: u16) -> Results {
 
 // Whether it has a result with a type.
 fn is_typed(number: u16) -> bool {
+    is_typed_by_standard(number) || is_typed_by_extension(number)
+}
+
+// The same of those of the standard itself.
+fn is_typed_by_standard(number: u16) -> bool {
     matches!(
         number,
         1
@@ -46,7 +51,14 @@ fn is_typed(number: u16) -> bool {
             | 323..=326
             | 328
             | 333..=403
-            | 4421..=4432
+    )
+}
+
+// The same of those of extensions.
+fn is_typed_by_extension(number: u16) -> bool {
+    matches!(
+        number,
+        4421..=4432
             | 4447
             | 4450..=4455
             | 4477..=4479

@@ -3,10 +3,10 @@
 use ir_arena::span::Span;
 use ir_blocks::{Block, Statement};
 use ir_flags::{Capabilities, SubgroupOperationSet};
-use ir_kinds::PredeclaredType;
+use ir_kinds::{ImageClass, ImageDimension, PredeclaredType, Scalar, ScalarKind};
 use ir_types::Expression;
 use spirv_expressions::{Builder, Operation, Value, no_value};
-use spirv_types::{ImageUse, Stored, TypeHandle};
+use spirv_types::{ImageShape, ImageUse, Stored, TypeHandle};
 
 /// What an id is in the function that is built.
 #[derive(Clone, Copy)]
@@ -70,6 +70,10 @@ pub struct Pointer {
     pub stored: Stored,
     /// It is this column of the matrix to which it leads, which is stored row by row.
     pub column: Option<PointerStep>,
+    /// It is a matrix whose columns or rows are members of the struct to which it leads, of which this is the first.
+    pub split: Option<u32>,
+    /// It is an array in an array of resources, which has so many of them: its step is none yet, but counts so many.
+    pub resources: Option<u32>,
     /// The type that was built for it in place of its own.
     pub rebuilt: Option<TypeHandle>,
 }
@@ -85,6 +89,8 @@ pub fn root(value: Value, ty: u32) -> Pointer {
         image: None,
         stored: Stored::PLAIN,
         column: None,
+        split: None,
+        resources: None,
         rebuilt: None,
     }
 }
@@ -93,6 +99,23 @@ pub fn root(value: Value, ty: u32) -> Pointer {
 pub fn no_pointer() -> Pointer {
     root(no_value(), 0)
 }
+
+/// No image.
+pub const NO_IMAGE: ImageUse = ImageUse {
+    shape: ImageShape {
+        dim: ImageDimension::D2,
+        arrayed: false,
+        multi: false,
+        depth: false,
+        scalar: Scalar::U32,
+        format: None,
+        attachment: false,
+    },
+    class: ImageClass::Sampled {
+        kind: ScalarKind::Uint,
+        multi: false,
+    },
+};
 
 /// A function that is being built, with its statements, and with what its ids are.
 pub trait FunctionBuilder: Builder {
@@ -128,6 +151,15 @@ pub trait FunctionBuilder: Builder {
 
     /// A part of a value or of what a pointer points to.
     fn step(&mut self, base: Value, step: PointerStep, operation: &Operation) -> Value;
+
+    /// The same from what a pointer points to, which may be an array in an array of resources.
+    fn step_from(
+        &mut self,
+        place: u32,
+        base: Value,
+        step: PointerStep,
+        operation: &Operation,
+    ) -> Value;
 
     /// The scope that is built.
     fn scope(&self) -> u32;

@@ -52,6 +52,9 @@ fn argument<L: FunctionBuilder>(
     id: u32,
     operation: &Operation,
 ) -> [Option<Value>; 2] {
+    if is_resources(lowering, id) {
+        return [None, None];
+    }
     let is_value = matches!(lowering.slot(id), Slot::Value { .. });
     if is_value || lowering.is_known(id) {
         return [Some(lowering.value(id, operation)), None];
@@ -70,13 +73,29 @@ fn argument<L: FunctionBuilder>(
     }
 }
 
+// Whether an argument is an array of resources, which the callee names itself.
+fn is_resources<L: FunctionBuilder>(lowering: &L, id: u32) -> bool {
+    match lowering.shape(lowering.type_of(id)) {
+        Shape::Pointer { to, .. } => {
+            matches!(lowering.shape(to), Shape::Array { binding: true, .. })
+        }
+        _ => false,
+    }
+}
+
 // A pointer that is passed; none to matrices that are stored row by row.
 fn pointer<L: FunctionBuilder>(lowering: &mut L, place: u32, operation: &Operation) -> Value {
     let pointer = lowering.pointer_at(place, operation);
     let is_matrix = matches!(
         lowering.shape(pointer.ty),
-        Shape::Matrix { .. } | Shape::Array { .. }
+        Shape::Vector { .. } | Shape::Matrix { .. } | Shape::Array { .. }
     );
+    if pointer.resources.is_some() {
+        return refuse(
+            lowering,
+            operation.unsupported_by(Feature::ImageArrayArgument),
+        );
+    }
     if pointer.column.is_some() || !pointer.stored.is_plain() && is_matrix {
         let instruction = &operation.instruction;
         let error = pointer

@@ -2,14 +2,14 @@
 
 use crate::builder::{FunctionBuilder, Pointer, PointerStep, Slot};
 use ir_blocks::Statement;
-use ir_kinds::MathFunction;
-use ir_types::Expression;
+use ir_kinds::{MathFunction, Scalar, VectorSize};
+use ir_types::{ArraySize, Expression};
 use spirv_expressions::{
-    Operation, Value, call, component_count, compose, keep, need, part_of, plain_matrix, refuse,
-    relaid_matrix,
+    Operation, Value, call, component_count, compose, keep, need, no_value, packed_line, part_of,
+    plain_line, plain_matrix, relaid_matrix,
 };
-use spirv_types::{MatrixShape, MemberShape, Shape, TypeHandle, span_of};
-use spirv_words::{Feature, Malformed};
+use spirv_types::{MatrixShape, MemberShape, Shape, Stored, TypeHandle, span_of};
+use spirv_words::{Feature, Malformed, Unsupported};
 
 // The pointer that is a step on, to this part.
 fn go_on<L: FunctionBuilder>(
@@ -21,7 +21,7 @@ fn go_on<L: FunctionBuilder>(
 ) -> u32 {
     let from = lowering.pointer_at(place, operation);
     let base = lowering.way(place, operation);
-    let value = lowering.step(base, step, operation);
+    let value = lowering.step_from(place, base, step, operation);
     let scope = Some(lowering.scope());
     lowering.add_pointer(Pointer {
         base: Some(place),
@@ -32,9 +32,34 @@ fn go_on<L: FunctionBuilder>(
         image: from.image,
         stored: part.stored,
         column: None,
+        split: None,
+        resources: None,
         rebuilt: None,
     })
 }
+
+// How many resources an array has, in which there may be others.
+fn count_resources<L: FunctionBuilder>(lowering: &L, ty: u32) -> Option<u32> {
+    let mut at = ty;
+    let mut count = None;
+    for _ in 0..MAX_DEPTH {
+        match lowering.shape(at) {
+            Shape::Array {
+                element,
+                size: ArraySize::Constant(size),
+                binding: true,
+            } => {
+                count = Some(count.unwrap_or(1u32).checked_mul(size)?);
+                at = element;
+            }
+            _ => return count,
+        }
+    }
+    None
+}
+
+// How deep arrays may nest (universal limit of the standard).
+const MAX_DEPTH: usize = 255;
 
 // The step that an index of an access chain is.
 fn index_step<L: FunctionBuilder>(
@@ -62,7 +87,7 @@ fn index_step<L: FunctionBuilder>(
 // The pointer to the part of what a pointer points to at the index that an id is.
 fn follow<L: FunctionBuilder>(lowering: &mut L, place: u32, id: u32, operation: &Operation) -> u32 {
     let from = lowering.pointer_at(place, operation);
-    let step = index_step(lowering, from.ty, id, operation);
+    let mut step = index_step(lowering, from.ty, id, operation);
     let index = match step {
         PointerStep::Index(index) => index,
         PointerStep::Root | PointerStep::Dynamic(_) => 0,
@@ -71,23 +96,76 @@ fn follow<L: FunctionBuilder>(lowering: &mut L, place: u32, id: u32, operation: 
         lowering.fail(operation.malformed(Malformed::Index));
         return place;
     };
-    let is_matrix = matches!(lowering.shape(from.ty), Shape::Matrix { .. });
-    if from.stored.row_major && is_matrix {
-        // a column has no place of its own: the pointer stays at the matrix
-        let mut column = from;
-        column.column = Some(step);
-        column.ty = part.ty;
-        return lowering.add_pointer(column);
+    if let Some(near) = stay(lowering, place, &from, step, &part) {
+        return lowering.add_pointer(near);
     }
     if let Some(of_row) = from.column {
         let matrix = matrix_of(lowering, place, operation);
+        let step = line_step(lowering, &from, step, operation);
         let row = go_on(lowering, matrix, step, part, operation);
         return go_on(lowering, row, of_row, part, operation);
     }
-    if !is_matrix {
-        part.stored = from.stored.around(&part.stored);
+    if matches!(lowering.shape(from.ty), Shape::Struct { .. }) {
+        step = PointerStep::Index(part.index);
     }
+    let step = line_step(lowering, &from, step, operation);
+    part.stored = stored_part(lowering, &from, &part);
     go_on(lowering, place, step, part, operation)
+}
+
+// The pointer to a part that has no place of its own, so that it stays where it is: an array in an array of resources, a matrix
+// whose columns or rows are members of its struct, or the column of a matrix that is stored row by row.
+fn stay<L: FunctionBuilder>(
+    lowering: &L,
+    place: u32,
+    from: &Pointer,
+    step: PointerStep,
+    part: &MemberShape,
+) -> Option<Pointer> {
+    let mut near = *from;
+    near.ty = part.ty;
+    if let Some(count) = count_resources(lowering, part.ty) {
+        near.base = Some(place);
+        near.step = step;
+        near.resources = Some(count);
+        return Some(near);
+    }
+    if part.split {
+        near.split = Some(part.index);
+        near.stored = part.stored;
+        return Some(near);
+    }
+    let is_matrix = matches!(lowering.shape(from.ty), Shape::Matrix { .. });
+    if from.stored.row_major && is_matrix {
+        near.column = Some(step);
+        return Some(near);
+    }
+    None
+}
+
+// The step to a column or a row of a matrix, which may be a member of the struct around it.
+fn line_step<L: FunctionBuilder>(
+    lowering: &mut L,
+    from: &Pointer,
+    step: PointerStep,
+    operation: &Operation,
+) -> PointerStep {
+    let Some(first) = from.split else {
+        return step;
+    };
+    match step {
+        PointerStep::Index(index) => PointerStep::Index(first.saturating_add(index)),
+        PointerStep::Root | PointerStep::Dynamic(_) => {
+            refuse_split(lowering, from, operation);
+            step
+        }
+    }
+}
+
+// An operation of a matrix whose columns or rows are members of its struct is not translated.
+fn refuse_split<L: FunctionBuilder>(lowering: &mut L, pointer: &Pointer, operation: &Operation) {
+    let what = Unsupported::MatrixStride(pointer.stored.stride);
+    lowering.fail(operation.instruction.unsupported_as(what));
 }
 
 // The pointer to the matrix of which a pointer is a column.
@@ -95,6 +173,15 @@ fn matrix_of<L: FunctionBuilder>(lowering: &mut L, place: u32, operation: &Opera
     let mut matrix = lowering.pointer_at(place, operation);
     matrix.column = None;
     lowering.add_pointer(matrix)
+}
+
+// How the part of what a pointer points to is stored: the column of a matrix as an array of scalars where that is so.
+fn stored_part<L: FunctionBuilder>(lowering: &L, from: &Pointer, part: &MemberShape) -> Stored {
+    match MatrixShape::of(&lowering.shape(from.ty)) {
+        None => from.stored.around(&part.stored),
+        Some(matrix) if from.stored.is_packed(&matrix) => from.stored,
+        Some(_) => Stored::PLAIN,
+    }
 }
 
 /// An access chain.
@@ -122,14 +209,48 @@ fn follow_all<L: FunctionBuilder>(lowering: &mut L, place: u32, operation: &Oper
     at
 }
 
+/// An image or a sampler out of an array of those.
+pub fn extract_handle<L: FunctionBuilder>(lowering: &mut L, operation: &Operation) {
+    let id = need(lowering, operation, 0);
+    let slot = match lowering.resolve(id, operation) {
+        Slot::Pair { image, sampler } => Slot::Pair {
+            image: element(lowering, image, operation),
+            sampler: element(lowering, sampler, operation),
+        },
+        Slot::Pointer(place) => Slot::Pointer(element(lowering, place, operation)),
+        Slot::Nothing | Slot::Value { .. } | Slot::Texel { .. } => {
+            lowering.fail(operation.malformed(Malformed::NoPointer));
+            return;
+        }
+    };
+    lowering.set(operation.instruction.id, slot);
+}
+
+// The element of an array at the indices that are written in the instruction.
+fn element<L: FunctionBuilder>(lowering: &mut L, place: u32, operation: &Operation) -> u32 {
+    let mut at = place;
+    for index in operation.operands.get(1..).unwrap_or(&[]) {
+        let ty = lowering.pointer_at(at, operation).ty;
+        let Some(part) = lowering.part(ty, *index) else {
+            lowering.fail(operation.malformed(Malformed::Index));
+            return at;
+        };
+        at = go_on(lowering, at, PointerStep::Index(*index), part, operation);
+    }
+    at
+}
+
 /// What a pointer points to.
 pub fn load<L: FunctionBuilder>(lowering: &mut L, place: u32, operation: &Operation) -> Value {
     let from = lowering.pointer_at(place, operation);
     let pointer = lowering.way(place, operation);
-    let value = lowering.emit(Expression::Load { pointer }, operation);
     if let Some(column) = from.column {
-        return load_column(lowering, value, &from, column, operation);
+        return load_column(lowering, pointer, &from, column, operation);
     }
+    if from.split.is_some() {
+        return load_split(lowering, pointer, &from, operation);
+    }
+    let value = lowering.emit(Expression::Load { pointer }, operation);
     if let Some(count) = rebuilt_parts(lowering, &from) {
         let ty = lowering.built(from.ty, operation);
         return compose_again(lowering, value, ty, count, operation);
@@ -138,8 +259,42 @@ pub fn load<L: FunctionBuilder>(lowering: &mut L, place: u32, operation: &Operat
     if let Some(matrix) = MatrixShape::of(&shape) {
         return plain_matrix(lowering, operation, value, &matrix, from.stored);
     }
+    if let (Some((length, scalar)), false) = (vector_of(&shape), from.stored.is_plain()) {
+        return plain_line(lowering, operation, value, length, scalar);
+    }
     refuse_arrays(lowering, operation, &from, &shape, Feature::LoadOfRowMajor);
     value
+}
+
+// A matrix whose columns or rows are members of a struct, put together of them.
+fn load_split<L: FunctionBuilder>(
+    lowering: &mut L,
+    block: Value,
+    pointer: &Pointer,
+    operation: &Operation,
+) -> Value {
+    let (Some(matrix), Some(first)) = (MatrixShape::of(&lowering.shape(pointer.ty)), pointer.split)
+    else {
+        return no_value();
+    };
+    let (lines, _) = matrix.lines(pointer.stored.row_major);
+    let mut components = Vec::new(lowering.alloc());
+    for line in 0..u32::from(lines) {
+        let part = part_of(lowering, operation, block, first.saturating_add(line));
+        let value = lowering.emit(Expression::Load { pointer: part }, operation);
+        keep(lowering, &mut components, value);
+    }
+    let ty = lowering.stored_matrix(&matrix, pointer.stored);
+    let whole = compose(lowering, operation, ty, components);
+    plain_matrix(lowering, operation, whole, &matrix, pointer.stored)
+}
+
+// The size of a vector, and what a component is.
+fn vector_of(shape: &Shape) -> Option<(VectorSize, Scalar)> {
+    match *shape {
+        Shape::Vector { size, scalar, .. } => Some((size, scalar)),
+        _ => None,
+    }
 }
 
 // Refuses arrays of matrices that are stored otherwise than as the IR has them.
@@ -155,24 +310,27 @@ fn refuse_arrays<L: FunctionBuilder>(
     }
 }
 
-// A column of a matrix that is stored row by row and was loaded so: a component of each row.
+// A column of a matrix that is stored row by row: a component of each row.
 fn load_column<L: FunctionBuilder>(
     lowering: &mut L,
-    value: Value,
+    matrix: Value,
     pointer: &Pointer,
     column: PointerStep,
     operation: &Operation,
 ) -> Value {
     if pointer.stored.stride == 0 {
         let none = [None, None, None];
-        let matrix = call(lowering, operation, MathFunction::Transpose, value, none);
-        return lowering.step(matrix, column, operation);
+        let value = lowering.emit(Expression::Load { pointer: matrix }, operation);
+        let whole = call(lowering, operation, MathFunction::Transpose, value, none);
+        return lowering.step(whole, column, operation);
     }
     let mut components = Vec::new(lowering.alloc());
     for index in 0..component_count(lowering.shape(pointer.ty)) {
-        let row = part_of(lowering, operation, value, index);
+        let index = index.saturating_add(pointer.split.unwrap_or(0));
+        let row = part_of(lowering, operation, matrix, index);
         let part = lowering.step(row, column, operation);
-        keep(lowering, &mut components, part);
+        let value = lowering.emit(Expression::Load { pointer: part }, operation);
+        keep(lowering, &mut components, value);
     }
     let ty = lowering.built(pointer.ty, operation);
     compose(lowering, operation, ty, components)
@@ -221,6 +379,9 @@ fn stored_value<L: FunctionBuilder>(
     if let Some(matrix) = MatrixShape::of(&shape) {
         return relaid_matrix(lowering, operation, value, &matrix, to.stored);
     }
+    if let (Some((length, scalar)), false) = (vector_of(&shape), to.stored.is_plain()) {
+        return packed_line(lowering, operation, value, length, scalar);
+    }
     refuse_arrays(lowering, operation, to, &shape, Feature::StoreOfRowMajor);
     value
 }
@@ -235,6 +396,9 @@ pub fn store_into<L: FunctionBuilder>(
     let to = lowering.pointer_at(place, operation);
     if to.column.is_some() {
         lowering.fail(operation.unsupported_by(Feature::StoreIntoColumn));
+    }
+    if to.split.is_some() {
+        refuse_split(lowering, &to, operation);
     }
     let value = stored_value(lowering, &to, value, operation);
     let pointer = lowering.way(place, operation);

@@ -1,7 +1,7 @@
 // Memory, and what leads to images (sections 3.52.8 and 3.52.10).
 
 use crate::builder::{FunctionBuilder, PointerStep, Slot, root};
-use crate::pointers::{chain, load, store_into};
+use crate::pointers::{chain, extract_handle, load, store_into};
 use ir_arena::span::Span;
 use ir_blocks::Statement;
 use ir_types::Expression;
@@ -20,6 +20,9 @@ pub fn memory<L: FunctionBuilder>(lowering: &mut L, operation: &Operation) -> bo
         ops::COPY_MEMORY => copy_memory(lowering, operation),
         ops::ACCESS_CHAIN | ops::IN_BOUNDS_ACCESS_CHAIN => chain(lowering, operation),
         ops::COPY_OBJECT => copy_object(lowering, operation),
+        ops::COMPOSITE_EXTRACT if lowering.shape(operation.instruction.ty).is_handle() => {
+            extract_handle(lowering, operation)
+        }
         ops::ARRAY_LENGTH => array_length(lowering, operation),
         ops::IMAGE_TEXEL_POINTER => point_at_texel(lowering, operation),
         ops::SAMPLED_IMAGE => combine(lowering, operation),
@@ -65,13 +68,13 @@ fn declare_local<L: FunctionBuilder>(lowering: &mut L, operation: &Operation) {
     lowering.set(instruction.id, Slot::Pointer(place));
 }
 
-// What a pointer points to; an image or a sampler stays what it is.
+// What a pointer points to; an image, a sampler or an array of those stays what it is.
 fn load_value<L: FunctionBuilder>(lowering: &mut L, operation: &Operation) {
     let id = operation.instruction.id;
     let shape = lowering.shape(operation.instruction.ty);
     let from = need(lowering, operation, 0);
     let slot = lowering.resolve(from, operation);
-    if shape.is_handle() || matches!(slot, Slot::Pair { .. }) {
+    if is_resource(lowering, &shape) || matches!(slot, Slot::Pair { .. }) {
         lowering.set(id, slot);
         return;
     }
@@ -88,6 +91,18 @@ fn load_value<L: FunctionBuilder>(lowering: &mut L, operation: &Operation) {
     }
     let value = load(lowering, place, operation);
     lowering.define(operation, value)
+}
+
+// Whether it is an image, a sampler or an array of those.
+fn is_resource<L: FunctionBuilder>(lowering: &L, shape: &Shape) -> bool {
+    match shape {
+        Shape::Array {
+            element,
+            binding: true,
+            ..
+        } => lowering.shape(*element).is_handle(),
+        other => other.is_handle(),
+    }
 }
 
 // A value into what a pointer points to.
@@ -116,8 +131,9 @@ fn store_column<L: FunctionBuilder>(
     let matrix = lowering.way(place, operation);
     let ty = lowering.pointer_at(place, operation).ty;
     let count = component_count(lowering.shape(ty));
+    let first = lowering.pointer_at(place, operation).split.unwrap_or(0);
     for index in 0..count {
-        let row = part_of(lowering, operation, matrix, index);
+        let row = part_of(lowering, operation, matrix, first.saturating_add(index));
         let pointer = lowering.step(row, column, operation);
         let value = part_of(lowering, operation, vector, index);
         statement(lowering, operation, Statement::Store { pointer, value });
@@ -162,7 +178,9 @@ fn array_length<L: FunctionBuilder>(lowering: &mut L, operation: &Operation) {
     let member = need(lowering, operation, 1);
     let place = lowering.pointer(id, operation);
     let block = lowering.way(place, operation);
-    let array = part_of(lowering, operation, block, member);
+    let ty = lowering.pointer_at(place, operation).ty;
+    let index = lowering.part(ty, member).map_or(member, |part| part.index);
+    let array = part_of(lowering, operation, block, index);
     let value = lowering.emit(Expression::ArrayLength(array), operation);
     lowering.define(operation, value);
 }

@@ -1,7 +1,9 @@
 // Entry points: functions that take and give what goes between stages, and call those of SPIR-V.
 
 use crate::interface::Interface;
+use crate::located::{Piece, Whole};
 use crate::modes::{Modes, decorated_size, modes_of, stage_of};
+use crate::subgroups::Subgroups;
 use ir_arena::handle::{Handle, NonMaxU32};
 use ir_arena::span::Span;
 use ir_items::{
@@ -10,31 +12,39 @@ use ir_items::{
 };
 use ir_kinds::{Binding, ScalarKind, ShaderStage};
 use ir_types::clone_name;
-use spirv_bodies::{Body, Writing, keep_in, read_in, type_in};
+use spirv_bodies::{Body, Words, Writing, keep_in, read_in, type_in};
 use spirv_declarations::{GlobalHandle, Variable, Varying};
 use spirv_expressions::Value;
-use spirv_flow::Order;
+use spirv_flow::{FRAGMENT_PLACE, Order, SUBGROUP_NUMBERS};
 use spirv_numbers::numbers;
-use spirv_tables::with_default;
+use spirv_tables::{Decorated, SubgroupMask, with_default};
 use spirv_types::{TypeHandle, span_of};
-use spirv_words::{Feature, Instruction, Listing, Malformed, SpirvError, read_text};
+use spirv_words::{Feature, Instruction, Listing, Malformed, SpirvError, Unsupported, read_text};
 use std::alloc::Global;
 
 // An entry point that is being built.
 #[derive(Clone, Copy)]
-struct Entry<'a> {
-    alloc: Global,
-    listing: &'a Listing,
-    instruction: Instruction,
-    stage: ShaderStage,
-    span: Span,
+pub(crate) struct Entry<'a> {
+    pub alloc: Global,
+    pub listing: &'a Listing,
+    pub instruction: Instruction,
+    pub stage: ShaderStage,
+    pub span: Span,
+}
+
+// Where something is that an entry point gives.
+#[derive(Clone, Copy)]
+enum From {
+    // what this points to
+    Pointer(Value),
+    // a location that variables share
+    Location(Whole),
 }
 
 // Something that an entry point gives.
 #[derive(Clone, Copy)]
 struct Given {
-    // its pointer
-    pointer: Value,
+    from: From,
     ty: TypeHandle,
     binding: Option<Binding>,
 }
@@ -138,13 +148,15 @@ impl Entry<'_> {
         };
         body.statement(call, self.span);
         let mut given = Vec::new(self.alloc);
-        let members = self.find_outputs(interface, declared, body, &mut given);
-        let result = self.give(declared, body, &given, members);
+        let mut members = self.find_outputs(interface, declared, body, &mut given);
+        let pieces = self.pieces(declared, body, interface, numbers::CLASS_OUTPUT);
+        self.find_shared(declared, body, &pieces, &mut given, &mut members);
+        let result = self.give(declared, body, &pieces, &given, members);
         (arguments, result)
     }
 
     // The variable with this id, if it goes between stages and is of this storage class.
-    fn varying<I: Interface>(
+    pub(crate) fn varying<I: Interface>(
         &self,
         declared: &I,
         id: u32,
@@ -162,10 +174,11 @@ impl Entry<'_> {
     fn take_inputs<I: Interface, W: Writing>(
         &self,
         interface: &[u32],
-        declared: &I,
+        declared: &mut I,
         body: &mut W,
     ) -> Vec<FunctionArgument> {
         let mut arguments = Vec::new(self.alloc);
+        let pieces = self.pieces(declared, body, interface, numbers::CLASS_INPUT);
         for id in interface {
             if body.failure().is_some() {
                 break;
@@ -173,12 +186,65 @@ impl Entry<'_> {
             let Some((variable, varying)) = self.varying(declared, *id, numbers::CLASS_INPUT) else {
                 continue;
             };
+            if self.mask(*id).is_some() {
+                continue;
+            }
+            if !pieces.is_empty() && self.piece_of(declared, &variable, &varying).is_some() {
+                continue;
+            }
             let number = u32::try_from(arguments.len()).unwrap_or(u32::MAX);
             let argument = self.argument(declared, body, *id, &varying);
             keep_in(body, &mut arguments, argument);
             self.store_input(body, &variable, &varying, number);
         }
+        self.take_shared(declared, body, &pieces, &mut arguments);
+        self.take_subgroup(interface, declared, body, &mut arguments);
         arguments
+    }
+
+    // The mask of a subgroup's invocations that a variable is.
+    fn mask(&self, id: u32) -> Option<SubgroupMask> {
+        Decorated::of(self.listing, id, None).mask()
+    }
+
+    // Stores what is computed of the number of the invocation in its subgroup and of the subgroup's size.
+    fn take_subgroup<I: Interface, W: Writing>(
+        &self,
+        interface: &[u32],
+        declared: &mut I,
+        body: &mut W,
+        arguments: &mut Vec<FunctionArgument>,
+    ) {
+        let subgroups = Subgroups {
+            words: Words {
+                alloc: self.alloc,
+                span: self.span,
+            },
+        };
+        for id in interface {
+            if body.failure().is_some() {
+                break;
+            }
+            let varying = self.varying(declared, *id, numbers::CLASS_INPUT);
+            if let (Some((variable, _)), Some(mask)) = (varying, self.mask(*id)) {
+                subgroups.store_mask(declared, body, arguments, &variable, mask);
+            }
+        }
+        if let (Some(variable), ShaderStage::Fragment) = (
+            declared.variable(FRAGMENT_PLACE),
+            self.stage,
+        ) {
+            subgroups.store_place(declared, body, arguments, &variable);
+        }
+        let Some(variable) = declared.variable(SUBGROUP_NUMBERS) else {
+            return;
+        };
+        if self.stage == ShaderStage::Vertex {
+            let number = numbers::BUILT_IN_SUBGROUP_LOCAL_INVOCATION_ID;
+            let what = Unsupported::BuiltIn(number);
+            body.fail(self.instruction.unsupported_as(what));
+        }
+        subgroups.store_numbers(declared, body, arguments, &variable);
     }
 
     // What an input is taken as.
@@ -223,7 +289,7 @@ impl Entry<'_> {
         body.statement(Statement::Store { pointer, value }, self.span);
     }
 
-    fn global<W: Writing>(&self, body: &mut W, handle: GlobalHandle) -> Value {
+    pub(crate) fn global<W: Writing>(&self, body: &mut W, handle: GlobalHandle) -> Value {
         body.place(Expression::GlobalVariable(handle), self.span)
     }
 
@@ -236,6 +302,7 @@ impl Entry<'_> {
         given: &mut Vec<Given>,
     ) -> Vec<StructMember> {
         let mut members = Vec::new(self.alloc);
+        let shares = self.shares(declared, interface, numbers::CLASS_OUTPUT);
         for id in interface {
             if body.failure().is_some() {
                 break;
@@ -244,10 +311,13 @@ impl Entry<'_> {
             else {
                 continue;
             };
+            if shares && self.piece_of(declared, &variable, &varying).is_some() {
+                continue;
+            }
             let pointer = self.global(body, variable.handle);
             if varying.binding.is_some() {
                 let binding = self.bound(declared, varying.binding, variable.built);
-                add_given(body, given, pointer, variable.built, binding);
+                add_given(body, given, From::Pointer(pointer), variable.built, binding);
                 let part = member(None, variable.built, binding, 0);
                 keep_in(body, &mut members, part);
             } else {
@@ -256,6 +326,24 @@ impl Entry<'_> {
             }
         }
         members
+    }
+
+    // The locations that outputs share.
+    fn find_shared<I: Interface, W: Writing>(
+        &self,
+        declared: &mut I,
+        body: &mut W,
+        pieces: &[Piece],
+        given: &mut Vec<Given>,
+        members: &mut Vec<StructMember>,
+    ) {
+        let wholes = self.wholes(body, pieces);
+        for whole in &wholes {
+            let ty = self.whole_type(declared, body, whole);
+            let binding = self.whole_binding(whole, ShaderStage::Vertex);
+            add_given(body, given, From::Location(*whole), ty, binding);
+            keep_in(body, members, member(None, ty, binding, 0));
+        }
     }
 
     // What the bound members of a struct give.
@@ -273,7 +361,7 @@ impl Entry<'_> {
             if part.binding.is_some() {
                 let pointer = body.emit(Expression::AccessIndex { base, index }, self.span);
                 let binding = self.bound(declared, part.binding, part.ty);
-                add_given(body, given, pointer, part.ty, binding);
+                add_given(body, given, From::Pointer(pointer), part.ty, binding);
                 let name = match clone_name(self.alloc, &part.name) {
                     Ok(name) => name,
                     Err(_) => {
@@ -287,7 +375,7 @@ impl Entry<'_> {
         }
     }
 
-    // The binding of an output; of a vertex stage with how it is found between vertices.
+    // The binding of an output; of a vertex stage with its interpolation.
     fn bound<I: Interface>(
         &self,
         declared: &I,
@@ -306,14 +394,17 @@ impl Entry<'_> {
         &self,
         declared: &mut I,
         body: &mut W,
+        pieces: &[Piece],
         given: &[Given],
         members: Vec<StructMember>,
     ) -> Option<FunctionResult> {
         let first = given.first()?;
         let mut components = Vec::new(self.alloc);
         for each in given {
-            let pointer = each.pointer;
-            let value = body.emit(Expression::Load { pointer }, self.span);
+            let value = match each.from {
+                From::Pointer(pointer) => body.emit(Expression::Load { pointer }, self.span),
+                From::Location(whole) => self.give_whole(body, pieces, &whole, each.ty),
+            };
             keep_in(body, &mut components, value);
         }
         let (result, value) = match components.as_slice() {
@@ -344,15 +435,11 @@ impl Entry<'_> {
 fn add_given<W: Writing>(
     body: &mut W,
     given: &mut Vec<Given>,
-    pointer: Value,
+    from: From,
     ty: TypeHandle,
     binding: Option<Binding>,
 ) {
-    let one = Given {
-        pointer,
-        ty,
-        binding,
-    };
+    let one = Given { from, ty, binding };
     keep_in(body, given, one);
 }
 

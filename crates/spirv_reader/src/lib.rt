@@ -3,8 +3,11 @@
 
 mod entries;
 mod interface;
+mod located;
 mod modes;
 mod reader;
+mod shared;
+mod subgroups;
 
 pub use reader::read_spirv;
 pub use spirv_words::{MAX_LEN, SpirvError};

@@ -10,7 +10,9 @@ use ir_flags::{ShaderStages, SubgroupOperationSet, ValidationFlags};
 use ir_items::{EntryPoint, Function, Module, SpecialTypes, key};
 use ir_sets::keyed::KeyedState;
 use spirv_bodies::{Special, lower_functions};
-use spirv_declarations::{Declarations, declare};
+use spirv_declarations::{
+    BuiltConstants, BuiltTypes, BuiltVariables, Declarations, Tables, declare,
+};
 use spirv_flow::{Flow, Order, flow_of};
 use spirv_functions::Source;
 use spirv_tables::Demands;
@@ -33,43 +35,32 @@ fn read_listing(alloc: Global, listing: &Listing, key: KeyedState) -> Result<Doc
 {
     let flow = flow_of(alloc, listing)?;
     let declared = declare(alloc, listing, &flow.uses, key)?;
-    read_functions(alloc, listing, &flow, declared)
+    match read_functions(alloc, listing, &flow, declared) {
+        Ok((declared, functions, special, entries)) => {
+            Ok(document_of(alloc, declared, special, functions, entries))
+        }
+        Err(error) => Err(error),
+    }
 }
 
-// The same of one whose declarations are read.
-fn read_functions(
+// What a module declares, its functions, the structs that their expressions give, and its entry points.
+fn read_functions<D: Tables + Interface>(
     alloc: Global,
     listing: &Listing,
     flow: &Flow,
-    declared: Declarations,
-) -> Result<Document, SpirvError>
-    ensures { IfOk result (λ d. MakesSixChecks d.settings.flags) }
-{
+    declared: D,
+) -> Result<
+    (
+        D,
+        Arena<Function, key::Function>,
+        SpecialTypes,
+        Vec<EntryPoint>,
+    ),
+    SpirvError,
+> {
     let source = Source { listing, flow };
     let (declared, functions, special) = lower_functions(alloc, source, declared)?;
-    read_entries(alloc, listing, flow, declared, functions, special)
-}
-
-// The same of one whose functions are read.
-fn read_entries(
-    alloc: Global,
-    listing: &Listing,
-    flow: &Flow,
-    declared: Declarations,
-    functions: Arena<Function, key::Function>,
-    special: Vec<Special>,
-) -> Result<Document, SpirvError>
-    ensures { IfOk result (λ d. MakesSixChecks d.settings.flags) }
-{
-    let (declared, functions, special_types, entry_points) = with_entries(
-        alloc,
-        listing,
-        &flow.order,
-        declared,
-        functions,
-        &special,
-    )?;
-    Ok(document_of(alloc, declared, special_types, functions, entry_points))
+    with_entries(alloc, listing, &flow.order, declared, functions, &special)
 }
 
 // The structs that expressions give, and the entry points, beside what was read before.
@@ -111,7 +102,7 @@ fn settings_of(demands: &Demands) -> Settings
 // The document of a module with these parts.
 fn document_of(
     alloc: Global,
-    declared: Declarations,
+    declared: Declarations<BuiltTypes, BuiltConstants, BuiltVariables>,
     special_types: SpecialTypes,
     functions: Arena<Function, key::Function>,
     entry_points: Vec<EntryPoint>,
@@ -126,12 +117,12 @@ fn document_of(
         demands: _,
     } = declared;
     let module = Module {
-        types: types.types,
+        types: types.types.arena,
         special_types,
-        constants: constants.constants,
-        overrides: constants.overrides,
-        global_variables: variables.variables,
-        global_expressions: constants.expressions,
+        constants: constants.built.constants,
+        overrides: constants.built.overrides,
+        global_variables: variables.built.arena,
+        global_expressions: constants.built.expressions,
         functions,
         entry_points,
         diagnostic_filters: Arena::new(alloc),

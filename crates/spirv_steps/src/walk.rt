@@ -452,10 +452,6 @@ impl<'a> Walk<'a> {
             self.refuse(Feature::SwitchWithoutMerge, number);
             return None;
         };
-        if let Err(error) = self.check_selector(end) {
-            self.fail(error);
-            return None;
-        }
         let outside = self.outside();
         let token = self.token();
         let fall = self.token();
@@ -474,18 +470,25 @@ impl<'a> Walk<'a> {
         self.next_case(outside)
     }
 
-    // The words and blocks that a switch names.
+    // The values and blocks that a switch names; a value of two words is chosen by its place among them.
     fn add_targets(&mut self, number: u32, end: &Instruction, to: u32) -> Result<(), SpirvError> {
         let step = self.count();
         self.add(Step::Kill);
         let looping = self.environment.looping;
         self.switches.open(looping, number, end.start, step, to)?;
-        let count = self.listing.operands(end).len() / 2;
-        for pair in 1..count {
-            let word = self.listing.need(end, pair.saturating_mul(2))?;
-            if let Some(block) = self.target(end, pair.saturating_mul(2).saturating_add(1)) {
-                self.switches.add(block, word)?;
+        let words = self.words_of(end)?;
+        let mut at = 2usize;
+        for place in 0..u32::MAX {
+            let label = at.saturating_add(words);
+            if label >= self.listing.operands(end).len() {
+                break;
             }
+            let word = self.listing.need(end, at)?;
+            if let Some(block) = self.target(end, label) {
+                self.switches
+                    .add(block, if words == 1 { word } else { place })?;
+            }
+            at = label.saturating_add(1);
         }
         if let Some(default) = self.target(end, 1) {
             self.switches.add_default(default)?;
@@ -493,22 +496,21 @@ impl<'a> Walk<'a> {
         Ok(())
     }
 
-    // A switch on words, and not on pairs of words.
-    fn check_selector(&self, end: &Instruction) -> Result<(), SpirvError> {
+    // How many words each value of a switch has.
+    fn words_of(&self, end: &Instruction) -> Result<usize, SpirvError> {
         let selector = self.listing.need(end, 0)?;
-        let value = self
-            .listing
-            .definition(selector)
-            .unwrap_or(Instruction::NONE);
-        let ty = self
-            .listing
-            .definition(value.ty)
-            .unwrap_or(Instruction::NONE);
-        if ty.opcode == ops::TYPE_INT && self.listing.operand(&ty, 0) == Some(32) {
-            Ok(())
-        } else {
-            Err(end.unsupported_by(Feature::SwitchSelector))
+        let value = self.defined(selector);
+        let ty = self.defined(value.ty);
+        match self.listing.operand(&ty, 0) {
+            Some(16 | 32) if ty.opcode == ops::TYPE_INT => Ok(1),
+            Some(64) if ty.opcode == ops::TYPE_INT => Ok(2),
+            _ => Err(end.unsupported_by(Feature::SwitchSelector)),
         }
+    }
+
+    // The instruction that defines an id.
+    fn defined(&self, id: u32) -> Instruction {
+        self.listing.definition(id).unwrap_or(Instruction::NONE)
     }
 
     // Goes on with the next case of the innermost switch, or ends it.

@@ -1,9 +1,9 @@
 // What decorations say of an id or of a member (section 3.20).
 
-use crate::tables::{Demands, built_in};
+use crate::tables::{Demands, SubgroupMask, built_in, subgroup_mask};
 use ir_flags::{Capabilities, StorageAccess};
 use ir_kinds::{Binding, Interpolation, Sampling, ScalarKind};
-use spirv_numbers::numbers;
+use spirv_numbers::{numbers, ops};
 use spirv_words::Listing;
 
 /// What decorations say of an id or of a member.
@@ -13,6 +13,8 @@ pub struct Decorated {
     pub built_in: Option<u32>,
     /// The location between stages.
     pub location: Option<u32>,
+    /// The component of the location that is the first.
+    pub component: Option<u32>,
     /// The source of a blend.
     pub index: Option<u32>,
     /// The group of a resource.
@@ -58,6 +60,7 @@ impl Decorated {
     pub const NOTHING: Decorated = Decorated {
         built_in: None,
         location: None,
+        component: None,
         index: None,
         set: None,
         binding: None,
@@ -82,9 +85,15 @@ impl Decorated {
     /// What is said of an id, or of a member of its struct.
     pub fn of(listing: &Listing, id: u32, member: Option<u32>) -> Decorated {
         let mut all = Decorated::NOTHING;
-        let after = if member.is_some() { 2 } else { 1 };
         for place in listing.decorations(id, member) {
-            let operands = listing.operands(&listing.at(*place));
+            let instruction = listing.at(*place);
+            // a group's decorations speak of no member
+            let after = if instruction.opcode == ops::MEMBER_DECORATE {
+                2
+            } else {
+                1
+            };
+            let operands = listing.operands(&instruction);
             let Some(decoration) = operands.get(after) else {
                 continue;
             };
@@ -101,6 +110,7 @@ impl Decorated {
         match decoration {
             numbers::DECORATION_BUILT_IN => self.built_in = value,
             numbers::DECORATION_LOCATION => self.location = value,
+            numbers::DECORATION_COMPONENT => self.component = value,
             numbers::DECORATION_INDEX => self.index = value,
             numbers::DECORATION_DESCRIPTOR_SET => self.set = value,
             numbers::DECORATION_BINDING => self.binding = value,
@@ -188,6 +198,11 @@ impl Decorated {
         }
     }
 
+    /// The mask of a subgroup's invocations that it is.
+    pub fn mask(&self) -> Option<SubgroupMask> {
+        subgroup_mask(self.built_in?)
+    }
+
     /// The number of a built-in that the IR does not have.
     pub fn foreign_built_in(&self) -> Option<u32> {
         let number = self.built_in?;
@@ -198,7 +213,7 @@ impl Decorated {
     }
 }
 
-/// The binding, with how a value of scalars of this kind is found between vertices where it is not said.
+/// The binding, with the interpolation of a value of scalars of this kind where none is said.
 pub fn with_default(binding: Option<Binding>, kind: Option<ScalarKind>) -> Option<Binding> {
     match binding {
         Some(

@@ -8,4 +8,6 @@ mod tables;
 
 pub use decorated::{Decorated, with_default};
 pub use scan::Scan;
-pub use tables::{Demands, built_in, dimension, find, format, is_norm16, is_unsigned};
+pub use tables::{
+    Demands, SubgroupMask, built_in, dimension, find, format, is_norm16, is_unsigned, subgroup_mask,
+};

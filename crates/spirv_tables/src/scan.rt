@@ -132,10 +132,7 @@ fn is_buffer_block(listing: &Listing, id: u32) -> bool {
 fn is_refused(number: u32) -> bool {
     matches!(
         number,
-        numbers::DECORATION_COMPONENT
-            | numbers::DECORATION_XFB_BUFFER
-            | numbers::DECORATION_STREAM
-            | numbers::DECORATION_PATCH
+        numbers::DECORATION_XFB_BUFFER | numbers::DECORATION_STREAM | numbers::DECORATION_PATCH
     )
 }
 

@@ -61,6 +61,36 @@ pub fn built_in(number: u32, invariant: bool) -> Option<BuiltIn> {
     find(&BUILT_INS, number)
 }
 
+// The built-in of the first mask of a subgroup's invocations; the others follow it (section 3.21).
+const FIRST_MASK: u32 = 4416;
+
+/// Which mask of a subgroup's invocations the built-in with this number is, if it is one; none of them is in the IR.
+pub fn subgroup_mask(number: u32) -> Option<SubgroupMask> {
+    match number.checked_sub(FIRST_MASK)? {
+        0 => Some(SubgroupMask::Equal),
+        1 => Some(SubgroupMask::GreaterEqual),
+        2 => Some(SubgroupMask::Greater),
+        3 => Some(SubgroupMask::LessEqual),
+        4 => Some(SubgroupMask::Less),
+        _ => None,
+    }
+}
+
+/// Which invocations of a subgroup are in a mask, by their numbers beside that of this one.
+#[derive(Clone, Copy)]
+pub enum SubgroupMask {
+    /// This one.
+    Equal,
+    /// This one and those after it.
+    GreaterEqual,
+    /// Those after it.
+    Greater,
+    /// This one and those before it.
+    LessEqual,
+    /// Those before it.
+    Less,
+}
+
 /// What stands beside a number in a table.
 pub fn find<T: Copy>(table: &[(u32, T)], number: u32) -> Option<T> {
     for row in table {

@@ -1,14 +1,15 @@
 // The declarations of types (section 3.52.6).
 
 use crate::shapes::{
-    ImageShape, Layout, Shape, TypeHandle, TypeTable, matrix_layout, scalar_layout, span_of,
-    vector_layout, vector_size,
+    ImageShape, Layout, Shape, TypeHandle, matrix_layout, scalar_layout, span_of, vector_layout,
+    vector_size,
 };
+use crate::table::{TypeTable, Types};
 use ir_arena::span::Span;
 use ir_flags::{Capabilities, StorageAccess};
 use ir_kinds::{AddressSpace, ImageClass, Scalar, ScalarKind};
 use ir_types::{ArraySize, TypeInner};
-use spirv_flow::{Use, Uses};
+use spirv_flow::{DIM_SUBPASS_DATA, Use, Uses};
 use spirv_numbers::{numbers, ops};
 use spirv_tables::{Decorated, Demands, Scan, dimension, format, is_norm16};
 use spirv_words::{Feature, Instruction, Listing, Malformed, SpirvError, Unsupported};
@@ -27,7 +28,7 @@ pub struct Reading<'a> {
     pub uses: &'a Uses,
 }
 
-impl TypeTable {
+impl<T: Types> TypeTable<T> {
     /// A type that is not an array or a struct.
     pub fn declare(
         &mut self,
@@ -246,7 +247,7 @@ impl TypeTable {
     ) -> Result<(), SpirvError> {
         let element = reading.listing.need(instruction, 0)?;
         let base = self.need(element, instruction)?;
-        if self.is_resource(reading, instruction, element)? {
+        if self.is_resource(reading, instruction, element) {
             return self.declare_resources(instruction, element, base, size);
         }
         let said = Decorated::of(reading.listing, instruction.id, None).array_stride;
@@ -267,7 +268,7 @@ impl TypeTable {
         Ok(())
     }
 
-    // An array of resources.
+    // An array of resources. One of arrays of them is built as one array of all.
     fn declare_resources(
         &mut self,
         instruction: &Instruction,
@@ -275,7 +276,14 @@ impl TypeTable {
         base: TypeHandle,
         size: &ArraySize,
     ) -> Result<(), SpirvError> {
-        let inner = TypeInner::BindingArray { base, size: *size };
+        let (base, whole) = match self.types.inner(base) {
+            Some(TypeInner::BindingArray { base, size: inner }) => match product(size, inner) {
+                Some(whole) => (*base, whole),
+                None => return Err(instruction.unsupported_by(Feature::ResourceArrays)),
+            },
+            _ => (base, *size),
+        };
+        let inner = TypeInner::BindingArray { base, size: whole };
         let handle = self.insert(None, inner, span_of(instruction))?;
         let shape = Shape::Array {
             element,
@@ -284,6 +292,34 @@ impl TypeTable {
         };
         self.set(instruction.id, shape, Some(handle), Layout::NONE);
         Ok(())
+    }
+
+    /// The resources that a type is an array of, or an array of arrays of: what each is, and how many they are together.
+    pub fn resources(&self, ty: u32) -> Option<Resources> {
+        let Shape::Array {
+            element,
+            size,
+            binding: true,
+        } = self.shape(ty)
+        else {
+            return None;
+        };
+        let mut all = Resources { element, size };
+        for _ in 0..MAX_DEPTH {
+            let Shape::Array {
+                element,
+                size,
+                binding: true,
+            } = self.shape(all.element)
+            else {
+                break;
+            };
+            all = Resources {
+                element,
+                size: product(&all.size, &size)?,
+            };
+        }
+        Some(all)
     }
 
     // From element to element of an array where it is not said.
@@ -306,25 +342,40 @@ impl TypeTable {
         }
     }
 
-    // Whether the elements of an array are resources: images, samplers, or blocks that are not between stages.
-    fn is_resource(
-        &self,
-        reading: &Reading,
-        instruction: &Instruction,
-        element: u32,
-    ) -> Result<bool, SpirvError> {
+    // Whether the elements of an array are resources: images, samplers, blocks that are not between stages, or arrays of those.
+    fn is_resource(&self, reading: &Reading, instruction: &Instruction, element: u32) -> bool {
         match self.shape(element) {
-            Shape::Image(_) | Shape::Sampler | Shape::SampledImage(_) => Ok(true),
-            Shape::Array { binding: true, .. } => {
-                Err(instruction.unsupported_by(Feature::ResourceArrays))
-            }
+            Shape::Image(_) | Shape::Sampler | Shape::SampledImage(_) => true,
+            Shape::Array { binding, .. } => binding,
             Shape::Struct { .. } => {
                 let said = Decorated::of(reading.listing, element, None);
                 let is_block = said.block || said.buffer_block;
-                Ok(is_block && !reading.scan.is_between(instruction.id))
+                is_block && !reading.scan.is_between(instruction.id)
             }
-            _ => Ok(false),
+            _ => false,
         }
+    }
+}
+
+/// Resources in a row.
+#[derive(Clone, Copy)]
+pub struct Resources {
+    /// The type of one.
+    pub element: u32,
+    /// How many.
+    pub size: ArraySize,
+}
+
+// How deep arrays may nest (universal limit of the standard).
+const MAX_DEPTH: usize = 255;
+
+// How many elements arrays in an array have together, where that is known.
+fn product(outer: &ArraySize, inner: &ArraySize) -> Option<ArraySize> {
+    match (outer, inner) {
+        (ArraySize::Constant(outer), ArraySize::Constant(inner)) => {
+            Some(ArraySize::Constant(outer.checked_mul(*inner)?))
+        }
+        _ => None,
     }
 }
 
@@ -368,11 +419,13 @@ fn read_image(
     scalar: Scalar,
 ) -> Result<ImageShape, SpirvError> {
     let number = listing.need(instruction, 1)?;
-    let Some(dim) = dimension(number) else {
+    let attachment = number == DIM_SUBPASS_DATA;
+    let plain = if attachment { numbers::DIM_2_D } else { number };
+    let Some(dim) = dimension(plain) else {
         return Err(instruction.unsupported_as(Unsupported::Dimension(number)));
     };
     let multi = listing.need(instruction, 4)? != 0;
-    let format = if listing.need(instruction, 5)? == 2 {
+    let format = if listing.need(instruction, 5)? == 2 && !attachment {
         Some(read_format(listing, instruction)?)
     } else {
         None
@@ -391,6 +444,7 @@ fn read_image(
         depth: listing.need(instruction, 2)? == 1,
         scalar,
         format,
+        attachment,
     })
 }
 

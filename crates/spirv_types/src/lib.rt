@@ -4,11 +4,12 @@
 mod declare;
 mod shapes;
 mod structs;
-mod upgrade;
+mod table;
 
-pub use declare::{Reading, image_class, space_of};
+pub use declare::{Reading, Resources, image_class, space_of};
 pub use shapes::{
-    ImageShape, ImageUse, Layout, MatrixShape, MemberShape, Shape, Stored, TypeHandle, TypeTable,
-    round_up, span_of, vector_size,
+    ImageShape, ImageUse, Layout, MatrixShape, MemberShape, Shape, Stored, TypeHandle, round_up,
+    span_of, vector_size,
 };
 pub use structs::block_access;
+pub use table::{TypeTable, Types};

@@ -3,11 +3,8 @@
 use ir_arena::handle::Handle;
 use ir_arena::span::Span;
 use ir_kinds::{ImageClass, ImageDimension, Scalar, StorageFormat, VectorSize};
-use ir_sets::keyed::KeyedState;
-use ir_sets::unique_arena::UniqueArena;
-use ir_types::{ArraySize, IrType, TypeInner, key};
-use spirv_words::{Feature, Instruction, Malformed, SpirvError, Unsupported};
-use std::alloc::Global;
+use ir_types::{ArraySize, key};
+use spirv_words::{Feature, Instruction, SpirvError, Unsupported};
 
 /// The handle of a type of the module that is built.
 pub type TypeHandle = Handle<key::IrType>;
@@ -27,6 +24,8 @@ pub struct ImageShape {
     pub scalar: Scalar,
     /// The format of a storage image.
     pub format: Option<StorageFormat>,
+    /// Whether it is an attachment that is read at the place of the fragment.
+    pub attachment: bool,
 }
 
 /// An image that a variable or an argument is.
@@ -148,6 +147,17 @@ impl Stored {
         !self.row_major && self.stride == 0
     }
 
+    /// Whether the columns of a matrix that is stored so, or its rows, are arrays of scalars: their stride is no multiple of
+    /// the alignment of a vector.
+    pub fn is_packed(&self, matrix: &MatrixShape) -> bool {
+        let (_, length) = matrix.lines(self.row_major);
+        let alignment = vector_layout(length, matrix.scalar).alignment;
+        match u64::from(self.stride).checked_rem(alignment) {
+            Some(over) => over != 0,
+            None => false,
+        }
+    }
+
     /// Those in a part of what is stored so.
     pub fn around(&self, part: &Stored) -> Stored {
         Stored {
@@ -212,6 +222,10 @@ pub struct MemberShape {
     pub ty: u32,
     /// How the matrices in it are stored.
     pub stored: Stored,
+    /// Its place among the members of the struct that is built, or the first of its columns or rows.
+    pub index: u32,
+    /// Whether its columns or rows are members of the struct that is built, each by itself.
+    pub split: bool,
 }
 
 /// How a value lies in memory.
@@ -244,148 +258,6 @@ pub fn round_up(number: u64, multiple: u64) -> u64 {
     match number.checked_rem(multiple) {
         None | Some(0) => number,
         Some(over) => number.saturating_add(multiple.saturating_sub(over)),
-    }
-}
-
-// What is known of a type.
-#[derive(Clone, Copy)]
-struct Entry {
-    shape: Shape,
-    handle: Option<TypeHandle>,
-    layout: Layout,
-}
-
-/// The types of a module: those that are built, and what each id of a type is.
-#[derive(Drop)]
-pub struct TypeTable {
-    /// The types that are built.
-    pub types: UniqueArena<IrType, key::IrType>,
-    entries: Vec<Entry>,
-    members: Vec<MemberShape>,
-}
-
-impl TypeTable {
-    /// None, with ids below the bound. Hashers of the types know the key.
-    pub fn new(alloc: Global, bound: usize, key: KeyedState) -> Result<TypeTable, SpirvError> {
-        let none = Entry {
-            shape: Shape::Nothing,
-            handle: None,
-            layout: Layout::NONE,
-        };
-        Ok(TypeTable {
-            types: UniqueArena::with_hasher(alloc, key),
-            entries: vec![in alloc; none; bound]?,
-            members: Vec::new(alloc),
-        })
-    }
-
-    /// What a type is.
-    pub fn shape(&self, id: u32) -> Shape {
-        match self.entries.get(id as usize) {
-            Some(entry) => entry.shape,
-            None => Shape::Nothing,
-        }
-    }
-
-    /// The type that is built for it, if any.
-    pub fn handle(&self, id: u32) -> Option<TypeHandle> {
-        self.entries.get(id as usize)?.handle
-    }
-
-    /// The type that is built for it, which an instruction has to have.
-    pub fn need(&self, id: u32, instruction: &Instruction) -> Result<TypeHandle, SpirvError> {
-        match self.handle(id) {
-            Some(handle) => Ok(handle),
-            None => Err(match self.shape(id) {
-                Shape::Nothing => instruction.malformed(Malformed::NoType),
-                _ => instruction.unsupported(),
-            }),
-        }
-    }
-
-    /// How a value of the type lies in memory.
-    pub fn layout(&self, id: u32) -> Layout {
-        match self.entries.get(id as usize) {
-            Some(entry) => entry.layout,
-            None => Layout::NONE,
-        }
-    }
-
-    /// A member of a struct.
-    pub fn member(&self, id: u32, place: u32) -> Option<MemberShape> {
-        match self.shape(id) {
-            Shape::Struct { first, count } if place < count => {
-                self.members
-                    .get(first.checked_add(place)? as usize)
-                    .copied()
-            }
-            _ => None,
-        }
-    }
-
-    /// The type of the part of a value at this index, and how the matrices in it are stored.
-    pub fn part(&self, id: u32, index: u32) -> Option<MemberShape> {
-        let ty = match self.shape(id) {
-            Shape::Struct { .. } => return self.member(id, index),
-            Shape::Vector { component, .. } => component,
-            Shape::Matrix { column, .. } => column,
-            Shape::Array { element, .. } => element,
-            _ => return None,
-        };
-        Some(MemberShape {
-            ty,
-            stored: Stored::PLAIN,
-        })
-    }
-
-    /// An id is of this type.
-    pub fn set(&mut self, id: u32, shape: Shape, handle: Option<TypeHandle>, layout: Layout) {
-        if let Some(entry) = self.entries.get_mut(id as usize) {
-            *entry = Entry {
-                shape,
-                handle,
-                layout,
-            };
-        }
-    }
-
-    /// The place of the next member.
-    pub fn next_member(&self) -> u32 {
-        u32::try_from(self.members.len()).unwrap_or(u32::MAX)
-    }
-
-    /// A member more.
-    pub fn add_member(&mut self, member: MemberShape) -> Result<(), SpirvError> {
-        self.members.push(member)?;
-        Ok(())
-    }
-
-    /// The type with this name that is made of this.
-    pub fn insert(
-        &mut self,
-        name: Option<String>,
-        inner: TypeInner,
-        span: Span,
-    ) -> Result<TypeHandle, SpirvError> {
-        let handle = self.types.insert(IrType { name, inner }, span)?;
-        Ok(handle)
-    }
-
-    /// The type of a scalar.
-    pub fn scalar(&mut self, scalar: Scalar) -> Result<TypeHandle, SpirvError> {
-        self.insert(None, TypeInner::Scalar(scalar), Span::UNDEFINED)
-    }
-
-    /// The type of a vector, of a scalar where there is no size.
-    pub fn vector(
-        &mut self,
-        size: Option<VectorSize>,
-        scalar: Scalar,
-    ) -> Result<TypeHandle, SpirvError> {
-        match size {
-            None => self.scalar(scalar),
-            Some(size) => self.insert(None, TypeInner::Vector { size, scalar }, Span::UNDEFINED),
-        }
     }
 }
 

@@ -13,6 +13,9 @@ use std::alloc::{AllocError, Global};
 // How many ids there may be for each word, so that a table of ids is linear in the words.
 const IDS_A_WORD: usize = 16;
 
+// How many decorations groups may make for each word.
+const DECORATIONS_A_WORD: usize = 16;
+
 /// An instruction. The places of words are counted from 0.
 #[derive(Clone, Copy)]
 pub struct Instruction {
@@ -98,7 +101,7 @@ pub fn list(alloc: Global, bytes: &[u8]) -> Result<Listing, SpirvError> {
         slots: &slots,
     };
     let names = said.find_names(alloc, &parts.names)?;
-    let decorations = said.find_decorations(alloc, &parts.decorations)?;
+    let decorations = said.find_decorations(alloc, &parts.decorations, &parts.groups)?;
     let modes = said.find_modes(alloc, &parts.modes)?;
     Ok(Listing {
         words,
@@ -244,13 +247,18 @@ impl Said<'_> {
 
     // The slot of what the instruction speaks of: of an id, or of a member where the operand after it counts.
     fn slot(&self, instruction: &Instruction, of_member: bool) -> Option<u32> {
-        let id = self.word(instruction.first);
+        self.slot_at(instruction.first, of_member)
+    }
+
+    // The slot of the id that is this word, or of a member where the word after it counts.
+    fn slot_at(&self, word: u32, of_member: bool) -> Option<u32> {
+        let id = self.word(word);
         let place = self.defined.get(id as usize).copied()?.checked_sub(1)? as usize;
         let first = self.slots.get(place).copied()?;
         if !of_member {
             return Some(first);
         }
-        let member = self.word(instruction.first.saturating_add(1));
+        let member = self.word(word.saturating_add(1));
         let slot = first.checked_add(member)?.checked_add(1)?;
         let end = self.slots.get(place.saturating_add(1)).copied()?;
         if slot < end { Some(slot) } else { None }
@@ -276,8 +284,13 @@ impl Said<'_> {
         Ok(names)
     }
 
-    // For each slot the instructions that decorate it.
-    fn find_decorations(&self, alloc: Global, places: &[u32]) -> Result<Groups, AllocError> {
+    // For each slot the instructions that decorate it, itself or by a group.
+    fn find_decorations(
+        &self,
+        alloc: Global,
+        places: &[u32],
+        groups: &[u32],
+    ) -> Result<Groups, SpirvError> {
         let mut pairs = Vec::with_capacity(alloc, places.len())?;
         for place in places {
             if let Some(instruction) = self.instructions.get(*place as usize) {
@@ -287,7 +300,46 @@ impl Said<'_> {
                 }
             }
         }
-        Groups::of_pairs(alloc, self.count(), &pairs)
+        let own = Groups::of_pairs(alloc, self.count(), &pairs)?;
+        if groups.is_empty() {
+            return Ok(own);
+        }
+        for place in groups {
+            if let Some(instruction) = self.instructions.get(*place as usize) {
+                self.add_group(instruction, &own, &mut pairs)?;
+            }
+        }
+        Ok(Groups::of_pairs(alloc, self.count(), &pairs)?)
+    }
+
+    // Adds what a group's decorations say of others.
+    fn add_group(
+        &self,
+        instruction: &Instruction,
+        own: &Groups,
+        pairs: &mut Vec<(u32, u32)>,
+    ) -> Result<(), SpirvError> {
+        let Some(group) = self.slot(instruction, false) else {
+            return Err(instruction.malformed(Malformed::Undefined));
+        };
+        let of_member = instruction.opcode == ops::GROUP_MEMBER_DECORATE;
+        let most = self.words.len().saturating_mul(DECORATIONS_A_WORD);
+        let mut word = instruction.first.saturating_add(1);
+        for _ in instruction.first..instruction.end {
+            if word >= instruction.end {
+                break;
+            }
+            if let Some(slot) = self.slot_at(word, of_member) {
+                for place in own.of(group as usize) {
+                    if pairs.len() >= most {
+                        return Err(instruction.unsupported_by(Feature::LargeGroups));
+                    }
+                    pairs.push((slot, *place))?;
+                }
+            }
+            word = word.saturating_add(if of_member { 2 } else { 1 });
+        }
+        Ok(())
     }
 
     // For each id the instructions that say how its function is executed.

@@ -21,6 +21,8 @@ pub struct Parts {
     pub names: Vec<u32>,
     /// What decorates them.
     pub decorations: Vec<u32>,
+    /// What says that a group's decorations are of others.
+    pub groups: Vec<u32>,
     /// How entry points are executed.
     pub modes: Vec<u32>,
     /// Entry points.
@@ -39,6 +41,7 @@ enum Part {
     Ignored,
     Name,
     Decoration,
+    Group,
     Mode,
     EntryPoint,
     Capability,
@@ -59,10 +62,12 @@ fn part_of(opcode: u16) -> Part {
         | ops::EXTENSION
         | ops::EXT_INST_IMPORT
         | ops::MEMORY_MODEL
+        | ops::DECORATION_GROUP
         | ops::DECORATE_STRING
         | ops::MEMBER_DECORATE_STRING => Part::Ignored,
         ops::NAME | ops::MEMBER_NAME => Part::Name,
         ops::DECORATE | ops::DECORATE_ID | ops::MEMBER_DECORATE => Part::Decoration,
+        ops::GROUP_DECORATE | ops::GROUP_MEMBER_DECORATE => Part::Group,
         ops::EXECUTION_MODE | ops::EXECUTION_MODE_ID => Part::Mode,
         ops::ENTRY_POINT => Part::EntryPoint,
         ops::CAPABILITY => Part::Capability,
@@ -75,6 +80,7 @@ impl Parts {
         Parts {
             names: Vec::new(alloc),
             decorations: Vec::new(alloc),
+            groups: Vec::new(alloc),
             modes: Vec::new(alloc),
             entry_points: Vec::new(alloc),
             capabilities: Vec::new(alloc),
@@ -89,6 +95,7 @@ impl Parts {
             Part::Ignored => {}
             Part::Name => self.names.push(place)?,
             Part::Decoration => self.decorations.push(place)?,
+            Part::Group => self.groups.push(place)?,
             Part::Mode => self.modes.push(place)?,
             Part::EntryPoint => self.entry_points.push(place)?,
             Part::Capability => self.capabilities.push(place)?,

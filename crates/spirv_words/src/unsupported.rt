@@ -123,7 +123,7 @@ pub enum Feature {
     MergeAtBranch,
     /// Control flow: a switch without a merge.
     SwitchWithoutMerge,
-    /// OpSwitch on what is no integer of 32 bits.
+    /// OpSwitch on what is no integer of 16, 32 or 64 bits.
     SwitchSelector,
     /// OpTypeImage of what is no number.
     ImageOfNoNumber,
@@ -145,10 +145,12 @@ pub enum Feature {
     AtomicOfNoNumber,
     /// An id above sixteen times the count of words.
     LargeId,
+    /// More than sixteen decorations for each word, by groups.
+    LargeGroups,
 }
 
 // What they are in words.
-static TEXTS: [(Feature, &str); 68] = [
+static TEXTS: [(Feature, &str); 69] = [
     (
         Feature::ExpressionLimit,
         "more than 64 expressions for each word",
@@ -313,7 +315,7 @@ static TEXTS: [(Feature, &str); 68] = [
     ),
     (
         Feature::SwitchSelector,
-        "OpSwitch on what is no integer of 32 bits",
+        "OpSwitch on what is no integer of 16, 32 or 64 bits",
     ),
     (Feature::ImageOfNoNumber, "OpTypeImage of what is no number"),
     (Feature::ResourceArrays, "an array of arrays of resources"),
@@ -333,6 +335,10 @@ static TEXTS: [(Feature, &str); 68] = [
     (
         Feature::LargeId,
         "an id above sixteen times the count of words",
+    ),
+    (
+        Feature::LargeGroups,
+        "more than sixteen decorations for each word, by groups",
     ),
 ];
 

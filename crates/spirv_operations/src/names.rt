@@ -1,8 +1,8 @@
 // What the ids of a function are, and its pointers.
 
+use crate::builder::{Pointer, Slot};
 use ir_kinds::PredeclaredType;
 use spirv_expressions::Value;
-use spirv_operations::{Pointer, Slot};
 use spirv_types::TypeHandle;
 use spirv_words::SpirvError;
 use std::alloc::Global;

@@ -1,11 +1,14 @@
 // What functions are built over.
 
+use crate::declarations::Declarations;
+use crate::variables::{Variable, Variables};
 use ir_arena::span::Span;
 use ir_flags::{Capabilities, StorageAccess, SubgroupOperationSet};
+use ir_kinds::{Scalar, VectorSize};
 use ir_types::TypeInner;
-use spirv_declarations::{Declarations, Known, Variable};
+use spirv_constants::{Constants, Known};
 use spirv_flow::Use;
-use spirv_types::{ImageShape, MatrixShape, MemberShape, Shape, Stored, TypeHandle};
+use spirv_types::{ImageShape, MatrixShape, MemberShape, Shape, Stored, TypeHandle, Types};
 use spirv_words::SpirvError;
 
 /// What functions are built over: what the module declares.
@@ -34,6 +37,9 @@ pub trait Tables: Drop {
         stored: Stored,
     ) -> Result<TypeHandle, SpirvError>;
 
+    /// The type of a column or a row of a matrix that is an array of scalars.
+    fn packed_line(&mut self, length: VectorSize, scalar: Scalar) -> Result<TypeHandle, SpirvError>;
+
     /// The type of an image that is used and accessed so.
     fn image(
         &mut self,
@@ -46,6 +52,9 @@ pub trait Tables: Drop {
     /// What is known of a constant.
     fn known(&self, id: u32) -> Option<Known>;
 
+    /// The same of a part of a constant.
+    fn known_part(&self, id: u32) -> Option<Known>;
+
     /// The constant at a place among those that one is put together of, which begin at the first; 0 where there is none.
     fn constant_part(&self, first: u32, place: u32) -> u32;
 
@@ -56,7 +65,7 @@ pub trait Tables: Drop {
     fn require(&mut self, capability: Capabilities, operations: SubgroupOperationSet);
 }
 
-impl Tables for Declarations {
+impl<T: Types, C: Constants, V: Variables> Tables for Declarations<T, C, V> {
     fn shape(&self, ty: u32) -> Shape {
         self.types.shape(ty)
     }
@@ -86,6 +95,14 @@ impl Tables for Declarations {
         self.types.stored_matrix(matrix, stored)
     }
 
+    fn packed_line(
+        &mut self,
+        length: VectorSize,
+        scalar: Scalar,
+    ) -> Result<TypeHandle, SpirvError> {
+        self.types.packed_line(length, scalar)
+    }
+
     fn image(
         &mut self,
         image: &ImageShape,
@@ -98,6 +115,10 @@ impl Tables for Declarations {
 
     fn known(&self, id: u32) -> Option<Known> {
         self.constants.known(id)
+    }
+
+    fn known_part(&self, id: u32) -> Option<Known> {
+        self.constants.known_part(id)
     }
 
     fn constant_part(&self, first: u32, place: u32) -> u32 {

@@ -1,7 +1,7 @@
 // Barriers and subgroups (sections 3.52.20 and 3.52.24).
 
-use crate::builder::FunctionBuilder;
-use crate::storage::statement;
+use crate::ballots::of_set;
+use crate::clusters::clustered;
 use ir_blocks::{GatherMode, Statement};
 use ir_flags::{Barrier, Capabilities, SubgroupOperationSet};
 use ir_kinds::{
@@ -13,6 +13,7 @@ use spirv_expressions::{
     Operation, Value, as_kind, binary, need, operand, result_scalar, select, signed, splat,
 };
 use spirv_numbers::ops;
+use spirv_operations::{FunctionBuilder, statement};
 use spirv_types::TypeHandle;
 use spirv_words::Feature;
 
@@ -63,7 +64,7 @@ pub fn barrier<L: FunctionBuilder>(lowering: &mut L, operation: &Operation) {
 }
 
 // Operations over a subgroup, with the sign that their argument gets.
-static COLLECTIVES: [(u16, SubgroupOperation, Option<ScalarKind>); 16] = [
+static COLLECTIVES: [(u16, SubgroupOperation, Option<ScalarKind>); 24] = [
     (ops::GROUP_NON_UNIFORM_I_ADD, SubgroupOperation::Add, None),
     (ops::GROUP_NON_UNIFORM_F_ADD, SubgroupOperation::Add, None),
     (ops::GROUP_NON_UNIFORM_I_MUL, SubgroupOperation::Mul, None),
@@ -120,6 +121,15 @@ static COLLECTIVES: [(u16, SubgroupOperation, Option<ScalarKind>); 16] = [
         SubgroupOperation::Xor,
         None,
     ),
+    // of the extension shader_ballot by AMD
+    (5000, SubgroupOperation::Add, None),
+    (5001, SubgroupOperation::Add, None),
+    (5002, SubgroupOperation::Min, None),
+    (5003, SubgroupOperation::Min, Some(ScalarKind::Uint)),
+    (5004, SubgroupOperation::Min, Some(ScalarKind::Sint)),
+    (5005, SubgroupOperation::Max, None),
+    (5006, SubgroupOperation::Max, Some(ScalarKind::Uint)),
+    (5007, SubgroupOperation::Max, Some(ScalarKind::Sint)),
 ];
 
 // Opcodes of operations that have no scope among their operands (the extensions shader_ballot and subgroup_vote), and two that
@@ -138,6 +148,8 @@ const ANY_KHR: u16 = 4429;
 
 const ALL_EQUAL_KHR: u16 = 4430;
 
+const READ_INVOCATION_KHR: u16 = 4432;
+
 /// Whether it is an operation of a subgroup.
 pub fn is_group(opcode: u16) -> bool {
     matches!(
@@ -148,6 +160,8 @@ pub fn is_group(opcode: u16) -> bool {
             | ALL_KHR
             | ANY_KHR
             | ALL_EQUAL_KHR
+            | READ_INVOCATION_KHR
+            | 5000..=5007
     )
 }
 
@@ -159,6 +173,7 @@ pub fn group<L: FunctionBuilder>(lowering: &mut L, operation: &Operation) {
         ALL_KHR => return vote(lowering, operation, SubgroupOperation::All, 0),
         ANY_KHR => return vote(lowering, operation, SubgroupOperation::Any, 0),
         ALL_EQUAL_KHR => return all_equal(lowering, operation, 0),
+        READ_INVOCATION_KHR => return read_invocation(lowering, operation),
         _ => {}
     }
     let scope = need(lowering, operation, 0);
@@ -178,8 +193,19 @@ pub fn group<L: FunctionBuilder>(lowering: &mut L, operation: &Operation) {
         ops::GROUP_NON_UNIFORM_ALL => vote(lowering, operation, SubgroupOperation::All, 1),
         ops::GROUP_NON_UNIFORM_ANY => vote(lowering, operation, SubgroupOperation::Any, 1),
         ops::GROUP_NON_UNIFORM_BALLOT => ballot(lowering, operation, 1),
-        _ => gather(lowering, operation),
+        _ => match of_set(lowering, operation) {
+            Some(value) => lowering.define(operation, value),
+            None => gather(lowering, operation),
+        },
     }
+}
+
+// The value of the invocation with a number that all have alike.
+fn read_invocation<L: FunctionBuilder>(lowering: &mut L, operation: &Operation) {
+    lowering.require_operations(SubgroupOperationSet::SHUFFLE);
+    let argument = operand(lowering, operation, 0);
+    let index = signed(lowering, operation, 1, ScalarKind::Uint);
+    gather_by(lowering, operation, GatherMode::Shuffle(index), argument);
 }
 
 // Which invocations have a predicate, the operand at this place.
@@ -312,7 +338,7 @@ fn vote_on<L: FunctionBuilder>(
     lowering.define(operation, value)
 }
 
-// An operation over all values of a subgroup, or over those before.
+// An operation over all values of a subgroup, over those before, or over those of a cluster.
 fn collective<L: FunctionBuilder>(
     lowering: &mut L,
     operation: &Operation,
@@ -323,18 +349,17 @@ fn collective<L: FunctionBuilder>(
         0 => CollectiveOperation::Reduce,
         1 => CollectiveOperation::InclusiveScan,
         2 => CollectiveOperation::ExclusiveScan,
+        3 => return over_cluster(lowering, operation, op, sign),
         _ => {
             lowering.fail(operation.unsupported_by(Feature::PartOfSubgroup));
             return;
         }
     };
+    lowering.require_operations(SubgroupOperationSet::ARITHMETIC);
     let to = result_scalar(lowering, operation);
     let kind = sign.unwrap_or(to.kind);
     let argument = signed(lowering, operation, 2, kind);
-    let mut of_kind = to;
-    of_kind.kind = kind;
-    let size = lowering.shape(operation.instruction.ty).size();
-    let ty = lowering.vector(size, of_kind);
+    let ty = typed(lowering, operation, to, kind);
     let value = result_of(lowering, operation, ty);
     let collect = Statement::SubgroupCollectiveOperation {
         op,
@@ -347,6 +372,55 @@ fn collective<L: FunctionBuilder>(
     lowering.define(operation, value)
 }
 
+// The type of the result with scalars of this kind.
+fn typed<L: FunctionBuilder>(
+    lowering: &mut L,
+    operation: &Operation,
+    scalar: Scalar,
+    kind: ScalarKind,
+) -> TypeHandle {
+    let mut of_kind = scalar;
+    of_kind.kind = kind;
+    let size = lowering.shape(operation.instruction.ty).size();
+    lowering.vector(size, of_kind)
+}
+
+// The same over the values of a cluster.
+fn over_cluster<L: FunctionBuilder>(
+    lowering: &mut L,
+    operation: &Operation,
+    op: SubgroupOperation,
+    sign: Option<ScalarKind>,
+) {
+    let to = result_scalar(lowering, operation);
+    if to.kind == ScalarKind::Bool {
+        return truths_over_cluster(lowering, operation, op);
+    }
+    let kind = sign.unwrap_or(to.kind);
+    let argument = signed(lowering, operation, 2, kind);
+    let ty = typed(lowering, operation, to, kind);
+    let value = clustered(lowering, operation, op, argument, ty);
+    let value = as_kind(lowering, operation, value, kind, to.kind);
+    lowering.define(operation, value)
+}
+
+// The same over truth values, as numbers.
+fn truths_over_cluster<L: FunctionBuilder>(
+    lowering: &mut L,
+    operation: &Operation,
+    op: SubgroupOperation,
+) {
+    let size = lowering.shape(operation.instruction.ty).size();
+    let truth = operand(lowering, operation, 2);
+    let argument = numbers_of(lowering, operation, truth, size);
+    let ty = lowering.vector(size, Scalar::U32);
+    let left = clustered(lowering, operation, op, argument, ty);
+    let zero = lowering.literal(Literal::U32(0), operation);
+    let right = splat(lowering, operation, size, zero);
+    let value = binary(lowering, operation, BinaryOperator::NotEqual, left, right);
+    lowering.define(operation, value)
+}
+
 // A value of another invocation.
 fn gather<L: FunctionBuilder>(lowering: &mut L, operation: &Operation) {
     if !is_gather(operation.instruction.opcode) {
@@ -355,6 +429,16 @@ fn gather<L: FunctionBuilder>(lowering: &mut L, operation: &Operation) {
     }
     let argument = operand(lowering, operation, 1);
     let mode = gather_mode(lowering, operation);
+    gather_by(lowering, operation, mode, argument);
+}
+
+// A value of the invocation that is named so.
+fn gather_by<L: FunctionBuilder>(
+    lowering: &mut L,
+    operation: &Operation,
+    mode: GatherMode,
+    argument: Value,
+) {
     let ty = lowering.built(operation.instruction.ty, operation);
     let value = result_of(lowering, operation, ty);
     let gather = Statement::SubgroupGather {
@@ -392,13 +476,27 @@ fn gather_mode<L: FunctionBuilder>(lowering: &mut L, operation: &Operation) -> G
     }
     let index = operand(lowering, operation, 2);
     match opcode {
-        ops::GROUP_NON_UNIFORM_BROADCAST => GatherMode::Broadcast(index),
+        ops::GROUP_NON_UNIFORM_BROADCAST => broadcast_mode(lowering, operation, index),
         ops::GROUP_NON_UNIFORM_SHUFFLE => GatherMode::Shuffle(index),
         ops::GROUP_NON_UNIFORM_SHUFFLE_XOR => GatherMode::ShuffleXor(index),
         ops::GROUP_NON_UNIFORM_SHUFFLE_UP => GatherMode::ShuffleUp(index),
         ops::GROUP_NON_UNIFORM_SHUFFLE_DOWN => GatherMode::ShuffleDown(index),
         _ => GatherMode::QuadBroadcast(index),
     }
+}
+
+// A value that is taken from an invocation that is no constant, and that all have alike, is exchanged.
+fn broadcast_mode<L: FunctionBuilder>(
+    lowering: &mut L,
+    operation: &Operation,
+    index: Value,
+) -> GatherMode {
+    let id = need(lowering, operation, 2);
+    if lowering.is_constant(id) {
+        return GatherMode::Broadcast(index);
+    }
+    lowering.require_operations(SubgroupOperationSet::SHUFFLE);
+    GatherMode::Shuffle(index)
 }
 
 // Along what values of a quad are exchanged.

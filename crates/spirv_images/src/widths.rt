@@ -16,7 +16,7 @@ const S_MUL_EXTENDED: u16 = 152;
 /// What a conversion that keeps the bits is, or a product of two words, if it is one.
 pub fn wide<B: Builder>(builder: &mut B, operation: &Operation) -> Option<Value> {
     let value = match operation.instruction.opcode {
-        ops::BITCAST => bitcast(builder, operation),
+        ops::BITCAST => cast(builder, operation, 0),
         U_MUL_EXTENDED => product(builder, operation, false),
         S_MUL_EXTENDED => product(builder, operation, true),
         _ => return None,
@@ -108,15 +108,15 @@ fn part_at<B: Builder>(
     as_kind(builder, operation, narrow, ScalarKind::Uint, to.kind)
 }
 
-// The bits of an operand as those of another type, of scalars of the same width or of another one.
-fn bitcast<B: Builder>(builder: &mut B, operation: &Operation) -> Value {
+/// The bits of the operand at this place as those of the result's type, of scalars of the same width or of another one.
+pub fn cast<B: Builder>(builder: &mut B, operation: &Operation, place: usize) -> Value {
     let to = result_scalar(builder, operation);
-    let from = operand_scalar(builder, operation, 0);
-    let value = operand(builder, operation, 0);
+    let from = operand_scalar(builder, operation, place);
+    let value = operand(builder, operation, place);
     if from.width == to.width {
         return convert(builder, operation, value, to.kind, None);
     }
-    let shape = operand_shape(builder, operation, 0);
+    let shape = operand_shape(builder, operation, place);
     let components = if from.width < to.width {
         widened(builder, operation, value, &shape, to)
     } else {

@@ -1,19 +1,46 @@
 // Constants and specialization constants (section 3.52.7).
 
-use ir_arena::arena::Arena;
 use ir_arena::handle::Handle;
 use ir_arena::span::Span;
-use ir_items::{Constant, Override};
 use ir_kinds::{Literal, Scalar, ScalarKind};
 use ir_types::{ArraySize, Expression, key};
 use spirv_numbers::ops;
 use spirv_tables::Decorated;
-use spirv_types::{Reading, Shape, TypeHandle, TypeTable, span_of};
+use spirv_types::{Reading, Shape, TypeHandle, TypeTable, Types, span_of};
 use spirv_words::{Feature, Instruction, Listing, Malformed, SpirvError, Unsupported};
 use std::alloc::Global;
 
 /// The handle of an expression, of the module or of a function.
 pub type ExpressionHandle = Handle<key::Expression>;
+
+/// Where the constants of a module are built, and the expressions that they are made of.
+pub trait Constants: Drop {
+    /// A constant.
+    fn constant(
+        &mut self,
+        name: Option<String>,
+        ty: TypeHandle,
+        init: ExpressionHandle,
+        span: Span,
+    ) -> Result<Handle<key::Constant>, SpirvError>;
+
+    /// An override, by its id where it has one.
+    fn overridable(
+        &mut self,
+        name: Option<String>,
+        id: Option<u16>,
+        ty: TypeHandle,
+        init: ExpressionHandle,
+        span: Span,
+    ) -> Result<Handle<key::Override>, SpirvError>;
+
+    /// An expression of the module.
+    fn expression(
+        &mut self,
+        expression: Expression,
+        span: Span,
+    ) -> Result<ExpressionHandle, SpirvError>;
+}
 
 /// What a constant is.
 #[derive(Clone, Copy)]
@@ -44,6 +71,11 @@ pub struct Known {
     pub value: Option<i64>,
     // the expression of the module that it is
     expression: Option<ExpressionHandle>,
+    // the first of its parts and how many there are, where it is put together
+    first: u32,
+    count: u32,
+    // whether it is all zeros
+    null: bool,
 }
 
 const NOTHING: Known = Known {
@@ -51,35 +83,91 @@ const NOTHING: Known = Known {
     ty: 0,
     value: None,
     expression: None,
+    first: 0,
+    count: 0,
+    null: false,
 };
+
+impl Known {
+    // Made so, of this type and value.
+    pub(crate) fn of(made: Made, ty: u32, value: Option<i64>) -> Known {
+        Known {
+            made,
+            ty,
+            value,
+            expression: None,
+            first: 0,
+            count: 0,
+            null: false,
+        }
+    }
+
+    // Put together of these parts, as this expression.
+    pub(crate) fn of_parts(first: u32, parts: &[u32], ty: u32, init: ExpressionHandle) -> Known {
+        let count = u32::try_from(parts.len()).unwrap_or(u32::MAX);
+        Known {
+            made: Made::Parts { first, count },
+            ty,
+            value: None,
+            expression: Some(init),
+            first,
+            count,
+            null: false,
+        }
+    }
+
+    // All zeros.
+    pub(crate) fn null(made: Handle<key::Constant>, ty: u32) -> Known {
+        Known {
+            made: Made::Constant(made),
+            ty,
+            value: Some(0),
+            expression: None,
+            first: 0,
+            count: 0,
+            null: true,
+        }
+    }
+
+    // Whether it is all zeros.
+    pub(crate) fn is_null(&self) -> bool {
+        self.null
+    }
+}
 
 /// The constants of a module: those that are built, and what each id of one is.
 #[derive(Drop)]
-pub struct ConstantTable {
-    /// Constants.
-    pub constants: Arena<Constant, key::Constant>,
-    /// Overrides.
-    pub overrides: Arena<Override, key::Override>,
-    /// The expressions of the module.
-    pub expressions: Arena<Expression, key::Expression>,
+pub struct ConstantTable<C: Constants> {
+    /// Those that are built.
+    pub built: C,
+    // what each id is, and after those what the parts of constants are that have no id
     known: Vec<Known>,
+    bound: usize,
     parts: Vec<u32>,
 }
 
-impl ConstantTable {
-    /// None, with ids below the bound.
-    pub fn new(alloc: Global, bound: usize) -> Result<ConstantTable, SpirvError> {
+impl<C: Constants> ConstantTable<C> {
+    /// None, with ids below the bound, to be built there.
+    pub fn new(alloc: Global, bound: usize, built: C) -> Result<ConstantTable<C>, SpirvError> {
         Ok(ConstantTable {
-            constants: Arena::new(alloc),
-            overrides: Arena::new(alloc),
-            expressions: Arena::new(alloc),
+            built,
             known: vec![in alloc; NOTHING; bound]?,
+            bound,
             parts: Vec::new(alloc),
         })
     }
 
     /// What is known of a constant, if the id is of one.
     pub fn known(&self, id: u32) -> Option<Known> {
+        if (id as usize) < self.bound {
+            self.known_part(id)
+        } else {
+            None
+        }
+    }
+
+    /// The same of a part of a constant, which need not have an id.
+    pub fn known_part(&self, id: u32) -> Option<Known> {
         let known = self.known.get(id as usize).copied()?;
         match known.made {
             Made::Nothing => None,
@@ -126,8 +214,7 @@ impl ConstantTable {
         expression: Expression,
         span: Span,
     ) -> Result<ExpressionHandle, SpirvError> {
-        let handle = self.expressions.append(expression, span)?;
-        Ok(handle)
+        self.built.expression(expression, span)
     }
 
     /// The expression of the module that a constant is.
@@ -136,7 +223,19 @@ impl ConstantTable {
         id: u32,
         instruction: &Instruction,
     ) -> Result<ExpressionHandle, SpirvError> {
-        let Some(known) = self.known(id) else {
+        match self.known(id) {
+            Some(_) => self.part_expression(id, instruction),
+            None => Err(instruction.malformed(Malformed::NoConstant)),
+        }
+    }
+
+    // The same of a part of a constant.
+    pub(crate) fn part_expression(
+        &mut self,
+        id: u32,
+        instruction: &Instruction,
+    ) -> Result<ExpressionHandle, SpirvError> {
+        let Some(known) = self.known_part(id) else {
             return Err(instruction.malformed(Malformed::NoConstant));
         };
         if let Some(handle) = known.expression {
@@ -152,16 +251,50 @@ impl ConstantTable {
         Ok(handle)
     }
 
-    fn set(&mut self, id: u32, known: Known) {
+    // This is known of an id.
+    pub(crate) fn set_known(&mut self, id: u32, known: Known) {
         if let Some(place) = self.known.get_mut(id as usize) {
             *place = known;
         }
     }
 
+    // The place of a constant that has no id, after the ids.
+    pub(crate) fn add_place(&mut self) -> Result<u32, SpirvError> {
+        let place = u32::try_from(self.known.len()).unwrap_or(u32::MAX);
+        self.known.push(NOTHING)?;
+        Ok(place)
+    }
+
+    // Parts that a constant is put together of; answers the place of the first.
+    pub(crate) fn add_parts(&mut self, parts: &[u32]) -> Result<u32, SpirvError> {
+        let first = u32::try_from(self.parts.len()).unwrap_or(u32::MAX);
+        for part in parts {
+            self.parts.push(*part)?;
+        }
+        Ok(first)
+    }
+
+    // A constant is put together of the same parts as another.
+    pub(crate) fn set_parts(&mut self, id: u32, other: &Known) {
+        if let Some(place) = self.known.get_mut(id as usize) {
+            place.first = other.first;
+            place.count = other.count;
+        }
+    }
+
+    // The part of a constant at this index, where it is put together.
+    pub(crate) fn part_at(&self, known: &Known, index: u32) -> Option<u32> {
+        if index < known.count {
+            Some(self.part(known.first, index))
+        } else {
+            None
+        }
+    }
+
     /// An id is the same constant as another.
     pub fn set_same(&mut self, id: u32, other: u32) {
-        if let Some(known) = self.known(other) {
-            self.set(id, known);
+        if let Some(known) = self.known_part(other) {
+            self.set_known(id, known);
         }
     }
 
@@ -177,8 +310,7 @@ impl ConstantTable {
         let said = Decorated::of(reading.listing, instruction.id, None).spec_id;
         let Some(number) = said else {
             let name = reading.listing.name(reading.alloc, instruction.id, None)?;
-            let constant = Constant { name, ty, init };
-            let handle = self.constants.append(constant, span_of(instruction))?;
+            let handle = self.built.constant(name, ty, init, span_of(instruction))?;
             self.set_made(instruction, Made::Constant(handle), value);
             return Ok(());
         };
@@ -199,46 +331,36 @@ impl ConstantTable {
         init: ExpressionHandle,
         value: Option<i64>,
     ) -> Result<(), SpirvError> {
-        let made = Override {
-            name,
-            id,
-            ty,
-            init: Some(init),
-        };
-        let handle = self.overrides.append(made, span_of(instruction))?;
+        let span = span_of(instruction);
+        let handle = self.built.overridable(name, id, ty, init, span)?;
         self.set_made(instruction, Made::Override(handle), value);
         Ok(())
     }
 
     fn set_made(&mut self, instruction: &Instruction, made: Made, value: Option<i64>) {
-        let known = Known {
-            made,
-            ty: instruction.ty,
-            value,
-            expression: None,
-        };
-        self.set(instruction.id, known);
+        self.set_known(instruction.id, Known::of(made, instruction.ty, value));
     }
 
     /// A constant as it is declared, but for those that an operation computes.
-    pub fn declare(
+    pub fn declare<T: Types>(
         &mut self,
         reading: &Reading,
-        types: &TypeTable,
+        types: &TypeTable<T>,
         instruction: &Instruction,
     ) -> Result<(), SpirvError> {
         let ty = types.need(instruction.ty, instruction)?;
         let shape = types.shape(instruction.ty);
         match instruction.opcode {
             ops::CONSTANT_COMPOSITE | ops::SPEC_CONSTANT_COMPOSITE => {
-                return self.declare_composite(reading, instruction, ty);
+                let parts = reading.listing.operands(instruction);
+                self.need_all(instruction, parts)?;
+                return self.put_composite(reading, instruction, ty, parts);
             }
             ops::CONSTANT_NULL | ops::UNDEF => {
                 if shape.is_handle() || matches!(shape, Shape::Pointer { .. }) {
                     return Err(instruction.unsupported());
                 }
-                let init = self.add(Expression::ZeroValue(ty), span_of(instruction))?;
-                return self.put(reading, instruction, ty, init, Some(0));
+                return self.declare_null(reading, instruction, ty);
             }
             _ => {}
         }
@@ -247,37 +369,40 @@ impl ConstantTable {
         self.put(reading, instruction, ty, init, value_of(literal))
     }
 
-    // A composite, put together where all its parts are constants, else kept as its parts.
-    fn declare_composite(
+    // All zeros.
+    fn declare_null(
         &mut self,
         reading: &Reading,
         instruction: &Instruction,
         ty: TypeHandle,
     ) -> Result<(), SpirvError> {
-        let mut components = Vec::new(reading.alloc);
-        let mut constant = true;
-        let first = u32::try_from(self.parts.len()).unwrap_or(u32::MAX);
-        for part in reading.listing.operands(instruction) {
-            components.push(self.expression(*part, instruction)?)?;
-            let made = self.known(*part).map(|known| known.made);
-            constant &= matches!(made, Some(Made::Constant(_)));
+        let init = self.add(Expression::ZeroValue(ty), span_of(instruction))?;
+        self.put(reading, instruction, ty, init, Some(0))?;
+        if let Some(place) = self.known.get_mut(instruction.id as usize) {
+            place.null = true;
         }
-        let count = u32::try_from(components.len()).unwrap_or(u32::MAX);
-        let init = self.add(Expression::Compose { ty, components }, span_of(instruction))?;
-        if constant {
-            return self.put(reading, instruction, ty, init, None);
-        }
-        for part in reading.listing.operands(instruction) {
-            self.parts.push(*part)?;
-        }
-        let known = Known {
-            made: Made::Parts { first, count },
-            ty: instruction.ty,
-            value: None,
-            expression: Some(init),
-        };
-        self.set(instruction.id, known);
         Ok(())
+    }
+
+    // All these have to be constants.
+    fn need_all(&self, instruction: &Instruction, ids: &[u32]) -> Result<(), SpirvError> {
+        for id in ids {
+            if self.known(*id).is_none() {
+                return Err(instruction.malformed(Malformed::NoConstant));
+            }
+        }
+        Ok(())
+    }
+
+    /// The expressions of the module that these constants are.
+    pub fn expressions_of(
+        &mut self,
+        alloc: Global,
+        ids: &[u32],
+        instruction: &Instruction,
+    ) -> Result<Vec<ExpressionHandle>, SpirvError> {
+        self.need_all(instruction, ids)?;
+        self.expressions_of_parts(alloc, ids, instruction)
     }
 }
 
@@ -339,8 +464,8 @@ pub fn literal(scalar: Scalar, bits: u64) -> Option<Literal> {
     }
 }
 
-// The value of a literal that is a whole number or a truth value.
-fn value_of(literal: Literal) -> Option<i64> {
+/// The value of a literal that is a whole number or a truth value.
+pub(crate) fn value_of(literal: Literal) -> Option<i64> {
     match literal {
         Literal::I16(value) => Some(i64::from(value)),
         Literal::I32(value) => Some(i64::from(value)),

@@ -1,0 +1,89 @@
+// Words that are computed where no instruction is.
+
+use crate::writing::{Writing, keep_in};
+use ir_arena::span::Span;
+use ir_items::Expression;
+use ir_kinds::{BinaryOperator, Literal, VectorSize};
+use spirv_expressions::Value;
+use spirv_types::TypeHandle;
+use std::alloc::Global;
+
+/// Words that are computed with this span.
+#[derive(Clone, Copy)]
+pub struct Words {
+    /// The allocator.
+    pub alloc: Global,
+    /// The span.
+    pub span: Span,
+}
+
+impl Words {
+    /// A word.
+    pub fn word<W: Writing>(&self, body: &mut W, word: u32) -> Value {
+        body.place(Expression::Literal(Literal::U32(word)), self.span)
+    }
+
+    /// An operator of two values.
+    pub fn binary<W: Writing>(
+        &self,
+        body: &mut W,
+        op: BinaryOperator,
+        left: Value,
+        right: Value,
+    ) -> Value {
+        body.emit(Expression::Binary { op, left, right }, self.span)
+    }
+
+    // Four times the same word.
+    fn four<W: Writing>(&self, body: &mut W, value: Value) -> Value {
+        let size = VectorSize::Quad;
+        body.emit(Expression::Splat { size, value }, self.span)
+    }
+
+    fn select<W: Writing>(
+        &self,
+        body: &mut W,
+        condition: Value,
+        accept: Value,
+        reject: Value,
+    ) -> Value {
+        let select = Expression::Select {
+            condition,
+            accept,
+            reject,
+        };
+        body.emit(select, self.span)
+    }
+
+    // The words 0, 1, 2 and 3.
+    fn indices<W: Writing>(&self, body: &mut W, ty: TypeHandle) -> Value {
+        let mut components = Vec::new(self.alloc);
+        for index in 0..4u32 {
+            let part = self.word(body, index);
+            keep_in(body, &mut components, part);
+        }
+        body.emit(Expression::Compose { ty, components }, self.span)
+    }
+
+    /// The mask of all invocations below one, four words of this type: the words before that of its bit are full, and of that one the bits below.
+    pub fn below<W: Writing>(&self, body: &mut W, ty: TypeHandle, at: Value) -> Value {
+        let five = self.word(body, 5);
+        let last = self.word(body, 31);
+        let one = self.word(body, 1);
+        let zero = self.word(body, 0);
+        let full = self.word(body, u32::MAX);
+        let indices = self.indices(body, ty);
+        let index = self.binary(body, BinaryOperator::ShiftRight, at, five);
+        let place = self.binary(body, BinaryOperator::And, at, last);
+        let bit = self.binary(body, BinaryOperator::ShiftLeft, one, place);
+        let lower = self.binary(body, BinaryOperator::Subtract, bit, one);
+        let index = self.four(body, index);
+        let lower = self.four(body, lower);
+        let none = self.four(body, zero);
+        let all = self.four(body, full);
+        let here = self.binary(body, BinaryOperator::Equal, index, indices);
+        let rest = self.select(body, here, lower, none);
+        let before = self.binary(body, BinaryOperator::Greater, index, indices);
+        self.select(body, before, all, rest)
+    }
+}

@@ -1,0 +1,144 @@
+// Where the types, constants and variables of a module are built: its arenas.
+
+use crate::variables::{GlobalHandle, Variables};
+use ir_arena::arena::Arena;
+use ir_arena::handle::Handle;
+use ir_arena::span::Span;
+use ir_items::{Constant, GlobalVariable, Override};
+use ir_sets::keyed::KeyedState;
+use ir_sets::unique_arena::UniqueArena;
+use ir_types::{Expression, IrType, TypeInner, key};
+use spirv_constants::{Constants, ExpressionHandle};
+use spirv_types::{TypeHandle, Types};
+use spirv_words::SpirvError;
+use std::alloc::Global;
+
+/// The types of a module.
+#[derive(Drop)]
+pub struct BuiltTypes {
+    /// The types.
+    pub arena: UniqueArena<IrType, key::IrType>,
+}
+
+impl BuiltTypes {
+    /// None. Hashers of the types know the key.
+    pub fn new(alloc: Global, key: KeyedState) -> BuiltTypes {
+        BuiltTypes {
+            arena: UniqueArena::with_hasher(alloc, key),
+        }
+    }
+}
+
+impl Types for BuiltTypes {
+    fn insert(&mut self, ty: IrType, span: Span) -> Result<TypeHandle, SpirvError> {
+        match self.arena.insert(ty, span) {
+            Ok(handle) => Ok(handle),
+            Err(_) => Err(SpirvError::Memory),
+        }
+    }
+
+    fn inner(&self, ty: TypeHandle) -> Option<&TypeInner> {
+        match self.arena.get_handle(ty) {
+            Ok(built) => Some(&built.inner),
+            Err(_) => None,
+        }
+    }
+
+    fn copy(&self, alloc: Global, ty: TypeHandle) -> Result<Option<IrType>, SpirvError> {
+        let Ok(built) = self.arena.get_handle(ty) else {
+            return Ok(None);
+        };
+        match built.clone(alloc) {
+            Ok(copy) => Ok(Some(copy)),
+            Err(_) => Err(SpirvError::Memory),
+        }
+    }
+}
+
+/// The constants of a module, with the expressions that they are made of.
+#[derive(Drop)]
+pub struct BuiltConstants {
+    /// Constants.
+    pub constants: Arena<Constant, key::Constant>,
+    /// Overrides.
+    pub overrides: Arena<Override, key::Override>,
+    /// The expressions of the module.
+    pub expressions: Arena<Expression, key::Expression>,
+}
+
+impl BuiltConstants {
+    /// None.
+    pub fn new(alloc: Global) -> BuiltConstants {
+        BuiltConstants {
+            constants: Arena::new(alloc),
+            overrides: Arena::new(alloc),
+            expressions: Arena::new(alloc),
+        }
+    }
+}
+
+impl Constants for BuiltConstants {
+    fn constant(
+        &mut self,
+        name: Option<String>,
+        ty: TypeHandle,
+        init: ExpressionHandle,
+        span: Span,
+    ) -> Result<Handle<key::Constant>, SpirvError> {
+        match self.constants.append(Constant { name, ty, init }, span) {
+            Ok(handle) => Ok(handle),
+            Err(_) => Err(SpirvError::Memory),
+        }
+    }
+
+    fn overridable(
+        &mut self,
+        name: Option<String>,
+        id: Option<u16>,
+        ty: TypeHandle,
+        init: ExpressionHandle,
+        span: Span,
+    ) -> Result<Handle<key::Override>, SpirvError> {
+        let init = Some(init);
+        match self.overrides.append(Override { name, id, ty, init }, span) {
+            Ok(handle) => Ok(handle),
+            Err(_) => Err(SpirvError::Memory),
+        }
+    }
+
+    fn expression(
+        &mut self,
+        expression: Expression,
+        span: Span,
+    ) -> Result<ExpressionHandle, SpirvError> {
+        match self.expressions.append(expression, span) {
+            Ok(handle) => Ok(handle),
+            Err(_) => Err(SpirvError::Memory),
+        }
+    }
+}
+
+/// The global variables of a module.
+#[derive(Drop)]
+pub struct BuiltVariables {
+    /// The variables.
+    pub arena: Arena<GlobalVariable, key::GlobalVariable>,
+}
+
+impl BuiltVariables {
+    /// None.
+    pub fn new(alloc: Global) -> BuiltVariables {
+        BuiltVariables {
+            arena: Arena::new(alloc),
+        }
+    }
+}
+
+impl Variables for BuiltVariables {
+    fn add(&mut self, variable: GlobalVariable, span: Span) -> Result<GlobalHandle, SpirvError> {
+        match self.arena.append(variable, span) {
+            Ok(handle) => Ok(handle),
+            Err(_) => Err(SpirvError::Memory),
+        }
+    }
+}

@@ -1,0 +1,100 @@
+// Instructions of extended sets.
+
+use crate::assembly::Source;
+use ir_flags::Capabilities;
+use ir_kinds::{MathFunction, ScalarKind};
+use spirv_expressions::{Operation, Value, as_kind, call, math, need, result_scalar, signed};
+use spirv_flow::is_debug;
+use spirv_images::cast;
+use spirv_operations::{FunctionBuilder, split};
+use spirv_words::{Feature, Instruction, starts_text};
+
+// Doubles out of two words, and the other way.
+const PACK_DOUBLE_2X32: u32 = 59;
+
+const UNPACK_DOUBLE_2X32: u32 = 65;
+
+/// Does an instruction of an extended set.
+pub fn extended<L: FunctionBuilder>(source: Source, lowering: &mut L, operation: &Operation) {
+    if is_debug(source.listing, &operation.instruction) {
+        return;
+    }
+    let set = need(lowering, operation, 0);
+    let import = source.listing.definition(set).unwrap_or(Instruction::NONE);
+    let name = source.listing.operands(&import);
+    let number = need(lowering, operation, 1);
+    let value = if starts_text(name, "GLSL.std.450", true) {
+        function(lowering, operation, number)
+    } else if starts_text(name, "SPV_AMD_shader_trinary_minmax", true) {
+        trinary(lowering, operation, number)
+    } else {
+        None
+    };
+    match value {
+        Some(value) => lowering.define(operation, value),
+        None => lowering.fail(operation.unsupported_by(Feature::InstructionSet)),
+    }
+}
+
+// The value of a function of GLSL.std.450.
+fn function<L: FunctionBuilder>(
+    lowering: &mut L,
+    operation: &Operation,
+    number: u32,
+) -> Option<Value> {
+    if number == PACK_DOUBLE_2X32 || number == UNPACK_DOUBLE_2X32 {
+        // the words are put together as one number
+        lowering.require(Capabilities::SHADER_INT64);
+        return Some(cast(lowering, operation, 2));
+    }
+    match split(lowering, operation, number) {
+        Some(value) => Some(value),
+        None => Some(math(lowering, operation, number)),
+    }
+}
+
+// The least, the greatest or the middle one of three numbers: those of each kind follow each other as floats, unsigned and
+// signed.
+fn trinary<L: FunctionBuilder>(
+    lowering: &mut L,
+    operation: &Operation,
+    number: u32,
+) -> Option<Value> {
+    let kind = match number.checked_rem(3) {
+        Some(1) => ScalarKind::Float,
+        Some(2) => ScalarKind::Uint,
+        _ => ScalarKind::Sint,
+    };
+    let x = signed(lowering, operation, 2, kind);
+    let y = signed(lowering, operation, 3, kind);
+    let z = signed(lowering, operation, 4, kind);
+    let value = match number {
+        1..=3 => {
+            let least = of_two(lowering, operation, MathFunction::Min, x, y);
+            of_two(lowering, operation, MathFunction::Min, least, z)
+        }
+        4..=6 => {
+            let most = of_two(lowering, operation, MathFunction::Max, x, y);
+            of_two(lowering, operation, MathFunction::Max, most, z)
+        }
+        7..=9 => {
+            let least = of_two(lowering, operation, MathFunction::Min, x, y);
+            let most = of_two(lowering, operation, MathFunction::Max, x, y);
+            let rest = of_two(lowering, operation, MathFunction::Min, most, z);
+            of_two(lowering, operation, MathFunction::Max, least, rest)
+        }
+        _ => return None,
+    };
+    let to = result_scalar(lowering, operation).kind;
+    Some(as_kind(lowering, operation, value, kind, to))
+}
+
+fn of_two<L: FunctionBuilder>(
+    lowering: &mut L,
+    operation: &Operation,
+    fun: MathFunction,
+    left: Value,
+    right: Value,
+) -> Value {
+    call(lowering, operation, fun, left, [Some(right), None, None])
+}

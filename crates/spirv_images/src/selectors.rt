@@ -1,0 +1,54 @@
+// On what switches choose, which is a word in the IR.
+
+use ir_kinds::{BinaryOperator, Literal, Scalar, ScalarKind};
+use spirv_expressions::{Builder, Operation, Value, binary, convert, operand_scalar, select};
+
+/// The selector of a switch out of its value, and whether its cases are signed.
+pub fn selector_of<B: Builder>(
+    builder: &mut B,
+    operation: &Operation,
+    value: Value,
+) -> (Value, bool) {
+    let scalar = operand_scalar(builder, operation, 0);
+    let is_signed = scalar.kind == ScalarKind::Sint;
+    match scalar.width {
+        4 => (value, is_signed),
+        8 => (place_of(builder, operation, value, scalar), false),
+        _ => (
+            convert(builder, operation, value, scalar.kind, Some(4)),
+            is_signed,
+        ),
+    }
+}
+
+// The place of a value of two words among those of the cases, and one that none has where it is none of them.
+fn place_of<B: Builder>(
+    builder: &mut B,
+    operation: &Operation,
+    value: Value,
+    scalar: Scalar,
+) -> Value {
+    let mut chosen = builder.literal(Literal::U32(u32::MAX), operation);
+    let mut place = 0u32;
+    for words in operation.operands.get(2..).unwrap_or(&[]).chunks_exact(3) {
+        let literal = literal_of(words, scalar);
+        let right = builder.literal(literal, operation);
+        let accept = builder.literal(Literal::U32(place), operation);
+        let equal = binary(builder, operation, BinaryOperator::Equal, value, right);
+        chosen = select(builder, operation, equal, accept, chosen);
+        place = place.saturating_add(1);
+    }
+    chosen
+}
+
+// A value of two words, the lower one first.
+fn literal_of(words: &[u32], scalar: Scalar) -> Literal {
+    let low = u64::from(words.first().copied().unwrap_or(0));
+    let high = u64::from(words.get(1).copied().unwrap_or(0));
+    let bits = high << 32 | low;
+    if scalar.kind == ScalarKind::Sint {
+        Literal::I64(bits.cast_signed())
+    } else {
+        Literal::U64(bits)
+    }
+}

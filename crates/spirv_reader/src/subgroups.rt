@@ -1,0 +1,165 @@
+// What entry points compute for functions: of the number of an invocation in its subgroup and of the subgroup's size, and of the
+// place of a fragment.
+
+use crate::interface::Interface;
+use ir_arena::span::Span;
+use ir_items::{Expression, FunctionArgument, Statement, TypeInner};
+use ir_kinds::{
+    BinaryOperator, Binding, BuiltIn, Scalar, ScalarKind, SwizzleComponent, VectorSize,
+};
+use spirv_bodies::{Words, Writing, keep_in, type_in};
+use spirv_declarations::Variable;
+use spirv_expressions::Value;
+use spirv_tables::SubgroupMask;
+
+/// What is computed by an entry point.
+#[derive(Clone, Copy)]
+pub struct Subgroups {
+    /// What words are computed with.
+    pub words: Words,
+}
+
+// What a built-in is taken as: the position as four floats, the numbers of a subgroup as words.
+fn inner_of(built_in: BuiltIn) -> TypeInner {
+    match built_in {
+        BuiltIn::Position { .. } => TypeInner::Vector {
+            size: VectorSize::Quad,
+            scalar: Scalar::F32,
+        },
+        _ => TypeInner::Scalar(Scalar::U32),
+    }
+}
+
+// The place of the argument with a built-in, if there is one.
+fn place_of(arguments: &[FunctionArgument], built_in: BuiltIn) -> Option<u32> {
+    let mut place = 0u32;
+    for argument in arguments {
+        if is_bound(argument, built_in) {
+            return Some(place);
+        }
+        place = place.saturating_add(1);
+    }
+    None
+}
+
+// Whether an argument has a built-in; the position is one, computed alike everywhere or not.
+fn is_bound(argument: &FunctionArgument, built_in: BuiltIn) -> bool {
+    match argument.binding {
+        Some(Binding::BuiltIn(BuiltIn::Position { .. })) => {
+            matches!(built_in, BuiltIn::Position { .. })
+        }
+        Some(Binding::BuiltIn(other)) => other == built_in,
+        _ => false,
+    }
+}
+
+impl Subgroups {
+    // The argument with a built-in, which is taken where none is.
+    fn argument<I: Interface, W: Writing>(
+        &self,
+        declared: &mut I,
+        body: &mut W,
+        arguments: &mut Vec<FunctionArgument>,
+        built_in: BuiltIn,
+    ) -> Value {
+        let place = match place_of(arguments, built_in) {
+            Some(place) => place,
+            None => {
+                let place = u32::try_from(arguments.len()).unwrap_or(u32::MAX);
+                let made = declared.insert(inner_of(built_in), Span::UNDEFINED);
+                let argument = FunctionArgument {
+                    name: None,
+                    ty: type_in(body, made),
+                    binding: Some(Binding::BuiltIn(built_in)),
+                };
+                keep_in(body, arguments, argument);
+                place
+            }
+        };
+        body.place(Expression::FunctionArgument(place), self.words.span)
+    }
+
+    // What is stored into a variable.
+    fn store<W: Writing>(&self, body: &mut W, variable: &Variable, value: Value) {
+        let pointer = body.place(Expression::GlobalVariable(variable.handle), self.words.span);
+        body.statement(Statement::Store { pointer, value }, self.words.span);
+    }
+
+    /// Stores a mask into its variable: the invocations below the end of it that are not below its beginning.
+    pub fn store_mask<I: Interface, W: Writing>(
+        &self,
+        declared: &mut I,
+        body: &mut W,
+        arguments: &mut Vec<FunctionArgument>,
+        variable: &Variable,
+        mask: SubgroupMask,
+    ) {
+        let ty = variable.built;
+        let here = self.argument(declared, body, arguments, BuiltIn::SubgroupInvocationId);
+        let one = self.words.word(body, 1);
+        let next = self.words.binary(body, BinaryOperator::Add, here, one);
+        let end = match mask {
+            SubgroupMask::Equal | SubgroupMask::LessEqual => next,
+            SubgroupMask::Less => here,
+            SubgroupMask::GreaterEqual | SubgroupMask::Greater => {
+                self.argument(declared, body, arguments, BuiltIn::SubgroupSize)
+            }
+        };
+        let lower = self.words.below(body, ty, end);
+        let begin = match mask {
+            SubgroupMask::Equal | SubgroupMask::GreaterEqual => here,
+            SubgroupMask::Greater => next,
+            SubgroupMask::LessEqual | SubgroupMask::Less => {
+                return self.store(body, variable, lower);
+            }
+        };
+        let before = self.words.below(body, ty, begin);
+        let value = self
+            .words
+            .binary(body, BinaryOperator::ExclusiveOr, lower, before);
+        self.store(body, variable, value);
+    }
+
+    /// Stores the number of the invocation and the subgroup's size into their variable.
+    pub fn store_numbers<I: Interface, W: Writing>(
+        &self,
+        declared: &mut I,
+        body: &mut W,
+        arguments: &mut Vec<FunctionArgument>,
+        variable: &Variable,
+    ) {
+        let here = self.argument(declared, body, arguments, BuiltIn::SubgroupInvocationId);
+        let size = self.argument(declared, body, arguments, BuiltIn::SubgroupSize);
+        let mut components = Vec::new(self.words.alloc);
+        keep_in(body, &mut components, here);
+        keep_in(body, &mut components, size);
+        let ty = variable.built;
+        let value = body.emit(Expression::Compose { ty, components }, self.words.span);
+        self.store(body, variable, value);
+    }
+
+    /// Stores the place of the fragment into its variable.
+    pub fn store_place<I: Interface, W: Writing>(
+        &self,
+        declared: &mut I,
+        body: &mut W,
+        arguments: &mut Vec<FunctionArgument>,
+        variable: &Variable,
+    ) {
+        let position = BuiltIn::Position { invariant: false };
+        let vector = self.argument(declared, body, arguments, position);
+        let swizzle = Expression::Swizzle {
+            size: VectorSize::Bi,
+            vector,
+            pattern: SwizzleComponent::XYZW,
+        };
+        let expr = body.emit(swizzle, self.words.span);
+        let whole = Expression::As {
+            expr,
+            kind: ScalarKind::Uint,
+            convert: Some(4),
+        };
+        let value = body.emit(whole, self.words.span);
+        self.store(body, variable, value);
+    }
+}
