@@ -1,3 +1,4 @@
 pub mod AnsweredLaws
 pub mod ExplainedLaws
 pub mod Soundness
+pub mod ObjectLaws

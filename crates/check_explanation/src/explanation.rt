@@ -1,6 +1,10 @@
 // What is found of a document, and where that shows.
-ghost use Rattle.std.specs.Prelude.{◌≡◌, ◌≢◌, ◌++◌, IfOk, string_bytes};
+ghost use Rattle.std.specs.Prelude.{◌≡◌, ◌≢◌, ◌++◌, IfOk, codes, string_bytes};
+ghost use Rattle.serde_json.specs.Data.{string};
+ghost use Rattle.serde_json.specs.View.{view};
 ghost use Rattle.check_explanation.specs.Explained.{IsMisread, IsRefusedAt, finding_of};
+ghost use Rattle.check_explanation.specs.Objects.{IsObjectText, SaysVerdict, verdict_word};
+ghost use Rattle.check_faults.specs.Objects.{Has};
 ghost use Rattle.judgement.specs.Text.{text_of};
 ghost use Rattle.check_explanation.specs.Listed.{CanReport, CanReportIn, Follows, FollowsIn, FollowsOn, IsAccepted, ListsAsRequested, lines_of};
 ghost use Rattle.document_reader.specs.View.{document_view};
@@ -11,7 +15,7 @@ ghost use Rattle.shader_check.specs.Theorem.{Judged, JudgedDocument};
 
 use crate::refused::{RefusedItem, refused_item, value_of};
 use crate::types::type_texts;
-use check_json::{Refused, accepted_value, no_document_value, refused_value};
+use check_faults::{Refused, accepted_value, no_document_value, refused_value};
 use check_reasons::{PathNames, Slip, hint};
 use check_report::{leaf_report, report};
 use document_forms::Place;
@@ -254,8 +258,20 @@ impl Display for Misformed<'_> {
     }
 }
 
+// The word for what is found.
+fn verdict_word(finding: Finding) -> &'static str
+    ensures { result.now ≡ verdict_word finding }
+{
+    match finding {
+        Finding::Accepted { .. } => "accepted",
+        Finding::RefusedDocument | Finding::RefusedHandles | Finding::Refused(..) => "refused",
+    }
+}
+
 // The object of bytes that spell no document.
-fn no_document(alloc: Global, error: &DocumentError, hint: &str) -> Result<Value, AllocError> {
+fn no_document(alloc: Global, error: &DocumentError, hint: &str) -> Result<Value, AllocError>
+    ensures { IfOk result (λ v. Has (view v) (codes "verdict") (string (codes "refused"))) }
+{
     let text = format!(in alloc; "{}", Misformed(error, hint))?;
     let steps = steps_of(error);
     let path = format!(in alloc; "{}", PathNames(steps))?;
@@ -263,7 +279,9 @@ fn no_document(alloc: Global, error: &DocumentError, hint: &str) -> Result<Value
 }
 
 // The object of a refused item.
-fn refused_object(alloc: Global, item: &RefusedItem) -> Result<Value, AllocError> {
+fn refused_object(alloc: Global, verdict: &str, item: &RefusedItem) -> Result<Value, AllocError>
+    ensures { IfOk result (λ v. Has (view v) (codes "verdict") (string verdict.now)) }
+{
     let steps: &[u32] = &item.path;
     let path = format!(in alloc; "{}", PathNames(steps))?;
     let name = match &item.name {
@@ -271,6 +289,7 @@ fn refused_object(alloc: Global, item: &RefusedItem) -> Result<Value, AllocError
         None => None,
     };
     let refused = Refused {
+        verdict,
         step: item.step,
         index: item.index,
         name,
@@ -306,17 +325,27 @@ impl Explanation {
     }
 
     /// A JSON object with all of it. The error is out of memory.
-    pub fn value(&self, alloc: Global) -> Result<Value, AllocError> {
+    pub fn value(&self, alloc: Global) -> Result<Value, AllocError>
+        ensures { IfOk result (λ v. SaysVerdict (finding_of self.now) (view v)) }
+    {
         match self {
             Explanation::NoDocument(error, hint) => no_document(alloc, error, hint),
             Explanation::Accepted { strict, lines } => accepted_value(alloc, *strict, lines),
-            Explanation::Refused(_, item) => refused_object(alloc, item),
+            Explanation::Refused(error, item) => {
+                refused_object(alloc, verdict_word(refused_by(error)), item)
+            }
         }
     }
 
     /// The object in one line without its end. The error is out of memory.
-    pub fn json(&self, alloc: Global) -> Result<String, AllocError> {
-        self.value(alloc)?.to_string(alloc)
+    #[tactic(auto, using(crate::proofs::ObjectLaws::object_text))]
+    pub fn json(&self, alloc: Global) -> Result<String, AllocError>
+        ensures { IfOk result (λ s. IsObjectText (finding_of self.now) (string_bytes s)) }
+    {
+        match self.value(alloc) {
+            Ok(value) => value.to_string(alloc),
+            Err(error) => Err(error),
+        }
     }
 
     /// The error by its name, with all that it holds, of a document that a step refuses.

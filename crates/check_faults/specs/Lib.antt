@@ -2,3 +2,4 @@ pub mod Parts
 pub mod Tables
 pub mod Names
 pub mod Paths
+pub mod Objects

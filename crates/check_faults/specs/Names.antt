@@ -1,5 +1,5 @@
 -- The name that an error begins with.
-use Rattle.std.specs.Prelude.{ℕ, zero, suc, List, [], ◌∷◌, ◌||◌, ◌==◌, Bool, if◌then◌else◌, take}
+use Rattle.std.specs.Prelude.{ℕ, suc, List, [], ◌∷◌, ◌||◌, ◌==◌, Bool, if◌then◌else◌, take}
 use Rattle.std.specs.Char.{is_ascii_alphanumeric}
 
 -- a letter, a digit or `_`

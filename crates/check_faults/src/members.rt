@@ -4,32 +4,29 @@ use crate::document::{along, at, number_at, parts, word_at};
 use crate::error_text::{field, handle, name_of, number, part};
 use serde_json::Value;
 
-// Whether a member of a struct is the one that a varying's error speaks of.
-fn is_member(member: &Value, error: &[u8]) -> bool {
-    let binding = word_at(member, 2);
-    let found = at(member, 2);
-    let location = match found {
-        Some(binding) => number_at(binding, 1),
-        None => None,
-    };
+// Whether what a member is bound by, with the word that it begins with, is what a varying's error speaks of.
+fn is_bound_so(word: &str, binding: &Value, member: &Value, error: &[u8]) -> bool {
     match name_of(error) {
-        "MissingInterpolation" => {
-            binding == "Location" && found.map(|b| word_at(b, 2)) == Some("")
-        }
-        "InvalidInterpolationForInteger" => {
-            binding == "Location" && found.map(|b| word_at(b, 2)) != Some("Flat")
-        }
+        "MissingInterpolation" => word == "Location" && word_at(binding, 2).is_empty(),
+        "InvalidInterpolationForInteger" => word == "Location" && word_at(binding, 2) != "Flat",
         "InvalidBuiltInStage" | "InvalidBuiltInType" | "DuplicateBuiltIn" => {
-            binding == "BuiltIn" && found.map(|b| word_at(b, 1)) == Some(name_of(part(error, 0)))
+            word == "BuiltIn" && word_at(binding, 1) == name_of(part(error, 0))
         }
         "NotIOShareableType" | "InvalidType" => {
-            binding == "Location" && number_at(member, 1) == handle(part(error, 0))
+            word == "Location" && number_at(member, 1) == handle(part(error, 0))
         }
         _ => {
-            binding == "Location"
-                && location.is_some()
-                && location == number(field(error, "location"))
+            let location = number_at(binding, 1);
+            word == "Location" && location.is_some() && location == number(field(error, "location"))
         }
+    }
+}
+
+// Whether a member of a struct is the one that a varying's error speaks of.
+fn is_member(member: &Value, error: &[u8]) -> bool {
+    match at(member, 2) {
+        Some(binding) => is_bound_so(word_at(member, 2), binding, member, error),
+        None => false,
     }
 }
 

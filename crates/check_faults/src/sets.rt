@@ -170,7 +170,7 @@ fn set_of_kinds(path: &[u32]) -> &'static str {
 
 // The set of a part of an array that begins with this word.
 fn set_in(word: &str, index: usize) -> &'static str {
-    for place in PLACES {
+    for place in &PLACES {
         if place.0 == word && place.1 == index {
             return place.2;
         }

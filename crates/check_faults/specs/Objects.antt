@@ -1,5 +1,5 @@
 -- What stands in the object of what is found.
-use Rattle.std.specs.Prelude.{ℕ, List, [], ◌∷◌, ◌≡◌, Option, Some, None, codes, map}
+use Rattle.std.specs.Prelude.{ℕ, List, ◌≡◌, Option, Some, None, map}
 use Rattle.serde_json.specs.Data.{Data, null, number, string, array, unsigned}
 use Rattle.serde_json.specs.Find.{get}
 use Rattle.serde_json.specs.View.{items_of}

@@ -1,19 +1,21 @@
 // One object for what is found of a document.
 
-ghost use Rattle.std.specs.Prelude.{◌≡◌, IfOk, codes, option_map};
-ghost use Rattle.serde_json.specs.Data.{boolean, string};
-ghost use Rattle.serde_json.specs.View.{view};
-ghost use Rattle.check_json.specs.Objects.{Has, number_or_null as number_data, steps as steps_data, text_or_null as text_data};
+ghost use Rattle.std.specs.Prelude.{◌≡◌, IfOk, OnOk, codes, option_map};
+ghost use Rattle.serde_json.specs.Data.{boolean, put as with_member, string};
+ghost use Rattle.serde_json.specs.View.{members_view, view};
+ghost use Rattle.check_faults.specs.Objects.{Has, number_or_null as number_data, steps as steps_data, text_or_null as text_data};
 
-use crate::error::fields_value;
+use crate::error_text::name_of;
+use crate::fields::fields_value;
 use crate::report::report_lists;
-use check_faults::error_text::name_of;
-use serde_json::{Value, json, push};
+use serde_json::{Map, Value, push, put};
 use std::alloc::{AllocError, Global};
 
 /// A refusal of a document that is read.
 #[derive(Clone, Copy)]
 pub struct Refused<'a> {
+    /// The word for what is found.
+    pub verdict: &'a str,
     /// The word of the step.
     pub step: &'a str,
     /// The index of the item, where the step names one.
@@ -58,9 +60,41 @@ fn steps_value(alloc: Global, steps: &[u32]) -> Result<Value, AllocError>
     Ok(Value::Array(list))
 }
 
+// Puts a text at a key of an object.
+fn put_text(
+    map: &mut Map<String, Value>,
+    alloc: Global,
+    key: &str,
+    text: &str,
+) -> Result<(), AllocError>
+    ensures { OnOk result (members_view map.new.entries ≡ with_member key.now (string text.now) (members_view map.old.entries)) }
+{
+    put(map, alloc, key, Value::try_from_str(alloc, text)?)
+}
+
+// Puts a text at a key of an object, or null.
+fn put_optional_text(
+    map: &mut Map<String, Value>,
+    alloc: Global,
+    key: &str,
+    text: Option<&str>,
+) -> Result<(), AllocError>
+    ensures { OnOk result (members_view map.new.entries
+        ≡ with_member key.now (text_data (option_map (λ t. t.now) text.entry)) (members_view map.old.entries)) }
+{
+    put(map, alloc, key, text_or_null(alloc, text)?)
+}
+
+// Puts the indexes of a path at the key `steps` of an object.
+fn put_steps(map: &mut Map<String, Value>, alloc: Global, steps: &[u32]) -> Result<(), AllocError>
+    ensures { OnOk result (members_view map.new.entries ≡ with_member (codes "steps") (steps_data steps.now) (members_view map.old.entries)) }
+{
+    put(map, alloc, "steps", steps_value(alloc, steps)?)
+}
+
 /// The object of a document that a step refuses. The error is out of memory.
 pub fn refused_value(alloc: Global, refused: &Refused<'_>) -> Result<Value, AllocError>
-    ensures verdict { IfOk result (λ v. Has (view v) (codes "verdict") (string (codes "refused"))) }
+    ensures verdict { IfOk result (λ v. Has (view v) (codes "verdict") (string refused.now.verdict.now)) }
     ensures step { IfOk result (λ v. Has (view v) (codes "step") (string refused.now.step.now)) }
     ensures index { IfOk result (λ v. Has (view v) (codes "index") (number_data refused.now.index)) }
     ensures name { IfOk result (λ v. Has (view v) (codes "name") (text_data (option_map (λ t. t.now) refused.now.name))) }
@@ -68,25 +102,18 @@ pub fn refused_value(alloc: Global, refused: &Refused<'_>) -> Result<Value, Allo
     ensures steps { IfOk result (λ v. Has (view v) (codes "steps") (steps_data refused.now.steps.now)) }
     ensures text { IfOk result (λ v. Has (view v) (codes "text") (string refused.now.text.now)) }
 {
-    let index = number_or_null(refused.index);
-    let name = text_or_null(alloc, refused.name)?;
-    let fields = fields_value(alloc, refused.error.as_bytes())?;
-    let steps = steps_value(alloc, refused.steps)?;
-    let error = name_of(refused.error.as_bytes());
-    let step = refused.step;
-    let path = refused.path;
-    let text = refused.text;
-    json!(in alloc; {
-        "verdict": "refused",
-        "step": step,
-        "index": index,
-        "name": name,
-        "error": error,
-        "fields": fields,
-        "path": path,
-        "steps": steps,
-        "text": text
-    })
+    let mut map = Map::new(alloc);
+    put_text(&mut map, alloc, "verdict", refused.verdict)?;
+    put_text(&mut map, alloc, "step", refused.step)?;
+    put(&mut map, alloc, "index", number_or_null(refused.index))?;
+    put_optional_text(&mut map, alloc, "name", refused.name)?;
+    let error = refused.error.as_bytes();
+    put_text(&mut map, alloc, "error", name_of(error))?;
+    put(&mut map, alloc, "fields", fields_value(alloc, error)?)?;
+    put_text(&mut map, alloc, "path", refused.path)?;
+    put_steps(&mut map, alloc, refused.steps)?;
+    put_text(&mut map, alloc, "text", refused.text)?;
+    Ok(Value::Object(map))
 }
 
 /// The object of bytes that spell no document. The error is out of memory.
@@ -102,14 +129,13 @@ pub fn no_document_value(
     ensures steps { IfOk result (λ v. Has (view v) (codes "steps") (steps_data steps.now)) }
     ensures text { IfOk result (λ v. Has (view v) (codes "text") (string text.now)) }
 {
-    let steps = steps_value(alloc, steps)?;
-    json!(in alloc; {
-        "verdict": "refused",
-        "step": "document",
-        "path": path,
-        "steps": steps,
-        "text": text
-    })
+    let mut map = Map::new(alloc);
+    put_text(&mut map, alloc, "verdict", "refused")?;
+    put_text(&mut map, alloc, "step", "document")?;
+    put_text(&mut map, alloc, "path", path)?;
+    put_steps(&mut map, alloc, steps)?;
+    put_text(&mut map, alloc, "text", text)?;
+    Ok(Value::Object(map))
 }
 
 /// The object of an accepted document, with its report. The error is out of memory.
@@ -117,11 +143,11 @@ pub fn accepted_value(alloc: Global, strict: bool, report: &str) -> Result<Value
     ensures verdict { IfOk result (λ v. Has (view v) (codes "verdict") (string (codes "accepted"))) }
     ensures strict { IfOk result (λ v. Has (view v) (codes "strict") (boolean strict)) }
 {
+    let mut map = Map::new(alloc);
+    put_text(&mut map, alloc, "verdict", "accepted")?;
+    put(&mut map, alloc, "strict", Value::Bool(strict))?;
     let (buffers, entries) = report_lists(alloc, report)?;
-    json!(in alloc; {
-        "verdict": "accepted",
-        "strict": strict,
-        "buffers": buffers,
-        "entry_points": entries
-    })
+    put(&mut map, alloc, "buffers", buffers)?;
+    put(&mut map, alloc, "entry_points", entries)?;
+    Ok(Value::Object(map))
 }

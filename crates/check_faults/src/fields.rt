@@ -1,8 +1,6 @@
 // An error as JSON, from its name with all that it holds.
 
-use check_faults::error_text::{
-    field_name, inside, name_of, number, part, part_count, quoted, text_of,
-};
+use crate::error_text::{field_name, inside, name_of, number, part, part_count, quoted, text_of};
 use serde_json::{Map, Value, push, put};
 use std::alloc::{AllocError, Global};
 
@@ -21,8 +19,8 @@ static SETS: [&str; 7] = [
 ];
 
 fn is_set(name: &str) -> bool {
-    for set in SETS {
-        if set == name {
+    for set in &SETS {
+        if *set == name {
             return true;
         }
     }

@@ -1,4 +1,4 @@
-use Rattle.check_json.proofs.error.+values.Given as goal
+use Rattle.check_faults.proofs.fields.+values.Given as goal
 
 abbrev pub decreases-inner_value : goal.decreases-inner_value
 decreases-inner_value l = l.depth

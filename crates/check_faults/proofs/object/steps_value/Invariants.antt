@@ -1,7 +1,7 @@
 use Rattle.std.proofs.Common.{◌≡◌, ◌++◌, drop, map}
 use Rattle.serde_json.specs.View.{view}
-use Rattle.check_json.specs.Objects.{plain}
-use Rattle.check_json.proofs.object.steps_value.Given as goal
+use Rattle.check_faults.specs.Objects.{plain}
+use Rattle.check_faults.proofs.object.steps_value.Given as goal
 
 -- what the list has and what the rest gives are what all steps give
 abbrev pub invariant-loop-step : goal.invariant-loop-step

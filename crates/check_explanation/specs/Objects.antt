@@ -1,0 +1,24 @@
+-- What the object of an explanation says.
+use Rattle.std.specs.Prelude.{ℕ, List, codes}
+use Rattle.serde_json.specs.Data.{Data, string}
+use Rattle.serde_json.specs.Written.{IsInOrder}
+use Rattle.judgement.specs.declared.finding.Finding.{Finding}
+use Rattle.judgement.specs.declared.finding.Finding.TheVariants as findings
+use Rattle.check_faults.specs.Objects.{Has}
+
+-- the word for what is found
+abbrev pub verdict_word : Finding → List ℕ
+verdict_word (findings.Accepted strict) = codes "accepted"
+verdict_word findings.RefusedDocument = codes "refused"
+verdict_word findings.RefusedHandles = codes "refused"
+verdict_word (findings.Refused step index) = codes "refused"
+
+-- the verdict of an object is the word for what is found
+abbrev pub SaysVerdict : Finding → Data → Type 0
+SaysVerdict finding object = Has object (codes "verdict") (string (verdict_word finding))
+
+-- The text spells an object whose verdict is the word for what is found.
+pub record IsObjectText (finding : Finding) (text : List ℕ) : Type 0 where
+  pub object : Data
+  pub spelled : IsInOrder text object
+  pub verdict : SaysVerdict finding object
