@@ -28,6 +28,4 @@ pub use cases::cases_fault;
 pub use control_function::check_control;
 pub use function::check_scope;
 pub use list::ExpressionList;
-pub use operands::{
-    first_unknown, gather_index, is_known, unknown_in_pipeline, unknown_in_query, unknown_place,
-};
+pub use operands::{is_known, unknown_operand, unknown_place};

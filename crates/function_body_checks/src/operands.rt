@@ -1,21 +1,18 @@
 //! What statements use that has to be in scope.
 
-ghost use Rattle.std.specs.Prelude.{◌≡◌, None, slice_get};
+ghost use Rattle.std.specs.Prelude.{◌≡◌, slice_get};
 ghost use Rattle.ir_blocks.specs.View.{statement_view};
 ghost use Rattle.ir_types.specs.ExpressionPlain.{expression_view};
 ghost use Rattle.ir_items.specs.View.{function_view};
 ghost use Rattle.function_body_checks.specs.Carried.{holds, pre_known, known, first_lacking, place_lacking};
-ghost use Rattle.spec_handles.specs.Expressions.{given};
-ghost use Rattle.spec_handles.specs.Statements.{gather_index, ray_operands, pipeline_operands, statement_callee};
+ghost use Rattle.spec_handles.specs.Operands.{these, is_looked_up, looked_up, of_statement};
 ghost use Rattle.spec_statements.specs.Scope.{is_pre_emitted};
-ghost use Rattle.spec_statements.specs.Tables.{statement_checked, compared_for};
 
 use crate::list::ExpressionList;
 use ir_arena::handle::Handle;
-use ir_items::{
-    AtomicFunction, Expression, Function, GatherMode, RayPipelineFunction, RayQueryFunction,
-    Statement, key,
-};
+use ir_items::{Expression, Function, Statement, key};
+use ir_references::{OperandUser, with_statement_operands};
+use spec_handles::{Scoping, Slot};
 
 // Whether an expression is in scope everywhere.
 #[tactic(auto, using(crate::proofs::Lists::same_pre))]
@@ -55,22 +52,99 @@ pub fn is_known(
     is_held(scope, handle) || is_always_known(function, handle)
 }
 
-/// The first of these that is there and not in scope.
-pub fn first_unknown(
-    function: &Function,
-    scope: &ExpressionList,
-    slots: &[Option<Handle<key::Expression>>],
-) -> Option<Handle<key::Expression>>
-    ensures { result ≡ first_lacking (known (function_view function.now) scope.now) (given slots.now) }
+// Whether an operand is looked up where scope is strict or isn't.
+fn is_looked_up(strict: bool, scoping: Scoping) -> bool
+    ensures { result ≡ is_looked_up strict scoping }
+{
+    match scoping {
+        Scoping::Always => true,
+        Scoping::Strictly => strict,
+        Scoping::Apart => false,
+    }
+}
+
+// The first of these that is looked up, given and not in scope.
+fn first_unknown(unknown: &Unknown<'_>, slots: &[Slot]) -> Option<Handle<key::Expression>>
+    ensures { result ≡ first_lacking (known (function_view unknown.now.function.now) unknown.now.scope.now) (looked_up unknown.now.strict (these slots.now)) }
 {
     for slot in slots {
-        if let Some(handle) = slot {
-            if !is_known(function, scope, *handle) {
-                return Some(*handle);
+        if is_looked_up(unknown.strict, slot.scoping) {
+            if let Some(handle) = slot.handle {
+                if !is_known(unknown.function, unknown.scope, handle) {
+                    return Some(handle);
+                }
             }
         }
     }
     None
+}
+
+// The first of some that are not in scope.
+fn first_lacking(
+    function: &Function,
+    scope: &ExpressionList,
+    handles: &[Handle<key::Expression>],
+) -> Option<Handle<key::Expression>>
+    ensures { result ≡ first_lacking (known (function_view function.now) scope.now) handles.now }
+{
+    for handle in handles {
+        if !is_known(function, scope, *handle) {
+            return Some(*handle);
+        }
+    }
+    None
+}
+
+// Looks for an operand that is not in scope.
+#[derive(Drop)]
+struct Unknown<'a> {
+    function: &'a Function,
+    scope: &'a ExpressionList,
+    strict: bool,
+}
+
+impl OperandUser<(), Option<Handle<key::Expression>>> for Unknown<'_> {
+    ghost use Rattle.std.specs.Prelude.{◌≡◌};
+    ghost use Rattle.ir_items.specs.View.{function_view};
+    ghost use Rattle.function_body_checks.specs.Carried.{known, first_lacking};
+    ghost use Rattle.spec_handles.specs.Operands.{looked_up};
+
+    ghost does = { λ t before after found operands. found ≡ first_lacking (known (function_view t.function.now) t.scope.now) (looked_up t.strict operands) };
+
+    fn take_slots(&self, state: &mut (), slots: &[Slot]) -> Option<Handle<key::Expression>> {
+        first_unknown(self, slots)
+    }
+
+    fn take_list(
+        &self,
+        state: &mut (),
+        scoping: Scoping,
+        handles: &[Handle<key::Expression>],
+    ) -> Option<Handle<key::Expression>> {
+        if is_looked_up(self.strict, scoping) {
+            first_lacking(self.function, self.scope, handles)
+        } else {
+            None
+        }
+    }
+}
+
+/// The first operand of a statement that has to be in scope, strictly or not, and is not. Operands of what stands inside a
+/// statement, and a loop's condition, are not looked up.
+pub fn unknown_operand(
+    function: &Function,
+    scope: &ExpressionList,
+    strict: bool,
+    statement: &Statement,
+) -> Option<Handle<key::Expression>>
+    ensures { result ≡ first_lacking (known (function_view function.now) scope.now) (looked_up strict (of_statement (statement_view statement.now))) }
+{
+    let unknown = Unknown {
+        function,
+        scope,
+        strict,
+    };
+    with_statement_operands(&unknown, &mut (), statement)
 }
 
 /// The place of the first argument of a call that is not in scope.
@@ -87,160 +161,4 @@ pub fn unknown_place(
         }
     }
     None
-}
-
-// What an atomic operation compares with, where it answers something.
-fn compared(
-    fun: AtomicFunction,
-    answer: Option<Handle<key::Expression>>,
-) -> Option<Handle<key::Expression>>
-    ensures { result ≡ compared_for answer fun }
-{
-    answer?;
-    match fun {
-        AtomicFunction::Exchange { compare } => compare,
-        AtomicFunction::Add
-        | AtomicFunction::Subtract
-        | AtomicFunction::And
-        | AtomicFunction::ExclusiveOr
-        | AtomicFunction::InclusiveOr
-        | AtomicFunction::Min
-        | AtomicFunction::Max => None,
-    }
-}
-
-/// The index that a gather is made by, if it is made by one.
-pub fn gather_index(mode: GatherMode) -> Option<Handle<key::Expression>>
-    ensures { result ≡ gather_index mode }
-{
-    match mode {
-        GatherMode::BroadcastFirst | GatherMode::QuadSwap(_) => None,
-        GatherMode::Broadcast(index)
-        | GatherMode::Shuffle(index)
-        | GatherMode::ShuffleDown(index)
-        | GatherMode::ShuffleUp(index)
-        | GatherMode::ShuffleXor(index)
-        | GatherMode::QuadBroadcast(index) => Some(index),
-    }
-}
-
-/// The first operand of what is done with a ray query that is not in scope.
-pub fn unknown_in_query(
-    function: &Function,
-    scope: &ExpressionList,
-    fun: RayQueryFunction,
-) -> Option<Handle<key::Expression>>
-    ensures { result ≡ first_lacking (known (function_view function.now) scope.now) (ray_operands fun) }
-{
-    match fun {
-        RayQueryFunction::Initialize {
-            acceleration_structure,
-            descriptor,
-        } => first_unknown(
-            function,
-            scope,
-            &[Some(acceleration_structure), Some(descriptor)],
-        ),
-        RayQueryFunction::GenerateIntersection { hit_t } => {
-            first_unknown(function, scope, &[Some(hit_t)])
-        }
-        RayQueryFunction::Proceed { .. }
-        | RayQueryFunction::ConfirmIntersection
-        | RayQueryFunction::Terminate => None,
-    }
-}
-
-/// The same of what a pipeline of ray tracing is asked for.
-pub fn unknown_in_pipeline(
-    function: &Function,
-    scope: &ExpressionList,
-    fun: RayPipelineFunction,
-) -> Option<Handle<key::Expression>>
-    ensures { result ≡ first_lacking (known (function_view function.now) scope.now) (pipeline_operands fun) }
-{
-    match fun {
-        RayPipelineFunction::TraceRay {
-            acceleration_structure,
-            descriptor,
-            payload,
-        } => first_unknown(
-            function,
-            scope,
-            &[
-                Some(acceleration_structure),
-                Some(descriptor),
-                Some(payload),
-            ],
-        ),
-    }
-}
-
-/// The first operand of a statement that has to be in scope and is not; of a call, whose arguments are reported by their places,
-/// none. Operands of what stands inside a statement, and a loop's condition, are not its own.
-pub fn unknown_operand(
-    function: &Function,
-    scope: &ExpressionList,
-    statement: &Statement,
-) -> Option<Handle<key::Expression>>
-    ensures { statement_callee (statement_view statement.now) ≡ None
-        → result ≡ first_lacking (known (function_view function.now) scope.now) (statement_checked (statement_view statement.now)) }
-{
-    match statement {
-        Statement::Emit(_)
-        | Statement::Block(_)
-        | Statement::Loop { .. }
-        | Statement::Break
-        | Statement::Continue
-        | Statement::Kill
-        | Statement::ControlBarrier(_)
-        | Statement::MemoryBarrier(_)
-        | Statement::Call { .. } => None,
-        Statement::If { condition, .. } => first_unknown(function, scope, &[Some(*condition)]),
-        Statement::Switch { selector, .. } => first_unknown(function, scope, &[Some(*selector)]),
-        Statement::Return { value } => first_unknown(function, scope, &[*value]),
-        Statement::Store { value, .. } => first_unknown(function, scope, &[Some(*value)]),
-        Statement::ImageStore {
-            coordinate,
-            array_index,
-            value,
-            ..
-        }
-        | Statement::ImageAtomic {
-            coordinate,
-            array_index,
-            value,
-            ..
-        } => first_unknown(
-            function,
-            scope,
-            &[Some(*coordinate), *array_index, Some(*value)],
-        ),
-        Statement::Atomic {
-            pointer,
-            fun,
-            value,
-            result: answer,
-        } => {
-            let compare = compared(*fun, *answer);
-            first_unknown(function, scope, &[Some(*pointer), Some(*value), compare])
-        }
-        Statement::WorkGroupUniformLoad { pointer, .. } => {
-            first_unknown(function, scope, &[Some(*pointer)])
-        }
-        Statement::RayQuery { fun, .. } => unknown_in_query(function, scope, *fun),
-        Statement::SubgroupBallot { predicate, .. } => {
-            first_unknown(function, scope, &[*predicate])
-        }
-        Statement::SubgroupCollectiveOperation { argument, .. } => {
-            first_unknown(function, scope, &[Some(*argument)])
-        }
-        Statement::SubgroupGather { mode, argument, .. } => {
-            let index = gather_index(*mode);
-            first_unknown(function, scope, &[index, Some(*argument)])
-        }
-        Statement::CooperativeStore { target, .. } => {
-            first_unknown(function, scope, &[Some(*target)])
-        }
-        Statement::RayPipelineFunction(fun) => unknown_in_pipeline(function, scope, *fun),
-    }
 }

@@ -78,7 +78,7 @@ fn operand_error(
 {
     match callee_of(statement) {
         Some(callee) => argument_error(function, scope, callee, arguments_of(statement)),
-        None => match unknown_operand(function, scope, statement) {
+        None => match unknown_operand(function, scope, false, statement) {
             Some(handle) => Some(ScopeError::Unknown(handle)),
             None => None,
         },

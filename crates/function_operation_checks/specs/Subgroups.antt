@@ -13,7 +13,7 @@ use Rattle.ir_kinds.specs.Scalars.{boolean, unsigned}
 use Rattle.ir_kinds.specs.declared.subgroups.CollectiveOperation.{CollectiveOperation}
 use Rattle.ir_kinds.specs.declared.subgroups.SubgroupOperation.{SubgroupOperation}
 use Rattle.spec_statements.specs.Shapes.{IsOfValue, IsMadeOf, shaped_of}
-use Rattle.spec_handles.specs.Statements.{gather_index}
+use Rattle.spec_handles.specs.Operands.{gather_index}
 use Rattle.spec_statements.specs.BlockContext.{BlockContext, form_at}
 use Rattle.spec_statements.specs.Subgroups.{collective_needs, gather_needs, AnswersAs, IsNumber, TakesShape, GoesOver, IndexIsKnown}
 use Rattle.typing_forms.specs.declared.form.Form.TheVariants as form

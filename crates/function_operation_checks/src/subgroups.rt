@@ -6,7 +6,7 @@ ghost use Rattle.ir_flags.specs.declared.stages.TheConstants.SubgroupOperationSe
 ghost use Rattle.ir_kinds.specs.Scalars.{unsigned};
 ghost use Rattle.function_operation_checks.specs.Subgroups.{IsOperationFault, IsBallotFault, IsCollectiveFault, IsGatherFault};
 ghost use Rattle.spec_statements.specs.Shapes.{IsOfValue, IsMadeOf, shaped_of};
-ghost use Rattle.spec_handles.specs.Statements.{gather_index};
+ghost use Rattle.spec_handles.specs.Operands.{gather_index};
 ghost use Rattle.spec_statements.specs.BlockContext.{form_at};
 ghost use Rattle.spec_statements.specs.Subgroups.{collective_needs, gather_needs, HasOperation, answered_type, AnswersAs, BallotOK, IsNumber, TakesShape, IsScanned, GoesOver, CollectiveOK, IndexIsKnown, GatherOK};
 

@@ -1,4 +1,4 @@
-//! Strict scope, which no other validator asks for: every operand of a statement, of a loop's condition and of an expression that
+//! Strict scope, which no other validator has: every operand of a statement, of a loop's condition and of an expression that
 //! is emitted is in scope where it is used, what a continue may skip doesn't count after the loop's body, and what denotes
 //! the answer of a `Proceed` or of a ballot is of its own kind.
 #![tactic(auto)]
@@ -11,7 +11,6 @@ mod introducing;
 pub mod laws;
 mod live;
 mod long;
-mod operands;
 mod pairs;
 mod statement;
 mod walk;

@@ -15,8 +15,7 @@ use crate::answers::check_answer;
 use crate::error::StrictError;
 use crate::introducing::introduce;
 use crate::live::LiveOperands;
-use crate::operands::unknown_operand;
-use function_body_checks::{ExpressionList, is_known, unknown_place};
+use function_body_checks::{ExpressionList, is_known, unknown_operand, unknown_place};
 use ir_arena::handle::Handle;
 use ir_blocks::plain_operation;
 use ir_items::{Function, Statement, key};
@@ -73,7 +72,7 @@ fn operand_error(
 {
     match callee_of(statement) {
         Some(callee) => argument_error(function, sure, callee, arguments_of(statement)),
-        None => match unknown_operand(function, sure, statement) {
+        None => match unknown_operand(function, sure, true, statement) {
             Some(handle) => Some(StrictError::Unknown(handle)),
             None => None,
         },

@@ -12,9 +12,10 @@ ghost use Rattle.spec_handles.specs.Conditions.{HandlesInRange};
 ghost use Rattle.spec_handles.specs.declared.item.ItemKind.TheVariants as kind;
 
 use crate::bounds::{Bounds, absent};
-use crate::expressions::{item_of, operand_past};
+use crate::expressions::item_of;
 use crate::fault::HandleFault;
-use crate::statements::{callee_of, range_of, result_of, statement_operand_past};
+use crate::lists::{operand_past, statement_operand_past};
+use crate::statements::{callee_of, range_of, result_of};
 use crate::walk::{StatementLook, first_in};
 use ir_arena::arena::Arena;
 use ir_arena::handle::Handle;

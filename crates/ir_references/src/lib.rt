@@ -1,4 +1,4 @@
-//! What expressions and statements name, found: items, operands that do not come before an end, ranges and callees; the
+//! What expressions and statements name, found: items, operands, ranges and callees; the
 //! first of what is looked for in the statements of a body; whether each statement of a body meets a rule; and what is wrong with the handles of a function.
 //! `spec_handles` has what each kind names, and what is required of it.
 #![tactic(auto)]
@@ -9,15 +9,18 @@ mod expressions;
 mod fault;
 mod functions;
 mod lists;
+mod operands;
 mod order;
 mod statements;
 mod walk;
 
 pub use bounds::{Bounds, absent};
 pub use each::{StatementRule, check_each};
-pub use expressions::{item_of, operand_past};
+pub use expressions::item_of;
 pub use fault::HandleFault;
 pub use functions::{expression_missing, missing_in_function};
+pub use lists::{operand_past, statement_operand_past};
+pub use operands::{OperandUser, with_operands, with_statement_operands};
 pub use order::{forward_callee, forward_operand, forward_parent};
-pub use statements::{callee_of, range_of, result_of, statement_operand_past};
+pub use statements::{callee_of, range_of, result_of};
 pub use walk::{StatementLook, first_in};

@@ -11,8 +11,9 @@ ghost use Rattle.ir_references.specs.First.{first_of};
 ghost use Rattle.ir_proc.specs.Filters.{ParentsPrecede};
 ghost use Rattle.spec_handles.specs.Conditions.{OperandsPrecede, CalleesPrecede};
 
-use crate::expressions::{item_of, operand_past};
+use crate::expressions::item_of;
 use crate::fault::HandleFault;
+use crate::lists::operand_past;
 use crate::statements::callee_of;
 use crate::walk::{StatementLook, first_in};
 use ir_arena::arena::Arena;

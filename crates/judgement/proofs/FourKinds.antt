@@ -1,30 +1,22 @@
 -- Uses of global variables are of four kinds.
-use Rattle.std.proofs.Common.{◌≡◌, ◌<◌, ◌≤◌, ◌⊎◌, inl, inr, ℕ, ◌+◌, List, [], ◌∷◌, ◌++◌, map, Option, Some, None, subst, sym, ◌∙◌, arith}
+use Rattle.std.proofs.Common.{◌≡◌, ◌<◌, ◌≤◌, ◌⊎◌, inl, inr, ℕ, ◌+◌, List, [], ◌∷◌, ◌++◌, map, Option, Some, None, option_map, subst, sym, ◌∙◌, arith}
 use Rattle.std.proofs.lemmas.Bool.{cases_lt}
 use Rattle.std.proofs.lemmas.Nat.Bits.{bit_at_above}
 use Rattle.std.specs.Int.{bit_at}
+use Rattle.std.specs.List.{cons_option}
 use Rattle.spec_analysis.specs.declared.global_use.TheConstants.GlobalUse.{QUERY}
-use Rattle.ir_blocks.specs.Plain.{PlainOperation, control_barrier, memory_barrier, store, image_store, atomic, image_atomic, uniform_load, ray_query, ballot, collective, gather, cooperative_store, ray_pipeline, PlainStatement, emit, block, if_, switch, loop, break, continue, return, kill, operation, call, PlainBlock, stop, next, PlainCases, no_case, case}
-use Rattle.ir_blocks.specs.declared.operations.AtomicFunction.{AtomicFunction}
-use Rattle.ir_blocks.specs.declared.operations.AtomicFunction.TheVariants as fun
-use Rattle.ir_blocks.specs.declared.operations.GatherMode.{GatherMode}
-use Rattle.ir_blocks.specs.declared.operations.GatherMode.TheVariants as mode
-use Rattle.ir_blocks.specs.declared.operations.RayPipelineFunction.{RayPipelineFunction}
-use Rattle.ir_blocks.specs.declared.operations.RayPipelineFunction.TheVariants as pipeline
-use Rattle.ir_blocks.specs.declared.operations.RayQueryFunction.{RayQueryFunction}
-use Rattle.ir_blocks.specs.declared.operations.RayQueryFunction.TheVariants as query
-use Rattle.ir_types.specs.ExpressionPlain.{PlainExpression, compose, plain}
-use Rattle.ir_types.specs.declared.expressions.Expression.{Expression}
+use Rattle.ir_blocks.specs.Plain.{PlainStatement, emit, block, if_, switch, loop, break, continue, return, kill, operation, call, PlainBlock, stop, next, PlainCases, no_case, case}
+use Rattle.ir_types.specs.ExpressionPlain.{PlainExpression, plain}
 use Rattle.ir_types.specs.declared.expressions.Expression.TheVariants as x
-use Rattle.ir_types.specs.declared.expressions.ImageQuery.{ImageQuery}
-use Rattle.ir_types.specs.declared.expressions.ImageQuery.TheVariants.{Size, NumLevels, NumLayers, NumSamples}
-use Rattle.ir_types.specs.declared.expressions.SampleLevel.{SampleLevel}
-use Rattle.ir_types.specs.declared.expressions.SampleLevel.TheVariants.{Auto, Zero, Exact, Bias, Gradient}
 use Rattle.ir_items.specs.Plain.{PlainFunction, PlainModule}
 use Rattle.typing_rules.specs.Laws.{IsAmong}
 use Rattle.spec_analysis.specs.Chains.{end_of, UsesDirectly, HasUse}
 use Rattle.spec_analysis.specs.Effects.{Effect, takes, samples, runs, discards, sampling_at, expression_effects, expressions_effects, leaving_effects, statement_effects, effects_in, effects_inside, effects_in_cases, effects_of}
-use Rattle.spec_analysis.specs.Operands.{Operand, reads, reads_if, level_operands, query_operands, operands_of, expression_operands, atomic_operands, gather_operands, ray_query_operands, ray_pipeline_operands, operation_operands, statement_operands}
+use Rattle.spec_analysis.specs.Operands.{Operand, bits_of, operand, operands_in, expression_operands, statement_operands}
+use Rattle.spec_handles.specs.Operands.{Operands, these, each_of, of_expression, of_statement}
+use Rattle.spec_handles.specs.declared.operand.Slot.{Slot}
+use Rattle.spec_handles.specs.declared.operand.Usage.{Usage}
+use Rattle.spec_handles.specs.declared.operand.Usage.TheVariants.{Base, Read, Write, ReadWrite, Query, Atomic}
 
 -- ---- operands
 
@@ -33,138 +25,29 @@ abbrev AreKinds : List Operand → Type 0
 AreKinds [] = Unit {0}
 AreKinds (o ∷ os) = (o.use_bits < 16) × AreKinds os
 
-one : (o : Operand) → o.use_bits < 16 → AreKinds (o ∷ [])
-one o lt = (lt, tt)
+is_kind : (usage : Usage) → bits_of usage < 16
+is_kind Base = omega arith
+is_kind Read = omega arith
+is_kind Write = omega arith
+is_kind ReadWrite = (let lt : 3 < 16 = omega arith in lt)
+is_kind Query = omega arith
+is_kind Atomic = omega arith
 
-both : (os ps : List Operand) → AreKinds os → AreKinds ps → AreKinds (os ++ ps)
-both [] ps a b = b
-both (o ∷ os) ps a b = (a.0, both os ps a.1 b)
+one_given : (usage : Usage) (handle : Option ℕ) (os : List Operand) → AreKinds os → AreKinds (cons_option (option_map (operand usage) handle) os)
+one_given usage None os are = are
+one_given usage (Some h) os are = (is_kind usage, are)
 
-all_read : (hs : List ℕ) → AreKinds (map reads hs)
+all_given : (slots : List Slot) → AreKinds (operands_in (these slots))
+all_given [] = tt
+all_given (slot ∷ rest) = one_given slot.usage slot.handle (operands_in (these rest)) (all_given rest)
+
+all_read : (hs : List ℕ) → AreKinds (map (operand Read) hs)
 all_read [] = tt
-all_read (h ∷ hs) = (omega arith, all_read hs)
+all_read (h ∷ hs) = (is_kind Read, all_read hs)
 
-if_read : (o : Option ℕ) → AreKinds (reads_if o)
-if_read None = tt
-if_read (Some h) = (omega arith, tt)
-
-of_level : (l : SampleLevel) → AreKinds (level_operands l)
-of_level Auto = tt
-of_level Zero = tt
-of_level (Exact level) = (omega arith, tt)
-of_level (Bias bias) = (omega arith, tt)
-of_level (Gradient x y) = (omega arith, (omega arith, tt))
-
-of_query : (q : ImageQuery) → AreKinds (query_operands q)
-of_query (Size level) = if_read level
-of_query NumLevels = tt
-of_query NumLayers = tt
-of_query NumSamples = tt
-
-of_plain : (e : Expression) → AreKinds (operands_of e)
-of_plain (x.Literal value) = tt
-of_plain (x.Constant constant) = tt
-of_plain (x.Override override) = tt
-of_plain (x.ZeroValue type) = tt
-of_plain (x.Compose type components) = tt
-of_plain (x.Access base index) = (omega arith, (omega arith, tt))
-of_plain (x.AccessIndex base index) = (omega arith, tt)
-of_plain (x.Splat size value) = (omega arith, tt)
-of_plain (x.Swizzle size vector pattern) = (omega arith, tt)
-of_plain (x.FunctionArgument number) = tt
-of_plain (x.GlobalVariable global) = tt
-of_plain (x.LocalVariable local) = tt
-of_plain (x.Load pointer) = (omega arith, tt)
-of_plain (x.ImageSample image sampler gathers coordinate array_index offset level depth_ref clamp_to_edge) =
-    let rest = both (reads_if array_index) (reads_if offset ++ (level_operands level ++ reads_if depth_ref)) (if_read array_index)
-    (both (reads_if offset) (level_operands level ++ reads_if depth_ref) (if_read offset) (both (level_operands level) (reads_if depth_ref) (of_level level) (if_read depth_ref))) in
-    (omega arith, (omega arith, (omega arith, rest)))
-of_plain (x.ImageLoad image coordinate array_index sample level) =
-    let rest = both (reads_if array_index) (reads_if sample ++ reads_if level) (if_read array_index) (both (reads_if sample) (reads_if level) (if_read sample) (if_read level)) in
-    (omega arith, (omega arith, rest))
-of_plain (x.ImageQuery image asked) = (omega arith, of_query asked)
-of_plain (x.Unary op expr) = (omega arith, tt)
-of_plain (x.Binary op left right) = (omega arith, (omega arith, tt))
-of_plain (x.Select condition accept reject) = (omega arith, (omega arith, (omega arith, tt)))
-of_plain (x.Derivative axis ctrl expr) = (omega arith, tt)
-of_plain (x.Relational function argument) = (omega arith, tt)
-of_plain (x.Math function arg arg1 arg2 arg3) = (omega arith, both (reads_if arg1) _ (if_read arg1) (both (reads_if arg2) _ (if_read arg2) (if_read arg3)))
-of_plain (x.As expr kind convert) = (omega arith, tt)
-of_plain (x.CallResult function) = tt
-of_plain (x.AtomicResult type comparison) = tt
-of_plain (x.WorkGroupUniformLoadResult type) = tt
-of_plain (x.ArrayLength array) = (omega arith, tt)
-of_plain (x.RayQueryVertexPositions ray committed) = (omega arith, tt)
-of_plain x.RayQueryProceedResult = tt
-of_plain (x.RayQueryGetIntersection ray committed) = (omega arith, tt)
-of_plain x.SubgroupBallotResult = tt
-of_plain (x.SubgroupOperationResult type) = tt
-of_plain (x.CooperativeLoad columns rows role data_block) = (omega arith, (omega arith, tt))
-of_plain (x.CooperativeMultiplyAdd a b c) = (omega arith, (omega arith, (omega arith, tt)))
-
-of_expression : (e : PlainExpression) → AreKinds (expression_operands e)
-of_expression (compose type components) = all_read components
-of_expression (plain expression) = of_plain expression
-
-of_atomic : (f : AtomicFunction) → AreKinds (atomic_operands f)
-of_atomic fun.Add = tt
-of_atomic fun.Subtract = tt
-of_atomic fun.And = tt
-of_atomic fun.ExclusiveOr = tt
-of_atomic fun.InclusiveOr = tt
-of_atomic fun.Min = tt
-of_atomic fun.Max = tt
-of_atomic (fun.Exchange compare) = if_read compare
-
-of_gather : (g : GatherMode) → AreKinds (gather_operands g)
-of_gather mode.BroadcastFirst = tt
-of_gather (mode.Broadcast index) = (omega arith, tt)
-of_gather (mode.Shuffle index) = (omega arith, tt)
-of_gather (mode.ShuffleDown index) = (omega arith, tt)
-of_gather (mode.ShuffleUp index) = (omega arith, tt)
-of_gather (mode.ShuffleXor index) = (omega arith, tt)
-of_gather (mode.QuadBroadcast index) = (omega arith, tt)
-of_gather (mode.QuadSwap direction) = tt
-
-of_ray : (f : RayQueryFunction) → AreKinds (ray_query_operands f)
-of_ray (query.Initialize acceleration_structure descriptor) = (omega arith, (omega arith, tt))
-of_ray (query.Proceed result) = tt
-of_ray (query.GenerateIntersection hit_t) = (omega arith, tt)
-of_ray query.ConfirmIntersection = tt
-of_ray query.Terminate = tt
-
-of_pipeline : (f : RayPipelineFunction) → AreKinds (ray_pipeline_operands f)
-of_pipeline (pipeline.TraceRay acceleration_structure descriptor payload) = (omega arith, (omega arith, (omega arith, tt)))
-
-of_operation : (a : PlainOperation) → AreKinds (operation_operands a)
-of_operation (control_barrier barrier) = tt
-of_operation (memory_barrier barrier) = tt
-of_operation (store pointer value) = (omega arith, (omega arith, tt))
-of_operation (image_store image coordinate array_index value) = (omega arith, (omega arith, both (reads_if array_index) (reads value ∷ []) (if_read array_index) (one (reads value) (omega arith))))
-of_operation (atomic pointer function value result) = (omega arith, both (atomic_operands function) _ (of_atomic function) (one (reads value) (omega arith)))
-of_operation (image_atomic image coordinate array_index function value) =
-    let rest = both (reads_if array_index) (atomic_operands function ++ reads value ∷ []) (if_read array_index) (both (atomic_operands function) (reads value ∷ []) (of_atomic function) (one (reads value) (omega arith))) in
-    (omega arith, (omega arith, rest))
-of_operation (uniform_load pointer result) = (omega arith, tt)
-of_operation (ray_query ray function) = (omega arith, of_ray function)
-of_operation (ballot result predicate) = if_read predicate
-of_operation (collective op collective_op argument result) = (omega arith, tt)
-of_operation (gather how argument result) = both (gather_operands how) _ (of_gather how) (one (reads argument) (omega arith))
-of_operation (cooperative_store target place) = (omega arith, (omega arith, (omega arith, tt)))
-of_operation (ray_pipeline function) = of_pipeline function
-
-of_statement : (s : PlainStatement) → AreKinds (statement_operands s)
-of_statement (emit first end) = tt
-of_statement (block body) = tt
-of_statement (if_ condition accept reject) = (omega arith, tt)
-of_statement (switch selector cases) = (omega arith, tt)
-of_statement (loop body continuing break_if) = if_read break_if
-of_statement break = tt
-of_statement continue = tt
-of_statement (return value) = if_read value
-of_statement kill = tt
-of_statement (operation a) = of_operation a
-of_statement (call function arguments result) = all_read arguments
+of_operands : (operands : Operands) → AreKinds (operands_in operands)
+of_operands (these slots) = all_given slots
+of_operands (each_of when handles) = all_read handles
 
 -- ---- effects
 
@@ -193,7 +76,7 @@ of_sampling e _ = tt
 in_expressions : (e : ℕ) (vs : List PlainExpression) → AllKinds (expressions_effects e vs)
 in_expressions e [] = tt
 in_expressions e (v ∷ vs) =
-    join (expression_effects e v) (expressions_effects (e + 1) vs) (join (map takes (expression_operands v)) (sampling_at e v) (taken (expression_operands v) (of_expression v)) (of_sampling e v)) (in_expressions (e + 1) vs)
+    join (expression_effects e v) (expressions_effects (e + 1) vs) (join (map takes (expression_operands v)) (sampling_at e v) (taken (expression_operands v) (of_operands (of_expression v))) (of_sampling e v)) (in_expressions (e + 1) vs)
 
 of_leaving : (s : PlainStatement) → AllKinds (leaving_effects s)
 of_leaving (emit first end) = tt
@@ -209,7 +92,7 @@ of_leaving (operation a) = tt
 of_leaving (call function arguments result) = (tt, tt)
 
 of_own : (s : PlainStatement) → AllKinds (statement_effects s)
-of_own s = join (map takes (statement_operands s)) (leaving_effects s) (taken (statement_operands s) (of_statement s)) (of_leaving s)
+of_own s = join (map takes (statement_operands s)) (leaving_effects s) (taken (statement_operands s) (of_operands (of_statement s))) (of_leaving s)
 
 mutual
   in_block : (b : PlainBlock) → AllKinds (effects_in b)

@@ -12,7 +12,7 @@ use Rattle.ir_items.specs.Plain.{PlainFunction, PlainModule}
 use Rattle.judgement_laws.specs.Laws.{IsCallOf, IsOperationOf, OccursOnce, EachAnswered, AnsweredByOne}
 use Rattle.spec_statements.specs.ModuleFunctions.{FunctionAtOK}
 use Rattle.ir_kinds.specs.declared.scalars.Scalar.{Scalar}
-use Rattle.spec_handles.specs.Statements.{compared}
+use Rattle.spec_handles.specs.Operands.{compared}
 use Rattle.spec_statements.specs.Atomics.{AnswerOK, AtomicAnswer, AtomicChangeOK, changed_scalar, declared_answer}
 use Rattle.spec_statements.specs.BlockContext.{BlockContext, form_at}
 use Rattle.spec_statements.specs.Functions.{FunctionSettings, BodyOK}

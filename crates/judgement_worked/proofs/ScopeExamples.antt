@@ -6,7 +6,7 @@ use Rattle.ir_blocks.specs.Plain.{PlainStatement, emit, block, if_, switch, loop
 use Rattle.ir_blocks.specs.Shapes.{Part, inner, accepting, rejecting, case_at, loop_body, loop_continuing, shape_of, part_of, case_body}
 use Rattle.ir_types.specs.ExpressionPlain.{PlainExpression}
 use Rattle.ir_items.specs.Plain.{PlainFunction}
-use Rattle.spec_handles.specs.Expressions.{given}
+use Rattle.spec_handles.specs.Operands.{given}
 use Rattle.spec_statements.proofs.ScopeLaws.{none_held, scope_by_walk_lem}
 use Rattle.spec_statements.specs.Scope.{is_pre_emitted, PreEmitted, ScopeOK}
 use Rattle.spec_statements.specs.Tables.{statement_checked, checked_at, introduced, introduced_at}

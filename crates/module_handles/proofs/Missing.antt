@@ -5,7 +5,7 @@ use Rattle.ir_items.specs.declared.entries.MeshStageInfo.{MeshStageInfo}
 use Rattle.ir_references.specs.First.{first_past}
 use Rattle.ir_references.specs.declared.fault.HandleFault.TheVariants as fault
 use Rattle.module_handles.specs.Found.{first_missing}
-use Rattle.spec_handles.specs.Expressions.{given}
+use Rattle.spec_handles.specs.Operands.{given}
 use Rattle.spec_handles.specs.Items.{mesh_variables}
 use Rattle.spec_handles.specs.declared.item.ItemKind.{ItemKind}
 

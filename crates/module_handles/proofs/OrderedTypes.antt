@@ -31,7 +31,8 @@ use Rattle.spec_expressions.specs.Typing.{HasTypeAmong, has}
 use Rattle.spec_expressions.specs.declared.faults.TypingFault.{TypingFault}
 use Rattle.spec_expressions.specs.declared.faults.TypingFault.TheVariants.{BuiltinArgumentsInvalid, FunctionArgumentNotFound, FunctionReturnsVoid, InvalidAccess, InvalidPointer, MissingSpecialType}
 use Rattle.spec_handles.specs.Conditions.{HandlesInRange}
-use Rattle.spec_handles.specs.Expressions.{expression_item, given}
+use Rattle.spec_handles.specs.Expressions.{expression_item}
+use Rattle.spec_handles.specs.Operands.{given}
 use Rattle.spec_handles.specs.InOrder.{HandlesOK}
 use Rattle.spec_handles.specs.Items.{special_types}
 use Rattle.spec_handles.specs.Modules as part

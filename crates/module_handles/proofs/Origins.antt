@@ -13,11 +13,12 @@ use Rattle.ir_references.proofs.FaultLaws.{map_some}
 use Rattle.module_handles.specs.Steps.{OrderGivesOrigins}
 use Rattle.module_handles.proofs.Whole.{conditions}
 use Rattle.spec_handles.specs.Conditions.{OperandsPrecede}
-use Rattle.spec_handles.specs.Expressions.{given, expression_operands}
+use Rattle.spec_handles.specs.Expressions.{expression_operands}
+use Rattle.std.specs.List.{cons_option}
 use Rattle.typing_layout.specs.Constness.{OriginsPrecede, origin_of, operands_from}
 
 -- arguments that may be left out, in the one form and in the other
-three_given : (a b c : Option ℕ) → given (a ∷ b ∷ c ∷ []) ≡ option_to_list a ++ option_to_list b ++ option_to_list c
+three_given : (a b c : Option ℕ) → cons_option a (cons_option b (cons_option c [])) ≡ option_to_list a ++ option_to_list b ++ option_to_list c
 three_given None None None = refl
 three_given None None (Some c) = refl
 three_given None (Some b) None = refl

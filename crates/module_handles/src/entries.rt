@@ -5,7 +5,7 @@ ghost use Rattle.std.specs.Option.{MatchOption, option_or};
 ghost use Rattle.ir_items.specs.View.{entry_view, module_view};
 ghost use Rattle.module_handles.specs.Found.{first_missing, entry_missing};
 ghost use Rattle.module_handles.specs.InOrder.{IsFaultIn, EntriesOK};
-ghost use Rattle.spec_handles.specs.Expressions.{given};
+ghost use Rattle.spec_handles.specs.Operands.{given};
 ghost use Rattle.spec_handles.specs.Items.{mesh_types, mesh_expressions, mesh_variables, entry_variables};
 ghost use Rattle.spec_handles.specs.declared.item.ItemKind.TheVariants as kind;
 

@@ -9,7 +9,7 @@ use Rattle.ir_types.specs.Plain.{PlainInner, struct, plain}
 use Rattle.ir_types.specs.declared.types.ArraySize.{ArraySize}
 use Rattle.ir_types.specs.declared.types.ArraySize.TheVariants.{Constant, Pending, Dynamic}
 use Rattle.ir_types.specs.declared.types.TypeInner.TheVariants as inner
-use Rattle.spec_handles.specs.Expressions.{given}
+use Rattle.spec_handles.specs.Operands.{given}
 
 -- the override that says how many elements there are
 abbrev pub pending_in : ArraySize → Option ℕ

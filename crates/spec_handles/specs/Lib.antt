@@ -1,3 +1,4 @@
+pub mod Operands
 pub mod Expressions
 pub mod Statements
 pub mod References

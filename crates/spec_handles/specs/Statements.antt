@@ -1,77 +1,13 @@
 -- What statements name, a row a kind. What stands inside a statement names for itself.
-use Rattle.std.specs.Prelude.{ℕ, List, [], ◌∷◌, Option, Some, None}
+use Rattle.std.specs.Prelude.{ℕ, List, Option, Some, None}
 use Rattle.ir_blocks.specs.Plain.{PlainOperation, control_barrier, memory_barrier, store, image_store, atomic, image_atomic, uniform_load, ray_query, ballot, collective, gather, cooperative_store, ray_pipeline, PlainStatement, emit, block, if_, switch, loop, break, continue, return, kill, operation, call}
-use Rattle.ir_blocks.specs.declared.operations.AtomicFunction.{AtomicFunction}
-use Rattle.ir_blocks.specs.declared.operations.AtomicFunction.TheVariants as does
-use Rattle.ir_blocks.specs.declared.operations.GatherMode.{GatherMode}
-use Rattle.ir_blocks.specs.declared.operations.GatherMode.TheVariants as mode
 use Rattle.ir_blocks.specs.declared.operations.RayQueryFunction.{RayQueryFunction}
 use Rattle.ir_blocks.specs.declared.operations.RayQueryFunction.TheVariants as ray
-use Rattle.ir_blocks.specs.declared.operations.RayPipelineFunction.{RayPipelineFunction}
-use Rattle.ir_blocks.specs.declared.operations.RayPipelineFunction.TheVariants as pipeline
-use Rattle.spec_handles.specs.Expressions.{given}
+use Rattle.spec_handles.specs.Operands.{of_statement, handles_of}
 
--- what an atomic function compares with
-abbrev pub compared : AtomicFunction → Option ℕ
-compared does.Add = None
-compared does.Subtract = None
-compared does.And = None
-compared does.ExclusiveOr = None
-compared does.InclusiveOr = None
-compared does.Min = None
-compared does.Max = None
-compared (does.Exchange compare) = compare
-
--- the index that a gather is made by
-abbrev pub gather_index : GatherMode → Option ℕ
-gather_index mode.BroadcastFirst = None
-gather_index (mode.Broadcast index) = Some index
-gather_index (mode.Shuffle index) = Some index
-gather_index (mode.ShuffleDown index) = Some index
-gather_index (mode.ShuffleUp index) = Some index
-gather_index (mode.ShuffleXor index) = Some index
-gather_index (mode.QuadBroadcast index) = Some index
-gather_index (mode.QuadSwap direction) = None
-
--- what is done with a ray query is done with these
-abbrev pub ray_operands : RayQueryFunction → List ℕ
-ray_operands (ray.Initialize acceleration_structure descriptor) = acceleration_structure ∷ descriptor ∷ []
-ray_operands (ray.Proceed result) = []
-ray_operands (ray.GenerateIntersection hit_t) = hit_t ∷ []
-ray_operands ray.ConfirmIntersection = []
-ray_operands ray.Terminate = []
-
-abbrev pub pipeline_operands : RayPipelineFunction → List ℕ
-pipeline_operands (pipeline.TraceRay acceleration_structure descriptor payload) = acceleration_structure ∷ descriptor ∷ payload ∷ []
-
-abbrev pub operation_operands : PlainOperation → List ℕ
-operation_operands (control_barrier barrier) = []
-operation_operands (memory_barrier barrier) = []
-operation_operands (store pointer value) = pointer ∷ value ∷ []
-operation_operands (image_store image coordinate array_index value) = given (Some image ∷ Some coordinate ∷ array_index ∷ Some value ∷ [])
-operation_operands (atomic pointer fun value result) = given (Some pointer ∷ compared fun ∷ Some value ∷ [])
-operation_operands (image_atomic image coordinate array_index fun value) = given (Some image ∷ Some coordinate ∷ array_index ∷ compared fun ∷ Some value ∷ [])
-operation_operands (uniform_load pointer result) = pointer ∷ []
-operation_operands (ray_query query fun) = query ∷ ray_operands fun
-operation_operands (ballot result predicate) = given (predicate ∷ [])
-operation_operands (collective op collective_op argument result) = argument ∷ []
-operation_operands (gather mode argument result) = given (gather_index mode ∷ Some argument ∷ [])
-operation_operands (cooperative_store target place) = target ∷ place.pointer ∷ place.stride ∷ []
-operation_operands (ray_pipeline fun) = pipeline_operands fun
-
--- the operands of a statement in the order of its fields, a loop's condition among them
+-- the operands of a statement, in order
 abbrev pub statement_operands : PlainStatement → List ℕ
-statement_operands (emit first end) = []
-statement_operands (block b) = []
-statement_operands (if_ condition accept reject) = condition ∷ []
-statement_operands (switch selector cases) = selector ∷ []
-statement_operands (loop body continuing break_if) = given (break_if ∷ [])
-statement_operands break = []
-statement_operands continue = []
-statement_operands (return value) = given (value ∷ [])
-statement_operands kill = []
-statement_operands (operation a) = operation_operands a
-statement_operands (call function arguments result) = arguments
+statement_operands s = handles_of (of_statement s)
 
 -- what a ray query's step puts its answer into
 abbrev pub ray_result : RayQueryFunction → Option ℕ

@@ -2,7 +2,9 @@
 #![tactic(auto)]
 
 mod item;
+mod operand;
 mod target;
 
 pub use item::ItemKind;
+pub use operand::{Scoping, Slot, Usage};
 pub use target::Target;

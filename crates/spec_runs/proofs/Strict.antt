@@ -1,20 +1,23 @@
 -- Where strict scope is in order, every operand may be used.
-use Rattle.std.proofs.Common.{◌≡◌, ℕ, zero, suc, ◌+◌, ◌-◌, ◌<◌, ◌≤◌, Bool, true, false, List, [], ◌∷◌, ◌++◌, ◌⊎◌, inl, inr, ⊎_elim, Option, Some, None, Contains, slice_get, option_to_list, refl, sym, ap, ◌∙◌, subst, arith}
+use Rattle.std.proofs.Common.{◌≡◌, ℕ, zero, suc, ◌+◌, ◌-◌, ◌<◌, ◌≤◌, Bool, true, false, List, [], ◌∷◌, ◌++◌, ◌⊎◌, inl, inr, ⊎_elim, Option, Some, None, Contains, slice_get, option_to_list, filter, if◌then◌else◌, refl, sym, ap, ◌∙◌, subst, arith}
 use Rattle.std.proofs.lemmas.List.Elements.{Contains-append_left, Contains-append_right, Contains-append_cases, Contains-push}
-use Rattle.std.specs.List.{range_with_len}
+use Rattle.std.specs.List.{cons_option, range_with_len}
 use Rattle.ir_blocks.specs.Places.{Place, Spot, nothing, statement, loop_condition, spot_at, OccursAt}
-use Rattle.ir_blocks.specs.Plain.{PlainOperation, control_barrier, memory_barrier, store, image_store, atomic, image_atomic, uniform_load, ray_query, ballot, collective, gather, cooperative_store, ray_pipeline, PlainStatement, emit, block, if_, switch, loop, break, continue, return, kill, operation, call, PlainBlock, stop, next}
-use Rattle.ir_blocks.specs.declared.operations.AtomicFunction.{AtomicFunction}
+use Rattle.ir_blocks.specs.Plain.{PlainStatement, emit, block, if_, switch, loop, break, continue, return, kill, operation, call, PlainBlock, stop, next}
 use Rattle.ir_types.specs.ExpressionPlain.{PlainExpression}
 use Rattle.ir_items.specs.Plain.{PlainFunction}
-use Rattle.spec_handles.specs.Expressions.{given, expression_operands}
-use Rattle.spec_handles.specs.Statements.{compared, statement_result}
+use Rattle.spec_handles.specs.Expressions.{expression_operands}
+use Rattle.spec_handles.specs.Operands.{Operands, these, each_of, of_statement, handles_of, is_looked_up, looked_up}
+use Rattle.spec_handles.specs.declared.operand.Scoping.{Scoping}
+use Rattle.spec_handles.specs.declared.operand.Scoping.TheVariants.{Always, Strictly, Apart}
+use Rattle.spec_handles.specs.declared.operand.Slot.{Slot}
+use Rattle.spec_handles.specs.Statements.{statement_result}
 use Rattle.spec_statements.proofs.ScopeLaws.{none_held}
 use Rattle.spec_statements.proofs.StrictLaws.{strict_by_walk_lem}
 use Rattle.spec_statements.specs.Scope.{PreEmitted}
-use Rattle.spec_statements.specs.Strict.{InStrictScope, StrictOK, statement_needed, needed_at}
+use Rattle.spec_statements.specs.Strict.{InStrictScope, StrictOK, needed_at}
 use Rattle.spec_statements.specs.SureLevel.{holds_continue, unless, sure_level, visible_by}
-use Rattle.spec_statements.specs.Tables.{compared_for, operation_checked, statement_checked, checked_at, introduced}
+use Rattle.spec_statements.specs.Tables.{checked_at, introduced}
 use Rattle.spec_statements.specs.Visible.{top_level}
 use Rattle.spec_runs.specs.Laws.{StrictIsLawful, AnswersNameNothing, StrictSuffices}
 
@@ -76,75 +79,36 @@ one e x (suc k, lt, is) = absurd (omega (arith, lt))
 split : (x e : ℕ) (xs : List ℕ) → Contains (x ∷ xs) e → (e ≡ x) ⊎ Contains xs e
 split x e xs held = ⊎_elim (λ own. inl (one x e own)) (λ more. inr more) (Contains-append_cases (x ∷ []) xs e held)
 
-given_first : (o : Option ℕ) (rest : List (Option ℕ)) (e : ℕ) → Contains (given rest) e → Contains (given (o ∷ rest)) e
-given_first None rest e held = held
-given_first (Some x) rest e held = behind x e (given rest) held
+option_later : (o : Option ℕ) (all : List ℕ) (e : ℕ) → Contains all e → Contains (cons_option o all) e
+option_later None all e held = held
+option_later (Some x) all e held = behind x e all held
 
-given_split : (o : Option ℕ) (rest : List (Option ℕ)) (e : ℕ) → Contains (given (o ∷ rest)) e → (o ≡ Some e) ⊎ Contains (given rest) e
-given_split None rest e held = inr held
-given_split (Some x) rest e held = ⊎_elim (λ is. inl (ap Some (sym is))) (λ more. inr more) (split x e (given rest) held)
+option_or_rest : (o : Option ℕ) (few all : List ℕ) (e : ℕ) → (Contains few e → Contains all e) → Contains (cons_option o few) e → Contains (cons_option o all) e
+option_or_rest None few all e more held = more held
+option_or_rest (Some x) few all e more held =
+    ⊎_elim (λ is. subst (λ y. Contains (x ∷ all) y) (sym is) (first x all)) (λ rest. behind x e all (more rest)) (split x e few held)
 
-given_here : (o : Option ℕ) (rest : List (Option ℕ)) (e : ℕ) → o ≡ Some e → Contains (given (o ∷ rest)) e
-given_here o rest e is = subst (λ x. Contains (given (x ∷ rest)) e) (sym is) (first e (given rest))
+-- of one operand, after which fewer are looked up, and all
+by_scoping : (slot : Slot) (when : Scoping) (few all : List Slot) (e : ℕ) → (Contains (handles_of (these few)) e → Contains (handles_of (these all)) e)
+    → Contains (handles_of (these (if is_looked_up false when then slot ∷ few else few))) e → Contains (handles_of (these (if is_looked_up true when then slot ∷ all else all))) e
+by_scoping slot Always few all e more held = option_or_rest slot.handle (handles_of (these few)) (handles_of (these all)) e more held
+by_scoping slot Strictly few all e more held = option_later slot.handle (handles_of (these all)) e (more held)
+by_scoping slot Apart few all e more held = more held
 
-compared_is : (result : Option ℕ) (fun : AtomicFunction) (e : ℕ) → compared_for result fun ≡ Some e → compared fun ≡ Some e
-compared_is (Some r) fun e is = is
-compared_is None fun e is = let x = is in absurd (cc)
+slots_needed : (slots : List Slot) (e : ℕ) → Contains (looked_up false (these slots)) e → Contains (looked_up true (these slots)) e
+slots_needed [] e held = held
+slots_needed (slot ∷ rest) e held =
+    by_scoping slot slot.scoping (filter (λ (s : Slot). is_looked_up false s.scoping) rest) (filter (λ (s : Slot). is_looked_up true s.scoping) rest) e (slots_needed rest e) held
 
-atomic_needed : (pointer : ℕ) (fun : AtomicFunction) (value : ℕ) (result : Option ℕ) (e : ℕ) → Contains (given (Some pointer ∷ Some value ∷ compared_for result fun ∷ [])) e → Contains (given (Some pointer ∷ compared fun ∷ Some value ∷ [])) e
-atomic_needed pointer fun value result e held =
-    let tail : List (Option ℕ) = compared fun ∷ Some value ∷ [] in
-    ⊎_elim
-    (λ is. given_here (Some pointer) tail e is)
-    (λ more. given_first (Some pointer) tail e
-    (⊎_elim
-    (λ is. given_first (compared fun) (Some value ∷ []) e (given_here (Some value) [] e is))
-    (λ last. ⊎_elim (λ is. given_here (compared fun) (Some value ∷ []) e (compared_is result fun e is)) (λ none. none_held e none) (given_split (compared_for result fun) [] e last))
-    (given_split (Some value) (compared_for result fun ∷ []) e more)))
-    (given_split (Some pointer) (Some value ∷ compared_for result fun ∷ []) e held)
-
-image_atomic_needed : (image coordinate : ℕ) (array_index : Option ℕ) (fun : AtomicFunction) (value e : ℕ) → Contains (given (Some coordinate ∷ array_index ∷ Some value ∷ [])) e
-    → Contains (given (Some image ∷ Some coordinate ∷ array_index ∷ compared fun ∷ Some value ∷ [])) e
-image_atomic_needed image coordinate array_index fun value e held =
-    let last : List (Option ℕ) = compared fun ∷ Some value ∷ [] in
-    given_first (Some image) (Some coordinate ∷ array_index ∷ last) e
-    (⊎_elim
-    (λ is. given_here (Some coordinate) (array_index ∷ last) e is)
-    (λ more. given_first (Some coordinate) (array_index ∷ last) e
-    (⊎_elim (λ is. given_here array_index last e is) (λ rest. given_first array_index last e (given_first (compared fun) (Some value ∷ []) e rest)) (given_split array_index (Some value ∷ []) e more)))
-    (given_split (Some coordinate) (array_index ∷ Some value ∷ []) e held))
-
-operation_needed : (a : PlainOperation) (e : ℕ) → Contains (operation_checked a) e → Contains (statement_needed (operation a)) e
-operation_needed (control_barrier barrier) e held = held
-operation_needed (memory_barrier barrier) e held = held
-operation_needed (store pointer value) e held = behind pointer e (value ∷ []) held
-operation_needed (image_store image coordinate array_index value) e held = given_first (Some image) (Some coordinate ∷ array_index ∷ Some value ∷ []) e held
-operation_needed (atomic pointer fun value result) e held = atomic_needed pointer fun value result e held
-operation_needed (image_atomic image coordinate array_index fun value) e held = image_atomic_needed image coordinate array_index fun value e held
-operation_needed (uniform_load pointer result) e held = held
-operation_needed (ray_query query fun) e held = behind query e _ held
-operation_needed (ballot result predicate) e held = held
-operation_needed (collective op collective_op argument result) e held = held
-operation_needed (gather mode argument result) e held = held
-operation_needed (cooperative_store target place) e held = ⊎_elim (λ is. subst (λ x. Contains (target ∷ place.pointer ∷ place.stride ∷ []) x) (sym is) (first target (place.pointer ∷ place.stride ∷ []))) (λ none. none_held e none) (split target e [] held)
-operation_needed (ray_pipeline fun) e held = held
-
-statement_is_needed : (s : PlainStatement) (e : ℕ) → Contains (statement_checked s) e → Contains (statement_needed s) e
-statement_is_needed (emit first end) e held = held
-statement_is_needed (block b) e held = held
-statement_is_needed (if_ test accept reject) e held = held
-statement_is_needed (switch selector cases) e held = held
-statement_is_needed (loop body continuing break_if) e held = held
-statement_is_needed break e held = held
-statement_is_needed continue e held = held
-statement_is_needed (return value) e held = held
-statement_is_needed kill e held = held
-statement_is_needed (operation a) e held = operation_needed a e held
-statement_is_needed (call function arguments result) e held = held
+are_needed : (operands : Operands) (e : ℕ) → Contains (looked_up false operands) e → Contains (looked_up true operands) e
+are_needed (these slots) e held = slots_needed slots e held
+are_needed (each_of Always handles) e held = held
+are_needed (each_of Strictly handles) e held = none_held e held
+are_needed (each_of Apart handles) e held = held
 
 checked_is_needed : (spot : Spot) (e : ℕ) → Contains (checked_at spot) e → Contains (needed_at spot) e
 checked_is_needed nothing e held = held
-checked_is_needed (statement s) e held = statement_is_needed s e held
+checked_is_needed (statement s) e held = are_needed (of_statement s) e held
 checked_is_needed (loop_condition break_if) e held = held
 
 -- ---- ranges

@@ -1,4 +1,4 @@
--- Values in memory that are changed at once.
+-- Values in memory that are changed atomically.
 use Rattle.std.specs.Prelude.{◌≡◌, ◌⊎◌, ℕ, List, Option, Some, None, Bool, true, false, IsSomeAnd, option_and_then, slice_get}
 use Rattle.ir_blocks.specs.declared.operations.AtomicFunction.{AtomicFunction}
 use Rattle.ir_blocks.specs.declared.operations.AtomicFunction.TheVariants as fun
@@ -19,7 +19,7 @@ use Rattle.typing_forms.specs.declared.form.Form.{Form}
 use Rattle.typing_forms.specs.declared.form.Form.TheVariants as form
 use Rattle.spec_statements.specs.ExpressionResults.{IsExchangeOf}
 use Rattle.spec_statements.specs.Shapes.{pointed_in}
-use Rattle.spec_handles.specs.Statements.{compared}
+use Rattle.spec_handles.specs.Operands.{compared}
 use Rattle.spec_statements.specs.BlockContext.{BlockContext, form_at}
 use Rattle.spec_statements.specs.StorageImages.{IsExtremum}
 use Rattle.spec_statements.specs.Stores.{pointer_space}

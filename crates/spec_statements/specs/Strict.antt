@@ -1,14 +1,14 @@
 -- Strict scope, a check of this library's own: every operand is in scope where it is used, and what a continue may skip doesn't count.
-use Rattle.std.specs.Prelude.{◌≡◌, ◌⊎◌, ◌<◌, ◌≤◌, ℕ, List, [], ◌∷◌, Some, Contains, slice_get}
+use Rattle.std.specs.Prelude.{◌≡◌, ◌⊎◌, ◌<◌, ◌≤◌, ℕ, true, List, [], ◌∷◌, Some, Contains, slice_get}
 use Rattle.ir_blocks.specs.Places.{Place, here, later, inside, condition, IsTop, Before, Spot, nothing, statement, loop_condition, spot_at, OccursAt}
-use Rattle.ir_blocks.specs.Plain.{PlainStatement, emit, block, if_, switch, loop, break, continue, return, kill, operation, call, PlainBlock, ray_query, ballot}
+use Rattle.ir_blocks.specs.Plain.{PlainStatement, emit, continue, operation, PlainBlock, ray_query, ballot}
 use Rattle.ir_blocks.specs.Shapes.{Part, inner, accepting, rejecting, case_at, loop_body, loop_continuing}
 use Rattle.ir_blocks.specs.declared.operations.RayQueryFunction.TheVariants.{Proceed}
 use Rattle.ir_types.specs.ExpressionPlain.{PlainExpression, plain}
 use Rattle.ir_types.specs.declared.expressions.Expression.TheVariants.{RayQueryProceedResult, SubgroupBallotResult}
 use Rattle.ir_items.specs.Plain.{PlainFunction}
-use Rattle.spec_handles.specs.Expressions.{given, expression_operands}
-use Rattle.spec_handles.specs.Statements.{operation_operands}
+use Rattle.spec_handles.specs.Expressions.{expression_operands}
+use Rattle.spec_handles.specs.Operands.{given, of_statement, looked_up}
 use Rattle.spec_statements.specs.Scope.{PreEmitted, Introduces}
 
 -- ---- what a continue may skip
@@ -50,17 +50,7 @@ InStrictScope f p e = PreEmitted f e ⊎ ((q : Place) × Before q p × Introduce
 
 -- every operand of a statement; a loop's condition is used at its own place, after the continuing part
 abbrev pub statement_needed : PlainStatement → List ℕ
-statement_needed (emit first end) = []
-statement_needed (block b) = []
-statement_needed (if_ test accept reject) = test ∷ []
-statement_needed (switch selector cases) = selector ∷ []
-statement_needed (loop body continuing break_if) = []
-statement_needed break = []
-statement_needed continue = []
-statement_needed (return value) = given (value ∷ [])
-statement_needed kill = []
-statement_needed (operation a) = operation_operands a
-statement_needed (call function arguments result) = arguments
+statement_needed s = looked_up true (of_statement s)
 
 abbrev pub needed_at : Spot → List ℕ
 needed_at nothing = []
@@ -75,7 +65,10 @@ Needs b p e = Contains (needed_at (spot_at p b)) e
 -- before an expression count; and what denotes the answer of a `Proceed` or of a ballot is of its own kind.
 pub record StrictOK (f : PlainFunction) : Type 0 where
   pub used : (p : Place) (o : ℕ) → Needs f.body p o → InStrictScope f p o
-  pub emitted : (p : Place) (first end : ℕ) → OccursAt f.body p (emit first end) → (e : ℕ) → first ≤ e → e < end → (x : PlainExpression) → slice_get f.expressions e ≡ Some x
+  pub emitted : (p : Place) (first end : ℕ) → OccursAt f.body p (emit first end) → (e : ℕ) → first ≤ e → e < end → (x : PlainExpression)
+      → slice_get f.expressions e ≡ Some x
       → (o : ℕ) → Contains (expression_operands x) o → ((first ≤ o) × (o < e)) ⊎ InStrictScope f p o
-  pub proceeds : (p : Place) (query result : ℕ) → OccursAt f.body p (operation (ray_query query (Proceed result))) → slice_get f.expressions result ≡ Some (plain RayQueryProceedResult)
-  pub ballots : (p : Place) (result : ℕ) (predicate : _) → OccursAt f.body p (operation (ballot result predicate)) → slice_get f.expressions result ≡ Some (plain SubgroupBallotResult)
+  pub proceeds : (p : Place) (query result : ℕ) → OccursAt f.body p (operation (ray_query query (Proceed result)))
+      → slice_get f.expressions result ≡ Some (plain RayQueryProceedResult)
+  pub ballots : (p : Place) (result : ℕ) (predicate : _) → OccursAt f.body p (operation (ballot result predicate))
+      → slice_get f.expressions result ≡ Some (plain SubgroupBallotResult)

@@ -22,7 +22,7 @@ use Rattle.typing_layout.specs.Constness.{IsOfKind}
 use Rattle.typing_layout.specs.declared.constness.ExpressionKind.TheVariants.{Const}
 use Rattle.spec_statements.specs.Shapes.{IsAlone, IsInteger, IsOfValue, IsTruth, IsMadeOf, shaped_of}
 use Rattle.spec_statements.specs.declared.shapes.Shape.{Shape}
-use Rattle.spec_handles.specs.Statements.{gather_index}
+use Rattle.spec_handles.specs.Operands.{gather_index}
 use Rattle.spec_statements.specs.BlockContext.{BlockContext, form_at}
 
 -- ---- what is needed
@@ -83,7 +83,7 @@ IsNumber kind.Bool = ⊥
 IsNumber kind.AbstractInt = ⊥
 IsNumber kind.AbstractFloat = ⊥
 
--- truth values are asked one by one; bits are of integers of four bytes up
+-- truth values are required one by one; bits are of integers of four bytes up
 abbrev pub TakesShape : SubgroupOperation → Shape → Scalar → Type 0
 TakesShape op.All shape s = IsAlone shape × IsTruth s.kind
 TakesShape op.Any shape s = IsAlone shape × IsTruth s.kind

@@ -9,7 +9,8 @@ use Rattle.ir_types.specs.ExpressionPlain.{PlainExpression, compose, plain, expr
 use Rattle.ir_types.specs.declared.expressions.Expression.{Expression}
 use Rattle.ir_types.specs.declared.expressions.Expression.TheVariants as x
 use Rattle.ir_items.specs.GlobalView.{values_of}
-use Rattle.spec_analysis.specs.Operands.{Operand, reads, carries, queries, expression_operands}
+use Rattle.spec_analysis.specs.Operands.{Operand, operand, expression_operands}
+use Rattle.spec_handles.specs.declared.operand.Usage.TheVariants.{Base, Query, Read}
 use Rattle.spec_analysis.specs.Values.{OperandsPrecede}
 use Rattle.spec_analysis.proofs.Members.{get-within}
 use Rattle.spec_expressions.specs.Context.{Context}
@@ -46,40 +47,40 @@ typing_taken (plain (x.Constant v)) o h = elim h [ ]
 typing_taken (plain (x.Override v)) o h = elim h [ ]
 typing_taken (plain (x.ZeroValue v)) o h = elim h [ ]
 typing_taken (plain (x.Compose t cs)) o h = elim h [ ]
-typing_taken (plain (x.Access b i)) o h = elim h [ inl e ↦ (carries b, inl refl, e) | inr n ↦ elim n [ ] ]
-typing_taken (plain (x.AccessIndex b i)) o h = elim h [ inl e ↦ (carries b, inl refl, e) | inr n ↦ elim n [ ] ]
-typing_taken (plain (x.Splat s v)) o h = elim h [ inl e ↦ (reads v, inl refl, e) | inr n ↦ elim n [ ] ]
-typing_taken (plain (x.Swizzle s v p)) o h = elim h [ inl e ↦ (reads v, inl refl, e) | inr n ↦ elim n [ ] ]
+typing_taken (plain (x.Access b i)) o h = elim h [ inl e ↦ (operand Base b, inl refl, e) | inr n ↦ elim n [ ] ]
+typing_taken (plain (x.AccessIndex b i)) o h = elim h [ inl e ↦ (operand Base b, inl refl, e) | inr n ↦ elim n [ ] ]
+typing_taken (plain (x.Splat s v)) o h = elim h [ inl e ↦ (operand Read v, inl refl, e) | inr n ↦ elim n [ ] ]
+typing_taken (plain (x.Swizzle s v p)) o h = elim h [ inl e ↦ (operand Read v, inl refl, e) | inr n ↦ elim n [ ] ]
 typing_taken (plain (x.FunctionArgument v)) o h = elim h [ ]
 typing_taken (plain (x.GlobalVariable v)) o h = elim h [ ]
 typing_taken (plain (x.LocalVariable v)) o h = elim h [ ]
-typing_taken (plain (x.Load p)) o h = elim h [ inl e ↦ (reads p, inl refl, e) | inr n ↦ elim n [ ] ]
-typing_taken (plain (x.ImageSample i s g co a of l d cl)) o h = elim h [ inl e ↦ (reads i, inl refl, e) | inr n ↦ elim n [ ] ]
-typing_taken (plain (x.ImageLoad i co a s l)) o h = elim h [ inl e ↦ (reads i, inl refl, e) | inr n ↦ elim n [ ] ]
-typing_taken (plain (x.ImageQuery i q)) o h = elim h [ inl e ↦ (queries i, inl refl, e) | inr n ↦ elim n [ ] ]
-typing_taken (plain (x.Unary op v)) o h = elim h [ inl e ↦ (reads v, inl refl, e) | inr n ↦ elim n [ ] ]
-typing_taken (plain (x.Binary op a b)) o h = elim h [ inl e ↦ (reads a, inl refl, e) | inr n ↦ elim n [ inl e ↦ (reads b, inr (inl refl), e) | inr m ↦ elim m [ ] ] ]
-typing_taken (plain (x.Select c a r)) o h = elim h [ inl e ↦ (reads a, inr (inl refl), e) | inr n ↦ elim n [ ] ]
-typing_taken (plain (x.Derivative a c v)) o h = elim h [ inl e ↦ (reads v, inl refl, e) | inr n ↦ elim n [ ] ]
-typing_taken (plain (x.Relational f v)) o h = elim h [ inl e ↦ (reads v, inl refl, e) | inr n ↦ elim n [ ] ]
-typing_taken (plain (x.Math f a None None None)) o h = elim h [ inl e ↦ (reads a, inl refl, e) | inr n ↦ elim n [ ] ]
-typing_taken (plain (x.Math f a (Some b) None None)) o h = elim h [ inl e ↦ (reads a, inl refl, e) | inr n ↦ elim n [ inl e ↦ (reads b, inr (inl refl), e) | inr m ↦ elim m [ ] ] ]
+typing_taken (plain (x.Load p)) o h = elim h [ inl e ↦ (operand Read p, inl refl, e) | inr n ↦ elim n [ ] ]
+typing_taken (plain (x.ImageSample i s g co a of l d cl)) o h = elim h [ inl e ↦ (operand Read i, inl refl, e) | inr n ↦ elim n [ ] ]
+typing_taken (plain (x.ImageLoad i co a s l)) o h = elim h [ inl e ↦ (operand Read i, inl refl, e) | inr n ↦ elim n [ ] ]
+typing_taken (plain (x.ImageQuery i q)) o h = elim h [ inl e ↦ (operand Query i, inl refl, e) | inr n ↦ elim n [ ] ]
+typing_taken (plain (x.Unary op v)) o h = elim h [ inl e ↦ (operand Read v, inl refl, e) | inr n ↦ elim n [ ] ]
+typing_taken (plain (x.Binary op a b)) o h = elim h [ inl e ↦ (operand Read a, inl refl, e) | inr n ↦ elim n [ inl e ↦ (operand Read b, inr (inl refl), e) | inr m ↦ elim m [ ] ] ]
+typing_taken (plain (x.Select c a r)) o h = elim h [ inl e ↦ (operand Read a, inr (inl refl), e) | inr n ↦ elim n [ ] ]
+typing_taken (plain (x.Derivative a c v)) o h = elim h [ inl e ↦ (operand Read v, inl refl, e) | inr n ↦ elim n [ ] ]
+typing_taken (plain (x.Relational f v)) o h = elim h [ inl e ↦ (operand Read v, inl refl, e) | inr n ↦ elim n [ ] ]
+typing_taken (plain (x.Math f a None None None)) o h = elim h [ inl e ↦ (operand Read a, inl refl, e) | inr n ↦ elim n [ ] ]
+typing_taken (plain (x.Math f a (Some b) None None)) o h = elim h [ inl e ↦ (operand Read a, inl refl, e) | inr n ↦ elim n [ inl e ↦ (operand Read b, inr (inl refl), e) | inr m ↦ elim m [ ] ] ]
 typing_taken (plain (x.Math f a (Some b) (Some c) None)) o h = elim h [
-  | inl e ↦ (reads a, inl refl, e)
-  | inr n ↦ elim n [ inl e ↦ (reads b, inr (inl refl), e) | inr m ↦ elim m [ inl e ↦ (reads c, inr (inr (inl refl)), e) | inr l ↦ elim l [ ] ] ]
+  | inl e ↦ (operand Read a, inl refl, e)
+  | inr n ↦ elim n [ inl e ↦ (operand Read b, inr (inl refl), e) | inr m ↦ elim m [ inl e ↦ (operand Read c, inr (inr (inl refl)), e) | inr l ↦ elim l [ ] ] ]
 ]
 typing_taken (plain (x.Math f a (Some b) (Some c) (Some d))) o h = elim h [
-  | inl e ↦ (reads a, inl refl, e)
+  | inl e ↦ (operand Read a, inl refl, e)
   | inr n ↦ elim n [
-    | inl e ↦ (reads b, inr (inl refl), e)
-    | inr m ↦ elim m [ inl e ↦ (reads c, inr (inr (inl refl)), e) | inr l ↦ elim l [ inl e ↦ (reads d, inr (inr (inr (inl refl))), e) | inr k ↦ elim k [ ] ] ]
+    | inl e ↦ (operand Read b, inr (inl refl), e)
+    | inr m ↦ elim m [ inl e ↦ (operand Read c, inr (inr (inl refl)), e) | inr l ↦ elim l [ inl e ↦ (operand Read d, inr (inr (inr (inl refl))), e) | inr k ↦ elim k [ ] ] ]
   ]
 ]
 typing_taken (plain (x.Math f a None None (Some d))) o h = elim h [ ]
 typing_taken (plain (x.Math f a None (Some c) None)) o h = elim h [ ]
 typing_taken (plain (x.Math f a None (Some c) (Some d))) o h = elim h [ ]
 typing_taken (plain (x.Math f a (Some b) None (Some d))) o h = elim h [ ]
-typing_taken (plain (x.As v k c)) o h = elim h [ inl e ↦ (reads v, inl refl, e) | inr n ↦ elim n [ ] ]
+typing_taken (plain (x.As v k c)) o h = elim h [ inl e ↦ (operand Read v, inl refl, e) | inr n ↦ elim n [ ] ]
 typing_taken (plain (x.CallResult v)) o h = elim h [ ]
 typing_taken (plain (x.AtomicResult t c)) o h = elim h [ ]
 typing_taken (plain (x.WorkGroupUniformLoadResult t)) o h = elim h [ ]
@@ -89,8 +90,8 @@ typing_taken (plain x.RayQueryProceedResult) o h = elim h [ ]
 typing_taken (plain (x.RayQueryGetIntersection q c)) o h = elim h [ ]
 typing_taken (plain x.SubgroupBallotResult) o h = elim h [ ]
 typing_taken (plain (x.SubgroupOperationResult t)) o h = elim h [ ]
-typing_taken (plain (x.CooperativeLoad c r ro d)) o h = elim h [ inl e ↦ (reads d.pointer, inl refl, e) | inr n ↦ elim n [ ] ]
-typing_taken (plain (x.CooperativeMultiplyAdd a b c)) o h = elim h [ inl e ↦ (reads c, inr (inr (inl refl)), e) | inr n ↦ elim n [ ] ]
+typing_taken (plain (x.CooperativeLoad c r ro d)) o h = elim h [ inl e ↦ (operand Read d.pointer, inl refl, e) | inr n ↦ elim n [ ] ]
+typing_taken (plain (x.CooperativeMultiplyAdd a b c)) o h = elim h [ inl e ↦ (operand Read c, inr (inr (inl refl)), e) | inr n ↦ elim n [ ] ]
 
 pub operands_below : (xs : List PlainExpression) → OperandsPrecede xs → (e : ℕ) (y : PlainExpression) → slice_get xs e ≡ Some y → OperandsBelow e y
 operands_below xs precede e y at o among = let t = typing_taken y o among in subst (λ z. z < e) t.2 (precede e y t.0 at t.1)

@@ -1,4 +1,3 @@
-pub mod Counting
 pub mod Effects
 pub mod Handles
 pub mod Merging

@@ -1,7 +1,8 @@
 //! How often expressions are operands, and how global variables are used.
 
 ghost use Rattle.std.specs.Prelude.{◌≡◌, Option, List, Some, map, IfOk, replicate, slice_index_or, ◌==◌};
-ghost use Rattle.spec_analysis.specs.Operands.{reads, reads_if};
+ghost use Rattle.spec_analysis.specs.Operands.{operand};
+ghost use Rattle.spec_handles.specs.declared.operand.Usage.TheVariants.{Read};
 ghost use Rattle.spec_analysis.specs.Summaries.{no_use};
 ghost use Rattle.spec_analysis.specs.Values.{known_at};
 ghost use Rattle.typing_infos.specs.Infos.{marked, joined_use};
@@ -89,25 +90,11 @@ impl Counts {
         mark(&mut self.uses, start_of(globals, handle), kind);
     }
 
-    pub(crate) fn read(&mut self, globals: &[Start], handle: Handle<key::Expression>)
-        ensures { counted self.new ≡ take_one globals.now (reads handle) (counted self.old) }
-    {
-        self.take(globals, handle, GlobalUse::READ);
-    }
-
-    pub(crate) fn read_if(&mut self, globals: &[Start], handle: Option<Handle<key::Expression>>)
-        ensures { counted self.new ≡ take_all globals.now (reads_if handle) (counted self.old) }
-    {
-        if let Some(handle) = handle {
-            self.read(globals, handle);
-        }
-    }
-
     pub(crate) fn read_all(&mut self, globals: &[Start], handles: &[Handle<key::Expression>])
-        ensures { counted self.new ≡ take_all globals.now (map reads handles.now) (counted self.old) }
+        ensures { counted self.new ≡ take_all globals.now (map (operand Read) handles.now) (counted self.old) }
     {
         for handle in handles {
-            self.read(globals, *handle);
+            self.take(globals, *handle, GlobalUse::READ);
         }
     }
 
@@ -133,7 +120,7 @@ fn mark_in(uses: &mut [GlobalUse], index: usize, kind: GlobalUse)
     }
 }
 
-// Each use with that of the same global variable among the others. The loop is so that many are joined at once.
+// Each use with that of the same global variable among the others. The loop is so that many are joined together.
 #[tactic(auto, using(crate::proofs::Merging::rest))]
 fn merge(uses: &mut [GlobalUse], others: &[GlobalUse])
     ensures { uses.new ≡ merged uses.old others.now }

@@ -5,7 +5,6 @@
 mod counts;
 mod expressions;
 mod operands;
-mod operations;
 mod passed;
 mod tally;
 mod walk;

@@ -10,7 +10,8 @@ use Rattle.ir_types.specs.declared.expressions.Expression.{Expression}
 use Rattle.ir_types.specs.declared.expressions.Expression.TheVariants as x
 use Rattle.ir_items.specs.GlobalView.{values_of}
 use Rattle.ir_items.specs.Plain.{PlainFunction, PlainModule}
-use Rattle.spec_analysis.specs.Operands.{Operand, carries, expression_operands}
+use Rattle.spec_analysis.specs.Operands.{Operand, operand, expression_operands}
+use Rattle.spec_handles.specs.declared.operand.Usage.TheVariants.{Base}
 use Rattle.spec_analysis.specs.Values.{inner_of, known_at, is_source, ComesFrom, itself, through, StartsAt, is_global, accessed, accessed_index, AreStarts, OperandsPrecede, IsExact}
 use Rattle.typing_uniformity.specs.Facts.{or_known, find_all, source_if, source_of, start_of, sources_of, starts_of, AreSources}
 
@@ -19,10 +20,6 @@ some_is e = cc (e)
 
 none_some : {X : Type 0} {A : Type 0} {x : X} → None ≡ Some x → A
 none_some e = absurd (cc (e))
-
-pub find_append : (sources : List (Option ℕ)) (xs ys : List Operand) (found : Option ℕ) → find_all sources (xs ++ ys) found ≡ find_all sources ys (find_all sources xs found)
-find_append sources [] ys found = refl
-find_append sources (x ∷ xs) ys found = find_append sources xs ys (or_known sources x.handle found)
 
 -- ---- lists
 
@@ -211,7 +208,7 @@ one_start xs known precede starts (plain (x.GlobalVariable h)) g at = (
   ],
 )
 one_start xs known precede starts (plain (x.Access b i)) g at =
-    let below : b < length known = precede (length known) (plain (x.Access b i)) (carries b) at (inl refl) in (
+    let below : b < length known = precede (length known) (plain (x.Access b i)) (operand Base b) at (inl refl) in (
       λ e. accessed b i at ((starts b g below).0 e),
       λ s. elim (starts_cases xs (length known) g s) [
         | inl is ↦ absurd (let q = some_is (sym at ∙ is) in cc (q))
@@ -222,7 +219,7 @@ one_start xs known precede starts (plain (x.Access b i)) g at =
       ],
     )
 one_start xs known precede starts (plain (x.AccessIndex b i)) g at =
-    let below : b < length known = precede (length known) (plain (x.AccessIndex b i)) (carries b) at (inl refl) in (
+    let below : b < length known = precede (length known) (plain (x.AccessIndex b i)) (operand Base b) at (inl refl) in (
       λ e. accessed_index b i at ((starts b g below).0 e),
       λ s. elim (starts_cases xs (length known) g s) [
         | inl is ↦ absurd (let q = some_is (sym at ∙ is) in cc (q))

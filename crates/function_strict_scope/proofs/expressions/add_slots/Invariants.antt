@@ -1,7 +1,7 @@
 use Rattle.std.proofs.Common.{◌≡◌, ◌++◌, drop}
-use Rattle.spec_handles.specs.Expressions.{given}
+use Rattle.spec_handles.specs.Operands.{these, handles_of}
 use Rattle.function_strict_scope.proofs.expressions.add_slots.Given as goal
 
 -- what was added with the rest is what all add
 abbrev pub invariant-loop-slot : goal.invariant-loop-slot
-invariant-loop-slot l = (l.list.items ++ given (drop l.slot-index l.slots)) ≡ l.fn.list.items ++ given l.slots
+invariant-loop-slot l = (l.list.items ++ handles_of (these (drop l.slot-index l.slots))) ≡ l.fn.list.items ++ handles_of (these l.slots)

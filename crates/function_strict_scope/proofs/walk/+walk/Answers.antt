@@ -8,7 +8,7 @@ use Rattle.ir_blocks.specs.View.{statement_view, block_view, case_view, cases_of
 use Rattle.ir_items.specs.View.{function_view}
 use Rattle.spec_statements.specs.SureLevel.{sure_level}
 use Rattle.function_strict_scope.proofs.Errors.{if_fault_then}
-use Rattle.function_strict_scope.proofs.Walks.{left_told, if_meets, if_wrong, switch_meets, body_left, loop_scope, loop_meets, continuing_wrong, condition_wrong}
+use Rattle.function_strict_scope.proofs.Walks.{left_told, if_meets, if_wrong, switch_meets, switch_wrong, body_left, loop_scope, loop_meets, continuing_wrong, condition_wrong}
 use Rattle.function_strict_scope.specs.Walked.{FaultWithin, IfFault, IsFaultHere}
 use Rattle.function_strict_scope.proofs.walk.+walk.Goals as goal
 
@@ -23,6 +23,15 @@ check_statement-returns-in_err-check_needed-in-If-clause-fault t c =
     let is : s ≡ if_ c.in-If.condition (block_view c.in-If.accept) (block_view c.in-If.reject) = search (rules, the_lemmas) in
     let told : IfFault c.in_err-check_needed-in-If.field-0.0 (λ e. FaultWithin f e c.args.sure.now s) =
     if_wrong f c.args.sure.now s c.in-If.condition (block_view c.in-If.accept) (block_view c.in-If.reject) is c.in_err-check_needed-in-If.field-0.0 c.in_err-check_needed-in-If.ensures.fault in
+    search rules
+
+pub check_statement-returns-in_err-check_needed-in-Switch-clause-fault : goal.check_statement-returns-in_err-check_needed-in-Switch-clause-fault
+check_statement-returns-in_err-check_needed-in-Switch-clause-fault t c =
+    let f = function_view c.args.function.now in
+    let s = statement_view c.args.statement.now in
+    let is : s ≡ switch c.in-Switch.selector (cases_of (map case_view c.in-Switch.cases.items)) = search (rules, the_lemmas) in
+    let wrong : IfFault c.in_err-check_needed-in-Switch.field-0.0 (λ e. FaultWithin f e c.args.sure.now s) =
+    switch_wrong f c.args.sure.now s c.in-Switch.selector _ is c.in_err-check_needed-in-Switch.field-0.0 c.in_err-check_needed-in-Switch.ensures.fault in
     search rules
 
 pub check_statement-returns-in_err-check_block-in-Loop-clause-fault : goal.check_statement-returns-in_err-check_block-in-Loop-clause-fault

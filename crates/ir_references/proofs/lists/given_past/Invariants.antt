@@ -1,8 +1,8 @@
 use Rattle.std.proofs.Common.{◌≡◌, drop}
 use Rattle.ir_references.specs.First.{first_past}
-use Rattle.spec_handles.specs.Expressions.{given}
+use Rattle.spec_handles.specs.Operands.{these, handles_of}
 use Rattle.ir_references.proofs.lists.given_past.Given as goal
 
 -- the first of the rest is the first of all
-abbrev pub invariant-loop-handle : goal.invariant-loop-handle
-invariant-loop-handle l = first_past l.end (given (drop l.handle-index l.handles)) ≡ first_past l.end (given l.handles)
+abbrev pub invariant-loop-slot : goal.invariant-loop-slot
+invariant-loop-slot l = first_past l.end (handles_of (these (drop l.slot-index l.slots))) ≡ first_past l.end (handles_of (these l.slots))

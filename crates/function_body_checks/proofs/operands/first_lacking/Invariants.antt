@@ -1,0 +1,9 @@
+use Rattle.std.proofs.Common.{◌≡◌, drop}
+use Rattle.ir_items.specs.View.{function_view}
+use Rattle.function_body_checks.specs.Carried.{known, first_lacking}
+use Rattle.function_body_checks.proofs.operands.first_lacking.Given as goal
+
+-- the first of the rest is the first of all
+abbrev pub invariant-loop-handle : goal.invariant-loop-handle
+invariant-loop-handle l =
+    first_lacking (known (function_view l.function) l.scope) (drop l.handle-index l.handles) ≡ first_lacking (known (function_view l.function) l.scope) l.handles
