@@ -119,14 +119,15 @@ disrupted_moves V W map outer h p s stands (already o) = already o
 disrupted_moves V W map outer h p s stands (chosen {a = a} u e lies at by v) =
     let k = carry (λ x. chosen_by x ≡ Some e) (looks chosen_by chosen_head (λ x. x ≡ Some e)) (no_answer e) h a u at by in
     chosen k.0 e lies k.1 k.2 (map e v)
-disrupted_moves {b} {c} V W map outer h p s stands (after {q = q} {r = r} u before holds at ends d) = by_kind (h.statements r u at) (disrupted_moves V W map outer h r u at d)
+disrupted_moves {b} {c} V W map outer h p s stands (after {r = r} i d) = by_kind (h.statements r i.end i.stands) (disrupted_moves V W map outer h r i.end i.stands d)
   where
     stands_not : spot_at p b ≡ nothing → Disrupted W outer c p
     stands_not is = absurd (let x = sym is ∙ stands in cc)
 
-    by_kind : Carried b c r u → Disrupted W outer c r → Disrupted W outer c p
-    by_kind (kept t stands_there head) there = after t before holds stands_there (subst IsTrue (by_head is_end end_head u t head) ends) there
-    by_kind (extra is rest ret behind) there = stands_not (behind q p holds before)
+    by_kind : Carried b c r i.end → Disrupted W outer c r → Disrupted W outer c p
+    by_kind (kept t stands_there head) there =
+        after (record { end = t; stands = stands_there; ends = subst IsTrue (by_head is_end end_head i.end t head) i.ends; earlier = i.earlier; holds = i.holds; before = i.before }) there
+    by_kind (extra is rest ret behind) there = stands_not (behind i.earlier p i.holds i.before)
 
 no_ask : (severity : Severity) (required : ℕ → ℕ) (x : Required) → Requires severity required (return None) x → ⊥
 no_ask severity required x h = h

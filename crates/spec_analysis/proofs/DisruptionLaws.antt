@@ -12,6 +12,10 @@ use Rattle.spec_analysis.proofs.EverywhereLaws.{none_in_stop}
 abbrev pub DisruptedBy : (ℕ → Bool) → Bool → PlainBlock → Place → Type 0
 DisruptedBy varies d body p = Disrupted (λ h. IsTrue (varies h)) d body p
 
+after_end : {varies : ℕ → Type 0} {outer : Bool} {body : PlainBlock} {p q r : Place} (s : PlainStatement) → Before q p → Holds q r → OccursAt body r s → IsTrue (is_end s)
+    → Disrupted varies outer body r → Disrupted varies outer body p
+after_end {q = q} s b o at e d = after (record { end = s; stands = at; ends = e; earlier = q; holds = o; before = b }) d
+
 false_is_not : {A : Type 0} → IsTrue false → A
 false_is_not h = absurd (cc)
 
@@ -121,7 +125,7 @@ module _ (varies : ℕ → Bool) where
   pub found : (d : Bool) (body : PlainBlock) {p : Place} → DisruptedBy varies d body p → IsTrue (disrupted_at varies d p body)
   found d body {p = p} (already h) = stays p d body h
   found d body (chosen s x o at is v) = chosen_around o d body s x at is v
-  found d body (after s b o at e u) = end_before b o d body s at e (found d body u)
+  found d body (after i u) = end_before i.before i.holds d body i.end i.stands i.ends (found d body u)
 
   -- ---- from what is found to places
 
@@ -140,13 +144,13 @@ module _ (varies : ℕ → Bool) where
       → (p : Place) → DisruptedBy varies (d || ends_at varies d u) rest p → DisruptedBy varies d (next u rest) (later p)
   lift_later d u rest outer p (already h) = outer p h
   lift_later d u rest outer p (chosen s x o at is v) = chosen s x (around_later o) at is v
-  lift_later d u rest outer p (after {r = r} s b o at e w) = after s (both_later b) (holds_later o) at e (lift_later d u rest outer r w)
+  lift_later d u rest outer p (after {r = r} i w) = after_end i.end (both_later i.before) (holds_later i.holds) i.stands i.ends (lift_later d u rest outer r w)
 
   lift_inside : (d : Bool) (u : PlainStatement) (rest : PlainBlock) (part : Part) → ((p : Place) → IsTrue (enter varies d u part) → DisruptedBy varies d (next u rest) (inside part p))
       → (p : Place) → DisruptedBy varies (enter varies d u part) (part_of (shape_of u) part) p → DisruptedBy varies d (next u rest) (inside part p)
   lift_inside d u rest part outer p (already h) = outer p h
   lift_inside d u rest part outer p (chosen s x o at is v) = chosen s x (around_inside part o) at is v
-  lift_inside d u rest part outer p (after {r = r} s b o at e w) = after s (both_inside part b) (holds_inside part o) at e (lift_inside d u rest part outer r w)
+  lift_inside d u rest part outer p (after {r = r} i w) = after_end i.end (both_inside part i.before) (holds_inside part i.holds) i.stands i.ends (lift_inside d u rest part outer r w)
 
   -- a disrupted end in a body's first statement
   abbrev FirstEnd : Bool → PlainStatement → PlainBlock → Type 0
@@ -168,7 +172,7 @@ module _ (varies : ℕ → Bool) where
 
   after_first : (d : Bool) (u : PlainStatement) (rest : PlainBlock) → (IsTrue (ends_at varies d u) → FirstEnd d u rest) → (p : Place) → IsTrue (d || ends_at varies d u) → DisruptedBy varies d (next u rest) (later p)
   after_first d u rest first p h =
-      ⊎_elim (λ l. already l) (λ e. let x = first e in after x.1 earlier x.2 x.3 x.4 x.5) (or_cases d _ h)
+      ⊎_elim (λ l. already l) (λ e. let x = first e in after_end x.1 earlier x.2 x.3 x.4 x.5) (or_cases d _ h)
 
   mutual
     end_in : (body : PlainBlock) (d : Bool) → IsTrue (ends_in varies d body) → EndPlace d body
@@ -211,7 +215,7 @@ module _ (varies : ℕ → Bool) where
     entered (loop b r o) d loop_body p rest h = already h
     entered (loop b r o) d loop_continuing p rest h =
         ⊎_elim (λ l. already l) (λ e. let x = end_in b d e in let q = top_of x.0 b x.1 x.2 in
-        after x.1 (body_before_continuing q.1) (holds_inside loop_body q.2) x.2 x.3 (lift_inside d (loop b r o) rest loop_body (λ p l. already l) x.0 x.4)) (or_cases d _ h)
+        after_end x.1 (body_before_continuing q.1) (holds_inside loop_body q.2) x.2 x.3 (lift_inside d (loop b r o) rest loop_body (λ p l. already l) x.0 x.4)) (or_cases d _ h)
     entered (emit first end) d part p rest h = already h
     entered (block b) d part p rest h = already h
     entered break d part p rest h = already h
@@ -227,11 +231,11 @@ module _ (varies : ℕ → Bool) where
     where
       in_turn : IsTrue (ends_in varies d b) → DisruptedBy varies d (next (loop b r o) rest) condition
       in_turn e = let x = end_in b d e in let q = top_of x.0 b x.1 x.2 in
-          after x.1 (body_before_condition q.1) (holds_inside loop_body q.2) x.2 x.3 (lift_inside d (loop b r o) rest loop_body (λ p l. already l) x.0 x.4)
+          after_end x.1 (body_before_condition q.1) (holds_inside loop_body q.2) x.2 x.3 (lift_inside d (loop b r o) rest loop_body (λ p l. already l) x.0 x.4)
 
       in_continuing : IsTrue (ends_in varies (d || ends_in varies d b) r) → DisruptedBy varies d (next (loop b r o) rest) condition
       in_continuing e = let x = end_in r (d || ends_in varies d b) e in let q = top_of x.0 r x.1 x.2 in
-          after x.1 (continuing_before_condition q.1) (holds_inside loop_continuing q.2) x.2 x.3 (lift_inside d (loop b r o) rest loop_continuing (λ p l. entered (loop b r o) d loop_continuing p rest l) x.0 x.4)
+          after_end x.1 (continuing_before_condition q.1) (holds_inside loop_continuing q.2) x.2 x.3 (lift_inside d (loop b r o) rest loop_continuing (λ p l. entered (loop b r o) d loop_continuing p rest l) x.0 x.4)
   before_condition _ d rest h = already h
 
   pub from_found : (p : Place) (d : Bool) (body : PlainBlock) → IsTrue (disrupted_at varies d p body) → DisruptedBy varies d body p
@@ -248,4 +252,4 @@ module _ (varies : ℕ → Bool) where
 pub disrupted_as : {V W : ℕ → Type 0} {d : Bool} {body : PlainBlock} → ((h : ℕ) → V h → W h) → (p : Place) → Disrupted V d body p → Disrupted W d body p
 disrupted_as same p (already h) = already h
 disrupted_as same p (chosen s x o at is v) = chosen s x o at is (same x v)
-disrupted_as same p (after {r = r} s b o at e u) = after s b o at e (disrupted_as same r u)
+disrupted_as same p (after {r = r} i u) = after i (disrupted_as same r u)

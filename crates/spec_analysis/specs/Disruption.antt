@@ -33,13 +33,22 @@ is_end kill = true
 is_end (operation a) = false
 is_end (call function arguments result) = false
 
+-- At r stands a statement that ends the function or the fragment, and it is or stands inside one that comes before p.
+pub record IsEndBefore (body : PlainBlock) (p r : Place) : Type 0 where
+  pub end : PlainStatement
+  pub stands : OccursAt body r end
+  pub ends : IsTrue (is_end end)
+  pub earlier : Place
+  pub holds : Holds earlier r
+  pub before : Before earlier p
+
 -- A place is disrupted in a part of a statement that chooses by a value that varies, and after an earlier statement that
 -- holds a disrupted end: one in a block that holds the place or something around it, a loop's body being earlier than its
 -- continuing part. `outer` says that the whole body stands at a disrupted place.
 pub data Disrupted (varies : ℕ → Type 0) (outer : Bool) (body : PlainBlock) : Place → Type 0 where
   already : {p : Place} → IsTrue outer → Disrupted varies outer body p
   chosen : {p a : Place} (s : PlainStatement) (h : ℕ) → Around a p → OccursAt body a s → chosen_by s ≡ Some h → varies h → Disrupted varies outer body p
-  after : {p q r : Place} (s : PlainStatement) → Before q p → Holds q r → OccursAt body r s → IsTrue (is_end s) → Disrupted varies outer body r → Disrupted varies outer body p
+  after : {p r : Place} → IsEndBefore body p r → Disrupted varies outer body r → Disrupted varies outer body p
 
 -- ---- the same, found step by step
 
