@@ -1,4 +1,4 @@
--- What asks for all invocations where they may differ, found step by step.
+-- What requires all invocations where they may differ, found step by step.
 use Rattle.std.specs.Prelude.{◌≡◌, ℕ, Bool, true, false, ◌||◌, Option, Some, None}
 use Rattle.ir_kinds.specs.declared.diagnostics.Severity.{Severity}
 use Rattle.ir_blocks.specs.Plain.{PlainOperation, control_barrier, memory_barrier, store, image_store, atomic, image_atomic, uniform_load, ray_query, ballot, collective, gather, cooperative_store, ray_pipeline, PlainStatement, emit, block, if_, switch, loop, break, continue, return, kill, operation, call, PlainBlock, stop, next, PlainCases, no_case, case}
@@ -29,8 +29,8 @@ operation_required (gather mode argument result) = None
 operation_required (cooperative_store target place) = None
 operation_required (ray_pipeline fun) = None
 
--- The first that is asked at a disrupted place of a body, which is disrupted itself or is not; `look` finds what the
--- expressions of a range ask.
+-- The first that is required at a disrupted place of a body, which is disrupted itself or is not; `look` finds what the
+-- expressions of a range require.
 abbrev mutual
   pub required_in : (varies : ℕ → Bool) → (look : ℕ → ℕ → Option Required) → Bool → PlainBlock → Option Required
   required_in varies look d stop = None
@@ -39,9 +39,11 @@ abbrev mutual
   pub required_at : (varies : ℕ → Bool) → (look : ℕ → ℕ → Option Required) → Bool → PlainStatement → Option Required
   required_at varies look d (emit first end) = where_disrupted d (look first end)
   required_at varies look d (block b) = required_in varies look d b
-  required_at varies look d (if_ h accept reject) = first_required (required_in varies look (d || varies h) accept) (required_in varies look (d || varies h) reject)
+  required_at varies look d (if_ h accept reject) =
+      first_required (required_in varies look (d || varies h) accept) (required_in varies look (d || varies h) reject)
   required_at varies look d (switch h cases) = required_in_cases varies look (d || varies h) cases
-  required_at varies look d (loop body continuing break_if) = first_required (required_in varies look d body) (required_in varies look (d || ends_in varies d body) continuing)
+  required_at varies look d (loop body continuing break_if) =
+      first_required (required_in varies look d body) (required_in varies look (d || ends_in varies d body) continuing)
   required_at varies look d break = None
   required_at varies look d continue = None
   required_at varies look d (return value) = None
@@ -53,7 +55,7 @@ abbrev mutual
   required_in_cases varies look d no_case = None
   required_in_cases varies look d (case value body falls rest) = first_required (required_in varies look d body) (required_in_cases varies look d rest)
 
--- The look-up finds one of those that ask, and finds one wherever one asks.
+-- The look-up finds one of those that require something, and finds one wherever there is one.
 pub record IsLook (severity : Severity) (required : ℕ → ℕ) (look : ℕ → ℕ → Option Required) : Type 0 where
   pub found : (first end : ℕ) (x : Required) → look first end ≡ Some x → EmitRequires severity required first end x
   pub none : (first end : ℕ) (x : Required) → look first end ≡ None → EmitRequires severity required first end x → ⊥

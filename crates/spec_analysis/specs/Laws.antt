@@ -18,7 +18,8 @@ UsesByCalls =
 abbrev pub PairsByCalls : Type 0
 PairsByCalls =
     (m : PlainModule) (f : PlainFunction) (p : SamplingPair)
-    → HasPair m f p ↔ (Samples (place f.expressions) f p ⊎ ((s : Step) × (q : SamplingPair) × Calls m f s × HasPair m s.function q × ComesUp f.expressions s.arguments q p))
+    → HasPair m f p ↔ (Samples (place f.expressions) f p
+    ⊎ ((s : Step) × (q : SamplingPair) × Calls m f s × HasPair m s.function q × ComesUp f.expressions s.arguments q p))
 
 -- The function ends the fragment itself, or a callee may.
 abbrev pub KillsByCalls : Type 0

@@ -55,8 +55,12 @@ JoinsUse f summaries g k = UsesDirectly g k f ⊎ ((arguments : List ℕ) × (t 
 -- What f has itself, joined for each call statement with what the callee has, the arguments substituted, and then QUERY for
 -- each global variable that f names and that has no kind of use by these. Of the summaries only those of callees count.
 pub record IsJoined (globals : ℕ) (f : PlainFunction) (summaries : List Summary) (s : Summary) : Type 0 where
-  pub uses : (g k : ℕ) → g < globals → HasBit s g k ↔ (JoinsUse f summaries g k ⊎ ((bit_at QUERY.0 k ≡ 1) × Names g f × ((j : ℕ) → JoinsUse f summaries g j → ⊥)))
-  pub pairs : (p : SamplingPair) → IsAmong p s.pairs ↔ (Samples (place f.expressions) f p ⊎ ((arguments : List ℕ) × (t : Summary) × (q : SamplingPair) × CallsOne f summaries arguments t × IsAmong q t.pairs × ComesUp f.expressions arguments q p))
+  pub uses : (g k : ℕ) → g < globals
+      → HasBit s g k ↔ (JoinsUse f summaries g k ⊎ ((bit_at QUERY.0 k ≡ 1) × Names g f × ((j : ℕ) → JoinsUse f summaries g j → ⊥)))
+  pub pairs : (p : SamplingPair)
+      → IsAmong p s.pairs
+      ↔ (Samples (place f.expressions) f p
+      ⊎ ((arguments : List ℕ) × (t : Summary) × (q : SamplingPair) × CallsOne f summaries arguments t × IsAmong q t.pairs × ComesUp f.expressions arguments q p))
   pub may_kill : IsTrue s.may_kill ↔ (Discards f ⊎ ((arguments : List ℕ) × (t : Summary) × CallsOne f summaries arguments t × IsTrue t.may_kill))
 
 -- the function that a call names is there, and so is a summary of it
@@ -81,7 +85,8 @@ CallsBelow f n = (callee : ℕ) (arguments : List ℕ) → IsAmong (runs callee 
 
 -- the summaries of the functions that f calls are the same
 abbrev pub AgreeOnCallees : PlainFunction → List Summary → List Summary → Type 0
-AgreeOnCallees f summaries others = (callee : ℕ) (arguments : List ℕ) → IsAmong (runs callee arguments) (effects_of f) → slice_get summaries callee ≡ slice_get others callee
+AgreeOnCallees f summaries others =
+    (callee : ℕ) (arguments : List ℕ) → IsAmong (runs callee arguments) (effects_of f) → slice_get summaries callee ≡ slice_get others callee
 
 -- ---- forms of operands
 
@@ -93,5 +98,7 @@ IsWrongArgument expressions arguments part e = (number : ℕ) × (part ≡ Argum
 -- or a sampler of a callee's pair.
 abbrev pub IsFormFault : PlainFunction → List Summary → ℕ → Type 0
 IsFormFault f summaries e =
-    ((image : ℕ) × (sampler : ℕ) × IsAmong (samples e image sampler) (effects_of f) × ((place f.expressions image ≡ None) ⊎ (place f.expressions sampler ≡ None)))
-    ⊎ ((arguments : List ℕ) × (t : Summary) × (q : SamplingPair) × CallsOne f summaries arguments t × IsAmong q t.pairs × (IsWrongArgument f.expressions arguments q.0 e ⊎ IsWrongArgument f.expressions arguments q.1 e))
+    ((image : ℕ) × (sampler : ℕ) × IsAmong (samples e image sampler) (effects_of f)
+    × ((place f.expressions image ≡ None) ⊎ (place f.expressions sampler ≡ None)))
+    ⊎ ((arguments : List ℕ) × (t : Summary) × (q : SamplingPair) × CallsOne f summaries arguments t × IsAmong q t.pairs
+    × (IsWrongArgument f.expressions arguments q.0 e ⊎ IsWrongArgument f.expressions arguments q.1 e))

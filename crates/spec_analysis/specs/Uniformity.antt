@@ -38,7 +38,7 @@ OperationRequires (gather mode argument result) x = ⊥
 OperationRequires (cooperative_store target place) x = ⊥
 OperationRequires (ray_pipeline fun) x = ⊥
 
--- what an expression of a range asks, where each expression asks for what `required` says
+-- what an expression of a range requires, where each expression requires what `required` says
 pub record EmitRequires (severity : Severity) (required : ℕ → ℕ) (first end : ℕ) (x : Required) : Type 0 where
   pub from_first : first ≤ x.expression
   pub below_end : x.expression < end
@@ -59,7 +59,7 @@ Requires severity required kill x = ⊥
 Requires severity required (operation a) x = OperationRequires a x
 Requires severity required (call function arguments result) x = ⊥
 
--- A statement at a disrupted place of the body asks for it.
+-- A statement at a disrupted place of the body requires it.
 pub record DisruptedRequirement (severity : Severity) (required : ℕ → ℕ) (varies : ℕ → Type 0) (body : PlainBlock) (x : Required) : Type 0 where
   pub place : Place
   pub statement : PlainStatement
@@ -68,6 +68,7 @@ pub record DisruptedRequirement (severity : Severity) (required : ℕ → ℕ) (
   pub disrupted : Disrupted varies false body place
 
 -- A fault of uniformity of a body, under the flags.
-pub record UniformityFault (flags : ValidationFlags) (severity : Severity) (required : ℕ → ℕ) (varies : ℕ → Type 0) (body : PlainBlock) (x : Required) : Type 0 where
+pub record UniformityFault (flags : ValidationFlags) (severity : Severity) (required : ℕ → ℕ) (varies : ℕ → Type 0) (body : PlainBlock)
+    (x : Required) : Type 0 where
   pub flag : Has flags.0 CONTROL_FLOW_UNIFORMITY.0
   pub fault : DisruptedRequirement severity required varies body x

@@ -1,5 +1,5 @@
 -- Values that may differ between invocations, the global variables that chains of accesses start at, and what expressions
--- ask of control flow.
+-- require of control flow.
 use Rattle.std.specs.Prelude.{◌≡◌, ◌↔◌, ℕ, ◌<◌, Bool, true, false, ◌||◌, IsTrue, List, Option, Some, None, slice_get, bit_and, ◌==◌}
 use Rattle.ir_flags.specs.declared.memory.StorageAccess.{StorageAccess}
 use Rattle.ir_flags.specs.declared.memory.TheConstants.StorageAccess.{STORE}
@@ -124,12 +124,14 @@ global_named globals _ = None
 
 abbrev pub is_source : PlainModule → PlainFunction → PlainExpression → Bool
 is_source m f (compose type components) = false
-is_source m f (plain expression) = varies_by (argument_varies (argument_named f.arguments expression)) (global_varies m.types (global_named m.globals expression)) expression
+is_source m f (plain expression) =
+    varies_by (argument_varies (argument_named f.arguments expression)) (global_varies m.types (global_named m.globals expression)) expression
 
 -- The value of e comes from the source s: it is that source, or has an operand whose value comes from it.
 pub data ComesFrom (m : PlainModule) (f : PlainFunction) : ℕ → ℕ → Type 0 where
   itself : {s : ℕ} (expression : PlainExpression) → slice_get f.expressions s ≡ Some expression → IsTrue (is_source m f expression) → ComesFrom m f s s
-  through : {e s : ℕ} (expression : PlainExpression) (operand : Operand) → slice_get f.expressions e ≡ Some expression → IsAmong operand (expression_operands expression) → ComesFrom m f operand.handle s → ComesFrom m f e s
+  through : {e s : ℕ} (expression : PlainExpression) (operand : Operand) → slice_get f.expressions e ≡ Some expression
+      → IsAmong operand (expression_operands expression) → ComesFrom m f operand.handle s → ComesFrom m f e s
 
 -- the value of e may differ between invocations
 abbrev pub NonUniform : PlainModule → PlainFunction → ℕ → Type 0
@@ -141,7 +143,8 @@ NonUniform m f e = (s : ℕ) × ComesFrom m f e s
 pub data StartsAt (expressions : List PlainExpression) : ℕ → ℕ → Type 0 where
   is_global : {e g : ℕ} → slice_get expressions e ≡ Some (plain (x.GlobalVariable g)) → StartsAt expressions e g
   accessed : {e g : ℕ} (base index : ℕ) → slice_get expressions e ≡ Some (plain (x.Access base index)) → StartsAt expressions base g → StartsAt expressions e g
-  accessed_index : {e g : ℕ} (base index : ℕ) → slice_get expressions e ≡ Some (plain (x.AccessIndex base index)) → StartsAt expressions base g → StartsAt expressions e g
+  accessed_index : {e g : ℕ} (base index : ℕ) → slice_get expressions e ≡ Some (plain (x.AccessIndex base index)) → StartsAt expressions base g
+      → StartsAt expressions e g
 
 -- what is known of one of some expressions
 abbrev pub inner_of : Option (Option ℕ) → Option ℕ
@@ -158,7 +161,8 @@ AreStarts expressions globals = (e g : ℕ) → (known_at globals e ≡ Some g) 
 -- each operand stands before what has it
 abbrev pub OperandsPrecede : List PlainExpression → Type 0
 OperandsPrecede expressions =
-    (e : ℕ) (expression : PlainExpression) (operand : Operand) → slice_get expressions e ≡ Some expression → IsAmong operand (expression_operands expression) → operand.handle < e
+    (e : ℕ) (expression : PlainExpression) (operand : Operand) → slice_get expressions e ≡ Some expression → IsAmong operand (expression_operands expression)
+    → operand.handle < e
 
 -- an answer names one of those that P holds of, if there is one
 pub record IsExact (answer : Option ℕ) (P : ℕ → Type 0) : Type 0 where

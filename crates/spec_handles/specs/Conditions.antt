@@ -14,7 +14,8 @@ HandlesInRange m f = (site : Site) (named : Named) → Names f site named → Is
 
 -- the operands of each of these expressions come before it
 abbrev pub OperandsPrecede : List PlainExpression → Type 0
-OperandsPrecede expressions = (place : ℕ) (x : PlainExpression) → slice_get expressions place ≡ Some x → All (λ operand. operand < place) (expression_operands x)
+OperandsPrecede expressions =
+    (place : ℕ) (x : PlainExpression) → slice_get expressions place ≡ Some x → All (λ operand. operand < place) (expression_operands x)
 
 -- Each function that a part of the function names, by a call or by the answer of one, is one of the first so many of the
 -- module.

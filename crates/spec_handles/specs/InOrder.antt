@@ -34,8 +34,10 @@ named_at (range r) = None
 -- Something of the module is named that isn't there: by a part of it, of a function, or of the function of an entry point.
 pub data IsAbsent (m : PlainModule) : Named → Type 0 where
   in_module : {part : Part} {named : Named} → NamesIn m part named → ¬ IsThereIn m named → IsAbsent m named
-  in_function : (i : ℕ) {f : PlainFunction} {site : Site} {named : Named} → slice_get m.functions i ≡ Some f → Names f site named → ¬ IsThere m f named → IsAbsent m named
-  in_entry : (k : ℕ) {x : PlainEntry} {site : Site} {named : Named} → slice_get m.entries k ≡ Some x → Names x.function site named → ¬ IsThere m x.function named → IsAbsent m named
+  in_function : (i : ℕ) {f : PlainFunction} {site : Site} {named : Named} → slice_get m.functions i ≡ Some f → Names f site named → ¬ IsThere m f named
+      → IsAbsent m named
+  in_entry : (k : ℕ) {x : PlainEntry} {site : Site} {named : Named} → slice_get m.entries k ≡ Some x → Names x.function site named
+      → ¬ IsThere m x.function named → IsAbsent m named
 
 -- An item of this kind at this place is named, and there is none.
 pub record IsMissing (m : PlainModule) (k : ItemKind) (place : ℕ) : Type 0 where

@@ -36,13 +36,16 @@ pub data NamesIn (m : PlainModule) : Part → Named → Type 0 where
   constant_value : {i : ℕ} {x : PlainConstant} → slice_get m.constants i ≡ Some x → NamesIn m (constant i) (operand x.init)
   override_type : {i : ℕ} {x : PlainOverride} → slice_get m.overrides i ≡ Some x → NamesIn m (override i) (item (target.Type x.ty))
   override_value : {i e : ℕ} {x : PlainOverride} → slice_get m.overrides i ≡ Some x → x.init ≡ Some e → NamesIn m (override i) (operand e)
-  expression_names : {i : ℕ} {x : PlainExpression} {t : Target} → slice_get m.global_expressions i ≡ Some x → expression_item x ≡ Some t → NamesIn m (expression i) (item t)
-  expression_reads : {i o : ℕ} {x : PlainExpression} → slice_get m.global_expressions i ≡ Some x → Contains (expression_operands x) o → NamesIn m (expression i) (operand o)
+  expression_names : {i : ℕ} {x : PlainExpression} {t : Target} → slice_get m.global_expressions i ≡ Some x → expression_item x ≡ Some t
+      → NamesIn m (expression i) (item t)
+  expression_reads : {i o : ℕ} {x : PlainExpression} → slice_get m.global_expressions i ≡ Some x → Contains (expression_operands x) o
+      → NamesIn m (expression i) (operand o)
   variable_type : {i : ℕ} {x : PlainGlobal} → slice_get m.globals i ≡ Some x → NamesIn m (variable i) (item (target.Type x.ty))
   variable_value : {i e : ℕ} {x : PlainGlobal} → slice_get m.globals i ≡ Some x → x.init ≡ Some e → NamesIn m (variable i) (operand e)
   entry_type : {k t : ℕ} {x : PlainEntry} → slice_get m.entries k ≡ Some x → Contains (mesh_types x.mesh) t → NamesIn m (entry k) (item (target.Type t))
   entry_expression : {k e : ℕ} {x : PlainEntry} → slice_get m.entries k ≡ Some x → Contains (mesh_expressions x.mesh) e → NamesIn m (entry k) (operand e)
-  entry_variable : {k v : ℕ} {x : PlainEntry} → slice_get m.entries k ≡ Some x → Contains (entry_variables x) v → NamesIn m (entry k) (item (target.GlobalVariable v))
+  entry_variable : {k v : ℕ} {x : PlainEntry} → slice_get m.entries k ≡ Some x → Contains (entry_variables x) v
+      → NamesIn m (entry k) (item (target.GlobalVariable v))
 
 -- What is named is there: outside functions there are no local variables, and no ranges.
 abbrev pub IsThereIn : PlainModule → Named → Type 0

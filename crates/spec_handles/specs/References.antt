@@ -32,8 +32,10 @@ pub data Names (f : PlainFunction) : Site → Named → Type 0 where
   local_type : {i : ℕ} {l : PlainLocal} → slice_get f.locals i ≡ Some l → Names f (local i) (item (target.Type l.ty))
   local_value : {i e : ℕ} {l : PlainLocal} → slice_get f.locals i ≡ Some l → l.init ≡ Some e → Names f (local i) (operand e)
   filter_leaf : {n : ℕ} → f.leaf ≡ Some n → Names f filters (item (target.DiagnosticFilter n))
-  expression_names : {e : ℕ} {x : PlainExpression} {t : Target} → slice_get f.expressions e ≡ Some x → expression_item x ≡ Some t → Names f (computed e) (item t)
-  expression_reads : {e o : ℕ} {x : PlainExpression} → slice_get f.expressions e ≡ Some x → Contains (expression_operands x) o → Names f (computed e) (operand o)
+  expression_names : {e : ℕ} {x : PlainExpression} {t : Target} → slice_get f.expressions e ≡ Some x → expression_item x ≡ Some t
+      → Names f (computed e) (item t)
+  expression_reads : {e o : ℕ} {x : PlainExpression} → slice_get f.expressions e ≡ Some x → Contains (expression_operands x) o
+      → Names f (computed e) (operand o)
   statement_reads : {p : Place} {o : ℕ} {s : PlainStatement} → OccursAt f.body p s → Contains (statement_operands s) o → Names f (done p) (operand o)
   statement_answers : {p : Place} {e : ℕ} {s : PlainStatement} → OccursAt f.body p s → statement_result s ≡ Some e → Names f (done p) (operand e)
   statement_emits : {p : Place} {r : Emitted} {s : PlainStatement} → OccursAt f.body p s → statement_range s ≡ Some r → Names f (done p) (range r)

@@ -15,5 +15,6 @@ CallResultOK c function callee (Some result) = IsSome callee.result × (slice_ge
 pub record CallOK (c : BlockContext) (function : ℕ) (arguments : List ℕ) (result : Option ℕ) : Type 0 where
   pub callee : PlainFunction
   pub called : slice_get c.m.functions function ≡ Some callee
-  pub passed : (i e : ℕ) (a : PlainArgument) → slice_get arguments i ≡ Some e → slice_get callee.arguments i ≡ Some a → form_at c e ≡ form_of_type c.m.types a.ty
+  pub passed : (i e : ℕ) (a : PlainArgument) → slice_get arguments i ≡ Some e → slice_get callee.arguments i ≡ Some a
+      → form_at c e ≡ form_of_type c.m.types a.ty
   pub answered : CallResultOK c function callee result

@@ -7,13 +7,16 @@ use Rattle.spec_statements.specs.Analysis.{HasWrongForm}
 use Rattle.spec_statements.specs.EarlierPayloads.{IsPayloadBefore}
 use Rattle.spec_handles.specs.Conditions.{CalleesPrecede}
 
--- at most one type is held
+-- at most one payload type is kept
 abbrev pub OnePayload : Type 0
-OnePayload = (flags : ValidationFlags) (m : PlainModule) (count : ℕ) (held other : Option ℕ) → IsPayloadBefore flags m count held → IsPayloadBefore flags m count other → held ≡ other
+OnePayload =
+    (flags : ValidationFlags) (m : PlainModule) (count : ℕ) (held other : Option ℕ) → IsPayloadBefore flags m count held → IsPayloadBefore flags m count other
+    → held ≡ other
 
 -- wrong forms by chains are those by summaries of the callees
 abbrev pub FormsByCallees : Type 0
-FormsByCallees = (m : PlainModule) (f : PlainFunction) (summaries : List Summary) → CalleesKnown m f summaries → (e : ℕ) → HasWrongForm m f e ↔ IsFormFault f summaries e
+FormsByCallees =
+    (m : PlainModule) (f : PlainFunction) (summaries : List Summary) → CalleesKnown m f summaries → (e : ℕ) → HasWrongForm m f e ↔ IsFormFault f summaries e
 
 -- a function calls none but those that it names
 abbrev pub CallsPrecede : Type 0

@@ -42,7 +42,8 @@ pub record IsTexelLoad (forms : List Form) (image : Picture) (texel : ℕ) (arra
   pub readable : IsReadable image.class
 
 abbrev pub ImageLoadOK : (forms : List Form) → (image : Form) → (coordinate : ℕ) → (array_index sample level : Option ℕ) → Type 0
-ImageLoadOK forms image coordinate array_index sample level = IsSomeAnd (picture_of image) (λ picture. IsTexelLoad forms picture coordinate array_index sample level)
+ImageLoadOK forms image coordinate array_index sample level =
+    IsSomeAnd (picture_of image) (λ picture. IsTexelLoad forms picture coordinate array_index sample level)
 
 -- ---- queries
 

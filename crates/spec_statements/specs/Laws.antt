@@ -15,9 +15,11 @@ under capabilities types expressions forms = record { capabilities = capabilitie
 
 -- what fewer capabilities accept, more accept
 abbrev pub MoreCapabilities : Type 0
-MoreCapabilities = (few many : Capabilities) → IsWithin few.0 many.0 → (types : List PlainType) (expressions : List PlainExpression) (forms : List Form) (handle : ℕ)
+MoreCapabilities =
+    (few many : Capabilities) → IsWithin few.0 many.0 → (types : List PlainType) (expressions : List PlainExpression) (forms : List Form) (handle : ℕ)
     → ExpressionOK (under few types expressions forms) handle → ExpressionOK (under many types expressions forms) handle
 
 -- the types of expressions have one list of forms
 abbrev pub OneList : Type 0
-OneList = (c : Context) (expressions : List PlainExpression) (left right : List Form) → AreForms c expressions left → AreForms c expressions right → left ≡ right
+OneList =
+    (c : Context) (expressions : List PlainExpression) (left right : List Form) → AreForms c expressions left → AreForms c expressions right → left ≡ right

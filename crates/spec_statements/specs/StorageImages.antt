@@ -1,4 +1,4 @@
--- Texels that are written, and texels that are changed at once.
+-- Texels that are written, and texels that are changed atomically.
 use Rattle.std.specs.Prelude.{◌≡◌, ℕ, List, Option, Some, None, IsSomeAnd, option_and_then}
 use Rattle.std.specs.Option.{option_or}
 use Rattle.ir_blocks.specs.declared.operations.AtomicFunction.{AtomicFunction}
@@ -56,7 +56,7 @@ abbrev pub picture_in : List PlainType → Form → Option ℕ → Option Pictur
 picture_in types t (Some resource) = picture_of (form_of_type types resource)
 picture_in types t None = picture_of t
 
--- texels are changed at once in a global variable, or in an element of one, which are images or arrays of them
+-- texels are changed atomically in a global variable, or in an element of one, which are images or arrays of them
 abbrev pub changed_image : PlainModule → PlainFunction → (image : ℕ) → Option Picture
 changed_image m f image =
     option_and_then (λ g. picture_in m.types (form_of_type m.types g.ty) (resource_of (form_of_type m.types g.ty)))
@@ -123,4 +123,5 @@ IsChanged capabilities (class.Storage format access) done value = IsChangedBy ca
 
 abbrev pub ImageAtomicOK : BlockContext → (image coordinate : ℕ) → (array_index : Option ℕ) → AtomicFunction → (value : ℕ) → Type 0
 ImageAtomicOK c image coordinate array_index done value =
-    IsSomeAnd (changed_image c.m c.f image) (λ picture. IsTexelOf c picture coordinate array_index × IsChanged c.capabilities picture.class done (form_at c value))
+    IsSomeAnd (changed_image c.m c.f image)
+    (λ picture. IsTexelOf c picture coordinate array_index × IsChanged c.capabilities picture.class done (form_at c value))
