@@ -1,4 +1,4 @@
--- What a walk over a body asks at each place, with what it carries there: the expressions in scope, and those by which
+-- What a walk over a body requires at each place, with what it carries there: the expressions in scope, and those by which
 -- statements before have answered.
 use Rattle.std.specs.Prelude.{◌≡◌, ◌⊎◌, ℕ, ◌+◌, Bool, true, false, ◌||◌, if◌then◌else◌, nat_eq, List, [], ◌∷◌, ◌++◌, All, Option, Some, None, Contains, slice_get}
 use Rattle.function_body_checks.specs.declared.error.ScopeError.{ScopeError}
@@ -87,7 +87,7 @@ abbrev pub AreBrought : PlainFunction → (old new : List ℕ) → List ℕ → 
 AreBrought f old new es None = (new ≡ old ++ es) × All (λ e. ¬ Known f old e) es
 AreBrought f old new es (Some e) = Contains es e × Known f old e
 
--- by what is answered is noted, if anything is: it is asked for, and was not noted before
+-- by what is answered is noted, if anything is: it is required, and was not noted before
 abbrev pub IsNoted : (asked : Bool) → (old new : List ℕ) → (answer : Option ℕ) → Type 0
 IsNoted asked old new None = new ≡ old
 IsNoted asked old new (Some e) = (new ≡ old ++ e ∷ []) × (¬ Contains old e) × (asked ≡ true)
@@ -98,7 +98,7 @@ IsNoted asked old new (Some e) = (new ≡ old ++ e ∷ []) × (¬ Contains old e
 abbrev pub IsUnknown : PlainFunction → (scope : List ℕ) → List ℕ → ℕ → Type 0
 IsUnknown f scope used e = Contains used e × ¬ Known f scope e
 
--- answers are not asked for, or it has been answered by
+-- answers are not required, or it has been answered by
 abbrev pub IsAgain : (asked : Bool) → (answered : List ℕ) → ℕ → Type 0
 IsAgain asked answered e = (asked ≡ false) ⊎ Contains answered e
 

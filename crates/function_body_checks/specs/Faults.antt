@@ -38,7 +38,7 @@ pub record IsBroughtAgain (f : PlainFunction) (e : ℕ) : Type 0 where
   pub brought : Introduces f.body place e
   pub known : InScope f place e
 
--- results are not asked for, or another statement answers by the expression
+-- results are not required, or another statement answers by the expression
 abbrev pub IsPopulated : ValidationFlags → PlainFunction → Place → ℕ → Type 0
 IsPopulated flags f p e = (Has flags.0 EXPRESSIONS.0 → ⊥) ⊎ ((q : Place) × AnswersBy f.body q e × (q ≡ p → ⊥))
 

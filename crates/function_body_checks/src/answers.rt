@@ -59,7 +59,7 @@ fn populated(statement: &Statement, handle: Handle<key::Expression>) -> ScopeErr
     }
 }
 
-/// Notes by what a statement answers, if it does: answers have to be asked for, and it must be the first that answers by it.
+/// Notes by what a statement answers, if it does: answers have to be required, and it must be the first that answers by it.
 pub fn note_answer(
     asked: bool,
     answered: &mut ExpressionList,

@@ -28,7 +28,7 @@ pub enum ScopeError {
         /// The expression.
         answer: Handle<key::Expression>,
     },
-    /// A call answers by what is answered by already, or where no answers are asked for.
+    /// A call answers by what is answered by already, or where no answers are required.
     Answered {
         /// The function that is called.
         function: Handle<key::Function>,

@@ -1,4 +1,4 @@
--- What a walk over a body asks for strict scope, with the expressions that it carries there.
+-- What a walk over a body requires for strict scope, with the expressions that it carries there.
 use Rattle.std.specs.Prelude.{◌≡◌, ◌⊎◌, ℕ, if◌then◌else◌, List, [], ◌∷◌, ◌++◌, All, Option, Some, None, Contains, length, take, slice_get}
 use Rattle.function_body_checks.specs.Carried.{Known, IsUnknown, callee_at}
 use Rattle.typing_errors.specs.declared.expressions.ExpressionError.TheVariants.{NotInScope}

@@ -41,7 +41,7 @@ fn refused(alloc: Global, error: StrictError) -> Refusal<FunctionError>
 
 /// Whether every operand of a function's statements, of its loops' conditions and of the expressions that it emits is in strict
 /// scope where it is used, and what denotes the answer of a `Proceed` or of a ballot is of its own kind. The check is this
-/// library's own; it is made where the flag `STRICT_SCOPE` asks for it, after the check of scope.
+/// library's own; it is made where the flag `STRICT_SCOPE` requires it, after the check of scope.
 ///
 /// # Errors
 ///

@@ -11,7 +11,7 @@ use ir_items::{Block, Statement, SwitchCase};
 
 /// A rule of statements, which is required of a statement without what stands inside it.
 pub trait StatementRule<E> {
-    /// Where it may be asked.
+    /// Where it may be checked.
     ghost fits: { Self → Type 0 };
 
     /// The statement meets it.

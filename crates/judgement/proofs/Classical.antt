@@ -1,4 +1,4 @@
--- What holds of each of finitely many, or fails first, where nobody asks to have it found.
+-- What holds of each of finitely many, or fails first, where nobody requires it to be found.
 use Rattle.std.proofs.Common.{◌≡◌, ◌⊎◌, inl, inr, ℕ, zero, suc, ◌<◌, subst, sym, arith, rules}
 
 -- it can't fail to hold

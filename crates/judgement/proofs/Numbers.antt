@@ -1,4 +1,4 @@
--- A number with given bits, and a list with a given item at each place, where nobody asks to have them found.
+-- A number with given bits, and a list with a given item at each place, where nobody requires them to be found.
 use Rattle.std.proofs.Common.{◌≡◌, ◌<◌, ◌⊎◌, inl, inr, ℕ, zero, suc, ◌+◌, ◌*◌, ◌/◌, ◌%◌, List, [], ◌∷◌, length, refl, sym, ap, subst, ◌∙◌, arith}
 use Rattle.std.specs.Prelude.{◌↔◌, slice_index_or}
 use Rattle.std.specs.Int.{bit_at}

@@ -1,4 +1,4 @@
--- Pairs of small numbers in order, where nobody asks to have them found.
+-- Pairs of small numbers in order, where nobody requires them to be found.
 use Rattle.std.proofs.Common.{◌≡◌, ◌<◌, ◌≤◌, ◌⊎◌, inl, inr, ℕ, zero, suc, List, [], ◌∷◌, refl, sym, ap, subst, ◌∙◌, arith}
 use Rattle.std.specs.Prelude.{◌↔◌}
 use Rattle.std.specs.List.{AllByRecursion}

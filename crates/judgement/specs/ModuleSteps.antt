@@ -33,7 +33,7 @@ rank expression = 3
 rank constant = 4
 rank override = 5
 
--- how many items a step asks
+-- how many items a step checks
 abbrev pub item_count : PlainModule → ModuleStep → ℕ
 item_count m layout = length m.types
 item_count m type = length m.types

@@ -27,7 +27,7 @@ pub record ArePairs (m : PlainModule) (e : PlainEntry) (pairs : List (ℕ × ℕ
   pub ordered : IsStrictlySortedBy pair_cmp pairs
   pub exact : (image sampler : ℕ) → IsAmong (image, sampler) pairs ↔ HasPair m e.function (Global image, Global sampler)
 
--- The lines tell of the entry point, which has this number.
+-- The lines are of the entry point, which has this number.
 pub record IsEntryReport (m : PlainModule) (number : ℕ) (e : PlainEntry) (lines : List ℕ) : Type 0 where
   pub uses : List GlobalUse
   pub pairs : List (ℕ × ℕ)
@@ -40,7 +40,7 @@ pub record AreEntryReports (m : PlainModule) (entries : List (List ℕ)) : Type 
   pub many : length entries ≡ length m.entries
   pub each : (number : ℕ) (e : PlainEntry) (lines : List ℕ) → slice_get m.entries number ≡ Some e → slice_get entries number ≡ Some lines → IsEntryReport m number e lines
 
--- The text tells of the module's buffers, and then of its entry points.
+-- The text has the module's buffers, and then its entry points.
 pub record IsReport (m : PlainModule) (text : List ℕ) : Type 0 where
   pub entries : List (List ℕ)
   pub are_entries : AreEntryReports m entries

@@ -37,12 +37,12 @@ function_settings s = record {
   held = None;
 }
 
--- The module n that is judged is m, with returns put in first where that is asked.
+-- The module n that is judged is m, with returns put in first where that is requested.
 abbrev pub IsPrepared : (returns : Bool) → PlainModule → PlainModule → Type 0
 IsPrepared true m n = IsReturned m n
 IsPrepared false m n = n ≡ m
 
--- Scope is checked strictly where the flags ask for it and for the checks of bodies, under which it acts.
+-- Scope is checked strictly where the flags require it and for the checks of bodies, under which it acts.
 abbrev pub IsScopeStrict : ValidationFlags → Type 0
 IsScopeStrict flags = Has flags.0 BLOCKS.0 × Has flags.0 STRICT_SCOPE.0
 

@@ -92,7 +92,7 @@ module _ (m : PlainModule) (types : TypesOK m) (items : ItemsOK m) (globals : Gl
   pub whole : HandlesOK m
   whole = record { there = names_there; functions = λ i f at. (functions i f at).in_range; entries = λ k x at. (entries k x at).there; back = depends_back }
 
--- ---- what the steps after ask
+-- ---- what the steps after require
 
 module _ (m : PlainModule) (ok : HandlesOK m) where
   go_back : TypesGoBack m.types

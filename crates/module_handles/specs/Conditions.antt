@@ -1,4 +1,4 @@
--- What a module whose handles are in order gives to the steps after: what layouts, types and the analysis of functions ask.
+-- What a module whose handles are in order gives to the steps after: what layouts, types and the analysis of functions require.
 use Rattle.std.specs.Prelude.{◌≡◌, ℕ, Some, length, slice_get}
 use Rattle.ir_items.specs.Plain.{PlainFunction, PlainEntry, PlainModule}
 use Rattle.ir_proc.specs.Filters.{ParentsPrecede}

@@ -1,4 +1,4 @@
--- What the steps after ask of expressions, in their own words.
+-- What the steps after require of expressions, in their own words.
 use Rattle.std.specs.Prelude.{◌≡◌, ℕ, List, Some, map, slice_get}
 use Rattle.ir_arena.specs.Arenas.{value_of_entry}
 use Rattle.ir_types.specs.ExpressionPlain.{PlainExpression, expression_view}

@@ -2,13 +2,13 @@
 //! that types and global expressions name are of and begin as; and why handles are refused. The check takes no memory.
 //! `spec_handles` says what is required.
 //!
-//! Whether the handles of a function are in order: what the analysis of a function asks of it. The tests take no memory.
+//! Whether the handles of a function are in order: what the analysis of a function requires of it. The tests take no memory.
 //!
 //! [`handles_in_range`], [`operands_precede`], [`callees_precede`], [`filter_parents_precede`], [`arities_match`]; and
 //! [`arity_fault`], which tells the first call that fails the last.
 //!
 //! What a module whose handles are in order gives to the typing of expressions, to their kinds and to the analysis of
-//! functions, as they ask it. That types go back, filters come after their parents, and callees precede is a law of
+//! functions, as they require it. That types go back, filters come after their parents, and callees precede is a law of
 //! `module_handles`.
 #![tactic(auto)]
 

@@ -4,12 +4,12 @@ ghost use Rattle.module_handles.specs.Steps.{OrderGivesExpressions, OrderGivesOr
 ghost use Rattle.module_handles.specs.Types.{OrderGivesTypes};
 
 /// In a module whose handles are in order the items that expressions name are there and operands precede, as the typing of
-/// global expressions and the analysis of functions ask it.
+/// global expressions and the analysis of functions require it.
 pub fn order_gives_expressions()
     ensures { OrderGivesExpressions }
 {}
 
-/// In a module whose handles are in order expressions have their kinds from earlier ones, as the tracker of kinds asks it.
+/// In a module whose handles are in order expressions have their kinds from earlier ones, as the tracker of kinds requires it.
 pub fn order_gives_origins()
     ensures { OrderGivesOrigins }
 {}

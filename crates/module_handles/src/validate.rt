@@ -105,7 +105,7 @@ fn fault_of_module(module: &Module) -> Option<HandleFault>
 }
 
 /// Whether the handles of a module are in order (naga's `validate_module_handles`): all that is named is there, ranges lie
-/// in their lists, and each item comes after those that it depends on. No handle is followed that was not asked. It takes
+/// in their lists, and each item comes after those that it depends on. No handle is followed that was not checked. It takes
 /// time as the module is long.
 ///
 /// # Errors

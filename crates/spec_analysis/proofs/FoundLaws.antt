@@ -1,4 +1,4 @@
--- What is found step by step is asked at a disrupted place, and where nothing is found, nothing is.
+-- What is found step by step is required at a disrupted place, and where nothing is found, nothing is.
 use Rattle.std.proofs.Common.{◌≡◌, ◌⊎◌, inl, inr, ⊎_elim, ℕ, zero, suc, Bool, true, false, ◌||◌, IsTrue, Option, Some, None, refl, sym, ap, ◌∙◌, subst}
 use Rattle.ir_flags.specs.declared.settings.ValidationFlags.{ValidationFlags}
 use Rattle.ir_kinds.specs.declared.diagnostics.Severity.{Severity}
@@ -58,7 +58,7 @@ operation_none (cooperative_store target place) x e h = h
 operation_none (ray_pipeline fun) x e h = h
 
 module _ (severity : Severity) (required : ℕ → ℕ) (varies : ℕ → Bool) (look : ℕ → ℕ → Option Required) (is : IsLook severity required look) where
-  -- asked at a place that is found to be disrupted
+  -- required at a place that is found to be disrupted
   abbrev RequiredAt : Bool → PlainBlock → Required → Type 0
   RequiredAt d b x = (p : Place) × (s : PlainStatement) × OccursAt b p s × Requires severity required s x × IsTrue (disrupted_at varies d p b)
 
@@ -70,7 +70,7 @@ module _ (severity : Severity) (required : ℕ → ℕ) (varies : ℕ → Bool) 
   by_first d s rest x (inl own) = (here, s, refl, own.0, own.1)
   by_first d s rest x (inr i) = let a = i.1 in (inside i.0 a.0, a.1, a.2, a.3, a.4)
 
-  -- ---- what is found is asked
+  -- ---- what is found is required
 
   mutual
     found_in : (b : PlainBlock) (d : Bool) (x : Required) → required_in varies look d b ≡ Some x → RequiredAt d b x
@@ -100,7 +100,7 @@ module _ (severity : Severity) (required : ℕ → ℕ) (varies : ℕ → Bool) 
     found_case (case value body falls rest) d x e =
         ⊎_elim (λ l. (zero, found_in body d x l)) (λ l. let k = found_case rest d x l in (suc k.0, k.1)) (first_cases _ _ x e)
 
-  -- ---- where nothing is found, nothing is asked
+  -- ---- where nothing is found, nothing is required
 
   own_none : (s : PlainStatement) (d : Bool) (x : Required) → required_at varies look d s ≡ None → IsTrue d → Requires severity required s x → ⊥
   own_none (emit first end) d x e t h = is.none first end x (where_none d (look first end) e t) h
@@ -149,7 +149,7 @@ module _ (severity : Severity) (required : ℕ → ℕ) (varies : ℕ → Bool) 
   pub asked_complete : (b : PlainBlock) → required_in varies look false b ≡ None → (x : Required) → DisruptedRequirement severity required (λ h. IsTrue (varies h)) b x → ⊥
   asked_complete b e x ask = none_at ask.place b false ask.statement x e ask.stands ask.asks (found varies false b ask.disrupted)
 
--- ---- by other words for the same values and what they ask
+-- ---- by other words for the same values and what they require
 
 asks_as : (severity : Severity) {required others : ℕ → ℕ} → ((h : ℕ) → required h ≡ others h) → (s : PlainStatement) (x : Required) → Requires severity required s x → Requires severity others s x
 asks_as severity same (emit first end) x h = record { from_first = h.from_first; below_end = h.below_end; requirement = h.requirement ∙ same x.expression; counts = h.counts }

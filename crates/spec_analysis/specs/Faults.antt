@@ -13,12 +13,12 @@ abbrev pub requirement_in : Option PlainExpression → ℕ
 requirement_in None = 0
 requirement_in (Some x) = requirements_of x
 
--- the bits of what the expression at a place asks for
+-- the bits of what the expression at a place requires
 abbrev pub requirement_at : List PlainExpression → ℕ → ℕ
 requirement_at expressions e = requirement_in (slice_get expressions e)
 
 -- A fault of uniformity of a function, by the severity of derivatives in it, the values that may differ and what its
--- expressions ask for.
+-- expressions require.
 pub record FunctionFault (flags : ValidationFlags) (m : PlainModule) (f : PlainFunction) (x : Required) : Type 0 where
   pub severity : Severity
   pub severe : HasSeverity m f DerivativeUniformity severity

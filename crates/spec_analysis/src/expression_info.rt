@@ -8,7 +8,7 @@ use typing_forms::TypeResolution;
 /// What is known of an expression of a function (naga's `ExpressionInfo`).
 #[derive(Debug, Drop)]
 pub struct ExpressionInfo {
-    /// Whether its value is the same in all invocations, and what it asks for.
+    /// Whether its value is the same in all invocations, and what it requires.
     pub uniformity: Uniformity,
     /// At how many places it is an operand of an expression or of a statement. Past `usize::MAX` it stays there.
     pub ref_count: usize,

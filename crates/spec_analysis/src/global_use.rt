@@ -18,9 +18,9 @@ bitflag_items! {
         const READ = 1;
         /// What it holds is written.
         const WRITE = 2;
-        /// It is asked how large it is, or is only named.
+        /// Its size is queried, or it is only named.
         const QUERY = 4;
-        /// A texel of it is changed at once.
+        /// A texel of it is changed atomically.
         const ATOMIC = 8;
     }
 }

@@ -1,4 +1,4 @@
-//! Whether a value is the same in all invocations, and what asks for that.
+//! Whether a value is the same in all invocations, and what requires that.
 
 use bitflags::{Flag, Flags, bitflag_items};
 use ir_arena::handle::Handle;
@@ -58,7 +58,7 @@ impl Flags for UniformityRequirements {
     }
 }
 
-/// Whether the value of an expression is the same in all invocations, and what it asks for (naga's `Uniformity`).
+/// Whether the value of an expression is the same in all invocations, and what it requires (naga's `Uniformity`).
 #[derive(Clone, Copy, PartialEq, Debug)]
 pub struct Uniformity {
     /// An expression that the value comes from and that isn't the same in all invocations, if there is one.

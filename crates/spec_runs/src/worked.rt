@@ -32,7 +32,7 @@ pub fn skipped_use_of_all()
 {}
 
 /// A run where all operands are reported, of a function that emits an expression and not its operand: it uses what is not live. The
-/// rules accept it where strict scope is not asked for.
+/// rules accept it where strict scope is not required.
 pub fn operand_not_emitted()
     ensures { trace_of all_operands (module_of (emitting 2 ∷ [])) calling [] 9
         ≡ entered 0 ∷ executed calling here ∷ passed calling (emitting 2) [] ∷ entered 1 ∷ executed (emitting 2) here ∷ introduced_expression (emitting 2) 2 ∷ used (emitting 2) [] [] 1

@@ -1,4 +1,4 @@
--- One type is held, and what is held after one function more.
+-- One payload type is kept, and what is kept after one function more.
 use Rattle.std.proofs.Common.{◌≡◌, ◌≢◌, ◌⊎◌, inl, inr, ⊎_elim, ℕ, suc, ◌<◌, Option, Some, None, refl, sym, ap, subst, ◌∙◌, arith, slice_get}
 use Rattle.std.proofs.lemmas.Bool.{cases_eq}
 use Rattle.std.specs.Prelude.{bit_and}
@@ -32,7 +32,7 @@ module _ (flags : ValidationFlags) (m : PlainModule) (count : ℕ) where
 pub one_payload : OnePayload
 one_payload flags m count held other a b = held_once flags m count held other a b
 
--- nothing is held at first
+-- nothing is kept at first
 pub held_at_first : (flags : ValidationFlags) (m : PlainModule) → IsPayloadBefore flags m 0 None
 held_at_first flags m = record {
   some = λ type asked h. absurd (let lt = h.before in omega (arith, lt));

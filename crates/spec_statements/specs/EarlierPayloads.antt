@@ -14,7 +14,7 @@ pub record HasPayloadBefore (m : PlainModule) (count type : ℕ) : Type 0 where
   pub at : slice_get m.functions index ≡ Some function
   pub traced : HasPayload m function type
 
--- What is held after the first so many functions, where bodies are checked: the type of each of their payloads, and nothing
+-- What is kept after the first so many functions, where bodies are checked: the type of each of their payloads, and nothing
 -- where they have none; else nothing.
 pub record IsPayloadBefore (flags : ValidationFlags) (m : PlainModule) (count : ℕ) (held : Option ℕ) : Type 0 where
   pub some : (type : ℕ) → Has flags.0 BLOCKS.0 → HasPayloadBefore m count type → held ≡ Some type

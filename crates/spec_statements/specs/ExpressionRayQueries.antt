@@ -1,4 +1,4 @@
--- Which ray queries are asked.
+-- Which ray queries may be read.
 use Rattle.std.specs.Prelude.{◌≡◌, List, Option, Some, None, Bool, true, IsSome, IsSomeAnd}
 use Rattle.ir_types.specs.Plain.{PlainInner, struct, plain, PlainType}
 use Rattle.ir_types.specs.declared.types.TypeInner.TheVariants as inner

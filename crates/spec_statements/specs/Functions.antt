@@ -60,7 +60,7 @@ pub record BodyOK (s : FunctionSettings) (c : BlockContext) : Type 0 where
   pub payloads : PayloadsOK c.m c.f s.held
   pub strict : Has s.flags.0 STRICT_SCOPE.0 → StrictOK c.f
 
--- The arity of calls, what the analysis requires, the variables, the arguments and the result are asked under every set of flags;
+-- The arity of calls, what the analysis requires, the variables, the arguments and the result are checked under every set of flags;
 -- the rules of expressions under EXPRESSIONS and those of the body under BLOCKS.
 pub record FunctionOK (reading : Reading) (s : FunctionSettings) (m : PlainModule) (f : PlainFunction) : Type 0 where
   pub arity : AritiesMatch m f
@@ -71,7 +71,7 @@ pub record FunctionOK (reading : Reading) (s : FunctionSettings) (m : PlainModul
   pub expressions : Has s.flags.0 EXPRESSIONS.0 → (e : ℕ) → e < length f.expressions → reading.IsAccepted s.capabilities forms e
   pub body : Has s.flags.0 BLOCKS.0 → BodyOK s (block_context s m f forms)
 
--- A stage may run a function of which the lower layer says so: it may run all statements, where these are asked, callees among
+-- A stage may run a function of which the lower layer says so: it may run all statements, where these are checked, callees among
 -- them, and all expressions, where those are. It is a bit of `ShaderStages`.
 pub record AllowsStage (reading : Reading) (s : FunctionSettings) (callees : List ShaderStages) (f : PlainFunction) (stage : ℕ) : Type 0 where
   pub statements : Has s.flags.0 BLOCKS.0 → (p : Place) (u : PlainStatement) → OccursAt f.body p u → Has (statement_stages s.subgroup_stages callees u).0 stage

@@ -11,7 +11,7 @@ use Rattle.spec_statements.specs.Functions.{Reading, FunctionSettings, FunctionO
 
 -- What is said of a function of a module: the types of its expressions by the rules of their kinds, the analysis by chains of
 -- calls, and the checks of expressions. Which stages may run an expression is reported of it alone, its callee aside: nothing here
--- asks it.
+-- requires it.
 abbrev pub reading_over : PlainModule → PlainFunction → Reading
 reading_over m f = record {
   HasForm = HasType m f;

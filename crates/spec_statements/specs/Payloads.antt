@@ -18,13 +18,13 @@ pub record HasPayload (m : PlainModule) (f : PlainFunction) (type : ℕ) : Type 
   pub stands : OccursAt f.body place (operation (ray_pipeline (TraceRay acceleration_structure descriptor payload)))
   pub declared : option_map (λ g. g.ty) (variable_at m f payload) ≡ Some type
 
--- The payloads of a function are of the type that is held from before, if one is held, and of one type.
+-- The payloads of a function are of the type that is kept from before, if one is kept, and of one type.
 pub record PayloadsOK (m : PlainModule) (f : PlainFunction) (held : Option ℕ) : Type 0 where
   pub as_before : (type before : ℕ) → HasPayload m f type → held ≡ Some before → type ≡ before
   pub one : (type other : ℕ) → HasPayload m f type → HasPayload m f other → type ≡ other
 
--- What is held after a function: under BLOCKS the type from before, or else that of its payloads; and without BLOCKS what was
--- held before.
+-- What is kept after a function: under BLOCKS the type from before, or else that of its payloads; and without BLOCKS what was
+-- kept before.
 pub record IsPayloadAfter (flags : ValidationFlags) (m : PlainModule) (f : PlainFunction) (held after : Option ℕ) : Type 0 where
   pub kept : (before : ℕ) → held ≡ Some before → after ≡ Some before
   pub found : Has flags.0 BLOCKS.0 → (type : ℕ) → HasPayload m f type → held ≡ None → after ≡ Some type

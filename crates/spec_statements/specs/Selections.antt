@@ -1,4 +1,4 @@
--- Which values are chosen from, by which condition; of which values something is asked.
+-- Which values are chosen from, by which condition; of which values something is required.
 use Rattle.std.specs.Prelude.{◌≡◌, IsSomeAnd}
 use Rattle.ir_kinds.specs.declared.operators.RelationalFunction.{RelationalFunction}
 use Rattle.ir_kinds.specs.declared.operators.RelationalFunction.TheVariants.{All, Any, IsNan, IsInf}

@@ -2,7 +2,7 @@
 
 ghost use Rattle.spec_statements.specs.FunctionLaws.{OnePayload, FormsByCallees, CallsPrecede};
 
-/// At most one type of payloads is held before a function.
+/// At most one payload type is kept before a function.
 #[tactic(auto, using(crate::proofs::HeldLaws::one_payload))]
 pub fn one_payload()
     ensures { OnePayload }

@@ -1,4 +1,4 @@
-//! What the definitions ask of small expressions, worked out by hand.
+//! What the definitions require of small expressions, worked out by hand.
 //!
 //! The functions do nothing: their contracts are the examples.
 

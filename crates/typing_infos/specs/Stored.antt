@@ -1,4 +1,4 @@
--- The pairs that are held, few or many.
+-- The pairs that are kept, few or many.
 use Rattle.std.specs.Prelude.{List}
 use Rattle.spec_analysis.specs.Pairs.{SamplingPair}
 use Rattle.spec_analysis.specs.declared.sampling.SamplingKey.{SamplingKey}

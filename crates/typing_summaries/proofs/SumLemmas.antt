@@ -25,7 +25,7 @@ some_is e = cc (e)
 abbrev pub Given : (Effect → Type 0) → List Effect → Type 0
 Given G effects = (x : Effect) × IsAmong x effects × G x
 
--- what holds after each effect exactly where it held before or the effect gives it, holds after all exactly where it held at
+-- what holds after each effect exactly where it was so before or the effect gives it, holds after all exactly where it was so at
 -- the beginning or one of them gives it
 module _ (k : Known) (Q : Tallied → Type 0) (G : Effect → Type 0) (OK : Tallied → Type 0)
     (keeps : (x : Effect) (t : Tallied) → OK t → OK (do_one k x t))

@@ -22,7 +22,7 @@ pub record IsKept (k : Known) (callee : ℕ) (pairs : List SamplingPair) : Type 
 abbrev pub IsWrong : Paired → Type 0
 IsWrong t = (e : ℕ) × (t.wrong ≡ Some e)
 
--- each pair of a callee that is passed these arguments is held, as the caller sees it, where both parts denote something there
+-- each pair of a callee that is passed these arguments is kept, as the caller sees it, where both parts denote something there
 abbrev pub IsCovered : List PlainExpression → (arguments : List ℕ) → (pairs held : List SamplingPair) → Type 0
 IsCovered expressions arguments pairs held =
     (q : SamplingPair) → IsAmong q pairs → (image sampler : GlobalOrArgument) → seen_through (place expressions) arguments (Some q.0) ≡ Some image

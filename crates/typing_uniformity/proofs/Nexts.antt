@@ -112,7 +112,7 @@ module _ (severity : Severity) (uniformities : List Uniformity) (next : List ℕ
   found_from first end None x at e = cc
   found_from first end (Some place) x at e = found_with first end place (slice_get uniformities place) x (next_at first place at) refl e
 
-  -- what asks is within
+  -- what requires something is within
   asking_within : (k : ℕ) → asks severity uniformities k ≡ true → k < length uniformities
   asking_within k e = inside (slice_get uniformities k) refl
     where
@@ -126,7 +126,7 @@ module _ (severity : Severity) (uniformities : List Uniformity) (next : List ℕ
           nothing_counts Error e = cc
       inside (Some u) at = slice_get_within uniformities k u at
 
-  -- a place before the end that asks is found
+  -- a place before the end that requires something is found
   not_none : (end place : ℕ) (u : Uniformity) → place < end → required_with end place (Some u) ≡ None → ⊥
   not_none end place u lt e = with_none (nat_lt place end) (lt-ltb place end lt) e
     where

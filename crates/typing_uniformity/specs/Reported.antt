@@ -5,7 +5,7 @@ use Rattle.ir_types.specs.declared.expressions.Expression.{Expression}
 use Rattle.spec_analysis.specs.declared.uniformity.Uniformity.{Uniformity}
 use Rattle.spec_analysis.specs.Values.{known_at, requirements_of}
 
--- Where its value comes from, and the bits of what it asks for.
+-- Where its value comes from, and the bits of what it requires.
 pub record Reported : Type 0 where
   pub source : Option ℕ
   pub requirement : ℕ

@@ -1,4 +1,4 @@
--- What is known of the uniformity of expressions, read from a list, and the expressions that ask for all invocations.
+-- What is known of the uniformity of expressions, read from a list, and the expressions that require all invocations.
 use Rattle.std.specs.Prelude.{◌≡◌, ℕ, ◌<◌, ◌≤◌, Bool, true, false, IsTrue, ◌||◌, ◌&&◌, nat_lt, ◌==◌, List, length, Option, Some, None, is_some, option_and_then, slice_get, slice_index_or, if◌then◌else◌}
 use Rattle.ir_kinds.specs.declared.diagnostics.Severity.{Severity}
 use Rattle.ir_kinds.specs.declared.diagnostics.Severity.TheVariants.{Off, Info, Warning, Error}
@@ -60,6 +60,6 @@ abbrev pub required_from : List Uniformity → ℕ → Option ℕ → Option Req
 required_from uniformities end None = None
 required_from uniformities end (Some place) = required_with end place (slice_get uniformities place)
 
--- what the first expression of a range that asks for something asks for
+-- what the first expression of a range that requires something requires
 abbrev pub look_of : List Uniformity → List ℕ → ℕ → ℕ → Option Required
 look_of uniformities next first end = required_from uniformities end (slice_get next first)

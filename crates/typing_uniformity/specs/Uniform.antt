@@ -12,7 +12,7 @@ use Rattle.typing_uniformity.specs.declared.fault.NonUniform.{NonUniform}
 abbrev pub VariesBy : List Uniformity → ℕ → Type 0
 VariesBy uniformities e = IsTrue (varies_of uniformities e)
 
--- a fault of uniformity, where the values of expressions differ and ask for what is known of them
+-- a fault of uniformity, where the values of expressions differ and require what is known of them
 abbrev pub FaultBy : ValidationFlags → Severity → List Uniformity → PlainBlock → Required → Type 0
 FaultBy flags severity uniformities body x = UniformityFault flags severity (required_of uniformities) (VariesBy uniformities) body x
 

@@ -15,7 +15,7 @@ use spec_analysis::Uniformity;
 use std::alloc::{AllocError, Global};
 
 /// A fault of uniformity of a function of the module, or `None` where it has none (see [`find_fault`]). `uniformities` says of
-/// each of its expressions where its value comes from and what it asks for, and the parent of each diagnostic filter comes
+/// each of its expressions where its value comes from and what it requires, and the parent of each diagnostic filter comes
 /// before it. The error is out of memory.
 pub fn uniformity_fault(
     alloc: Global,

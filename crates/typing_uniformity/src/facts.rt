@@ -19,7 +19,7 @@ use std::alloc::{AllocError, Global};
 /// What is known of each expression of a function.
 #[derive(Drop)]
 pub struct Facts {
-    /// A source that its value comes from, if there is one, and what it asks for.
+    /// A source that its value comes from, if there is one, and what it requires.
     pub uniformities: Vec<Uniformity>,
     /// The global variable that its chain of accesses starts at, if it starts at one.
     pub globals: Vec<Option<Handle<key::GlobalVariable>>>,

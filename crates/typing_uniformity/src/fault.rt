@@ -24,9 +24,9 @@ use typing_errors::{FunctionError, UniformityDisruptor};
 /// What requires that all invocations arrive at it together, and stands where they may not.
 #[derive(Clone, Copy, Debug)]
 pub struct NonUniform {
-    /// What it asks for.
+    /// What it requires.
     pub requirements: UniformityRequirements,
-    /// The expression that asks, or the result of the statement that does.
+    /// The expression that requires it, or the result of the statement that does.
     pub expression: Handle<key::Expression>,
     /// What makes invocations differ: the first of a choice around it and of an end before it.
     pub disruptor: UniformityDisruptor,
@@ -56,7 +56,7 @@ fn first_fault(uniformities: &[Uniformity], next: &[usize], body: &Block) -> Opt
 }
 
 /// A fault of uniformity of a body, or `None` where it has none: under the flag `CONTROL_FLOW_UNIFORMITY` an expression that
-/// asks for something that counts and is emitted, or a uniform load of workgroup memory, at a place where invocations may
+/// requires something that counts and is emitted, or a uniform load of workgroup memory, at a place where invocations may
 /// differ. `uniformities` has what is known of the function's expressions, in order, and `severity` is that of the rule of
 /// derivatives in the function (see [`crate::derivative_severity`]). The error is out of memory.
 pub fn find_fault(

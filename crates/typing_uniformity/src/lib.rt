@@ -1,5 +1,5 @@
 //! What is known of the expressions of a function before its statements are looked at: where their values come from, the
-//! global variables that their chains of accesses start at, and what they ask of control flow.
+//! global variables that their chains of accesses start at, and what they require of control flow.
 //!
 //! Faults of uniformity of functions: what requires that all invocations arrive at it together, and stands where they may not.
 #![tactic(auto)]

@@ -1,4 +1,4 @@
-//! For each expression the first from it on that asks for all invocations.
+//! For each expression the first from it on that requires all invocations.
 
 ghost use Rattle.std.specs.Prelude.{◌≡◌, IfOk, length, slice_get};
 ghost use Rattle.typing_uniformity.specs.Requiring.{is_error, counts, asks, AreNext};
@@ -26,7 +26,7 @@ fn counts(severity: Severity, requirements: UniformityRequirements) -> bool
                 || requirements.0 == UniformityRequirements::IMPLICIT_LEVEL.0)
 }
 
-// Whether the expression at a place asks for something that counts.
+// Whether the expression at a place requires something that counts.
 fn asks(severity: Severity, uniformities: &[Uniformity], place: usize) -> bool
     ensures { result ≡ asks severity uniformities.now place }
 {
@@ -36,7 +36,7 @@ fn asks(severity: Severity, uniformities: &[Uniformity], place: usize) -> bool
     }
 }
 
-// For each expression the first from it on that asks for something that counts, their number where there is none. The
+// For each expression the first from it on that requires something that counts, their number where there is none. The
 // error is out of memory.
 pub(crate) fn next_requiring(
     alloc: Global,

@@ -1,4 +1,4 @@
-//! What expressions ask of control flow.
+//! What expressions require of control flow.
 
 ghost use Rattle.std.specs.Prelude.{◌≡◌};
 ghost use Rattle.ir_types.specs.ExpressionPlain.{expression_view};

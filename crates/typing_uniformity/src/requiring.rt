@@ -10,7 +10,7 @@ use ir_items::key;
 use spec_analysis::Uniformity;
 use typing_errors::UniformityDisruptor;
 
-// Whether the value of each expression differs and what it asks for, and for each the first from it on that asks for
+// Whether the value of each expression differs and what it requires, and for each the first from it on that requires
 // something.
 #[derive(Drop)]
 pub(crate) struct Requiring<'a> {
@@ -32,7 +32,7 @@ impl Requiring<'_> {
         }
     }
 
-    // The fault of an expression that asks for something, where it comes before the end.
+    // The fault of an expression that requires something, where it comes before the end.
     fn required_at(
         &self,
         place: usize,
@@ -57,7 +57,7 @@ impl Requiring<'_> {
         }
     }
 
-    // The fault of the first expression of a range that asks for something, where invocations differ.
+    // The fault of the first expression of a range that requires something, where invocations differ.
     pub(crate) fn emitted(
         &self,
         first: u32,

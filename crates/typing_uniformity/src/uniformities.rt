@@ -24,7 +24,7 @@ fn source_at(
     }
 }
 
-/// The uniformity of each expression of a function, in order: where its value comes from, as `sources` says, and what it asks
+/// The uniformity of each expression of a function, in order: where its value comes from, as `sources` says, and what it requires
 /// for. The error is out of memory.
 pub(crate) fn uniformities_of(
     alloc: Global,

@@ -1,4 +1,4 @@
--- What was written names the first that asks, from each place on.
+-- What was written names the first that requires something, from each place on.
 use Rattle.std.proofs.Common.{◌≡◌, ℕ, ◌<◌, ◌≤◌, length, slice_index_or}
 use Rattle.typing_uniformity.specs.Requiring.{asks, IsNext}
 use Rattle.typing_uniformity.proofs.next.next_requiring.Given as goal
