@@ -15,7 +15,7 @@ use Rattle.module_type_infos.specs.declared.error.Disalignment.TheVariants as fa
 use Rattle.module_type_infos.specs.declared.error.ImmediateError.{ImmediateError}
 use Rattle.module_type_infos.specs.declared.error.ImmediateError.TheVariants as immediate
 
--- an array whose stride is no multiple of a number that its elements ask for
+-- an array whose stride is no multiple of a number that its elements require
 pub record IsBadStride (asks : Tree → ℕ → Type 0) (stride a : ℕ) (t : Tree) : Type 0 where
   pub base : Tree
   pub count : ArraySize
@@ -30,7 +30,7 @@ pub record IsBadSpan (span a : ℕ) (t : Tree) : Type 0 where
   pub asked : a ≡ alignment t
   pub broken : ¬ (a ∣ span)
 
--- a struct with a member that does not begin at a multiple of what `part` asks of its type
+-- a struct with a member that does not begin at a multiple of what `part` requires of its type
 pub record IsBadOffset (part : Tree → ℕ) (index offset a : ℕ) (t : Tree) : Type 0 where
   pub members : Members
   pub span : ℕ

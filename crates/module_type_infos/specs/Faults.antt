@@ -33,7 +33,7 @@ use Rattle.module_type_infos.specs.declared.error.WidthError.TheVariants as widt
 abbrev pub Lacks : Capabilities → Capabilities → Type 0
 Lacks capabilities c = ¬ Has capabilities.0 c.0
 
--- no scalar takes so many bytes, where two and eight ask for capabilities
+-- no scalar takes so many bytes, where two and eight require capabilities
 abbrev pub IsNoWidth : (bytes : ℕ) → Type 0
 IsNoWidth bytes = (bytes ≢ 2) × (bytes ≢ 4) × (bytes ≢ 8)
 
@@ -45,7 +45,7 @@ IsNoScalar kind.Bool bytes = bytes ≢ 1
 IsNoScalar AbstractInt bytes = ⊥
 IsNoScalar AbstractFloat bytes = ⊥
 
--- a scalar of two or of eight bytes asks for its capability
+-- a scalar of two or of eight bytes requires its capability
 abbrev pub RequiresFor : (two eight : Capabilities) → (bytes : ℕ) → Capabilities → Type 0
 RequiresFor two eight bytes c = ((bytes ≡ 2) × (c ≡ two)) ⊎ ((bytes ≡ 8) × (c ≡ eight))
 

@@ -13,7 +13,7 @@ pub enum WidthError {
     /// No scalar of this kind takes so many bytes.
     #[error("a scalar of kind {0:?} cannot have a width of {1} bytes")]
     Invalid(ScalarKind, Bytes),
-    /// It asks for this capability.
+    /// It requires this capability.
     #[error("capability {0:?} is required")]
     MissingCapability(Capabilities),
     /// Abstract numbers stand in constants alone.
@@ -81,7 +81,7 @@ pub enum Disalignment {
     NonHostShareable,
 }
 
-/// Why members can't be sources of a blend: what naga's `VaryingError` tells of a type.
+/// Why members can't be sources of a blend: what naga's `VaryingError` says of a type.
 #[derive(Clone, Copy, Debug, Error)]
 pub enum VaryingError {
     /// Values of the type don't go from one stage to the next.
@@ -129,7 +129,7 @@ pub enum TypeError {
     /// There is no such scalar.
     #[error("{0}")]
     WidthError(WidthError),
-    /// It asks for this capability.
+    /// It requires this capability.
     #[error("capability {0:?} is required")]
     MissingCapability(Capabilities),
     /// No atomic is a scalar of this kind and width.

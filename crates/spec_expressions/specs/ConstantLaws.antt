@@ -6,7 +6,7 @@ use Rattle.ir_items.specs.Plain.{PlainModule}
 use Rattle.spec_expressions.specs.GlobalExpressions.{GlobalExpressionOK}
 use Rattle.spec_expressions.specs.Overrides.{OverrideOK}
 
--- what fewer capabilities accept, more accept; of constants and overrides no capability is asked
+-- what fewer capabilities accept, more accept; of constants and overrides no capability is required
 abbrev pub MoreCapabilities : Type 0
 MoreCapabilities = (few many : Capabilities) → IsWithin few.0 many.0 → (resolved : Bool) (m : PlainModule) (handle : ℕ) → GlobalExpressionOK few resolved m handle
     → GlobalExpressionOK many resolved m handle

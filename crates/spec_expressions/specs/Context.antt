@@ -46,7 +46,7 @@ abbrev pub form_if : List PlainType → Option ℕ → Form
 form_if types (Some type) = form_of_type types type
 form_if types None = form.Nothing
 
--- the item that an expression names is there; of the number of an argument nothing is asked
+-- the item that an expression names is there; of the number of an argument nothing is required
 abbrev pub NamesItemOf : Context → Expression → Type 0
 NamesItemOf c (x.Literal value) = Unit {0}
 NamesItemOf c (x.Constant constant) = constant < length c.constants

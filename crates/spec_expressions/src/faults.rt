@@ -26,7 +26,7 @@ pub enum TypingFault {
     InvalidVector(Handle<key::Expression>),
     /// What is loaded from is no pointer to what can be loaded.
     InvalidPointer(Handle<key::Expression>),
-    /// What is sampled, loaded from or asked for its size is no image that allows it.
+    /// What is sampled, loaded from or queried for its size is no image that allows it.
     InvalidImage(Handle<key::Expression>),
     /// The function that was called answers nothing.
     FunctionReturnsVoid,

@@ -7,7 +7,7 @@ use Rattle.typing_layout.specs.Tree.{Tree, scalar, vector, matrix, cooperative_m
 use Rattle.typing_layout.specs.Flags.{HasFlag, HostShareable}
 use Rattle.typing_layout.specs.Parts.{Part, listed, end_of, before, Everywhere}
 
--- each offset is a multiple of what `part` asks of the member's type
+-- each offset is a multiple of what `part` requires of the member's type
 abbrev pub PartsAligned : (part : Tree → ℕ) → List Part → Type 0
 PartsAligned part ps = (k : ℕ) (p : Part) → slice_get ps k ≡ Some p → part p.of_type ∣ p.offset
 

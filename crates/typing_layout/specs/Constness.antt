@@ -62,9 +62,12 @@ origin_of (plain (expression.CooperativeMultiplyAdd a b c)) = own Runtime
 
 -- The expression at a handle is of a kind: its own, or the latest of its operands' kinds.
 pub data IsOfKind (expressions : List PlainExpression) : ℕ → ExpressionKind → Type 0 where
-  by_itself : {handle : ℕ} {e : PlainExpression} {k : ExpressionKind} → slice_get expressions handle ≡ Some e → origin_of e ≡ own k → IsOfKind expressions handle k
-  by_operands : {handle : ℕ} {e : PlainExpression} {operands : List ℕ} (kind : ℕ → ExpressionKind) → slice_get expressions handle ≡ Some e → origin_of e ≡ latest_of operands
-      → ((place operand : ℕ) → slice_get operands place ≡ Some operand → IsOfKind expressions operand (kind operand)) → IsOfKind expressions handle (latest (map kind operands))
+  by_itself : {handle : ℕ} {e : PlainExpression} {k : ExpressionKind} → slice_get expressions handle ≡ Some e → origin_of e ≡ own k
+      → IsOfKind expressions handle k
+  by_operands : {handle : ℕ} {e : PlainExpression} {operands : List ℕ} (kind : ℕ → ExpressionKind) → slice_get expressions handle ≡ Some e
+      → origin_of e ≡ latest_of operands
+      → ((place operand : ℕ) → slice_get operands place ≡ Some operand → IsOfKind expressions operand (kind operand))
+      → IsOfKind expressions handle (latest (map kind operands))
 
 -- the operands by which an expression has its kind
 abbrev pub operands_from : Origin → List ℕ
@@ -73,7 +76,8 @@ operands_from (latest_of operands) = operands
 
 -- they come before it
 abbrev pub OriginsPrecede : List PlainExpression → Type 0
-OriginsPrecede expressions = (handle : ℕ) (e : PlainExpression) → slice_get expressions handle ≡ Some e → All (λ operand. operand < handle) (operands_from (origin_of e))
+OriginsPrecede expressions =
+    (handle : ℕ) (e : PlainExpression) → slice_get expressions handle ≡ Some e → All (λ operand. operand < handle) (operands_from (origin_of e))
 
 -- each is the kind of the expression at its index
 pub record AreKinds (expressions : List PlainExpression) (kinds : List ExpressionKind) : Type 0 where
@@ -82,4 +86,6 @@ pub record AreKinds (expressions : List PlainExpression) (kinds : List Expressio
 
 -- an expression is of one kind at most
 abbrev pub OneKind : Type 0
-OneKind = (expressions : List PlainExpression) (handle : ℕ) (left right : ExpressionKind) → IsOfKind expressions handle left → IsOfKind expressions handle right → left ≡ right
+OneKind =
+    (expressions : List PlainExpression) (handle : ℕ) (left right : ExpressionKind) → IsOfKind expressions handle left → IsOfKind expressions handle right
+    → left ≡ right

@@ -30,7 +30,7 @@ abbrev pub IsFaultOf : Tree → LayoutErrorInner → Type 0
 IsFaultOf t NonPowerOfTwoWidth = ¬ IsWidthOK t
 IsFaultOf t TooLarge = MAX_TYPE_SIZE < size t
 
--- the type has no layout, and those of all types before it are held
+-- the type has no layout, and those of all types before it are kept
 pub record IsRefused (types : List PlainType) (layouts : List TypeLayout) (e : LayoutError) : Type 0 where
   pub next : length layouts ≡ e.ty
   pub within : e.ty < length types
@@ -47,6 +47,6 @@ IsRefusal types layouts (refusal.Fault f) = IsRefused types layouts (error_of f)
 abbrev pub OneLayout : Type 0
 OneLayout = (types : List PlainType) (left right : List TypeLayout) → AreLayouts types left → AreLayouts types right → length left ≡ length right → left ≡ right
 
--- layouts are held on where types are added after
+-- layouts are kept where types are added after
 abbrev pub LayoutsStay : Type 0
 LayoutsStay = (types more : List PlainType) (layouts : List TypeLayout) → TypesGoBack types → AreLayouts types layouts → AreLayouts (types ++ more) layouts

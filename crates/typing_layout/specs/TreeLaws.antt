@@ -7,5 +7,6 @@ use Rattle.typing_layout.specs.Rules.{TypeOK}
 
 -- what fewer capabilities accept, more accept
 abbrev pub MoreCapabilities : Type 0
-MoreCapabilities = (few many : Capabilities) → IsWithin few.0 many.0 → (resolved : Bool) (types : List PlainType) (handle : ℕ) → TypeOK few resolved types handle
+MoreCapabilities =
+    (few many : Capabilities) → IsWithin few.0 many.0 → (resolved : Bool) (types : List PlainType) (handle : ℕ) → TypeOK few resolved types handle
     → TypeOK many resolved types handle

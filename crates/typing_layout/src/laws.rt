@@ -9,7 +9,7 @@ pub fn one_layout()
     ensures { OneLayout }
 {}
 
-/// Layouts that are held of the types of a module are held of them where types are added after.
+/// The layouts of a module's types stay theirs where types are added after.
 pub fn layouts_stay()
     ensures { LayoutsStay }
 {}

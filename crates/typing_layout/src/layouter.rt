@@ -75,7 +75,7 @@ impl Layouter {
         self.layouts.clear();
     }
 
-    /// Lays out the types that it holds no layout of (naga's `update`). The types go back, and each layout that is held is
+    /// Lays out the types that it has no layout of (naga's `update`). The types go back, and each layout that is kept is
     /// that of the type at its index: so the types are those of the calls before, and perhaps more after.
     ///
     /// # Errors

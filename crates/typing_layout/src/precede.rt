@@ -94,7 +94,7 @@ fn origin_precedes(expression: &Expression, place: usize) -> bool
 }
 
 /// Whether the operands from which an expression has its kind come before it, for each expression of an arena. It is what
-/// [`crate::ExpressionKindTracker::from_arena`] asks.
+/// [`crate::ExpressionKindTracker::from_arena`] requires.
 pub fn origins_precede(arena: &Arena<Expression, key::Expression>) -> bool
     ensures { IsTrue result ↔ OriginsPrecede (map expression_view (map value_of_entry arena.now)) }
 {

@@ -165,7 +165,7 @@ fn kinds_of(
 
 impl ExpressionKindTracker {
     /// The kinds of the expressions of an arena. What an expression has its kind from comes before it. Each expression is
-    /// looked at once. The error is out of memory.
+    /// looked at one time. The error is out of memory.
     pub fn from_arena(
         alloc: Global,
         arena: &Arena<Expression, key::Expression>,
