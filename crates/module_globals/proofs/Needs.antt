@@ -12,7 +12,7 @@ use Rattle.typing_layout.specs.Flags.{TypeFlag, bit, among, Data, Sized, Copy, I
 use Rattle.spec_interface.specs.Spaces.{required, HasAll}
 use Rattle.typing_layout.specs.Tree.{Tree}
 use Rattle.module_type_infos.specs.Infos.{AreFlags}
-use Rattle.module_type_infos.specs.declared.flags.TypeFlags.{TypeFlags}
+use Rattle.typing_layout.specs.declared.type_flags.TypeFlags.{TypeFlags}
 
 by_flags : (P : TypeFlag → Type 0) → P Data → P Sized → P Copy → P IoShareable → P HostShareable → P CreationResolved → P Argument → P Constructible → (f : TypeFlag) → P f
 by_flags P a b c d e g h i Data = a

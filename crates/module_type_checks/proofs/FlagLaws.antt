@@ -18,7 +18,7 @@ use Rattle.module_type_checks.specs.Placed.{parts_in, part_of, IsPlaced, IsBefor
 use Rattle.module_type_checks.specs.declared.context.TypeContext.{TypeContext}
 use Rattle.module_type_checks.specs.declared.members.Placed.{Placed}
 use Rattle.module_type_infos.specs.Infos.{AreFlags}
-use Rattle.module_type_infos.specs.declared.flags.TypeFlags.{TypeFlags}
+use Rattle.typing_layout.specs.declared.type_flags.TypeFlags.{TypeFlags}
 
 pub array_are : (base new : TypeFlags) (mask : ℕ) (n : ArraySize) → new.0 ≡ bit_and base.0 mask → AreOf mask (array_flags n) → (t : Tree) (stride : ℕ) → AreFlags base t → AreFlags new (array t n stride)
 array_are base new mask n is of t stride flags f =

@@ -8,7 +8,7 @@ use Rattle.typing_layout.specs.View.{members_by}
 use Rattle.module_type_checks.specs.Known.{tree_in}
 use Rattle.module_type_checks.specs.Placed.{parts_in, Below}
 use Rattle.module_type_checks.specs.declared.context.TypeContext.{TypeContext}
-use Rattle.module_type_infos.specs.declared.flags.TypeFlags.{TypeFlags}
+use Rattle.typing_layout.specs.declared.type_flags.TypeFlags.{TypeFlags}
 
 -- the set has the flags of the list
 pub record AreOf (set : ℕ) (flags : List TypeFlag) : Type 0 where

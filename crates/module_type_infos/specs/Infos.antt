@@ -8,7 +8,7 @@ use Rattle.typing_layout.specs.Immediates.{FitsImmediates}
 use Rattle.typing_layout.specs.Layout.{alignment}
 use Rattle.typing_layout.specs.Tree.{Tree}
 use Rattle.module_type_infos.specs.BufferFaults.{BreaksStorage, BreaksUniform, IsBroken, IsUnfit}
-use Rattle.module_type_infos.specs.declared.flags.TypeFlags.{TypeFlags}
+use Rattle.typing_layout.specs.declared.type_flags.TypeFlags.{TypeFlags}
 use Rattle.module_type_infos.specs.declared.info.TypeInfo.{TypeInfo}
 
 -- a set has exactly the flags of a type

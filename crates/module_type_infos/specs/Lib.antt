@@ -3,4 +3,3 @@ pub mod BufferFaults
 pub mod Faults
 pub mod Infos
 pub mod MemberFaults
-pub mod Words

@@ -1,10 +1,9 @@
 //! What is reported of a type that is accepted.
 
 use crate::error::{Disalignment, ImmediateError};
-use crate::flags::TypeFlags;
 use ir_arena::handle::Handle;
 use ir_types::key;
-use typing_layout::Alignment;
+use typing_layout::{Alignment, TypeFlags};
 
 /// The alignment of a type as a part of a buffer; or what keeps a host from laying it out, and of which type inside (naga's
 /// `LayoutCompatibility`).

@@ -2,9 +2,8 @@
 #![tactic(auto)]
 
 mod error;
-mod flags;
 mod info;
 
 pub use error::{Disalignment, ImmediateError, LiteralError, TypeError, VaryingError, WidthError};
-pub use flags::TypeFlags;
 pub use info::{LayoutCompatibility, TypeInfo};
+pub use typing_layout::TypeFlags;

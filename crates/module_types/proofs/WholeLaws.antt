@@ -23,7 +23,7 @@ use Rattle.module_type_infos.specs.BufferFaults.{IsUnfit}
 use Rattle.module_type_infos.specs.Infos.{AreFlags}
 use Rattle.module_type_infos.specs.declared.error.ImmediateError.{ImmediateError}
 use Rattle.module_type_infos.specs.declared.error.ImmediateError.TheVariants as immediate
-use Rattle.module_type_infos.specs.declared.flags.TypeFlags.{TypeFlags}
+use Rattle.typing_layout.specs.declared.type_flags.TypeFlags.{TypeFlags}
 use Rattle.typing_forms.specs.Resolutions.{inner_at}
 
 pub whole_storage : (t : Tree) → IsWhole t → HasFlag HostShareable t → IsStorage t

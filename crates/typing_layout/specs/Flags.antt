@@ -8,6 +8,7 @@ use Rattle.ir_kinds.specs.declared.spaces.AddressSpace.{AddressSpace}
 use Rattle.ir_kinds.specs.declared.spaces.AddressSpace.TheVariants as space
 use Rattle.ir_types.specs.declared.types.ArraySize.{ArraySize}
 use Rattle.ir_types.specs.declared.types.ArraySize.TheVariants as count
+use Rattle.typing_layout.specs.declared.type_flags.TheConstants.TypeFlags.{DATA, SIZED, COPY, IO_SHAREABLE, HOST_SHAREABLE, CREATION_RESOLVED, ARGUMENT, CONSTRUCTIBLE}
 use Rattle.typing_layout.specs.Tree.{Tree, scalar, vector, matrix, cooperative_matrix, atomic, pointer, value_pointer, array, struct, image, sampler, acceleration_structure, ray_query, binding_array, Members, no_members, member}
 use Rattle.typing_layout.specs.Parts.{Part, listed, end_of, before}
 
@@ -31,14 +32,14 @@ pub data TypeFlag : Type 0 where
 
 -- the number of each in a set
 abbrev pub bit : TypeFlag → ℕ
-bit Data = 1
-bit Sized = 2
-bit Copy = 4
-bit IoShareable = 8
-bit HostShareable = 16
-bit CreationResolved = 32
-bit Argument = 64
-bit Constructible = 128
+bit Data = DATA.0
+bit Sized = SIZED.0
+bit Copy = COPY.0
+bit IoShareable = IO_SHAREABLE.0
+bit HostShareable = HOST_SHAREABLE.0
+bit CreationResolved = CREATION_RESOLVED.0
+bit Argument = ARGUMENT.0
+bit Constructible = CONSTRUCTIBLE.0
 
 abbrev pub among : List TypeFlag → TypeFlag → Bool
 among [] f = false

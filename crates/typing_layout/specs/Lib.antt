@@ -8,6 +8,7 @@ pub mod View
 pub mod Blends
 pub mod Buffers
 pub mod Flags
+pub mod FlagWords
 pub mod Images
 pub mod Immediates
 pub mod TreeLaws

@@ -20,6 +20,7 @@ mod precede;
 mod tracker;
 pub mod tree_laws;
 pub mod tree_worked;
+mod type_flags;
 
 pub use alignment::Alignment;
 pub use constness::ExpressionKind;
@@ -28,3 +29,4 @@ pub use layout::TypeLayout;
 pub use layouter::Layouter;
 pub use precede::origins_precede;
 pub use tracker::ExpressionKindTracker;
+pub use type_flags::TypeFlags;
