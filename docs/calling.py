@@ -18,7 +18,7 @@ PAGES = [
     ("shader_ir", "The representation of a shader module: arenas, types, expressions, blocks, items, and calls over them.",
      [("A caller", "test_cases/src/returns.rt", None)], ["ir_flags", "ir_kinds", "ir_arena", "ir_sets", "ir_faults", "ir_types",
                                         "ir_blocks", "ir_items", "ir_proc"]),
-    ("shader_typing", "What is asked of types, their layouts, the kinds and types of expressions, and the overload sets of the math functions.",
+    ("shader_typing", "What is required of types, their layouts, the kinds and types of expressions, and the overload sets of the math functions.",
      [("A caller", "test_kinds/src/overload_alone.rt", None)], ["typing_forms", "typing_expressions", "typing_layout", "typing_rules",
                                             "typing_overloads",
                                             "spec_expressions", "typing_resolve"]),

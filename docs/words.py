@@ -26,7 +26,7 @@ WORDS = {
 }
 WORD = re.compile("|".join(rf"(?P<w{at}>\b(?:{word})\b)" for at, word in enumerate(WORDS)))
 # what is quoted: code, and what the program or a tool prints
-QUOTED = re.compile(r"`[^`]*`|\"[^\"]*\"|\]\([^)]*\)")
+QUOTED = re.compile(r"``.*?``|`[^`]*`|\"[^\"]*\"|\]\([^)]*\)")
 
 
 def places(file, lines):
