@@ -51,7 +51,7 @@ IsAccepted requested m strict (NoDocument error hint) = ⊥
 IsAccepted requested m strict (Accepted found lines) = (found ≡ strict) × ListsAsRequested requested m (string_bytes lines)
 IsAccepted requested m strict (Refused error item) = ⊥
 
--- They are those of the document's module, with returns put in where its settings ask for them.
+-- They are those of the document's module, with returns put in where its settings require them.
 pub record AreListedIn (requested : Requested) (d : PlainDocument) (lines : List ℕ) : Type 0 where
   pub judged : PlainModule
   pub prepared : IsPrepared d.settings.returns d.content judged
@@ -62,7 +62,7 @@ FollowsIn requested d (NoDocument error hint) = Unit {0}
 FollowsIn requested d (Accepted strict lines) = AreListedIn requested d (string_bytes lines)
 FollowsIn requested d (Refused error item) = Unit {0}
 
--- They are those of the module of the document that the bytes spell, with returns put in where its settings ask for them.
+-- They are those of the module of the document that the bytes spell, with returns put in where its settings require them.
 pub record AreListed (requested : Requested) (bytes lines : List ℕ) : Type 0 where
   pub document : PlainDocument
   pub reads : Reads bytes document

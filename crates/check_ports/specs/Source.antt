@@ -46,7 +46,7 @@ abbrev pub RequiresFor : ℕ → List Call → Type 0
 RequiresFor most [] = ⊤
 RequiresFor most (c ∷ before) = RequiresFor most before × (0 < length c.buffer) × (length (passed before) + length c.buffer ≤ most)
 
--- Calls of a reader that ask for no more than `most` bytes in all, made one after the other, and no more than `limit`.
+-- Calls of a reader that require no more than `most` bytes in all, made one after the other, and no more than `limit`.
 -- `reads` says what one call makes of the reader.
 pub record Reading {R : Type 0} (reads : R → R → Call → Type 0) (old new : R) (most limit : ℕ) (calls : List Call) : Type 0 where
   pub made : Made reads old new calls

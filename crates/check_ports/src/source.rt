@@ -14,7 +14,7 @@ use thiserror::Error;
 /// This is room for 16777217 bytes (16 MiB and one byte) that come one at a time, each after one interrupted call.
 pub const MAX_CALLS: u32 = 33554434;
 
-/// How many bytes one call of the reader is asked for at most.
+/// How many bytes one call of the reader requests at most.
 const CHUNK: usize = 4096;
 
 /// Why no bytes were taken from a [`Source`].

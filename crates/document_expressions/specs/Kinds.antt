@@ -75,7 +75,7 @@ level_kinds =
     (codes "Gradient", level_kind.Gradient) ∷
     []
 
--- what may be asked of an image
+-- what can be queried of an image
 abbrev pub query_kinds : List (List ℕ × QueryKind)
 query_kinds =
     (codes "Size", query_kind.Size) ∷

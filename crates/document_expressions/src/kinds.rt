@@ -172,7 +172,7 @@ impl Word for LevelKind {
     }
 }
 
-/// What may be asked of an image.
+/// What can be queried of an image.
 #[derive(Clone, Copy)]
 pub enum QueryKind {
     Size,

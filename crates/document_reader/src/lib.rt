@@ -1,4 +1,4 @@
-//! From bytes to a document, and what a document holds: what it asks of the validator, and a module.
+//! From bytes to a document, and what a document holds: what it requires of the validator, and a module.
 //!
 //! The written forms of functions and entry points, and of the statements and bodies in them.
 #![tactic(auto)]

@@ -1,4 +1,4 @@
--- What changes values at once, or loads them together, with a fault does not meet its rule.
+-- What changes values atomically, or loads them together, with a fault does not meet its rule.
 use Rattle.std.proofs.Common.{ℕ, Option, Some, None, true≢false, inl, inr, slice_get, sym, ◌∙◌}
 use Rattle.std.specs.Prelude.{option_and_then}
 use Rattle.function_atomic_checks.specs.Atomics.{IsWide, IsMissingWide, IsWideFault, IsFloatFault, IsScalarFault, IsPlainFault, IsExchangeFault, IsDeclaredFault, IsOtherFault, IsUnansweredFault, IsAnswerFault, IsValueFault, IsChangeFault, IsPointerFault, IsAtomicError, IsAtomicFault}

@@ -1,4 +1,4 @@
--- What writes a texel or changes one at once with a fault does not meet its rule.
+-- What writes a texel or changes one atomically with a fault does not meet its rule.
 use Rattle.std.proofs.Common.{◌≡◌, ◌⊎◌, ℕ, List, Option, Some, None, Bool, true, false, IsSomeAnd, inl, inr, slice_get, refl, ap, subst}
 use Rattle.std.specs.Prelude.{option_and_then}
 use Rattle.std.specs.Option.{option_or}
@@ -150,7 +150,7 @@ store_refuted c image coordinate array_index value (error.InvalidImageStore e) (
 store_refuted c image coordinate array_index value _ (inl wrong) ok = wrong
 store_refuted c image coordinate array_index value e (inr wrong) ok = misfit_refuted c image coordinate array_index value wrong.0 wrong.1 ok
 
--- ---- what is changed at once
+-- ---- what is changed atomically
 
 wide_refuted : (k : Capabilities) (done : AtomicFunction) (e : FunctionError) → IsWideFault k done e → Has k.0 TEXTURE_INT64_ATOMIC.0 → IsExtremum done → ⊥
 wide_refuted k done (error.MissingCapability missing) wrong capable does = wrong.1 capable

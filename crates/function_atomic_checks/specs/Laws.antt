@@ -1,4 +1,4 @@
--- What changes values at once, writes texels or loads values together with a fault does not meet its rule.
+-- What changes values atomically, writes texels or loads values together with a fault does not meet its rule.
 use Rattle.std.specs.Prelude.{ℕ, Option}
 use Rattle.function_atomic_checks.specs.Atomics.{IsAtomicFault}
 use Rattle.function_atomic_checks.specs.StorageImages.{IsImageStoreFault, IsImageAtomicFault}

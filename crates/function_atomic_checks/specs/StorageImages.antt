@@ -1,4 +1,4 @@
--- What is wrong with texels that are written, and with texels that are changed at once.
+-- What is wrong with texels that are written, and with texels that are changed atomically.
 use Rattle.std.specs.Prelude.{◌≡◌, ◌⊎◌, ℕ, List, [], Option, Some, None, IsSomeAnd}
 use Rattle.std.specs.Option.{option_or}
 use Rattle.typing_errors.specs.declared.expressions.ExpressionError.{ExpressionError}
@@ -137,13 +137,13 @@ abbrev pub IsImageStoreFault : BlockContext → (image coordinate : ℕ) → (ar
 IsImageStoreFault c image coordinate array_index value e =
     IsWrongPlace c image coordinate array_index e ⊎ ((format : StorageFormat) × IsMisfit c image value format × IsValueFault c value format e)
 
--- there is no memory to tell of what type the value is
+-- there is no memory to say of what type the value is
 abbrev pub IsImageStoreRefusal : BlockContext → (image coordinate : ℕ) → (array_index : Option ℕ) → (value : ℕ) → Refusal FunctionError → Type 0
 IsImageStoreRefusal c image coordinate array_index value (refusal.Memory e) = (format : StorageFormat) × IsMisfit c image value format
 IsImageStoreRefusal c image coordinate array_index value (refusal.Fault f) =
     IsImageStoreFault c image coordinate array_index value (error_of f) × (spans_of f ≡ [])
 
--- ---- texels that are changed at once
+-- ---- texels that are changed atomically
 
 abbrev pub IsWideFault : Capabilities → AtomicFunction → FunctionError → Type 0
 IsWideFault capabilities done (error.MissingCapability missing) = (missing ≡ TEXTURE_INT64_ATOMIC) × ¬ Has capabilities.0 TEXTURE_INT64_ATOMIC.0

@@ -1,4 +1,4 @@
-//! Values in memory that are changed at once.
+//! Values in memory that are changed atomically.
 
 ghost use Rattle.std.specs.Prelude.{◌≡◌, ◌↔◌, IsTrue, MatchResult, IfSome, Some, None, option_and_then, option_map, slice_get};
 ghost use Rattle.ir_types.specs.ExpressionPlain.{expression_view};

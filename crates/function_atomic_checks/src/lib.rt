@@ -1,4 +1,4 @@
-//! Whether statements meet the rules of their kinds that change values and texels at once, write texels, or load values of
+//! Whether statements meet the rules of their kinds that change values and texels atomically, write texels, or load values of
 //! workgroup memory together. The others stand in `function_statement_checks`, `function_statements` and `function_operation_checks`.
 #![tactic(auto)]
 

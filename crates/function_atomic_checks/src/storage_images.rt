@@ -1,4 +1,4 @@
-//! Texels that are written, and texels that are changed at once.
+//! Texels that are written, and texels that are changed atomically.
 
 ghost use Rattle.std.specs.Prelude.{◌≡◌, ◌↔◌, IsTrue, MatchResult, MatchOption, IfOk, Some, option_and_then, option_map};
 ghost use Rattle.ir_kinds.specs.declared.images.StorageFormat.TheVariants.{R32Sint, R32Uint, R64Uint};
@@ -106,7 +106,7 @@ fn picture_in<C: StatementContext>(context: &C, ty: Handle<key::IrType>) -> Opti
     }
 }
 
-// The image whose texels are changed at once.
+// The image whose texels are changed atomically.
 fn changed_image<C: StatementContext>(
     context: &C,
     image: Handle<key::Expression>,
@@ -375,7 +375,7 @@ fn value_error<C: StatementContext>(
 ///
 /// [`FunctionError::InvalidImageStore`] where no image may be written so: it is no global variable, no array of bindings, no
 /// image, of another class, or has no such texel. [`FunctionError::InvalidStoreValue`] where the value is no texel of the format;
-/// one that has no type is refused as [`ExpressionError::Other`]. [`Refusal::Memory`] where there is none to tell of what type
+/// one that has no type is refused as [`ExpressionError::Other`]. [`Refusal::Memory`] where there is none to say of what type
 /// the value is.
 #[tactic(auto, using(crate::proofs::Refusals::refused_by))]
 pub fn check_image_store<C: StatementContext>(
@@ -403,7 +403,7 @@ pub fn check_image_store<C: StatementContext>(
     }
 }
 
-// ---- texels that are changed at once
+// ---- texels that are changed atomically
 
 // Whether this is done at texels.
 const fn is_done_at_texels(fun: &AtomicFunction) -> bool
@@ -555,13 +555,14 @@ fn check_changed<C: StatementContext>(
     }
 }
 
-/// Whether a texel may be changed at once: of a storage image that allows it, which is a global variable or an element of one,
-/// where it has one, in a way that its format allows, and by a value of the format's scalar.
+/// Whether an atomic operation may change a texel: of a storage image that allows it, which is a global variable or
+/// an element of one, where it has one, in a way that its format allows, and by a value of the format's scalar.
 ///
 /// # Errors
 ///
-/// [`FunctionError::InvalidImageAtomic`] where no image may be changed at once so: it is no global variable, no image, has no such
-/// texel, or is of another class, format or access. [`FunctionError::MissingCapability`],
+/// [`FunctionError::InvalidImageAtomic`] where no image may be changed by this atomic operation: it is no global
+/// variable, no image, has no such texel, or is of another class, format or access.
+/// [`FunctionError::MissingCapability`],
 /// [`FunctionError::InvalidImageAtomicFunction`] or [`FunctionError::InvalidImageAtomicValue`] where its format doesn't allow it.
 pub fn check_image_atomic<C: StatementContext>(
     context: &C,

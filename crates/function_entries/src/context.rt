@@ -13,7 +13,7 @@ use spec_interface::Direction;
 /// What the rules of entry points may look at.
 #[derive(Clone, Copy)]
 pub struct EntryContext<'a> {
-    /// The checks that are asked.
+    /// The checks that are made.
     pub flags: ValidationFlags,
     /// What shaders may use beyond the common part.
     pub capabilities: Capabilities,

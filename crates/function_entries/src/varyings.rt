@@ -109,7 +109,7 @@ fn answered(
     }
 }
 
-// Whether a function answers how many mesh workgroups are asked for.
+// Whether a function answers how many mesh workgroups are launched.
 fn gives_task_size(module: &Module, answer: &Option<FunctionResult>) -> bool
     ensures { IsTrue result ↔ GivesTaskSize (module_view «module».now).types answer.now }
 {

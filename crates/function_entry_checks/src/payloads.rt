@@ -26,7 +26,7 @@ const fn has_payload(stage: ShaderStage) -> bool
     }
 }
 
-/// Whether an entry point has the payload that its stage asks.
+/// Whether an entry point has the payload that its stage requires.
 pub fn check_payload(module: &Module, entry: &EntryPoint) -> Result<(), EntryPointError>
     requires there { IfSome entry.now.task_payload (λ g. g < length (module_view «module».now).globals) }
     ensures { MatchResult result

@@ -1,4 +1,4 @@
-//! What the stage of an entry point asks of it beside its function.
+//! What the stage of an entry point requires of it beside its function.
 
 ghost use Rattle.std.specs.Prelude.{◌≡◌, ◌↔◌, All, MatchResult, IfSome, IsTrue};
 ghost use Rattle.function_entry_checks.specs.Faults.{IsCapabilityFault, IsEarlyFault, IsMeshInfoFault, IsSizeFault, IsStageFault};
@@ -133,7 +133,7 @@ fn check_mesh_info(stage: ShaderStage, is_said: bool) -> Result<(), EntryPointEr
     }
 }
 
-/// Whether an entry point is as its stage asks, its function aside.
+/// Whether an entry point is as its stage requires, its function aside.
 pub fn check_stage(capabilities: Capabilities, entry: &EntryPoint) -> Result<(), EntryPointError>
     ensures { MatchResult result
         (λ _. StageOK capabilities (entry_view entry.now))

@@ -43,7 +43,7 @@ abbrev pub IsRefusedFor : (FunctionError → Type 0) → Refusal FunctionError �
 IsRefusedFor IsFault (refusal.Memory e) = Unit {0}
 IsRefusedFor IsFault (refusal.Fault e) = IsFault (error_of e)
 
--- what is wrong with a function before its other parts are asked: with the arity of a call, or where that is right its analysis
+-- what is wrong with a function before its other parts are checked: with the arity of a call, or where that is right its analysis
 pub data IsFaultBefore (faults : Faults) (flags : ValidationFlags) (m : PlainModule) (f : PlainFunction) (e : FunctionError) : Type 0 where
   in_arity : IsArityFault m f e → IsFaultBefore faults flags m f e
   in_analysis : AritiesMatch m f → faults.IsAnalysisFault flags e → IsFaultBefore faults flags m f e

@@ -1,4 +1,4 @@
--- What a lower layer is asked about.
+-- What a lower layer is queried about.
 use Rattle.std.specs.Prelude.{List}
 use Rattle.ir_flags.specs.declared.stages.ShaderStages.{ShaderStages}
 use Rattle.ir_items.specs.Plain.{PlainFunction, PlainModule}

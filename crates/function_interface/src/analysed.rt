@@ -16,7 +16,7 @@ use ir_items::{Function, Module};
 use std::alloc::Global;
 use typing_errors::FunctionError;
 
-/// What the layer keeps of a function, once the arity of its calls was asked, under any flags. `callees` has what was kept of
+/// What the layer keeps of a function, once the arity of its calls was checked, under any flags. `callees` has what was kept of
 /// the functions before it, where stages and uses may have been noted since. Requires that the layer was made for the module, and
 /// that the handles of the function are in order.
 ///

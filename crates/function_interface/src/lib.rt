@@ -1,4 +1,5 @@
-//! What the rules of functions ask of the layers below them: `Lower`; and its analysis, before which the arity of calls is asked.
+//! What the rules of functions require of the layers below them: `Lower`; and its analysis, before which the arity of
+//! calls is checked.
 //!
 //! Whether what denotes the answers of a function's statements is answered, and which stages may run the statements of its
 //! body.

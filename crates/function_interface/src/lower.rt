@@ -1,4 +1,4 @@
-//! A layer that types expressions, analyses functions and tells of types.
+//! A layer that types expressions, analyses functions and reports on types.
 
 ghost use Rattle.std.specs.Prelude.{◌≡◌, ◌<◌, ◌↔◌, ◌⊎◌, ◌||◌, ℕ, All, Bool, IfErr, IfOk, List, MatchResult, Some, bit_and, length, map, slice_get};
 ghost use Rattle.typing_infos.specs.Infos.{NotesUse};
@@ -35,7 +35,7 @@ use std::alloc::Global;
 use typing_errors::{ExpressionError, FunctionError};
 use typing_forms::TypeResolution;
 
-/// What types the expressions of a module's functions, analyses its functions, and tells of its types. The rules of functions
+/// What types the expressions of a module's functions, analyses its functions, and reports on its types. The rules of functions
 /// depend on it and on nothing that it does: over any such layer they are the same, read with what the layer says.
 pub trait Lower {
     /// What is kept of a function.
@@ -50,7 +50,7 @@ pub trait Lower {
     /// What it says is wrong with one.
     ghost faults: { Self → Question → Faults };
 
-    /// What it tells of the module's types.
+    /// What it reports on the module's types.
     ghost told: { Self → List TypeInfo };
 
     /// Which forms the types of the module's global expressions may have.
@@ -169,7 +169,7 @@ pub trait Lower {
         ensures blending { blending self.now info.new ≡ (blending self.now info.old || dual_source_blending) }
         ensures types { types self.now info.new ≡ types self.now info.old };
 
-    /// What it tells of types is reported of all types of its module.
+    /// What it reports on types is reported of all types of its module.
     ghost told_of_all: { (l : Self) (m : PlainModule) → is_for l m → AreReported m.types (told l) };
 
     /// The types of global expressions are as it says.
@@ -184,7 +184,7 @@ pub trait Lower {
     /// The type of an expression has one form.
     ghost one_form: { (l : Self) (q : Question) (e : ℕ) (s t : Form) → (reading l q).HasForm e s → (reading l q).HasForm e t → s ≡ t };
 
-    /// An expression is run by the same stages, however often it is asked.
+    /// An expression is run by the same stages, however often it is queried.
     ghost one_run: { (l : Self) (q : Question) (e : ℕ) (s t : ShaderStages) → (reading l q).IsRunBy e s → (reading l q).IsRunBy e t → s ≡ t };
 
     /// A function with a fault of the analysis is not accepted by it.

@@ -88,7 +88,7 @@ other_found c held type e =
 pub no_other_found : (c : BlockContext) (held : ℕ) → first_in (λ s. unlike held (payload_type c s)) c.f.body ≡ None → (type : ℕ) → HasPayload c.m c.f type → type ≡ held
 no_other_found c held e type h = same_one held _ type (none_at (λ s. unlike held (payload_type c s)) h.place c.f.body e _ h.stands) h.declared
 
--- ---- what is held
+-- ---- what is kept
 
 -- all are of the type from before
 pub before_held : (m : PlainModule) (f : PlainFunction) (before : ℕ) → ((type : ℕ) → HasPayload m f type → type ≡ before) → AreOfOneType m f (Some before) (Some before)

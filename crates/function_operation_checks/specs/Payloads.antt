@@ -26,7 +26,7 @@ unlike held (Some type) = if type == held then None else Some type
 
 -- ---- all of them
 
--- A payload is of another type than the one held from before, or than another payload where none is held.
+-- A payload is of another type than the one kept from before, or than another payload where none is kept.
 pub record IsOtherPayload (m : PlainModule) (f : PlainFunction) (held : Option ℕ) (type before : ℕ) : Type 0 where
   pub traced : HasPayload m f type
   pub earlier : (held ≡ Some before) ⊎ ((held ≡ None) × HasPayload m f before)
@@ -36,7 +36,7 @@ abbrev pub IsPayloadsFault : PlainModule → PlainFunction → (held : Option �
 IsPayloadsFault m f held (error.MismatchedPayloadType type before) = IsOtherPayload m f held type before
 IsPayloadsFault m f held _ = ⊥
 
--- The payloads are of one type, and this is held after them under BLOCKS.
+-- The payloads are of one type, and this is kept after them under BLOCKS.
 pub record AreOfOneType (m : PlainModule) (f : PlainFunction) (held after : Option ℕ) : Type 0 where
   pub payloads : PayloadsOK m f held
   pub held_after : (flags : ValidationFlags) → Has flags.0 BLOCKS.0 → IsPayloadAfter flags m f held after

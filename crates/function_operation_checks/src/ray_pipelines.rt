@@ -84,7 +84,7 @@ fn check_trace<C: StatementContext>(
     Ok(())
 }
 
-/// Whether a pipeline may be asked for this: a ray is traced in an acceleration structure, with what describes it, and its
+/// Whether a pipeline may do this: a ray is traced in an acceleration structure, with what describes it, and its
 /// payload is a global variable in a space of payloads. Of what type that is, is no part of it.
 ///
 /// # Errors

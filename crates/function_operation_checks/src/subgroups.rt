@@ -136,7 +136,7 @@ fn check_predicate<C: StatementContext>(
     }
 }
 
-/// Whether a ballot of a subgroup may be held: the module and the validator allow it, and it is by a truth value, if by any.
+/// Whether a ballot of a subgroup is allowed: the module and the validator allow it, and it is by a truth value, if by any.
 ///
 /// # Errors
 ///

@@ -73,7 +73,7 @@ module _ (flags : ValidationFlags) (m : PlainModule) (f : PlainFunction) (summar
   all_clear forms uniform _ (wrong_form {e = e} fault) = forms e fault
   all_clear forms uniform _ (non_uniform {r = r} {e = e} fault) = uniform (record { requirement = r.0; expression = e }) fault
 
--- what is kept of a function in which no operand is of a wrong form, and nothing asks for all invocations in vain
+-- what is kept of a function in which no operand is of a wrong form, and nothing requires all invocations in vain
 module _ (flags : ValidationFlags) (m : PlainModule) (f : PlainFunction) (summaries : List Summary) (info : FunctionInfo) (is : IsFunctionInfo m f summaries info) where
   pub is_analysed : ((e : ℕ) → IsFormFault f summaries e → ⊥) → ((x : Required) → FunctionFault flags m f x → ⊥) → IsAnalysed flags m f summaries info
   is_analysed forms uniform = record { info = is; clear = all_clear flags m f summaries info is.expressions forms uniform }

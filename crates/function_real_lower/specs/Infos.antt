@@ -14,7 +14,7 @@ use Rattle.spec_analysis.specs.Values.{StartsAt}
 use Rattle.spec_expressions.specs.Typing.{HasType}
 use Rattle.typing_errors.specs.Answers.{form_given}
 
--- Of the expression at a place it says where its value comes from and what it asks for, at how many places it is an operand,
+-- Of the expression at a place it says where its value comes from and what it requires, at how many places it is an operand,
 -- the global variable that its chain of accesses starts at, and a type that it has.
 pub record IsExpressionInfo (m : PlainModule) (f : PlainFunction) (e : ℕ) (i : ExpressionInfo) : Type 0 where
   pub uniformity : IsUniformity m f e i.uniformity

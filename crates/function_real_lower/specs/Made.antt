@@ -10,7 +10,7 @@ use Rattle.spec_handles.specs.InOrder.{HandlesOK}
 use Rattle.typing_expressions.specs.Types.{AreTypes}
 use Rattle.typing_forms.specs.declared.resolution.TypeResolution.{TypeResolution}
 
--- the handles of the module are in order; it tells of all types of the module, and has the types of all its global expressions
+-- the handles of the module are in order; it reports of all types of the module, and has the types of all its global expressions
 pub record IsMadeOf (m : PlainModule) (info : ModuleInfo) : Type 0 where
   pub handles : HandlesOK m
   pub told : AreReported m.types info.types.items

@@ -93,7 +93,7 @@ fn is_answered<C: StatementContext>(
 }
 
 /// Whether a call passes what its function declares, and answers by what denotes its answer. A call of a function that is not
-/// there is not refused here: that it is there, and that as much is passed as it declares, is asked beforehand.
+/// there is not refused here: that it is there, and that as much is passed as it declares, is checked beforehand.
 ///
 /// # Errors
 ///

@@ -16,7 +16,7 @@ HasCallee m _ = Unit {0}
 abbrev pub Meets : BlockContext → PlainStatement → Type 0
 Meets c u = HasCallee c.m u → StatementOK c u
 
--- it does, where its rule is asked without memory: it is no switch, and writes no texel
+-- it does, where its rule is checked without memory: it is no switch, and writes no texel
 abbrev pub MeetsPlainly : BlockContext → PlainStatement → Type 0
 MeetsPlainly c (switch selector cases) = Unit {0}
 MeetsPlainly c (operation (image_store image coordinate array_index value)) = Unit {0}

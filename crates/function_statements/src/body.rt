@@ -19,7 +19,7 @@ use typing_errors::FunctionError;
 
 /// Whether each statement of the context's function, at any depth, meets the rule of its kind (a part of naga's
 /// `validate_block_impl`). Scope, and how statements leave their blocks, are no part of it. Requires that the base of each access
-/// comes before it, that the functions called are there, and that what the context tells of constants is reported of all of them.
+/// comes before it, that the functions called are there, and that what the context reports of constants is reported of all of them.
 ///
 /// # Errors
 ///

@@ -154,7 +154,7 @@ fn check_plain<C: StatementContext>(context: &C, statement: &Statement) -> Resul
 }
 
 /// Whether a statement meets its rule, what stands inside it aside. A call of a function that is not there is not refused here:
-/// that it is there is asked beforehand.
+/// that it is there is checked beforehand.
 pub(crate) fn check_own<C: StatementContext>(
     alloc: Global,
     context: &C,

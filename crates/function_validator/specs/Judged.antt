@@ -36,7 +36,7 @@ pub record AreExpressionsMet (reading : Reading) (s : FunctionSettings) (c : Blo
 -- ---- the body
 
 -- All that is required of a body is met, but that each that denotes an answer is answered; these are answered by, and this type
--- of payloads is held after it.
+-- of payloads is kept after it.
 pub record IsBodyMet (s : FunctionSettings) (c : BlockContext) (answered : List ℕ) (held : Option ℕ) : Type 0 where
   pub control : ControlOK c.f.body
   pub scope : ScopeOK c.f
@@ -52,7 +52,7 @@ abbrev pub AllAnswer : BlockContext → Type 0
 AllAnswer c = (e : ℕ) → DenotesResult c.f.expressions e → (p : Place) × AnswersBy c.f.body p e
 
 -- Where bodies are checked, all that is required of this one is met, and these stages are those that may run all its statements;
--- else any. This type of payloads is held after it.
+-- else any. This type of payloads is kept after it.
 pub record AreBlocksMet (s : FunctionSettings) (c : BlockContext) (callees : List ShaderStages) (stages : ShaderStages) (held : Option ℕ) : Type 0 where
   pub body : Has s.flags.0 BLOCKS.0 → BodyOK s c
   pub run : (stage : ℕ) → Has stages.0 stage ↔ (Has all_stages.0 stage × (Has s.flags.0 BLOCKS.0 → (p : Place) (u : PlainStatement) → OccursAt c.f.body p u → Has (statement_stages s.subgroup_stages callees u).0 stage))
@@ -64,7 +64,7 @@ IsBlocksFault s c e = Has s.flags.0 BLOCKS.0 × (IsFaultOfBody s c e ⊎ (IsBody
 
 -- ---- all parts after the analysis
 
--- They are in order; these stages are those that may run the function, and this type of payloads is held after it.
+-- They are in order; these stages are those that may run the function, and this type of payloads is kept after it.
 pub record ArePartsMet (reading : Reading) (s : FunctionSettings) (c : BlockContext) (callees : List ShaderStages) (stages : ShaderStages) (held : Option ℕ) : Type 0 where
   pub interface : InterfaceOK c s.entry
   pub expressions : AllAccepted reading s c

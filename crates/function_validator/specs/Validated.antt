@@ -30,7 +30,7 @@ pub record IsEntryNoted (reading : Reading) (callees : List ShaderStages) (s : F
   pub run : (stage : ℕ) → Has stages.0 stage ↔ (Has all_stages.0 stage × AllowsStage reading s callees e.function stage)
   pub blended : IsTrue blending ↔ HasBlendSources (result_varyings m.types e.function.result)
 
--- The entry point is accepted, this is its summary and this is noted, and payloads of this type are held after it.
+-- The entry point is accepted, this is its summary and this is noted, and payloads of this type are kept after it.
 pub record IsEntryValidated (reading : Reading) (callees : List ShaderStages) (s : FunctionSettings) (m : PlainModule) (e : PlainEntry) (t : Summary) (stages : ShaderStages) (blending : Bool) (held : Option ℕ) : Type 0 where
   pub ok : EntryOK reading callees (HasUse m e.function) s m e
   pub summary : IsEntrySummary m e t

@@ -67,8 +67,9 @@ fn allows_stage<L: Lower>(lower: &L, info: &L::Info, stage: ShaderStage) -> bool
 }
 
 /// Whether a module may have an entry point, and what is kept of it (naga's `validate_entry_point`); that an earlier one of the
-/// stage has its name is asked elsewhere. `callees` has what [`validate_function`](crate::validate_function) answered for the functions of the module, in
-/// order, where stages and uses may have been noted since. Its function is judged as an entry point's, whatever the settings say.
+/// stage has its name is checked elsewhere. `callees` has what [`validate_function`](crate::validate_function)
+/// answered for the functions of the module, in order, where stages and uses may have been noted since. Its function
+/// is judged as an entry point's, whatever the settings say.
 ///
 /// Requires that the layer was made for the module, and that its handles are in order, as in a module that `validate_module_handles`
 /// accepts.

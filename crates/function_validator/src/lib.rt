@@ -1,5 +1,5 @@
 //! Whether a function is accepted, and whether a module may have an entry point, over any layer that types expressions, analyses
-//! functions and tells of types. Of an entry point that is its stage (`function_entry_checks`), its function, its payload, and
+//! functions and reports on types. Of an entry point that is its stage (`function_entry_checks`), its function, its payload, and
 //! what connects it with other stages and with hosts (`function_entries`); and the names of those before it.
 #![tactic(auto)]
 

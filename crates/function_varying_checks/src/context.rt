@@ -11,7 +11,7 @@ use spec_interface::Direction;
 /// What the rules of varyings may look at (naga's `VaryingContext`, without what changes).
 #[derive(Clone, Copy)]
 pub struct VaryingContext<'a> {
-    /// The checks that are asked.
+    /// The checks that are made.
     pub flags: ValidationFlags,
     /// What shaders may use beyond the common part.
     pub capabilities: Capabilities,

@@ -321,7 +321,7 @@ fn check_found(kind: ScalarKind, interpolation: Option<Interpolation>) -> Result
     }
 }
 
-// Whether it is a scalar or a vector, which is found between vertices as it has to be, where it is one value.
+// Whether it is a scalar or a vector, which is interpolated as it has to be, where it is one value.
 fn check_value(
     context: &VaryingContext<'_>,
     ty: Handle<key::IrType>,

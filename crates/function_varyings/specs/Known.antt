@@ -76,7 +76,7 @@ AreNotedFor flags capabilities types seen = (c : VaryingContext) (w : Way) (type
 abbrev pub AreNotedIn : VaryingContext → BTreeSet (ℕ × ℕ) → Type 0
 AreNotedIn c seen = AreNotedFor c.flags c.capabilities c.types seen
 
--- What is known is so wherever these checks are asked, with these capabilities, of these types.
+-- What is known is so wherever these checks are made, with these capabilities, of these types.
 pub record AreKnownOf (flags : ValidationFlags) (capabilities : Capabilities) (types : List PlainType) (known : KnownTypes) : Type 0 where
   pub noted : AreNotedFor flags capabilities types known.seen
   pub marked : AreMarksOf flags types known.marks

@@ -44,7 +44,7 @@ impl Shown {
     }
 }
 
-// Which way varyings go at a stage, and what the rules of built-in values ask besides.
+// Which way varyings go at a stage, and what the rules of built-in values require besides.
 #[derive(Clone, Copy)]
 pub(crate) struct Way {
     stage: ShaderStage,
@@ -197,7 +197,7 @@ fn note(
     }
 }
 
-// Whether some argument has no binding, so that the members of its type are looked at. Both answers are right where it is asked.
+// Whether some argument has no binding, so that the members of its type are looked at. Both answers are right where it is called.
 fn has_unbound(arguments: &[FunctionArgument]) -> bool {
     for argument in arguments {
         if argument.binding.is_none() {

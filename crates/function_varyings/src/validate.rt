@@ -69,7 +69,7 @@ fn blend_fault(context: &VaryingContext<'_>) -> Option<VaryingError>
     None
 }
 
-// That a value is not bound, where that is asked.
+// That a value is not bound, where that is required.
 fn unbound_fault(flags: ValidationFlags) -> Option<VaryingError>
     ensures { MatchOption result
         (¬ Has flags.0 BINDINGS.0)
@@ -93,7 +93,7 @@ const fn short(place: usize) -> u32
     }
 }
 
-// That a member is not bound, where that is asked.
+// That a member is not bound, where that is required.
 fn member_fault(flags: ValidationFlags, place: usize) -> Option<VaryingError>
     ensures { MatchOption result
         (¬ Has flags.0 BINDINGS.0)

@@ -50,11 +50,11 @@ module _ {X : Type 0} (xs : List X) (y : X) where
       ∙ drop-set-lt (place + 1) xs place y (omega arith)
 
 module _ {F T : Type 0} (keeps : F → ℕ → T → Bool → F → T → Type 0) (Goal : List (T × Span) → Type 0) where
-  -- what is known of the entries that were asked so far, where those from this place on are still to be asked
+  -- what is known of the entries that were visited so far, where those from this place on are still to be visited
   abbrev pub IsSoFar : F → ℕ → ℕ → List (T × Span) → Type 0
   IsSoFar keep kept place entries = (others : List (T × Span)) → RetainsFrom keeps keep place (drop place entries) others → Goal (take kept entries ++ others)
 
-  -- the next entry is asked, and keep' and entry' are what that leaves
+  -- the next entry is visited, and keep' and entry' are what that leaves
   module _ (keep keep' : F) (kept place : ℕ) (entries : List (T × Span)) (d entry' : T × Span) where
     pub so_far-kept : kept ≤ place → place < length entries → keeps keep place (get_or entries place d).0 true keep' entry'.0 → entry'.1 ≡ (get_or entries place d).1 → IsSoFar keep kept place entries → IsSoFar keep' (kept + 1) (place + 1) (swap (slice_set entries place entry') kept place)
     so_far-kept behind within asked span so_far others rest =
@@ -73,7 +73,7 @@ module _ {F T : Type 0} (keeps : F → ℕ → T → Bool → F → T → Type 0
         let here : drop place entries ≡ entry ∷ drop (place + 1) entries = rw add-one (drop-cons entries place d within) in
         rw front (so_far others (rw here (false, keep', entry'.0, asked, others, rw back at rest, refl)))
 
-  -- where none is left to be asked, the kept ones are all
+  -- where none is left to be visited, the kept ones are all
   pub so_far-all : (keep : F) (kept place : ℕ) (entries : List (T × Span)) → length entries ≤ place → IsSoFar keep kept place entries → Goal (take kept entries)
   so_far-all keep kept place entries end so_far =
       subst Goal (append-nil (take kept entries)) (so_far [] (rw (drop_all place entries end) refl))

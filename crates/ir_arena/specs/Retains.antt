@@ -1,4 +1,4 @@
--- What is left of an arena after a closure was asked at each value.
+-- What is left of an arena after a closure was called at each value.
 use Rattle.std.specs.Prelude.{ℕ, ◌≡◌, ◌+◌, Bool, cond, List, [], ◌∷◌}
 use Rattle.std.specs.Borrow.{MutBor}
 use Rattle.std.specs.Fn.{Mut, Called}
@@ -12,7 +12,7 @@ pub record KeepsAt {F T : Type 0} (g : Mut F (ℕ × (MutBor T × Unit {0})) (Bo
   pub called : Called g keep (handle, (shown, tt)) (b, (left, tt)) keep'
   pub leaves : left.now ≡ x'
 
--- keep was asked at the entries in turn, the first of which has this handle, and `kept` has those of
+-- keep was called at the entries in turn, the first of which has this handle, and `kept` has those of
 -- which it said true, with their values as it left them and their own spans
 abbrev pub RetainsFrom : {F T : Type 0} → (F → ℕ → T → Bool → F → T → Type 0) → F → ℕ → List (T × Span) → List (T × Span) → Type 0
 RetainsFrom keeps keep handle [] kept = kept ≡ []

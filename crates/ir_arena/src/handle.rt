@@ -62,8 +62,8 @@ pub type Index = NonMaxU32;
 
 /// The place of a value in an arena, counted from 0. In a contract it is that number.
 ///
-/// `T` only tells the handles of one arena from those of another: no `T` is held, and copies,
-/// comparisons and hashes ask nothing of it. An arena whose values hold handles of its own takes a
+/// `T` only distinguishes the handles of one arena from those of another: it has no `T`, and copies,
+/// comparisons and hashes require nothing of it. An arena whose values hold handles of its own takes a
 /// tag as the `T` of its handles (see [`crate::arena::Arena`]).
 #[derive_where(Clone, Copy, PartialEq, Eq, PartialOrd, Ord, Hash)]
 pub struct Handle<T> {

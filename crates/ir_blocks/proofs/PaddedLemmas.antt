@@ -1,4 +1,4 @@
--- Kept spans that denote as many as are asked for.
+-- Kept spans that denote as many as are required.
 use Rattle.std.proofs.Common.{◌≡◌, ℕ, zero, suc, ◌+◌, ◌-◌, ◌<◌, ◌≤◌, ◌==◌, Bool, true, false, true≢false, not, ◌&&◌, if◌then◌else◌, List, [], ◌∷◌, ◌++◌, take, drop, replicate, length, slice_index_or, Result, Ok, Err, OnOk, is_ok, refl, sym, ap, ◌∙◌, arith}
 use Rattle.std.specs.List.{remove_range, splice}
 use Rattle.std.proofs.lemmas.Bool.{and_parts, eqb-true}
@@ -131,7 +131,7 @@ none_spliced n m s e p q =
     let front : take s (padded n []) ≡ padded s [] = none_taken s n (omega (arith, p, q)) in
     parts ∙ (append_assoc (padded s []) (padded m []) (padded (n - e) []) ∙ sym (λ i. front i ++ (padded m [] ++ none_dropped n e i)))
 
--- ---- what the calls ask
+-- ---- what the calls require
 
 -- what is cut to so many, or filled up
 pub resized : {T E : Type 0} (r : Result T E) (n len : ℕ) (old new : List Span) → len ≡ length old → new ≡ (if is_ok r then take n old ++ replicate (n - len) undefined_span else old) → OnOk r (new ≡ padded n old)

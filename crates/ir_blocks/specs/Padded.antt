@@ -1,4 +1,4 @@
--- Spans that are kept as far as one is defined, and denote as many as are asked for.
+-- Spans that are kept as far as one is defined, and denote as many as are required.
 use Rattle.std.specs.Prelude.{◌≡◌, ◌≤◌, ℕ, zero, suc, Bool, IsTrue, List, [], ◌∷◌, length, Option, Some, None, Vec, Box, if◌then◌else◌}
 use Rattle.std.specs.declared.alloc.Global.{Global}
 use Rattle.std.specs.Cmp.{IsPartialEquivalence, IsEquivalence, on_per, on_equiv, and_equiv, nat_eq_equiv, partial_equiv_from_equiv}

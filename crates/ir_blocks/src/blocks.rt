@@ -187,7 +187,7 @@ impl Block {
         Ok(())
     }
 
-    /// Takes the statements in `range` out, with their spans. It asks by contract for a range within the block's
+    /// Takes the statements in `range` out, with their spans. It requires by contract a range within the block's
     /// statements, where naga panics.
     #[tactic(auto, using(crate::proofs::PaddedLemmas::culled))]
     pub fn cull<R: RangeBounds<usize>>(&mut self, range: R)
@@ -202,7 +202,7 @@ impl Block {
         self.span_info.cut(range.start, range.end);
     }
 
-    /// Puts the statements of another block in the place of those in `range`, with their spans. It asks by contract
+    /// Puts the statements of another block in the place of those in `range`, with their spans. It requires by contract
     /// for a range within the block's statements, where naga panics. The error is out of memory, and leaves the block
     /// as it was; the other one is let go.
     pub fn splice<R: RangeBounds<usize>>(

@@ -24,7 +24,7 @@ pub fn kept_equality()
 {}
 
 /// Each statement of the completed body that stood keeps its span at its place, each return that was added has
-/// [`ir_arena::span::Span::UNDEFINED`], and the spans are in step with the completed body at every depth. It asks for
+/// [`ir_arena::span::Span::UNDEFINED`], and the spans are in step with the completed body at every depth. It requires
 /// spans that are in step with the body, as those of a block always are.
 pub fn spans_completed_by_tails()
     ensures { SpansCompletedByTails }

@@ -3,7 +3,7 @@ use ir_arena::handle::Handle;
 use ir_kinds::Direction;
 use ir_types::key;
 
-/// What is done with a value in memory at once (naga's `AtomicFunction`).
+/// What an atomic operation does with a value in memory (naga's `AtomicFunction`).
 #[derive(Clone, Copy, PartialEq, Debug)]
 pub enum AtomicFunction {
     /// It is added to.
@@ -74,7 +74,7 @@ pub enum RayQueryFunction {
     Terminate,
 }
 
-/// What a pipeline of ray tracing is asked for (naga's `RayPipelineFunction`).
+/// What a pipeline of ray tracing does (naga's `RayPipelineFunction`).
 #[derive(Clone, Copy, PartialEq, Debug)]
 pub enum RayPipelineFunction {
     /// A ray is traced.

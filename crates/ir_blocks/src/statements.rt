@@ -33,7 +33,7 @@ pub struct SwitchCase {
 }
 
 /// The kinds of statements that only compute: they steer nothing, compute no range and call nothing. A pattern for a `match`, so
-/// that a further kind of these is asked for only where the kinds differ.
+/// that a further kind of these is required only where the kinds differ.
 #[macro_export]
 macro_rules! plain_operation {
     () => {
@@ -119,7 +119,7 @@ pub enum Statement {
         /// What is written.
         value: Handle<key::Expression>,
     },
-    /// Changes an atomic at once.
+    /// An atomic operation on a value in memory.
     Atomic {
         /// Where it lies.
         pointer: Handle<key::Expression>,
@@ -127,10 +127,10 @@ pub enum Statement {
         fun: AtomicFunction,
         /// With what.
         value: Handle<key::Expression>,
-        /// The `AtomicResult` that denotes what lay there, if it is asked for.
+        /// The `AtomicResult` that denotes what lay there, if there is one.
         result: Option<Handle<key::Expression>>,
     },
-    /// Changes a texel at once.
+    /// An atomic operation on a texel of a storage image.
     ImageAtomic {
         /// The image.
         image: Handle<key::Expression>,

@@ -73,7 +73,7 @@ module _ {A : Type 0} (P : A → Type 0) where
       let u_here : Unvisited es old h = subst (Unvisited es old) (sym is) u in
       here_has (λ (e : A × Span). P e.0) es old h (v, span_at es h) (entry_at es h v lt at) u_here (omega (arith, u_here.0)) all
 
--- one after another, or both at once
+-- one after another, or both together
 pub both_maps : {A B C : Type 0} (f : B → C) (g : A → B) (xs : List A) → map (λ x. f (g x)) xs ≡ map f (map g xs)
 both_maps f g [] = refl
 both_maps f g (x ∷ xs) = ap (λ rest. f (g x) ∷ rest) (both_maps f g xs)

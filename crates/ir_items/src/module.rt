@@ -19,7 +19,7 @@ use std::alloc::{AllocError, Global};
 pub struct Module {
     /// The types, no two of them equal.
     pub types: UniqueArena<IrType, key::IrType>,
-    /// The types that some expressions ask for.
+    /// The types that some expressions require.
     pub special_types: SpecialTypes,
     /// The constants.
     pub constants: Arena<Constant, key::Constant>,

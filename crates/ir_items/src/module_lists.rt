@@ -16,7 +16,7 @@ use ir_sets::unique_arena::UniqueArena;
 use ir_types::{Expression, IrType, key};
 use std::alloc::{AllocError, Global};
 
-// The types, and those that some expressions ask for.
+// The types, and those that some expressions require.
 #[derive(Drop)]
 pub(crate) struct TypeLists {
     pub(crate) types: UniqueArena<IrType, key::IrType>,

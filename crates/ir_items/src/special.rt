@@ -1,4 +1,4 @@
-// The types that some expressions ask for.
+// The types that some expressions require.
 ghost use Rattle.std.specs.Prelude.{◌≡◌, IfOk};
 ghost use Rattle.ir_items.specs.GlobalView.{special_view, no_special};
 
@@ -8,7 +8,7 @@ use ir_kinds::PredeclaredType;
 use ir_types::key;
 use std::alloc::{AllocError, Global};
 
-/// Types that some expressions ask for by what they are (naga's `SpecialTypes`).
+/// Types that some expressions require by what they are (naga's `SpecialTypes`).
 #[derive(PartialEq, Debug, Drop)]
 pub struct SpecialTypes {
     /// The type of a ray.

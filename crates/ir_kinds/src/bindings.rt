@@ -60,7 +60,7 @@ pub enum BuiltIn {
     SubgroupSize,
     /// The invocation in its subgroup.
     SubgroupInvocationId,
-    /// How many mesh workgroups a task asks for.
+    /// How many mesh workgroups a task launches.
     MeshTaskSize,
     /// Whether a primitive is culled.
     CullPrimitive,

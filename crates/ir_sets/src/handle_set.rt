@@ -70,7 +70,7 @@ impl<K> Model for HandleSet<K> {
 
 impl<K> HandleSet<K> {
     /// A set with no handle, for those of `arena`. It allocates nothing: its room grows with its greatest
-    /// member, where naga makes room for each handle of the arena at once.
+    /// member, where naga makes room for each handle of the arena beforehand.
     pub fn for_arena<A: ArenaType<K>>(alloc: Global, _arena: &A) -> Self
         ensures { result ≡ set.empty }
     {

@@ -7,7 +7,7 @@ use std::hash::{BuildHasher, DefaultHasher, Hasher};
 
 /// Makes hashers that know a key: SipHash-1-3 of the key and then of what is hashed.
 ///
-/// Which values share a place of a table then depends on the key. A stranger's values get a key that is made of
+/// Which values share a place of a table then depends on the key. Attacker-controlled values get a key that is made of
 /// the bytes which bring them ([`KeyedState::of_bytes`]): whoever changes a value to let it share a place with others
 /// changes the key as well, and all places with it.
 #[derive(Clone, Copy)]

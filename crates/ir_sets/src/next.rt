@@ -17,7 +17,7 @@ pub trait PlaceTest {
         ensures { result ≡ passes self.now place };
 }
 
-/// For each place below a count the first from it on that passes, the count where none does. It asks of each place once.
+/// For each place below a count the first from it on that passes, the count where none does. It looks at each place once.
 ///
 /// # Errors
 ///

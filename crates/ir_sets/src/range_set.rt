@@ -11,7 +11,7 @@ use std::alloc::{AllocError, Global};
 use std::marker::Model;
 
 /// A set of numbers, a bit for each in words of 64, with two more bits for each word: whether it counts, and whether all of its
-/// numbers are members. So to add a range, to ask for one, or to take one out goes over a word for each 4096 of its numbers. In
+/// numbers are members. So to add a range, to look for one, or to take one out goes over a word for each 4096 of its numbers. In
 /// a contract it is the set of the numbers.
 #[derive(Drop)]
 pub struct RangeSet {

@@ -70,7 +70,7 @@ impl<T: Eq + Hash, K> Eq for UniqueArena<T, K> {
 
 impl<T: Eq + Hash, K> UniqueArena<T, K> {
     /// An empty arena, which allocates nothing. Its hashers have a key that all know; for values
-    /// that a stranger may choose take [`UniqueArena::with_hasher`].
+    /// that are attacker-controlled take [`UniqueArena::with_hasher`].
     pub fn new(alloc: Global) -> Self
         ensures { result ≡ [] }
     {

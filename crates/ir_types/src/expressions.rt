@@ -33,7 +33,7 @@ pub enum SampleLevel {
 }
 
 impl SampleLevel {
-    /// Whether it asks for derivatives that are taken from neighbouring fragments.
+    /// Whether it requires derivatives that are taken from neighbouring fragments.
     pub fn implicit_derivatives(self) -> bool
         ensures { result ≡ implicit_derivatives self }
     {

@@ -16,7 +16,7 @@ use Rattle.judgement_returns.proofs.Likeness.{module_back, like_itself, like_ret
 use Rattle.judgement_returns.proofs.Modules.{module_move, first_move, globals_move, first_global_move}
 use Rattle.judgement_returns.proofs.Reports.{report_moves}
 
--- whether the settings ask for returns is seen only in which module is judged
+-- whether the settings require returns is seen only in which module is judged
 finding_moves : (m n : PlainModule) → LikeModule m n → (s : PlainSettings) (returns : Bool) (f : Finding) → IsFinding s m f → IsFinding (record s { returns = returns }) n f
 finding_moves m n l s returns (Accepted strict) h =
     (module_move m n l (module_settings s) h.0, globals_move m n l s.flags s.capabilities h.1, functions_move l (function_settings s) h.2, entries_move l (function_settings s) h.3, h.4)

@@ -21,11 +21,11 @@ ReturnsKeepHandles = (d m : PlainModule) → HasNoResult d → IsReturned d m �
 abbrev pub ReturnsKeepReport : Type 0
 ReturnsKeepReport = (d m : PlainModule) → HasNoResult d → IsReturned d m → (text : List ℕ) → IsReport d text ↔ IsReport m text
 
--- Two modules have the same finding and the same report, whether the settings ask for returns or not.
+-- Two modules have the same finding and the same report, whether the settings require returns or not.
 pub record AreJudgedAlike (p q : PlainModule) : Type 0 where
   pub finding : (s : PlainSettings) (returns : Bool) (f : Finding) → IsFinding s p f ↔ IsFinding (record s { returns = returns }) q f
   pub report : (text : List ℕ) → IsReport p text ↔ IsReport q text
 
--- Of a document without results the modules that are judged are judged alike, whether its settings ask for returns or not.
+-- Of a document without results the modules that are judged are judged alike, whether its settings require returns or not.
 abbrev pub ReturnsDontMatter : Type 0
 ReturnsDontMatter = (d p q : PlainModule) (returns other : Bool) → HasNoResult d → IsPrepared returns d p → IsPrepared other d q → AreJudgedAlike p q

@@ -34,8 +34,8 @@ RunsPassTypes = (s : FunctionSettings) (m : PlainModule) (number : ℕ) (a : IsA
 abbrev pub RunsUseLive : Type 0
 RunsUseLive = (s : FunctionSettings) (m : PlainModule) (number : ℕ) (a : IsAcceptedEntry s m number) → OnEveryRun m a.entry.entry LiveOK
 
--- where strict scope is asked for, every operand of what is executed, of loops' conditions and of what is introduced is live where it is
--- used, and so are those that have to be in scope without that check, whatever a continue skips
+-- where strict scope is required, every operand of what is executed, of loops' conditions and of what is introduced
+-- is live where it is used, and so are those that have to be in scope without that check, whatever a continue skips
 abbrev pub StrictRunsUseLive : Type 0
 StrictRunsUseLive =
     (s : FunctionSettings) (m : PlainModule) (number : ℕ) (a : IsAcceptedEntry s m number) → Has s.flags.0 STRICT_SCOPE.0

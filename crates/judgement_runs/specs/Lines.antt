@@ -1,4 +1,4 @@
--- When the lines of a report tell of a global variable, and of a pair.
+-- When the lines of a report list a global variable, and a pair.
 use Rattle.std.specs.Prelude.{◌≡◌, ◌⊎◌, ◌<◌, ◌++◌, ℕ, List, [], length, IsTrue, Some, codes, decimal, slice_index_or, slice_get}
 use Rattle.spec_analysis.specs.declared.global_use.GlobalUse.{GlobalUse}
 use Rattle.ir_items.specs.GlobalPlain.{PlainGlobal}
@@ -22,11 +22,11 @@ pub record HasLines (lines text : List ℕ) : Type 0 where
   pub whole : AreWhole before
   pub is : text ≡ before ++ (lines ++ behind)
 
--- how a line tells of a global variable that is used so
+-- how a line lists a global variable that is used so
 abbrev pub use_line : (g : ℕ) → GlobalUse → List ℕ
 use_line g kinds = codes "global " ++ decimal g ++ use_words kinds ++ codes "\n"
 
--- A line tells of the global variable: as the entry point's payload or mesh output, or as one that is used.
+-- A line lists the global variable: as the entry point's payload or mesh output, or as one that is used.
 pub data ReportsGlobal (lines : List ℕ) (g : ℕ) : Type 0 where
   as_payload : HasLines (own_line (codes "payload") (Some g)) lines → ReportsGlobal lines g
   as_mesh : HasLines (own_line (codes "mesh") (Some g)) lines → ReportsGlobal lines g
@@ -36,7 +36,7 @@ pub data ReportsGlobal (lines : List ℕ) (g : ℕ) : Type 0 where
 abbrev pub ReportsPair : List ℕ → (image sampler : ℕ) → Type 0
 ReportsPair lines image sampler = HasLines (pair_line (image, sampler)) lines
 
--- a line tells of a global variable that is named
+-- a line lists a global variable that is named
 abbrev pub NamedIsReported : (lines : List ℕ) → Event → Type 0
 NamedIsReported lines (named g) = ReportsGlobal lines g
 NamedIsReported lines _ = Unit {0}

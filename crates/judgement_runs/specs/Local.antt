@@ -1,4 +1,4 @@
--- What a report tells of an entry point is reported by what that reaches alone.
+-- What a report says of an entry point depends on what that reaches alone.
 use Rattle.std.specs.Prelude.{◌≡◌, ℕ, List, Some, slice_get}
 use Rattle.ir_items.specs.Plain.{PlainEntry, PlainFunction, PlainModule}
 use Rattle.spec_analysis.specs.Chains.{Step, IsChain, end_of}
@@ -17,12 +17,12 @@ pub record DifferElsewhere (m n : PlainModule) (e : PlainEntry) : Type 0 where
   pub rest : n ≡ record m { functions = n.functions }
   pub reached : AgreeFrom m n e.function
 
--- These are the lines that the report on the module tells of its entry point with this number.
+-- These are the lines that the report on the module has for its entry point with this number.
 pub record AreLinesOf (m : PlainModule) (report : List ℕ) (number : ℕ) (e : PlainEntry) (lines : List ℕ) : Type 0 where
   pub are : IsEntryReport m number e lines
   pub stand : HasLines lines report
 
--- the report on each module that differs elsewhere tells of the entry point by the same lines
+-- the report on each module that differs elsewhere has the same lines for the entry point
 abbrev pub EntryIsLocal : (m : PlainModule) (report : List ℕ) (number : ℕ) → PlainEntry → Type 0
 EntryIsLocal m report number e =
     (n : PlainModule) (other : List ℕ) → DifferElsewhere m n e → IsReport n other → (lines : List ℕ) × AreLinesOf m report number e lines × AreLinesOf n other number e lines

@@ -67,7 +67,7 @@ pub record AreChecked (s : PlainSettings) : Type 0 where
   pub blocks : Has s.flags.0 BLOCKS.0
   pub expressions : Has s.flags.0 EXPRESSIONS.0
 
--- A module that is judged, d with returns put in first where that is asked, is sound where it is accepted under these flags.
+-- A module that is judged, d with returns put in first where that is required, is sound where it is accepted under these flags.
 abbrev pub AcceptedIsSound : Type 0
 AcceptedIsSound =
     (returns : Bool) (s : PlainSettings) (d m : PlainModule) (strict : Bool) → IsPrepared returns d m → IsFinding s m (Accepted strict) → AreChecked s

@@ -23,7 +23,7 @@ pub fn runs_use_live()
     ensures { RunsUseLive }
 {}
 
-/// Where strict scope is asked for, every operand is live where it is used, or always in scope, whatever a continue skips.
+/// Where strict scope is required, every operand is live where it is used, or always in scope, whatever a continue skips.
 pub fn strict_runs_use_live()
     ensures { StrictRunsUseLive }
 {}
@@ -53,7 +53,7 @@ pub fn runs_never_escape()
     ensures { RunsNeverEscape }
 {}
 
-/// The lines of an entry point tell of each global variable that is its own or used, and of each pair.
+/// The lines of an entry point list each global variable that is its own or used, and each pair.
 pub fn lines_stand()
     ensures { LinesStand }
 {}
@@ -68,7 +68,7 @@ pub fn buffers_are_reported()
     ensures { BuffersAreReported }
 {}
 
-/// The report tells of an entry point by the same lines as that on each module which differs only in functions that it doesn't
+/// The report has the same lines for an entry point as that on each module which differs only in functions that it doesn't
 /// reach.
 pub fn reports_are_local()
     ensures { ReportsAreLocal }

@@ -65,7 +65,7 @@ pub fn validate_constant(
     check_constant(context, &context.module.constants[handle])
 }
 
-/// Whether a module may have its constants. Each is looked at once.
+/// Whether a module may have its constants. Each is visited once.
 ///
 /// # Errors
 ///

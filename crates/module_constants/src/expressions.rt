@@ -161,7 +161,7 @@ pub fn validate_const_expression(
     )
 }
 
-/// Whether a module may have its global expressions. Each is looked at once, with its components.
+/// Whether a module may have its global expressions. Each is visited once, with its components.
 ///
 /// # Errors
 ///

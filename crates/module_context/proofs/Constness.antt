@@ -33,6 +33,6 @@ constant_at xs kinds h known = (
 pub none_past : (xs : List PlainExpression) (h : ℕ) → length xs ≤ h → IsOfKind xs h Const → ⊥
 none_past xs h le is = let less = kind_within xs h Const is in absurd (omega (arith, le, less))
 
--- where an index is not below a length, nothing holds that would ask for it
+-- where an index is not below a length, nothing holds that would require it
 pub past_the_last : (index many : ℕ) (T : Type 0) → many ≤ index → (T → ⊥) → IsTrue (nat_lt index many) ↔ T
 past_the_last index many T le none = (λ t. let lt : index < many = search (rules, tests, t) in absurd (omega (arith, lt, le)), λ k. absurd (none k))

@@ -1,5 +1,6 @@
 //! What is required of expressions beside their types: a module a family, of the name that its definitions have in
-//! `spec_statements`. What looks at images stands in `module_expressions`. Of maths and of results of subgroups nothing is asked.
+//! `spec_statements`. What looks at images stands in `module_expressions`. Of maths and of results of subgroups
+//! nothing is required.
 #![tactic(auto)]
 
 mod access;

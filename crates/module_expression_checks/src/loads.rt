@@ -101,7 +101,7 @@ fn has_length(context: &CheckContext<'_>, array: Form) -> bool
     }
 }
 
-/// Whether what a pointer leads to has a length that the shader may ask for: it is an array that is as long as its buffer.
+/// Whether what a pointer leads to has a length that the shader may query: it is an array that is as long as its buffer.
 ///
 /// # Errors
 ///

@@ -1,4 +1,4 @@
-//! Which ray queries are asked.
+//! Which ray queries there are.
 
 ghost use Rattle.std.specs.Prelude.{◌≡◌, ◌↔◌, IsTrue, MatchResult, Some};
 ghost use Rattle.module_context.specs.Refused.{IsRefused};

@@ -1,4 +1,4 @@
-//! Which values are chosen from, by which condition; of which values something is asked.
+//! Which values are chosen from, by which condition; of which values something is required.
 
 ghost use Rattle.std.specs.Prelude.{◌↔◌, IsTrue, MatchResult};
 ghost use Rattle.module_context.specs.Refused.{IsRefused};

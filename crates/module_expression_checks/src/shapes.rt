@@ -1,4 +1,4 @@
-//! Shapes that several families ask for.
+//! Shapes that several families require.
 
 ghost use Rattle.std.specs.Prelude.{◌↔◌, IsTrue};
 ghost use Rattle.spec_statements.specs.Shapes.{IsAlone, IsOfValue, IsTruth, IsMadeOf};

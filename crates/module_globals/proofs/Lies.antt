@@ -1,4 +1,4 @@
--- What spaces ask of layouts.
+-- What spaces require of layouts.
 use Rattle.std.proofs.Common.{◌≡◌, ◌≢◌, ◌∙◌, inl, inr, ℕ, Some, Result, Ok, Err, MatchResult, IsOk, IsTrue, refl, sym, subst}
 use Rattle.module_globals.specs.Faults.{counted_inner, counted_tree, IsLayoutFault, IsWrongBy}
 use Rattle.module_globals.specs.declared.error.GlobalVariableError.{GlobalVariableError}

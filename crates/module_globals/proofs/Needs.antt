@@ -43,12 +43,12 @@ agrees IncomingRayPayload = by_flags (Agrees IncomingRayPayload) refl refl refl 
 has_asked : (s : AddressSpace) (f : TypeFlag) → IsTrue (among (required s) f) → Has (required_bits s) (bit f)
 has_asked s f h = (Decides-eqb (bit_and (required_bits s) (bit f)) (bit f)).0 (subst IsTrue (sym (agrees s f)) h)
 
--- a set with all these flags has all that is asked
+-- a set with all these flags has all that is required
 pub all_asked : (s : AddressSpace) (set : ℕ) (asked : ℕ) (t : Tree) (flags : TypeFlags) → asked ≡ required_bits s → set ≡ flags.0 → AreFlags flags t → Has set asked → HasAll (required s) t
 all_asked s set asked t flags is same are has f h =
     (are f).0 (subst (λ k. Has k (bit f)) same (within-over (bit f) (required_bits s) set (has_asked s f h) (subst (Has set) is has)))
 
--- those that are asked, taken together
+-- those that are required, taken together
 together : (s : AddressSpace) (set : ℕ) → ((f : TypeFlag) → IsTrue (among (required s) f) → Has set (bit f)) → Has set (required_bits s)
 together Function set h = and_zero_r set
 together Handle set h = and_zero_r set

@@ -72,7 +72,7 @@ required_bits IncomingRayPayload = 3
 
 -- ---- of a layout, of what is said of the memory, and of what a variable begins as
 
--- a host does not lay out a buffer so, where that is asked
+-- a host does not lay out a buffer so, where that is required
 abbrev pub IsLayoutFault : ValidationFlags → AddressSpace → Result ℕ (ℕ × Disalignment) → GlobalVariableError → Type 0
 IsLayoutFault flags space layout (error.Alignment s type d) = (s ≡ space) × Has flags.0 STRUCT_LAYOUTS.0 × (layout ≡ Err (type, d))
 IsLayoutFault flags space layout _ = ⊥

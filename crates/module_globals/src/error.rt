@@ -19,7 +19,7 @@ pub enum GlobalVariableError {
     /// There are no binding arrays of this type.
     #[error("type {0:?} is incompatible with binding arrays")]
     InvalidBindingArray(Handle<key::IrType>),
-    /// The type is not to be used for all that the space asks.
+    /// The type is not to be used for all that the space requires.
     #[error("type flags {seen:?} do not meet the required {required:?}")]
     MissingTypeFlags {
         /// What the space requires.

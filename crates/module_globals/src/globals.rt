@@ -84,7 +84,7 @@ fn check_arrays(
     }
 }
 
-// Whether a host lays out a buffer so, where that is asked.
+// Whether a host lays out a buffer so, where that is required.
 fn check_layout(
     flags: ValidationFlags,
     space: AddressSpace,
@@ -183,7 +183,7 @@ fn check_needs(
     }
 }
 
-// Whether a variable is bound exactly where a host binds it, where that is asked.
+// Whether a variable is bound exactly where a host binds it, where that is required.
 fn check_binding(
     flags: ValidationFlags,
     variable: &GlobalVariable,

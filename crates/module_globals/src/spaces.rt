@@ -1,4 +1,4 @@
-//! What address spaces ask.
+//! What address spaces require.
 
 ghost use Rattle.std.specs.Prelude.{◌≡◌, Some};
 ghost use Rattle.module_globals.specs.Faults.{required_bits};

@@ -45,7 +45,7 @@ fn check_wide(
 ///
 /// # Errors
 ///
-/// The scalar is abstract, no scalar of its kind has this width, or a capability that it asks for is missing.
+/// The scalar is abstract, no scalar of its kind has this width, or a capability that it requires is missing.
 pub fn check_width(capabilities: Capabilities, scalar: Scalar) -> Result<(), WidthError>
     ensures { MatchResult result (λ _. ScalarOK capabilities scalar) (IsWidthFault capabilities scalar) }
 {
@@ -154,7 +154,7 @@ fn check_atomic_integer(capabilities: Capabilities, scalar: Scalar) -> Result<()
 ///
 /// # Errors
 ///
-/// No atomic is of a scalar of this kind and width, or a capability that it asks for is missing.
+/// No atomic is of a scalar of this kind and width, or a capability that it requires is missing.
 pub fn check_atomic(capabilities: Capabilities, scalar: Scalar) -> Result<(), TypeError>
     ensures { MatchResult result (λ _. AtomicOK capabilities scalar) (IsAtomicFault capabilities scalar) }
 {

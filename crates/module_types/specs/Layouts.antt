@@ -31,7 +31,7 @@ pub record IsArrayAt (c : TypeContext) (f : Facts) (stride handle : ℕ) : Type 
   pub is : tree_in c handle ≡ array base count stride
   pub facts : AreFacts c base f
 
--- a member lies as its type asks
+-- a member lies as its type requires
 abbrev pub StoragePart : (place : ℕ) → Part → Type 0
 StoragePart place p = IsStorage p.of_type × (alignment p.of_type ∣ p.offset)
 

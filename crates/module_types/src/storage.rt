@@ -20,7 +20,7 @@ use typing_layout::Alignment;
 /// What keeps a host from laying out a type, and the type.
 pub type Broken = (Handle<key::IrType>, Disalignment);
 
-// Whether a member lies in storage buffers as its type asks.
+// Whether a member lies in storage buffers as its type requires.
 fn check_storage_member(
     context: &TypeContext<'_>,
     handle: Handle<key::IrType>,

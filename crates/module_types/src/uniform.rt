@@ -38,7 +38,7 @@ fn free_before(context: &TypeContext<'_>, members: &[StructMember], place: usize
     }
 }
 
-// Whether a member begins where one may that its type asks for, and not too near after a struct.
+// Whether a member begins where one may, as its type requires, and not too near after a struct.
 fn check_uniform_offset(
     context: &TypeContext<'_>,
     handle: Handle<key::IrType>,
@@ -82,7 +82,7 @@ fn check_uniform_offset(
     Ok(())
 }
 
-// Whether a member lies in uniform buffers as its type asks.
+// Whether a member lies in uniform buffers as its type requires.
 fn check_uniform_member(
     context: &TypeContext<'_>,
     handle: Handle<key::IrType>,

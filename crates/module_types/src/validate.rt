@@ -94,7 +94,7 @@ pub struct TypeSettings {
     pub overrides_resolved: bool,
 }
 
-/// What is reported of each type of a module. Each is looked at once, with its members.
+/// What is reported of each type of a module. Each is visited once, with its members.
 ///
 /// # Errors
 ///

@@ -35,7 +35,7 @@ pub struct InvalidGlobalVariable {
     pub error: GlobalVariableError,
 }
 
-// Whether a module may have its global variables. Each is looked at once.
+// Whether a module may have its global variables. Each is visited once.
 fn check_all(
     flags: ValidationFlags,
     context: &GlobalContext<'_>,
@@ -57,7 +57,7 @@ fn check_all(
 }
 
 /// Whether a module may have its global variables (the part of naga's `Validator::validate` that speaks of them). Each is
-/// looked at once, and so is each global expression.
+/// visited once, and so is each global expression.
 ///
 /// Requires that the handles of the module are in order, and that this is reported of its types and of its global expressions, as
 /// `ModuleValidator::validate` answers.

@@ -30,7 +30,7 @@ impl ModuleValidator {
     /// What is reported of the type at a handle, if a module may have it, from what is reported of the types before it (naga's
     /// `Validator::validate_type`).
     ///
-    /// Requires that types go back, that what the context tells of types and layouts is theirs, and that it tells of each type
+    /// Requires that types go back, that what the context reports on types and layouts is theirs, and that it reports of each type
     /// before this one.
     ///
     /// # Errors
@@ -61,7 +61,7 @@ impl ModuleValidator {
 
     /// Whether a module may have the global expression at a handle (naga's `Validator::validate_const_expression`).
     ///
-    /// Requires that what the module's constants, overrides and compositions name is there, and that what the context tells of
+    /// Requires that what the module's constants, overrides and compositions name is there, and that what the context reports of
     /// types and global expressions is reported of all of them.
     ///
     /// # Errors
@@ -92,7 +92,7 @@ impl ModuleValidator {
 
     /// Whether the expression at a handle is accepted, and which stages may run it (naga's `Validator::validate_expression`).
     ///
-    /// Requires that what the context tells of types and of constants is reported of all of them.
+    /// Requires that what the context reports on types and of constants is reported of all of them.
     ///
     /// # Errors
     ///

@@ -44,7 +44,7 @@ fn refusal_at(
     }
 }
 
-/// Whether a module may have its overrides. Each is looked at once, with one bit for its id.
+/// Whether a module may have its overrides. Each is visited once, with one bit for its id.
 ///
 /// # Errors
 ///

@@ -83,7 +83,7 @@ impl ModuleValidator {
         Ok(ModuleInfo::of_parts(alloc, infos, layouter, types))
     }
 
-    /// Judges a module up to its overrides, and tells of its types and its global expressions (naga's `Validator::validate`,
+    /// Judges a module up to its overrides, and reports on its types and its global expressions (naga's `Validator::validate`,
     /// without global variables, functions and entry points). The answer is that of a fresh validator, whatever was judged
     /// before.
     ///
@@ -91,7 +91,7 @@ impl ModuleValidator {
     ///
     /// The first step that fails at the first item that fails it, by a fault of that item and with no span: handles out of
     /// order, a type that has no layout, a type that is refused, a global expression that has no type, one that is refused, a
-    /// constant or an override that is. Of the last three nothing is asked without [`ValidationFlags::CONSTANTS`]. Or out of
+    /// constant or an override that is. Of the last three nothing is required without [`ValidationFlags::CONSTANTS`]. Or out of
     /// memory.
     pub fn validate(&mut self, module: &Module) -> Result<ModuleInfo, Refusal<ModuleError>>
         ensures accepted { OnOk result (ModuleOK (settings_of self.old false) (module_view «module».now)) }

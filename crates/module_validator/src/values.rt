@@ -1,4 +1,4 @@
-//! The steps of the check of a module that ask of its values: global expressions, constants and overrides.
+//! The steps of the check of a module that concern its values: global expressions, constants and overrides.
 
 ghost use Rattle.std.specs.Prelude.{◌↔◌, IsTrue, IfErr, OnOk};
 ghost use Rattle.ir_flags.specs.Sets.{Has};

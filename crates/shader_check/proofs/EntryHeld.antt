@@ -1,4 +1,4 @@
--- The type of payloads that is held after one entry point more.
+-- The type of payloads that is kept after one entry point more.
 use Rattle.std.proofs.Common.{◌≡◌, ◌⊎◌, inl, inr, ℕ, suc, ◌<◌, length, Option, Some, None, sym, ap, subst, ◌∙◌, refl, arith, slice_get}
 use Rattle.std.proofs.lemmas.Bool.{cases_eq}
 use Rattle.std.specs.Prelude.{bit_and}
@@ -10,7 +10,7 @@ use Rattle.spec_interface.specs.EarlierPayloads.{HasEntryPayload, HasPayloadSoFa
 use Rattle.spec_statements.specs.EarlierPayloads.{IsPayloadBefore}
 use Rattle.spec_statements.specs.Payloads.{HasPayload, PayloadsOK, IsPayloadAfter}
 
--- what is held after all functions is held before the first entry point
+-- what is kept after all functions is kept before the first entry point
 pub held_behind_functions : (flags : ValidationFlags) (m : PlainModule) (held : Option ℕ) → IsPayloadBefore flags m (length m.functions) held → IsPayloadBeforeEntry flags m 0 held
 held_behind_functions flags m held h = record {
   some = λ type asked p. elim p [
@@ -64,7 +64,7 @@ module _ (flags : ValidationFlags) (m : PlainModule) (n : ℕ) (e : PlainEntry) 
         ];
   }
 
--- ---- one type is held
+-- ---- one type is kept
 
 module _ (flags : ValidationFlags) (m : PlainModule) (count : ℕ) where
   none_with_some : (type : ℕ) → IsPayloadBeforeEntry flags m count None → IsPayloadBeforeEntry flags m count (Some type) → ⊥

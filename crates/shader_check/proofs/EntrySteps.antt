@@ -94,7 +94,7 @@ module _ (m : PlainModule) (handles : HandlesOK m) (n : ℕ) (e : PlainEntry) (a
             subst (IsEntrySummary m f) last.1 (subst (λ (g : PlainEntry). IsEntrySummary m g t) same v.summary))
       ]
 
-      -- whatever payloads are held
+      -- whatever payloads are kept
       noted_here : IsEntryNoted (reading_at reading m summaries stages e) stages s m e own blending
       noted_here = record {
         run = λ stage. (

@@ -58,7 +58,7 @@ abbrev pub IsExamined : PlainSettings → PlainModule → Examined → Type 0
 IsExamined s m (examined.Accepted strict info) = IsValidated (function_settings s) false m info × (IsTrue strict ↔ IsScopeStrict s.flags)
 IsExamined s m (examined.Refused e) = IsValidationFault (function_settings s) false m e
 
--- This is found of m, the document's module with returns put in where its settings ask for them.
+-- This is found of m, the document's module with returns put in where its settings require them.
 pub record IsExaminedDocument (d : PlainDocument) (m : PlainModule) (x : Examined) : Type 0 where
   pub prepared : IsPrepared d.settings.returns d.content m
   pub examined : IsExamined d.settings m x

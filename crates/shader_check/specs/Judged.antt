@@ -58,7 +58,7 @@ abbrev pub AreNoted : (Question → Reading) → FunctionSettings → PlainModul
 AreNoted reading s m noted = (index : ℕ) (own : ShaderStages) → slice_get noted index ≡ Some own → IsNotedAt reading s m noted index own
 
 -- The first so many functions are accepted; these summaries are theirs, these stages may run them, and this type of payloads is
--- held after them.
+-- kept after them.
 pub record AreJudged (reading : Question → Reading) (s : FunctionSettings) (m : PlainModule) (count : ℕ) (summaries : List Summary) (noted : List ShaderStages) (held : Option ℕ) : Type 0 where
   pub accepted : (index : ℕ) → index < count → IsAcceptedAt reading s m index
   pub many : length summaries ≡ count

@@ -60,7 +60,7 @@ note_of noted blending i = (noted i, blending i)
 abbrev pub AreEntryNotes : (PlainEntry → Reading) → FunctionSettings → PlainModule → List ShaderStages → List Note → Type 0
 AreEntryNotes reading s m stages notes = (index : ℕ) (e : PlainEntry) (n : Note) → slice_get m.entries index ≡ Some e → slice_get notes index ≡ Some n → IsEntryNoted (reading e) stages s m e n.0 n.1
 
--- The first so many entry points are accepted; these summaries are theirs, this is noted of them, and this type of payloads is held
+-- The first so many entry points are accepted; these summaries are theirs, this is noted of them, and this type of payloads is kept
 -- after them.
 pub record AreEntriesJudged (reading : Question → Reading) (s : FunctionSettings) (m : PlainModule) (summaries : List Summary) (stages : List ShaderStages) (count : ℕ) (kept : List Summary) (notes : List Note) (held : Option ℕ) : Type 0 where
   pub accepted : (index : ℕ) → index < count → IsEntryAcceptedAt reading s m summaries stages index

@@ -7,7 +7,7 @@ use Rattle.ir_flags.specs.declared.stages.ShaderStages.{ShaderStages}
 use Rattle.ir_flags.specs.declared.stages.SubgroupOperationSet.{SubgroupOperationSet}
 use Rattle.spec_statements.specs.Functions.{FunctionSettings}
 
--- entry says that it is an entry point's, and held is the payload type of the functions before
+-- entry says that it is an entry point's, and `held` is the payload type of the functions before
 abbrev pub settings_for : ValidationFlags → Capabilities → SubgroupOperationSet → ShaderStages → (entry : Bool) → (held : Option ℕ) → FunctionSettings
 settings_for flags capabilities operations stages entry held = record {
   flags = flags;

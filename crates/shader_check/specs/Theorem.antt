@@ -28,7 +28,7 @@ use Rattle.shader_check.specs.declared.check.Fault.TheVariants.{Memory, Read, Wr
 
 -- ---- what is found
 
--- This is found of the document's module, with returns put in where its settings ask for them.
+-- This is found of the document's module, with returns put in where its settings require them.
 pub record FindsIn (d : PlainDocument) (f : Finding) : Type 0 where
   pub judged : PlainModule
   pub prepared : IsPrepared d.settings.returns d.content judged
@@ -56,7 +56,7 @@ Judged bytes (finding.Refused step index) = Finds bytes (finding.Refused step in
 
 -- ---- what is reported
 
--- It is the report on the document's module, with returns put in where its settings ask for them.
+-- It is the report on the document's module, with returns put in where its settings require them.
 pub record IsReportOn (d : PlainDocument) (report : List ℕ) : Type 0 where
   pub judged : PlainModule
   pub prepared : IsPrepared d.settings.returns d.content judged
@@ -100,7 +100,7 @@ SomeText = (bytes : List ℕ) → ¬ ((text : List ℕ) → ¬ IsExpected bytes 
 
 -- ---- with missing returns put in and without
 
--- the document, whose settings ask for missing returns or do not
+-- the document, whose settings require missing returns to be put in or do not
 abbrev pub with_returns : PlainDocument → Bool → PlainDocument
 with_returns d returns = record d { settings = record d.settings { returns = returns } }
 
@@ -113,7 +113,7 @@ pub record IsTextOn (d : PlainDocument) (text : List ℕ) : Type 0 where
   pub text_is : text ≡ text_of finding ++ behind
 
 -- Where the bytes spell a document in which no function and no entry point has a result, the text is that on the document whether its
--- settings ask for missing returns or not.
+-- settings require missing returns to be put in or not.
 abbrev pub IsTextWithoutResults : (bytes text : List ℕ) → Type 0
 IsTextWithoutResults bytes text = (d : PlainDocument) → Reads bytes d → HasNoResult d.content → (returns : Bool) → IsTextOn (with_returns d returns) text
 
@@ -128,7 +128,7 @@ pub record SoundText (bytes text : List ℕ) : Type 0 where
   -- The document,
   pub document : PlainDocument
   pub reads : Reads bytes document
-  -- whose module, with returns put in where its settings ask for them, is judged
+  -- whose module, with returns put in where its settings require them, is judged
   pub judged : PlainModule
   pub prepared : IsPrepared document.settings.returns document.content judged
   -- and accepted, its scope checked strictly or not.

@@ -74,7 +74,7 @@ fn check_name(
     }
 }
 
-// What is kept of the entry point at an index, where this is kept of the functions and this type of payloads is held.
+// What is kept of the entry point at an index, where this is kept of the functions and this type of payloads is kept.
 fn judge_next<L: Lower>(
     validator: &Validator<L>,
     module: &Module,
@@ -126,7 +126,7 @@ fn judge_next<L: Lower>(
     }
 }
 
-// What is kept of all entry points of a module, where this is kept of its functions, this type of payloads is held after them and
+// What is kept of all entry points of a module, where this is kept of its functions, this type of payloads is kept after them and
 // the types are marked that are made as its type of rays is.
 pub(crate) fn judge_entries<L: Lower>(
     validator: &Validator<L>,

@@ -46,7 +46,7 @@ fn refusal_at(
     }
 }
 
-// The answer on the function at a handle, where this is kept of those before it and this type of payloads is held.
+// The answer on the function at a handle, where this is kept of those before it and this type of payloads is kept.
 fn judge_next<L: Lower>(
     validator: &Validator<L>,
     module: &Module,
@@ -89,7 +89,7 @@ fn judge_next<L: Lower>(
     }
 }
 
-// What is kept of all functions of a module, where no payloads are held before them and the types are marked that are made as its
+// What is kept of all functions of a module, where no payloads are kept before them and the types are marked that are made as its
 // type of rays is.
 pub(crate) fn judge_all<L: Lower>(
     validator: &Validator<L>,

@@ -73,7 +73,7 @@ fn prepare(alloc: Global, returns: bool, module: &mut Module) -> Result<(), Allo
 }
 
 /// What is found of the document, with the error where its module is refused: each error only where what it tells is wrong.
-/// Returns are put into its module where its settings ask for them, and the module is left so. The error is out of memory, and
+/// Returns are put into its module where its settings require them, and the module is left so. The error is out of memory, and
 /// leaves the module so, or as it was.
 pub fn examine_document(alloc: Global, document: &mut Document) -> Result<Examined, AllocError>
     ensures left { IsLeft document.old.settings.returns document.old.«module» document.new.«module» }
@@ -95,7 +95,7 @@ fn report_on(alloc: Global, module: &Module, examined: &Examined) -> Result<Stri
     }
 }
 
-/// What is found of the document, and the report on it. Returns are put into its module where its settings ask for them, and the
+/// What is found of the document, and the report on it. Returns are put into its module where its settings require them, and the
 /// module is left so. The error is out of memory, and leaves the module so, or as it was.
 pub fn judge_document(alloc: Global, document: &mut Document) -> Result<Judgement, AllocError>
     ensures left { IsLeft document.old.settings.returns document.old.«module» document.new.«module» }

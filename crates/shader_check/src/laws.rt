@@ -20,8 +20,8 @@ pub fn some_text()
     ensures { SomeText }
 {}
 
-/// The text that is expected for bytes which spell a document without results is the text on that document, whether its settings ask for
-/// missing returns or not.
+/// The text that is expected for bytes which spell a document without results is the text on that document, whether
+/// its settings require missing returns or not.
 pub fn returns_dont_show()
     ensures { ReturnsDontShow }
 {}

@@ -268,7 +268,7 @@ impl<L: Lower> Validator<L> {
 
     /// Judges all functions of a module in order, and says what is kept of each (the part of naga's `Validator::validate` that
     /// speaks of functions). What was judged before is forgotten first, so that the answer is that of a fresh validator; after
-    /// it the type of the payloads of these functions is held, and after a refusal none.
+    /// it the type of the payloads of these functions is kept, and after a refusal none.
     ///
     /// Requires that the layer was made for the module, and that its handles are in order.
     ///

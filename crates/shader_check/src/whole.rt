@@ -224,7 +224,7 @@ impl Validator<RealLower> {
     ///
     /// The answer depends on the module, the flags, the capabilities and the operations of subgroups with their stages alone:
     /// what was judged before is forgotten first, after a refusal and without memory as well, and the validator's own layer is
-    /// not asked.
+    /// not used.
     ///
     /// # Errors
     ///

@@ -3,7 +3,7 @@
 //! kinds of expressions of `typing_layout`, the rules of math functions of `typing_rules`, sets of scalars and of shapes of
 //! `typing_rules`, overload sets of `typing_overloads`, the types of expressions of `typing_resolve`, which are those that
 //! `spec_expressions` defines, those of all expressions of a list and comparing types of `typing_expressions`, what the
-//! analysis of a function asks of `module_handles`, and what is kept of a function of `function_real_lower`, with its errors.
+//! analysis of a function requires of `module_handles`, and what is kept of a function of `function_real_lower`, with its errors.
 //!
 //! Nothing is defined here. A crate that uses the typing as a whole names this crate alone.
 #![tactic(auto)]

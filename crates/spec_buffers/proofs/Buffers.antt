@@ -35,7 +35,7 @@ use Rattle.typing_layout.specs.Rules.{ShapeOK}
 use Rattle.typing_layout.specs.Tree.{Tree, scalar, vector, matrix, cooperative_matrix, atomic, pointer, value_pointer, array, struct, image, sampler, acceleration_structure, ray_query, binding_array}
 use Rattle.typing_layout.specs.View.{type_tree}
 
--- of what the rules of types ask, so much counts for leaves
+-- of what the rules of types require, so much counts for leaves
 shape_counts : (c : Capabilities) (resolved : Bool) (t : Tree) → ShapeOK c resolved t → ShapesOK t
 shape_counts c resolved (array base n stride) h = h.1
 shape_counts c resolved (struct ms span) h = h

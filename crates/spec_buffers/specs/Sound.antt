@@ -28,7 +28,7 @@ pub record LeavesOK (t : Tree) : Type 0 where
   pub apart : (held : ℕ) → AllPairs AreApart (leaves held t)
   pub within : All (λ l. l.first + l.length ≤ size t) (leaves 1 t)
 
--- what the rules of types ask of arrays and structs, so far as leaves depend on it
+-- what the rules of types require of arrays and structs, so far as leaves depend on it
 abbrev pub ShapesOK : Tree → Type 0
 ShapesOK (array base n stride) = HasFlag Sized base
 ShapesOK (struct ms span) = StructOK (listed ms) span

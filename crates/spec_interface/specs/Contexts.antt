@@ -10,7 +10,7 @@ use Rattle.ir_kinds.specs.declared.stages.ShaderStage.TheVariants.{Vertex, Fragm
 use Rattle.ir_types.specs.Plain.{PlainType}
 use Rattle.spec_interface.specs.declared.varyings.Direction.{Direction}
 
--- The checks that are asked, the capabilities and types of the module, and of the entry point its stage, the sizes of its
+-- The checks that are made, the capabilities and types of the module, and of the entry point its stage, the sizes of its
 -- workgroups and the variable of its task's payload; and which way the varyings go.
 pub record VaryingContext : Type 0 where
   pub flags : ValidationFlags

@@ -19,7 +19,7 @@ pub record HasEntryPayload (m : PlainModule) (count type : ℕ) : Type 0 where
 abbrev pub HasPayloadSoFar : PlainModule → (count type : ℕ) → Type 0
 HasPayloadSoFar m count type = HasPayloadBefore m (length m.functions) type ⊎ HasEntryPayload m count type
 
--- What is held after all functions and the first so many entry points, where bodies are checked: the type of each of their
+-- What is kept after all functions and the first so many entry points, where bodies are checked: the type of each of their
 -- payloads, and nothing where they have none; else nothing.
 pub record IsPayloadBeforeEntry (flags : ValidationFlags) (m : PlainModule) (count : ℕ) (held : Option ℕ) : Type 0 where
   pub some : (type : ℕ) → Has flags.0 BLOCKS.0 → HasPayloadSoFar m count type → held ≡ Some type

@@ -94,7 +94,7 @@ kind_of (form.Scalar s) = Some s.kind
 kind_of (form.Vector n s) = Some s.kind
 kind_of _ = None
 
--- a scalar or a vector, which is found between vertices where that is asked
+-- a scalar or a vector, which is interpolated where that is required
 abbrev pub IsValue : (between : Type 0) → Option Interpolation → Form → Type 0
 IsValue between i t = IsSomeAnd (kind_of t) (λ kind. between → InterpolationOK kind i)
 

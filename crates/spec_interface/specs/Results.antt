@@ -11,13 +11,13 @@ use Rattle.spec_interface.specs.Varyings.{HasBuiltIn, result_varyings}
 use Rattle.typing_forms.specs.Forms.{form_of_type}
 use Rattle.typing_forms.specs.declared.form.Form.TheVariants.{Vector}
 
--- it answers how many mesh workgroups are asked for, each way
+-- it answers how many mesh workgroups are launched, each way
 pub record GivesTaskSize (types : List PlainType) (r : Option FunctionResult) : Type 0 where
   pub result : FunctionResult
   pub answered : r ≡ Some result
   pub size : form_of_type types result.ty ≡ Vector Tri U32
 
--- A vertex shader answers where a vertex lies, a task shader sizes, and a mesh shader nothing. How answers are bound is asked
+-- A vertex shader answers where a vertex lies, a task shader sizes, and a mesh shader nothing. How answers are bound is checked
 -- beside.
 pub record AnswerOK (types : List PlainType) (stage : ShaderStage) (r : Option FunctionResult) : Type 0 where
   pub vertex : stage ≡ Vertex → HasBuiltIn (result_varyings types r) (Position false)

@@ -71,7 +71,7 @@ required IncomingRayPayload = Data ∷ Sized ∷ []
 abbrev pub HasAll : List TypeFlag → Tree → Type 0
 HasAll flags t = (f : TypeFlag) → IsTrue (among flags f) → HasFlag f t
 
--- ---- what else a space asks
+-- ---- what else a space requires
 
 -- what a variable of what is made of this needs in a space, if it needs any capability
 abbrev pub space_capability : AddressSpace → Option PlainInner → Option Capabilities
@@ -87,7 +87,7 @@ space_capability RayPayload i = Some RAY_TRACING_PIPELINE
 space_capability IncomingRayPayload i = Some RAY_TRACING_PIPELINE
 
 -- Of what the type that counts is made of, and of its tree. No global variable lies in Function. Buffers are laid out as hosts
--- do, where that is asked; none is written alone. A payload of a task takes some bytes.
+-- do, where that is required; none is written alone. A payload of a task takes some bytes.
 abbrev pub LiesIn : ValidationFlags → AddressSpace → Option PlainInner → Tree → Type 0
 LiesIn flags Function i t = ⊥
 LiesIn flags (Storage access) i t = (Has flags.0 STRUCT_LAYOUTS.0 → IsStorage t) × (access ≢ STORE)

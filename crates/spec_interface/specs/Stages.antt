@@ -1,4 +1,4 @@
--- What the stage of an entry point asks of it beside its function.
+-- What the stage of an entry point requires of it beside its function.
 use Rattle.std.specs.Prelude.{◌≡◌, ◌≤◌, ◌↔◌, ℕ, All, Bool, true, false, Option, Some, None, IfSome, IsSome}
 use Rattle.ir_flags.specs.Sets.{Has}
 use Rattle.ir_flags.specs.declared.settings.Capabilities.{Capabilities}

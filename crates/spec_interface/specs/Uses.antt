@@ -21,7 +21,7 @@ use Rattle.ir_types.specs.declared.types.TypeInner.TheVariants.{Image}
 abbrev pub no_uses : GlobalUse
 no_uses = record { 0 = 0 }
 
--- these are read, and asked how large they are
+-- these are read, and their size is queried
 abbrev pub read_uses : GlobalUse
 read_uses = record { 0 = bit_or use_.READ.0 use_.QUERY.0 }
 

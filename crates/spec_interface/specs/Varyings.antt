@@ -129,7 +129,7 @@ BoundOK c BlendSources = (c.stage ≡ Fragment) × (c.direction ≡ Output)
 BoundOK c Nothing = ¬ Has c.flags.0 BINDINGS.0
 BoundOK c (NoMember place) = ¬ Has c.flags.0 BINDINGS.0
 
--- Each is as it should be, no built-in value stands twice, and no location is taken twice where that is asked.
+-- Each is as it should be, no built-in value stands twice, and no location is taken twice where that is required.
 pub record VaryingsOK (c : VaryingContext) (vs : List Varying) : Type 0 where
   pub each : (place : ℕ) (v : Varying) → slice_get vs place ≡ Some v → BoundOK c v.bound
   pub once : AreApart built_in_of vs

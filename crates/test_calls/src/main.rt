@@ -1,4 +1,4 @@
-//! Makes the calls of arenas, sets of handles, errors and types that standard input asks for, and prints the answers.
+//! Makes the calls of arenas, sets of handles, errors and types that standard input lists, and prints the answers.
 //!
 //! A line is a list: what is called (`"numbers"`, `"tagged"` or `"texts"` and then what of them, or else a span, a number,
 //! an error or a refusal), the call, and what it is given; or else a call of types, and what it is given: a type is written

@@ -11,7 +11,7 @@ fn sizes(inner: &TypeInner) -> (Option<u64>, u64) {
     (inner.try_size(), inner.size())
 }
 
-// The result of a call that asks for no other type.
+// The result of a call that requires no other type.
 fn of_one(alloc: Global, inner: &TypeInner, call: &Value) -> Result<String, AllocError> {
     match text(call, 0) {
         "scalar" => told(

@@ -10,7 +10,7 @@ use test_support::call::{handle, list, text, told};
 use test_support::forms::found;
 use typing_forms::types_go_back;
 
-/// The module of whose types is asked.
+/// The module whose types are queried.
 #[derive(Drop)]
 pub struct TypeCalls {
     module: Module,

@@ -12,7 +12,7 @@ use std::alloc::{AllocError, Global};
 use test_support::call::{no_call, told};
 use test_support::forms::found;
 
-// Whether an expression is always in scope, whether it is a dynamic index, and whether the level of a sample asks for
+// Whether an expression is always in scope, whether it is a dynamic index, and whether the level of a sample requires
 // derivatives.
 fn traits_of(expression: &Expression) -> (bool, bool, Option<bool>) {
     let asks = match expression {
@@ -50,7 +50,7 @@ pub fn of_literal(alloc: Global, call: &Value) -> Result<String, AllocError> {
     told(alloc, inner_of(&literal))
 }
 
-/// What the equality of types that is proved tells of two types and a copy.
+/// What the equality of types that is proved says of two types and a copy.
 pub fn of_type(alloc: Global, call: &Value) -> Result<String, AllocError> {
     let Some(source): Option<IrType> = read_at(alloc, call, 1)? else {
         return no_call(alloc);
@@ -94,7 +94,7 @@ pub fn of_types(alloc: Global, call: &Value) -> Result<String, AllocError> {
     told(alloc, alike(alloc, &types, &others))
 }
 
-// The key of the parts of a float, which a line is asked for.
+// The key of the parts of a float, which a line may have.
 const PARTS: PredeclaredType = PredeclaredType::ModfResult {
     size: None,
     scalar: Scalar::F32,

@@ -1,5 +1,5 @@
 //! Runs the check on the documents of data/, of which the answers are known, and says which differ; then makes the calls of
-//! checks and of items of the IR that standard input asks for, and prints the answers.
+//! checks and of items of the IR that standard input lists, and prints the answers.
 //!
 //! A line of standard input is a list: the call, and what it is given. Beside it stands the answer. A line that is a text
 //! is a heading. The program runs where the data files lie: by hand it is `cd data && ../out/test_cases < ../stdin`.

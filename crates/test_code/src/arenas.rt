@@ -1,4 +1,4 @@
-// Calls of arenas that ask for no memory, and some that are refused it.
+// Calls of arenas that need no memory, and some that are refused it.
 ghost use Rattle.std.specs.Prelude.{◌<◌, length};
 
 use crate::growing::{Tag, numbers};
@@ -84,7 +84,7 @@ fn put_nine(unique: &mut UniqueArena<u32>, old: Handle<u32>) -> bool
     }
 }
 
-// Whether a full arena refuses to replace a value where there is no memory, and holds all that it held then.
+// Whether a full arena refuses to replace a value where there is no memory, and keeps all that it had then.
 fn replacing_is_refused(alloc: Global) -> Result<bool, Fail> {
     let mut unique = full(alloc)?;
     let Some(first) = unique.get(&0) else {

@@ -8,7 +8,7 @@ use ir_sets::unique_arena::UniqueArena;
 use std::alloc::{AllocError, Global};
 use std::test::Fail;
 
-// A growing call is made so often at most. A list makes room for a few values at once.
+// A growing call is made so often at most. A list makes room for several values together.
 const MOST_CALLS: u32 = 1000;
 
 /// A tag of handles.
@@ -19,10 +19,10 @@ pub enum Tag {}
 trait Growing: Drop {
     fn grow(&mut self, value: u32) -> Result<(), AllocError>;
 
-    /// Whether a call that asks for no memory is answered.
+    /// Whether a call that needs no memory is answered.
     fn answers(&mut self) -> bool;
 
-    /// Whether it holds what it held, and so many values more, where this was the first that was refused.
+    /// Whether it has what it had, and so many values more, where this was the first that was refused.
     fn holds(&mut self, more: u32) -> bool;
 }
 

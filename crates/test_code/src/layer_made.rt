@@ -45,7 +45,7 @@ fn infos_of(
 }
 
 /// The layer for a module, if its types are accepted and it has no global variables. It is given no type of a global
-/// expression: the rules of functions ask for none. The error is out of memory.
+/// expression: the rules of functions require none. The error is out of memory.
 pub fn lower_for(alloc: Global, module: &Module) -> Result<Option<TinyLower>, AllocError>
     ensures { IfOk result (λ found. IfSome found (λ lower. IsMadeOf (module_view «module».now) lower.infos.items)) }
 {

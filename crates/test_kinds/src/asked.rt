@@ -4,7 +4,7 @@
 // A line of the data file is `["rules", function, [rule..]]`, the rules of a function in order, or
 // `["arg", function, [[place, type]..], left, preferred, concrete]`: after these arguments the number of rules that are
 // left, the preferred one, and the preferred one among those without abstract arguments. These answers come from two
-// implementations that were written independently of this one. A list of the function's rules, one by one, is asked the
+// implementations that were written independently of this one. A list of the function's rules, one by one, gets the
 // same, and has to answer every call as the set does.
 use crate::data_words::{all, function, items, number, text};
 use crate::types::{rule, value_type};
@@ -82,7 +82,7 @@ impl Both {
     }
 }
 
-// Whether two sets ask for the same types at each place.
+// Whether two sets require the same types at each place.
 fn ask_all_alike(
     alloc: Global,
     left: &AnyOverloadSet,
@@ -96,7 +96,7 @@ fn ask_all_alike(
     Ok(true)
 }
 
-// Whether two sets ask for the same types at a place.
+// Whether two sets require the same types at a place.
 fn ask_alike(
     alloc: Global,
     left: &AnyOverloadSet,

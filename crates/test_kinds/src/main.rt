@@ -1,5 +1,5 @@
-//! Calls each public function of the plain types and of the sets of words, hashes under keys, asks the overload sets of all
-//! functions of numbers what data/overloads.json asks, and prints the answers.
+//! Calls each public function of the plain types and of the sets of words, hashes under keys, puts the questions of
+//! data/overloads.json to the overload sets of all functions of numbers, and prints the answers.
 //!
 //! With the word `json` it only reads standard input as JSON, and with `sets` it only makes an overload set for each byte
 //! of it, both to measure by; without one it does that too, in the end.

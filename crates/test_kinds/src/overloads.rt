@@ -136,7 +136,7 @@ fn cloned(set: &AnyOverloadSet, alloc: Global) -> Result<usize, AllocError> {
     Ok(same.overload_list(alloc)?.len())
 }
 
-// Whether the types that are asked for at a third place are the expected ones.
+// Whether the types that are required at a third place are the expected ones.
 fn asked_third(set: &AnyOverloadSet, alloc: Global) -> Result<bool, AllocError> {
     let asked = set.allowed_args(alloc, 2)?;
     Ok(asked.len() == 28 && asked.first() == Some(&one(Scalar::ABSTRACT_FLOAT)))

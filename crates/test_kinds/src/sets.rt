@@ -29,7 +29,7 @@ fn print_small_sets(rt: &HostRuntime) -> io::Result<()> {
     print_all(rt, "stages", ShaderStages::flags().len(), stages)
 }
 
-// Of the sets that a validator is asked by.
+// Of the sets that a validator gets.
 fn print_settings(rt: &HostRuntime) -> io::Result<()> {
     let subgroups = u64::from(SubgroupOperationSet::all().bits());
     print_all(

@@ -13,7 +13,7 @@ use document_reader::Document;
 use std::alloc::{AllocError, Global};
 
 /// The answer to a question about the module of a document. `laid`, `tracked`, `typed`, `ordered`, `summarized` and `read` are
-/// there to measure by: they lay out all types, find all kinds or all types of expressions, ask whether the handles of all
+/// there to measure by: they lay out all types, find all kinds or all types of expressions, find whether the handles of all
 /// functions are in order, find besides what is kept of each function, or do nothing, and are answered by themselves.
 pub fn answer(alloc: Global, asked: &str, document: &mut Document) -> Result<String, AllocError> {
     match asked {

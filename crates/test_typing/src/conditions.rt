@@ -34,7 +34,7 @@ fn passes(test: Test, function: &Function, module: &Module, before: usize) -> bo
     }
 }
 
-// Tells each test of a function by a letter, that which is not asked by a dot.
+// Writes each test of a function as a letter, one that is not made as a dot.
 fn tell(
     told: &mut String,
     function: &Function,
@@ -55,7 +55,7 @@ fn tell(
     told.push_str(";")
 }
 
-/// The tests of each function and each entry point, but one that is not asked.
+/// The tests of each function and each entry point, but one that is not made.
 pub fn tests_told(
     alloc: Global,
     module: &Module,

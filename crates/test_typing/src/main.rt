@@ -1,7 +1,8 @@
-// Makes the calls that the files of data/ ask for on modules: layouts, kinds of expressions, their types, tests of handles, what types may be
-// used for and why they are refused, whether all handles are in order, whether a module is accepted up to its overrides, what
-// the analysis keeps of functions, whether functions are accepted and why not, and of the whole judgement by which error a
-// document is refused. Says which answers are others than those that stand there.
+// Makes the calls that the files of data/ list on modules: layouts, kinds of expressions, their types, tests of
+// handles, what types may be used for and why they are refused, whether all handles are in order, whether a module is
+// accepted up to its overrides, what the analysis keeps of functions, whether functions are accepted and why not, and
+// of the whole judgement by which error a document is refused. Says which answers are others than those that stand
+// there.
 //
 // A line of a data file is a list of texts: the case's name, what is required, a document, and the answer, or two of which either
 // is right. `make_data.py`, `make_types.py`, `make_tests.py`, `make_infos.py`, `make_checks.py`, `make_summaries.py`,

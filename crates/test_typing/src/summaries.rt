@@ -17,7 +17,7 @@ use typing_errors::{ExpressionError, FunctionError};
 use typing_infos::FunctionInfo;
 
 // Tells of an expression how often it is used, which global variable it starts at, whether it is the same in all invocations,
-// and what it asks for.
+// and what it requires.
 fn tell_expression(
     alloc: Global,
     told: &mut String,
@@ -154,7 +154,7 @@ fn tell_error(alloc: Global, told: &mut String, error: &FunctionError) -> Result
     }
 }
 
-// Whether the handles of a function are in order, as its analysis asks it.
+// Whether the handles of a function are in order, as its analysis requires it.
 fn is_in_order(function: &Function, module: &Module, before: usize) -> bool
     ensures handles { IsTrue result → HandlesInRange (module_view «module».now) (function_view function.now) }
     ensures precede { IsTrue result → OperandsPrecede (function_view function.now).expressions }

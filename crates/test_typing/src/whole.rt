@@ -41,7 +41,7 @@ fn told_by_name(alloc: Global, error: &ValidationError) -> Result<String, AllocE
 }
 
 /// Whether a document is accepted, or why it is not, with what is wrong with a function in words. Returns are put in where
-/// its settings ask for them.
+/// its settings require them.
 pub fn functions_reported(alloc: Global, document: &mut Document) -> Result<String, AllocError> {
     match examine_document(alloc, document)? {
         Examined::Accepted { .. } => String::from_str(alloc, "accepted"),
@@ -49,7 +49,7 @@ pub fn functions_reported(alloc: Global, document: &mut Document) -> Result<Stri
     }
 }
 
-/// Whether a document is accepted, or the verdict and the error by its name. Returns are put in where its settings ask for
+/// Whether a document is accepted, or the verdict and the error by its name. Returns are put in where its settings require
 /// them.
 pub fn refusals_told(alloc: Global, document: &mut Document) -> Result<String, AllocError> {
     match examine_document(alloc, document)? {

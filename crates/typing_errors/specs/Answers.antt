@@ -25,7 +25,7 @@ abbrev pub form_answer : List PlainType → Result TypeResolution TypingFault �
 form_answer types (Ok r) = Ok (form_given types r)
 form_answer types (Err f) = Err f
 
--- the fault that an error tells; two errors tell of none, and are answered by no rule
+-- the fault that an error reports; two errors report none, and are answered by no rule
 abbrev pub fault_of : ResolveError → Option TypingFault
 fault_of (error.OutOfBoundsIndex expr index) = Some (fault.OutOfBoundsIndex expr index)
 fault_of (error.InvalidAccess expr indexed) = Some (fault.InvalidAccess expr indexed)

@@ -127,10 +127,10 @@ pub enum FunctionError {
     /// An image is written so as it may not be.
     #[error("the image store is invalid: {0}")]
     InvalidImageStore(ExpressionError),
-    /// A texel is changed at once so as it may not be.
+    /// An atomic operation on a texel is not allowed.
     #[error("the image atomic is invalid: {0}")]
     InvalidImageAtomic(ExpressionError),
-    /// Texels are not changed at once in this way.
+    /// Texels have no such atomic operation.
     #[error("the image atomic function {0:?} is invalid")]
     InvalidImageAtomicFunction(AtomicFunction),
     /// What a texel is changed with is of another type.
@@ -171,7 +171,7 @@ pub enum FunctionError {
     /// The module lacks capabilities.
     #[error("capability {0:?} is required")]
     MissingCapability(Capabilities),
-    /// What requires that all invocations arrive together stands where they may not: what it asks for, by which expression, and
+    /// What requires that all invocations arrive together stands where they may not: what it requires, by which expression, and
     /// what makes them differ.
     #[error("{0:?} of expression {1:?} requires uniform control flow: {2}")]
     NonUniformControlFlow(UniformityRequirements, Handle<key::Expression>, UniformityDisruptor),
@@ -233,7 +233,7 @@ pub enum FunctionError {
     /// The payload of a ray is no global variable.
     #[error("the ray payload is not a global variable")]
     PayloadPointerNotGlobal,
-    /// What denotes the answer of a `Proceed` or of a ballot is of another kind. It is asked under
+    /// What denotes the answer of a `Proceed` or of a ballot is of another kind. It is checked under
     /// `STRICT_SCOPE` alone, and naga has no such error.
     #[error("result expression {0:?} does not match the statement")]
     StrictResultMismatch(Handle<key::Expression>),

@@ -45,7 +45,7 @@ pub enum ResolveError {
     /// What is loaded from is no pointer to what can be loaded.
     #[error("expression {0:?} is not a pointer that can be loaded")]
     InvalidPointer(Handle<key::Expression>),
-    /// What is sampled, loaded from or asked for its size is no image that allows it.
+    /// What is sampled, loaded from or queried for its size is no image that allows it.
     #[error("expression {0:?} is not an image that supports the operation")]
     InvalidImage(Handle<key::Expression>),
     /// There is no function of this name. No call answers it.

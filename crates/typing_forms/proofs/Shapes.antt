@@ -12,7 +12,7 @@ use Rattle.typing_forms.proofs.Walks.{one_below}
 some_is : {A : Type 0} (x y : A) → Some x ≡ Some y → x ≡ y
 some_is x y e = cc
 
--- ---- two types at once
+-- ---- two types together
 
 -- what is found of two types is found where both are there
 found_both : {A : Type 0} (f : PlainInner → PlainInner → Option A) (o p : Option PlainInner) (r : A) → both_found f o p ≡ Some r

@@ -1,4 +1,4 @@
--- Which types are converted to which without being asked.
+-- Which types are converted to which implicitly.
 use Rattle.std.specs.Prelude.{◌≡◌, ℕ, List, Option, Some, None, Bool, true, false, ◌==◌, ◌&&◌, if◌then◌else◌, IsSome}
 use Rattle.ir_kinds.specs.Scalars.{component_count}
 use Rattle.ir_kinds.specs.declared.scalars.Scalar.{Scalar}

@@ -1,4 +1,4 @@
-//! Which types are converted to which without being asked.
+//! Which types are converted to which implicitly.
 
 ghost use Rattle.std.specs.Prelude.{◌≡◌, IsTrue, IfSome, IfNone, None};
 ghost use Rattle.ir_kinds.specs.declared.scalars.Scalar.{Scalar};

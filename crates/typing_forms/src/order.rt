@@ -48,8 +48,8 @@ pub(crate) fn type_at(types: &UniqueArena<IrType, key::IrType>, place: usize) ->
     &types[Handle::at(place)].inner
 }
 
-/// Whether each type names only types before it, as the handle step asks. Calls that go along the types of elements
-/// or members ask for it.
+/// Whether each type names only types before it, as the handle step requires. Calls that go along the types of elements
+/// or members require it.
 pub fn types_go_back(types: &UniqueArena<IrType, key::IrType>) -> bool
     ensures { IsTrue result ↔ TypesGoBack (types_view types.now) }
 {

@@ -27,7 +27,7 @@ use ir_sets::unique_arena::UniqueArena;
 use ir_types::{ArraySize, IrType, TypeInner, key};
 use std::alloc::{AllocError, Global};
 
-/// What can be asked of a type (calls of naga's `TypeInner`). Where a call takes `types`, these are the module's.
+/// What can be queried of a type (calls of naga's `TypeInner`). Where a call takes `types`, these are the module's.
 pub trait TypeInnerExt: Sized {
     /// What the type is made of.
     ghost made_of: { Self → PlainInner };
@@ -106,7 +106,7 @@ pub trait TypeInnerExt: Sized {
         requires { TypesGoBack (types_view types.now) }
         ensures { IsTrue result ↔ IsDynamicallySized (types_view types.now) (made_of self.now) };
 
-    /// Whether a value can be composed (naga's `TypeInner::is_constructible`). Each type is looked at once, which takes
+    /// Whether a value can be composed (naga's `TypeInner::is_constructible`). Each type is visited once, which takes
     /// memory for a mark of each: the error is want of it.
     fn is_constructible(
         &self,
@@ -122,7 +122,7 @@ pub trait TypeInnerExt: Sized {
         ensures { IsTrue result ↔ IsAbstract (types_view types.now) (made_of self.now) };
 
     /// The scalar that a value holds and the one that is wanted, where the value is converted to the type `goal` without
-    /// being asked: the types differ in their scalars alone, and the one has a rank for the other (naga's
+    /// being checked: the types differ in their scalars alone, and the one has a rank for the other (naga's
     /// `TypeInner::automatically_converts_to`). Where arrays put their elements doesn't count.
     fn automatically_converts_to(
         &self,

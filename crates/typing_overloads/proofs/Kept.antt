@@ -1,4 +1,4 @@
--- A test that asks of a shape and of a scalar leaves of a product the product of what it leaves of both.
+-- A test that looks at a shape and at a scalar leaves of a product the product of what it leaves of both.
 use Rattle.std.proofs.Common.{◌≡◌, ◌==◌, ◌∙◌, ◌++◌, ◌&&◌, ℕ, Bool, true, false, not, Option, Some, None, List, [], ◌∷◌, refl, ap, ap₂, sym, bit_and, cond, filter, is_some, map, slice_get, option_map}
 use Rattle.std.proofs.lemmas.List.Elements.{filter-append}
 use Rattle.std.proofs.lemmas.Option.{slice_get-map}
@@ -149,7 +149,7 @@ concrete_kept p ss ns = product_kept is_concrete (all_concrete p) (λ n. true) p
 
 -- ---- sets of bits
 
--- a pattern that asks for a type here: two sets of bits are cut to those of its shapes and scalars
+-- a pattern that requires a type here: two sets of bits are cut to those of its shapes and scalars
 pub accepted : (place : ℕ) (inner : PlainInner) (given : ValueType) (p : Pattern) (a : Required) → Some given ≡ value_type_of inner → Some a ≡ slice_get (required_by p) place
     → (scalar_bits size_bits scalar_mask size_mask : ℕ) → marks scalar_mask scalars ≡ map (takes_scalar given a) scalars → marks size_mask sizes ≡ map (takes_size given a) sizes
     → rules_over p (scalars_in (bit_and scalar_bits scalar_mask)) (sizes_in (bit_and size_bits size_mask))
@@ -159,7 +159,7 @@ accepted place inner given p a e h scalar_bits size_bits scalar_mask size_mask k
     ∙ sym (accepting_kept place given p a (sym h) (scalars_in scalar_bits) (sizes_in size_bits))
     ∙ ap (λ o. filter (accepts_if place o) (rules_over p (scalars_in scalar_bits) (sizes_in size_bits))) e
 
--- one that asks for none there
+-- one that requires none there
 pub no_argument : (place : ℕ) (inner : PlainInner) (given : ValueType) (p : Pattern) → Some given ≡ value_type_of inner → None ≡ slice_get (required_by p) place
     → (ss : List Scalar) (ns : List ConstructorSize) → [] ≡ filter (accepts_inner place inner) (rules_over p ss ns)
 no_argument place inner given p e h ss ns = sym (none_kept place given p (sym h) ss ns) ∙ ap (λ o. filter (accepts_if place o) (rules_over p ss ns)) e

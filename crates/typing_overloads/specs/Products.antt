@@ -42,7 +42,7 @@ own = record { size = sizes.Same; scalar = scalars.Same }
 abbrev pub word : Required
 word = record { size = sizes.Scalar; scalar = scalars.U32 }
 
--- what the rules of a pattern ask for, in order
+-- what the rules of a pattern require, in order
 abbrev pub required_by : Pattern → List Required
 required_by pattern.Same = own ∷ []
 required_by pattern.SameTwo = own ∷ own ∷ []
@@ -61,7 +61,7 @@ required_by pattern.ToWord = own ∷ []
 required_by pattern.FromWord = word ∷ []
 required_by pattern.FromTwoWords = word ∷ word ∷ []
 
--- whether a rule of the pattern that is made of the scalar asks for no abstract one
+-- whether a rule of the pattern that is made of the scalar requires no abstract one
 abbrev pub all_concrete : Pattern → Scalar → Bool
 all_concrete pattern.FromWord s = true
 all_concrete pattern.FromTwoWords s = true

@@ -20,6 +20,6 @@ abbrev pub one_or_none : Option ValueType → List ValueType
 one_or_none (Some wanted) = wanted ∷ []
 one_or_none None = []
 
--- what the rules ask for at a place, without those that have no such argument
+-- what the rules require at a place, without those that have no such argument
 abbrev pub arguments_at : ℕ → List Rule → List ValueType
 arguments_at place rules = flat_map (λ rule. one_or_none (slice_get (listed rule.arguments) place)) rules

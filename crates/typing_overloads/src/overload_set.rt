@@ -47,7 +47,7 @@ pub trait OverloadSet: Clone {
     fn overload_list(&self, alloc: Global) -> Result<Vec<Rule>, AllocError>
         ensures { IfOk result (λ list. list.items ≡ rules self.now) };
 
-    /// The types that the rules ask for at the place `i`, counted from 0: one for each rule that has an argument there,
+    /// The types that the rules require at the place `i`, counted from 0: one for each rule that has an argument there,
     /// in their order. The error is out of memory.
     fn allowed_args(&self, alloc: Global, i: usize) -> Result<Vec<ValueType>, AllocError>
         ensures { IfOk result (λ types. types.items ≡ arguments_at i (rules self.now)) };

@@ -106,7 +106,7 @@ impl Product {
         Ok(())
     }
 
-    /// Adds the types that the rules ask for at a place, counted from 0, to a list. The error is out of memory.
+    /// Adds the types that the rules require at a place, counted from 0, to a list. The error is out of memory.
     pub fn add_types_to(self, types: &mut Vec<ValueType>, place: usize) -> Result<(), AllocError>
         ensures { OnOk result (types.new.items ≡ types.old.items ++ arguments_at place (rules_of self)) }
     {
@@ -145,7 +145,7 @@ pub(crate) fn add_type(
     Ok(())
 }
 
-// Adds the types that the rules of one shape ask for at a place.
+// Adds the types that the rules of one shape require at a place.
 fn add_types(
     types: &mut Vec<ValueType>,
     place: usize,

@@ -1,4 +1,4 @@
-//! What the rules of a pattern ask for at each place, and which of them take a type there.
+//! What the rules of a pattern require at each place, and which of them take a type there.
 
 ghost use Rattle.std.specs.Prelude.{◌≡◌, ◌==◌, is_some, length, map, slice_get};
 ghost use Rattle.typing_rules.specs.Tables.{column_size, row_size};
@@ -12,7 +12,7 @@ use ir_kinds::{Scalar, VectorSize};
 use typing_forms::conversion_rank;
 use typing_rules::{ConstructorSet, ConstructorSize, Pattern, ScalarSet};
 
-/// The shape that a rule asks for.
+/// The shape that a rule requires.
 #[derive(Clone, Copy, Debug)]
 pub(crate) enum RequiredSize {
     /// The one that it is made of.
@@ -25,7 +25,7 @@ pub(crate) enum RequiredSize {
     Row,
 }
 
-/// The scalar that a rule asks for.
+/// The scalar that a rule requires.
 #[derive(Clone, Copy, Debug)]
 pub(crate) enum RequiredScalar {
     /// The one that it is made of.
@@ -36,7 +36,7 @@ pub(crate) enum RequiredScalar {
     U32,
 }
 
-/// The type that a rule asks for at a place.
+/// The type that a rule requires at a place.
 #[derive(Clone, Copy, Debug)]
 pub(crate) struct Required {
     /// Its shape.
@@ -95,7 +95,7 @@ const ONE_WORD: [Required; 1] = [WORD];
 
 const TWO_WORDS: [Required; 2] = [WORD, WORD];
 
-/// What the rules of a pattern ask for, in order.
+/// What the rules of a pattern require, in order.
 pub(crate) const fn required_by(pattern: Pattern) -> &'static [Required]
     ensures { result.now ≡ required_by pattern }
 {
@@ -118,7 +118,7 @@ pub(crate) const fn required_by(pattern: Pattern) -> &'static [Required]
     }
 }
 
-/// What the rules of a pattern ask for at a place, counted from 0, or `None` where they have no such argument.
+/// What the rules of a pattern require at a place, counted from 0, or `None` where they have no such argument.
 pub(crate) fn required_at(pattern: Pattern, place: usize) -> Option<Required>
     ensures { result ≡ slice_get (required_by pattern) place }
 {
@@ -177,7 +177,7 @@ const FOUR_ROWS: ConstructorSet = ConstructorSet(
 );
 
 impl RequiredSize {
-    /// The shapes of which rules are made that ask for the shape `given` here.
+    /// The shapes of which rules are made that require the shape `given` here.
     pub const fn taking(self, given: ConstructorSize) -> ConstructorSet
         ensures { marks result.0 sizes ≡ map (λ n. constructor_place given == constructor_place (required_size self n)) sizes }
     {

@@ -61,7 +61,7 @@ pub(crate) fn max_arity(rules: &[Rule], found: usize) -> usize
     greatest
 }
 
-/// The types that the rules ask for at a place, counted from 0. The error is out of memory.
+/// The types that the rules require at a place, counted from 0. The error is out of memory.
 pub(crate) fn required_for(
     alloc: Global,
     rules: &[Rule],

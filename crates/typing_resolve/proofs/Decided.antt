@@ -24,7 +24,7 @@ among [] k o e = cc (e)
 among (x ∷ xs) zero o e = inl (some_is e)
 among (x ∷ xs) (suc k) o e = inr (among xs k o e)
 
--- an operand is one of those that are asked about
+-- an operand is one of those that are queried
 pub named : (xs : List ℕ) (k o : ℕ) (operand : Option ℕ) → operand ≡ slice_get xs k → operand ≡ Some o → IsAmong o xs
 named xs k o operand at is = among xs k o (sym at ∙ is)
 

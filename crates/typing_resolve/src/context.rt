@@ -37,7 +37,7 @@ pub struct ResolveContext<'a> {
     pub overrides: &'a Arena<Override, key::Override>,
     /// Its types.
     pub types: &'a UniqueArena<IrType, key::IrType>,
-    /// The types that some expressions ask for.
+    /// The types that some expressions require.
     pub special_types: &'a SpecialTypes,
     /// The module's variables.
     pub global_vars: &'a Arena<GlobalVariable, key::GlobalVariable>,
@@ -89,7 +89,7 @@ impl<'a> ResolveContext<'a> {
     }
 
     /// Whether the constant, override, variable or function that the expression names is there, if it names one, as
-    /// [`ResolveContext::resolve`] asks.
+    /// [`ResolveContext::resolve`] requires.
     pub fn names_item(&self, expression: &Expression) -> bool
         ensures { IsTrue result ↔ NamesItem (context_view self.now) (expression_view expression.now) }
     {

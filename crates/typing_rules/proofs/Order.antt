@@ -1,4 +1,4 @@
--- In an ordered list the first rule that is left is the best one, whatever is asked.
+-- In an ordered list the first rule that is left is the best one, whatever is required.
 use Rattle.std.proofs.Common.{◌≡◌, ◌≤◌, ◌⊎◌, ℕ, zero, suc, Bool, true, false, Option, Some, None, List, [], ◌∷◌, refl, ap, sym, subst, inl, inr, ◌∙◌, arith, rules, nat_eq, cond}
 use Rattle.std.specs.Prelude.{◌&&◌, ◌==◌, nat_le, is_some, filter, slice_get, if◌then◌else◌}
 use Rattle.ir_kinds.specs.declared.scalars.ScalarKind.{ScalarKind}
@@ -215,7 +215,7 @@ covered q r s (supplied i given) h k l = cover_if q r s i (value_type_of given) 
 covered q r s concrete h k l =
     chosen_test (is_concrete r && is_concrete s) (is_concrete q) (both (all_cover (listed q.arguments) (listed r.arguments) (listed s.arguments)) _ h).1 (joined _ _ k l)
 
--- ---- all demands at once
+-- ---- all demands together
 
 abbrev meets_all : List Demand → Rule → Bool
 meets_all [] r = true

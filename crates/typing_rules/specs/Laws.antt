@@ -18,7 +18,7 @@ abbrev pub meets : Demand → Rule → Bool
 meets (supplied place given) rule = accepts_inner place given rule
 meets concrete rule = is_concrete rule
 
--- the rules that are left when one thing is asked after the other
+-- the rules that are left when one thing is required after the other
 abbrev pub left_by : List Demand → List Rule → List Rule
 left_by [] rules = rules
 left_by (demand ∷ more) rules = left_by more (filter (meets demand) rules)

@@ -118,7 +118,7 @@ impl ValueType {
         }
     }
 
-    /// How far a value of this type is from the type that is asked for, or `None` where it does not convert to it: the
+    /// How far a value of this type is from the type that is required, or `None` where it does not convert to it: the
     /// rank of the scalars where the shapes are the same.
     pub fn rank_to(self, wanted: ValueType) -> Option<u32>
         ensures { result ≡ type_rank self wanted }

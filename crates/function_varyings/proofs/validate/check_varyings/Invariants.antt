@@ -1,4 +1,4 @@
--- Those before are as they should be, and their locations are noted where that is asked.
+-- Those before are as they should be, and their locations are noted where that is required.
 use Rattle.std.proofs.Common.{ℕ, ◌<◌}
 use Rattle.ir_flags.specs.Sets.{Has}
 use Rattle.ir_flags.specs.declared.settings.TheConstants.ValidationFlags.{BINDINGS}

@@ -1,4 +1,4 @@
--- The members that were passed lie as their types ask.
+-- The members that were passed lie as their types require.
 use Rattle.std.proofs.Common.{map}
 use Rattle.ir_types.specs.Plain.{member_view}
 use Rattle.module_types.specs.Layouts.{UniformPart}
