@@ -13,7 +13,7 @@ CRATES = TOP / "crates"
 PAGE = TOP / "docs/READING.md"
 # where a reader begins: what the program writes for any bytes, and what is promised of a document that is accepted
 ROOTS = [("What is written", "IsExpected"), ("What is promised of what is accepted", "SoundText")]
-FIRST = ("shader_check", "Theorem")
+FIRST = ("shader_check", "judged.Theorem")
 HEAD = re.compile(r"^(\s*)(?:(?:abbrev|unfoldable|opaque)\s+)*(?:pub\s+)?(record|data)\s+([^\s({:]+)"
                   r"|^(\s*)(?:(?:abbrev|unfoldable|opaque)\s+)*pub\s+([^\s({:]+)[^:=]*:"
                   r"|^(\s*)(?:abbrev|unfoldable|opaque)\s+([^\s({:]+)[^:=]*:")

@@ -5,7 +5,7 @@ usage: trials.py FOLDER [SEED [HOW_MANY]]
 
 Makes random functions of all kinds of statements but those that only compute, runs them on random answers in a random number of
 steps by the machine below, which is written with exceptions and lists that change, and writes a crate into FOLDER with a
-contract for each run: that the machine of specs/Machine.antt has the same events in the same order. A check of that crate
+contract for each run: that the machine of specs/judged/Machine.antt has the same events in the same order. A check of that crate
 computes them. Its row in crates.txt, behind spec_runs:
 
     run_trials: ir_kinds ir_types ir_blocks ir_items spec_runs
@@ -385,12 +385,12 @@ BODIES = """use Rattle.std.specs.Prelude.{ℕ, true, false, List, [], ◌∷◌,
 use Rattle.ir_kinds.specs.declared.operators.UnaryOperator.TheVariants.{LogicalNot}
 use Rattle.ir_kinds.specs.declared.values.Literal.TheVariants.{Bool as Truth}
 use Rattle.ir_kinds.specs.declared.values.SwitchValue.TheVariants.{I32, U32, Default}
-use Rattle.ir_types.specs.ExpressionPlain.{PlainExpression, plain}
+use Rattle.ir_types.specs.judged.ExpressionPlain.{PlainExpression, plain}
 use Rattle.ir_types.specs.declared.expressions.Expression.TheVariants as x
 use Rattle.ir_types.specs.declared.expressions.SampleLevel.TheVariants.{Zero}
-use Rattle.ir_blocks.specs.Plain.{store, uniform_load, emit, block, if_, switch, loop, break, continue, return, kill, operation, call, PlainBlock, stop, next, no_case, case}
-use Rattle.ir_items.specs.Plain.{PlainFunction}
-use Rattle.spec_runs.specs.Worked.{of_body}
+use Rattle.ir_blocks.specs.judged.Plain.{store, uniform_load, emit, block, if_, switch, loop, break, continue, return, kill, operation, call, PlainBlock, stop, next, no_case, case}
+use Rattle.ir_items.specs.judged.Plain.{PlainFunction}
+use Rattle.spec_runs.specs.found.Worked.{of_body}
 
 abbrev pub these : List PlainExpression
 these = """
@@ -398,12 +398,12 @@ SOURCE = """//! Runs of random functions, as another machine has them.
 #![tactic(auto)]
 
 ghost use Rattle.std.specs.Prelude.{◌≡◌, [], ◌∷◌, Some, None, pos, negsuc};
-ghost use Rattle.ir_blocks.specs.Places.{here, later, inside};
-ghost use Rattle.ir_blocks.specs.Shapes.{inner, accepting, rejecting, case_at, loop_body, loop_continuing};
-ghost use Rattle.spec_runs.specs.Events.{entered, executed, introduced_expression, named, sampled, used, passed, returned, fell_off, escaped};
-ghost use Rattle.spec_runs.specs.Machine.{trace_of};
-ghost use Rattle.spec_runs.specs.Scoping.{checked_operands};
-ghost use Rattle.spec_runs.specs.Worked.{module_of};
+ghost use Rattle.ir_blocks.specs.judged.Places.{here, later, inside};
+ghost use Rattle.ir_blocks.specs.judged.Shapes.{inner, accepting, rejecting, case_at, loop_body, loop_continuing};
+ghost use Rattle.spec_runs.specs.judged.Events.{entered, executed, introduced_expression, named, sampled, used, passed, returned, fell_off, escaped};
+ghost use Rattle.spec_runs.specs.judged.Machine.{trace_of};
+ghost use Rattle.spec_runs.specs.judged.Scoping.{checked_operands};
+ghost use Rattle.spec_runs.specs.found.Worked.{module_of};
 """
 
 

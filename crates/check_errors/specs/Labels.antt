@@ -1,6 +1,6 @@
 -- The labels of an error: the spans of the items that it names, each with what stands there.
 use Rattle.std.specs.Prelude.{ℕ, List, Option, Some, None, codes}
-use Rattle.ir_arena.specs.Arenas.{span_at}
+use Rattle.ir_arena.specs.found.Arenas.{span_at}
 use Rattle.ir_arena.specs.declared.span.Span.{Span}
 use Rattle.ir_faults.specs.Faults.{with_context}
 use Rattle.ir_items.specs.declared.entries.EntryPoint.{EntryPoint}

@@ -3,7 +3,7 @@ use Rattle.std.specs.Prelude.{◌≡◌, ℕ, List, [], Option, Some, None, Resu
 use Rattle.check_errors.specs.Labels.{entry_label, function_label, labelled, module_label, subject_label, variable_label}
 use Rattle.check_errors.specs.declared.labels.Label.{Label}
 use Rattle.function_entry_checks.specs.declared.error.EntryPointError.{EntryPointError}
-use Rattle.ir_arena.specs.Arenas.{value_at}
+use Rattle.ir_arena.specs.found.Arenas.{value_at}
 use Rattle.ir_arena.specs.declared.span.Span.{Span}
 use Rattle.ir_faults.specs.Faults.{error_of, spans_of}
 use Rattle.ir_faults.specs.declared.refusal.Refusal.{Refusal}

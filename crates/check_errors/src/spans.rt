@@ -3,7 +3,7 @@
 ghost use Rattle.std.specs.Prelude.{◌≡◌, IfOk, slice_get};
 ghost use Rattle.check_errors.specs.Spans.{IsSpanned, inner_label, label_in_entry, label_in_function, outer_label};
 ghost use Rattle.check_errors.specs.Labels.{labelled};
-ghost use Rattle.ir_arena.specs.Arenas.{value_at};
+ghost use Rattle.ir_arena.specs.found.Arenas.{value_at};
 ghost use Rattle.ir_faults.specs.Faults.{error_of, spans_of};
 
 use crate::error::{InvalidEntryPoint, InvalidFunction, ValidationError};

@@ -1,6 +1,6 @@
 -- The answer of a judgement.
 use Rattle.std.proofs.Common.{◌≡◌, ◌++◌, ℕ, List, string_bytes}
-use Rattle.judgement.specs.Text.{text_of}
+use Rattle.judgement.specs.judged.Text.{text_of}
 use Rattle.shader_check.specs.declared.reported.Judgement.{Judgement}
 use Rattle.check_explanation.specs.Answered.{IsAnswered, IsOfSome, verdict_of}
 use Rattle.check_explanation.specs.declared.spirv.SpirvVerdict.{SpirvVerdict}

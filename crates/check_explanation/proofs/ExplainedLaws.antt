@@ -5,21 +5,21 @@ use Rattle.document_reader.specs.declared.error.DocumentError.{DocumentError}
 use Rattle.document_reader.specs.declared.error.DocumentError.TheVariants as unread
 use Rattle.judgement.specs.declared.finding.Finding.{Finding}
 use Rattle.judgement.specs.declared.finding.Finding.TheVariants as findings
-use Rattle.document_reader.specs.Plain.{PlainDocument}
-use Rattle.document_reader.specs.Form.{Reads}
-use Rattle.shader_check.specs.Theorem.{Judged, JudgedDocument}
+use Rattle.document_reader.specs.judged.Plain.{PlainDocument}
+use Rattle.document_reader.specs.judged.Form.{Reads}
+use Rattle.shader_check.specs.judged.Theorem.{Judged, JudgedDocument}
 use Rattle.shader_check.proofs.JudgedLaws.{judged_document, judged_if, kept_in}
 use Rattle.check_explanation.specs.declared.explanation.Requested.{Requested}
 use Rattle.check_explanation.specs.declared.explanation.Explanation.{Explanation}
 use Rattle.check_explanation.specs.Explained.{IsMisread, IsRefusedAt, finding_of}
 use Rattle.check_explanation.specs.Listed.{CanReportIn, Follows, FollowsIn, FollowsOn, IsAccepted}
 use Rattle.check_explanation.specs.declared.explanation.Explanation.TheVariants.{NoDocument, Accepted, Refused}
-use Rattle.ir_items.specs.Plain.{PlainModule}
-use Rattle.judgement.specs.Steps.{IsPrepared}
-use Rattle.shader_check.specs.Examined.{IsExaminedDocument, finding_in}
+use Rattle.ir_items.specs.judged.Plain.{PlainModule}
+use Rattle.judgement.specs.judged.Steps.{IsPrepared}
+use Rattle.shader_check.specs.found.Examined.{IsExaminedDocument, finding_in}
 use Rattle.shader_check.specs.declared.examined.Examined.{Examined}
 use Rattle.shader_check.specs.declared.examined.Examined.TheVariants as examined
-use Rattle.judgement.specs.ModuleSteps.{layout}
+use Rattle.judgement.specs.judged.ModuleSteps.{layout}
 use Rattle.spirv_words.specs.declared.error.SpirvError.{SpirvError}
 use Rattle.check_explanation.specs.Answered.{IsExplained}
 use Rattle.check_explanation.specs.declared.traced.Traced.{Traced}

@@ -3,15 +3,15 @@ use Rattle.std.proofs.Common.{◌≡◌, ◌++◌, ℕ, List, string_bytes, ap, 
 use Rattle.std.specs.Int.RustNames.{bit_and}
 use Rattle.ir_flags.specs.Settings.{PlainSettings}
 use Rattle.ir_flags.specs.declared.settings.TheConstants.ValidationFlags.{BLOCKS, EXPRESSIONS, STRUCT_LAYOUTS}
-use Rattle.document_reader.specs.Plain.{PlainDocument}
-use Rattle.judgement.specs.Text.{text_of}
+use Rattle.document_reader.specs.judged.Plain.{PlainDocument}
+use Rattle.judgement.specs.judged.Text.{text_of}
 use Rattle.judgement.specs.declared.finding.Finding.{Finding}
 use Rattle.judgement.specs.declared.finding.Finding.TheVariants.{Accepted, RefusedDocument, RefusedHandles, Refused}
 use Rattle.judgement_runs.proofs.Sound.{accepted_is_sound}
-use Rattle.judgement_runs.specs.Sound.{AreChecked}
-use Rattle.judgement.specs.Reports.{IsReport}
+use Rattle.judgement_runs.specs.judged.Sound.{AreChecked}
+use Rattle.judgement.specs.judged.Reports.{IsReport}
 use Rattle.shader_check.proofs.Once.{prepared_once}
-use Rattle.shader_check.specs.Theorem.{JudgedDocument, IsReportedOf}
+use Rattle.shader_check.specs.judged.Theorem.{JudgedDocument, IsReportedOf}
 use Rattle.spirv_reader.specs.Checks.{MakesSixChecks}
 use Rattle.check_explanation.specs.Answered.{IsAnswered, IsTextOfSome, IsSoundText, verdict_of}
 use Rattle.check_explanation.specs.declared.spirv.SpirvVerdict.{SpirvVerdict}

@@ -1,16 +1,16 @@
 -- What is found of a module of SPIR-V is what is found of a document, and an accepted one is sound with its report. That the document means
 -- what the module does, no word says.
 use Rattle.std.specs.Prelude.{◌≡◌, ◌++◌, ℕ, Bool, List, string_bytes}
-use Rattle.ir_items.specs.Plain.{PlainModule}
-use Rattle.document_reader.specs.Plain.{PlainDocument}
-use Rattle.judgement.specs.Reports.{IsReport}
-use Rattle.judgement.specs.Steps.{IsFinding, IsPrepared}
-use Rattle.judgement.specs.Text.{text_of}
+use Rattle.ir_items.specs.judged.Plain.{PlainModule}
+use Rattle.document_reader.specs.judged.Plain.{PlainDocument}
+use Rattle.judgement.specs.judged.Reports.{IsReport}
+use Rattle.judgement.specs.judged.Steps.{IsFinding, IsPrepared}
+use Rattle.judgement.specs.judged.Text.{text_of}
 use Rattle.judgement.specs.declared.finding.Finding.{Finding}
 use Rattle.judgement.specs.declared.finding.Finding.TheVariants as findings
-use Rattle.judgement_runs.specs.Sound.{AreChecked, ModuleIsSound}
-use Rattle.shader_check.specs.Judgements.{IsJudgementOf}
-use Rattle.shader_check.specs.Theorem.{JudgedDocument}
+use Rattle.judgement_runs.specs.judged.Sound.{AreChecked, ModuleIsSound}
+use Rattle.shader_check.specs.found.Judgements.{IsJudgementOf}
+use Rattle.shader_check.specs.judged.Theorem.{JudgedDocument}
 use Rattle.shader_check.specs.declared.reported.Judgement.{Judgement}
 use Rattle.check_explanation.specs.Explained.{finding_of}
 use Rattle.check_explanation.specs.Listed.{FollowsIn}

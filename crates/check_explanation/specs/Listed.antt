@@ -1,17 +1,17 @@
 -- The lines that an explanation has of a document.
 use Rattle.std.specs.Prelude.{◌≡◌, ℕ, Bool, List, [], string_bytes}
-use Rattle.document_reader.specs.Form.{Reads}
-use Rattle.document_reader.specs.Plain.{PlainDocument}
+use Rattle.document_reader.specs.judged.Form.{Reads}
+use Rattle.document_reader.specs.judged.Plain.{PlainDocument}
 use Rattle.check_explanation.specs.declared.explanation.Requested.{Requested}
 use Rattle.check_explanation.specs.declared.explanation.Requested.TheVariants.{Nothing, Leaves, Report}
 use Rattle.check_explanation.specs.declared.explanation.Explanation.{Explanation}
 use Rattle.check_explanation.specs.declared.explanation.Explanation.TheVariants.{NoDocument, Accepted, Refused}
-use Rattle.ir_items.specs.Plain.{PlainModule}
-use Rattle.judgement.specs.Steps.{IsPrepared}
+use Rattle.ir_items.specs.judged.Plain.{PlainModule}
+use Rattle.judgement.specs.judged.Steps.{IsPrepared}
 use Rattle.check_report.specs.Lines.{leaf_report}
 use Rattle.check_report.specs.Rows.{AreLaid, AreLayoutsIn}
 use Rattle.check_report.specs.Reported.{IsReported}
-use Rattle.judgement.specs.Reports.{IsReport}
+use Rattle.judgement.specs.judged.Reports.{IsReport}
 use Rattle.typing_infos.specs.declared.info.ModuleInfo.{ModuleInfo}
 use Rattle.shader_check.specs.declared.examined.Examined.{Examined}
 use Rattle.shader_check.specs.declared.examined.Examined.TheVariants as examined

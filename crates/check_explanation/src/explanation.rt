@@ -5,13 +5,13 @@ ghost use Rattle.serde_json.specs.View.{view};
 ghost use Rattle.check_explanation.specs.Explained.{IsMisread, IsRefusedAt, finding_of};
 ghost use Rattle.check_explanation.specs.Objects.{IsObjectText, SaysVerdict, verdict_word};
 ghost use Rattle.check_faults.specs.Objects.{Has};
-ghost use Rattle.judgement.specs.Text.{text_of};
+ghost use Rattle.judgement.specs.judged.Text.{text_of};
 ghost use Rattle.check_explanation.specs.Listed.{CanReport, CanReportIn, Follows, FollowsIn, FollowsOn, IsAccepted, ListsAsRequested, lines_of};
-ghost use Rattle.document_reader.specs.View.{document_view};
+ghost use Rattle.document_reader.specs.found.View.{document_view};
 ghost use Rattle.document_reader.specs.declared.error.DocumentError.TheVariants.{Memory as no_memory};
-ghost use Rattle.ir_items.specs.View.{module_view};
-ghost use Rattle.shader_check.specs.Examined.{finding_in, refused_by};
-ghost use Rattle.shader_check.specs.Theorem.{Judged, JudgedDocument};
+ghost use Rattle.ir_items.specs.found.View.{module_view};
+ghost use Rattle.shader_check.specs.found.Examined.{finding_in, refused_by};
+ghost use Rattle.shader_check.specs.judged.Theorem.{Judged, JudgedDocument};
 
 use crate::refused::{RefusedItem, refused_item, value_of};
 use crate::types::type_texts;

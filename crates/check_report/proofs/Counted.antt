@@ -3,19 +3,19 @@ use Rattle.std.proofs.Common.{◌≡◌, ◌<◌, ℕ, List, [], true, Option, S
 use Rattle.std.specs.Prelude.{if◌then◌else◌}
 use Rattle.std.proofs.lemmas.List.Elements.{All-head}
 use Rattle.std.proofs.lemmas.Option.{slice_get-map}
-use Rattle.ir_arena.specs.Arenas.{value_at, value_of_entry}
+use Rattle.ir_arena.specs.found.Arenas.{value_at, value_of_entry}
 use Rattle.ir_arena.specs.declared.span.Span.{Span}
-use Rattle.ir_items.specs.GlobalPlain.{PlainGlobal}
-use Rattle.ir_items.specs.GlobalView.{values_of}
-use Rattle.ir_types.specs.Plain.{PlainInner, plain, PlainType}
+use Rattle.ir_items.specs.judged.GlobalPlain.{PlainGlobal}
+use Rattle.ir_items.specs.found.GlobalView.{values_of}
+use Rattle.ir_types.specs.judged.Plain.{PlainInner, plain, PlainType}
 use Rattle.ir_types.specs.declared.types.TypeInner.TheVariants as inner
-use Rattle.spec_interface.specs.Spaces.{array_base, counted}
-use Rattle.judgement.specs.Lines.{is_buffer, buffer_line, buffer_of}
-use Rattle.typing_layout.specs.Layout.{size, alignment}
-use Rattle.typing_layout.specs.View.{type_tree}
-use Rattle.typing_forms.specs.Order.{TypesGoBack}
-use Rattle.typing_forms.specs.Resolutions.{inner_at}
-use Rattle.typing_layout.specs.Held.{IsLayoutOf}
+use Rattle.spec_interface.specs.judged.Spaces.{array_base, counted}
+use Rattle.judgement.specs.judged.Lines.{is_buffer, buffer_line, buffer_of}
+use Rattle.typing_layout.specs.judged.Layout.{size, alignment}
+use Rattle.typing_layout.specs.judged.View.{type_tree}
+use Rattle.typing_forms.specs.judged.Order.{TypesGoBack}
+use Rattle.typing_forms.specs.judged.Resolutions.{inner_at}
+use Rattle.typing_layout.specs.found.Held.{IsLayoutOf}
 use Rattle.typing_layout.specs.declared.layout.TypeLayout.{TypeLayout}
 
 same : (b base : ℕ) → Some b ≡ Some base → b ≡ base

@@ -1,18 +1,18 @@
 -- What a module whose types are laid out gives to the walk over them.
 use Rattle.std.proofs.Common.{◌≡◌, ◌<◌, ◌≤◌, ℕ, zero, suc, List, [], ◌∷◌, Some, map, length, slice_get, option_map, sym, ap, subst, ◌∙◌, arith}
 use Rattle.std.proofs.lemmas.Option.{slice_get-map}
-use Rattle.ir_arena.specs.Arenas.{value_at, value_of_entry}
+use Rattle.ir_arena.specs.found.Arenas.{value_at, value_of_entry}
 use Rattle.ir_arena.specs.declared.span.Span.{Span}
-use Rattle.ir_items.specs.GlobalView.{values_of}
-use Rattle.ir_items.specs.Plain.{PlainModule}
-use Rattle.ir_types.specs.Plain.{PlainInner, PlainType}
+use Rattle.ir_items.specs.found.GlobalView.{values_of}
+use Rattle.ir_items.specs.judged.Plain.{PlainModule}
+use Rattle.ir_types.specs.judged.Plain.{PlainInner, PlainType}
 use Rattle.check_report.specs.Rows.{AreInRange, AreLaid}
-use Rattle.typing_forms.specs.Resolutions.{inner_at}
-use Rattle.typing_forms.specs.Sizes.{type_size}
+use Rattle.typing_forms.specs.judged.Resolutions.{inner_at}
+use Rattle.typing_forms.specs.judged.Sizes.{type_size}
 use Rattle.typing_forms.specs.declared.sizes.TheConstants.{MAX_TYPE_SIZE}
 use Rattle.typing_layout.proofs.Sizes.{size_of_tree}
-use Rattle.typing_layout.specs.Layout.{size}
-use Rattle.typing_layout.specs.View.{tree_found, tree_along, type_tree}
+use Rattle.typing_layout.specs.judged.Layout.{size}
+use Rattle.typing_layout.specs.judged.View.{tree_found, tree_along, type_tree}
 
 size_found : (types : List PlainType) (handle : ℕ) (i : PlainInner) → inner_at types handle ≡ Some i → size (type_tree types handle) ≡ type_size i
 unfolding tree_along type_tree

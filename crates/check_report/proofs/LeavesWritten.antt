@@ -2,15 +2,15 @@
 use Rattle.std.proofs.Common.{◌≡◌, ◌≢◌, ◌<◌, ◌+◌, ◌-◌, ◌*◌, ℕ, zero, suc, List, [], ◌∷◌, ◌++◌, Option, Some, None, map, length, get_or, drop, slice_get, option_map, string_bytes, codes, true, false, true≢false, ◌==◌, refl, ap, sym, subst, ◌∙◌, arith, add-one, append_assoc, append-nil}
 use Rattle.std.proofs.lemmas.Bool.{eqb-true}
 use Rattle.std.proofs.lemmas.Option.{slice_get-map}
-use Rattle.ir_types.specs.Plain.{PlainMember, PlainInner, PlainType, member_view}
+use Rattle.ir_types.specs.judged.Plain.{PlainMember, PlainInner, PlainType, member_view}
 use Rattle.ir_types.specs.declared.types.StructMember.{StructMember}
 use Rattle.check_report.proofs.Listed.{repeated_last, split_at}
 use Rattle.check_report.specs.Lines.{leaf_line, leaf_lines, path_word}
 use Rattle.check_report.specs.Paths.{dot_after, named, numbered, parts_at, parts_found, parts_of_found, to_element, to_found, to_member, path_along}
 use Rattle.spec_buffers.specs.Leaves.{Leaf, leaf, inside, leaves, member_leaves, repeated}
-use Rattle.typing_forms.specs.Resolutions.{inner_at}
-use Rattle.typing_layout.specs.Tree.{Tree}
-use Rattle.typing_layout.specs.View.{members_by, tree_by, tree_along}
+use Rattle.typing_forms.specs.judged.Resolutions.{inner_at}
+use Rattle.typing_layout.specs.judged.Tree.{Tree}
+use Rattle.typing_layout.specs.judged.View.{members_by, tree_by, tree_along}
 
 lines_append : (text : List ℕ → List ℕ) (start : ℕ) (xs ys : List Leaf) → leaf_lines text start (xs ++ ys) ≡ leaf_lines text start xs ++ leaf_lines text start ys
 lines_append text start [] ys = refl

@@ -1,14 +1,14 @@
 -- One element or member more, and what lies at a handle.
 use Rattle.std.proofs.Common.{◌≡◌, ◌≢◌, ◌<◌, ◌≤◌, ◌+◌, ◌-◌, ◌*◌, ℕ, zero, suc, List, [], ◌∷◌, ◌++◌, Some, None, map, length, get_or, drop, refl, ap, sym, ◌∙◌, arith, add-one, append_assoc, append-nil}
 use Rattle.std.proofs.Math.Seq.{drop-cons}
-use Rattle.ir_types.specs.Plain.{PlainInner, PlainType, member_view}
+use Rattle.ir_types.specs.judged.Plain.{PlainInner, PlainType, member_view}
 use Rattle.ir_types.specs.declared.types.StructMember.{StructMember}
 use Rattle.check_report.specs.Rows.{row, rows}
 use Rattle.check_report.specs.declared.leaves.Leaf.{Leaf}
 use Rattle.spec_buffers.specs.Leaves.{Leaf as Place, inside, leaves, member_leaves, repeated}
-use Rattle.typing_forms.specs.Resolutions.{inner_at}
-use Rattle.typing_layout.specs.Tree.{Tree}
-use Rattle.typing_layout.specs.View.{members_by, tree_by, tree_found, tree_along}
+use Rattle.typing_forms.specs.judged.Resolutions.{inner_at}
+use Rattle.typing_layout.specs.judged.Tree.{Tree}
+use Rattle.typing_layout.specs.judged.View.{members_by, tree_by, tree_found, tree_along}
 
 rows_append : (start : ℕ) (xs ys : List Place) → rows start (xs ++ ys) ≡ rows start xs ++ rows start ys
 rows_append start [] ys = refl

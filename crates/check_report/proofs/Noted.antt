@@ -1,10 +1,10 @@
 -- The uses and the pairs of an entry point's function, with uses noted of its own variables.
 use Rattle.std.proofs.Common.{◌≡◌, ◌⊎◌, ◌||◌, inl, inr, ℕ, Bool, true, false, true≢false, Option, Some, refl, sym, ap, ◌∙◌}
 use Rattle.spec_analysis.specs.declared.sampling.GlobalOrArgument.TheVariants.{Global}
-use Rattle.ir_items.specs.Plain.{PlainEntry}
+use Rattle.ir_items.specs.judged.Plain.{PlainEntry}
 use Rattle.check_report.specs.Laws.{NotedIsReported}
-use Rattle.spec_interface.specs.Uses.{OwnUse}
-use Rattle.judgement.specs.Lines.{is_at, is_own, mesh_output}
+use Rattle.spec_interface.specs.judged.Uses.{OwnUse}
+use Rattle.judgement.specs.judged.Lines.{is_at, is_own, mesh_output}
 use Rattle.std.proofs.lemmas.Bool.{eq-eqb}
 
 at_itself : (own : Option ℕ) (g : ℕ) → own ≡ Some g → is_at own g ≡ true

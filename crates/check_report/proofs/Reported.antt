@@ -2,21 +2,21 @@
 use Rattle.std.proofs.Common.{◌≡◌, ◌<◌, ◌+◌, ℕ, zero, suc, List, [], ◌∷◌, ◌++◌, true, Option, Some, None, unwrap_or, length, drop, slice_get, refl, sym, ap, subst, ◌∙◌, arith, append_assoc, append-nil}
 use Rattle.std.specs.Prelude.{if◌then◌else◌}
 use Rattle.std.proofs.lemmas.List.Elements.{All-head}
-use Rattle.ir_items.specs.GlobalPlain.{PlainGlobal}
-use Rattle.ir_types.specs.Plain.{PlainInner, plain, PlainType}
+use Rattle.ir_items.specs.judged.GlobalPlain.{PlainGlobal}
+use Rattle.ir_types.specs.judged.Plain.{PlainInner, plain, PlainType}
 use Rattle.ir_types.specs.declared.types.TypeInner.TheVariants as inner
 use Rattle.check_report.proofs.Along.{all_along}
 use Rattle.check_report.specs.Lines.{described, leaf_lines, leaves_of}
 use Rattle.check_report.specs.Paths.{parts_at, path_along}
 use Rattle.spec_buffers.specs.Laws.{buffer_type}
 use Rattle.spec_buffers.specs.Leaves.{leaves}
-use Rattle.spec_interface.specs.Spaces.{array_base, counted}
-use Rattle.judgement.specs.Lines.{each_from, is_buffer, buffer_line}
-use Rattle.typing_forms.specs.Order.{TypesGoBack}
-use Rattle.typing_forms.specs.Resolutions.{inner_at}
-use Rattle.typing_layout.specs.Held.{IsLayoutOf}
-use Rattle.typing_layout.specs.Layout.{size, alignment}
-use Rattle.typing_layout.specs.View.{tree_along, type_tree}
+use Rattle.spec_interface.specs.judged.Spaces.{array_base, counted}
+use Rattle.judgement.specs.judged.Lines.{each_from, is_buffer, buffer_line}
+use Rattle.typing_forms.specs.judged.Order.{TypesGoBack}
+use Rattle.typing_forms.specs.judged.Resolutions.{inner_at}
+use Rattle.typing_layout.specs.found.Held.{IsLayoutOf}
+use Rattle.typing_layout.specs.judged.Layout.{size, alignment}
+use Rattle.typing_layout.specs.judged.View.{tree_along, type_tree}
 use Rattle.typing_layout.specs.declared.layout.TypeLayout.{TypeLayout}
 
 -- ---- the type that counts is there

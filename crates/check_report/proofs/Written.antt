@@ -3,15 +3,15 @@ use Rattle.std.proofs.Common.{◌≡◌, ◌≤◌, ◌+◌, ◌⊎◌, inl, inr
 use Rattle.std.specs.List.{cons_option}
 use Rattle.std.specs.Prelude.{◌↔◌}
 use Rattle.std.proofs.lemmas.List.{append_assoc, append-nil, drop_all, flat_map_more}
-use Rattle.spec_analysis.specs.Pairs.{SamplingPair}
+use Rattle.spec_analysis.specs.judged.Pairs.{SamplingPair}
 use Rattle.spec_analysis.specs.declared.sampling.GlobalOrArgument.{GlobalOrArgument}
 use Rattle.spec_analysis.specs.declared.sampling.GlobalOrArgument.TheVariants.{Argument, Global}
 use Rattle.typing_infos.specs.declared.function_info.FunctionInfo.{FunctionInfo}
-use Rattle.ir_items.specs.Plain.{PlainEntry, PlainModule}
+use Rattle.ir_items.specs.judged.Plain.{PlainEntry, PlainModule}
 use Rattle.check_report.specs.Reported.{numbers_in, numbers_of, IsEntryInfo, Tells, AreLinesOf, AreEntryLines}
-use Rattle.typing_rules.specs.Laws.{IsAmong}
-use Rattle.judgement.specs.Lines.{each_from}
-use Rattle.judgement.specs.Reports.{IsEntryReport}
+use Rattle.typing_rules.specs.judged.Laws.{IsAmong}
+use Rattle.judgement.specs.judged.Lines.{each_from}
+use Rattle.judgement.specs.judged.Reports.{IsEntryReport}
 
 -- one piece more
 pub further : (before middle after a b : List ℕ) → middle ≡ before ++ a → after ≡ middle ++ b → after ≡ before ++ (a ++ b)

@@ -1,14 +1,14 @@
 -- The lines of buffers and of their leaves, each ended by a line feed.
 use Rattle.std.specs.Prelude.{ℕ, ◌+◌, List, [], ◌∷◌, ◌++◌, if◌then◌else◌, codes, decimal}
-use Rattle.ir_items.specs.GlobalPlain.{PlainGlobal}
-use Rattle.ir_items.specs.Plain.{PlainModule}
-use Rattle.ir_types.specs.Plain.{PlainType}
+use Rattle.ir_items.specs.judged.GlobalPlain.{PlainGlobal}
+use Rattle.ir_items.specs.judged.Plain.{PlainModule}
+use Rattle.ir_types.specs.judged.Plain.{PlainType}
 use Rattle.check_report.specs.Paths.{path_along, parts_at}
 use Rattle.spec_buffers.specs.Laws.{buffer_type}
 use Rattle.spec_buffers.specs.Leaves.{Leaf, leaves}
-use Rattle.spec_interface.specs.Spaces.{counted}
-use Rattle.judgement.specs.Lines.{each_from, is_buffer, buffer_line}
-use Rattle.typing_layout.specs.Layout.{size, alignment}
+use Rattle.spec_interface.specs.judged.Spaces.{counted}
+use Rattle.judgement.specs.judged.Lines.{each_from, is_buffer, buffer_line}
+use Rattle.typing_layout.specs.judged.Layout.{size, alignment}
 
 -- a path of no steps is written as a dot
 abbrev pub path_word : (path : List ℕ) → List ℕ

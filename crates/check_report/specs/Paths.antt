@@ -1,9 +1,9 @@
 -- The paths of leaves as text.
 use Rattle.std.specs.Prelude.{ℕ, List, [], ◌∷◌, ◌++◌, Bool, true, false, ◌||◌, ◌&&◌, not, ◌==◌, if◌then◌else◌, Option, Some, None, slice_get, codes, decimal}
 use Rattle.std.specs.Char.{is_ascii, is_ascii_digit, is_ascii_alphanumeric}
-use Rattle.ir_types.specs.Plain.{PlainMember, PlainInner, struct, plain, PlainType}
+use Rattle.ir_types.specs.judged.Plain.{PlainMember, PlainInner, struct, plain, PlainType}
 use Rattle.ir_types.specs.declared.types.TypeInner.TheVariants as inner
-use Rattle.typing_forms.specs.Resolutions.{inner_at}
+use Rattle.typing_forms.specs.judged.Resolutions.{inner_at}
 
 -- ---- the steps of a path
 

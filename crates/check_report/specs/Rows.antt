@@ -1,18 +1,18 @@
 -- The leaves of a global variable as they are listed.
 use Rattle.std.specs.Prelude.{◌≡◌, ◌≤◌, ◌<◌, ◌+◌, ◌*◌, ℕ, List, Some, map, length, slice_get}
-use Rattle.ir_items.specs.GlobalPlain.{PlainGlobal}
-use Rattle.ir_items.specs.Plain.{PlainModule}
-use Rattle.ir_types.specs.Plain.{PlainInner, PlainType}
+use Rattle.ir_items.specs.judged.GlobalPlain.{PlainGlobal}
+use Rattle.ir_items.specs.judged.Plain.{PlainModule}
+use Rattle.ir_types.specs.judged.Plain.{PlainInner, PlainType}
 use Rattle.check_report.specs.declared.leaves.Leaf.{Leaf}
 use Rattle.typing_infos.specs.declared.info.ModuleInfo.{ModuleInfo}
 use Rattle.spec_buffers.specs.Laws.{buffer_type}
 use Rattle.spec_buffers.specs.Leaves.{Leaf as Place, leaves}
-use Rattle.typing_forms.specs.Resolutions.{inner_at}
-use Rattle.typing_forms.specs.Sizes.{type_size}
+use Rattle.typing_forms.specs.judged.Resolutions.{inner_at}
+use Rattle.typing_forms.specs.judged.Sizes.{type_size}
 use Rattle.typing_forms.specs.declared.sizes.TheConstants.{MAX_TYPE_SIZE}
-use Rattle.typing_layout.specs.Held.{AreLayouts}
-use Rattle.typing_layout.specs.Layout.{LayoutOK}
-use Rattle.typing_layout.specs.View.{type_tree}
+use Rattle.typing_layout.specs.found.Held.{AreLayouts}
+use Rattle.typing_layout.specs.judged.Layout.{LayoutOK}
+use Rattle.typing_layout.specs.judged.View.{type_tree}
 
 -- a leaf of a value that begins at a byte, without its path
 abbrev pub row : (start : ℕ) → Place → Leaf

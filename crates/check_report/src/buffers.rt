@@ -1,12 +1,12 @@
 //! The lines of buffers.
 
 ghost use Rattle.std.specs.Prelude.{◌≡◌, ◌++◌, ◌<◌, OnOk, Some, length, string_bytes};
-ghost use Rattle.ir_items.specs.GlobalView.{global_view};
-ghost use Rattle.ir_items.specs.View.{module_view};
-ghost use Rattle.ir_types.specs.Plain.{inner_view};
+ghost use Rattle.ir_items.specs.found.GlobalView.{global_view};
+ghost use Rattle.ir_items.specs.found.View.{module_view};
+ghost use Rattle.ir_types.specs.judged.Plain.{inner_view};
 ghost use Rattle.check_report.specs.Reported.{AreLaid, IsReported};
-ghost use Rattle.spec_interface.specs.Spaces.{array_base, counted};
-ghost use Rattle.judgement.specs.Lines.{is_buffer, buffer_of, buffers};
+ghost use Rattle.spec_interface.specs.judged.Spaces.{array_base, counted};
+ghost use Rattle.judgement.specs.judged.Lines.{is_buffer, buffer_of, buffers};
 
 use crate::lines::write_buffer;
 use ir_arena::handle::Handle;

@@ -1,9 +1,9 @@
 //! The lines of entry points.
 
 ghost use Rattle.std.specs.Prelude.{◌≡◌, ◌++◌, OnOk, length, string_bytes};
-ghost use Rattle.ir_items.specs.View.{entry_view, module_view};
+ghost use Rattle.ir_items.specs.found.View.{entry_view, module_view};
 ghost use Rattle.check_report.specs.Reported.{IsReported, Tells, AreLinesOf, AreEntryLines};
-ghost use Rattle.judgement.specs.Lines.{each_from, mesh_output, is_at, is_own, global_line, variable_lines};
+ghost use Rattle.judgement.specs.judged.Lines.{each_from, mesh_output, is_at, is_own, global_line, variable_lines};
 
 use crate::lines::{is_used, write_global, write_head, write_own};
 use crate::pairs::write_samples;

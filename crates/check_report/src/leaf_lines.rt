@@ -1,15 +1,15 @@
 //! The lines of the leaves of a value, in the order of their paths.
 
 ghost use Rattle.std.specs.Prelude.{◌≡◌, ◌<◌, ◌≤◌, ◌+◌, ◌*◌, ◌++◌, ◌∷◌, [], map, OnOk, string_bytes};
-ghost use Rattle.ir_types.specs.Plain.{inner_view, member_view};
+ghost use Rattle.ir_types.specs.judged.Plain.{inner_view, member_view};
 ghost use Rattle.check_report.specs.Lines.{leaf_line, leaf_lines, path_word};
 ghost use Rattle.check_report.specs.Paths.{named, numbered, parts_at, parts_by, path_along};
 ghost use Rattle.check_report.specs.Rows.{AreInRange, HasRoom};
 ghost use Rattle.spec_buffers.specs.Leaves.{leaf, leaves, member_leaves, repeated};
-ghost use Rattle.typing_forms.specs.Resolutions.{types_view};
-ghost use Rattle.typing_forms.specs.Sizes.{type_size};
+ghost use Rattle.typing_forms.specs.judged.Resolutions.{types_view};
+ghost use Rattle.typing_forms.specs.judged.Sizes.{type_size};
 ghost use Rattle.typing_forms.specs.declared.sizes.TheConstants.{MAX_TYPE_SIZE};
-ghost use Rattle.typing_layout.specs.View.{members_by, tree_by, tree_along};
+ghost use Rattle.typing_layout.specs.judged.View.{members_by, tree_by, tree_along};
 
 use crate::leaves::{counted, vector_alignment};
 use crate::paths::{to_element, to_member};

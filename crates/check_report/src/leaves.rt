@@ -1,13 +1,13 @@
 //! The leaves of a value, in the order of their paths.
 
 ghost use Rattle.std.specs.Prelude.{◌≡◌, ◌<◌, ◌≤◌, ◌+◌, ◌*◌, ◌^◌, ◌++◌, ◌∷◌, [], map, OnOk};
-ghost use Rattle.ir_types.specs.Plain.{inner_view, member_view};
+ghost use Rattle.ir_types.specs.judged.Plain.{inner_view, member_view};
 ghost use Rattle.check_report.specs.Rows.{rows, AreInRange, HasRoom};
 ghost use Rattle.spec_buffers.specs.Leaves.{leaves, member_leaves, repeated};
-ghost use Rattle.typing_forms.specs.Resolutions.{types_view};
-ghost use Rattle.typing_forms.specs.Sizes.{counted, type_size, vector_alignment};
+ghost use Rattle.typing_forms.specs.judged.Resolutions.{types_view};
+ghost use Rattle.typing_forms.specs.judged.Sizes.{counted, type_size, vector_alignment};
 ghost use Rattle.typing_forms.specs.declared.sizes.TheConstants.{MAX_TYPE_SIZE};
-ghost use Rattle.typing_layout.specs.View.{members_by, tree_by, tree_along};
+ghost use Rattle.typing_layout.specs.judged.View.{members_by, tree_by, tree_along};
 
 use ir_arena::handle::Handle;
 use ir_kinds::VectorSize;

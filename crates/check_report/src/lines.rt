@@ -1,7 +1,7 @@
 //! Lines that are written after a text.
 
 ghost use Rattle.std.specs.Prelude.{◌≡◌, ◌++◌, OnOk, string_bytes, codes, decimal};
-ghost use Rattle.judgement.specs.Lines.{buffer_line, head_line, own_line, has, is_used, word_if, use_words, pair_line};
+ghost use Rattle.judgement.specs.judged.Lines.{buffer_line, head_line, own_line, has, is_used, word_if, use_words, pair_line};
 
 use bitflags::Flags;
 use ir_arena::handle::Handle;

@@ -1,12 +1,12 @@
 //! The lines of buffers, each with those of its leaves.
 
 ghost use Rattle.std.specs.Prelude.{◌≡◌, ◌<◌, ◌++◌, IfOk, OnOk, length, string_bytes};
-ghost use Rattle.ir_items.specs.GlobalView.{global_view};
-ghost use Rattle.ir_items.specs.View.{module_view};
+ghost use Rattle.ir_items.specs.found.GlobalView.{global_view};
+ghost use Rattle.ir_items.specs.found.View.{module_view};
 ghost use Rattle.check_report.specs.Lines.{described, leaf_report};
 ghost use Rattle.check_report.specs.Rows.{AreLaid, AreLayoutsIn};
 ghost use Rattle.spec_handles.specs.InOrder.{HandlesOK};
-ghost use Rattle.judgement.specs.Lines.{buffer_line, is_buffer};
+ghost use Rattle.judgement.specs.judged.Lines.{buffer_line, is_buffer};
 
 use crate::leaf_buffers::counted;
 use crate::leaf_lines::write_along;

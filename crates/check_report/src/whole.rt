@@ -1,9 +1,9 @@
 //! The whole report.
 
 ghost use Rattle.std.specs.Prelude.{IfOk, string_bytes};
-ghost use Rattle.ir_items.specs.View.{module_view};
+ghost use Rattle.ir_items.specs.found.View.{module_view};
 ghost use Rattle.check_report.specs.Reported.{IsReported};
-ghost use Rattle.judgement.specs.Reports.{IsReport};
+ghost use Rattle.judgement.specs.judged.Reports.{IsReport};
 
 use crate::buffers::write_buffers;
 use crate::entries::write_entries;

@@ -1,3 +1,2 @@
-pub mod Kinds
-pub mod Form
-pub mod Expressions
+pub mod judged
+pub mod found

@@ -1,9 +1,9 @@
 // Expressions, each kind by a function of its own.
 ghost use Rattle.std.specs.Prelude.{◌≡◌, option_map};
 ghost use Rattle.serde_json.specs.View.{view as data_of, items_view};
-ghost use Rattle.ir_types.specs.ExpressionPlain.{PlainExpression, expression_view};
-ghost use Rattle.document_forms.specs.Answers.{Answers};
-ghost use Rattle.document_expressions.specs.Expressions.{expression_with, an_expression};
+ghost use Rattle.ir_types.specs.judged.ExpressionPlain.{PlainExpression, expression_view};
+ghost use Rattle.document_forms.specs.found.Answers.{Answers};
+ghost use Rattle.document_expressions.specs.found.Expressions.{expression_with, an_expression};
 
 use crate::images::{LevelForm, PatternForm, QueryForm};
 use crate::kinds::ExpressionKind;
@@ -23,7 +23,7 @@ type T = At<key::IrType>;
 
 type E = At<key::Expression>;
 
-#[tactic(auto, unfolding(crate::specs::Expressions::expression_with))]
+#[tactic(auto, unfolding(crate::specs::found::Expressions::expression_with))]
 fn literal(alloc: Global, rest: &[Value]) -> Result<Expression, ReadError>
     ensures { Answers result (λ found. option_map expression_view found ≡ expression_with ExpressionKind.Literal (items_view rest.now)) }
 {
@@ -31,7 +31,7 @@ fn literal(alloc: Global, rest: &[Value]) -> Result<Expression, ReadError>
     Ok(Expression::Literal(literal))
 }
 
-#[tactic(auto, unfolding(crate::specs::Expressions::expression_with))]
+#[tactic(auto, unfolding(crate::specs::found::Expressions::expression_with))]
 fn constant(alloc: Global, rest: &[Value]) -> Result<Expression, ReadError>
     ensures { Answers result (λ found. option_map expression_view found ≡ expression_with ExpressionKind.Constant (items_view rest.now)) }
 {
@@ -39,7 +39,7 @@ fn constant(alloc: Global, rest: &[Value]) -> Result<Expression, ReadError>
     Ok(Expression::Constant(handle))
 }
 
-#[tactic(auto, unfolding(crate::specs::Expressions::expression_with))]
+#[tactic(auto, unfolding(crate::specs::found::Expressions::expression_with))]
 fn override_value(alloc: Global, rest: &[Value]) -> Result<Expression, ReadError>
     ensures { Answers result (λ found. option_map expression_view found ≡ expression_with ExpressionKind.Override (items_view rest.now)) }
 {
@@ -47,7 +47,7 @@ fn override_value(alloc: Global, rest: &[Value]) -> Result<Expression, ReadError
     Ok(Expression::Override(handle))
 }
 
-#[tactic(auto, unfolding(crate::specs::Expressions::expression_with))]
+#[tactic(auto, unfolding(crate::specs::found::Expressions::expression_with))]
 fn zero_value(alloc: Global, rest: &[Value]) -> Result<Expression, ReadError>
     ensures { Answers result (λ found. option_map expression_view found ≡ expression_with ExpressionKind.ZeroValue (items_view rest.now)) }
 {
@@ -55,7 +55,7 @@ fn zero_value(alloc: Global, rest: &[Value]) -> Result<Expression, ReadError>
     Ok(Expression::ZeroValue(ty))
 }
 
-#[tactic(auto, unfolding(crate::specs::Expressions::expression_with))]
+#[tactic(auto, unfolding(crate::specs::found::Expressions::expression_with))]
 fn compose(alloc: Global, rest: &[Value]) -> Result<Expression, ReadError>
     ensures { Answers result (λ found. option_map expression_view found ≡ expression_with ExpressionKind.Compose (items_view rest.now)) }
 {
@@ -63,7 +63,7 @@ fn compose(alloc: Global, rest: &[Value]) -> Result<Expression, ReadError>
     Ok(Expression::Compose { ty, components })
 }
 
-#[tactic(auto, unfolding(crate::specs::Expressions::expression_with))]
+#[tactic(auto, unfolding(crate::specs::found::Expressions::expression_with))]
 fn access(alloc: Global, rest: &[Value]) -> Result<Expression, ReadError>
     ensures { Answers result (λ found. option_map expression_view found ≡ expression_with ExpressionKind.Access (items_view rest.now)) }
 {
@@ -71,7 +71,7 @@ fn access(alloc: Global, rest: &[Value]) -> Result<Expression, ReadError>
     Ok(Expression::Access { base, index })
 }
 
-#[tactic(auto, unfolding(crate::specs::Expressions::expression_with))]
+#[tactic(auto, unfolding(crate::specs::found::Expressions::expression_with))]
 fn access_index(alloc: Global, rest: &[Value]) -> Result<Expression, ReadError>
     ensures { Answers result (λ found. option_map expression_view found ≡ expression_with ExpressionKind.AccessIndex (items_view rest.now)) }
 {
@@ -79,7 +79,7 @@ fn access_index(alloc: Global, rest: &[Value]) -> Result<Expression, ReadError>
     Ok(Expression::AccessIndex { base, index })
 }
 
-#[tactic(auto, unfolding(crate::specs::Expressions::expression_with))]
+#[tactic(auto, unfolding(crate::specs::found::Expressions::expression_with))]
 fn splat(alloc: Global, rest: &[Value]) -> Result<Expression, ReadError>
     ensures { Answers result (λ found. option_map expression_view found ≡ expression_with ExpressionKind.Splat (items_view rest.now)) }
 {
@@ -87,7 +87,7 @@ fn splat(alloc: Global, rest: &[Value]) -> Result<Expression, ReadError>
     Ok(Expression::Splat { size, value })
 }
 
-#[tactic(auto, unfolding(crate::specs::Expressions::expression_with))]
+#[tactic(auto, unfolding(crate::specs::found::Expressions::expression_with))]
 fn swizzle(alloc: Global, rest: &[Value]) -> Result<Expression, ReadError>
     ensures { Answers result (λ found. option_map expression_view found ≡ expression_with ExpressionKind.Swizzle (items_view rest.now)) }
 {
@@ -99,7 +99,7 @@ fn swizzle(alloc: Global, rest: &[Value]) -> Result<Expression, ReadError>
     })
 }
 
-#[tactic(auto, unfolding(crate::specs::Expressions::expression_with))]
+#[tactic(auto, unfolding(crate::specs::found::Expressions::expression_with))]
 fn function_argument(alloc: Global, rest: &[Value]) -> Result<Expression, ReadError>
     ensures { Answers result (λ found. option_map expression_view found ≡ expression_with ExpressionKind.FunctionArgument (items_view rest.now)) }
 {
@@ -107,7 +107,7 @@ fn function_argument(alloc: Global, rest: &[Value]) -> Result<Expression, ReadEr
     Ok(Expression::FunctionArgument(index))
 }
 
-#[tactic(auto, unfolding(crate::specs::Expressions::expression_with))]
+#[tactic(auto, unfolding(crate::specs::found::Expressions::expression_with))]
 fn global_variable(alloc: Global, rest: &[Value]) -> Result<Expression, ReadError>
     ensures { Answers result (λ found. option_map expression_view found ≡ expression_with ExpressionKind.GlobalVariable (items_view rest.now)) }
 {
@@ -115,7 +115,7 @@ fn global_variable(alloc: Global, rest: &[Value]) -> Result<Expression, ReadErro
     Ok(Expression::GlobalVariable(handle))
 }
 
-#[tactic(auto, unfolding(crate::specs::Expressions::expression_with))]
+#[tactic(auto, unfolding(crate::specs::found::Expressions::expression_with))]
 fn local_variable(alloc: Global, rest: &[Value]) -> Result<Expression, ReadError>
     ensures { Answers result (λ found. option_map expression_view found ≡ expression_with ExpressionKind.LocalVariable (items_view rest.now)) }
 {
@@ -123,7 +123,7 @@ fn local_variable(alloc: Global, rest: &[Value]) -> Result<Expression, ReadError
     Ok(Expression::LocalVariable(handle))
 }
 
-#[tactic(auto, unfolding(crate::specs::Expressions::expression_with))]
+#[tactic(auto, unfolding(crate::specs::found::Expressions::expression_with))]
 fn load(alloc: Global, rest: &[Value]) -> Result<Expression, ReadError>
     ensures { Answers result (λ found. option_map expression_view found ≡ expression_with ExpressionKind.Load (items_view rest.now)) }
 {
@@ -131,7 +131,7 @@ fn load(alloc: Global, rest: &[Value]) -> Result<Expression, ReadError>
     Ok(Expression::Load { pointer })
 }
 
-#[tactic(auto, unfolding(crate::specs::Expressions::expression_with))]
+#[tactic(auto, unfolding(crate::specs::found::Expressions::expression_with))]
 fn image_sample(alloc: Global, rest: &[Value]) -> Result<Expression, ReadError>
     ensures { Answers result (λ found. option_map expression_view found ≡ expression_with ExpressionKind.ImageSample (items_view rest.now)) }
 {
@@ -162,7 +162,7 @@ fn image_sample(alloc: Global, rest: &[Value]) -> Result<Expression, ReadError>
     })
 }
 
-#[tactic(auto, unfolding(crate::specs::Expressions::expression_with))]
+#[tactic(auto, unfolding(crate::specs::found::Expressions::expression_with))]
 fn image_load(alloc: Global, rest: &[Value]) -> Result<Expression, ReadError>
     ensures { Answers result (λ found. option_map expression_view found ≡ expression_with ExpressionKind.ImageLoad (items_view rest.now)) }
 {
@@ -178,7 +178,7 @@ fn image_load(alloc: Global, rest: &[Value]) -> Result<Expression, ReadError>
     })
 }
 
-#[tactic(auto, unfolding(crate::specs::Expressions::expression_with))]
+#[tactic(auto, unfolding(crate::specs::found::Expressions::expression_with))]
 fn image_query(alloc: Global, rest: &[Value]) -> Result<Expression, ReadError>
     ensures { Answers result (λ found. option_map expression_view found ≡ expression_with ExpressionKind.ImageQuery (items_view rest.now)) }
 {
@@ -186,7 +186,7 @@ fn image_query(alloc: Global, rest: &[Value]) -> Result<Expression, ReadError>
     Ok(Expression::ImageQuery { image, query })
 }
 
-#[tactic(auto, unfolding(crate::specs::Expressions::expression_with))]
+#[tactic(auto, unfolding(crate::specs::found::Expressions::expression_with))]
 fn unary(alloc: Global, rest: &[Value]) -> Result<Expression, ReadError>
     ensures { Answers result (λ found. option_map expression_view found ≡ expression_with ExpressionKind.Unary (items_view rest.now)) }
 {
@@ -194,7 +194,7 @@ fn unary(alloc: Global, rest: &[Value]) -> Result<Expression, ReadError>
     Ok(Expression::Unary { op, expr })
 }
 
-#[tactic(auto, unfolding(crate::specs::Expressions::expression_with))]
+#[tactic(auto, unfolding(crate::specs::found::Expressions::expression_with))]
 fn binary(alloc: Global, rest: &[Value]) -> Result<Expression, ReadError>
     ensures { Answers result (λ found. option_map expression_view found ≡ expression_with ExpressionKind.Binary (items_view rest.now)) }
 {
@@ -202,7 +202,7 @@ fn binary(alloc: Global, rest: &[Value]) -> Result<Expression, ReadError>
     Ok(Expression::Binary { op, left, right })
 }
 
-#[tactic(auto, unfolding(crate::specs::Expressions::expression_with))]
+#[tactic(auto, unfolding(crate::specs::found::Expressions::expression_with))]
 fn select(alloc: Global, rest: &[Value]) -> Result<Expression, ReadError>
     ensures { Answers result (λ found. option_map expression_view found ≡ expression_with ExpressionKind.Select (items_view rest.now)) }
 {
@@ -214,7 +214,7 @@ fn select(alloc: Global, rest: &[Value]) -> Result<Expression, ReadError>
     })
 }
 
-#[tactic(auto, unfolding(crate::specs::Expressions::expression_with))]
+#[tactic(auto, unfolding(crate::specs::found::Expressions::expression_with))]
 fn derivative(alloc: Global, rest: &[Value]) -> Result<Expression, ReadError>
     ensures { Answers result (λ found. option_map expression_view found ≡ expression_with ExpressionKind.Derivative (items_view rest.now)) }
 {
@@ -224,7 +224,7 @@ fn derivative(alloc: Global, rest: &[Value]) -> Result<Expression, ReadError>
     Ok(Expression::Derivative { axis, ctrl, expr })
 }
 
-#[tactic(auto, unfolding(crate::specs::Expressions::expression_with))]
+#[tactic(auto, unfolding(crate::specs::found::Expressions::expression_with))]
 fn relational(alloc: Global, rest: &[Value]) -> Result<Expression, ReadError>
     ensures { Answers result (λ found. option_map expression_view found ≡ expression_with ExpressionKind.Relational (items_view rest.now)) }
 {
@@ -232,7 +232,7 @@ fn relational(alloc: Global, rest: &[Value]) -> Result<Expression, ReadError>
     Ok(Expression::Relational { fun, argument })
 }
 
-#[tactic(auto, unfolding(crate::specs::Expressions::expression_with))]
+#[tactic(auto, unfolding(crate::specs::found::Expressions::expression_with))]
 fn math(alloc: Global, rest: &[Value]) -> Result<Expression, ReadError>
     ensures { Answers result (λ found. option_map expression_view found ≡ expression_with ExpressionKind.Math (items_view rest.now)) }
 {
@@ -248,7 +248,7 @@ fn math(alloc: Global, rest: &[Value]) -> Result<Expression, ReadError>
     })
 }
 
-#[tactic(auto, unfolding(crate::specs::Expressions::expression_with))]
+#[tactic(auto, unfolding(crate::specs::found::Expressions::expression_with))]
 fn conversion(alloc: Global, rest: &[Value]) -> Result<Expression, ReadError>
     ensures { Answers result (λ found. option_map expression_view found ≡ expression_with ExpressionKind.As (items_view rest.now)) }
 {
@@ -260,7 +260,7 @@ fn conversion(alloc: Global, rest: &[Value]) -> Result<Expression, ReadError>
     })
 }
 
-#[tactic(auto, unfolding(crate::specs::Expressions::expression_with))]
+#[tactic(auto, unfolding(crate::specs::found::Expressions::expression_with))]
 fn call_result(alloc: Global, rest: &[Value]) -> Result<Expression, ReadError>
     ensures { Answers result (λ found. option_map expression_view found ≡ expression_with ExpressionKind.CallResult (items_view rest.now)) }
 {
@@ -268,7 +268,7 @@ fn call_result(alloc: Global, rest: &[Value]) -> Result<Expression, ReadError>
     Ok(Expression::CallResult(function))
 }
 
-#[tactic(auto, unfolding(crate::specs::Expressions::expression_with))]
+#[tactic(auto, unfolding(crate::specs::found::Expressions::expression_with))]
 fn atomic_result(alloc: Global, rest: &[Value]) -> Result<Expression, ReadError>
     ensures { Answers result (λ found. option_map expression_view found ≡ expression_with ExpressionKind.AtomicResult (items_view rest.now)) }
 {
@@ -276,7 +276,7 @@ fn atomic_result(alloc: Global, rest: &[Value]) -> Result<Expression, ReadError>
     Ok(Expression::AtomicResult { ty, comparison })
 }
 
-#[tactic(auto, unfolding(crate::specs::Expressions::expression_with))]
+#[tactic(auto, unfolding(crate::specs::found::Expressions::expression_with))]
 fn uniform_load_result(alloc: Global, rest: &[Value]) -> Result<Expression, ReadError>
     ensures { Answers result (λ found. option_map expression_view found ≡ expression_with ExpressionKind.WorkGroupUniformLoadResult (items_view rest.now)) }
 {
@@ -284,7 +284,7 @@ fn uniform_load_result(alloc: Global, rest: &[Value]) -> Result<Expression, Read
     Ok(Expression::WorkGroupUniformLoadResult { ty })
 }
 
-#[tactic(auto, unfolding(crate::specs::Expressions::expression_with))]
+#[tactic(auto, unfolding(crate::specs::found::Expressions::expression_with))]
 fn array_length(alloc: Global, rest: &[Value]) -> Result<Expression, ReadError>
     ensures { Answers result (λ found. option_map expression_view found ≡ expression_with ExpressionKind.ArrayLength (items_view rest.now)) }
 {
@@ -292,7 +292,7 @@ fn array_length(alloc: Global, rest: &[Value]) -> Result<Expression, ReadError>
     Ok(Expression::ArrayLength(pointer))
 }
 
-#[tactic(auto, unfolding(crate::specs::Expressions::expression_with))]
+#[tactic(auto, unfolding(crate::specs::found::Expressions::expression_with))]
 fn ray_query_vertex_positions(alloc: Global, rest: &[Value]) -> Result<Expression, ReadError>
     ensures { Answers result (λ found. option_map expression_view found ≡ expression_with ExpressionKind.RayQueryVertexPositions (items_view rest.now)) }
 {
@@ -300,7 +300,7 @@ fn ray_query_vertex_positions(alloc: Global, rest: &[Value]) -> Result<Expressio
     Ok(Expression::RayQueryVertexPositions { query, committed })
 }
 
-#[tactic(auto, unfolding(crate::specs::Expressions::expression_with))]
+#[tactic(auto, unfolding(crate::specs::found::Expressions::expression_with))]
 fn ray_query_proceed_result(alloc: Global, rest: &[Value]) -> Result<Expression, ReadError>
     ensures { Answers result (λ found. option_map expression_view found ≡ expression_with ExpressionKind.RayQueryProceedResult (items_view rest.now)) }
 {
@@ -308,7 +308,7 @@ fn ray_query_proceed_result(alloc: Global, rest: &[Value]) -> Result<Expression,
     Ok(Expression::RayQueryProceedResult)
 }
 
-#[tactic(auto, unfolding(crate::specs::Expressions::expression_with))]
+#[tactic(auto, unfolding(crate::specs::found::Expressions::expression_with))]
 fn ray_query_get_intersection(alloc: Global, rest: &[Value]) -> Result<Expression, ReadError>
     ensures { Answers result (λ found. option_map expression_view found ≡ expression_with ExpressionKind.RayQueryGetIntersection (items_view rest.now)) }
 {
@@ -316,7 +316,7 @@ fn ray_query_get_intersection(alloc: Global, rest: &[Value]) -> Result<Expressio
     Ok(Expression::RayQueryGetIntersection { query, committed })
 }
 
-#[tactic(auto, unfolding(crate::specs::Expressions::expression_with))]
+#[tactic(auto, unfolding(crate::specs::found::Expressions::expression_with))]
 fn subgroup_ballot_result(alloc: Global, rest: &[Value]) -> Result<Expression, ReadError>
     ensures { Answers result (λ found. option_map expression_view found ≡ expression_with ExpressionKind.SubgroupBallotResult (items_view rest.now)) }
 {
@@ -324,7 +324,7 @@ fn subgroup_ballot_result(alloc: Global, rest: &[Value]) -> Result<Expression, R
     Ok(Expression::SubgroupBallotResult)
 }
 
-#[tactic(auto, unfolding(crate::specs::Expressions::expression_with))]
+#[tactic(auto, unfolding(crate::specs::found::Expressions::expression_with))]
 fn subgroup_operation_result(alloc: Global, rest: &[Value]) -> Result<Expression, ReadError>
     ensures { Answers result (λ found. option_map expression_view found ≡ expression_with ExpressionKind.SubgroupOperationResult (items_view rest.now)) }
 {
@@ -332,7 +332,7 @@ fn subgroup_operation_result(alloc: Global, rest: &[Value]) -> Result<Expression
     Ok(Expression::SubgroupOperationResult { ty })
 }
 
-#[tactic(auto, unfolding(crate::specs::Expressions::expression_with))]
+#[tactic(auto, unfolding(crate::specs::found::Expressions::expression_with))]
 fn cooperative_load(alloc: Global, rest: &[Value]) -> Result<Expression, ReadError>
     ensures { Answers result (λ found. option_map expression_view found ≡ expression_with ExpressionKind.CooperativeLoad (items_view rest.now)) }
 {
@@ -351,7 +351,7 @@ fn cooperative_load(alloc: Global, rest: &[Value]) -> Result<Expression, ReadErr
     })
 }
 
-#[tactic(auto, unfolding(crate::specs::Expressions::expression_with))]
+#[tactic(auto, unfolding(crate::specs::found::Expressions::expression_with))]
 fn cooperative_multiply_add(alloc: Global, rest: &[Value]) -> Result<Expression, ReadError>
     ensures { Answers result (λ found. option_map expression_view found ≡ expression_with ExpressionKind.CooperativeMultiplyAdd (items_view rest.now)) }
 {

@@ -3,7 +3,7 @@ ghost use Rattle.std.specs.Prelude.{◌≡◌, List, option_map};
 ghost use Rattle.ir_kinds.specs.declared.scalars.SwizzleComponent.{SwizzleComponent};
 ghost use Rattle.ir_types.specs.declared.expressions.SampleLevel.{SampleLevel};
 ghost use Rattle.ir_types.specs.declared.expressions.ImageQuery.{ImageQuery};
-ghost use Rattle.document_expressions.specs.Expressions.{letter_in, next_letter, last_letter, pattern_in, a_level, a_query, a_pattern};
+ghost use Rattle.document_expressions.specs.found.Expressions.{letter_in, next_letter, last_letter, pattern_in, a_level, a_query, a_pattern};
 
 use crate::kinds::{LevelKind, QueryKind};
 use document_forms::{At, End, Form, Maybe, ReadError, Wanted, read_items, read_tag};
@@ -26,7 +26,7 @@ impl Form for LevelForm {
 
     ghost form = { a_level };
 
-    #[tactic(auto, unfolding(crate::specs::Expressions::level_with))]
+    #[tactic(auto, unfolding(crate::specs::found::Expressions::level_with))]
     fn read(alloc: Global, value: &Value) -> Result<SampleLevel, ReadError> {
         let (kind, rest) = read_tag(value)?;
         match kind {
@@ -60,7 +60,7 @@ impl Form for QueryForm {
 
     ghost form = { a_query };
 
-    #[tactic(auto, unfolding(crate::specs::Expressions::query_with))]
+    #[tactic(auto, unfolding(crate::specs::found::Expressions::query_with))]
     fn read(alloc: Global, value: &Value) -> Result<ImageQuery, ReadError> {
         let (kind, rest) = read_tag(value)?;
         match kind {
@@ -117,7 +117,7 @@ fn last_letter(text: &[u8]) -> Option<SwizzleComponent>
     }
 }
 
-#[tactic(auto, unfolding(crate::specs::Expressions::pattern_in))]
+#[tactic(auto, unfolding(crate::specs::found::Expressions::pattern_in))]
 fn pattern_in(text: &[u8]) -> Option<[SwizzleComponent; 4]>
     ensures { result ≡ pattern_in text.now }
 {

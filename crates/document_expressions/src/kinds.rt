@@ -1,5 +1,5 @@
 // The kinds of expressions and of their parts, by their words.
-ghost use Rattle.document_expressions.specs.Kinds.{expression_kinds, literal_kinds, level_kinds, query_kinds};
+ghost use Rattle.document_expressions.specs.found.Kinds.{expression_kinds, literal_kinds, level_kinds, query_kinds};
 
 use document_words::Word;
 

@@ -2,8 +2,8 @@
 ghost use Rattle.std.specs.Prelude.{◌≡◌, option_map};
 ghost use Rattle.serde_json.specs.View.{items_view};
 ghost use Rattle.ir_kinds.specs.declared.values.Literal.{Literal};
-ghost use Rattle.document_forms.specs.Answers.{Answers};
-ghost use Rattle.document_expressions.specs.Expressions.{literal_with, a_literal};
+ghost use Rattle.document_forms.specs.found.Answers.{Answers};
+ghost use Rattle.document_expressions.specs.found.Expressions.{literal_with, a_literal};
 
 use crate::kinds::LiteralKind;
 use document_forms::{I16, I32, I64, ReadError, Row, Truth, U16, U32, U64, split_tag};
@@ -12,7 +12,7 @@ use serde_json::Value;
 use std::alloc::Global;
 
 // The literal of a kind, whose value stands at `index`.
-#[tactic(auto, unfolding(crate::specs::Expressions::literal_with))]
+#[tactic(auto, unfolding(crate::specs::found::Expressions::literal_with))]
 fn by_kind(
     alloc: Global,
     kind: LiteralKind,

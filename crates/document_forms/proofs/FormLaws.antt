@@ -1,8 +1,8 @@
 -- What an answer says of the form.
 use Rattle.std.proofs.Common.{◌≡◌, ◌≢◌, ◌≤◌, Option, Result, Ok, Err, IfOk, IfErr, option_map, sym, ◌∙◌}
 use Rattle.serde_json.specs.Data.{Data, depth}
-use Rattle.document_forms.specs.Answers.{Answers}
-use Rattle.document_forms.specs.Exact.{deepest, IsExact}
+use Rattle.document_forms.specs.found.Answers.{Answers}
+use Rattle.document_forms.specs.found.Exact.{deepest, IsExact}
 use Rattle.document_forms.specs.declared.error.ReadError.{ReadError}
 use Rattle.document_forms.specs.declared.error.ReadError.TheVariants.{Memory}
 

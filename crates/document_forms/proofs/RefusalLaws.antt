@@ -1,9 +1,9 @@
 -- What a list that is refused begins with.
 use Rattle.std.proofs.Common.{◌≡◌, ◌≢◌, List, ◌∷◌, ◌++◌, map, Option, Some, None, option_map, option_and_then, Result, Ok, Err, IfOk, IfErr, refl, sym, subst, ◌∙◌}
 use Rattle.serde_json.specs.Data.{Data, Items, item}
-use Rattle.document_forms.specs.Answers.{Answers}
-use Rattle.document_forms.specs.Decide.{each}
-use Rattle.document_forms.specs.Refusals.{IsRefused, NoneTaken}
+use Rattle.document_forms.specs.found.Answers.{Answers}
+use Rattle.document_forms.specs.found.Decide.{each}
+use Rattle.document_forms.specs.found.Refusals.{IsRefused, NoneTaken}
 use Rattle.document_forms.specs.declared.error.ReadError.{ReadError}
 use Rattle.document_forms.specs.declared.error.ReadError.TheVariants.{Memory}
 

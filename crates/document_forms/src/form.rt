@@ -2,9 +2,9 @@
 ghost use Rattle.std.specs.Prelude.{◌≡◌, ◌≢◌, ◌≤◌, ℕ, Bool, List, Option, option_map, string_bytes, IfOk, IfErr};
 ghost use Rattle.serde_json.specs.Data.{Data, depth};
 ghost use Rattle.serde_json.specs.View.{view as data_of};
-ghost use Rattle.document_forms.specs.Answers.{Answers};
-ghost use Rattle.document_forms.specs.Exact.{FormOf, deepest};
-ghost use Rattle.document_forms.specs.Forms.{a_bool, a_text, maybe};
+ghost use Rattle.document_forms.specs.found.Answers.{Answers};
+ghost use Rattle.document_forms.specs.found.Exact.{FormOf, deepest};
+ghost use Rattle.document_forms.specs.found.Forms.{a_bool, a_text, maybe};
 ghost use Rattle.document_forms.specs.declared.error.ReadError.TheVariants.{Memory};
 
 use crate::error::ReadError;

@@ -1,9 +1,9 @@
 // Lists of items, in whatever takes them.
 ghost use Rattle.std.specs.Prelude.{◌≡◌, ◌≢◌, List, [], ◌∷◌, ◌++◌, Some, map, IfOk, IfErr, OnOk};
 ghost use Rattle.serde_json.specs.View.{view as data_of, items_view};
-ghost use Rattle.document_forms.specs.Decide.{each, all_of};
-ghost use Rattle.document_forms.specs.Forms.{a_list};
-ghost use Rattle.document_forms.specs.Refusals.{NoneTaken};
+ghost use Rattle.document_forms.specs.found.Decide.{each, all_of};
+ghost use Rattle.document_forms.specs.found.Forms.{a_list};
+ghost use Rattle.document_forms.specs.found.Refusals.{NoneTaken};
 ghost use Rattle.document_forms.specs.declared.error.ReadError.TheVariants.{Memory};
 
 use crate::error::ReadError;

@@ -5,9 +5,9 @@ ghost use Rattle.serde_json.specs.View.{view as data_of};
 ghost use Rattle.ir_kinds.specs.declared.scalars.VectorSize.{VectorSize};
 ghost use Rattle.ir_kinds.specs.declared.scalars.CooperativeSize.{CooperativeSize};
 ghost use Rattle.document_forms.specs.declared.limits.TheConstants.{MAX_I64};
-ghost use Rattle.document_forms.specs.Answers.{Answers};
-ghost use Rattle.document_forms.specs.Decide.{number_of, below_zero, signed_of, size_in, side_in};
-ghost use Rattle.document_forms.specs.Forms.{a_u8, a_u16, a_u32, a_u64, a_handle, a_i16, a_i32, a_i64, a_size, a_side};
+ghost use Rattle.document_forms.specs.found.Answers.{Answers};
+ghost use Rattle.document_forms.specs.found.Decide.{number_of, below_zero, signed_of, size_in, side_in};
+ghost use Rattle.document_forms.specs.found.Forms.{a_u8, a_u16, a_u32, a_u64, a_handle, a_i16, a_i32, a_i64, a_size, a_side};
 
 use crate::error::ReadError;
 use crate::form::Form;

@@ -1,10 +1,10 @@
 // What a row of forms is, and a row of any length, as one form and the row after it.
 ghost use Rattle.std.specs.Prelude.{◌≡◌, option_map};
 ghost use Rattle.serde_json.specs.View.{view as data_of, items_view};
-ghost use Rattle.document_forms.specs.Answers.{Answers};
-ghost use Rattle.document_forms.specs.Exact.{RowOf};
-ghost use Rattle.document_forms.specs.Decide.{first, array_of};
-ghost use Rattle.document_forms.specs.Forms.{ends, ◌▹◌, an_array};
+ghost use Rattle.document_forms.specs.found.Answers.{Answers};
+ghost use Rattle.document_forms.specs.found.Exact.{RowOf};
+ghost use Rattle.document_forms.specs.found.Decide.{first, array_of};
+ghost use Rattle.document_forms.specs.found.Forms.{ends, ◌▹◌, an_array};
 
 use crate::error::ReadError;
 use crate::form::{Form, read_at};

@@ -1,8 +1,8 @@
 // The word before other parts.
 ghost use Rattle.std.specs.Prelude.{◌≡◌, option_map};
 ghost use Rattle.serde_json.specs.View.{view as data_of, items_view};
-ghost use Rattle.document_forms.specs.Answers.{Answers};
-ghost use Rattle.document_forms.specs.Decide.{tag_of, tag_in};
+ghost use Rattle.document_forms.specs.found.Answers.{Answers};
+ghost use Rattle.document_forms.specs.found.Decide.{tag_of, tag_in};
 
 use crate::error::ReadError;
 use crate::wanted::Wanted;

@@ -1,7 +1,7 @@
 // Forms whose values are freed while they are read.
 ghost use Rattle.std.specs.Prelude.{◌≡◌, option_map};
 ghost use Rattle.serde_json.specs.View.{view as data_of};
-ghost use Rattle.document_forms.specs.Answers.{Answers};
+ghost use Rattle.document_forms.specs.found.Answers.{Answers};
 
 use crate::error::ReadError;
 use crate::form::Form;

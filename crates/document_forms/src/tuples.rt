@@ -1,6 +1,6 @@
 // Rows as tuples of forms.
 ghost use Rattle.std.specs.Prelude.{◌≡◌, option_map};
-ghost use Rattle.document_forms.specs.Rows.{row1, row2, row3, row4, row5, row6, row7, row8, row9};
+ghost use Rattle.document_forms.specs.found.Rows.{row1, row2, row3, row4, row5, row6, row7, row8, row9};
 
 use crate::error::ReadError;
 use crate::form::Form;

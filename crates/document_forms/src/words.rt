@@ -1,9 +1,9 @@
 // Words, and sets of them.
 ghost use Rattle.std.specs.Prelude.{◌≡◌, option_map};
 ghost use Rattle.serde_json.specs.View.{view as data_of};
-ghost use Rattle.document_forms.specs.Answers.{Answers};
-ghost use Rattle.document_forms.specs.Decide.{word_in, set_of};
-ghost use Rattle.document_forms.specs.Forms.{a_word, a_set};
+ghost use Rattle.document_forms.specs.found.Answers.{Answers};
+ghost use Rattle.document_forms.specs.found.Decide.{word_in, set_of};
+ghost use Rattle.document_forms.specs.found.Forms.{a_word, a_set};
 
 use crate::error::ReadError;
 use crate::form::{Form, read_at};

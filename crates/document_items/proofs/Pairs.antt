@@ -7,7 +7,7 @@ use Rattle.serde_json.specs.View.{view as data_of, items_view}
 use Rattle.serde_json.specs.declared.value.Value.{Value}
 use Rattle.ir_kinds.specs.declared.predeclared.PredeclaredType.{PredeclaredType}
 use Rattle.ir_kinds.specs.contracts.predeclared.PredeclaredTypePartialEq.TheImpl as same
-use Rattle.document_items.specs.Special.{a_pair, pair_of, pairs_with}
+use Rattle.document_items.specs.found.Special.{a_pair, pair_of, pairs_with}
 
 -- a pair of a new predeclared type goes last
 pub goes_last : (es : List (PredeclaredType × ℕ)) (k : PredeclaredType) (v : ℕ) → is_some (lookup (same.ghosts.eq k) es) ≡ false → insert_entry same.ghosts.eq es k v ≡ es ++ (k, v) ∷ []

@@ -1,9 +1,9 @@
 -- A type that repeats one is not taken.
 use Rattle.std.proofs.Common.{◌≡◌, ℕ, suc, ◌+◌, List, [], ◌∷◌, ◌++◌, length, map, Contains, Bool, true, false, refl, sym, ap, subst, ◌∙◌, arith}
 use Rattle.std.proofs.lemmas.List.{map-append, length-append}
-use Rattle.ir_arena.specs.Arenas.{has_equal, with_entry}
+use Rattle.ir_arena.specs.found.Arenas.{has_equal, with_entry}
 use Rattle.ir_arena.specs.declared.span.Span.{Span}
-use Rattle.ir_types.specs.Plain.{type_view}
+use Rattle.ir_types.specs.judged.Plain.{type_view}
 use Rattle.ir_types.specs.declared.types.IrType.{IrType}
 use Rattle.ir_types.specs.contracts.types.IrTypePartialEq.TheImpl.{ghosts}
 use Rattle.ir_types.proofs.TypeEquality.{type_eq}

@@ -1,6 +1,2 @@
-pub mod Kinds
-pub mod Form
-pub mod Types
-pub mod ItemForm
-pub mod Items
-pub mod Special
+pub mod judged
+pub mod found

@@ -4,8 +4,8 @@ ghost use Rattle.serde_json.specs.View.{view as data_of, items_view};
 ghost use Rattle.ir_kinds.specs.declared.bindings.BuiltIn.{BuiltIn};
 ghost use Rattle.ir_kinds.specs.declared.bindings.Binding.{Binding};
 ghost use Rattle.ir_kinds.specs.declared.bindings.ResourceBinding.{ResourceBinding};
-ghost use Rattle.document_forms.specs.Answers.{Answers};
-ghost use Rattle.document_items.specs.Types.{marked_of, a_built_in, a_binding, a_resource};
+ghost use Rattle.document_forms.specs.found.Answers.{Answers};
+ghost use Rattle.document_items.specs.found.Types.{marked_of, a_built_in, a_binding, a_resource};
 
 use crate::kinds::BindingKind;
 use document_forms::{
@@ -43,7 +43,7 @@ impl Row for BuiltInRow {
 
     ghost form = { a_built_in };
 
-    #[tactic(auto, unfolding(crate::specs::Types::built_in_of))]
+    #[tactic(auto, unfolding(crate::specs::found::Types::built_in_of))]
     fn read(alloc: Global, items: &[Value], index: usize) -> Result<BuiltIn, ReadError> {
         let Some((item, rest)) = items.split_first() else {
             return Err(ReadError::here(Wanted::BuiltIn).at(index));
@@ -73,7 +73,7 @@ impl Form for BindingForm {
 
     ghost form = { a_binding };
 
-    #[tactic(auto, unfolding(crate::specs::Types::binding_with))]
+    #[tactic(auto, unfolding(crate::specs::found::Types::binding_with))]
     fn read(alloc: Global, value: &Value) -> Result<Binding, ReadError> {
         let (kind, rest) = read_tag(value)?;
         match kind {

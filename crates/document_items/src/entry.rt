@@ -3,7 +3,7 @@ ghost use Rattle.std.specs.Prelude.{◌≡◌, ℕ, List, option_map};
 ghost use Rattle.ir_items.specs.declared.entries.MeshStageInfo.{MeshStageInfo};
 ghost use Rattle.ir_kinds.specs.declared.stages.ShaderStage.{ShaderStage};
 ghost use Rattle.ir_kinds.specs.declared.stages.EarlyDepthTest.{EarlyDepthTest};
-ghost use Rattle.document_items.specs.Items.{a_stage, an_early, the_sizes, a_mesh};
+ghost use Rattle.document_items.specs.found.Items.{a_stage, an_early, the_sizes, a_mesh};
 
 use crate::kinds::EarlyKind;
 use document_forms::{
@@ -48,7 +48,7 @@ impl Form for EarlyForm {
 
     ghost form = { an_early };
 
-    #[tactic(auto, unfolding(crate::specs::Items::early_with))]
+    #[tactic(auto, unfolding(crate::specs::found::Items::early_with))]
     fn read(alloc: Global, value: &Value) -> Result<EarlyDepthTest, ReadError> {
         let (kind, rest) = read_tag(value)?;
         match kind {

@@ -1,8 +1,8 @@
 // Diagnostic filters.
 ghost use Rattle.std.specs.Prelude.{◌≡◌, ℕ, List, Option, map, option_map};
-ghost use Rattle.ir_items.specs.GlobalPlain.{PlainRule, PlainNode};
-ghost use Rattle.ir_items.specs.GlobalView.{rule_view, node_view};
-ghost use Rattle.document_items.specs.Items.{a_rule, a_filter, the_filters};
+ghost use Rattle.ir_items.specs.judged.GlobalPlain.{PlainRule, PlainNode};
+ghost use Rattle.ir_items.specs.found.GlobalView.{rule_view, node_view};
+ghost use Rattle.document_items.specs.found.Items.{a_rule, a_filter, the_filters};
 
 use crate::kinds::RuleKind;
 use document_forms::{
@@ -28,7 +28,7 @@ impl Form for RuleForm {
 
     ghost form = { a_rule };
 
-    #[tactic(auto, unfolding(crate::specs::Items::rule_with))]
+    #[tactic(auto, unfolding(crate::specs::found::Items::rule_with))]
     fn read(alloc: Global, value: &Value) -> Result<FilterableTriggeringRule, ReadError> {
         let (kind, rest) = read_tag(value)?;
         match kind {

@@ -1,8 +1,8 @@
 // Constants, overrides and global variables.
 ghost use Rattle.std.specs.Prelude.{◌≡◌, option_map};
-ghost use Rattle.ir_items.specs.GlobalPlain.{PlainConstant, PlainOverride, PlainGlobal};
-ghost use Rattle.ir_items.specs.GlobalView.{constant_view, override_view, global_view};
-ghost use Rattle.document_items.specs.Items.{a_constant, an_override, a_global};
+ghost use Rattle.ir_items.specs.judged.GlobalPlain.{PlainConstant, PlainOverride, PlainGlobal};
+ghost use Rattle.ir_items.specs.found.GlobalView.{constant_view, override_view, global_view};
+ghost use Rattle.document_items.specs.found.Items.{a_constant, an_override, a_global};
 
 use crate::bindings::ResourceForm;
 use crate::spaces::SpaceForm;

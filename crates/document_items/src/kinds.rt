@@ -1,5 +1,5 @@
 // The kinds of types, of their parts and of other items, by their words.
-ghost use Rattle.document_items.specs.Kinds.{storage_kinds, array_size_kinds, class_kinds, binding_kinds, inner_kinds, rule_kinds, predeclared_kinds, early_kinds};
+ghost use Rattle.document_items.specs.found.Kinds.{storage_kinds, array_size_kinds, class_kinds, binding_kinds, inner_kinds, rule_kinds, predeclared_kinds, early_kinds};
 
 use document_words::Word;
 

@@ -5,8 +5,8 @@ ghost use Rattle.ir_flags.specs.declared.memory.StorageAccess.{StorageAccess};
 ghost use Rattle.ir_kinds.specs.declared.images.ImageClass.{ImageClass};
 ghost use Rattle.ir_kinds.specs.declared.spaces.AddressSpace.{AddressSpace};
 ghost use Rattle.ir_types.specs.declared.types.ArraySize.{ArraySize};
-ghost use Rattle.document_forms.specs.Answers.{Answers};
-ghost use Rattle.document_items.specs.Types.{a_positive, a_storage, a_space, an_array_size, a_class};
+ghost use Rattle.document_forms.specs.found.Answers.{Answers};
+ghost use Rattle.document_items.specs.found.Types.{a_positive, a_storage, a_space, an_array_size, a_class};
 
 use crate::kinds::{ClassKind, SizeKind, StorageKind};
 use document_forms::{
@@ -52,7 +52,7 @@ impl Form for StorageForm {
 
     ghost form = { a_storage };
 
-    #[tactic(auto, unfolding(crate::specs::Types::storage_with))]
+    #[tactic(auto, unfolding(crate::specs::found::Types::storage_with))]
     fn read(alloc: Global, value: &Value) -> Result<StorageAccess, ReadError> {
         let (kind, rest) = read_tag(value)?;
         match kind {
@@ -76,7 +76,7 @@ impl Form for SpaceForm {
 
     ghost form = { a_space };
 
-    #[tactic(auto, unfolding(crate::specs::Types::space_of))]
+    #[tactic(auto, unfolding(crate::specs::found::Types::space_of))]
     fn read(alloc: Global, value: &Value) -> Result<AddressSpace, ReadError> {
         match value.as_str() {
             Some(_) => read_word(value),
@@ -100,7 +100,7 @@ impl Form for ArraySizeForm {
 
     ghost form = { an_array_size };
 
-    #[tactic(auto, unfolding(crate::specs::Types::array_size_with))]
+    #[tactic(auto, unfolding(crate::specs::found::Types::array_size_with))]
     fn read(alloc: Global, value: &Value) -> Result<ArraySize, ReadError> {
         let (kind, rest) = read_tag(value)?;
         match kind {
@@ -132,7 +132,7 @@ impl Form for ClassForm {
 
     ghost form = { a_class };
 
-    #[tactic(auto, unfolding(crate::specs::Types::class_with))]
+    #[tactic(auto, unfolding(crate::specs::found::Types::class_with))]
     fn read(alloc: Global, value: &Value) -> Result<ImageClass, ReadError> {
         let (kind, rest) = read_tag(value)?;
         match kind {

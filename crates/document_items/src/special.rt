@@ -2,9 +2,9 @@
 ghost use Rattle.std.specs.Prelude.{◌≡◌, ℕ, List, option_map};
 ghost use Rattle.serde_json.specs.View.{view as data_of};
 ghost use Rattle.ir_kinds.specs.declared.predeclared.PredeclaredType.{PredeclaredType};
-ghost use Rattle.ir_items.specs.GlobalPlain.{PlainSpecial};
-ghost use Rattle.ir_items.specs.GlobalView.{special_view};
-ghost use Rattle.document_items.specs.Special.{a_predeclared, a_pair, the_pairs, the_special};
+ghost use Rattle.ir_items.specs.judged.GlobalPlain.{PlainSpecial};
+ghost use Rattle.ir_items.specs.found.GlobalView.{special_view};
+ghost use Rattle.document_items.specs.found.Special.{a_predeclared, a_pair, the_pairs, the_special};
 
 use crate::kinds::PredeclaredKind;
 use document_forms::{
@@ -32,7 +32,7 @@ impl Form for PredeclaredForm {
 
     ghost form = { a_predeclared };
 
-    #[tactic(auto, unfolding(crate::specs::Special::predeclared_with))]
+    #[tactic(auto, unfolding(crate::specs::found::Special::predeclared_with))]
     fn read(alloc: Global, value: &Value) -> Result<PredeclaredType, ReadError> {
         let (kind, rest) = read_tag(value)?;
         match kind {
@@ -84,7 +84,7 @@ impl Form for PairsForm {
 
     ghost form = { the_pairs };
 
-    #[tactic(auto, unfolding(crate::specs::Special::pairs_of, crate::specs::Special::pair_of))]
+    #[tactic(auto, unfolding(crate::specs::found::Special::pairs_of, crate::specs::found::Special::pair_of))]
     fn read(
         alloc: Global,
         value: &Value,

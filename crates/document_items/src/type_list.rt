@@ -10,7 +10,7 @@ use std::alloc::{AllocError, Global};
 
 impl Grow<TypeForm> for UniqueArena<IrType, key::IrType> {
     ghost use Rattle.std.specs.Prelude.{List, map, Contains};
-    ghost use Rattle.ir_types.specs.Plain.{type_view};
+    ghost use Rattle.ir_types.specs.judged.Plain.{type_view};
 
     ghost items = { λ a. map (λ e. e.0) a };
 

@@ -1,9 +1,9 @@
 // Types, each kind by a function of its own.
 ghost use Rattle.std.specs.Prelude.{◌≡◌, option_map};
 ghost use Rattle.serde_json.specs.View.{view as data_of, items_view};
-ghost use Rattle.ir_types.specs.Plain.{PlainMember, PlainInner, PlainType, member_view, inner_view, type_view};
-ghost use Rattle.document_forms.specs.Answers.{Answers};
-ghost use Rattle.document_items.specs.Types.{a_member, inner_with, an_inner, a_type};
+ghost use Rattle.ir_types.specs.judged.Plain.{PlainMember, PlainInner, PlainType, member_view, inner_view, type_view};
+ghost use Rattle.document_forms.specs.found.Answers.{Answers};
+ghost use Rattle.document_items.specs.found.Types.{a_member, inner_with, an_inner, a_type};
 
 use crate::bindings::BindingForm;
 use crate::kinds::InnerKind;
@@ -46,7 +46,7 @@ impl Form for MemberForm {
     }
 }
 
-#[tactic(auto, unfolding(crate::specs::Types::inner_with))]
+#[tactic(auto, unfolding(crate::specs::found::Types::inner_with))]
 fn scalar(alloc: Global, rest: &[Value]) -> Result<TypeInner, ReadError>
     ensures { Answers result (λ found. option_map inner_view found ≡ inner_with InnerKind.Scalar (items_view rest.now)) }
 {
@@ -54,7 +54,7 @@ fn scalar(alloc: Global, rest: &[Value]) -> Result<TypeInner, ReadError>
     Ok(TypeInner::Scalar(scalar))
 }
 
-#[tactic(auto, unfolding(crate::specs::Types::inner_with))]
+#[tactic(auto, unfolding(crate::specs::found::Types::inner_with))]
 fn vector(alloc: Global, rest: &[Value]) -> Result<TypeInner, ReadError>
     ensures { Answers result (λ found. option_map inner_view found ≡ inner_with InnerKind.Vector (items_view rest.now)) }
 {
@@ -62,7 +62,7 @@ fn vector(alloc: Global, rest: &[Value]) -> Result<TypeInner, ReadError>
     Ok(TypeInner::Vector { size, scalar })
 }
 
-#[tactic(auto, unfolding(crate::specs::Types::inner_with))]
+#[tactic(auto, unfolding(crate::specs::found::Types::inner_with))]
 fn matrix(alloc: Global, rest: &[Value]) -> Result<TypeInner, ReadError>
     ensures { Answers result (λ found. option_map inner_view found ≡ inner_with InnerKind.Matrix (items_view rest.now)) }
 {
@@ -74,7 +74,7 @@ fn matrix(alloc: Global, rest: &[Value]) -> Result<TypeInner, ReadError>
     })
 }
 
-#[tactic(auto, unfolding(crate::specs::Types::inner_with))]
+#[tactic(auto, unfolding(crate::specs::found::Types::inner_with))]
 fn cooperative_matrix(alloc: Global, rest: &[Value]) -> Result<TypeInner, ReadError>
     ensures { Answers result (λ found. option_map inner_view found ≡ inner_with InnerKind.CooperativeMatrix (items_view rest.now)) }
 {
@@ -89,7 +89,7 @@ fn cooperative_matrix(alloc: Global, rest: &[Value]) -> Result<TypeInner, ReadEr
     })
 }
 
-#[tactic(auto, unfolding(crate::specs::Types::inner_with))]
+#[tactic(auto, unfolding(crate::specs::found::Types::inner_with))]
 fn atomic(alloc: Global, rest: &[Value]) -> Result<TypeInner, ReadError>
     ensures { Answers result (λ found. option_map inner_view found ≡ inner_with InnerKind.Atomic (items_view rest.now)) }
 {
@@ -97,7 +97,7 @@ fn atomic(alloc: Global, rest: &[Value]) -> Result<TypeInner, ReadError>
     Ok(TypeInner::Atomic(scalar))
 }
 
-#[tactic(auto, unfolding(crate::specs::Types::inner_with))]
+#[tactic(auto, unfolding(crate::specs::found::Types::inner_with))]
 fn pointer(alloc: Global, rest: &[Value]) -> Result<TypeInner, ReadError>
     ensures { Answers result (λ found. option_map inner_view found ≡ inner_with InnerKind.Pointer (items_view rest.now)) }
 {
@@ -105,7 +105,7 @@ fn pointer(alloc: Global, rest: &[Value]) -> Result<TypeInner, ReadError>
     Ok(TypeInner::Pointer { base, space })
 }
 
-#[tactic(auto, unfolding(crate::specs::Types::inner_with))]
+#[tactic(auto, unfolding(crate::specs::found::Types::inner_with))]
 fn value_pointer(alloc: Global, rest: &[Value]) -> Result<TypeInner, ReadError>
     ensures { Answers result (λ found. option_map inner_view found ≡ inner_with InnerKind.ValuePointer (items_view rest.now)) }
 {
@@ -117,7 +117,7 @@ fn value_pointer(alloc: Global, rest: &[Value]) -> Result<TypeInner, ReadError>
     })
 }
 
-#[tactic(auto, unfolding(crate::specs::Types::inner_with))]
+#[tactic(auto, unfolding(crate::specs::found::Types::inner_with))]
 fn array(alloc: Global, rest: &[Value]) -> Result<TypeInner, ReadError>
     ensures { Answers result (λ found. option_map inner_view found ≡ inner_with InnerKind.Array (items_view rest.now)) }
 {
@@ -125,7 +125,7 @@ fn array(alloc: Global, rest: &[Value]) -> Result<TypeInner, ReadError>
     Ok(TypeInner::Array { base, size, stride })
 }
 
-#[tactic(auto, unfolding(crate::specs::Types::inner_with))]
+#[tactic(auto, unfolding(crate::specs::found::Types::inner_with))]
 fn structure(alloc: Global, rest: &[Value]) -> Result<TypeInner, ReadError>
     ensures { Answers result (λ found. option_map inner_view found ≡ inner_with InnerKind.Struct (items_view rest.now)) }
 {
@@ -133,7 +133,7 @@ fn structure(alloc: Global, rest: &[Value]) -> Result<TypeInner, ReadError>
     Ok(TypeInner::Struct { members, span })
 }
 
-#[tactic(auto, unfolding(crate::specs::Types::inner_with))]
+#[tactic(auto, unfolding(crate::specs::found::Types::inner_with))]
 fn image(alloc: Global, rest: &[Value]) -> Result<TypeInner, ReadError>
     ensures { Answers result (λ found. option_map inner_view found ≡ inner_with InnerKind.Image (items_view rest.now)) }
 {
@@ -147,7 +147,7 @@ fn image(alloc: Global, rest: &[Value]) -> Result<TypeInner, ReadError>
     })
 }
 
-#[tactic(auto, unfolding(crate::specs::Types::inner_with))]
+#[tactic(auto, unfolding(crate::specs::found::Types::inner_with))]
 fn sampler(alloc: Global, rest: &[Value]) -> Result<TypeInner, ReadError>
     ensures { Answers result (λ found. option_map inner_view found ≡ inner_with InnerKind.Sampler (items_view rest.now)) }
 {
@@ -155,7 +155,7 @@ fn sampler(alloc: Global, rest: &[Value]) -> Result<TypeInner, ReadError>
     Ok(TypeInner::Sampler { comparison })
 }
 
-#[tactic(auto, unfolding(crate::specs::Types::inner_with))]
+#[tactic(auto, unfolding(crate::specs::found::Types::inner_with))]
 fn acceleration_structure(alloc: Global, rest: &[Value]) -> Result<TypeInner, ReadError>
     ensures { Answers result (λ found. option_map inner_view found ≡ inner_with InnerKind.AccelerationStructure (items_view rest.now)) }
 {
@@ -163,7 +163,7 @@ fn acceleration_structure(alloc: Global, rest: &[Value]) -> Result<TypeInner, Re
     Ok(TypeInner::AccelerationStructure { vertex_return })
 }
 
-#[tactic(auto, unfolding(crate::specs::Types::inner_with))]
+#[tactic(auto, unfolding(crate::specs::found::Types::inner_with))]
 fn ray_query(alloc: Global, rest: &[Value]) -> Result<TypeInner, ReadError>
     ensures { Answers result (λ found. option_map inner_view found ≡ inner_with InnerKind.RayQuery (items_view rest.now)) }
 {
@@ -171,7 +171,7 @@ fn ray_query(alloc: Global, rest: &[Value]) -> Result<TypeInner, ReadError>
     Ok(TypeInner::RayQuery { vertex_return })
 }
 
-#[tactic(auto, unfolding(crate::specs::Types::inner_with))]
+#[tactic(auto, unfolding(crate::specs::found::Types::inner_with))]
 fn binding_array(alloc: Global, rest: &[Value]) -> Result<TypeInner, ReadError>
     ensures { Answers result (λ found. option_map inner_view found ≡ inner_with InnerKind.BindingArray (items_view rest.now)) }
 {

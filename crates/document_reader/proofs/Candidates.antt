@@ -5,11 +5,11 @@ use Rattle.std.proofs.lemmas.Bool.{cases_lt}
 use Rattle.std.proofs.lemmas.Str.{IsUtf8-from_is_utf8, is_utf8-from_IsUtf8}
 use Rattle.serde_json.specs.Data.{Data}
 use Rattle.serde_json.specs.Read.{read}
-use Rattle.document_forms.specs.Inverse.{some_is}
-use Rattle.document_reader.specs.Distinct.{AreDistinct}
-use Rattle.document_reader.specs.Plain.{PlainDocument}
-use Rattle.document_reader.specs.Documents.{document_in}
-use Rattle.document_reader.specs.Form.{IsValueOf, Reads}
+use Rattle.document_forms.specs.found.Inverse.{some_is}
+use Rattle.document_reader.specs.judged.Distinct.{AreDistinct}
+use Rattle.document_reader.specs.judged.Plain.{PlainDocument}
+use Rattle.document_reader.specs.found.Documents.{document_in}
+use Rattle.document_reader.specs.judged.Form.{IsValueOf, Reads}
 use Rattle.document_reader.specs.declared.reading.TheConstants.{MAX_LEN}
 use Rattle.document_reader.proofs.Seam.{found_in, reads_document}
 

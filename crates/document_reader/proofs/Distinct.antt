@@ -2,15 +2,15 @@
 use Rattle.std.proofs.Common.{◌≡◌, ◌≢◌, ℕ, zero, suc, ◌<◌, List, [], ◌∷◌, ◌++◌, length, get_or, map, Contains, Option, Some, None, false, true≢false, refl, sym, subst, ◌∙◌, arith}
 use Rattle.std.specs.List.{AllPairs, AllByRecursion, IsDistinct}
 use Rattle.std.proofs.lemmas.List.{length-append}
-use Rattle.ir_arena.specs.Arenas.{IsDistinctBy}
+use Rattle.ir_arena.specs.found.Arenas.{IsDistinctBy}
 use Rattle.ir_arena.specs.declared.span.Span.{Span}
-use Rattle.ir_types.specs.Plain.{PlainType, type_view}
+use Rattle.ir_types.specs.judged.Plain.{PlainType, type_view}
 use Rattle.ir_types.specs.declared.types.IrType.{IrType}
 use Rattle.ir_types.specs.contracts.types.IrTypePartialEq.TheImpl.{ghosts}
 use Rattle.ir_types.proofs.TypeEquality.{type_eq}
-use Rattle.ir_items.specs.GlobalView.{values_of}
-use Rattle.document_forms.specs.Refusals.{NoneTaken}
-use Rattle.document_reader.specs.Distinct.{AreDistinct}
+use Rattle.ir_items.specs.found.GlobalView.{values_of}
+use Rattle.document_forms.specs.found.Refusals.{NoneTaken}
+use Rattle.document_reader.specs.judged.Distinct.{AreDistinct}
 
 -- ---- an arena repeats no type
 

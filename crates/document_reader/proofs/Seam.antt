@@ -3,24 +3,24 @@ use Rattle.std.proofs.Common.{◌≡◌, ◌≢◌, ℕ, Bool, List, Option, Som
 use Rattle.document_forms.specs.declared.error.ReadError.{ReadError}
 use Rattle.document_forms.specs.declared.error.ReadError.TheVariants as part
 use Rattle.document_reader.specs.declared.error.DocumentError.{DocumentError}
-use Rattle.document_reader.specs.Reasons.{IsMalformed, IsReason, of_part}
+use Rattle.document_reader.specs.found.Reasons.{IsMalformed, IsReason, of_part}
 use Rattle.serde_json.specs.Data.{Data, Items}
 use Rattle.serde_json.specs.Find.{as_array, as_bool}
 use Rattle.serde_json.specs.Read.{read}
 use Rattle.serde_json.proofs.Nesting.{depth-read}
-use Rattle.document_forms.specs.Decide.{first, all_of, behind}
-use Rattle.document_forms.specs.Inverse.{some_is, bind_some}
-use Rattle.document_items.specs.Types.{a_type}
-use Rattle.document_reader.specs.Distinct.{AreDistinct}
-use Rattle.document_reader.specs.Plain.{PlainDocument}
+use Rattle.document_forms.specs.found.Decide.{first, all_of, behind}
+use Rattle.document_forms.specs.found.Inverse.{some_is, bind_some}
+use Rattle.document_items.specs.found.Types.{a_type}
+use Rattle.document_reader.specs.judged.Distinct.{AreDistinct}
+use Rattle.document_reader.specs.judged.Plain.{PlainDocument}
 use Rattle.ir_flags.specs.declared.settings.ValidationFlags.{ValidationFlags}
 use Rattle.ir_flags.specs.declared.settings.Capabilities.{Capabilities}
 use Rattle.ir_flags.specs.declared.stages.ShaderStages.{ShaderStages}
 use Rattle.ir_flags.specs.declared.stages.SubgroupOperationSet.{SubgroupOperationSet}
-use Rattle.ir_types.specs.Plain.{PlainType}
-use Rattle.ir_items.specs.Plain.{PlainModule}
-use Rattle.document_reader.specs.Documents.{ListParts, made_of, the_flags, the_capabilities, the_subgroups, the_lists, the_parts, version_of, document_made, a_document, first_part, content_of, content_in, parts_in, document_in}
-use Rattle.document_reader.specs.Form.{ADocument, IsValueOf, Reads, OneDocument}
+use Rattle.ir_types.specs.judged.Plain.{PlainType}
+use Rattle.ir_items.specs.judged.Plain.{PlainModule}
+use Rattle.document_reader.specs.found.Documents.{ListParts, made_of, the_flags, the_capabilities, the_subgroups, the_lists, the_parts, version_of, document_made, a_document, first_part, content_of, content_in, parts_in, document_in}
+use Rattle.document_reader.specs.judged.Form.{ADocument, IsValueOf, Reads, OneDocument}
 
 -- ---- read part by part, and as a row
 

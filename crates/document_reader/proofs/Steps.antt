@@ -1,9 +1,9 @@
 -- The steps of `Find`, as the code takes them.
 use Rattle.std.proofs.Common.{◌≡◌, ◌≢◌, ℕ, zero, suc, ◌-◌, None, refl, ap, arith}
 use Rattle.serde_json.specs.Data.{Data}
-use Rattle.document_forms.specs.Decide.{tagged_of}
-use Rattle.document_reader.specs.Kinds.{statement_kinds}
-use Rattle.document_reader.specs.Statements.{statement_at, statement_with, block_at}
+use Rattle.document_forms.specs.found.Decide.{tagged_of}
+use Rattle.document_reader.specs.found.Kinds.{statement_kinds}
+use Rattle.document_reader.specs.found.Statements.{statement_at, statement_with, block_at}
 
 pub statement_at-zero : (n : ℕ) (d : Data) → n ≡ 0 → statement_at n d ≡ None
 unfolding statement_at

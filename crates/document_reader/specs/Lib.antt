@@ -1,12 +1,2 @@
-pub mod Distinct
-pub mod Plain
-pub mod View
-pub mod Form
-pub mod Reasons
-pub mod Documents
-pub mod Kinds
-pub mod StatementForm
-pub mod Statements
-pub mod FunctionForm
-pub mod EntryForm
-pub mod Functions
+pub mod judged
+pub mod found

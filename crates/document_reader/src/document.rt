@@ -1,17 +1,17 @@
 // The form of a whole document.
 ghost use Rattle.std.specs.Prelude.{◌≡◌, ◌≢◌, List, Some, map, IfOk, IfErr};
 ghost use Rattle.serde_json.specs.View.{view as data_of, items_view};
-ghost use Rattle.ir_types.specs.Plain.{PlainType, type_view};
-ghost use Rattle.ir_items.specs.GlobalView.{values_of};
-ghost use Rattle.ir_items.specs.Plain.{PlainModule};
-ghost use Rattle.ir_items.specs.View.{module_view};
-ghost use Rattle.document_forms.specs.Decide.{all_of};
+ghost use Rattle.ir_types.specs.judged.Plain.{PlainType, type_view};
+ghost use Rattle.ir_items.specs.found.GlobalView.{values_of};
+ghost use Rattle.ir_items.specs.judged.Plain.{PlainModule};
+ghost use Rattle.ir_items.specs.found.View.{module_view};
+ghost use Rattle.document_forms.specs.found.Decide.{all_of};
 ghost use Rattle.document_forms.specs.declared.error.ReadError.TheVariants.{Memory};
-ghost use Rattle.document_items.specs.Types.{a_type};
-ghost use Rattle.document_reader.specs.Distinct.{AreDistinct};
-ghost use Rattle.document_reader.specs.Plain.{PlainDocument};
-ghost use Rattle.document_reader.specs.View.{document_view};
-ghost use Rattle.document_reader.specs.Documents.{a_version, content_of, content_in, document_in};
+ghost use Rattle.document_items.specs.found.Types.{a_type};
+ghost use Rattle.document_reader.specs.judged.Distinct.{AreDistinct};
+ghost use Rattle.document_reader.specs.judged.Plain.{PlainDocument};
+ghost use Rattle.document_reader.specs.found.View.{document_view};
+ghost use Rattle.document_reader.specs.found.Documents.{a_version, content_of, content_in, document_in};
 
 use crate::first::take_first;
 use crate::model::{Document, Settings};

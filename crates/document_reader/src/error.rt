@@ -44,7 +44,7 @@ impl From<AllocError> for DocumentError {
 }
 
 impl From<ReadError> for DocumentError {
-    ghost use Rattle.document_reader.specs.Reasons.{of_part};
+    ghost use Rattle.document_reader.specs.found.Reasons.{of_part};
 
     ghost from_gives = { λ p e. e ≡ of_part p };
 

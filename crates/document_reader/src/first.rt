@@ -1,8 +1,8 @@
 // One part of a row, and the parts after it.
 ghost use Rattle.std.specs.Prelude.{◌≡◌, option_map};
 ghost use Rattle.serde_json.specs.View.{items_view};
-ghost use Rattle.document_forms.specs.Answers.{Answers};
-ghost use Rattle.document_reader.specs.Documents.{first_part};
+ghost use Rattle.document_forms.specs.found.Answers.{Answers};
+ghost use Rattle.document_reader.specs.found.Documents.{first_part};
 
 use document_forms::{Form, ReadError, read_at, take_part};
 use serde_json::Value;

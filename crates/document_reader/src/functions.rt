@@ -1,9 +1,9 @@
 // Functions and entry points.
 ghost use Rattle.std.specs.Prelude.{◌≡◌, option_map};
-ghost use Rattle.ir_items.specs.Plain.{PlainArgument, PlainLocal, PlainFunction, PlainEntry};
-ghost use Rattle.ir_items.specs.View.{argument_view, local_view, function_view, entry_view};
+ghost use Rattle.ir_items.specs.judged.Plain.{PlainArgument, PlainLocal, PlainFunction, PlainEntry};
+ghost use Rattle.ir_items.specs.found.View.{argument_view, local_view, function_view, entry_view};
 ghost use Rattle.ir_items.specs.declared.functions.FunctionResult.{FunctionResult};
-ghost use Rattle.document_reader.specs.Functions.{an_argument, a_result, a_local, a_function, an_entry};
+ghost use Rattle.document_reader.specs.found.Functions.{an_argument, a_result, a_local, a_function, an_entry};
 
 use crate::statements::BodyForm;
 use document_expressions::ExpressionForm;

@@ -1,5 +1,5 @@
 // The kinds of statements and of their parts, by their words.
-ghost use Rattle.document_reader.specs.Kinds.{value_kinds, atomic_kinds, gather_kinds, ray_query_kinds, pipeline_kinds, statement_kinds};
+ghost use Rattle.document_reader.specs.found.Kinds.{value_kinds, atomic_kinds, gather_kinds, ray_query_kinds, pipeline_kinds, statement_kinds};
 
 use document_words::Word;
 

@@ -1,8 +1,8 @@
 // Laws of documents.
 ghost use Rattle.std.specs.Prelude.{List, ℕ};
-ghost use Rattle.document_reader.specs.Distinct.{AreDistinct};
-ghost use Rattle.document_reader.specs.Plain.{PlainDocument};
-ghost use Rattle.document_reader.specs.Form.{OneDocument, Reads};
+ghost use Rattle.document_reader.specs.judged.Distinct.{AreDistinct};
+ghost use Rattle.document_reader.specs.judged.Plain.{PlainDocument};
+ghost use Rattle.document_reader.specs.judged.Form.{OneDocument, Reads};
 
 /// Bytes spell one document at most.
 pub fn one_document()

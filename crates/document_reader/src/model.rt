@@ -1,8 +1,8 @@
 // The document as a value.
 ghost use Rattle.std.specs.Prelude.{◌≡◌, IfOk};
-ghost use Rattle.ir_items.specs.Copies.{spanned_module};
-ghost use Rattle.ir_items.specs.View.{module_view};
-ghost use Rattle.document_reader.specs.View.{document_view};
+ghost use Rattle.ir_items.specs.found.Copies.{spanned_module};
+ghost use Rattle.ir_items.specs.found.View.{module_view};
+ghost use Rattle.document_reader.specs.found.View.{document_view};
 
 use ir_flags::{Capabilities, ShaderStages, SubgroupOperationSet, ValidationFlags};
 use ir_items::Module;

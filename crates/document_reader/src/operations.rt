@@ -1,9 +1,9 @@
 // Statements without blocks, each kind by a function of its own.
 ghost use Rattle.std.specs.Prelude.{◌≡◌, option_map};
 ghost use Rattle.serde_json.specs.View.{items_view};
-ghost use Rattle.ir_blocks.specs.View.{statement_view};
-ghost use Rattle.document_forms.specs.Answers.{Answers};
-ghost use Rattle.document_reader.specs.Statements.{no_blocks, statement_with};
+ghost use Rattle.ir_blocks.specs.found.View.{statement_view};
+ghost use Rattle.document_forms.specs.found.Answers.{Answers};
+ghost use Rattle.document_reader.specs.found.Statements.{no_blocks, statement_with};
 
 use crate::kinds::StatementKind;
 use crate::parts::{AtomicForm, GatherForm, PipelineForm, RayQueryForm};
@@ -18,7 +18,7 @@ use std::alloc::Global;
 
 type E = At<key::Expression>;
 
-#[tactic(auto, unfolding(crate::specs::Statements::statement_with))]
+#[tactic(auto, unfolding(crate::specs::found::Statements::statement_with))]
 pub fn emit(alloc: Global, rest: &[Value]) -> Result<Statement, ReadError>
     ensures { Answers result (λ found. option_map statement_view found ≡ statement_with no_blocks StatementKind.Emit (items_view rest.now)) }
 {
@@ -26,7 +26,7 @@ pub fn emit(alloc: Global, rest: &[Value]) -> Result<Statement, ReadError>
     Ok(Statement::Emit(Range::new(first, end)))
 }
 
-#[tactic(auto, unfolding(crate::specs::Statements::statement_with))]
+#[tactic(auto, unfolding(crate::specs::found::Statements::statement_with))]
 pub fn leave(alloc: Global, rest: &[Value]) -> Result<Statement, ReadError>
     ensures { Answers result (λ found. option_map statement_view found ≡ statement_with no_blocks StatementKind.Break (items_view rest.now)) }
 {
@@ -34,7 +34,7 @@ pub fn leave(alloc: Global, rest: &[Value]) -> Result<Statement, ReadError>
     Ok(Statement::Break)
 }
 
-#[tactic(auto, unfolding(crate::specs::Statements::statement_with))]
+#[tactic(auto, unfolding(crate::specs::found::Statements::statement_with))]
 pub fn go_on(alloc: Global, rest: &[Value]) -> Result<Statement, ReadError>
     ensures { Answers result (λ found. option_map statement_view found ≡ statement_with no_blocks StatementKind.Continue (items_view rest.now)) }
 {
@@ -42,7 +42,7 @@ pub fn go_on(alloc: Global, rest: &[Value]) -> Result<Statement, ReadError>
     Ok(Statement::Continue)
 }
 
-#[tactic(auto, unfolding(crate::specs::Statements::statement_with))]
+#[tactic(auto, unfolding(crate::specs::found::Statements::statement_with))]
 pub fn give(alloc: Global, rest: &[Value]) -> Result<Statement, ReadError>
     ensures { Answers result (λ found. option_map statement_view found ≡ statement_with no_blocks StatementKind.Return (items_view rest.now)) }
 {
@@ -50,7 +50,7 @@ pub fn give(alloc: Global, rest: &[Value]) -> Result<Statement, ReadError>
     Ok(Statement::Return { value })
 }
 
-#[tactic(auto, unfolding(crate::specs::Statements::statement_with))]
+#[tactic(auto, unfolding(crate::specs::found::Statements::statement_with))]
 pub fn kill(alloc: Global, rest: &[Value]) -> Result<Statement, ReadError>
     ensures { Answers result (λ found. option_map statement_view found ≡ statement_with no_blocks StatementKind.Kill (items_view rest.now)) }
 {
@@ -58,7 +58,7 @@ pub fn kill(alloc: Global, rest: &[Value]) -> Result<Statement, ReadError>
     Ok(Statement::Kill)
 }
 
-#[tactic(auto, unfolding(crate::specs::Statements::statement_with))]
+#[tactic(auto, unfolding(crate::specs::found::Statements::statement_with))]
 pub fn control_barrier(alloc: Global, rest: &[Value]) -> Result<Statement, ReadError>
     ensures { Answers result (λ found. option_map statement_view found ≡ statement_with no_blocks StatementKind.ControlBarrier (items_view rest.now)) }
 {
@@ -66,7 +66,7 @@ pub fn control_barrier(alloc: Global, rest: &[Value]) -> Result<Statement, ReadE
     Ok(Statement::ControlBarrier(barrier))
 }
 
-#[tactic(auto, unfolding(crate::specs::Statements::statement_with))]
+#[tactic(auto, unfolding(crate::specs::found::Statements::statement_with))]
 pub fn memory_barrier(alloc: Global, rest: &[Value]) -> Result<Statement, ReadError>
     ensures { Answers result (λ found. option_map statement_view found ≡ statement_with no_blocks StatementKind.MemoryBarrier (items_view rest.now)) }
 {
@@ -74,7 +74,7 @@ pub fn memory_barrier(alloc: Global, rest: &[Value]) -> Result<Statement, ReadEr
     Ok(Statement::MemoryBarrier(barrier))
 }
 
-#[tactic(auto, unfolding(crate::specs::Statements::statement_with))]
+#[tactic(auto, unfolding(crate::specs::found::Statements::statement_with))]
 pub fn store(alloc: Global, rest: &[Value]) -> Result<Statement, ReadError>
     ensures { Answers result (λ found. option_map statement_view found ≡ statement_with no_blocks StatementKind.Store (items_view rest.now)) }
 {
@@ -82,7 +82,7 @@ pub fn store(alloc: Global, rest: &[Value]) -> Result<Statement, ReadError>
     Ok(Statement::Store { pointer, value })
 }
 
-#[tactic(auto, unfolding(crate::specs::Statements::statement_with))]
+#[tactic(auto, unfolding(crate::specs::found::Statements::statement_with))]
 pub fn image_store(alloc: Global, rest: &[Value]) -> Result<Statement, ReadError>
     ensures { Answers result (λ found. option_map statement_view found ≡ statement_with no_blocks StatementKind.ImageStore (items_view rest.now)) }
 {
@@ -95,7 +95,7 @@ pub fn image_store(alloc: Global, rest: &[Value]) -> Result<Statement, ReadError
     })
 }
 
-#[tactic(auto, unfolding(crate::specs::Statements::statement_with))]
+#[tactic(auto, unfolding(crate::specs::found::Statements::statement_with))]
 pub fn atomic(alloc: Global, rest: &[Value]) -> Result<Statement, ReadError>
     ensures { Answers result (λ found. option_map statement_view found ≡ statement_with no_blocks StatementKind.Atomic (items_view rest.now)) }
 {
@@ -108,7 +108,7 @@ pub fn atomic(alloc: Global, rest: &[Value]) -> Result<Statement, ReadError>
     })
 }
 
-#[tactic(auto, unfolding(crate::specs::Statements::statement_with))]
+#[tactic(auto, unfolding(crate::specs::found::Statements::statement_with))]
 pub fn image_atomic(alloc: Global, rest: &[Value]) -> Result<Statement, ReadError>
     ensures { Answers result (λ found. option_map statement_view found ≡ statement_with no_blocks StatementKind.ImageAtomic (items_view rest.now)) }
 {
@@ -124,7 +124,7 @@ pub fn image_atomic(alloc: Global, rest: &[Value]) -> Result<Statement, ReadErro
     })
 }
 
-#[tactic(auto, unfolding(crate::specs::Statements::statement_with))]
+#[tactic(auto, unfolding(crate::specs::found::Statements::statement_with))]
 pub fn work_group_uniform_load(alloc: Global, rest: &[Value]) -> Result<Statement, ReadError>
     ensures { Answers result (λ found. option_map statement_view found ≡ statement_with no_blocks StatementKind.WorkGroupUniformLoad (items_view rest.now)) }
 {
@@ -135,7 +135,7 @@ pub fn work_group_uniform_load(alloc: Global, rest: &[Value]) -> Result<Statemen
     })
 }
 
-#[tactic(auto, unfolding(crate::specs::Statements::statement_with))]
+#[tactic(auto, unfolding(crate::specs::found::Statements::statement_with))]
 pub fn call(alloc: Global, rest: &[Value]) -> Result<Statement, ReadError>
     ensures { Answers result (λ found. option_map statement_view found ≡ statement_with no_blocks StatementKind.Call (items_view rest.now)) }
 {
@@ -149,7 +149,7 @@ pub fn call(alloc: Global, rest: &[Value]) -> Result<Statement, ReadError>
     })
 }
 
-#[tactic(auto, unfolding(crate::specs::Statements::statement_with))]
+#[tactic(auto, unfolding(crate::specs::found::Statements::statement_with))]
 pub fn ray_query(alloc: Global, rest: &[Value]) -> Result<Statement, ReadError>
     ensures { Answers result (λ found. option_map statement_view found ≡ statement_with no_blocks StatementKind.RayQuery (items_view rest.now)) }
 {
@@ -157,7 +157,7 @@ pub fn ray_query(alloc: Global, rest: &[Value]) -> Result<Statement, ReadError>
     Ok(Statement::RayQuery { query, fun })
 }
 
-#[tactic(auto, unfolding(crate::specs::Statements::statement_with))]
+#[tactic(auto, unfolding(crate::specs::found::Statements::statement_with))]
 pub fn subgroup_ballot(alloc: Global, rest: &[Value]) -> Result<Statement, ReadError>
     ensures { Answers result (λ found. option_map statement_view found ≡ statement_with no_blocks StatementKind.SubgroupBallot (items_view rest.now)) }
 {
@@ -168,7 +168,7 @@ pub fn subgroup_ballot(alloc: Global, rest: &[Value]) -> Result<Statement, ReadE
     })
 }
 
-#[tactic(auto, unfolding(crate::specs::Statements::statement_with))]
+#[tactic(auto, unfolding(crate::specs::found::Statements::statement_with))]
 pub fn subgroup_collective_operation(alloc: Global, rest: &[Value]) -> Result<Statement, ReadError>
     ensures { Answers result (λ found. option_map statement_view found ≡ statement_with no_blocks StatementKind.SubgroupCollectiveOperation (items_view rest.now)) }
 {
@@ -183,7 +183,7 @@ pub fn subgroup_collective_operation(alloc: Global, rest: &[Value]) -> Result<St
     })
 }
 
-#[tactic(auto, unfolding(crate::specs::Statements::statement_with))]
+#[tactic(auto, unfolding(crate::specs::found::Statements::statement_with))]
 pub fn subgroup_gather(alloc: Global, rest: &[Value]) -> Result<Statement, ReadError>
     ensures { Answers result (λ found. option_map statement_view found ≡ statement_with no_blocks StatementKind.SubgroupGather (items_view rest.now)) }
 {
@@ -195,7 +195,7 @@ pub fn subgroup_gather(alloc: Global, rest: &[Value]) -> Result<Statement, ReadE
     })
 }
 
-#[tactic(auto, unfolding(crate::specs::Statements::statement_with))]
+#[tactic(auto, unfolding(crate::specs::found::Statements::statement_with))]
 pub fn cooperative_store(alloc: Global, rest: &[Value]) -> Result<Statement, ReadError>
     ensures { Answers result (λ found. option_map statement_view found ≡ statement_with no_blocks StatementKind.CooperativeStore (items_view rest.now)) }
 {
@@ -210,7 +210,7 @@ pub fn cooperative_store(alloc: Global, rest: &[Value]) -> Result<Statement, Rea
     })
 }
 
-#[tactic(auto, unfolding(crate::specs::Statements::statement_with))]
+#[tactic(auto, unfolding(crate::specs::found::Statements::statement_with))]
 pub fn ray_pipeline_function(alloc: Global, rest: &[Value]) -> Result<Statement, ReadError>
     ensures { Answers result (λ found. option_map statement_view found ≡ statement_with no_blocks StatementKind.RayPipelineFunction (items_view rest.now)) }
 {

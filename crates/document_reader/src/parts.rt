@@ -5,7 +5,7 @@ ghost use Rattle.ir_blocks.specs.declared.operations.AtomicFunction.{AtomicFunct
 ghost use Rattle.ir_blocks.specs.declared.operations.GatherMode.{GatherMode};
 ghost use Rattle.ir_blocks.specs.declared.operations.RayQueryFunction.{RayQueryFunction};
 ghost use Rattle.ir_blocks.specs.declared.operations.RayPipelineFunction.{RayPipelineFunction};
-ghost use Rattle.document_reader.specs.Statements.{a_value, an_atomic, a_gather, a_ray_query, a_pipeline};
+ghost use Rattle.document_reader.specs.found.Statements.{a_value, an_atomic, a_gather, a_ray_query, a_pipeline};
 
 use crate::kinds::{AtomicKind, GatherKind, PipelineKind, RayQueryKind, ValueKind};
 use document_forms::{At, End, Form, I32, Maybe, ReadError, U32, WordOf, read_items, read_tag};
@@ -29,7 +29,7 @@ impl Form for ValueForm {
 
     ghost form = { a_value };
 
-    #[tactic(auto, unfolding(crate::specs::Statements::value_with))]
+    #[tactic(auto, unfolding(crate::specs::found::Statements::value_with))]
     fn read(alloc: Global, value: &Value) -> Result<SwitchValue, ReadError> {
         let (kind, rest) = read_tag(value)?;
         match kind {
@@ -61,7 +61,7 @@ impl Form for AtomicForm {
 
     ghost form = { an_atomic };
 
-    #[tactic(auto, unfolding(crate::specs::Statements::atomic_with))]
+    #[tactic(auto, unfolding(crate::specs::found::Statements::atomic_with))]
     fn read(alloc: Global, value: &Value) -> Result<AtomicFunction, ReadError> {
         let (kind, rest) = read_tag(value)?;
         match kind {
@@ -113,7 +113,7 @@ impl Form for GatherForm {
 
     ghost form = { a_gather };
 
-    #[tactic(auto, unfolding(crate::specs::Statements::gather_with))]
+    #[tactic(auto, unfolding(crate::specs::found::Statements::gather_with))]
     fn read(alloc: Global, value: &Value) -> Result<GatherMode, ReadError> {
         let (kind, rest) = read_tag(value)?;
         match kind {
@@ -165,7 +165,7 @@ impl Form for RayQueryForm {
 
     ghost form = { a_ray_query };
 
-    #[tactic(auto, unfolding(crate::specs::Statements::ray_query_with))]
+    #[tactic(auto, unfolding(crate::specs::found::Statements::ray_query_with))]
     fn read(alloc: Global, value: &Value) -> Result<RayQueryFunction, ReadError> {
         let (kind, rest) = read_tag(value)?;
         match kind {
@@ -208,7 +208,7 @@ impl Form for PipelineForm {
 
     ghost form = { a_pipeline };
 
-    #[tactic(auto, unfolding(crate::specs::Statements::pipeline_with))]
+    #[tactic(auto, unfolding(crate::specs::found::Statements::pipeline_with))]
     fn read(alloc: Global, value: &Value) -> Result<RayPipelineFunction, ReadError> {
         let (kind, rest) = read_tag(value)?;
         match kind {

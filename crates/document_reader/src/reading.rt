@@ -1,11 +1,11 @@
 // From bytes to a document.
 ghost use Rattle.std.specs.Prelude.{◌≢◌, IfOk, IfErr};
-ghost use Rattle.document_reader.specs.Plain.{PlainDocument};
-ghost use Rattle.document_reader.specs.View.{document_view};
-ghost use Rattle.document_reader.specs.Form.{IsValueOf, Reads};
+ghost use Rattle.document_reader.specs.judged.Plain.{PlainDocument};
+ghost use Rattle.document_reader.specs.found.View.{document_view};
+ghost use Rattle.document_reader.specs.judged.Form.{IsValueOf, Reads};
 ghost use Rattle.serde_json.specs.Data.{Data};
 ghost use Rattle.serde_json.specs.View.{view as data_of};
-ghost use Rattle.document_reader.specs.Reasons.{IsReason};
+ghost use Rattle.document_reader.specs.found.Reasons.{IsReason};
 ghost use Rattle.document_reader.specs.declared.error.DocumentError.TheVariants.{Memory};
 
 use crate::document::read_value;

@@ -1,11 +1,11 @@
 // Statements and the blocks that hold them.
 ghost use Rattle.std.specs.Prelude.{◌≡◌, ◌++◌, map, option_map};
 ghost use Rattle.serde_json.specs.View.{view as data_of, items_view};
-ghost use Rattle.ir_blocks.specs.Plain.{PlainBlock};
-ghost use Rattle.ir_blocks.specs.View.{statement_view, block_view, case_view};
-ghost use Rattle.document_forms.specs.Answers.{Answers};
-ghost use Rattle.document_forms.specs.Decide.{all_of};
-ghost use Rattle.document_reader.specs.Statements.{statement_at, statement_with, block_at, case_with, a_body};
+ghost use Rattle.ir_blocks.specs.judged.Plain.{PlainBlock};
+ghost use Rattle.ir_blocks.specs.found.View.{statement_view, block_view, case_view};
+ghost use Rattle.document_forms.specs.found.Answers.{Answers};
+ghost use Rattle.document_forms.specs.found.Decide.{all_of};
+ghost use Rattle.document_reader.specs.found.Statements.{statement_at, statement_with, block_at, case_with, a_body};
 
 use crate::kinds::StatementKind;
 use crate::operations;
@@ -33,7 +33,7 @@ fn statement(alloc: Global, value: &Value, depth: usize) -> Result<Statement, Re
 }
 
 #[cycle(statements)]
-#[tactic(auto, unfolding(crate::specs::Statements::statement_with))]
+#[tactic(auto, unfolding(crate::specs::found::Statements::statement_with))]
 fn statement_of(
     alloc: Global,
     kind: StatementKind,
@@ -72,7 +72,7 @@ fn statement_of(
 }
 
 #[cycle(statements)]
-#[tactic(auto, unfolding(crate::specs::Statements::statement_with))]
+#[tactic(auto, unfolding(crate::specs::found::Statements::statement_with))]
 fn nested(alloc: Global, rest: &[Value], depth: usize) -> Result<Statement, ReadError>
     ensures { Answers result (λ found. option_map statement_view found ≡ statement_with (block_at depth) StatementKind.Block (items_view rest.now)) }
 {
@@ -83,7 +83,7 @@ fn nested(alloc: Global, rest: &[Value], depth: usize) -> Result<Statement, Read
 }
 
 #[cycle(statements)]
-#[tactic(auto, unfolding(crate::specs::Statements::statement_with))]
+#[tactic(auto, unfolding(crate::specs::found::Statements::statement_with))]
 fn if_statement(alloc: Global, rest: &[Value], depth: usize) -> Result<Statement, ReadError>
     ensures { Answers result (λ found. option_map statement_view found ≡ statement_with (block_at depth) StatementKind.If (items_view rest.now)) }
 {
@@ -102,7 +102,7 @@ fn if_statement(alloc: Global, rest: &[Value], depth: usize) -> Result<Statement
 }
 
 #[cycle(statements)]
-#[tactic(auto, unfolding(crate::specs::Statements::statement_with))]
+#[tactic(auto, unfolding(crate::specs::found::Statements::statement_with))]
 fn switch(alloc: Global, rest: &[Value], depth: usize) -> Result<Statement, ReadError>
     ensures { Answers result (λ found. option_map statement_view found ≡ statement_with (block_at depth) StatementKind.Switch (items_view rest.now)) }
 {
@@ -134,7 +134,7 @@ fn switch_cases(alloc: Global, value: &Value, depth: usize) -> Result<Vec<Switch
 }
 
 #[cycle(statements)]
-#[tactic(auto, unfolding(crate::specs::Statements::case_with))]
+#[tactic(auto, unfolding(crate::specs::found::Statements::case_with))]
 fn switch_case(alloc: Global, value: &Value, depth: usize) -> Result<SwitchCase, ReadError>
     ensures { Answers result (λ found. option_map case_view found ≡ case_with (block_at depth) (data_of value.now)) }
 {
@@ -154,7 +154,7 @@ fn switch_case(alloc: Global, value: &Value, depth: usize) -> Result<SwitchCase,
 }
 
 #[cycle(statements)]
-#[tactic(auto, unfolding(crate::specs::Statements::statement_with))]
+#[tactic(auto, unfolding(crate::specs::found::Statements::statement_with))]
 fn loop_statement(alloc: Global, rest: &[Value], depth: usize) -> Result<Statement, ReadError>
     ensures { Answers result (λ found. option_map statement_view found ≡ statement_with (block_at depth) StatementKind.Loop (items_view rest.now)) }
 {

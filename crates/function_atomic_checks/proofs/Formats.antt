@@ -4,14 +4,14 @@ use Rattle.ir_blocks.specs.declared.operations.AtomicFunction.{AtomicFunction}
 use Rattle.ir_flags.specs.Sets.{Has}
 use Rattle.ir_flags.specs.declared.settings.Capabilities.{Capabilities}
 use Rattle.ir_flags.specs.declared.settings.TheConstants.Capabilities.{TEXTURE_ATOMIC, TEXTURE_INT64_ATOMIC}
-use Rattle.ir_kinds.specs.Images.{format_scalar}
+use Rattle.ir_kinds.specs.judged.Images.{format_scalar}
 use Rattle.ir_kinds.specs.declared.images.ImageClass.{ImageClass}
 use Rattle.ir_kinds.specs.declared.images.ImageClass.TheVariants as class
 use Rattle.ir_kinds.specs.declared.images.StorageFormat.{StorageFormat}
 use Rattle.ir_kinds.specs.declared.images.StorageFormat.TheVariants as format
 use Rattle.ir_kinds.specs.declared.scalars.VectorSize.TheVariants.{Quad}
 use Rattle.function_atomic_checks.specs.StorageImages.{format_of}
-use Rattle.spec_statements.specs.StorageImages.{IsWritten, IsExtremum, IsDoneAtTexels, FormatAllows, wide, unsigned, signed}
+use Rattle.spec_statements.specs.judged.StorageImages.{IsWritten, IsExtremum, IsDoneAtTexels, FormatAllows, wide, unsigned, signed}
 use Rattle.typing_forms.specs.declared.form.Form.{Form}
 use Rattle.typing_forms.specs.declared.form.Form.TheVariants as form
 

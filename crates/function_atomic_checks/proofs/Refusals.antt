@@ -5,7 +5,7 @@ use Rattle.ir_faults.specs.Faults.{error_of, spans_of}
 use Rattle.ir_faults.specs.declared.refusal.Refusal.TheVariants.{Fault}
 use Rattle.ir_faults.specs.declared.with_span.WithSpan.{WithSpan}
 use Rattle.function_atomic_checks.specs.StorageImages.{IsImageStoreFault, IsImageStoreRefusal}
-use Rattle.spec_statements.specs.BlockContext.{BlockContext}
+use Rattle.spec_statements.specs.judged.BlockContext.{BlockContext}
 
 -- by an error without spans
 pub refused_by : (c : BlockContext) (image coordinate : ℕ) (array_index : Option ℕ) (value : ℕ) (f : WithSpan FunctionError) (e : FunctionError)

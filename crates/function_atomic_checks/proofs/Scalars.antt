@@ -2,10 +2,10 @@
 use Rattle.std.proofs.Common.{◌≡◌, ◌⊎◌, ℕ, Option, inl, inr, sym, ap, ◌∙◌}
 use Rattle.ir_blocks.specs.declared.operations.AtomicFunction.{AtomicFunction}
 use Rattle.ir_flags.specs.declared.settings.Capabilities.{Capabilities}
-use Rattle.ir_kinds.specs.Scalars.{floating, signed, unsigned}
+use Rattle.ir_kinds.specs.judged.Scalars.{floating, signed, unsigned}
 use Rattle.ir_kinds.specs.declared.scalars.Scalar.{Scalar}
 use Rattle.ir_kinds.specs.declared.scalars.ScalarKind.TheVariants as kind
-use Rattle.spec_statements.specs.Atomics.{WideOK, FloatOK, ScalarAllows}
+use Rattle.spec_statements.specs.judged.Atomics.{WideOK, FloatOK, ScalarAllows}
 use Rattle.typing_forms.specs.declared.form.Form.{Form}
 use Rattle.typing_forms.specs.declared.form.Form.TheVariants as form
 

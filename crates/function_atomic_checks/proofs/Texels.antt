@@ -9,27 +9,27 @@ use Rattle.typing_errors.specs.declared.expressions.ExpressionError.TheVariants 
 use Rattle.typing_errors.specs.declared.error.FunctionError.{FunctionError}
 use Rattle.typing_errors.specs.declared.error.FunctionError.TheVariants as error
 use Rattle.ir_blocks.specs.declared.operations.AtomicFunction.{AtomicFunction}
-use Rattle.ir_types.specs.ExpressionPlain.{PlainExpression, plain}
+use Rattle.ir_types.specs.judged.ExpressionPlain.{PlainExpression, plain}
 use Rattle.ir_types.specs.declared.expressions.Expression.TheVariants.{GlobalVariable}
 use Rattle.ir_flags.specs.Sets.{Has}
 use Rattle.ir_flags.specs.declared.memory.StorageAccess.{StorageAccess}
 use Rattle.ir_flags.specs.declared.settings.Capabilities.{Capabilities}
 use Rattle.ir_flags.specs.declared.settings.TheConstants.Capabilities.{TEXTURE_ATOMIC, TEXTURE_INT64_ATOMIC}
-use Rattle.ir_items.specs.GlobalPlain.{PlainGlobal}
-use Rattle.ir_items.specs.Plain.{PlainFunction, PlainModule}
-use Rattle.ir_kinds.specs.Images.{format_scalar}
+use Rattle.ir_items.specs.judged.GlobalPlain.{PlainGlobal}
+use Rattle.ir_items.specs.judged.Plain.{PlainFunction, PlainModule}
+use Rattle.ir_kinds.specs.judged.Images.{format_scalar}
 use Rattle.ir_kinds.specs.declared.images.ImageClass.{ImageClass}
 use Rattle.ir_kinds.specs.declared.images.ImageClass.TheVariants as class
 use Rattle.ir_kinds.specs.declared.images.StorageFormat.{StorageFormat}
 use Rattle.ir_kinds.specs.declared.scalars.VectorSize.TheVariants.{Quad}
-use Rattle.ir_types.specs.Plain.{PlainType}
-use Rattle.ir_proc.specs.Bases.{base_of, global_of}
-use Rattle.spec_statements.specs.Shapes.{ExactlyIf, picture_of}
+use Rattle.ir_types.specs.judged.Plain.{PlainType}
+use Rattle.ir_proc.specs.judged.Bases.{base_of, global_of}
+use Rattle.spec_statements.specs.judged.Shapes.{ExactlyIf, picture_of}
 use Rattle.spec_statements.specs.declared.shapes.Picture.{Picture}
-use Rattle.spec_statements.specs.BlockContext.{BlockContext, form_at}
-use Rattle.spec_statements.specs.StorageImages.{resource_of, written_image, picture_in, changed_image, IsTexelOf, IsWritten, ImageStoreOK, IsExtremum, IsDoneAtTexels, FormatAllows, wide, unsigned, signed, IsChangedBy, IsChanged, ImageAtomicOK}
-use Rattle.spec_statements.specs.Variables.{variable_at, accessed_at}
-use Rattle.typing_forms.specs.Forms.{form_of_type}
+use Rattle.spec_statements.specs.judged.BlockContext.{BlockContext, form_at}
+use Rattle.spec_statements.specs.judged.StorageImages.{resource_of, written_image, picture_in, changed_image, IsTexelOf, IsWritten, ImageStoreOK, IsExtremum, IsDoneAtTexels, FormatAllows, wide, unsigned, signed, IsChangedBy, IsChanged, ImageAtomicOK}
+use Rattle.spec_statements.specs.judged.Variables.{variable_at, accessed_at}
+use Rattle.typing_forms.specs.judged.Forms.{form_of_type}
 use Rattle.typing_forms.specs.declared.form.Form.{Form}
 use Rattle.typing_forms.specs.declared.form.Form.TheVariants as form
 

@@ -8,15 +8,15 @@ use Rattle.ir_blocks.specs.declared.operations.AtomicFunction.{AtomicFunction}
 use Rattle.ir_flags.specs.Sets.{Has}
 use Rattle.ir_flags.specs.declared.settings.Capabilities.{Capabilities}
 use Rattle.ir_flags.specs.declared.settings.TheConstants.Capabilities.{SHADER_FLOAT32_ATOMIC, SHADER_INT64_ATOMIC_MIN_MAX, SHADER_INT64_ATOMIC_ALL_OPS}
-use Rattle.ir_kinds.specs.Scalars.{floating, signed, unsigned}
+use Rattle.ir_kinds.specs.judged.Scalars.{floating, signed, unsigned}
 use Rattle.ir_kinds.specs.declared.scalars.Scalar.{Scalar}
-use Rattle.spec_statements.specs.ExpressionResults.{IsExchangeOf}
+use Rattle.spec_statements.specs.judged.ExpressionResults.{IsExchangeOf}
 use Rattle.spec_handles.specs.Operands.{compared}
-use Rattle.spec_statements.specs.Atomics.{changed_scalar, IsInStorage, IsStorageMinMaxWithoutResult, IsDoneWithFloats, AtomicAnswer, declared_answer, MayBeUnanswered}
-use Rattle.spec_statements.specs.BlockContext.{BlockContext, form_at}
-use Rattle.spec_statements.specs.Stores.{pointer_space}
-use Rattle.typing_forms.specs.Forms.{form_of_type}
-use Rattle.typing_forms.specs.Resolutions.{inner_at}
+use Rattle.spec_statements.specs.judged.Atomics.{changed_scalar, IsInStorage, IsStorageMinMaxWithoutResult, IsDoneWithFloats, AtomicAnswer, declared_answer, MayBeUnanswered}
+use Rattle.spec_statements.specs.judged.BlockContext.{BlockContext, form_at}
+use Rattle.spec_statements.specs.judged.Stores.{pointer_space}
+use Rattle.typing_forms.specs.judged.Forms.{form_of_type}
+use Rattle.typing_forms.specs.judged.Resolutions.{inner_at}
 use Rattle.typing_forms.specs.declared.form.Form.{Form}
 use Rattle.typing_forms.specs.declared.form.Form.TheVariants as form
 

@@ -5,10 +5,10 @@ use Rattle.function_atomic_checks.specs.StorageImages.{IsImageStoreFault, IsImag
 use Rattle.function_atomic_checks.specs.UniformLoads.{IsUniformLoadFault}
 use Rattle.typing_errors.specs.declared.error.FunctionError.{FunctionError}
 use Rattle.ir_blocks.specs.declared.operations.AtomicFunction.{AtomicFunction}
-use Rattle.spec_statements.specs.Atomics.{AtomicStatementOK}
-use Rattle.spec_statements.specs.BlockContext.{BlockContext}
-use Rattle.spec_statements.specs.StorageImages.{ImageStoreOK, ImageAtomicOK}
-use Rattle.spec_statements.specs.UniformLoads.{UniformLoadStatementOK}
+use Rattle.spec_statements.specs.judged.Atomics.{AtomicStatementOK}
+use Rattle.spec_statements.specs.judged.BlockContext.{BlockContext}
+use Rattle.spec_statements.specs.judged.StorageImages.{ImageStoreOK, ImageAtomicOK}
+use Rattle.spec_statements.specs.judged.UniformLoads.{UniformLoadStatementOK}
 
 -- What refutes the rule of each kind.
 pub record Refuted (c : BlockContext) (e : FunctionError) : Type 0 where

@@ -14,22 +14,22 @@ use Rattle.ir_flags.specs.declared.memory.StorageAccess.{StorageAccess}
 use Rattle.ir_flags.specs.declared.memory.TheConstants.StorageAccess.{ATOMIC}
 use Rattle.ir_flags.specs.declared.settings.Capabilities.{Capabilities}
 use Rattle.ir_flags.specs.declared.settings.TheConstants.Capabilities.{TEXTURE_ATOMIC, TEXTURE_INT64_ATOMIC}
-use Rattle.ir_kinds.specs.Images.{format_scalar}
+use Rattle.ir_kinds.specs.judged.Images.{format_scalar}
 use Rattle.ir_kinds.specs.declared.images.ImageClass.{ImageClass}
 use Rattle.ir_kinds.specs.declared.images.ImageClass.TheVariants as class
 use Rattle.ir_kinds.specs.declared.images.StorageFormat.{StorageFormat}
 use Rattle.ir_kinds.specs.declared.images.StorageFormat.TheVariants as format
 use Rattle.ir_kinds.specs.declared.scalars.VectorSize.TheVariants.{Quad}
-use Rattle.ir_types.specs.Plain.{PlainInner, plain, PlainType, inner_view}
+use Rattle.ir_types.specs.judged.Plain.{PlainInner, plain, PlainType, inner_view}
 use Rattle.ir_types.specs.declared.types.TypeInner.TheVariants as inner
-use Rattle.spec_statements.specs.ImageLoads.{IsTexel}
-use Rattle.spec_statements.specs.Shapes.{ExactlyIf, IsIntegerScalar, picture_of}
+use Rattle.spec_statements.specs.judged.ImageLoads.{IsTexel}
+use Rattle.spec_statements.specs.judged.Shapes.{ExactlyIf, IsIntegerScalar, picture_of}
 use Rattle.spec_statements.specs.declared.shapes.Picture.{Picture}
-use Rattle.spec_statements.specs.BlockContext.{BlockContext, form_at}
-use Rattle.spec_statements.specs.StorageImages.{resource_of, written_image, picture_in, changed_image, IsExtremum, IsDoneAtTexels}
-use Rattle.spec_statements.specs.Variables.{variable_at, accessed_at}
-use Rattle.typing_forms.specs.Forms.{form_of_type}
-use Rattle.typing_forms.specs.Resolutions.{inner_at}
+use Rattle.spec_statements.specs.judged.BlockContext.{BlockContext, form_at}
+use Rattle.spec_statements.specs.judged.StorageImages.{resource_of, written_image, picture_in, changed_image, IsExtremum, IsDoneAtTexels}
+use Rattle.spec_statements.specs.judged.Variables.{variable_at, accessed_at}
+use Rattle.typing_forms.specs.judged.Forms.{form_of_type}
+use Rattle.typing_forms.specs.judged.Resolutions.{inner_at}
 use Rattle.typing_forms.specs.declared.form.Form.{Form}
 use Rattle.typing_forms.specs.declared.form.Form.TheVariants as form
 

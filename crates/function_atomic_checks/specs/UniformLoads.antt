@@ -3,9 +3,9 @@ use Rattle.std.specs.Prelude.{◌≡◌, ◌⊎◌, ℕ, Option, Some, None, IsS
 use Rattle.typing_errors.specs.declared.error.FunctionError.{FunctionError}
 use Rattle.typing_errors.specs.declared.error.FunctionError.TheVariants as error
 use Rattle.ir_kinds.specs.declared.spaces.AddressSpace.TheVariants.{WorkGroup}
-use Rattle.spec_statements.specs.BlockContext.{BlockContext, form_at}
-use Rattle.spec_statements.specs.Stores.{pointer_space}
-use Rattle.spec_statements.specs.UniformLoads.{loaded_type, LeadsTo}
+use Rattle.spec_statements.specs.judged.BlockContext.{BlockContext, form_at}
+use Rattle.spec_statements.specs.judged.Stores.{pointer_space}
+use Rattle.spec_statements.specs.judged.UniformLoads.{loaded_type, LeadsTo}
 
 -- the type that the answer at a handle declares
 abbrev pub loaded_at : BlockContext → (result : ℕ) → Option ℕ

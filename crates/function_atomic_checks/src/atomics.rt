@@ -1,17 +1,17 @@
 //! Values in memory that are changed atomically.
 
 ghost use Rattle.std.specs.Prelude.{◌≡◌, ◌↔◌, IsTrue, MatchResult, IfSome, Some, None, option_and_then, option_map, slice_get};
-ghost use Rattle.ir_types.specs.ExpressionPlain.{expression_view};
-ghost use Rattle.ir_types.specs.Plain.{inner_view};
+ghost use Rattle.ir_types.specs.judged.ExpressionPlain.{expression_view};
+ghost use Rattle.ir_types.specs.judged.Plain.{inner_view};
 ghost use Rattle.function_atomic_checks.specs.Atomics.{IsWide, IsWideFault, IsFloatFault, IsScalarFault, IsPlainFault, IsExchangeFault, IsAnswerFault, IsChangeFault, IsAtomicFault};
 ghost use Rattle.function_atomic_checks.specs.View.{answer_view};
-ghost use Rattle.spec_statements.specs.ExpressionResults.{IsExchangeOf};
+ghost use Rattle.spec_statements.specs.judged.ExpressionResults.{IsExchangeOf};
 ghost use Rattle.spec_handles.specs.Operands.{compared};
-ghost use Rattle.spec_statements.specs.Atomics.{atomic_of, changed_scalar, IsStorage, IsInStorage, IsStorageMinMaxWithoutResult, WideOK, IsDoneWithFloats, FloatOK, ScalarAllows, declared_answer, AnswerOK, MayBeUnanswered, AtomicResultOK, AtomicChangeOK, AtomicStatementOK};
-ghost use Rattle.spec_statements.specs.BlockContext.{form_at};
-ghost use Rattle.spec_statements.specs.StorageImages.{IsExtremum};
-ghost use Rattle.spec_statements.specs.Stores.{pointer_space};
-ghost use Rattle.typing_forms.specs.Resolutions.{inner_at};
+ghost use Rattle.spec_statements.specs.judged.Atomics.{atomic_of, changed_scalar, IsStorage, IsInStorage, IsStorageMinMaxWithoutResult, WideOK, IsDoneWithFloats, FloatOK, ScalarAllows, declared_answer, AnswerOK, MayBeUnanswered, AtomicResultOK, AtomicChangeOK, AtomicStatementOK};
+ghost use Rattle.spec_statements.specs.judged.BlockContext.{form_at};
+ghost use Rattle.spec_statements.specs.judged.StorageImages.{IsExtremum};
+ghost use Rattle.spec_statements.specs.judged.Stores.{pointer_space};
+ghost use Rattle.typing_forms.specs.judged.Resolutions.{inner_at};
 
 use bitflags::Flags;
 use function_statement_checks::{StatementContext, pointer_space};

@@ -2,15 +2,15 @@
 
 ghost use Rattle.std.specs.Prelude.{◌≡◌, ◌↔◌, IsTrue, MatchResult, MatchOption, IfOk, Some, option_and_then, option_map};
 ghost use Rattle.ir_kinds.specs.declared.images.StorageFormat.TheVariants.{R32Sint, R32Uint, R64Uint};
-ghost use Rattle.ir_types.specs.Plain.{inner_view, plain};
+ghost use Rattle.ir_types.specs.judged.Plain.{inner_view, plain};
 ghost use Rattle.ir_types.specs.declared.types.TypeInner.TheVariants.{Image, ValuePointer};
 ghost use Rattle.function_atomic_checks.specs.StorageImages.{IsElementFault, IsWrittenImageFault, IsChangedImageFault, IsTexelFault, format_of, IsPlaceFault, IsMisfit, matrix_inner, inner_of_form, IsValueFault, IsImageStoreRefusal, IsFormatFault, IsStorageFault, IsChangeFault, IsImageAtomicFault};
-ghost use Rattle.spec_statements.specs.ImageLoads.{IsTexel};
-ghost use Rattle.spec_statements.specs.Shapes.{picture_of};
-ghost use Rattle.spec_statements.specs.BlockContext.{form_at};
-ghost use Rattle.spec_statements.specs.StorageImages.{resource_of, written_image, picture_in, changed_image, IsTexelOf, ImageStoreOK, IsDoneAtTexels, FormatAllows, IsChangedBy, IsChanged, ImageAtomicOK};
-ghost use Rattle.typing_forms.specs.Forms.{form_of_type};
-ghost use Rattle.typing_forms.specs.Resolutions.{inner_at};
+ghost use Rattle.spec_statements.specs.judged.ImageLoads.{IsTexel};
+ghost use Rattle.spec_statements.specs.judged.Shapes.{picture_of};
+ghost use Rattle.spec_statements.specs.judged.BlockContext.{form_at};
+ghost use Rattle.spec_statements.specs.judged.StorageImages.{resource_of, written_image, picture_in, changed_image, IsTexelOf, ImageStoreOK, IsDoneAtTexels, FormatAllows, IsChangedBy, IsChanged, ImageAtomicOK};
+ghost use Rattle.typing_forms.specs.judged.Forms.{form_of_type};
+ghost use Rattle.typing_forms.specs.judged.Resolutions.{inner_at};
 
 use crate::atomics::is_extremum;
 use bitflags::Flags;

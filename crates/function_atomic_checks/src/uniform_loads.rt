@@ -2,13 +2,13 @@
 
 ghost use Rattle.std.specs.Prelude.{◌≡◌, ◌↔◌, IsTrue, MatchResult, Some, IsSomeAnd};
 ghost use Rattle.function_atomic_checks.specs.UniformLoads.{loaded_at, IsUniformLoadFault};
-ghost use Rattle.ir_types.specs.ExpressionPlain.{expression_view};
+ghost use Rattle.ir_types.specs.judged.ExpressionPlain.{expression_view};
 ghost use Rattle.ir_kinds.specs.declared.spaces.AddressSpace.TheVariants.{WorkGroup};
-ghost use Rattle.spec_expressions.specs.Access.{pointer_to};
-ghost use Rattle.spec_statements.specs.Atomics.{changed_scalar};
-ghost use Rattle.spec_statements.specs.Stores.{pointer_space};
-ghost use Rattle.spec_statements.specs.UniformLoads.{loaded_type, LeadsTo, UniformLoadStatementOK};
-ghost use Rattle.typing_forms.specs.Forms.{form_of_type};
+ghost use Rattle.spec_expressions.specs.judged.Access.{pointer_to};
+ghost use Rattle.spec_statements.specs.judged.Atomics.{changed_scalar};
+ghost use Rattle.spec_statements.specs.judged.Stores.{pointer_space};
+ghost use Rattle.spec_statements.specs.judged.UniformLoads.{loaded_type, LeadsTo, UniformLoadStatementOK};
+ghost use Rattle.typing_forms.specs.judged.Forms.{form_of_type};
 
 use crate::atomics::changed_scalar;
 use function_statement_checks::{StatementContext, pointer_space};

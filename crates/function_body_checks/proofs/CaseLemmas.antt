@@ -10,14 +10,14 @@ use Rattle.std.proofs.lemmas.Map.Views.{tells_apart}
 use Rattle.std.proofs.lemmas.List.{take_more, take_all}
 use Rattle.std.proofs.lemmas.List.Folds.{list_any-append}
 use Rattle.std.proofs.lemmas.Option.{get_or_from_slice_get, slice_get_within}
-use Rattle.ir_blocks.specs.Plain.{PlainStatement, PlainBlock}
-use Rattle.ir_blocks.specs.View.{PlainCase, case_view, cases_of, statement_step, block_step, case_step}
+use Rattle.ir_blocks.specs.judged.Plain.{PlainStatement, PlainBlock}
+use Rattle.ir_blocks.specs.found.View.{PlainCase, case_view, cases_of, statement_step, block_step, case_step}
 use Rattle.ir_blocks.specs.declared.statements.Statement.TheFolds.{fold_out-SwitchCase}
 use Rattle.ir_blocks.specs.declared.statements.SwitchCase.{SwitchCase}
 use Rattle.ir_kinds.specs.declared.scalars.ScalarKind.{ScalarKind}
 use Rattle.ir_kinds.specs.declared.values.SwitchValue.{SwitchValue}
 use Rattle.ir_kinds.specs.declared.values.SwitchValue.TheVariants.{I32, U32, Default}
-use Rattle.spec_statements.specs.Switches.{case_values, FitsKind}
+use Rattle.spec_statements.specs.judged.Switches.{case_values, FitsKind}
 use Rattle.function_body_checks.specs.Cases.{OccursTwice, AreApart}
 use Rattle.function_body_checks.specs.CaseValues.{value_key}
 use Rattle.function_body_checks.proofs.CaseLists.{contains_cons, contains_first, contains_later, image_at, image_before}

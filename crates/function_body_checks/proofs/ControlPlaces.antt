@@ -2,11 +2,11 @@
 use Rattle.std.proofs.Common.{◌≡◌, zero, suc, ℕ, inl, inr, false, List, [], ◌∷◌, Some, None, IsTrue, refl, sym, ap, ◌∙◌, subst}
 use Rattle.typing_errors.specs.declared.error.FunctionError.{FunctionError}
 use Rattle.typing_errors.specs.declared.error.FunctionError.TheVariants as error
-use Rattle.ir_blocks.specs.Control.{breaks_in, continues_in, returns_in, may_leave, parts_around, ControlOK}
-use Rattle.ir_blocks.specs.Places.{Place, here, later, condition, spot_at, OccursAt, statement}
-use Rattle.ir_blocks.specs.Places as at
-use Rattle.ir_blocks.specs.Plain.{PlainStatement, emit, block, if_, switch, loop, break, continue, return, kill, operation, call, PlainBlock, stop, next, PlainCases, no_case, case}
-use Rattle.ir_blocks.specs.Shapes.{Exit, breaks, continues, returns, kills, exit_of, shape_of, Part, inner, accepting, rejecting, case_at, loop_body, loop_continuing, case_body, part_of}
+use Rattle.ir_blocks.specs.judged.Control.{breaks_in, continues_in, returns_in, may_leave, parts_around, ControlOK}
+use Rattle.ir_blocks.specs.judged.Places.{Place, here, later, condition, spot_at, OccursAt, statement}
+use Rattle.ir_blocks.specs.judged.Places as at
+use Rattle.ir_blocks.specs.judged.Plain.{PlainStatement, emit, block, if_, switch, loop, break, continue, return, kill, operation, call, PlainBlock, stop, next, PlainCases, no_case, case}
+use Rattle.ir_blocks.specs.judged.Shapes.{Exit, breaks, continues, returns, kills, exit_of, shape_of, Part, inner, accepting, rejecting, case_at, loop_body, loop_continuing, case_body, part_of}
 use Rattle.function_body_checks.specs.Allowed.{MayLeave, in_body, inside, at_place, allows, AllLeave, LeavesWithin, CasesLeave, IsExitError, LeavesIn, LeftBy, LeavesInCases}
 use Rattle.function_body_checks.specs.ControlFaults.{IsLeftWrongly, IsControlFault}
 

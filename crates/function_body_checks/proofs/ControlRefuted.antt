@@ -1,9 +1,9 @@
 -- A fault refutes the rule.
 use Rattle.std.proofs.Common.{sym, ◌∙◌, true≢false}
 use Rattle.typing_errors.specs.declared.error.FunctionError.TheVariants as error
-use Rattle.ir_blocks.specs.Control.{ControlOK}
-use Rattle.ir_blocks.specs.Plain.{PlainBlock}
-use Rattle.ir_blocks.specs.Shapes.{Exit, breaks, continues, returns}
+use Rattle.ir_blocks.specs.judged.Control.{ControlOK}
+use Rattle.ir_blocks.specs.judged.Plain.{PlainBlock}
+use Rattle.ir_blocks.specs.judged.Shapes.{Exit, breaks, continues, returns}
 use Rattle.function_body_checks.specs.ControlFaults.{IsLeftWrongly}
 use Rattle.function_body_checks.specs.ControlLaws.{FaultsRefute}
 

@@ -3,15 +3,15 @@ use Rattle.std.proofs.Common.{◌≡◌, ℕ, zero, suc, inl, inr, Bool, List, [
 use Rattle.std.proofs.lemmas.List.{append-nil, append_assoc}
 use Rattle.std.proofs.lemmas.List.Elements.{All-nil}
 use Rattle.typing_errors.specs.declared.error.FunctionError.{FunctionError}
-use Rattle.ir_blocks.specs.Places.{Place, here, later, inside, condition, Spot, nothing, statement, loop_condition, condition_of, spot_at}
-use Rattle.ir_blocks.specs.Plain.{PlainStatement, emit, block, if_, switch, loop, break, continue, return, kill, operation, call, PlainBlock, stop, next, PlainCases, no_case, case}
-use Rattle.ir_blocks.specs.Shapes.{Part, inner, accepting, rejecting, case_at, loop_body, loop_continuing, shape_of, part_of, case_body}
-use Rattle.ir_items.specs.Plain.{PlainFunction}
+use Rattle.ir_blocks.specs.judged.Places.{Place, here, later, inside, condition, Spot, nothing, statement, loop_condition, condition_of, spot_at}
+use Rattle.ir_blocks.specs.judged.Plain.{PlainStatement, emit, block, if_, switch, loop, break, continue, return, kill, operation, call, PlainBlock, stop, next, PlainCases, no_case, case}
+use Rattle.ir_blocks.specs.judged.Shapes.{Part, inner, accepting, rejecting, case_at, loop_body, loop_continuing, shape_of, part_of, case_body}
+use Rattle.ir_items.specs.judged.Plain.{PlainFunction}
 use Rattle.spec_statements.proofs.AnswerLaws.{answered_elsewhere}
-use Rattle.spec_statements.specs.Answered.{answered_in, answered_at, answered_before, answered_before_case, answered_before_part}
-use Rattle.spec_statements.specs.Results.{AnswersBy}
-use Rattle.spec_statements.specs.Tables.{checked_at, introduced, introduced_at}
-use Rattle.spec_statements.specs.Visible.{top_level, entering, at_condition, visible}
+use Rattle.spec_statements.specs.found.Answered.{answered_in, answered_at, answered_before, answered_before_case, answered_before_part}
+use Rattle.spec_statements.specs.judged.Results.{AnswersBy}
+use Rattle.spec_statements.specs.judged.Tables.{checked_at, introduced, introduced_at}
+use Rattle.spec_statements.specs.judged.Visible.{top_level, entering, at_condition, visible}
 use Rattle.function_body_checks.specs.Carried.{Fine, Known, AllFine, FineWithin, FineInCases, FaultIn, FaultWithin, FaultInCases, IsFaultHere, answer_at}
 
 module _ (f : PlainFunction) (asked : Bool) where

@@ -7,19 +7,19 @@ use Rattle.typing_errors.specs.declared.atomics.AtomicError.{AtomicError}
 use Rattle.typing_errors.specs.declared.atomics.AtomicError.TheVariants as atomic_error
 use Rattle.typing_errors.specs.declared.calls.CallError.{CallError}
 use Rattle.typing_errors.specs.declared.calls.CallError.TheVariants as call_error
-use Rattle.ir_blocks.specs.Places.{Place, Spot, nothing, statement, loop_condition, spot_at}
-use Rattle.ir_blocks.specs.Plain.{PlainStatement, emit, block, if_, switch, loop, break, continue, return, kill, operation, call}
+use Rattle.ir_blocks.specs.judged.Places.{Place, Spot, nothing, statement, loop_condition, spot_at}
+use Rattle.ir_blocks.specs.judged.Plain.{PlainStatement, emit, block, if_, switch, loop, break, continue, return, kill, operation, call}
 use Rattle.ir_flags.specs.Sets.{Has}
 use Rattle.ir_flags.specs.declared.settings.ValidationFlags.{ValidationFlags}
 use Rattle.ir_flags.specs.declared.settings.TheConstants.ValidationFlags.{EXPRESSIONS}
-use Rattle.ir_items.specs.Plain.{PlainFunction}
+use Rattle.ir_items.specs.judged.Plain.{PlainFunction}
 use Rattle.spec_statements.proofs.AnswerLaws.{answered_elsewhere, by_held, once_by_walk_lem}
 use Rattle.spec_statements.proofs.ScopeLaws.{scope_by_walk_lem}
-use Rattle.spec_statements.specs.Answered.{answered_in, answered_before, EachOnce}
-use Rattle.spec_statements.specs.Results.{answer_of, AnswersBy}
-use Rattle.spec_statements.specs.Scope.{InScope, ScopeOK}
-use Rattle.spec_statements.specs.Tables.{checked_at, introduced_at}
-use Rattle.spec_statements.specs.Visible.{visible}
+use Rattle.spec_statements.specs.found.Answered.{answered_in, answered_before, EachOnce}
+use Rattle.spec_statements.specs.judged.Results.{answer_of, AnswersBy}
+use Rattle.spec_statements.specs.judged.Scope.{InScope, ScopeOK}
+use Rattle.spec_statements.specs.judged.Tables.{checked_at, introduced_at}
+use Rattle.spec_statements.specs.judged.Visible.{visible}
 use Rattle.function_body_checks.proofs.Conversions.{fine_at, fault_in, answering}
 use Rattle.function_body_checks.specs.Carried.{Fine, Known, AllFine, FaultIn, IfFault, IsFaultHere, IsCallError, IsAtomicError, IsAgain, IsArgumentError, answer_at, callee_at}
 use Rattle.function_body_checks.specs.declared.error.ScopeError.{ScopeError}

@@ -6,8 +6,8 @@ use Rattle.std.proofs.lemmas.Bool.{cases_lt}
 use Rattle.std.proofs.lemmas.List.Elements.{All-contains, All-from_get_or}
 use Rattle.std.proofs.lemmas.List.FromFn.{get_or-range_with_len}
 use Rattle.std.proofs.lemmas.Option.{slice_get_past}
-use Rattle.ir_arena.specs.Handles.{handles_between}
-use Rattle.ir_items.specs.Plain.{PlainFunction}
+use Rattle.ir_arena.specs.judged.Handles.{handles_between}
+use Rattle.ir_items.specs.judged.Plain.{PlainFunction}
 use Rattle.ir_sets.specs.Bits.{IsFirst, NoneBetween}
 use Rattle.ir_sets.specs.Next.{AreNext}
 use Rattle.function_body_checks.proofs.Ranges.{length-between, between_contains}
@@ -15,7 +15,7 @@ use Rattle.function_body_checks.proofs.Tables.{pre_true, true_pre}
 use Rattle.function_body_checks.specs.Always.{always_in, AreAlways}
 use Rattle.function_body_checks.specs.Carried.{AreBrought, Known, pre_known}
 use Rattle.function_body_checks.specs.Lists.{AreAdded}
-use Rattle.spec_statements.specs.Scope.{PreEmitted}
+use Rattle.spec_statements.specs.judged.Scope.{PreEmitted}
 
 -- what holds of no number of a range holds of none of its expressions
 pub none_of_range : (P : ℕ → Type 0) (range : ℕ × ℕ) → ((e : ℕ) → range.0 ≤ e → e < range.1 → ¬ P e) → All (λ e. ¬ P e) (handles_between range)

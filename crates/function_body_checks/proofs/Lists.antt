@@ -3,10 +3,10 @@ use Rattle.std.proofs.Common.{◌≡◌, ℕ, zero, suc, List, [], ◌∷◌, So
 use Rattle.std.proofs.lemmas.Bool.{eqb-true, eq-eqb, or_right}
 use Rattle.std.proofs.lemmas.List.Elements.{Contains-append_right}
 use Rattle.std.proofs.lemmas.Option.{slice_get_within, slice_get-get_or, get_or_from_slice_get}
-use Rattle.ir_types.specs.ExpressionPlain.{expression_view, always_in_scope}
+use Rattle.ir_types.specs.judged.ExpressionPlain.{expression_view, always_in_scope}
 use Rattle.ir_types.specs.declared.expressions.Expression.{Expression}
 use Rattle.ir_types.specs.declared.expressions.Expression.TheVariants.{Compose}
-use Rattle.spec_statements.specs.Scope.{is_pre_emitted}
+use Rattle.spec_statements.specs.judged.Scope.{is_pre_emitted}
 use Rattle.function_body_checks.specs.Carried.{holds}
 
 pub same_pre : (e : Expression) → always_in_scope e ≡ is_pre_emitted (expression_view e)

@@ -10,7 +10,7 @@ use Rattle.std.proofs.lemmas.List.{append-nil, append_assoc, flat_map_more, leng
 use Rattle.std.proofs.lemmas.List.Elements.{All-from_get_or}
 use Rattle.std.proofs.lemmas.List.FromFn.{length-range_with_len, get_or-range_with_len}
 use Rattle.std.proofs.lemmas.Map.Made.{length-le_from_is_member}
-use Rattle.ir_arena.specs.Handles.{handles_between}
+use Rattle.ir_arena.specs.judged.Handles.{handles_between}
 use Rattle.ir_sets.specs.Bits.{Becomes, NoneBetween, SomeBetween}
 use Rattle.function_body_checks.proofs.Lists.{holds_at, held_at}
 use Rattle.function_body_checks.proofs.Tables.{only}

@@ -6,19 +6,19 @@ use Rattle.typing_errors.specs.declared.atomics.AtomicError.{AtomicError}
 use Rattle.typing_errors.specs.declared.atomics.AtomicError.TheVariants as atomic_error
 use Rattle.typing_errors.specs.declared.calls.CallError.{CallError}
 use Rattle.typing_errors.specs.declared.calls.CallError.TheVariants as call_error
-use Rattle.ir_blocks.specs.Places.{Place, OccursAt}
-use Rattle.ir_blocks.specs.Plain.{call}
+use Rattle.ir_blocks.specs.judged.Places.{Place, OccursAt}
+use Rattle.ir_blocks.specs.judged.Plain.{call}
 use Rattle.ir_flags.specs.Sets.{Has}
 use Rattle.ir_flags.specs.declared.settings.ValidationFlags.{ValidationFlags}
 use Rattle.ir_flags.specs.declared.settings.TheConstants.ValidationFlags.{EXPRESSIONS}
-use Rattle.ir_items.specs.Plain.{PlainFunction}
+use Rattle.ir_items.specs.judged.Plain.{PlainFunction}
 use Rattle.function_body_checks.proofs.Lists.{contains_at}
 use Rattle.function_body_checks.specs.Faults.{IsPopulated, IsCallErrorAt, IsAtomicErrorIn, IsScopeFault}
 use Rattle.function_body_checks.specs.Laws.{FaultsRefute}
-use Rattle.spec_statements.specs.Answered.{EachOnce}
-use Rattle.spec_statements.specs.Results.{AnswersBy}
-use Rattle.spec_statements.specs.Scope.{ScopeOK}
-use Rattle.spec_statements.specs.Tables.{checked_at, introduced_at}
+use Rattle.spec_statements.specs.found.Answered.{EachOnce}
+use Rattle.spec_statements.specs.judged.Results.{AnswersBy}
+use Rattle.spec_statements.specs.judged.Scope.{ScopeOK}
+use Rattle.spec_statements.specs.judged.Tables.{checked_at, introduced_at}
 
 module _ (flags : ValidationFlags) (f : PlainFunction) (scope : ScopeOK f) (once : EachOnce f.body) (asked : (p : Place) (x : ℕ) → AnswersBy f.body p x → Has flags.0 EXPRESSIONS.0) where
   again : (p : Place) (x : ℕ) → AnswersBy f.body p x → IsPopulated flags f p x → ⊥

@@ -6,16 +6,16 @@ use Rattle.std.proofs.lemmas.List.Elements.{All-nil, All-cons, All-contains, Con
 use Rattle.typing_errors.specs.declared.expressions.ExpressionError.TheVariants.{NotInScope}
 use Rattle.typing_errors.specs.declared.error.FunctionError.{FunctionError}
 use Rattle.typing_errors.specs.declared.error.FunctionError.TheVariants.{Expression}
-use Rattle.ir_arena.specs.Handles.{handles_between}
-use Rattle.ir_blocks.specs.Places.{statement, loop_condition}
-use Rattle.ir_blocks.specs.Plain.{PlainStatement, emit, block, if_, switch, loop, break, continue, return, kill, operation, call}
-use Rattle.ir_types.specs.ExpressionPlain.{PlainExpression}
-use Rattle.ir_items.specs.Plain.{PlainFunction}
+use Rattle.ir_arena.specs.judged.Handles.{handles_between}
+use Rattle.ir_blocks.specs.judged.Places.{statement, loop_condition}
+use Rattle.ir_blocks.specs.judged.Plain.{PlainStatement, emit, block, if_, switch, loop, break, continue, return, kill, operation, call}
+use Rattle.ir_types.specs.judged.ExpressionPlain.{PlainExpression}
+use Rattle.ir_items.specs.judged.Plain.{PlainFunction}
 use Rattle.ir_references.specs.First.{emitted_view}
 use Rattle.spec_handles.specs.Statements.{Emitted, statement_callee, statement_range, statement_result}
-use Rattle.spec_statements.specs.Results.{answer_of}
-use Rattle.spec_statements.specs.Scope.{is_pre_emitted}
-use Rattle.spec_statements.specs.Tables.{checked_at, statement_checked, introduced}
+use Rattle.spec_statements.specs.judged.Results.{answer_of}
+use Rattle.spec_statements.specs.judged.Scope.{is_pre_emitted}
+use Rattle.spec_statements.specs.judged.Tables.{checked_at, statement_checked, introduced}
 use Rattle.function_body_checks.proofs.Lists.{holds_at, held_at}
 use Rattle.function_body_checks.specs.Carried.{Fine, IsBrought, IsFaultHere, IsNoted, Known, holds, pre_known, known, first_lacking, place_lacking}
 use Rattle.function_body_checks.specs.Lists.{IsAdded}

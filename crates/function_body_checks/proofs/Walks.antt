@@ -3,13 +3,13 @@ use Rattle.std.proofs.Math.Seq.{take-append_seam}
 use Rattle.std.proofs.Common.{◌≡◌, ℕ, Bool, List, [], ◌∷◌, ◌++◌, All, Option, length, take, inl, inr, refl, sym, ap, ◌∙◌, subst}
 use Rattle.std.proofs.lemmas.List.{append-nil, append_assoc}
 use Rattle.typing_errors.specs.declared.error.FunctionError.{FunctionError}
-use Rattle.ir_blocks.specs.Places.{statement, loop_condition}
-use Rattle.ir_blocks.specs.Plain.{PlainStatement, if_, switch, loop, PlainBlock, stop, next, PlainCases, no_case, case}
+use Rattle.ir_blocks.specs.judged.Places.{statement, loop_condition}
+use Rattle.ir_blocks.specs.judged.Plain.{PlainStatement, if_, switch, loop, PlainBlock, stop, next, PlainCases, no_case, case}
 use Rattle.ir_kinds.specs.declared.values.SwitchValue.{SwitchValue}
-use Rattle.ir_items.specs.Plain.{PlainFunction}
-use Rattle.spec_statements.specs.Answered.{answered_in, answered_at, answered_in_cases}
-use Rattle.spec_statements.specs.Tables.{introduced, statement_checked}
-use Rattle.spec_statements.specs.Visible.{top_level}
+use Rattle.ir_items.specs.judged.Plain.{PlainFunction}
+use Rattle.spec_statements.specs.found.Answered.{answered_in, answered_at, answered_in_cases}
+use Rattle.spec_statements.specs.judged.Tables.{introduced, statement_checked}
+use Rattle.spec_statements.specs.judged.Visible.{top_level}
 use Rattle.function_body_checks.proofs.FaultLaws.{if_fault_then}
 use Rattle.function_body_checks.specs.Carried.{AllFine, FineWithin, FineInCases, FaultIn, FaultWithin, FaultInCases, IfFault, IsFaultHere, Known}
 use Rattle.function_body_checks.specs.declared.error.ScopeError.{ScopeError}

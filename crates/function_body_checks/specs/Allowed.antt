@@ -2,10 +2,10 @@
 use Rattle.std.specs.Prelude.{◌≡◌, ◌⊎◌, Bool, true, false, IsTrue}
 use Rattle.typing_errors.specs.declared.error.FunctionError.{FunctionError}
 use Rattle.typing_errors.specs.declared.error.FunctionError.TheVariants as error
-use Rattle.ir_blocks.specs.Places.{Place, here, later, condition}
-use Rattle.ir_blocks.specs.Places as at
-use Rattle.ir_blocks.specs.Plain.{PlainStatement, emit, block, if_, switch, loop, break, continue, return, kill, operation, call, PlainBlock, stop, next, PlainCases, no_case, case}
-use Rattle.ir_blocks.specs.Shapes.{Exit, breaks, continues, returns, kills, Part, inner, accepting, rejecting, case_at, loop_body, loop_continuing}
+use Rattle.ir_blocks.specs.judged.Places.{Place, here, later, condition}
+use Rattle.ir_blocks.specs.judged.Places as at
+use Rattle.ir_blocks.specs.judged.Plain.{PlainStatement, emit, block, if_, switch, loop, break, continue, return, kill, operation, call, PlainBlock, stop, next, PlainCases, no_case, case}
+use Rattle.ir_blocks.specs.judged.Shapes.{Exit, breaks, continues, returns, kills, Part, inner, accepting, rejecting, case_at, loop_body, loop_continuing}
 use Rattle.function_body_checks.specs.declared.control.Allowed.{Allowed}
 use Rattle.function_body_checks.specs.declared.control.Wrong.{Wrong}
 use Rattle.function_body_checks.specs.declared.control.Wrong.TheVariants as wrong

@@ -1,6 +1,6 @@
 -- The expressions of a function that are in scope everywhere.
 use Rattle.std.specs.Prelude.{ℕ, Bool, List, length, slice_get}
-use Rattle.ir_items.specs.Plain.{PlainFunction}
+use Rattle.ir_items.specs.judged.Plain.{PlainFunction}
 use Rattle.ir_sets.specs.Next.{AreNext}
 use Rattle.function_body_checks.specs.Carried.{pre_known}
 

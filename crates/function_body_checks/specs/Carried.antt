@@ -10,16 +10,16 @@ use Rattle.typing_errors.specs.declared.atomics.AtomicError.{AtomicError}
 use Rattle.typing_errors.specs.declared.atomics.AtomicError.TheVariants as atomic_error
 use Rattle.typing_errors.specs.declared.calls.CallError.{CallError}
 use Rattle.typing_errors.specs.declared.calls.CallError.TheVariants as call_error
-use Rattle.ir_blocks.specs.Places.{Spot, nothing, statement, loop_condition}
-use Rattle.ir_blocks.specs.Plain.{PlainStatement, emit, block, if_, switch, loop, break, continue, return, kill, operation, call, PlainBlock, stop, next, PlainCases, no_case, case}
-use Rattle.ir_types.specs.ExpressionPlain.{PlainExpression}
-use Rattle.ir_items.specs.Plain.{PlainFunction}
+use Rattle.ir_blocks.specs.judged.Places.{Spot, nothing, statement, loop_condition}
+use Rattle.ir_blocks.specs.judged.Plain.{PlainStatement, emit, block, if_, switch, loop, break, continue, return, kill, operation, call, PlainBlock, stop, next, PlainCases, no_case, case}
+use Rattle.ir_types.specs.judged.ExpressionPlain.{PlainExpression}
+use Rattle.ir_items.specs.judged.Plain.{PlainFunction}
 use Rattle.spec_handles.specs.Statements.{statement_callee}
-use Rattle.spec_statements.specs.Answered.{answered_in, answered_at}
-use Rattle.spec_statements.specs.Results.{answer_of}
-use Rattle.spec_statements.specs.Scope.{PreEmitted, is_pre_emitted}
-use Rattle.spec_statements.specs.Tables.{checked_at, introduced, introduced_at}
-use Rattle.spec_statements.specs.Visible.{top_level}
+use Rattle.spec_statements.specs.found.Answered.{answered_in, answered_at}
+use Rattle.spec_statements.specs.judged.Results.{answer_of}
+use Rattle.spec_statements.specs.judged.Scope.{PreEmitted, is_pre_emitted}
+use Rattle.spec_statements.specs.judged.Tables.{checked_at, introduced, introduced_at}
+use Rattle.spec_statements.specs.judged.Visible.{top_level}
 
 -- what an error speaks of, which is nothing where there is no memory
 abbrev pub IfFault : ScopeError → (FunctionError → Type 0) → Type 0

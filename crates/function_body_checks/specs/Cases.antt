@@ -3,11 +3,11 @@ use Rattle.std.specs.Prelude.{◌≡◌, ◌≢◌, ◌⊎◌, ℕ, ◌<◌, Lis
 use Rattle.std.specs.List.{AllPairs}
 use Rattle.typing_errors.specs.declared.error.FunctionError.{FunctionError}
 use Rattle.typing_errors.specs.declared.error.FunctionError.TheVariants as error
-use Rattle.ir_blocks.specs.Plain.{PlainCases}
+use Rattle.ir_blocks.specs.judged.Plain.{PlainCases}
 use Rattle.ir_kinds.specs.declared.scalars.ScalarKind.{ScalarKind}
 use Rattle.ir_kinds.specs.declared.values.SwitchValue.{SwitchValue}
 use Rattle.ir_kinds.specs.declared.values.SwitchValue.TheVariants.{Default}
-use Rattle.spec_statements.specs.Switches.{case_values, FitsKind, falls_at_end}
+use Rattle.spec_statements.specs.judged.Switches.{case_values, FitsKind, falls_at_end}
 
 -- A value stands at two places.
 pub record OccursTwice (values : List SwitchValue) (v : SwitchValue) : Type 0 where

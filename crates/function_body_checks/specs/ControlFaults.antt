@@ -2,10 +2,10 @@
 use Rattle.std.specs.Prelude.{◌≡◌, false, [], Some}
 use Rattle.typing_errors.specs.declared.error.FunctionError.{FunctionError}
 use Rattle.typing_errors.specs.declared.error.FunctionError.TheVariants as error
-use Rattle.ir_blocks.specs.Control.{may_leave, parts_around}
-use Rattle.ir_blocks.specs.Places.{Place, OccursAt}
-use Rattle.ir_blocks.specs.Plain.{PlainStatement, PlainBlock}
-use Rattle.ir_blocks.specs.Shapes.{Exit, breaks, continues, returns, exit_of, shape_of}
+use Rattle.ir_blocks.specs.judged.Control.{may_leave, parts_around}
+use Rattle.ir_blocks.specs.judged.Places.{Place, OccursAt}
+use Rattle.ir_blocks.specs.judged.Plain.{PlainStatement, PlainBlock}
+use Rattle.ir_blocks.specs.judged.Shapes.{Exit, breaks, continues, returns, exit_of, shape_of}
 
 -- a statement leaves its block so where it may not
 pub record IsLeftWrongly (b : PlainBlock) (exit : Exit) : Type 0 where

@@ -1,7 +1,7 @@
 -- A fault refutes the rule.
 use Rattle.typing_errors.specs.declared.error.FunctionError.{FunctionError}
-use Rattle.ir_blocks.specs.Control.{ControlOK}
-use Rattle.ir_blocks.specs.Plain.{PlainBlock}
+use Rattle.ir_blocks.specs.judged.Control.{ControlOK}
+use Rattle.ir_blocks.specs.judged.Plain.{PlainBlock}
 use Rattle.function_body_checks.specs.ControlFaults.{IsControlFault}
 
 abbrev pub FaultsRefute : Type 0

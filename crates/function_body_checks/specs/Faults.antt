@@ -7,18 +7,18 @@ use Rattle.typing_errors.specs.declared.atomics.AtomicError.{AtomicError}
 use Rattle.typing_errors.specs.declared.atomics.AtomicError.TheVariants as atomic_error
 use Rattle.typing_errors.specs.declared.calls.CallError.{CallError}
 use Rattle.typing_errors.specs.declared.calls.CallError.TheVariants as call_error
-use Rattle.ir_blocks.specs.Places.{Place, OccursAt, spot_at}
-use Rattle.ir_blocks.specs.Plain.{call}
+use Rattle.ir_blocks.specs.judged.Places.{Place, OccursAt, spot_at}
+use Rattle.ir_blocks.specs.judged.Plain.{call}
 use Rattle.ir_faults.specs.Faults.{error_of}
 use Rattle.ir_faults.specs.declared.refusal.Refusal.{Refusal}
 use Rattle.ir_faults.specs.declared.refusal.Refusal.TheVariants as refusal
 use Rattle.ir_flags.specs.Sets.{Has}
 use Rattle.ir_flags.specs.declared.settings.ValidationFlags.{ValidationFlags}
 use Rattle.ir_flags.specs.declared.settings.TheConstants.ValidationFlags.{EXPRESSIONS}
-use Rattle.ir_items.specs.Plain.{PlainFunction}
+use Rattle.ir_items.specs.judged.Plain.{PlainFunction}
 use Rattle.function_body_checks.specs.Carried.{callee_at}
-use Rattle.spec_statements.specs.Results.{AnswersBy}
-use Rattle.spec_statements.specs.Scope.{InScope, Checks, Introduces}
+use Rattle.spec_statements.specs.judged.Results.{AnswersBy}
+use Rattle.spec_statements.specs.judged.Scope.{InScope, Checks, Introduces}
 
 -- no call stands at the place
 abbrev pub NoCallAt : PlainFunction → Place → Type 0

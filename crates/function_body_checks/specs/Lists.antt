@@ -3,7 +3,7 @@ use Rattle.std.specs.Prelude.{◌≡◌, ℕ, ◌<◌, Bool, true, false, List, 
 use Rattle.std.specs.List.{flat_map}
 use Rattle.std.specs.Ordering.{nat_cmp}
 use Rattle.std.specs.FinSet as set
-use Rattle.ir_arena.specs.Handles.{handles_between}
+use Rattle.ir_arena.specs.judged.Handles.{handles_between}
 use Rattle.function_body_checks.specs.Carried.{holds}
 
 -- the expressions of these ranges

@@ -2,10 +2,10 @@
 
 ghost use Rattle.std.specs.Prelude.{ℕ, IfOk, All, Contains};
 ghost use Rattle.std.specs.Bool.{MatchBool};
-ghost use Rattle.ir_arena.specs.Handles.{handles_between};
-ghost use Rattle.ir_items.specs.View.{function_view};
+ghost use Rattle.ir_arena.specs.judged.Handles.{handles_between};
+ghost use Rattle.ir_items.specs.found.View.{function_view};
 ghost use Rattle.function_body_checks.specs.Always.{AreAlways};
-ghost use Rattle.spec_statements.specs.Scope.{PreEmitted};
+ghost use Rattle.spec_statements.specs.judged.Scope.{PreEmitted};
 
 use crate::operands::is_always_known;
 use ir_arena::handle::Handle;
@@ -21,7 +21,7 @@ struct AlwaysKnown<'a> {
 }
 
 impl PlaceTest for AlwaysKnown<'_> {
-    ghost use Rattle.ir_items.specs.View.{function_view};
+    ghost use Rattle.ir_items.specs.found.View.{function_view};
     ghost use Rattle.function_body_checks.specs.Always.{always_in};
 
     ghost passes = { λ t. always_in (function_view t.function.now) };

@@ -1,11 +1,11 @@
 //! By what calls and atomic operations answer.
 
 ghost use Rattle.std.specs.Prelude.{◌≡◌, ℕ, Bool, List, IfErr, OnOk, Some};
-ghost use Rattle.ir_blocks.specs.Places.{statement as spot};
-ghost use Rattle.ir_blocks.specs.View.{statement_view};
-ghost use Rattle.ir_items.specs.Plain.{PlainFunction};
+ghost use Rattle.ir_blocks.specs.judged.Places.{statement as spot};
+ghost use Rattle.ir_blocks.specs.found.View.{statement_view};
+ghost use Rattle.ir_items.specs.judged.Plain.{PlainFunction};
 ghost use Rattle.function_body_checks.specs.Carried.{IfFault, IsAgain, IsFaultHere, IsNoted};
-ghost use Rattle.spec_statements.specs.Results.{answer_of};
+ghost use Rattle.spec_statements.specs.judged.Results.{answer_of};
 
 use crate::error::ScopeError;
 use crate::list::ExpressionList;

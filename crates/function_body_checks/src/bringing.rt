@@ -1,13 +1,13 @@
 //! What statements bring into scope.
 
 ghost use Rattle.std.specs.Prelude.{◌≡◌, ◌++◌, ℕ, Bool, List, All, Contains, IfErr, IfNone, IfOk, IfSome, OnOk, option_to_list};
-ghost use Rattle.ir_arena.specs.Handles.{handles_between};
-ghost use Rattle.ir_blocks.specs.Places.{statement as spot};
-ghost use Rattle.ir_blocks.specs.View.{statement_view};
-ghost use Rattle.ir_items.specs.Plain.{PlainFunction};
-ghost use Rattle.ir_items.specs.View.{function_view};
+ghost use Rattle.ir_arena.specs.judged.Handles.{handles_between};
+ghost use Rattle.ir_blocks.specs.judged.Places.{statement as spot};
+ghost use Rattle.ir_blocks.specs.found.View.{statement_view};
+ghost use Rattle.ir_items.specs.judged.Plain.{PlainFunction};
+ghost use Rattle.ir_items.specs.found.View.{function_view};
 ghost use Rattle.function_body_checks.specs.Carried.{IfFault, IsBrought, IsFaultHere, AreBrought, Known};
-ghost use Rattle.spec_statements.specs.Tables.{introduced};
+ghost use Rattle.spec_statements.specs.judged.Tables.{introduced};
 
 use crate::always::{Outline, has_always};
 use crate::error::ScopeError;

@@ -1,11 +1,11 @@
 //! The values of the cases of a switch.
 
 ghost use Rattle.std.specs.Prelude.{◌≡◌, ◌↔◌, IsTrue, IfOk, IfSome, None, Contains, false, List, map};
-ghost use Rattle.ir_blocks.specs.View.{case_view, cases_of};
+ghost use Rattle.ir_blocks.specs.found.View.{case_view, cases_of};
 ghost use Rattle.ir_kinds.specs.declared.scalars.ScalarKind.TheVariants.{Sint, Uint};
 ghost use Rattle.ir_kinds.specs.declared.values.SwitchValue.{SwitchValue as Value};
 ghost use Rattle.ir_kinds.specs.declared.values.SwitchValue.TheVariants.{Default};
-ghost use Rattle.spec_statements.specs.Switches.{case_values, FitsKind, falls_at_end, CasesOK};
+ghost use Rattle.spec_statements.specs.judged.Switches.{case_values, FitsKind, falls_at_end, CasesOK};
 ghost use Rattle.function_body_checks.specs.Cases.{OccursTwice, IsValueFault, AreApart, IsCaseFault};
 ghost use Rattle.function_body_checks.specs.CaseValues.{value_key};
 

@@ -25,7 +25,7 @@ pub struct Allowed {
 }
 
 impl Allowed {
-    ghost use Rattle.ir_blocks.specs.Shapes.{case_at, loop_body, loop_continuing};
+    ghost use Rattle.ir_blocks.specs.judged.Shapes.{case_at, loop_body, loop_continuing};
     ghost use Rattle.function_body_checks.specs.Allowed.{in_body, inside};
 
     /// In a function's body.

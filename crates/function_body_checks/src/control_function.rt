@@ -1,8 +1,8 @@
 //! How the statements of a function leave their blocks.
 
 ghost use Rattle.std.specs.Prelude.{MatchResult};
-ghost use Rattle.ir_blocks.specs.Control.{ControlOK};
-ghost use Rattle.ir_blocks.specs.View.{block_view};
+ghost use Rattle.ir_blocks.specs.judged.Control.{ControlOK};
+ghost use Rattle.ir_blocks.specs.found.View.{block_view};
 ghost use Rattle.function_body_checks.specs.ControlFaults.{IsControlFault};
 
 use crate::control::{Allowed, Wrong};

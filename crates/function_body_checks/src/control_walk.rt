@@ -1,7 +1,7 @@
 //! The walk over a body.
 
 ghost use Rattle.std.specs.Prelude.{MatchResult, map};
-ghost use Rattle.ir_blocks.specs.View.{statement_view, block_view, case_view, cases_of};
+ghost use Rattle.ir_blocks.specs.found.View.{statement_view, block_view, case_view, cases_of};
 ghost use Rattle.function_body_checks.specs.Allowed.{error_of, view_of, AllLeave, LeavesWithin, CasesLeave, LeavesIn, LeftBy, LeavesInCases};
 
 use crate::control::{Allowed, Wrong};

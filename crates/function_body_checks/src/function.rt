@@ -1,18 +1,18 @@
 //! The scope of a function's body.
 
 ghost use Rattle.std.specs.Prelude.{◌≡◌, ◌↔◌, ℕ, [], Contains, IfErr, IfOk, IsTrue, OnOk};
-ghost use Rattle.ir_blocks.specs.Places.{Place};
+ghost use Rattle.ir_blocks.specs.judged.Places.{Place};
 ghost use Rattle.ir_flags.specs.Sets.{Has};
 ghost use Rattle.ir_flags.specs.declared.settings.TheConstants.ValidationFlags.{EXPRESSIONS};
 ghost use Rattle.ir_flags.specs.declared.settings.ValidationFlags.{ValidationFlags};
-ghost use Rattle.ir_items.specs.Plain.{PlainFunction};
-ghost use Rattle.ir_items.specs.View.{function_view};
+ghost use Rattle.ir_items.specs.judged.Plain.{PlainFunction};
+ghost use Rattle.ir_items.specs.found.View.{function_view};
 ghost use Rattle.typing_errors.specs.declared.error.FunctionError.TheVariants.{InvalidCall};
 ghost use Rattle.function_body_checks.specs.Carried.{IfFault};
 ghost use Rattle.function_body_checks.specs.Faults.{IsScopeFault, IsScopeRefusal};
-ghost use Rattle.spec_statements.specs.Answered.{EachOnce};
-ghost use Rattle.spec_statements.specs.Results.{AnswersBy};
-ghost use Rattle.spec_statements.specs.Scope.{ScopeOK};
+ghost use Rattle.spec_statements.specs.found.Answered.{EachOnce};
+ghost use Rattle.spec_statements.specs.judged.Results.{AnswersBy};
+ghost use Rattle.spec_statements.specs.judged.Scope.{ScopeOK};
 
 use crate::always::{Outline, next_always};
 use crate::error::ScopeError;

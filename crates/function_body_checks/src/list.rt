@@ -1,7 +1,7 @@
 //! Expressions in the order in which they came, each once.
 
 ghost use Rattle.std.specs.Prelude.{◌≡◌, ◌+◌, ◌-◌, ◌<◌, ◌≤◌, ◌↔◌, ℕ, [], IsTrue, IfOk, Contains, length, take};
-ghost use Rattle.ir_arena.specs.Handles.{handles_between};
+ghost use Rattle.ir_arena.specs.judged.Handles.{handles_between};
 ghost use Rattle.function_body_checks.specs.Lists.{listed, AreListed, IsAdded, AreAdded};
 
 use ir_arena::handle::Handle;

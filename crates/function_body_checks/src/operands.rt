@@ -1,12 +1,12 @@
 //! What statements use that has to be in scope.
 
 ghost use Rattle.std.specs.Prelude.{◌≡◌, slice_get};
-ghost use Rattle.ir_blocks.specs.View.{statement_view};
-ghost use Rattle.ir_types.specs.ExpressionPlain.{expression_view};
-ghost use Rattle.ir_items.specs.View.{function_view};
+ghost use Rattle.ir_blocks.specs.found.View.{statement_view};
+ghost use Rattle.ir_types.specs.judged.ExpressionPlain.{expression_view};
+ghost use Rattle.ir_items.specs.found.View.{function_view};
 ghost use Rattle.function_body_checks.specs.Carried.{holds, pre_known, known, first_lacking, place_lacking};
 ghost use Rattle.spec_handles.specs.Operands.{these, is_looked_up, looked_up, of_statement};
-ghost use Rattle.spec_statements.specs.Scope.{is_pre_emitted};
+ghost use Rattle.spec_statements.specs.judged.Scope.{is_pre_emitted};
 
 use crate::list::ExpressionList;
 use ir_arena::handle::Handle;
@@ -105,7 +105,7 @@ struct Unknown<'a> {
 
 impl OperandUser<(), Option<Handle<key::Expression>>> for Unknown<'_> {
     ghost use Rattle.std.specs.Prelude.{◌≡◌};
-    ghost use Rattle.ir_items.specs.View.{function_view};
+    ghost use Rattle.ir_items.specs.found.View.{function_view};
     ghost use Rattle.function_body_checks.specs.Carried.{known, first_lacking};
     ghost use Rattle.spec_handles.specs.Operands.{looked_up};
 

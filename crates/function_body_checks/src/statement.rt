@@ -1,13 +1,13 @@
 //! What a statement itself uses, brings into scope and answers by.
 
 ghost use Rattle.std.specs.Prelude.{◌≡◌, ◌++◌, ℕ, Bool, List, All, IfErr, IfNone, IfSome, OnOk, Some, option_to_list};
-ghost use Rattle.ir_blocks.specs.Places.{statement as spot, loop_condition};
-ghost use Rattle.ir_blocks.specs.View.{statement_view};
-ghost use Rattle.ir_items.specs.View.{function_view};
+ghost use Rattle.ir_blocks.specs.judged.Places.{statement as spot, loop_condition};
+ghost use Rattle.ir_blocks.specs.found.View.{statement_view};
+ghost use Rattle.ir_items.specs.found.View.{function_view};
 ghost use Rattle.function_body_checks.specs.Carried.{Fine, IfFault, IsArgumentError, IsFaultHere, Known};
 ghost use Rattle.spec_handles.specs.Statements.{statement_callee};
-ghost use Rattle.spec_statements.specs.Results.{answer_of};
-ghost use Rattle.spec_statements.specs.Tables.{checked_at, introduced, statement_checked};
+ghost use Rattle.spec_statements.specs.judged.Results.{answer_of};
+ghost use Rattle.spec_statements.specs.judged.Tables.{checked_at, introduced, statement_checked};
 
 use crate::always::Outline;
 use crate::answers::note_answer;

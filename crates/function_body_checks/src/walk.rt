@@ -1,12 +1,12 @@
 //! The walk over a body: in the order of the text, block by block.
 
 ghost use Rattle.std.specs.Prelude.{◌≡◌, ◌++◌, IfErr, OnOk, map};
-ghost use Rattle.ir_blocks.specs.View.{statement_view, block_view, case_view, cases_of};
-ghost use Rattle.ir_items.specs.View.{function_view};
+ghost use Rattle.ir_blocks.specs.found.View.{statement_view, block_view, case_view, cases_of};
+ghost use Rattle.ir_items.specs.found.View.{function_view};
 ghost use Rattle.function_body_checks.specs.Carried.{IfFault, AllFine, FineWithin, FineInCases, FaultIn, FaultWithin, FaultInCases};
-ghost use Rattle.spec_statements.specs.Answered.{answered_in, answered_at, answered_in_cases};
-ghost use Rattle.spec_statements.specs.Tables.{introduced};
-ghost use Rattle.spec_statements.specs.Visible.{top_level};
+ghost use Rattle.spec_statements.specs.found.Answered.{answered_in, answered_at, answered_in_cases};
+ghost use Rattle.spec_statements.specs.judged.Tables.{introduced};
+ghost use Rattle.spec_statements.specs.judged.Visible.{top_level};
 
 use crate::always::Outline;
 use crate::error::ScopeError;

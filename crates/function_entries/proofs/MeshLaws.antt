@@ -11,15 +11,15 @@ use Rattle.function_entries.specs.declared.meshes.Fields.{Fields}
 use Rattle.ir_faults.specs.Faults.{error_of}
 use Rattle.ir_faults.specs.declared.refusal.Refusal.{Refusal}
 use Rattle.ir_faults.specs.declared.refusal.Refusal.TheVariants as refusal
-use Rattle.ir_items.specs.GlobalPlain.{PlainGlobal}
-use Rattle.ir_items.specs.Plain.{PlainModule}
+use Rattle.ir_items.specs.judged.GlobalPlain.{PlainGlobal}
+use Rattle.ir_items.specs.judged.Plain.{PlainModule}
 use Rattle.ir_items.specs.declared.entries.MeshStageInfo.{MeshStageInfo}
 use Rattle.ir_kinds.specs.declared.stages.MeshOutputTopology.{MeshOutputTopology}
 use Rattle.ir_kinds.specs.declared.stages.MeshOutputTopology.TheVariants.{Triangles}
-use Rattle.ir_types.specs.Plain.{PlainMember, PlainType}
+use Rattle.ir_types.specs.judged.Plain.{PlainMember, PlainType}
 use Rattle.ir_types.specs.declared.types.ArraySize.{ArraySize}
-use Rattle.spec_interface.specs.Members.{members_at, topologies_at, types_bound}
-use Rattle.spec_interface.specs.Meshes.{AreParts, FieldsOK, HasParts, HoldsMost, ImpliesMeshInfo, IsCount, IsSaid, GivenByOverride, most, variable_members, without_overrides}
+use Rattle.spec_interface.specs.judged.Members.{members_at, topologies_at, types_bound}
+use Rattle.spec_interface.specs.judged.Meshes.{AreParts, FieldsOK, HasParts, HoldsMost, ImpliesMeshInfo, IsCount, IsSaid, GivenByOverride, most, variable_members, without_overrides}
 use Rattle.spec_interface.specs.declared.parts.MeshPart.{MeshPart}
 use Rattle.spec_interface.specs.declared.parts.MeshPart.TheVariants.{VertexCount, Vertices, PrimitiveCount, Primitives}
 use Rattle.spec_interface.specs.declared.parts.MeshParts.{MeshParts}

@@ -14,25 +14,25 @@ use Rattle.ir_flags.specs.Sets.{Has}
 use Rattle.ir_flags.specs.declared.settings.Capabilities.{Capabilities}
 use Rattle.ir_flags.specs.declared.settings.ValidationFlags.{ValidationFlags}
 use Rattle.ir_flags.specs.declared.settings.TheConstants.ValidationFlags.{BINDINGS}
-use Rattle.ir_items.specs.GlobalPlain.{PlainGlobal}
-use Rattle.ir_items.specs.Plain.{PlainArgument, PlainEntry, PlainModule}
+use Rattle.ir_items.specs.judged.GlobalPlain.{PlainGlobal}
+use Rattle.ir_items.specs.judged.Plain.{PlainArgument, PlainEntry, PlainModule}
 use Rattle.ir_items.specs.declared.entries.MeshStageInfo.{MeshStageInfo}
 use Rattle.ir_items.specs.declared.functions.FunctionResult.{FunctionResult}
 use Rattle.ir_kinds.specs.declared.spaces.AddressSpace.{AddressSpace}
 use Rattle.ir_kinds.specs.declared.spaces.AddressSpace.TheVariants.{RayPayload, IncomingRayPayload, TaskPayload}
 use Rattle.ir_kinds.specs.declared.stages.ShaderStage.{ShaderStage}
-use Rattle.ir_types.specs.Plain.{PlainType}
-use Rattle.spec_analysis.specs.Summaries.{HasUseBit}
-use Rattle.spec_interface.specs.Entries.{ConnectionsOK}
-use Rattle.spec_interface.specs.Members.{members_at}
-use Rattle.spec_interface.specs.Meshes.{MeshOK}
-use Rattle.spec_interface.specs.Payloads.{space_at}
-use Rattle.spec_interface.specs.Results.{AnswerOK}
-use Rattle.spec_interface.specs.Stages.{StageOK, runs_in_workgroups}
-use Rattle.spec_interface.specs.Uses.{is_reached}
-use Rattle.spec_interface.specs.Variables.{VariableOK, VariablesOK}
-use Rattle.spec_interface.specs.Contexts.{VaryingContext, context_of}
-use Rattle.spec_interface.specs.Varyings.{VaryingsOK, argument_varyings, mesh_varyings, result_varyings}
+use Rattle.ir_types.specs.judged.Plain.{PlainType}
+use Rattle.spec_analysis.specs.judged.Summaries.{HasUseBit}
+use Rattle.spec_interface.specs.judged.Entries.{ConnectionsOK}
+use Rattle.spec_interface.specs.judged.Members.{members_at}
+use Rattle.spec_interface.specs.judged.Meshes.{MeshOK}
+use Rattle.spec_interface.specs.judged.Payloads.{space_at}
+use Rattle.spec_interface.specs.judged.Results.{AnswerOK}
+use Rattle.spec_interface.specs.judged.Stages.{StageOK, runs_in_workgroups}
+use Rattle.spec_interface.specs.judged.Uses.{is_reached}
+use Rattle.spec_interface.specs.judged.Variables.{VariableOK, VariablesOK}
+use Rattle.spec_interface.specs.judged.Contexts.{VaryingContext, context_of}
+use Rattle.spec_interface.specs.judged.Varyings.{VaryingsOK, argument_varyings, mesh_varyings, result_varyings}
 use Rattle.spec_interface.specs.declared.varyings.Direction.TheVariants.{Input, Output, VertexOutput, PrimitiveOutput}
 use Rattle.spec_interface.specs.declared.varyings.Varying.{Varying}
 use Rattle.function_varying_checks.specs.declared.error.VaryingError.TheVariants as varying

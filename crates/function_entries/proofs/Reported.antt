@@ -9,10 +9,10 @@ use Rattle.ir_faults.specs.declared.refusal.Refusal.{Refusal}
 use Rattle.ir_faults.specs.declared.refusal.Refusal.TheVariants as refusal
 use Rattle.ir_flags.specs.declared.settings.Capabilities.{Capabilities}
 use Rattle.ir_flags.specs.declared.settings.ValidationFlags.{ValidationFlags}
-use Rattle.ir_items.specs.Plain.{PlainEntry, PlainModule}
+use Rattle.ir_items.specs.judged.Plain.{PlainEntry, PlainModule}
 use Rattle.ir_items.specs.declared.entries.MeshStageInfo.{MeshStageInfo}
-use Rattle.ir_types.specs.Plain.{PlainType}
-use Rattle.spec_interface.specs.Contexts.{VaryingContext}
+use Rattle.ir_types.specs.judged.Plain.{PlainType}
+use Rattle.spec_interface.specs.judged.Contexts.{VaryingContext}
 use Rattle.spec_interface.specs.declared.varyings.Varying.{Varying}
 use Rattle.function_varying_checks.specs.Faults.{IsRefusal}
 use Rattle.function_varying_checks.specs.declared.error.VaryingRefusal.{VaryingRefusal}

@@ -9,10 +9,10 @@ use Rattle.function_entry_checks.specs.declared.error.EntryPointError.TheVariant
 use Rattle.function_entries.specs.ConnectionFaults.{IsConnectionFault, of_arguments, of_result, of_answer, of_variables, of_mesh}
 use Rattle.ir_flags.specs.declared.settings.Capabilities.{Capabilities}
 use Rattle.ir_flags.specs.declared.settings.ValidationFlags.{ValidationFlags}
-use Rattle.ir_items.specs.GlobalPlain.{PlainGlobal}
-use Rattle.ir_items.specs.Plain.{PlainEntry, PlainModule}
-use Rattle.spec_interface.specs.Entries.{ConnectionsOK}
-use Rattle.spec_interface.specs.Variables.{IsUsed, VariableOK, VariablesOK}
+use Rattle.ir_items.specs.judged.GlobalPlain.{PlainGlobal}
+use Rattle.ir_items.specs.judged.Plain.{PlainEntry, PlainModule}
+use Rattle.spec_interface.specs.judged.Entries.{ConnectionsOK}
+use Rattle.spec_interface.specs.judged.Variables.{IsUsed, VariableOK, VariablesOK}
 
 module _ (m : PlainModule) (e : PlainEntry) (U V : ℕ → ℕ → Type 0) (same : (g k : ℕ) → g < length m.globals → U g k ↔ V g k) where
   used_to : (g : ℕ) → g < length m.globals → IsUsed U g → IsUsed V g

@@ -6,10 +6,10 @@ use Rattle.function_entries.specs.OutputFaults.{IsMeshFault}
 use Rattle.function_entries.specs.VaryingFaults.{IsAnswerFault, IsArgumentFault, IsGivenFault}
 use Rattle.ir_flags.specs.declared.settings.Capabilities.{Capabilities}
 use Rattle.ir_flags.specs.declared.settings.ValidationFlags.{ValidationFlags}
-use Rattle.ir_items.specs.Plain.{PlainEntry, PlainModule}
+use Rattle.ir_items.specs.judged.Plain.{PlainEntry, PlainModule}
 use Rattle.ir_items.specs.declared.entries.MeshStageInfo.{MeshStageInfo}
-use Rattle.spec_interface.specs.Contexts.{context_of}
-use Rattle.spec_interface.specs.Varyings.{result_varyings}
+use Rattle.spec_interface.specs.judged.Contexts.{context_of}
+use Rattle.spec_interface.specs.judged.Varyings.{result_varyings}
 use Rattle.spec_interface.specs.declared.varyings.Direction.TheVariants.{Input, Output}
 
 pub data IsConnectionFault (flags : ValidationFlags) (capabilities : Capabilities) (m : PlainModule) (e : PlainEntry) (Uses : ℕ → ℕ → Type 0) (x : EntryPointError) : Type 0 where

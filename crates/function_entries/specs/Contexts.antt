@@ -1,9 +1,9 @@
 -- What the rules of entry points look at, as plain data.
 use Rattle.std.specs.Prelude.{◌≡◌, length}
 use Rattle.function_entries.specs.declared.context.EntryContext.{EntryContext}
-use Rattle.ir_items.specs.Plain.{PlainEntry, PlainModule}
-use Rattle.ir_items.specs.View.{entry_view, module_view}
-use Rattle.spec_interface.specs.Contexts.{VaryingContext, context_of}
+use Rattle.ir_items.specs.judged.Plain.{PlainEntry, PlainModule}
+use Rattle.ir_items.specs.found.View.{entry_view, module_view}
+use Rattle.spec_interface.specs.judged.Contexts.{VaryingContext, context_of}
 use Rattle.spec_interface.specs.declared.varyings.Direction.{Direction}
 use Rattle.spec_interface.specs.declared.varyings.Direction.TheVariants.{Input}
 use Rattle.module_type_checks.specs.Known.{AreInfos}

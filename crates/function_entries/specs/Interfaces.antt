@@ -7,9 +7,9 @@ use Rattle.function_entries.specs.declared.known.KnownMeshes.{KnownMeshes}
 use Rattle.ir_flags.specs.declared.settings.Capabilities.{Capabilities}
 use Rattle.ir_flags.specs.declared.settings.ValidationFlags.{ValidationFlags}
 use Rattle.ir_kinds.specs.declared.stages.MeshOutputTopology.{MeshOutputTopology}
-use Rattle.ir_types.specs.Plain.{PlainMember, PlainType}
-use Rattle.spec_interface.specs.Members.{members_at, topologies_at}
-use Rattle.spec_interface.specs.Meshes.{AreParts}
+use Rattle.ir_types.specs.judged.Plain.{PlainMember, PlainType}
+use Rattle.spec_interface.specs.judged.Members.{members_at, topologies_at}
+use Rattle.spec_interface.specs.judged.Meshes.{AreParts}
 use Rattle.spec_interface.specs.declared.parts.MeshParts.{MeshParts}
 use Rattle.function_varyings.specs.Known.{AreKnownOf}
 

@@ -6,14 +6,14 @@ use Rattle.function_entries.specs.ConnectionFaults.{IsConnectionFault}
 use Rattle.function_entries.specs.MeshFaults.{AreSame}
 use Rattle.ir_flags.specs.declared.settings.Capabilities.{Capabilities}
 use Rattle.ir_flags.specs.declared.settings.ValidationFlags.{ValidationFlags}
-use Rattle.ir_items.specs.Plain.{PlainEntry, PlainModule}
+use Rattle.ir_items.specs.judged.Plain.{PlainEntry, PlainModule}
 use Rattle.ir_items.specs.declared.entries.MeshStageInfo.{MeshStageInfo}
-use Rattle.spec_analysis.specs.Summaries.{HasUseBit}
+use Rattle.spec_analysis.specs.judged.Summaries.{HasUseBit}
 use Rattle.spec_analysis.specs.declared.global_use.GlobalUse.{GlobalUse}
-use Rattle.spec_interface.specs.Entries.{ConnectionsOK}
-use Rattle.spec_interface.specs.Meshes.{ImpliesMeshInfo}
-use Rattle.spec_interface.specs.Payloads.{PayloadOK}
-use Rattle.spec_interface.specs.Stages.{StageOK}
+use Rattle.spec_interface.specs.judged.Entries.{ConnectionsOK}
+use Rattle.spec_interface.specs.judged.Meshes.{ImpliesMeshInfo}
+use Rattle.spec_interface.specs.judged.Payloads.{PayloadOK}
+use Rattle.spec_interface.specs.judged.Stages.{StageOK}
 
 abbrev pub StageFaultRefutes : Type 0
 StageFaultRefutes = (capabilities : Capabilities) (e : PlainEntry) (x : EntryPointError) → IsStageFault capabilities e x → ¬ StageOK capabilities e

@@ -2,11 +2,11 @@
 use Rattle.std.specs.Prelude.{◌≡◌, ◌⊎◌, ◌∷◌, [], ℕ, Option}
 use Rattle.function_entry_checks.specs.declared.error.EntryPointError.{EntryPointError}
 use Rattle.function_entry_checks.specs.declared.error.EntryPointError.TheVariants as error
-use Rattle.ir_items.specs.Plain.{PlainModule}
+use Rattle.ir_items.specs.judged.Plain.{PlainModule}
 use Rattle.ir_items.specs.declared.entries.MeshStageInfo.{MeshStageInfo}
 use Rattle.ir_kinds.specs.declared.stages.MeshOutputTopology.{MeshOutputTopology}
-use Rattle.spec_interface.specs.Members.{topologies_at}
-use Rattle.spec_interface.specs.Meshes.{FieldsOK, HasParts, ImpliesMeshInfo, IsSaid}
+use Rattle.spec_interface.specs.judged.Members.{topologies_at}
+use Rattle.spec_interface.specs.judged.Meshes.{FieldsOK, HasParts, ImpliesMeshInfo, IsSaid}
 use Rattle.spec_interface.specs.declared.parts.MeshParts.{MeshParts}
 
 -- both say the same, overrides and the variable aside

@@ -1,8 +1,8 @@
 -- What a mesh shader gives, by the fields of the variable that holds it.
 use Rattle.std.specs.Prelude.{ℕ}
 use Rattle.function_entries.specs.declared.meshes.Fields.{Fields}
-use Rattle.ir_items.specs.Plain.{PlainModule}
-use Rattle.spec_interface.specs.Meshes.{HasParts, HoldsMost, IsCount}
+use Rattle.ir_items.specs.judged.Plain.{PlainModule}
+use Rattle.spec_interface.specs.judged.Meshes.{HasParts, HoldsMost, IsCount}
 use Rattle.spec_interface.specs.declared.parts.MeshParts.{MeshParts}
 
 -- the variable has parts, of which these are the vertices and the primitives

@@ -8,14 +8,14 @@ use Rattle.ir_flags.specs.Sets.{Has}
 use Rattle.ir_flags.specs.declared.settings.Capabilities.{Capabilities}
 use Rattle.ir_flags.specs.declared.settings.TheConstants.Capabilities.{MESH_SHADER_POINT_TOPOLOGY}
 use Rattle.ir_flags.specs.declared.settings.ValidationFlags.{ValidationFlags}
-use Rattle.ir_items.specs.Plain.{PlainEntry, PlainModule}
+use Rattle.ir_items.specs.judged.Plain.{PlainEntry, PlainModule}
 use Rattle.ir_items.specs.declared.entries.MeshStageInfo.{MeshStageInfo}
 use Rattle.ir_kinds.specs.declared.bindings.BuiltIn.TheVariants.{Position}
 use Rattle.ir_kinds.specs.declared.spaces.AddressSpace.TheVariants.{WorkGroup}
 use Rattle.ir_kinds.specs.declared.stages.MeshOutputTopology.TheVariants.{Points}
-use Rattle.spec_interface.specs.Payloads.{space_at}
-use Rattle.spec_interface.specs.Contexts.{context_of}
-use Rattle.spec_interface.specs.Varyings.{HasBuiltIn, mesh_varyings}
+use Rattle.spec_interface.specs.judged.Payloads.{space_at}
+use Rattle.spec_interface.specs.judged.Contexts.{context_of}
+use Rattle.spec_interface.specs.judged.Varyings.{HasBuiltIn, mesh_varyings}
 use Rattle.spec_interface.specs.declared.varyings.Direction.TheVariants.{VertexOutput, PrimitiveOutput}
 
 -- points need a capability, which is not there

@@ -5,16 +5,16 @@ use Rattle.function_entry_checks.specs.declared.error.EntryPointError.TheVariant
 use Rattle.ir_faults.specs.Faults.{error_of}
 use Rattle.ir_faults.specs.declared.refusal.Refusal.{Refusal}
 use Rattle.ir_faults.specs.declared.refusal.Refusal.TheVariants as refusal
-use Rattle.ir_items.specs.Plain.{PlainArgument}
+use Rattle.ir_items.specs.judged.Plain.{PlainArgument}
 use Rattle.ir_items.specs.declared.functions.FunctionResult.{FunctionResult}
 use Rattle.ir_kinds.specs.declared.bindings.BuiltIn.TheVariants.{Position}
 use Rattle.ir_kinds.specs.declared.stages.ShaderStage.{ShaderStage}
 use Rattle.ir_kinds.specs.declared.stages.ShaderStage.TheVariants.{Vertex, Mesh, Task}
-use Rattle.ir_types.specs.Plain.{PlainType}
-use Rattle.spec_interface.specs.Members.{members_at}
-use Rattle.spec_interface.specs.Results.{GivesTaskSize}
-use Rattle.spec_interface.specs.Contexts.{VaryingContext}
-use Rattle.spec_interface.specs.Varyings.{HasBuiltIn, argument_varyings, mesh_varyings, result_varyings}
+use Rattle.ir_types.specs.judged.Plain.{PlainType}
+use Rattle.spec_interface.specs.judged.Members.{members_at}
+use Rattle.spec_interface.specs.judged.Results.{GivesTaskSize}
+use Rattle.spec_interface.specs.judged.Contexts.{VaryingContext}
+use Rattle.spec_interface.specs.judged.Varyings.{HasBuiltIn, argument_varyings, mesh_varyings, result_varyings}
 use Rattle.spec_interface.specs.declared.varyings.Varying.{Varying}
 use Rattle.function_varying_checks.specs.Faults.{IsVaryingFault}
 use Rattle.function_varying_checks.specs.declared.error.VaryingRefusal.{VaryingRefusal}

@@ -5,9 +5,9 @@ ghost use Rattle.function_entry_checks.specs.Faults.{IsRefusedFor};
 ghost use Rattle.function_entries.specs.ConnectionFaults.{IsConnectionFault};
 ghost use Rattle.function_entries.specs.Contexts.{AreSharedIn, IsKnown, entry_in, module_in};
 ghost use Rattle.ir_items.specs.declared.entries.MeshStageInfo.{MeshStageInfo};
-ghost use Rattle.spec_analysis.specs.Summaries.{HasUseBit};
-ghost use Rattle.spec_interface.specs.Entries.{ConnectionsOK};
-ghost use Rattle.spec_interface.specs.Varyings.{HasBlendSources, result_varyings};
+ghost use Rattle.spec_analysis.specs.judged.Summaries.{HasUseBit};
+ghost use Rattle.spec_interface.specs.judged.Entries.{ConnectionsOK};
+ghost use Rattle.spec_interface.specs.judged.Varyings.{HasBlendSources, result_varyings};
 
 use crate::context::EntryContext;
 use crate::known::KnownInterfaces;

@@ -4,10 +4,10 @@ ghost use Rattle.std.specs.Prelude.{◌≡◌, ◌∷◌, [], IfOk, List, MatchO
 ghost use Rattle.function_entries.specs.Interfaces.{AreInterfacesKnown, AreMeshesKnown, ArePartsAt};
 ghost use Rattle.ir_flags.specs.declared.settings.Capabilities.{Capabilities};
 ghost use Rattle.ir_flags.specs.declared.settings.ValidationFlags.{ValidationFlags};
-ghost use Rattle.ir_items.specs.View.{module_view};
+ghost use Rattle.ir_items.specs.found.View.{module_view};
 ghost use Rattle.ir_kinds.specs.declared.stages.MeshOutputTopology.{MeshOutputTopology};
-ghost use Rattle.ir_types.specs.Plain.{PlainType};
-ghost use Rattle.spec_interface.specs.Members.{topologies_at};
+ghost use Rattle.ir_types.specs.judged.Plain.{PlainType};
+ghost use Rattle.spec_interface.specs.judged.Members.{topologies_at};
 ghost use Rattle.spec_interface.specs.declared.parts.MeshParts.{MeshParts};
 
 use function_varyings::KnownTypes;

@@ -3,8 +3,8 @@
 ghost use Rattle.std.specs.Prelude.{◌<◌, MatchOption, None, length, slice_index_or};
 ghost use Rattle.function_entries.specs.MeshFaults.{IsImpliedFault};
 ghost use Rattle.ir_faults.specs.Faults.{error_of};
-ghost use Rattle.ir_items.specs.Plain.{PlainModule};
-ghost use Rattle.spec_interface.specs.Meshes.{ImpliesMeshInfo};
+ghost use Rattle.ir_items.specs.judged.Plain.{PlainModule};
+ghost use Rattle.spec_interface.specs.judged.Meshes.{ImpliesMeshInfo};
 
 use crate::meshes::implied_mesh;
 use function_entry_checks::EntryPointError;
@@ -42,7 +42,7 @@ pub trait MeshInfo {
 }
 
 impl MeshInfo for Module {
-    ghost use Rattle.ir_items.specs.View.{module_view};
+    ghost use Rattle.ir_items.specs.found.View.{module_view};
 
     ghost module_of = { module_view };
 

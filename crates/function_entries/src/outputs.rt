@@ -7,11 +7,11 @@ ghost use Rattle.function_entries.specs.Interfaces.{AreMeshesKnown};
 ghost use Rattle.function_entries.specs.OutputFaults.{IsMeshFault, IsOwnMeshFault, IsPointFault, IsSpaceFault, IsVertexFault};
 ghost use Rattle.ir_flags.specs.Sets.{Has};
 ghost use Rattle.ir_flags.specs.declared.settings.TheConstants.Capabilities.{MESH_SHADER_POINT_TOPOLOGY};
-ghost use Rattle.ir_items.specs.View.{module_view};
+ghost use Rattle.ir_items.specs.found.View.{module_view};
 ghost use Rattle.ir_kinds.specs.declared.stages.MeshOutputTopology.TheVariants.{Points};
-ghost use Rattle.spec_interface.specs.Meshes.{IsSaid, MeshOK, VertexOK};
+ghost use Rattle.spec_interface.specs.judged.Meshes.{IsSaid, MeshOK, VertexOK};
 ghost use Rattle.ir_kinds.specs.declared.spaces.AddressSpace.TheVariants.{WorkGroup};
-ghost use Rattle.spec_interface.specs.Payloads.{space_at};
+ghost use Rattle.spec_interface.specs.judged.Payloads.{space_at};
 
 use crate::context::EntryContext;
 use crate::known::{KnownInterfaces, KnownMeshes};

@@ -4,11 +4,11 @@ ghost use Rattle.std.specs.Prelude.{◌≡◌, ◌⊎◌, ◌↔◌, IsSome, IsT
 ghost use Rattle.function_entry_checks.specs.Faults.{IsRefusedFor};
 ghost use Rattle.function_entries.specs.Contexts.{AreKnownIn, IsKnown, entry_in, module_in, varying_context};
 ghost use Rattle.function_entries.specs.VaryingFaults.{IsAnswerFault, IsArgumentFault, IsGivenFault, IsOutputFault, IsReportedOfArgument, IsReportedOfResult};
-ghost use Rattle.ir_items.specs.View.{module_view};
+ghost use Rattle.ir_items.specs.found.View.{module_view};
 ghost use Rattle.ir_kinds.specs.declared.bindings.BuiltIn.TheVariants.{Position};
-ghost use Rattle.spec_interface.specs.Members.{members_at};
-ghost use Rattle.spec_interface.specs.Results.{AnswerOK, GivesTaskSize};
-ghost use Rattle.spec_interface.specs.Varyings.{HasBlendSources, HasBuiltIn, VaryingsOK, argument_varyings, mesh_varyings, result_varyings};
+ghost use Rattle.spec_interface.specs.judged.Members.{members_at};
+ghost use Rattle.spec_interface.specs.judged.Results.{AnswerOK, GivesTaskSize};
+ghost use Rattle.spec_interface.specs.judged.Varyings.{HasBlendSources, HasBuiltIn, VaryingsOK, argument_varyings, mesh_varyings, result_varyings};
 ghost use Rattle.function_varyings.specs.Known.{IsShownBy};
 
 use crate::context::{EntryContext, varying_context};

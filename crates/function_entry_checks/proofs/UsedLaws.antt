@@ -9,15 +9,15 @@ use Rattle.function_entry_checks.proofs.Bits.{all_within, no_bit, some_bit, with
 use Rattle.function_entry_checks.specs.Faults.{IsVariableFault, of_uses, SharesBinding, UsesTwoImmediates}
 use Rattle.function_entry_checks.specs.declared.error.EntryPointError.TheVariants as error
 use Rattle.ir_flags.specs.Sets.{Has}
-use Rattle.ir_items.specs.GlobalPlain.{PlainGlobal}
-use Rattle.ir_items.specs.Plain.{PlainEntry, PlainModule}
+use Rattle.ir_items.specs.judged.GlobalPlain.{PlainGlobal}
+use Rattle.ir_items.specs.judged.Plain.{PlainEntry, PlainModule}
 use Rattle.ir_kinds.specs.declared.bindings.ResourceBinding.{ResourceBinding}
 use Rattle.ir_kinds.specs.declared.spaces.AddressSpace.{AddressSpace}
 use Rattle.ir_kinds.specs.declared.spaces.AddressSpace.TheVariants.{Immediate, TaskPayload}
-use Rattle.spec_analysis.specs.Summaries.{HasUseBit, no_use}
-use Rattle.spec_interface.specs.Payloads.{binding_at, space_at}
-use Rattle.spec_interface.specs.Uses.{allowed_uses, is_reached}
-use Rattle.spec_interface.specs.Variables.{BindingsApart, EachOK, IsUsed, OneImmediate, OwnPayloadOK, VariableOK, counted_inner}
+use Rattle.spec_analysis.specs.judged.Summaries.{HasUseBit, no_use}
+use Rattle.spec_interface.specs.judged.Payloads.{binding_at, space_at}
+use Rattle.spec_interface.specs.judged.Uses.{allowed_uses, is_reached}
+use Rattle.spec_interface.specs.judged.Variables.{BindingsApart, EachOK, IsUsed, OneImmediate, OwnPayloadOK, VariableOK, counted_inner}
 
 below_or_here : (j n : ℕ) → j < n + 1 → (j < n) ⊎ (j ≡ n)
 below_or_here j n lt = elim (cases_eq j n) [ inl same ↦ inr same | inr differ ↦ inl (omega (arith, lt, differ)) ]

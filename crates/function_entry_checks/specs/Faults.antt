@@ -12,19 +12,19 @@ use Rattle.ir_flags.specs.declared.settings.Capabilities.{Capabilities}
 use Rattle.ir_flags.specs.declared.settings.TheConstants.Capabilities.{EARLY_DEPTH_TEST}
 use Rattle.ir_flags.specs.declared.settings.ValidationFlags.{ValidationFlags}
 use Rattle.ir_flags.specs.declared.settings.TheConstants.ValidationFlags.{BINDINGS}
-use Rattle.ir_items.specs.GlobalPlain.{PlainGlobal}
-use Rattle.ir_items.specs.Plain.{PlainEntry, PlainModule}
+use Rattle.ir_items.specs.judged.GlobalPlain.{PlainGlobal}
+use Rattle.ir_items.specs.judged.Plain.{PlainEntry, PlainModule}
 use Rattle.ir_kinds.specs.declared.bindings.ResourceBinding.{ResourceBinding}
 use Rattle.ir_kinds.specs.declared.spaces.AddressSpace.{AddressSpace}
 use Rattle.ir_kinds.specs.declared.spaces.AddressSpace.TheVariants.{Immediate, TaskPayload, RayPayload, IncomingRayPayload}
 use Rattle.ir_kinds.specs.declared.stages.ShaderStage.{ShaderStage}
 use Rattle.ir_kinds.specs.declared.stages.ShaderStage.TheVariants.{Fragment, Mesh, Task}
-use Rattle.spec_interface.specs.Payloads.{space_at, binding_at, has_payload}
-use Rattle.spec_interface.specs.Stages.{runs_in_workgroups, stage_capability, SizeOK}
-use Rattle.spec_interface.specs.Uses.{traces_rays, is_run_for_rays}
-use Rattle.spec_interface.specs.Variables.{AllowsUses, IsUsed, least_payload}
-use Rattle.typing_layout.specs.Layout.{size}
-use Rattle.typing_layout.specs.View.{type_tree}
+use Rattle.spec_interface.specs.judged.Payloads.{space_at, binding_at, has_payload}
+use Rattle.spec_interface.specs.judged.Stages.{runs_in_workgroups, stage_capability, SizeOK}
+use Rattle.spec_interface.specs.judged.Uses.{traces_rays, is_run_for_rays}
+use Rattle.spec_interface.specs.judged.Variables.{AllowsUses, IsUsed, least_payload}
+use Rattle.typing_layout.specs.judged.Layout.{size}
+use Rattle.typing_layout.specs.judged.View.{type_tree}
 use Rattle.function_varying_checks.specs.declared.error.VaryingError.{VaryingError}
 use Rattle.function_varying_checks.specs.declared.error.VaryingError.TheVariants as varying
 

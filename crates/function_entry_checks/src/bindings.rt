@@ -3,11 +3,11 @@
 ghost use Rattle.std.specs.Prelude.{◌≡◌, ◌⊎◌, ◌<◌, ◌↔◌, IfOk, IsTrue, MatchOption, MatchResult, OnOk, Some, length};
 ghost use Rattle.function_entry_checks.specs.Bindings.{IsSeen};
 ghost use Rattle.function_entry_checks.specs.Faults.{IsBindingFault, IsRefusedFor};
-ghost use Rattle.ir_items.specs.View.{module_view};
+ghost use Rattle.ir_items.specs.found.View.{module_view};
 ghost use Rattle.ir_kinds.specs.declared.bindings.ResourceBinding.{ResourceBinding};
-ghost use Rattle.spec_analysis.specs.Summaries.{HasUseBit};
-ghost use Rattle.spec_interface.specs.Payloads.{binding_at};
-ghost use Rattle.spec_interface.specs.Variables.{BindingsApart, IsUsed};
+ghost use Rattle.spec_analysis.specs.judged.Summaries.{HasUseBit};
+ghost use Rattle.spec_interface.specs.judged.Payloads.{binding_at};
+ghost use Rattle.spec_interface.specs.judged.Variables.{BindingsApart, IsUsed};
 
 use crate::error::EntryPointError;
 use ir_arena::handle::Handle;

@@ -2,8 +2,8 @@
 
 ghost use Rattle.std.specs.Prelude.{◌≡◌, ◌<◌, IfSome, MatchResult, length};
 ghost use Rattle.function_entry_checks.specs.Faults.{IsPayloadFault};
-ghost use Rattle.ir_items.specs.View.{entry_view, module_view};
-ghost use Rattle.spec_interface.specs.Payloads.{PayloadOK, has_payload};
+ghost use Rattle.ir_items.specs.found.View.{entry_view, module_view};
+ghost use Rattle.spec_interface.specs.judged.Payloads.{PayloadOK, has_payload};
 
 use crate::error::EntryPointError;
 use ir_items::{EntryPoint, Module};

@@ -3,10 +3,10 @@
 ghost use Rattle.std.specs.Prelude.{◌≡◌, ◌↔◌, All, MatchResult, IfSome, IsTrue};
 ghost use Rattle.function_entry_checks.specs.Faults.{IsCapabilityFault, IsEarlyFault, IsMeshInfoFault, IsSizeFault, IsStageFault};
 ghost use Rattle.ir_flags.specs.Sets.{Has};
-ghost use Rattle.ir_items.specs.View.{entry_view};
+ghost use Rattle.ir_items.specs.found.View.{entry_view};
 ghost use Rattle.ir_kinds.specs.declared.stages.ShaderStage.TheVariants.{Mesh};
-ghost use Rattle.spec_interface.specs.Stages.{runs_in_workgroups, stage_capability, SizeOK, EarlyOK, StageOK};
-ghost use Rattle.spec_interface.specs.Contexts.{stage_set};
+ghost use Rattle.spec_interface.specs.judged.Stages.{runs_in_workgroups, stage_capability, SizeOK, EarlyOK, StageOK};
+ghost use Rattle.spec_interface.specs.judged.Contexts.{stage_set};
 
 use crate::error::EntryPointError;
 use bitflags::Flags;

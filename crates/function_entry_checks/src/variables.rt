@@ -3,15 +3,15 @@
 ghost use Rattle.std.specs.Prelude.{◌≡◌, ◌<◌, ◌↔◌, ℕ, IsTrue, MatchResult, Some, length};
 ghost use Rattle.std.specs.Int.{bit_at};
 ghost use Rattle.function_entry_checks.specs.Faults.{IsFaultOfOne, IsImmediateFault, IsReachFault, IsPayloadUseFault, IsRefusedFor, IsVariableFault, IsVariablesFault};
-ghost use Rattle.ir_items.specs.GlobalView.{global_view};
-ghost use Rattle.ir_items.specs.View.{entry_view, module_view};
+ghost use Rattle.ir_items.specs.found.GlobalView.{global_view};
+ghost use Rattle.ir_items.specs.found.View.{entry_view, module_view};
 ghost use Rattle.ir_kinds.specs.declared.spaces.AddressSpace.TheVariants.{Immediate, TaskPayload};
-ghost use Rattle.spec_analysis.specs.Summaries.{HasUseBit};
-ghost use Rattle.spec_interface.specs.Payloads.{space_at};
-ghost use Rattle.spec_interface.specs.Uses.{is_reached};
-ghost use Rattle.spec_interface.specs.Variables.{EachOK, IsUsed, OneImmediate, OwnPayloadOK, VariableOK, VariablesOK};
-ghost use Rattle.typing_layout.specs.Layout.{size};
-ghost use Rattle.typing_layout.specs.View.{type_tree};
+ghost use Rattle.spec_analysis.specs.judged.Summaries.{HasUseBit};
+ghost use Rattle.spec_interface.specs.judged.Payloads.{space_at};
+ghost use Rattle.spec_interface.specs.judged.Uses.{is_reached};
+ghost use Rattle.spec_interface.specs.judged.Variables.{EachOK, IsUsed, OneImmediate, OwnPayloadOK, VariableOK, VariablesOK};
+ghost use Rattle.typing_layout.specs.judged.Layout.{size};
+ghost use Rattle.typing_layout.specs.judged.View.{type_tree};
 
 use crate::bindings::check_bindings;
 use crate::error::EntryPointError;

@@ -3,9 +3,9 @@ use Rattle.std.proofs.Common.{◌≡◌, ◌↔◌, ◌⊎◌, inl, inr, ℕ, �
 use Rattle.std.proofs.lemmas.Option.{slice_get_within}
 use Rattle.function_interface.proofs.Below.{below_or_same}
 use Rattle.function_interface.specs.Answered.{Stands, IsAnswered, AllAnswered, AnsweredBelow, IsUnanswered}
-use Rattle.ir_types.specs.ExpressionPlain.{PlainExpression, plain}
+use Rattle.ir_types.specs.judged.ExpressionPlain.{PlainExpression, plain}
 use Rattle.ir_types.specs.declared.expressions.Expression.TheVariants as x
-use Rattle.spec_statements.specs.Results.{DenotesResult, of_call, of_atomic}
+use Rattle.spec_statements.specs.judged.Results.{DenotesResult, of_call, of_atomic}
 
 some_is : {A : Type 0} (a b : A) → Some a ≡ Some b → a ≡ b
 some_is a b e = cc

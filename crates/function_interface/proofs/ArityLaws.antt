@@ -1,7 +1,7 @@
 -- Calls that pass another number of arguments, where the functions called are there.
 use Rattle.std.proofs.Common.{◌≡◌, length, Some, None, refl, sym, ap, ◌∙◌}
 use Rattle.spec_analysis.proofs.Members.{get-within}
-use Rattle.ir_items.specs.Plain.{PlainFunction, PlainModule}
+use Rattle.ir_items.specs.judged.Plain.{PlainFunction, PlainModule}
 use Rattle.spec_handles.specs.Conditions.{HandlesInRange}
 use Rattle.spec_handles.specs.References.{done, statement_calls}
 use Rattle.module_handles.specs.Tests.{PassesWrongCount, count_of}

@@ -1,16 +1,16 @@
 -- A bit is left by a body exactly where it was there, and each statement has it.
 use Rattle.std.proofs.Common.{◌≡◌, ◌↔◌, ℕ, zero, suc, List, refl, sym, subst}
 use Rattle.std.specs.Int.RustNames.{bit_and}
-use Rattle.ir_blocks.specs.Places.{Place, here, later, inside, condition, OccursAt}
-use Rattle.ir_blocks.specs.Plain.{PlainStatement, emit, block, if_, switch, loop, break, continue, return, kill, operation, call, PlainBlock, stop, next, PlainCases, no_case, case}
-use Rattle.ir_blocks.specs.Shapes.{shape_of, Part, inner, accepting, rejecting, case_at, loop_body, loop_continuing, case_body, part_of}
+use Rattle.ir_blocks.specs.judged.Places.{Place, here, later, inside, condition, OccursAt}
+use Rattle.ir_blocks.specs.judged.Plain.{PlainStatement, emit, block, if_, switch, loop, break, continue, return, kill, operation, call, PlainBlock, stop, next, PlainCases, no_case, case}
+use Rattle.ir_blocks.specs.judged.Shapes.{shape_of, Part, inner, accepting, rejecting, case_at, loop_body, loop_continuing, case_body, part_of}
 use Rattle.ir_flags.proofs.SetLaws.{within-intersection, within-over, intersection-within_left, intersection-within_right}
 use Rattle.ir_flags.specs.Sets.{Has}
 use Rattle.ir_flags.specs.declared.stages.ShaderStages.{ShaderStages}
 use Rattle.function_interface.specs.Bodies.{MayRun}
 use Rattle.function_interface.specs.Left.{left_in, left_within, left_in_cases}
-use Rattle.spec_statements.specs.ExpressionStages.{all_stages}
-use Rattle.spec_statements.specs.Stages.{statement_stages}
+use Rattle.spec_statements.specs.judged.ExpressionStages.{all_stages}
+use Rattle.spec_statements.specs.judged.Stages.{statement_stages}
 
 left_has : (a b x : ℕ) → Has (bit_and a b) x → Has a x
 left_has a b x h = within-over x (bit_and a b) a h (intersection-within_left a b)

@@ -8,17 +8,17 @@ use Rattle.ir_faults.specs.declared.refusal.Refusal.TheVariants as refusal
 use Rattle.ir_flags.specs.declared.settings.Capabilities.{Capabilities}
 use Rattle.ir_flags.specs.declared.settings.ValidationFlags.{ValidationFlags}
 use Rattle.ir_flags.specs.declared.stages.ShaderStages.{ShaderStages}
-use Rattle.spec_analysis.specs.Summaries.{Summary, IsJoined}
-use Rattle.spec_statements.specs.ExpressionStages.{all_stages}
-use Rattle.spec_statements.specs.Functions.{Reading, AreFormsBy}
-use Rattle.typing_forms.specs.Forms.{NoStructValue}
-use Rattle.typing_forms.specs.Resolutions.{resolution_view}
+use Rattle.spec_analysis.specs.judged.Summaries.{Summary, IsJoined}
+use Rattle.spec_statements.specs.judged.ExpressionStages.{all_stages}
+use Rattle.spec_statements.specs.judged.Functions.{Reading, AreFormsBy}
+use Rattle.typing_forms.specs.judged.Forms.{NoStructValue}
+use Rattle.typing_forms.specs.judged.Resolutions.{resolution_view}
 use Rattle.typing_forms.specs.declared.form.Form.{Form}
 use Rattle.typing_forms.specs.declared.resolution.TypeResolution.{TypeResolution}
 use Rattle.typing_errors.specs.Answers.{form_given}
 use Rattle.function_interface.specs.Arities.{IsArityFault}
 use Rattle.function_interface.specs.Question.{Question}
-use Rattle.ir_items.specs.Plain.{PlainFunction, PlainModule}
+use Rattle.ir_items.specs.judged.Plain.{PlainFunction, PlainModule}
 use Rattle.spec_handles.specs.Conditions.{AritiesMatch}
 
 -- What a lower layer says is wrong with a function: which faults its analysis finds, and which it finds at an expression.

@@ -1,11 +1,11 @@
 -- Which stages may run a body.
 use Rattle.std.specs.Prelude.{ℕ, List}
-use Rattle.ir_blocks.specs.Places.{Place, OccursAt}
-use Rattle.ir_blocks.specs.Plain.{PlainBlock, PlainStatement}
+use Rattle.ir_blocks.specs.judged.Places.{Place, OccursAt}
+use Rattle.ir_blocks.specs.judged.Plain.{PlainBlock, PlainStatement}
 use Rattle.ir_flags.specs.Sets.{Has}
 use Rattle.ir_flags.specs.declared.stages.ShaderStages.{ShaderStages}
-use Rattle.spec_statements.specs.ExpressionStages.{all_stages}
-use Rattle.spec_statements.specs.Stages.{statement_stages}
+use Rattle.spec_statements.specs.judged.ExpressionStages.{all_stages}
+use Rattle.spec_statements.specs.judged.Stages.{statement_stages}
 
 -- the stage is one that there is, and may run each statement of the body, wherever it stands
 pub record MayRun (subgroups : ShaderStages) (callees : List ShaderStages) (body : PlainBlock) (stage : ℕ) : Type 0 where

@@ -1,7 +1,7 @@
 -- What each statement of a body leaves of a set, from the first to the last.
 use Rattle.std.specs.Prelude.{ℕ}
 use Rattle.std.specs.Int.RustNames.{bit_and}
-use Rattle.ir_blocks.specs.Plain.{PlainStatement, emit, block, if_, switch, loop, break, continue, return, kill, operation, call, PlainBlock, stop, next, PlainCases, no_case, case}
+use Rattle.ir_blocks.specs.judged.Plain.{PlainStatement, emit, block, if_, switch, loop, break, continue, return, kill, operation, call, PlainBlock, stop, next, PlainCases, no_case, case}
 
 abbrev mutual
   pub left_in : (PlainStatement → ℕ) → ℕ → PlainBlock → ℕ

@@ -1,6 +1,6 @@
 -- What is reported of a module's types.
 use Rattle.std.specs.Prelude.{◌≡◌, List, length}
-use Rattle.ir_types.specs.Plain.{PlainType}
+use Rattle.ir_types.specs.judged.Plain.{PlainType}
 use Rattle.module_type_checks.specs.Known.{AreInfos}
 use Rattle.module_type_infos.specs.declared.info.TypeInfo.{TypeInfo}
 

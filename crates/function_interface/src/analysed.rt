@@ -3,8 +3,8 @@
 ghost use Rattle.std.specs.Prelude.{IfErr, IfOk, OnOk, map};
 ghost use Rattle.function_interface.specs.Analysis.{IsFaultBefore, IsKept, IsRefusedFor};
 ghost use Rattle.function_interface.specs.Question.{question};
-ghost use Rattle.ir_items.specs.View.{function_view, module_view};
-ghost use Rattle.ir_proc.specs.Filters.{ParentsPrecede};
+ghost use Rattle.ir_items.specs.found.View.{function_view, module_view};
+ghost use Rattle.ir_proc.specs.found.Filters.{ParentsPrecede};
 ghost use Rattle.spec_handles.specs.Conditions.{AritiesMatch, HandlesInRange, OperandsPrecede};
 
 use crate::arities::check_arities;

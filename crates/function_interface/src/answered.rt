@@ -2,8 +2,8 @@
 
 ghost use Rattle.std.specs.Prelude.{◌≡◌, ◌↔◌, IsTrue, MatchResult, Some, true, slice_get};
 ghost use Rattle.function_interface.specs.Answered.{Stands, AllAnswered, IsUnansweredFault};
-ghost use Rattle.ir_types.specs.ExpressionPlain.{expression_view};
-ghost use Rattle.ir_items.specs.View.{function_view};
+ghost use Rattle.ir_types.specs.judged.ExpressionPlain.{expression_view};
+ghost use Rattle.ir_items.specs.found.View.{function_view};
 
 use ir_arena::handle::Handle;
 use ir_items::Function;

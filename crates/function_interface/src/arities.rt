@@ -2,7 +2,7 @@
 
 ghost use Rattle.std.specs.Prelude.{MatchResult};
 ghost use Rattle.function_interface.specs.Arities.{IsArityFault};
-ghost use Rattle.ir_items.specs.View.{function_view, module_view};
+ghost use Rattle.ir_items.specs.found.View.{function_view, module_view};
 ghost use Rattle.spec_handles.specs.Conditions.{AritiesMatch, HandlesInRange};
 
 use ir_items::{Function, Module};

@@ -2,7 +2,7 @@
 
 ghost use Rattle.std.specs.Prelude.{◌≡◌, List, map};
 ghost use Rattle.ir_flags.specs.declared.stages.ShaderStages.{ShaderStages};
-ghost use Rattle.spec_statements.specs.ExpressionStages.{callee_stages};
+ghost use Rattle.spec_statements.specs.judged.ExpressionStages.{callee_stages};
 
 use bitflags::Flags;
 use ir_arena::handle::Handle;

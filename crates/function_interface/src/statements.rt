@@ -1,8 +1,8 @@
 //! Which stages may run a statement.
 
 ghost use Rattle.std.specs.Prelude.{◌≡◌};
-ghost use Rattle.ir_blocks.specs.View.{statement_view};
-ghost use Rattle.spec_statements.specs.Stages.{statement_stages};
+ghost use Rattle.ir_blocks.specs.found.View.{statement_view};
+ghost use Rattle.spec_statements.specs.judged.Stages.{statement_stages};
 
 use crate::callees::CalleeStages;
 use bitflags::Flags;

@@ -1,8 +1,8 @@
 //! Which stages may run all statements of a body.
 
 ghost use Rattle.std.specs.Prelude.{◌≡◌, ◌↔◌, ℕ, map};
-ghost use Rattle.ir_blocks.specs.Plain.{PlainStatement};
-ghost use Rattle.ir_blocks.specs.View.{statement_view, block_view, case_view, cases_of};
+ghost use Rattle.ir_blocks.specs.judged.Plain.{PlainStatement};
+ghost use Rattle.ir_blocks.specs.found.View.{statement_view, block_view, case_view, cases_of};
 ghost use Rattle.ir_flags.specs.Sets.{Has};
 ghost use Rattle.function_interface.specs.Bodies.{MayRun};
 ghost use Rattle.function_interface.specs.Left.{left_in, left_within, left_in_cases};
@@ -30,7 +30,7 @@ struct StatementStages<'a, C> {
 }
 
 impl<C: CalleeStages> RunBy for StatementStages<'_, C> {
-    ghost use Rattle.spec_statements.specs.Stages.{statement_stages};
+    ghost use Rattle.spec_statements.specs.judged.Stages.{statement_stages};
 
     ghost runs = { λ r u. (statement_stages r.subgroup_stages (C.stages r.callees.now) u).0 };
 

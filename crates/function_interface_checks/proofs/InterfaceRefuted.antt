@@ -13,9 +13,9 @@ use Rattle.function_interface_checks.specs.Locals.{IsLocalError, IsLocalsFault}
 use Rattle.function_interface_checks.specs.Results.{IsResultFault}
 use Rattle.function_interface_checks.specs.declared.arguments.ArgumentFault.{ArgumentFault}
 use Rattle.function_interface_checks.specs.declared.arguments.ArgumentFault.TheVariants as fault
-use Rattle.ir_items.specs.Plain.{PlainArgument, PlainLocal, PlainModule}
-use Rattle.spec_statements.specs.BlockContext.{BlockContext}
-use Rattle.spec_statements.specs.Interfaces.{ArgumentOK, InterfaceOK, IsGiven, LocalOK, ResultOK}
+use Rattle.ir_items.specs.judged.Plain.{PlainArgument, PlainLocal, PlainModule}
+use Rattle.spec_statements.specs.judged.BlockContext.{BlockContext}
+use Rattle.spec_statements.specs.judged.Interfaces.{ArgumentOK, InterfaceOK, IsGiven, LocalOK, ResultOK}
 
 some_refuted : {A : Type 0} (Rule Wrong : A → Type 0) → ((x : A) → Wrong x → Rule x → ⊥) → (o : Option A) → IsSomeAnd o Wrong → IfSome o Rule → ⊥
 some_refuted Rule Wrong refutes None wrong rule = wrong

@@ -2,12 +2,12 @@
 use Rattle.std.proofs.Common.{◌≡◌, ◌≤◌, ◌<◌, ◌↔◌, ◌⊎◌, inl, inr, ◌∙◌, ℕ, zero, suc, List, [], ◌∷◌, Some, IsTrue, true, length, slice_get, refl, sym, ap, subst, arith}
 use Rattle.std.proofs.lemmas.Option.{slice_get_within}
 use Rattle.module_context.proofs.Absent.{none_there}
-use Rattle.ir_types.specs.ExpressionPlain.{PlainExpression}
-use Rattle.ir_types.specs.Plain.{PlainType}
-use Rattle.typing_layout.specs.Flags.{HasFlag, Argument}
-use Rattle.typing_layout.specs.View.{type_tree}
+use Rattle.ir_types.specs.judged.ExpressionPlain.{PlainExpression}
+use Rattle.ir_types.specs.judged.Plain.{PlainType}
+use Rattle.typing_layout.specs.judged.Flags.{HasFlag, Argument}
+use Rattle.typing_layout.specs.judged.View.{type_tree}
 use Rattle.typing_layout.proofs.Latest.{one_kind}
-use Rattle.typing_layout.specs.Constness.{AreKinds, IsOfKind, by_itself, by_operands}
+use Rattle.typing_layout.specs.judged.Constness.{AreKinds, IsOfKind, by_itself, by_operands}
 use Rattle.typing_layout.specs.declared.constness.ExpressionKind.{ExpressionKind}
 use Rattle.typing_layout.specs.declared.constness.ExpressionKind.TheVariants.{Const, Override}
 

@@ -8,8 +8,8 @@ use Rattle.function_interface_checks.specs.Locals.{IsLocalsFault}
 use Rattle.function_interface_checks.specs.Refusals.{IsRefusal}
 use Rattle.ir_faults.specs.declared.refusal.Refusal.{Refusal}
 use Rattle.ir_faults.specs.declared.refusal.Refusal.TheVariants as refusal
-use Rattle.spec_statements.specs.BlockContext.{BlockContext}
-use Rattle.spec_statements.specs.Interfaces.{ArgumentOK, InterfaceOK, LocalOK}
+use Rattle.spec_statements.specs.judged.BlockContext.{BlockContext}
+use Rattle.spec_statements.specs.judged.Interfaces.{ArgumentOK, InterfaceOK, LocalOK}
 
 pub locals_refused : (c : BlockContext) (entry : Bool) (r : Refusal FunctionError) → IsRefusal (EachOK (LocalOK c) c.f.locals) (IsLocalsFault c) r → IsRefusal (InterfaceOK c entry) (IsInterfaceFault c entry) r
 locals_refused c entry (refusal.Memory e) broken = λ whole. broken whole.locals

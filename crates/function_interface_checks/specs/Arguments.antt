@@ -6,14 +6,14 @@ use Rattle.function_interface.specs.Items.{IsFirstAt}
 use Rattle.function_interface_checks.specs.Named.{name_of}
 use Rattle.function_interface_checks.specs.declared.arguments.ArgumentFault.{ArgumentFault}
 use Rattle.function_interface_checks.specs.declared.arguments.ArgumentFault.TheVariants as fault
-use Rattle.ir_items.specs.Plain.{PlainArgument, PlainModule}
+use Rattle.ir_items.specs.judged.Plain.{PlainArgument, PlainModule}
 use Rattle.ir_kinds.specs.declared.spaces.AddressSpace.{AddressSpace}
-use Rattle.typing_layout.specs.Flags.{HasFlag, Argument}
-use Rattle.spec_statements.specs.BlockContext.{BlockContext}
-use Rattle.spec_statements.specs.Interfaces.{ArgumentOK, IsGiven}
-use Rattle.spec_statements.specs.Stores.{pointer_space}
-use Rattle.typing_layout.specs.View.{type_tree}
-use Rattle.typing_forms.specs.Forms.{form_of_type}
+use Rattle.typing_layout.specs.judged.Flags.{HasFlag, Argument}
+use Rattle.spec_statements.specs.judged.BlockContext.{BlockContext}
+use Rattle.spec_statements.specs.judged.Interfaces.{ArgumentOK, IsGiven}
+use Rattle.spec_statements.specs.judged.Stores.{pointer_space}
+use Rattle.typing_layout.specs.judged.View.{type_tree}
+use Rattle.typing_forms.specs.judged.Forms.{form_of_type}
 
 -- it points into a space that functions are given no pointers into
 abbrev pub IsFarPointer : PlainModule → PlainArgument → AddressSpace → Type 0

@@ -5,8 +5,8 @@ use Rattle.function_interface_checks.specs.Arguments.{IsArgumentsFault}
 use Rattle.function_interface.specs.Items.{EachOK}
 use Rattle.function_interface_checks.specs.Locals.{IsLocalsFault}
 use Rattle.function_interface_checks.specs.Results.{IsResultFault}
-use Rattle.spec_statements.specs.BlockContext.{BlockContext}
-use Rattle.spec_statements.specs.Interfaces.{ArgumentOK, LocalOK}
+use Rattle.spec_statements.specs.judged.BlockContext.{BlockContext}
+use Rattle.spec_statements.specs.judged.Interfaces.{ArgumentOK, LocalOK}
 
 -- with the arguments, the variables being in order
 pub record IsArgumentsFaultFirst (c : BlockContext) (entry : Bool) (e : FunctionError) : Type 0 where

@@ -8,9 +8,9 @@ use Rattle.function_interface_checks.specs.Interfaces.{IsInterfaceFault}
 use Rattle.function_interface.specs.Items.{EachOK}
 use Rattle.function_interface_checks.specs.Locals.{IsLocalError, IsLocalsFault}
 use Rattle.function_interface_checks.specs.Results.{IsResultFault}
-use Rattle.ir_items.specs.Plain.{PlainLocal}
-use Rattle.spec_statements.specs.BlockContext.{BlockContext}
-use Rattle.spec_statements.specs.Interfaces.{ArgumentOK, InterfaceOK, LocalOK, ResultOK}
+use Rattle.ir_items.specs.judged.Plain.{PlainLocal}
+use Rattle.spec_statements.specs.judged.BlockContext.{BlockContext}
+use Rattle.spec_statements.specs.judged.Interfaces.{ArgumentOK, InterfaceOK, LocalOK, ResultOK}
 
 -- What refutes each part, and the whole.
 pub record Refuted (c : BlockContext) (entry : Bool) (e : FunctionError) : Type 0 where

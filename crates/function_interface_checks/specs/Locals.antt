@@ -6,13 +6,13 @@ use Rattle.typing_errors.specs.declared.locals.LocalVariableError.{LocalVariable
 use Rattle.typing_errors.specs.declared.locals.LocalVariableError.TheVariants.{InvalidType, InitializerType, NonConstOrOverrideInitializer}
 use Rattle.function_interface.specs.Items.{IsFirstAt}
 use Rattle.function_interface_checks.specs.Named.{name_of}
-use Rattle.ir_items.specs.Plain.{PlainLocal}
-use Rattle.typing_layout.specs.Flags.{HasFlag, Constructible}
-use Rattle.spec_statements.specs.BlockContext.{BlockContext, form_at}
-use Rattle.spec_statements.specs.Interfaces.{LocalOK}
-use Rattle.typing_layout.specs.View.{type_tree}
-use Rattle.typing_forms.specs.Forms.{form_of_type}
-use Rattle.typing_layout.specs.Constness.{IsOfKind}
+use Rattle.ir_items.specs.judged.Plain.{PlainLocal}
+use Rattle.typing_layout.specs.judged.Flags.{HasFlag, Constructible}
+use Rattle.spec_statements.specs.judged.BlockContext.{BlockContext, form_at}
+use Rattle.spec_statements.specs.judged.Interfaces.{LocalOK}
+use Rattle.typing_layout.specs.judged.View.{type_tree}
+use Rattle.typing_forms.specs.judged.Forms.{form_of_type}
+use Rattle.typing_layout.specs.judged.Constness.{IsOfKind}
 use Rattle.typing_layout.specs.declared.constness.ExpressionKind.TheVariants.{Const, Override}
 
 -- with what it begins as: it is of another type, or known only when the shader runs

@@ -5,9 +5,9 @@ ghost use Rattle.function_interface_checks.specs.Arguments.{IsArgumentFault, IsA
 ghost use Rattle.function_interface.specs.Items.{EachOK, IsFirstAt};
 ghost use Rattle.function_interface_checks.specs.Refusals.{IsRefusal};
 ghost use Rattle.function_interface.specs.Reported.{AreReported};
-ghost use Rattle.ir_items.specs.View.{argument_view};
-ghost use Rattle.spec_statements.specs.BlockContext.{BlockContext as PlainContext};
-ghost use Rattle.spec_statements.specs.Interfaces.{ArgumentOK, IsGiven};
+ghost use Rattle.ir_items.specs.found.View.{argument_view};
+ghost use Rattle.spec_statements.specs.judged.BlockContext.{BlockContext as PlainContext};
+ghost use Rattle.spec_statements.specs.judged.Interfaces.{ArgumentOK, IsGiven};
 ghost use Rattle.function_statement_checks.specs.View.{context_view};
 
 use crate::flags::is_argument;

@@ -2,9 +2,9 @@
 
 ghost use Rattle.std.specs.Prelude.{◌↔◌, IsTrue, List};
 ghost use Rattle.function_interface.specs.Reported.{AreReported};
-ghost use Rattle.ir_types.specs.Plain.{PlainType};
-ghost use Rattle.typing_layout.specs.Flags.{HasFlag, Argument, Constructible};
-ghost use Rattle.typing_layout.specs.View.{type_tree};
+ghost use Rattle.ir_types.specs.judged.Plain.{PlainType};
+ghost use Rattle.typing_layout.specs.judged.Flags.{HasFlag, Argument, Constructible};
+ghost use Rattle.typing_layout.specs.judged.View.{type_tree};
 
 use bitflags::Flags;
 use ir_arena::handle::Handle;

@@ -4,7 +4,7 @@ ghost use Rattle.std.specs.Prelude.{MatchResult};
 ghost use Rattle.function_interface_checks.specs.Interfaces.{IsInterfaceFault};
 ghost use Rattle.function_interface_checks.specs.Refusals.{IsRefusal};
 ghost use Rattle.function_interface.specs.Reported.{AreReported};
-ghost use Rattle.spec_statements.specs.Interfaces.{InterfaceOK};
+ghost use Rattle.spec_statements.specs.judged.Interfaces.{InterfaceOK};
 ghost use Rattle.function_statement_checks.specs.View.{context_view, IsKnown};
 
 use crate::arguments::check_arguments;

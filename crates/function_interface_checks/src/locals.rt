@@ -5,11 +5,11 @@ ghost use Rattle.function_interface.specs.Items.{EachOK, IsFirstAt};
 ghost use Rattle.function_interface_checks.specs.Locals.{IsBeginError, IsLocalError, IsLocalsFault};
 ghost use Rattle.function_interface_checks.specs.Refusals.{IsRefusal};
 ghost use Rattle.function_interface.specs.Reported.{AreReported};
-ghost use Rattle.ir_items.specs.View.{local_view};
-ghost use Rattle.spec_statements.specs.BlockContext.{BlockContext as PlainContext};
-ghost use Rattle.spec_statements.specs.Interfaces.{BeginsAs, LocalOK};
+ghost use Rattle.ir_items.specs.found.View.{local_view};
+ghost use Rattle.spec_statements.specs.judged.BlockContext.{BlockContext as PlainContext};
+ghost use Rattle.spec_statements.specs.judged.Interfaces.{BeginsAs, LocalOK};
 ghost use Rattle.function_statement_checks.specs.View.{context_view, IsKnown};
-ghost use Rattle.typing_layout.specs.Constness.{IsOfKind};
+ghost use Rattle.typing_layout.specs.judged.Constness.{IsOfKind};
 ghost use Rattle.typing_layout.specs.declared.constness.ExpressionKind.TheVariants.{Const, Override};
 
 use crate::flags::is_constructible;

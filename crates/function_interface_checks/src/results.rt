@@ -3,7 +3,7 @@
 ghost use Rattle.std.specs.Prelude.{IfSome, MatchResult};
 ghost use Rattle.function_interface_checks.specs.Results.{IsResultFault};
 ghost use Rattle.function_interface.specs.Reported.{AreReported};
-ghost use Rattle.spec_statements.specs.Interfaces.{ResultOK};
+ghost use Rattle.spec_statements.specs.judged.Interfaces.{ResultOK};
 ghost use Rattle.function_statement_checks.specs.View.{context_view};
 
 use crate::flags::is_constructible;

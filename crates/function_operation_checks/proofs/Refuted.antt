@@ -8,16 +8,16 @@ use Rattle.ir_blocks.specs.declared.operations.RayPipelineFunction.TheVariants a
 use Rattle.ir_blocks.specs.declared.operations.RayQueryFunction.{RayQueryFunction}
 use Rattle.ir_blocks.specs.declared.operations.RayQueryFunction.TheVariants as ray
 use Rattle.function_operation_checks.specs.Laws.{FaultsRefute}
-use Rattle.ir_items.specs.Plain.{PlainFunction, PlainModule}
+use Rattle.ir_items.specs.judged.Plain.{PlainFunction, PlainModule}
 use Rattle.function_operation_checks.specs.Payloads.{IsPayloadsFault}
-use Rattle.spec_statements.specs.Payloads.{HasPayload, PayloadsOK}
+use Rattle.spec_statements.specs.judged.Payloads.{HasPayload, PayloadsOK}
 use Rattle.function_operation_checks.specs.RayPipelines.{IsPayloadFault, IsRayFault, IsTraceFault, IsRayPipelineFault}
 use Rattle.function_operation_checks.specs.RayQueries.{IsStartFault, IsDistanceFault, IsStepFault, IsVariableFault, IsRayQueryFault}
-use Rattle.spec_statements.specs.ExpressionRayQueries.{query_of}
-use Rattle.spec_statements.specs.BlockContext.{BlockContext, form_at}
-use Rattle.spec_statements.specs.RayPipelines.{TraceOK, RayPipelineOK}
-use Rattle.spec_statements.specs.RayQueries.{structure_of, local_type_at, StepOK, RayQueryOK}
-use Rattle.typing_forms.specs.Resolutions.{inner_at}
+use Rattle.spec_statements.specs.judged.ExpressionRayQueries.{query_of}
+use Rattle.spec_statements.specs.judged.BlockContext.{BlockContext, form_at}
+use Rattle.spec_statements.specs.judged.RayPipelines.{TraceOK, RayPipelineOK}
+use Rattle.spec_statements.specs.judged.RayQueries.{structure_of, local_type_at, StepOK, RayQueryOK}
+use Rattle.typing_forms.specs.judged.Resolutions.{inner_at}
 
 -- ---- what is there
 

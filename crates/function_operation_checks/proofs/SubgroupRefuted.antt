@@ -10,8 +10,8 @@ use Rattle.ir_flags.specs.declared.stages.TheConstants.SubgroupOperationSet.{BAL
 use Rattle.ir_kinds.specs.declared.subgroups.CollectiveOperation.{CollectiveOperation}
 use Rattle.ir_kinds.specs.declared.subgroups.SubgroupOperation.{SubgroupOperation}
 use Rattle.spec_handles.specs.Operands.{gather_index}
-use Rattle.spec_statements.specs.BlockContext.{BlockContext}
-use Rattle.spec_statements.specs.Subgroups.{HasOperation, BallotOK, CollectiveOK, GatherOK, collective_needs, gather_needs}
+use Rattle.spec_statements.specs.judged.BlockContext.{BlockContext}
+use Rattle.spec_statements.specs.judged.Subgroups.{HasOperation, BallotOK, CollectiveOK, GatherOK, collective_needs, gather_needs}
 use Rattle.function_operation_checks.specs.SubgroupLaws.{FaultsRefute}
 use Rattle.function_operation_checks.specs.Subgroups.{IsUnsupported, IsOperationFault, IsBadPredicate, IsBallotFault, IsBadCollective, IsCollectiveFault, IsBadOperand, IsBadGather, IsGatherFault}
 

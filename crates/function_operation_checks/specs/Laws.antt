@@ -6,10 +6,10 @@ use Rattle.ir_blocks.specs.declared.operations.RayQueryFunction.{RayQueryFunctio
 use Rattle.function_operation_checks.specs.Payloads.{IsPayloadsFault}
 use Rattle.function_operation_checks.specs.RayPipelines.{IsRayPipelineFault}
 use Rattle.function_operation_checks.specs.RayQueries.{IsRayQueryFault}
-use Rattle.spec_statements.specs.BlockContext.{BlockContext}
-use Rattle.spec_statements.specs.Payloads.{PayloadsOK}
-use Rattle.spec_statements.specs.RayPipelines.{RayPipelineOK}
-use Rattle.spec_statements.specs.RayQueries.{RayQueryOK}
+use Rattle.spec_statements.specs.judged.BlockContext.{BlockContext}
+use Rattle.spec_statements.specs.judged.Payloads.{PayloadsOK}
+use Rattle.spec_statements.specs.judged.RayPipelines.{RayPipelineOK}
+use Rattle.spec_statements.specs.judged.RayQueries.{RayQueryOK}
 
 -- What refutes the rule of each kind.
 pub record Refuted (c : BlockContext) (e : FunctionError) : Type 0 where

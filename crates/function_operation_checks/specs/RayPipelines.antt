@@ -4,11 +4,11 @@ use Rattle.typing_errors.specs.declared.error.FunctionError.{FunctionError}
 use Rattle.typing_errors.specs.declared.error.FunctionError.TheVariants as error
 use Rattle.ir_blocks.specs.declared.operations.RayPipelineFunction.{RayPipelineFunction}
 use Rattle.ir_blocks.specs.declared.operations.RayPipelineFunction.TheVariants as pipeline
-use Rattle.spec_statements.specs.BlockContext.{BlockContext, form_at}
-use Rattle.spec_statements.specs.RayPipelines.{IsPayloadSpace}
-use Rattle.spec_statements.specs.RayQueries.{structure_of, IsRayDescriptor}
-use Rattle.spec_statements.specs.Stores.{pointer_space}
-use Rattle.spec_statements.specs.Variables.{variable_at}
+use Rattle.spec_statements.specs.judged.BlockContext.{BlockContext, form_at}
+use Rattle.spec_statements.specs.judged.RayPipelines.{IsPayloadSpace}
+use Rattle.spec_statements.specs.judged.RayQueries.{structure_of, IsRayDescriptor}
+use Rattle.spec_statements.specs.judged.Stores.{pointer_space}
+use Rattle.spec_statements.specs.judged.Variables.{variable_at}
 
 -- a global variable in a space of payloads
 abbrev pub IsPayload : BlockContext → (payload : ℕ) → Type 0

@@ -4,11 +4,11 @@ use Rattle.typing_errors.specs.declared.error.FunctionError.{FunctionError}
 use Rattle.typing_errors.specs.declared.error.FunctionError.TheVariants as error
 use Rattle.ir_blocks.specs.declared.operations.RayQueryFunction.{RayQueryFunction}
 use Rattle.ir_blocks.specs.declared.operations.RayQueryFunction.TheVariants as ray
-use Rattle.spec_statements.specs.ExpressionRayQueries.{query_of}
-use Rattle.spec_statements.specs.Shapes.{IsMadeOf, IsAlone, IsFloating}
-use Rattle.spec_statements.specs.BlockContext.{BlockContext, form_at}
-use Rattle.spec_statements.specs.RayQueries.{structure_of, IsRayDescriptor, local_type_at, GivesVertices}
-use Rattle.typing_forms.specs.Resolutions.{inner_at}
+use Rattle.spec_statements.specs.judged.ExpressionRayQueries.{query_of}
+use Rattle.spec_statements.specs.judged.Shapes.{IsMadeOf, IsAlone, IsFloating}
+use Rattle.spec_statements.specs.judged.BlockContext.{BlockContext, form_at}
+use Rattle.spec_statements.specs.judged.RayQueries.{structure_of, IsRayDescriptor, local_type_at, GivesVertices}
+use Rattle.typing_forms.specs.judged.Resolutions.{inner_at}
 
 -- ---- steps
 

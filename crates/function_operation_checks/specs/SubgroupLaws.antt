@@ -4,8 +4,8 @@ use Rattle.typing_errors.specs.declared.error.FunctionError.{FunctionError}
 use Rattle.ir_blocks.specs.declared.operations.GatherMode.{GatherMode}
 use Rattle.ir_kinds.specs.declared.subgroups.CollectiveOperation.{CollectiveOperation}
 use Rattle.ir_kinds.specs.declared.subgroups.SubgroupOperation.{SubgroupOperation}
-use Rattle.spec_statements.specs.BlockContext.{BlockContext}
-use Rattle.spec_statements.specs.Subgroups.{BallotOK, CollectiveOK, GatherOK}
+use Rattle.spec_statements.specs.judged.BlockContext.{BlockContext}
+use Rattle.spec_statements.specs.judged.Subgroups.{BallotOK, CollectiveOK, GatherOK}
 use Rattle.function_operation_checks.specs.Subgroups.{IsBallotFault, IsCollectiveFault, IsGatherFault}
 
 -- What refutes the rule of each kind.

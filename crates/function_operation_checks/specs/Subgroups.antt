@@ -9,13 +9,13 @@ use Rattle.ir_flags.specs.Sets.{Has}
 use Rattle.ir_flags.specs.declared.settings.TheConstants.Capabilities.{SUBGROUP}
 use Rattle.ir_flags.specs.declared.stages.SubgroupOperationSet.{SubgroupOperationSet}
 use Rattle.ir_flags.specs.declared.stages.TheConstants.SubgroupOperationSet.{BALLOT}
-use Rattle.ir_kinds.specs.Scalars.{boolean, unsigned}
+use Rattle.ir_kinds.specs.judged.Scalars.{boolean, unsigned}
 use Rattle.ir_kinds.specs.declared.subgroups.CollectiveOperation.{CollectiveOperation}
 use Rattle.ir_kinds.specs.declared.subgroups.SubgroupOperation.{SubgroupOperation}
-use Rattle.spec_statements.specs.Shapes.{IsOfValue, IsMadeOf, shaped_of}
+use Rattle.spec_statements.specs.judged.Shapes.{IsOfValue, IsMadeOf, shaped_of}
 use Rattle.spec_handles.specs.Operands.{gather_index}
-use Rattle.spec_statements.specs.BlockContext.{BlockContext, form_at}
-use Rattle.spec_statements.specs.Subgroups.{collective_needs, gather_needs, AnswersAs, IsNumber, TakesShape, GoesOver, IndexIsKnown}
+use Rattle.spec_statements.specs.judged.BlockContext.{BlockContext, form_at}
+use Rattle.spec_statements.specs.judged.Subgroups.{collective_needs, gather_needs, AnswersAs, IsNumber, TakesShape, GoesOver, IndexIsKnown}
 use Rattle.typing_forms.specs.declared.form.Form.TheVariants as form
 
 -- ---- what is needed

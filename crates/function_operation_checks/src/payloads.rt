@@ -2,11 +2,11 @@
 
 ghost use Rattle.std.specs.Prelude.{◌≡◌, ◌≢◌, ℕ, Option as Maybe, option_map, MatchResult};
 ghost use Rattle.std.specs.Option.{MatchOption};
-ghost use Rattle.ir_blocks.specs.Plain.{operation, ray_pipeline};
-ghost use Rattle.ir_blocks.specs.View.{statement_view};
+ghost use Rattle.ir_blocks.specs.judged.Plain.{operation, ray_pipeline};
+ghost use Rattle.ir_blocks.specs.found.View.{statement_view};
 ghost use Rattle.function_operation_checks.specs.Payloads.{payload_type, unlike, IsPayloadsFault, AreOfOneType};
-ghost use Rattle.spec_statements.specs.Payloads.{HasPayload};
-ghost use Rattle.spec_statements.specs.Variables.{variable_at};
+ghost use Rattle.spec_statements.specs.judged.Payloads.{HasPayload};
+ghost use Rattle.spec_statements.specs.judged.Variables.{variable_at};
 
 use function_statement_checks::{StatementContext, variable_at};
 use ir_arena::handle::Handle;

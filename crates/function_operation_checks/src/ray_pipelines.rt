@@ -2,7 +2,7 @@
 
 ghost use Rattle.std.specs.Prelude.{◌↔◌, IsTrue, MatchResult};
 ghost use Rattle.function_operation_checks.specs.RayPipelines.{IsPayload, IsPayloadFault, IsTraceFault, IsRayPipelineFault};
-ghost use Rattle.spec_statements.specs.RayPipelines.{IsPayloadSpace, TraceOK, RayPipelineOK};
+ghost use Rattle.spec_statements.specs.judged.RayPipelines.{IsPayloadSpace, TraceOK, RayPipelineOK};
 
 use crate::rays::{is_ray_descriptor, structure_of};
 use function_statement_checks::{StatementContext, pointer_space, variable_at};

@@ -2,12 +2,12 @@
 
 ghost use Rattle.std.specs.Prelude.{◌≡◌, ◌↔◌, IsTrue, MatchResult, option_map, slice_get};
 ghost use Rattle.ir_blocks.specs.declared.operations.RayQueryFunction.TheVariants.{Initialize};
-ghost use Rattle.ir_types.specs.ExpressionPlain.{expression_view};
+ghost use Rattle.ir_types.specs.judged.ExpressionPlain.{expression_view};
 ghost use Rattle.function_operation_checks.specs.RayQueries.{IsStartFault, IsStepFault, IsRayQueryFault};
-ghost use Rattle.spec_statements.specs.ExpressionRayQueries.{query_of};
-ghost use Rattle.spec_statements.specs.Shapes.{IsMadeOf, IsAlone, IsFloating};
-ghost use Rattle.spec_statements.specs.RayQueries.{local_of, local_type_at, GivesVertices, StepOK, RayQueryOK};
-ghost use Rattle.typing_forms.specs.Resolutions.{inner_at};
+ghost use Rattle.spec_statements.specs.judged.ExpressionRayQueries.{query_of};
+ghost use Rattle.spec_statements.specs.judged.Shapes.{IsMadeOf, IsAlone, IsFloating};
+ghost use Rattle.spec_statements.specs.judged.RayQueries.{local_of, local_type_at, GivesVertices, StepOK, RayQueryOK};
+ghost use Rattle.typing_forms.specs.judged.Resolutions.{inner_at};
 
 use crate::rays::{is_ray_descriptor, structure_of};
 use function_statement_checks::StatementContext;

@@ -1,7 +1,7 @@
 //! What rays are traced in, and what describes them.
 
 ghost use Rattle.std.specs.Prelude.{◌≡◌, ◌↔◌, IsTrue, Some};
-ghost use Rattle.spec_statements.specs.RayQueries.{structure_of, IsMadeAs, IsRayDescriptor};
+ghost use Rattle.spec_statements.specs.judged.RayQueries.{structure_of, IsMadeAs, IsRayDescriptor};
 
 use function_statement_checks::StatementContext;
 use ir_arena::handle::Handle;

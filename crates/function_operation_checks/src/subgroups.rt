@@ -1,14 +1,14 @@
 //! Operations of subgroups.
 
 ghost use Rattle.std.specs.Prelude.{◌≡◌, ◌↔◌, IsTrue, MatchResult, IfSome, IsSomeAnd, Some, None, option_and_then, slice_get};
-ghost use Rattle.ir_types.specs.ExpressionPlain.{expression_view};
+ghost use Rattle.ir_types.specs.judged.ExpressionPlain.{expression_view};
 ghost use Rattle.ir_flags.specs.declared.stages.TheConstants.SubgroupOperationSet.{BALLOT};
-ghost use Rattle.ir_kinds.specs.Scalars.{unsigned};
+ghost use Rattle.ir_kinds.specs.judged.Scalars.{unsigned};
 ghost use Rattle.function_operation_checks.specs.Subgroups.{IsOperationFault, IsBallotFault, IsCollectiveFault, IsGatherFault};
-ghost use Rattle.spec_statements.specs.Shapes.{IsOfValue, IsMadeOf, shaped_of};
+ghost use Rattle.spec_statements.specs.judged.Shapes.{IsOfValue, IsMadeOf, shaped_of};
 ghost use Rattle.spec_handles.specs.Operands.{gather_index};
-ghost use Rattle.spec_statements.specs.BlockContext.{form_at};
-ghost use Rattle.spec_statements.specs.Subgroups.{collective_needs, gather_needs, HasOperation, answered_type, AnswersAs, BallotOK, IsNumber, TakesShape, IsScanned, GoesOver, CollectiveOK, IndexIsKnown, GatherOK};
+ghost use Rattle.spec_statements.specs.judged.BlockContext.{form_at};
+ghost use Rattle.spec_statements.specs.judged.Subgroups.{collective_needs, gather_needs, HasOperation, answered_type, AnswersAs, BallotOK, IsNumber, TakesShape, IsScanned, GoesOver, CollectiveOK, IndexIsKnown, GatherOK};
 
 use bitflags::Flags;
 use function_statement_checks::StatementContext;

@@ -7,10 +7,10 @@ use Rattle.spec_analysis.specs.declared.expression_info.ExpressionInfo.{Expressi
 use Rattle.spec_analysis.specs.declared.uniformity.Uniformity.{Uniformity}
 use Rattle.typing_summaries.specs.Tallied.{IsTally}
 use Rattle.typing_summaries.specs.Tallies.{Tallied}
-use Rattle.ir_items.specs.Plain.{PlainFunction, PlainModule}
-use Rattle.spec_analysis.specs.Summaries.{Summary}
-use Rattle.spec_analysis.specs.Values.{AreStarts}
-use Rattle.spec_expressions.specs.Context.{inside}
+use Rattle.ir_items.specs.judged.Plain.{PlainFunction, PlainModule}
+use Rattle.spec_analysis.specs.judged.Summaries.{Summary}
+use Rattle.spec_analysis.specs.judged.Values.{AreStarts}
+use Rattle.spec_expressions.specs.judged.Context.{inside}
 use Rattle.function_real_lower.specs.Infos.{IsExpressionInfo, AreExpressionInfos}
 use Rattle.function_real_lower.specs.Kept.{unknown, info_at, infos_from}
 use Rattle.typing_expressions.specs.Types.{AreTypes}

@@ -12,19 +12,19 @@ use Rattle.ir_faults.specs.declared.refusal.Refusal.{Refusal}
 use Rattle.ir_faults.specs.declared.refusal.Refusal.TheVariants as refusal
 use Rattle.ir_flags.specs.declared.settings.ValidationFlags.{ValidationFlags}
 use Rattle.ir_flags.specs.declared.stages.ShaderStages.{ShaderStages}
-use Rattle.ir_items.specs.Plain.{PlainFunction, PlainModule}
-use Rattle.ir_types.specs.Plain.{plain, struct}
+use Rattle.ir_items.specs.judged.Plain.{PlainFunction, PlainModule}
+use Rattle.ir_types.specs.judged.Plain.{plain, struct}
 use Rattle.module_handles.proofs.OrderedTypes.{order_gives_types}
 use Rattle.function_real_lower.specs.Made.{types_of}
 use Rattle.function_real_lower.specs.Readings.{reading_of, faults_of}
-use Rattle.spec_analysis.specs.Summaries.{Summary}
-use Rattle.spec_statements.specs.ExpressionStages.{all_stages}
-use Rattle.spec_expressions.specs.Typing.{HasType}
+use Rattle.spec_analysis.specs.judged.Summaries.{Summary}
+use Rattle.spec_statements.specs.judged.ExpressionStages.{all_stages}
+use Rattle.spec_expressions.specs.judged.Typing.{HasType}
 use Rattle.spec_handles.specs.Conditions.{HandlesInRange}
 use Rattle.spec_handles.specs.InOrder.{HandlesOK}
 use Rattle.function_real_lower.specs.Infos.{AreExpressionInfos}
-use Rattle.typing_forms.specs.Forms.{NoStructValue, form_of}
-use Rattle.typing_forms.specs.Resolutions.{PlainResolution, by_handle, by_value, resolution_view}
+use Rattle.typing_forms.specs.judged.Forms.{NoStructValue, form_of}
+use Rattle.typing_forms.specs.judged.Resolutions.{PlainResolution, by_handle, by_value, resolution_view}
 use Rattle.typing_forms.specs.declared.resolution.TypeResolution.{TypeResolution}
 use Rattle.typing_forms.specs.declared.form.Form.{Form}
 use Rattle.function_real_lower.specs.Processed.{IsAnalysed, IsProcessed}

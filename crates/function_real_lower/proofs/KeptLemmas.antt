@@ -3,8 +3,8 @@ use Rattle.std.proofs.Common.{◌≡◌, false, List, length, refl, sym, ap, ◌
 use Rattle.std.specs.List.{flat_map}
 use Rattle.bitflags.specs.Sets.{known_bits}
 use Rattle.ir_flags.specs.Words.{shader_stages}
-use Rattle.ir_items.specs.Plain.{PlainFunction, PlainModule}
-use Rattle.spec_analysis.specs.Summaries.{Summary, IsJoined}
+use Rattle.ir_items.specs.judged.Plain.{PlainFunction, PlainModule}
+use Rattle.spec_analysis.specs.judged.Summaries.{Summary, IsJoined}
 use Rattle.typing_infos.specs.Infos.{summary_of, key_of}
 use Rattle.typing_infos.specs.declared.function_info.FunctionInfo.{FunctionInfo}
 use Rattle.typing_sampling.specs.Listed.{listed}

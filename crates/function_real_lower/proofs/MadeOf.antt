@@ -1,11 +1,11 @@
 -- What a validator keeps of a module that it accepts is of this module.
 use Rattle.std.specs.Prelude.{Bool}
 use Rattle.ir_flags.specs.declared.settings.Capabilities.{Capabilities}
-use Rattle.ir_items.specs.Plain.{PlainModule}
+use Rattle.ir_items.specs.judged.Plain.{PlainModule}
 use Rattle.typing_infos.specs.declared.info.ModuleInfo.{ModuleInfo}
 use Rattle.module_types.specs.Validated.{AreAccepted}
 use Rattle.function_real_lower.specs.Made.{IsMadeOf}
-use Rattle.spec_expressions.specs.Context.{outside}
+use Rattle.spec_expressions.specs.judged.Context.{outside}
 use Rattle.spec_handles.specs.InOrder.{HandlesOK}
 use Rattle.typing_expressions.specs.Types.{AreTypes}
 

@@ -1,9 +1,9 @@
 -- Where all handles of a function are in range, each item that an expression names is there.
 use Rattle.std.proofs.Common.{◌≡◌, ℕ, Some, refl, slice_get}
-use Rattle.ir_types.specs.ExpressionPlain.{PlainExpression, compose, plain}
+use Rattle.ir_types.specs.judged.ExpressionPlain.{PlainExpression, compose, plain}
 use Rattle.ir_types.specs.declared.expressions.Expression.TheVariants as x
-use Rattle.ir_items.specs.Plain.{PlainFunction, PlainModule}
-use Rattle.spec_expressions.specs.Context.{inside}
+use Rattle.ir_items.specs.judged.Plain.{PlainFunction, PlainModule}
+use Rattle.spec_expressions.specs.judged.Context.{inside}
 use Rattle.spec_handles.specs.Conditions.{HandlesInRange}
 use Rattle.spec_handles.specs.Expressions.{expression_item}
 use Rattle.spec_handles.specs.References.{item, computed, expression_names, ItemExists}

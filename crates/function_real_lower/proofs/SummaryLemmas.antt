@@ -1,14 +1,14 @@
 -- The tally of a function of the module.
 use Rattle.std.proofs.Common.{◌≡◌, ℕ, Option, List, length, map, sym, ap, ◌∙◌, subst}
 use Rattle.std.proofs.lemmas.List.{length-map}
-use Rattle.ir_blocks.specs.View.{block_view}
-use Rattle.ir_types.specs.ExpressionPlain.{expression_view}
-use Rattle.ir_items.specs.GlobalView.{values_of, global_view}
-use Rattle.ir_items.specs.View.{function_view, module_view}
+use Rattle.ir_blocks.specs.found.View.{block_view}
+use Rattle.ir_types.specs.judged.ExpressionPlain.{expression_view}
+use Rattle.ir_items.specs.found.GlobalView.{values_of, global_view}
+use Rattle.ir_items.specs.found.View.{function_view, module_view}
 use Rattle.ir_items.specs.declared.functions.Function.{Function}
 use Rattle.ir_items.specs.declared.module.Module.{Module}
-use Rattle.spec_analysis.specs.Values.{AreStarts}
-use Rattle.spec_analysis.specs.Summaries.{Summary}
+use Rattle.spec_analysis.specs.judged.Values.{AreStarts}
+use Rattle.spec_analysis.specs.judged.Summaries.{Summary}
 use Rattle.typing_summaries.specs.Tallies.{Tallied, whole_tally}
 use Rattle.typing_summaries.specs.Tallied.{IsTally}
 use Rattle.typing_summaries.proofs.TallyLaws.{tally_is}

@@ -1,8 +1,8 @@
 -- Why a function has no summary.
 use Rattle.std.specs.Prelude.{List}
-use Rattle.ir_items.specs.Plain.{PlainFunction, PlainModule}
-use Rattle.spec_analysis.specs.Summaries.{Summary, IsFormFault}
-use Rattle.spec_expressions.specs.Context.{inside}
+use Rattle.ir_items.specs.judged.Plain.{PlainFunction, PlainModule}
+use Rattle.spec_analysis.specs.judged.Summaries.{Summary, IsFormFault}
+use Rattle.spec_expressions.specs.judged.Context.{inside}
 use Rattle.function_real_lower.specs.declared.summary.SummaryError.{SummaryError}
 use Rattle.function_real_lower.specs.declared.summary.SummaryError.TheVariants.{Memory, Untyped, WrongForm}
 use Rattle.typing_expressions.specs.Types.{IsUntypedFirst}

@@ -3,15 +3,15 @@ use Rattle.std.specs.Prelude.{◌≡◌, ◌↔◌, ℕ, ◌-◌, ◌^◌, min, 
 use Rattle.std.specs.List.{flat_map}
 use Rattle.bitflags.specs.Sets.{known_bits}
 use Rattle.ir_flags.specs.Words.{shader_stages}
-use Rattle.ir_items.specs.Plain.{PlainFunction, PlainModule}
+use Rattle.ir_items.specs.judged.Plain.{PlainFunction, PlainModule}
 use Rattle.typing_uniformity.specs.Facts.{IsUniformity}
 use Rattle.spec_analysis.specs.declared.expression_info.ExpressionInfo.{ExpressionInfo}
 use Rattle.typing_infos.specs.Infos.{summary_of, key_of}
 use Rattle.typing_infos.specs.declared.function_info.FunctionInfo.{FunctionInfo}
-use Rattle.spec_analysis.specs.Effects.{effects_of, places_of}
-use Rattle.spec_analysis.specs.Summaries.{Summary, IsJoined}
-use Rattle.spec_analysis.specs.Values.{StartsAt}
-use Rattle.spec_expressions.specs.Typing.{HasType}
+use Rattle.spec_analysis.specs.judged.Effects.{effects_of, places_of}
+use Rattle.spec_analysis.specs.judged.Summaries.{Summary, IsJoined}
+use Rattle.spec_analysis.specs.judged.Values.{StartsAt}
+use Rattle.spec_expressions.specs.judged.Typing.{HasType}
 use Rattle.typing_errors.specs.Answers.{form_given}
 
 -- Of the expression at a place it says where its value comes from and what it requires, at how many places it is an operand,

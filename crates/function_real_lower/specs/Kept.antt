@@ -2,7 +2,7 @@
 use Rattle.std.specs.Prelude.{ℕ, ◌+◌, List, [], ◌∷◌, Option, None, slice_index_or}
 use Rattle.spec_analysis.specs.declared.expression_info.ExpressionInfo.{ExpressionInfo}
 use Rattle.spec_analysis.specs.declared.uniformity.Uniformity.{Uniformity}
-use Rattle.spec_analysis.specs.Values.{known_at}
+use Rattle.spec_analysis.specs.judged.Values.{known_at}
 use Rattle.typing_forms.specs.declared.resolution.TypeResolution.{TypeResolution}
 
 -- what is known of no expression

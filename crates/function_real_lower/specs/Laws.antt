@@ -4,17 +4,17 @@ use Rattle.typing_errors.specs.declared.expressions.ExpressionError.{ExpressionE
 use Rattle.module_expressions.proofs.Refuted.{expression_refuted}
 use Rattle.module_expressions.specs.Faults.{IsExpressionFault}
 use Rattle.function_interface.specs.Question.{Question}
-use Rattle.ir_items.specs.GlobalPlain.{PlainGlobal}
-use Rattle.ir_items.specs.Plain.{PlainModule}
-use Rattle.ir_types.specs.ExpressionPlain.{PlainExpression}
+use Rattle.ir_items.specs.judged.GlobalPlain.{PlainGlobal}
+use Rattle.ir_items.specs.judged.Plain.{PlainModule}
+use Rattle.ir_types.specs.judged.ExpressionPlain.{PlainExpression}
 use Rattle.ir_flags.specs.declared.settings.Capabilities.{Capabilities}
 use Rattle.ir_flags.specs.declared.stages.ShaderStages.{ShaderStages}
-use Rattle.spec_statements.specs.Expressions.{ExpressionOK}
-use Rattle.spec_statements.specs.Scene.{scene_of}
-use Rattle.spec_statements.specs.ExpressionStages.{IsRunBy, stages_of}
+use Rattle.spec_statements.specs.judged.Expressions.{ExpressionOK}
+use Rattle.spec_statements.specs.judged.Scene.{scene_of}
+use Rattle.spec_statements.specs.judged.ExpressionStages.{IsRunBy, stages_of}
 use Rattle.spec_expressions.proofs.TypingLaws.{one_type}
-use Rattle.spec_expressions.specs.Context.{inside, outside}
-use Rattle.spec_expressions.specs.Typing.{HasGlobalType, HasType}
+use Rattle.spec_expressions.specs.judged.Context.{inside, outside}
+use Rattle.spec_expressions.specs.judged.Typing.{HasGlobalType, HasType}
 use Rattle.spec_handles.specs.InOrder.{HandlesOK}
 use Rattle.spec_handles.specs.Modules as part
 use Rattle.spec_handles.specs.References.{operand}

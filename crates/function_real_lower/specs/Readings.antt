@@ -4,11 +4,11 @@ use Rattle.typing_errors.specs.declared.error.FunctionError.{FunctionError}
 use Rattle.module_expressions.specs.Faults.{IsExpressionFault}
 use Rattle.function_interface.specs.Analysis.{Faults}
 use Rattle.function_interface.specs.Question.{Question}
-use Rattle.spec_statements.specs.Expressions.{ExpressionOK}
-use Rattle.spec_statements.specs.Scene.{scene_of}
-use Rattle.spec_statements.specs.ExpressionStages.{IsRunBy}
-use Rattle.spec_expressions.specs.Typing.{HasType}
-use Rattle.spec_statements.specs.Functions.{Reading}
+use Rattle.spec_statements.specs.judged.Expressions.{ExpressionOK}
+use Rattle.spec_statements.specs.judged.Scene.{scene_of}
+use Rattle.spec_statements.specs.judged.ExpressionStages.{IsRunBy}
+use Rattle.spec_expressions.specs.judged.Typing.{HasType}
+use Rattle.spec_statements.specs.judged.Functions.{Reading}
 use Rattle.function_real_lower.specs.Processed.{IsAnalysisFault}
 
 -- its expressions have types by the rules of their kinds, and no fault of the analysis stands

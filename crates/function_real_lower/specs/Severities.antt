@@ -2,7 +2,7 @@
 use Rattle.std.specs.Prelude.{List, [], Option, Some, None, Vec}
 use Rattle.std.specs.declared.alloc.Global.{Global}
 use Rattle.typing_uniformity.specs.Nearest.{AreNearest}
-use Rattle.ir_items.specs.Plain.{PlainModule}
+use Rattle.ir_items.specs.judged.Plain.{PlainModule}
 use Rattle.ir_kinds.specs.declared.diagnostics.Severity.{Severity}
 
 -- what is known of each node, which may be nothing

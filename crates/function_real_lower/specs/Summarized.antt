@@ -1,12 +1,12 @@
 -- What is found of a function before the places of its statements are looked at.
 use Rattle.std.specs.Prelude.{ℕ, List, length}
-use Rattle.ir_items.specs.Plain.{PlainFunction, PlainModule}
+use Rattle.ir_items.specs.judged.Plain.{PlainFunction, PlainModule}
 use Rattle.typing_uniformity.specs.Facts.{AreUniformities}
 use Rattle.typing_summaries.specs.Tallied.{IsTally}
 use Rattle.typing_summaries.specs.Tallies.{tallied}
-use Rattle.spec_analysis.specs.Summaries.{Summary, IsFormFault}
-use Rattle.spec_analysis.specs.Values.{AreStarts}
-use Rattle.spec_expressions.specs.Context.{inside}
+use Rattle.spec_analysis.specs.judged.Summaries.{Summary, IsFormFault}
+use Rattle.spec_analysis.specs.judged.Values.{AreStarts}
+use Rattle.spec_expressions.specs.judged.Context.{inside}
 use Rattle.function_real_lower.specs.declared.summary.Summarized.{Summarized}
 use Rattle.typing_expressions.specs.Types.{AreTypes}
 

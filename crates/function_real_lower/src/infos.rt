@@ -1,7 +1,7 @@
 //! What is kept of a function, put together.
 
 ghost use Rattle.std.specs.Prelude.{◌≡◌, IfOk, slice_index_or};
-ghost use Rattle.spec_analysis.specs.Values.{known_at};
+ghost use Rattle.spec_analysis.specs.judged.Values.{known_at};
 ghost use Rattle.function_real_lower.specs.Kept.{unknown, infos_from};
 
 use ir_arena::handle::Handle;

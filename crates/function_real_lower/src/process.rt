@@ -2,16 +2,16 @@
 
 ghost use Rattle.std.specs.Prelude.{◌≡◌, List, IfOk, IfErr, OnOk, map};
 ghost use Rattle.typing_errors.specs.declared.error.FunctionError.TheVariants.{Expression};
-ghost use Rattle.ir_items.specs.Plain.{PlainFunction, PlainModule};
-ghost use Rattle.ir_items.specs.View.{function_view, module_view};
+ghost use Rattle.ir_items.specs.judged.Plain.{PlainFunction, PlainModule};
+ghost use Rattle.ir_items.specs.found.View.{function_view, module_view};
 ghost use Rattle.ir_flags.specs.declared.settings.ValidationFlags.{ValidationFlags};
-ghost use Rattle.ir_proc.specs.Filters.{ParentsPrecede};
+ghost use Rattle.ir_proc.specs.found.Filters.{ParentsPrecede};
 ghost use Rattle.typing_uniformity.specs.Facts.{AreUniformities};
 ghost use Rattle.typing_uniformity.specs.Nearest.{AreNearest};
 ghost use Rattle.typing_infos.specs.Infos.{summary_of};
-ghost use Rattle.spec_analysis.specs.Faults.{FunctionFault};
-ghost use Rattle.spec_analysis.specs.Summaries.{Summary, IsSummary, CalleesKnown, AgreeOnCallees};
-ghost use Rattle.spec_analysis.specs.Uniformity.{Required};
+ghost use Rattle.spec_analysis.specs.judged.Faults.{FunctionFault};
+ghost use Rattle.spec_analysis.specs.judged.Summaries.{Summary, IsSummary, CalleesKnown, AgreeOnCallees};
+ghost use Rattle.spec_analysis.specs.judged.Uniformity.{Required};
 ghost use Rattle.spec_handles.specs.Conditions.{HandlesInRange, OperandsPrecede};
 ghost use Rattle.function_real_lower.specs.Faults.{IsSummaryFault};
 ghost use Rattle.function_real_lower.specs.Processed.{IsAnalysisFault, IsAnalysisRefusal, IsProcessed};

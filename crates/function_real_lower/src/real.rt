@@ -1,8 +1,8 @@
 //! The layer beneath the rules of functions.
 
 ghost use Rattle.std.specs.Prelude.{◌≡◌, IfOk, None, length};
-ghost use Rattle.ir_items.specs.View.{module_view};
-ghost use Rattle.ir_proc.specs.Filters.{ParentsPrecede};
+ghost use Rattle.ir_items.specs.found.View.{module_view};
+ghost use Rattle.ir_proc.specs.found.Filters.{ParentsPrecede};
 ghost use Rattle.function_real_lower.specs.Severities.{AreKnown, severities_in};
 
 use crate::process::process_by;
@@ -97,7 +97,7 @@ impl Lower for RealLower {
     ghost use Rattle.function_real_lower.specs.Severities.{AreKnown};
     ghost use Rattle.function_real_lower.specs.Readings.{reading_of, faults_of};
     ghost use Rattle.function_real_lower.specs.Laws.{one_form_by, one_global_form_by, one_run_by, expression_refuted_by, initializer_typed_by};
-    ghost use Rattle.spec_expressions.specs.Typing.{HasGlobalType};
+    ghost use Rattle.spec_expressions.specs.judged.Typing.{HasGlobalType};
 
     ghost is_for = { λ l m. IsMadeOf m l.info × AreKnown m l.severities };
 

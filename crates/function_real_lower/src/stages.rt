@@ -2,8 +2,8 @@
 
 ghost use Rattle.std.specs.Prelude.{◌≡◌, [], map};
 ghost use Rattle.function_interface.specs.Callees.{noted};
-ghost use Rattle.ir_types.specs.ExpressionPlain.{expression_view};
-ghost use Rattle.spec_statements.specs.ExpressionStages.{stages_of};
+ghost use Rattle.ir_types.specs.judged.ExpressionPlain.{expression_view};
+ghost use Rattle.spec_statements.specs.judged.ExpressionStages.{stages_of};
 
 use function_interface::{CalleeStages, NotedStages};
 use ir_flags::ShaderStages;

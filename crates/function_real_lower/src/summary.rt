@@ -1,11 +1,11 @@
 //! What is found of a function before the places of its statements are looked at.
 
 ghost use Rattle.std.specs.Prelude.{◌≡◌, ℕ, List, IfOk, IfErr, length, map};
-ghost use Rattle.ir_items.specs.Plain.{PlainFunction, PlainModule};
-ghost use Rattle.ir_items.specs.View.{function_view, module_view};
-ghost use Rattle.spec_analysis.specs.Values.{AreStarts, OperandsPrecede};
-ghost use Rattle.spec_analysis.specs.Summaries.{Summary};
-ghost use Rattle.spec_expressions.specs.Context.{inside};
+ghost use Rattle.ir_items.specs.judged.Plain.{PlainFunction, PlainModule};
+ghost use Rattle.ir_items.specs.found.View.{function_view, module_view};
+ghost use Rattle.spec_analysis.specs.judged.Values.{AreStarts, OperandsPrecede};
+ghost use Rattle.spec_analysis.specs.judged.Summaries.{Summary};
+ghost use Rattle.spec_expressions.specs.judged.Context.{inside};
 ghost use Rattle.typing_infos.specs.Infos.{summary_of};
 ghost use Rattle.typing_summaries.specs.Tallied.{IsTally};
 ghost use Rattle.typing_summaries.specs.Tallies.{tallied};

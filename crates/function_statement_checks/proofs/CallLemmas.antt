@@ -1,7 +1,7 @@
 -- What a function declares at a place, and what is passed at all places.
 use Rattle.std.proofs.Common.{◌≡◌, ◌≤◌, ◌<◌, ◌⊎◌, inl, inr, ◌+◌, ℕ, zero, suc, List, [], ◌∷◌, map, length, Some, option_map, slice_get, refl, sym, ap, subst, arith}
-use Rattle.ir_items.specs.Plain.{PlainFunction}
-use Rattle.spec_statements.specs.BlockContext.{BlockContext}
+use Rattle.ir_items.specs.judged.Plain.{PlainFunction}
+use Rattle.spec_statements.specs.judged.BlockContext.{BlockContext}
 use Rattle.function_statement_checks.specs.Calls.{PassesAt, PassesBelow}
 
 pub declared : {A B : Type 0} (view : A → B) (xs : List A) (place : ℕ) → option_map view (slice_get xs place) ≡ slice_get (map view xs) place

@@ -1,7 +1,7 @@
 -- What is marked, one type after another.
 use Rattle.std.proofs.Common.{◌≡◌, ◌↔◌, ◌+◌, zero, suc, ℕ, Bool, IsTrue, List, [], ◌∷◌, ◌++◌, Option, None, Some, length, slice_get, ap, sym, subst, ◌∙◌}
 use Rattle.std.proofs.lemmas.List.{length-append}
-use Rattle.ir_types.specs.Plain.{PlainType}
+use Rattle.ir_types.specs.judged.Plain.{PlainType}
 use Rattle.function_statement_checks.specs.Descriptors.{AreDescriptors, IsDescriptorAt}
 
 pub longer : (marks : List Bool) (b : Bool) (n : ℕ) → length marks ≡ n → length (marks ++ b ∷ []) ≡ n + 1

@@ -5,14 +5,14 @@ use Rattle.std.proofs.lemmas.Bool.{cases_eq, cases_lt}
 use Rattle.std.proofs.lemmas.List.Elements.{All-from_get_or}
 use Rattle.std.proofs.lemmas.List.FromFn.{length-range_with_len, get_or-range_with_len}
 use Rattle.std.proofs.lemmas.Option.{slice_get_past}
-use Rattle.ir_arena.specs.Handles.{handles_between}
+use Rattle.ir_arena.specs.judged.Handles.{handles_between}
 use Rattle.ir_sets.specs.Bits.{IsFirst, NoneBetween}
 use Rattle.ir_sets.specs.Next.{AreNext}
-use Rattle.ir_types.specs.ExpressionPlain.{PlainExpression, compose, plain}
+use Rattle.ir_types.specs.judged.ExpressionPlain.{PlainExpression, compose, plain}
 use Rattle.ir_types.specs.declared.expressions.Expression.{Expression}
 use Rattle.ir_types.specs.declared.expressions.Expression.TheVariants as x
-use Rattle.typing_rules.specs.Laws.{IsAmong}
-use Rattle.spec_statements.specs.Emits.{EmitOK, IsComputedHere, IsEmittable}
+use Rattle.typing_rules.specs.judged.Laws.{IsAmong}
+use Rattle.spec_statements.specs.judged.Emits.{EmitOK, IsComputedHere, IsEmittable}
 use Rattle.function_statement_checks.specs.Emits.{is_answer_itself, is_answer_there, is_answer_at, AreAnswers, IsAnswerOf}
 
 computed_here : (e : Expression) → is_answer_itself e ≡ false → IsComputedHere e

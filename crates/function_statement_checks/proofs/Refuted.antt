@@ -6,22 +6,22 @@ use Rattle.typing_errors.specs.declared.error.FunctionError.TheVariants as error
 use Rattle.typing_errors.specs.declared.calls.CallError.{CallError}
 use Rattle.typing_errors.specs.declared.calls.CallError.TheVariants.{ArgumentType, ExpressionMismatch}
 use Rattle.typing_errors.specs.declared.subgroups.SubgroupError.TheVariants.{UnsupportedOperation}
-use Rattle.ir_types.specs.ExpressionPlain.{PlainExpression}
+use Rattle.ir_types.specs.judged.ExpressionPlain.{PlainExpression}
 use Rattle.ir_types.specs.declared.expressions.CooperativeData.{CooperativeData}
-use Rattle.ir_arena.specs.Handles.{handles_between}
+use Rattle.ir_arena.specs.judged.Handles.{handles_between}
 use Rattle.ir_flags.specs.declared.memory.Barrier.{Barrier}
-use Rattle.ir_items.specs.Plain.{PlainFunction}
+use Rattle.ir_items.specs.judged.Plain.{PlainFunction}
 use Rattle.ir_kinds.specs.declared.scalars.Scalar.{Scalar}
-use Rattle.typing_rules.specs.Laws.{IsAmong}
-use Rattle.spec_statements.specs.Barriers.{BarrierOK}
-use Rattle.spec_statements.specs.BlockContext.{BlockContext, form_at}
-use Rattle.spec_statements.specs.Calls.{CallOK, CallResultOK}
-use Rattle.spec_statements.specs.Conditions.{ConditionOK}
-use Rattle.spec_expressions.specs.CooperativeMatrices.{pointed_scalar}
-use Rattle.spec_statements.specs.CooperativeStores.{CooperativeStoreOK, matrix_scalar}
-use Rattle.spec_statements.specs.Emits.{EmitOK, IsEmittable}
-use Rattle.spec_statements.specs.Returns.{ReturnOK}
-use Rattle.spec_statements.specs.Stores.{StoreOK, BeginsAt, itself, through, IsVariableAt}
+use Rattle.typing_rules.specs.judged.Laws.{IsAmong}
+use Rattle.spec_statements.specs.judged.Barriers.{BarrierOK}
+use Rattle.spec_statements.specs.judged.BlockContext.{BlockContext, form_at}
+use Rattle.spec_statements.specs.judged.Calls.{CallOK, CallResultOK}
+use Rattle.spec_statements.specs.judged.Conditions.{ConditionOK}
+use Rattle.spec_expressions.specs.judged.CooperativeMatrices.{pointed_scalar}
+use Rattle.spec_statements.specs.judged.CooperativeStores.{CooperativeStoreOK, matrix_scalar}
+use Rattle.spec_statements.specs.judged.Emits.{EmitOK, IsEmittable}
+use Rattle.spec_statements.specs.judged.Returns.{ReturnOK}
+use Rattle.spec_statements.specs.judged.Stores.{StoreOK, BeginsAt, itself, through, IsVariableAt}
 use Rattle.function_statement_checks.specs.Barriers.{IsBarrierFault}
 use Rattle.function_statement_checks.specs.Calls.{IsCallError, IsCallFault}
 use Rattle.function_statement_checks.specs.Conditions.{IsConditionFault}
@@ -30,7 +30,7 @@ use Rattle.function_statement_checks.specs.Emits.{IsEmitFault}
 use Rattle.function_statement_checks.specs.Laws.{FaultsRefute}
 use Rattle.function_statement_checks.specs.Returns.{IsReturnFault}
 use Rattle.function_statement_checks.specs.Stores.{IsStoreFault}
-use Rattle.typing_forms.specs.Forms.{form_of_type}
+use Rattle.typing_forms.specs.judged.Forms.{form_of_type}
 
 barrier_refuted : (c : BlockContext) (b : Barrier) (e : FunctionError) → IsBarrierFault c b e → BarrierOK c b → ⊥
 barrier_refuted c b (error.MissingCapability missing) fault ok = fault.2 ((ok fault.0).subgroups, (ok fault.0).barriers)

@@ -9,7 +9,7 @@ use Rattle.ir_flags.specs.declared.memory.Barrier.{Barrier}
 use Rattle.ir_flags.specs.declared.memory.TheConstants.Barrier.{SUB_GROUP}
 use Rattle.ir_flags.specs.declared.settings.TheConstants.Capabilities.{SUBGROUP, SUBGROUP_BARRIER}
 use Rattle.ir_flags.specs.declared.stages.TheConstants.SubgroupOperationSet.{BASIC}
-use Rattle.spec_statements.specs.BlockContext.{BlockContext}
+use Rattle.spec_statements.specs.judged.BlockContext.{BlockContext}
 
 -- subgroups don't wait at barriers here
 abbrev pub IsUnsupported : BlockContext → SubgroupError → Type 0

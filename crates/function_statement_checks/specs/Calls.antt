@@ -4,10 +4,10 @@ use Rattle.typing_errors.specs.declared.error.FunctionError.{FunctionError}
 use Rattle.typing_errors.specs.declared.error.FunctionError.TheVariants as error
 use Rattle.typing_errors.specs.declared.calls.CallError.{CallError}
 use Rattle.typing_errors.specs.declared.calls.CallError.TheVariants.{ArgumentType, ExpressionMismatch}
-use Rattle.ir_items.specs.Plain.{PlainArgument, PlainFunction}
-use Rattle.spec_statements.specs.BlockContext.{BlockContext, form_at}
-use Rattle.spec_statements.specs.Calls.{CallResultOK}
-use Rattle.typing_forms.specs.Forms.{form_of_type}
+use Rattle.ir_items.specs.judged.Plain.{PlainArgument, PlainFunction}
+use Rattle.spec_statements.specs.judged.BlockContext.{BlockContext, form_at}
+use Rattle.spec_statements.specs.judged.Calls.{CallResultOK}
+use Rattle.typing_forms.specs.judged.Forms.{form_of_type}
 
 -- what is passed at a place is of the type that is declared there
 abbrev pub PassesAt : BlockContext → PlainFunction → (arguments : List ℕ) → (place : ℕ) → Type 0

@@ -4,10 +4,10 @@ use Rattle.typing_errors.specs.declared.error.FunctionError.{FunctionError}
 use Rattle.typing_errors.specs.declared.error.FunctionError.TheVariants as error
 use Rattle.ir_kinds.specs.declared.scalars.Scalar.{Scalar}
 use Rattle.ir_types.specs.declared.expressions.CooperativeData.{CooperativeData}
-use Rattle.spec_expressions.specs.CooperativeMatrices.{pointed_scalar}
-use Rattle.spec_statements.specs.BlockContext.{BlockContext, form_at}
-use Rattle.spec_statements.specs.CooperativeStores.{matrix_scalar}
-use Rattle.spec_statements.specs.Stores.{IsWritable}
+use Rattle.spec_expressions.specs.judged.CooperativeMatrices.{pointed_scalar}
+use Rattle.spec_statements.specs.judged.BlockContext.{BlockContext, form_at}
+use Rattle.spec_statements.specs.judged.CooperativeStores.{matrix_scalar}
+use Rattle.spec_statements.specs.judged.Stores.{IsWritable}
 
 -- there is a scalar, and another one is found, or none
 abbrev pub IsOtherScalar : (wanted found : Option Scalar) → Type 0

@@ -1,7 +1,7 @@
 -- Which types of a module are made as its type of rays is.
 use Rattle.std.specs.Prelude.{◌≡◌, ◌↔◌, ℕ, Bool, IsTrue, IsSomeAnd, List, Option, Some, slice_get}
-use Rattle.ir_types.specs.Plain.{PlainType}
-use Rattle.typing_forms.specs.Resolutions.{inner_at}
+use Rattle.ir_types.specs.judged.Plain.{PlainType}
+use Rattle.typing_forms.specs.judged.Resolutions.{inner_at}
 
 -- a type is made of the same as the declared one, if one is
 abbrev pub IsDescriptorAt : List PlainType → (declared : Option ℕ) → (type : ℕ) → Type 0

@@ -2,14 +2,14 @@
 use Rattle.std.specs.Prelude.{ℕ, Bool, true, false, List, length, Option, None, Some, IfSome, MatchOption, slice_get}
 use Rattle.typing_errors.specs.declared.error.FunctionError.{FunctionError}
 use Rattle.typing_errors.specs.declared.error.FunctionError.TheVariants as error
-use Rattle.ir_arena.specs.Handles.{handles_between}
+use Rattle.ir_arena.specs.judged.Handles.{handles_between}
 use Rattle.ir_sets.specs.Next.{AreNext}
-use Rattle.ir_types.specs.ExpressionPlain.{PlainExpression, compose, plain}
+use Rattle.ir_types.specs.judged.ExpressionPlain.{PlainExpression, compose, plain}
 use Rattle.ir_types.specs.declared.expressions.Expression.{Expression}
 use Rattle.ir_types.specs.declared.expressions.Expression.TheVariants as x
-use Rattle.typing_rules.specs.Laws.{IsAmong}
-use Rattle.spec_statements.specs.BlockContext.{BlockContext}
-use Rattle.spec_statements.specs.Emits.{EmitOK, IsEmittable}
+use Rattle.typing_rules.specs.judged.Laws.{IsAmong}
+use Rattle.spec_statements.specs.judged.BlockContext.{BlockContext}
+use Rattle.spec_statements.specs.judged.Emits.{EmitOK, IsEmittable}
 
 -- one of the range denotes the result of a statement, or is not there
 abbrev pub IsEmitFault : BlockContext → (first end : ℕ) → FunctionError → Type 0

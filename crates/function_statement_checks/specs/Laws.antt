@@ -3,14 +3,14 @@ use Rattle.std.specs.Prelude.{ℕ, List, Option}
 use Rattle.typing_errors.specs.declared.error.FunctionError.{FunctionError}
 use Rattle.ir_types.specs.declared.expressions.CooperativeData.{CooperativeData}
 use Rattle.ir_flags.specs.declared.memory.Barrier.{Barrier}
-use Rattle.spec_statements.specs.Barriers.{BarrierOK}
-use Rattle.spec_statements.specs.BlockContext.{BlockContext, form_at}
-use Rattle.spec_statements.specs.Calls.{CallOK}
-use Rattle.spec_statements.specs.Conditions.{ConditionOK}
-use Rattle.spec_statements.specs.CooperativeStores.{CooperativeStoreOK}
-use Rattle.spec_statements.specs.Emits.{EmitOK}
-use Rattle.spec_statements.specs.Returns.{ReturnOK}
-use Rattle.spec_statements.specs.Stores.{StoreOK}
+use Rattle.spec_statements.specs.judged.Barriers.{BarrierOK}
+use Rattle.spec_statements.specs.judged.BlockContext.{BlockContext, form_at}
+use Rattle.spec_statements.specs.judged.Calls.{CallOK}
+use Rattle.spec_statements.specs.judged.Conditions.{ConditionOK}
+use Rattle.spec_statements.specs.judged.CooperativeStores.{CooperativeStoreOK}
+use Rattle.spec_statements.specs.judged.Emits.{EmitOK}
+use Rattle.spec_statements.specs.judged.Returns.{ReturnOK}
+use Rattle.spec_statements.specs.judged.Stores.{StoreOK}
 use Rattle.function_statement_checks.specs.Barriers.{IsBarrierFault}
 use Rattle.function_statement_checks.specs.Calls.{IsCallFault}
 use Rattle.function_statement_checks.specs.Conditions.{IsConditionFault}

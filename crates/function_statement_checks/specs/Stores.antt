@@ -2,10 +2,10 @@
 use Rattle.std.specs.Prelude.{◌≡◌, ◌⊎◌, ℕ, None}
 use Rattle.typing_errors.specs.declared.error.FunctionError.{FunctionError}
 use Rattle.typing_errors.specs.declared.error.FunctionError.TheVariants as error
-use Rattle.ir_types.specs.Plain.{inner_view}
-use Rattle.spec_statements.specs.BlockContext.{BlockContext, form_at}
-use Rattle.spec_statements.specs.Stores.{BeginsAt, IsVariableAt, IsStorable, FitsAt, IsWritable}
-use Rattle.typing_forms.specs.Forms.{form_in}
+use Rattle.ir_types.specs.judged.Plain.{inner_view}
+use Rattle.spec_statements.specs.judged.BlockContext.{BlockContext, form_at}
+use Rattle.spec_statements.specs.judged.Stores.{BeginsAt, IsVariableAt, IsStorable, FitsAt, IsWritable}
+use Rattle.typing_forms.specs.judged.Forms.{form_in}
 
 -- what the pointer begins at is no variable and no argument; or it points where nothing is written
 abbrev pub IsBadPlace : BlockContext → (pointer start : ℕ) → Type 0

@@ -1,10 +1,10 @@
 -- What a context holds, as plain data.
-use Rattle.ir_items.specs.View.{function_view, module_view}
-use Rattle.spec_statements.specs.BlockContext.{BlockContext as PlainContext}
+use Rattle.ir_items.specs.found.View.{function_view, module_view}
+use Rattle.spec_statements.specs.judged.BlockContext.{BlockContext as PlainContext}
 use Rattle.function_statement_checks.specs.declared.context.BlockContext.{BlockContext}
 use Rattle.function_statement_checks.specs.Descriptors.{AreDescriptors}
 use Rattle.function_statement_checks.specs.Emits.{AreAnswers}
-use Rattle.typing_layout.specs.Constness.{AreKinds}
+use Rattle.typing_layout.specs.judged.Constness.{AreKinds}
 
 abbrev pub context_view : BlockContext → PlainContext
 context_view c = record {

@@ -2,7 +2,7 @@
 
 ghost use Rattle.std.specs.Prelude.{◌≡◌, ◌↔◌, IsTrue, MatchResult};
 ghost use Rattle.ir_flags.specs.Sets.{Has};
-ghost use Rattle.spec_statements.specs.Barriers.{BarrierOK};
+ghost use Rattle.spec_statements.specs.judged.Barriers.{BarrierOK};
 ghost use Rattle.function_statement_checks.specs.Barriers.{IsBarrierFault};
 
 use crate::context::StatementContext;

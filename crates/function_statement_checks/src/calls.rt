@@ -1,10 +1,10 @@
 //! Calls.
 
 ghost use Rattle.std.specs.Prelude.{◌≡◌, ◌↔◌, ◌<◌, ℕ, Option, IfNone, IfSome, IsTrue, MatchResult, length, option_map, slice_get};
-ghost use Rattle.ir_types.specs.ExpressionPlain.{expression_view, plain};
+ghost use Rattle.ir_types.specs.judged.ExpressionPlain.{expression_view, plain};
 ghost use Rattle.ir_types.specs.declared.expressions.Expression.TheVariants as x;
-ghost use Rattle.ir_items.specs.View.{argument_view, function_view};
-ghost use Rattle.spec_statements.specs.Calls.{CallOK, CallResultOK};
+ghost use Rattle.ir_items.specs.found.View.{argument_view, function_view};
+ghost use Rattle.spec_statements.specs.judged.Calls.{CallOK, CallResultOK};
 ghost use Rattle.function_statement_checks.specs.Calls.{PassesAt, IsCallError, IsCallFault};
 
 use crate::context::StatementContext;

@@ -1,8 +1,8 @@
 //! Conditions.
 
 ghost use Rattle.std.specs.Prelude.{◌≡◌, ◌↔◌, IsTrue, MatchResult};
-ghost use Rattle.spec_statements.specs.BlockContext.{form_at};
-ghost use Rattle.spec_statements.specs.Conditions.{ConditionOK};
+ghost use Rattle.spec_statements.specs.judged.BlockContext.{form_at};
+ghost use Rattle.spec_statements.specs.judged.Conditions.{ConditionOK};
 ghost use Rattle.function_statement_checks.specs.Conditions.{IsConditionFault};
 
 use crate::context::StatementContext;

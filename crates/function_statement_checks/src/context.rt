@@ -1,17 +1,17 @@
 //! What the rules of a statement may look at.
 
 ghost use Rattle.std.specs.Prelude.{◌≡◌, ◌↔◌, IsTrue, map, option_map, slice_get};
-ghost use Rattle.ir_blocks.specs.View.{block_view};
-ghost use Rattle.ir_items.specs.GlobalView.{global_view, values_of};
-ghost use Rattle.ir_items.specs.View.{function_view};
-ghost use Rattle.ir_types.specs.ExpressionPlain.{expression_view};
-ghost use Rattle.ir_types.specs.Plain.{inner_view, type_view};
-ghost use Rattle.spec_statements.specs.BlockContext.{BlockContext as PlainContext, form_at};
+ghost use Rattle.ir_blocks.specs.found.View.{block_view};
+ghost use Rattle.ir_items.specs.found.GlobalView.{global_view, values_of};
+ghost use Rattle.ir_items.specs.found.View.{function_view};
+ghost use Rattle.ir_types.specs.judged.ExpressionPlain.{expression_view};
+ghost use Rattle.ir_types.specs.judged.Plain.{inner_view, type_view};
+ghost use Rattle.spec_statements.specs.judged.BlockContext.{BlockContext as PlainContext, form_at};
 ghost use Rattle.function_statement_checks.specs.Descriptors.{IsDescriptorAt};
 ghost use Rattle.function_statement_checks.specs.Emits.{IsAnswerOf};
-ghost use Rattle.typing_forms.specs.Forms.{form_of_type};
-ghost use Rattle.typing_forms.specs.Resolutions.{inner_at};
-ghost use Rattle.typing_layout.specs.Constness.{IsOfKind};
+ghost use Rattle.typing_forms.specs.judged.Forms.{form_of_type};
+ghost use Rattle.typing_forms.specs.judged.Resolutions.{inner_at};
+ghost use Rattle.typing_layout.specs.judged.Constness.{IsOfKind};
 ghost use Rattle.typing_layout.specs.declared.constness.ExpressionKind.TheVariants.{Const};
 
 use crate::descriptors::is_descriptor;

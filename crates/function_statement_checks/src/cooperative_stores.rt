@@ -1,12 +1,12 @@
 //! Cooperative matrices that are stored.
 
 ghost use Rattle.std.specs.Prelude.{◌≡◌, ◌↔◌, IsTrue, MatchResult, Some, option_and_then};
-ghost use Rattle.ir_types.specs.Plain.{inner_view};
-ghost use Rattle.spec_expressions.specs.CooperativeMatrices.{pointed_scalar};
-ghost use Rattle.spec_statements.specs.CooperativeStores.{CooperativeStoreOK, matrix_scalar};
+ghost use Rattle.ir_types.specs.judged.Plain.{inner_view};
+ghost use Rattle.spec_expressions.specs.judged.CooperativeMatrices.{pointed_scalar};
+ghost use Rattle.spec_statements.specs.judged.CooperativeStores.{CooperativeStoreOK, matrix_scalar};
 ghost use Rattle.function_statement_checks.specs.CooperativeStores.{IsCooperativeFault};
-ghost use Rattle.typing_forms.specs.Resolutions.{inner_at};
-ghost use Rattle.typing_forms.specs.Parts.{scalar_of};
+ghost use Rattle.typing_forms.specs.judged.Resolutions.{inner_at};
+ghost use Rattle.typing_forms.specs.judged.Parts.{scalar_of};
 
 use crate::context::StatementContext;
 use crate::pointers::is_writable;

@@ -1,9 +1,9 @@
 //! Which types of a module are made as its type of rays is.
 
 ghost use Rattle.std.specs.Prelude.{◌≡◌, ◌↔◌, IfOk, IsTrue, Some};
-ghost use Rattle.ir_types.specs.Plain.{inner_view};
+ghost use Rattle.ir_types.specs.judged.Plain.{inner_view};
 ghost use Rattle.function_statement_checks.specs.Descriptors.{AreDescriptors, IsDescriptorAt};
-ghost use Rattle.typing_forms.specs.Resolutions.{inner_at, types_view};
+ghost use Rattle.typing_forms.specs.judged.Resolutions.{inner_at, types_view};
 
 use ir_arena::handle::Handle;
 use ir_sets::unique_arena::UniqueArena;

@@ -1,8 +1,8 @@
 //! Expressions that are emitted.
 
 ghost use Rattle.std.specs.Prelude.{List, MatchResult};
-ghost use Rattle.ir_types.specs.ExpressionPlain.{PlainExpression};
-ghost use Rattle.spec_statements.specs.Emits.{EmitOK};
+ghost use Rattle.ir_types.specs.judged.ExpressionPlain.{PlainExpression};
+ghost use Rattle.spec_statements.specs.judged.Emits.{EmitOK};
 ghost use Rattle.function_statement_checks.specs.Emits.{AreAnswers, IsAnswerOf, IsEmitFault};
 
 use crate::context::StatementContext;

@@ -1,12 +1,12 @@
 //! Pointers: where they begin, and what lies where they lead.
 
 ghost use Rattle.std.specs.Prelude.{◌≡◌, ◌↔◌, IsTrue, Some};
-ghost use Rattle.ir_types.specs.ExpressionPlain.{expression_view};
-ghost use Rattle.ir_types.specs.Plain.{inner_view};
-ghost use Rattle.ir_proc.specs.Bases.{base_of, BasesPrecede};
-ghost use Rattle.spec_expressions.specs.Loads.{loaded, loaded_value};
-ghost use Rattle.spec_statements.specs.Stores.{base_at, BeginsAt, IsVariable, IsVariableOf, IsVariableAt, pointer_space, IsWritable, FitsAt};
-ghost use Rattle.typing_forms.specs.Resolutions.{inner_at};
+ghost use Rattle.ir_types.specs.judged.ExpressionPlain.{expression_view};
+ghost use Rattle.ir_types.specs.judged.Plain.{inner_view};
+ghost use Rattle.ir_proc.specs.judged.Bases.{base_of, BasesPrecede};
+ghost use Rattle.spec_expressions.specs.judged.Loads.{loaded, loaded_value};
+ghost use Rattle.spec_statements.specs.judged.Stores.{base_at, BeginsAt, IsVariable, IsVariableOf, IsVariableAt, pointer_space, IsWritable, FitsAt};
+ghost use Rattle.typing_forms.specs.judged.Resolutions.{inner_at};
 
 use crate::context::StatementContext;
 use bitflags::Flags;

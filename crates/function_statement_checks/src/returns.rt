@@ -1,7 +1,7 @@
 //! Values that functions answer.
 
 ghost use Rattle.std.specs.Prelude.{◌≡◌, ◌↔◌, IsTrue, MatchResult};
-ghost use Rattle.spec_statements.specs.Returns.{ReturnOK};
+ghost use Rattle.spec_statements.specs.judged.Returns.{ReturnOK};
 ghost use Rattle.function_statement_checks.specs.Returns.{IsReturnFault};
 
 use crate::context::StatementContext;

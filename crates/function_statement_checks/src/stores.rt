@@ -1,12 +1,12 @@
 //! Values that are stored.
 
 ghost use Rattle.std.specs.Prelude.{◌≡◌, List, MatchResult, IfSome, None};
-ghost use Rattle.ir_types.specs.Plain.{inner_view, PlainType};
-ghost use Rattle.ir_proc.specs.Bases.{BasesPrecede};
-ghost use Rattle.spec_statements.specs.BlockContext.{form_at};
-ghost use Rattle.spec_statements.specs.Stores.{StoreOK, IsStorable};
+ghost use Rattle.ir_types.specs.judged.Plain.{inner_view, PlainType};
+ghost use Rattle.ir_proc.specs.judged.Bases.{BasesPrecede};
+ghost use Rattle.spec_statements.specs.judged.BlockContext.{form_at};
+ghost use Rattle.spec_statements.specs.judged.Stores.{StoreOK, IsStorable};
 ghost use Rattle.function_statement_checks.specs.Stores.{IsStoreFault};
-ghost use Rattle.typing_forms.specs.Forms.{form_in};
+ghost use Rattle.typing_forms.specs.judged.Forms.{form_in};
 
 use crate::context::StatementContext;
 use crate::pointers::{beginning_of, fits_at, is_variable_at, is_writable};

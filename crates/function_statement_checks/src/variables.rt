@@ -2,10 +2,10 @@
 
 ghost use Rattle.std.specs.Prelude.{◌≡◌, option_map, slice_get};
 ghost use Rattle.std.specs.Option.{option_or};
-ghost use Rattle.ir_types.specs.ExpressionPlain.{expression_view};
-ghost use Rattle.ir_items.specs.GlobalView.{global_view};
-ghost use Rattle.ir_proc.specs.Bases.{global_of};
-ghost use Rattle.spec_statements.specs.Variables.{variable_at, accessed_at};
+ghost use Rattle.ir_types.specs.judged.ExpressionPlain.{expression_view};
+ghost use Rattle.ir_items.specs.found.GlobalView.{global_view};
+ghost use Rattle.ir_proc.specs.judged.Bases.{global_of};
+ghost use Rattle.spec_statements.specs.judged.Variables.{variable_at, accessed_at};
 
 use crate::context::StatementContext;
 use crate::pointers::base_at;

@@ -2,12 +2,12 @@
 use Rattle.std.proofs.Common.{◌≡◌, subst, sym}
 use Rattle.std.proofs.lemmas.Option.{slice_get_within}
 use Rattle.typing_errors.specs.declared.error.FunctionError.{FunctionError}
-use Rattle.ir_blocks.specs.Places.{Place, OccursAt}
-use Rattle.ir_blocks.specs.Plain.{PlainStatement, emit, block, if_, switch, loop, break, continue, return, kill, operation, call, PlainBlock}
-use Rattle.ir_items.specs.Plain.{PlainFunction, PlainModule}
+use Rattle.ir_blocks.specs.judged.Places.{Place, OccursAt}
+use Rattle.ir_blocks.specs.judged.Plain.{PlainStatement, emit, block, if_, switch, loop, break, continue, return, kill, operation, call, PlainBlock}
+use Rattle.ir_items.specs.judged.Plain.{PlainFunction, PlainModule}
 use Rattle.spec_handles.specs.Conditions.{AritiesMatch}
-use Rattle.spec_statements.specs.BlockContext.{BlockContext}
-use Rattle.spec_statements.specs.Statements.{StatementOK}
+use Rattle.spec_statements.specs.judged.BlockContext.{BlockContext}
+use Rattle.spec_statements.specs.judged.Statements.{StatementOK}
 use Rattle.function_statements.specs.Bodies.{HasCallee, Meets, IsWrong}
 use Rattle.function_statements.specs.Faults.{IsBodyFault}
 use Rattle.function_statements.specs.declared.error.StatementError.TheVariants.{Fault}

@@ -1,9 +1,9 @@
 -- A fault refutes the rule.
 use Rattle.std.proofs.Common.{Some, None}
 use Rattle.typing_errors.specs.declared.error.FunctionError.{FunctionError}
-use Rattle.ir_blocks.specs.Plain.{PlainOperation, control_barrier, memory_barrier, store, image_store, atomic, image_atomic, uniform_load, ray_query, ballot, collective, gather, cooperative_store, ray_pipeline, PlainStatement, emit, block, if_, switch, loop, break, continue, return, kill, operation, call}
-use Rattle.spec_statements.specs.BlockContext.{BlockContext}
-use Rattle.spec_statements.specs.Statements.{StatementOK, OperationOK}
+use Rattle.ir_blocks.specs.judged.Plain.{PlainOperation, control_barrier, memory_barrier, store, image_store, atomic, image_atomic, uniform_load, ray_query, ballot, collective, gather, cooperative_store, ray_pipeline, PlainStatement, emit, block, if_, switch, loop, break, continue, return, kill, operation, call}
+use Rattle.spec_statements.specs.judged.BlockContext.{BlockContext}
+use Rattle.spec_statements.specs.judged.Statements.{StatementOK, OperationOK}
 use Rattle.function_statement_checks.proofs.Refuted.{faults_refute_lem as by_statement}
 use Rattle.function_atomic_checks.proofs.Refuted.{faults_refute_lem as by_atomic}
 use Rattle.function_operation_checks.proofs.Refuted.{faults_refute_lem as by_ray}

@@ -2,16 +2,16 @@
 use Rattle.std.proofs.Common.{◌≡◌, ◌≢◌, inl, inr, ℕ, List, Some, Option, None, IsSomeAnd, true≢false, sym, subst, ◌∙◌}
 use Rattle.std.specs.List.{AllPairs}
 use Rattle.std.proofs.lemmas.Option.{get_or_from_slice_get, slice_get_within}
-use Rattle.spec_statements.specs.Shapes.{IsInteger, shaped_of}
+use Rattle.spec_statements.specs.judged.Shapes.{IsInteger, shaped_of}
 use Rattle.spec_statements.specs.declared.shapes.Shaped.{Shaped}
 use Rattle.typing_errors.specs.declared.error.FunctionError.{FunctionError}
 use Rattle.typing_errors.specs.declared.error.FunctionError.TheVariants as error
-use Rattle.ir_blocks.specs.Plain.{PlainCases}
+use Rattle.ir_blocks.specs.judged.Plain.{PlainCases}
 use Rattle.ir_kinds.specs.declared.scalars.ScalarKind.{ScalarKind}
 use Rattle.ir_kinds.specs.declared.values.SwitchValue.{SwitchValue}
 use Rattle.ir_kinds.specs.declared.values.SwitchValue.TheVariants.{Default}
-use Rattle.spec_statements.specs.BlockContext.{BlockContext, form_at}
-use Rattle.spec_statements.specs.Switches.{case_values, CasesOK, SwitchOK}
+use Rattle.spec_statements.specs.judged.BlockContext.{BlockContext, form_at}
+use Rattle.spec_statements.specs.judged.Switches.{case_values, CasesOK, SwitchOK}
 use Rattle.function_statements.specs.SwitchLaws.{FaultsRefute}
 use Rattle.function_body_checks.specs.Cases.{OccursTwice, IsValueFault, IsEndFault, IsCaseFault}
 use Rattle.function_statements.specs.Switches.{IsSwitchFault}

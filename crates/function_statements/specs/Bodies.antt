@@ -1,9 +1,9 @@
 -- What is required of each statement of a body, and what one is refused for.
 use Rattle.std.specs.Prelude.{◌<◌, length}
-use Rattle.ir_blocks.specs.Plain.{image_store, PlainStatement, switch, operation, call}
-use Rattle.ir_items.specs.Plain.{PlainModule}
-use Rattle.spec_statements.specs.BlockContext.{BlockContext}
-use Rattle.spec_statements.specs.Statements.{StatementOK}
+use Rattle.ir_blocks.specs.judged.Plain.{image_store, PlainStatement, switch, operation, call}
+use Rattle.ir_items.specs.judged.Plain.{PlainModule}
+use Rattle.spec_statements.specs.judged.BlockContext.{BlockContext}
+use Rattle.spec_statements.specs.judged.Statements.{StatementOK}
 use Rattle.function_statements.specs.Faults.{IfFault, IsStatementFault}
 use Rattle.function_statements.specs.declared.error.StatementError.{StatementError}
 

@@ -1,8 +1,8 @@
 -- What is wrong with a statement, by its own rule: a row a kind.
 use Rattle.std.specs.Prelude.{IsSomeAnd}
 use Rattle.typing_errors.specs.declared.error.FunctionError.{FunctionError}
-use Rattle.ir_blocks.specs.Places.{Place, OccursAt}
-use Rattle.ir_blocks.specs.Plain.{PlainOperation, control_barrier, memory_barrier, store, image_store, atomic, image_atomic, uniform_load, ray_query, ballot, collective, gather, cooperative_store, ray_pipeline, PlainStatement, emit, block, if_, switch, loop, break, continue, return, kill, operation, call}
+use Rattle.ir_blocks.specs.judged.Places.{Place, OccursAt}
+use Rattle.ir_blocks.specs.judged.Plain.{PlainOperation, control_barrier, memory_barrier, store, image_store, atomic, image_atomic, uniform_load, ray_query, ballot, collective, gather, cooperative_store, ray_pipeline, PlainStatement, emit, block, if_, switch, loop, break, continue, return, kill, operation, call}
 use Rattle.ir_faults.specs.Faults.{error_of}
 use Rattle.ir_faults.specs.declared.refusal.Refusal.{Refusal}
 use Rattle.ir_faults.specs.declared.refusal.Refusal.TheVariants as refusal
@@ -11,7 +11,7 @@ use Rattle.function_atomic_checks.specs.StorageImages.{IsImageStoreFault, IsImag
 use Rattle.function_atomic_checks.specs.UniformLoads.{IsUniformLoadFault}
 use Rattle.function_operation_checks.specs.RayPipelines.{IsRayPipelineFault}
 use Rattle.function_operation_checks.specs.RayQueries.{IsRayQueryFault}
-use Rattle.spec_statements.specs.BlockContext.{BlockContext}
+use Rattle.spec_statements.specs.judged.BlockContext.{BlockContext}
 use Rattle.function_statement_checks.specs.Barriers.{IsBarrierFault}
 use Rattle.function_statement_checks.specs.Calls.{IsCallFault}
 use Rattle.function_statement_checks.specs.Conditions.{IsConditionFault}

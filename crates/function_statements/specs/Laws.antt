@@ -1,9 +1,9 @@
 -- A body with a fault has a statement that does not meet its rule.
 use Rattle.typing_errors.specs.declared.error.FunctionError.{FunctionError}
-use Rattle.ir_blocks.specs.Places.{Place, OccursAt}
-use Rattle.ir_blocks.specs.Plain.{PlainStatement}
-use Rattle.spec_statements.specs.BlockContext.{BlockContext}
-use Rattle.spec_statements.specs.Statements.{StatementOK}
+use Rattle.ir_blocks.specs.judged.Places.{Place, OccursAt}
+use Rattle.ir_blocks.specs.judged.Plain.{PlainStatement}
+use Rattle.spec_statements.specs.judged.BlockContext.{BlockContext}
+use Rattle.spec_statements.specs.judged.Statements.{StatementOK}
 use Rattle.function_statements.specs.Faults.{IsStatementFault, IsBodyFault}
 
 pub record Refuted (c : BlockContext) (e : FunctionError) : Type 0 where

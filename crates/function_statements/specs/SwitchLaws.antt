@@ -1,10 +1,10 @@
 -- A switch with a fault does not meet its rule.
 use Rattle.std.specs.Prelude.{ℕ}
 use Rattle.typing_errors.specs.declared.error.FunctionError.{FunctionError}
-use Rattle.ir_blocks.specs.Plain.{PlainCases}
+use Rattle.ir_blocks.specs.judged.Plain.{PlainCases}
 use Rattle.ir_kinds.specs.declared.scalars.ScalarKind.{ScalarKind}
-use Rattle.spec_statements.specs.BlockContext.{BlockContext, form_at}
-use Rattle.spec_statements.specs.Switches.{CasesOK, SwitchOK}
+use Rattle.spec_statements.specs.judged.BlockContext.{BlockContext, form_at}
+use Rattle.spec_statements.specs.judged.Switches.{CasesOK, SwitchOK}
 use Rattle.function_body_checks.specs.Cases.{IsCaseFault}
 use Rattle.function_statements.specs.Switches.{IsSwitchFault}
 

@@ -3,13 +3,13 @@ use Rattle.std.specs.Prelude.{◌≡◌, ◌⊎◌, ℕ, [], IsSomeAnd}
 use Rattle.function_body_checks.specs.Cases.{IsCaseFault}
 use Rattle.typing_errors.specs.declared.error.FunctionError.{FunctionError}
 use Rattle.typing_errors.specs.declared.error.FunctionError.TheVariants as error
-use Rattle.ir_blocks.specs.Plain.{PlainCases}
+use Rattle.ir_blocks.specs.judged.Plain.{PlainCases}
 use Rattle.ir_faults.specs.Faults.{error_of, spans_of}
 use Rattle.ir_faults.specs.declared.refusal.Refusal.{Refusal}
 use Rattle.ir_faults.specs.declared.refusal.Refusal.TheVariants as refusal
 use Rattle.ir_kinds.specs.declared.scalars.ScalarKind.{ScalarKind}
-use Rattle.spec_statements.specs.Shapes.{IsInteger, shaped_of}
-use Rattle.spec_statements.specs.BlockContext.{BlockContext, form_at}
+use Rattle.spec_statements.specs.judged.Shapes.{IsInteger, shaped_of}
+use Rattle.spec_statements.specs.judged.BlockContext.{BlockContext, form_at}
 use Rattle.typing_forms.specs.declared.form.Form.{Form}
 
 -- ---- the selector

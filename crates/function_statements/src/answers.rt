@@ -1,8 +1,8 @@
 //! Which expressions of a function denote the results of statements.
 
 ghost use Rattle.std.specs.Prelude.{◌≡◌, ◌<◌, IfOk};
-ghost use Rattle.ir_items.specs.View.{function_view};
-ghost use Rattle.ir_types.specs.ExpressionPlain.{expression_view};
+ghost use Rattle.ir_items.specs.found.View.{function_view};
+ghost use Rattle.ir_types.specs.judged.ExpressionPlain.{expression_view};
 ghost use Rattle.function_statement_checks.specs.Emits.{is_answer, AreAnswers};
 
 use ir_arena::handle::Handle;
@@ -32,7 +32,7 @@ struct AnswerTest<'a> {
 }
 
 impl PlaceTest for AnswerTest<'_> {
-    ghost use Rattle.ir_items.specs.View.{function_view};
+    ghost use Rattle.ir_items.specs.found.View.{function_view};
     ghost use Rattle.function_statement_checks.specs.Emits.{is_answer_at};
 
     ghost passes = { λ t. is_answer_at (function_view t.function.now).expressions };

@@ -1,11 +1,11 @@
 //! The statements of a function's body.
 
 ghost use Rattle.std.specs.Prelude.{MatchResult};
-ghost use Rattle.ir_blocks.specs.Places.{Place, OccursAt};
-ghost use Rattle.ir_blocks.specs.Plain.{PlainStatement};
-ghost use Rattle.ir_proc.specs.Bases.{BasesPrecede};
+ghost use Rattle.ir_blocks.specs.judged.Places.{Place, OccursAt};
+ghost use Rattle.ir_blocks.specs.judged.Plain.{PlainStatement};
+ghost use Rattle.ir_proc.specs.judged.Bases.{BasesPrecede};
 ghost use Rattle.spec_handles.specs.Conditions.{AritiesMatch};
-ghost use Rattle.spec_statements.specs.Statements.{StatementOK};
+ghost use Rattle.spec_statements.specs.judged.Statements.{StatementOK};
 ghost use Rattle.function_statements.specs.Faults.{IsBodyRefusal};
 
 use crate::error::StatementError;

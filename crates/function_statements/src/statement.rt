@@ -1,13 +1,13 @@
 //! The rules of statements: one arm for each kind.
 
 ghost use Rattle.std.specs.Prelude.{IfSome, IsSomeAnd, MatchResult, map};
-ghost use Rattle.ir_blocks.specs.View.{statement_view, case_view, cases_of};
-ghost use Rattle.ir_proc.specs.Bases.{BasesPrecede};
+ghost use Rattle.ir_blocks.specs.found.View.{statement_view, case_view, cases_of};
+ghost use Rattle.ir_proc.specs.judged.Bases.{BasesPrecede};
 ghost use Rattle.function_atomic_checks.specs.StorageImages.{IsImageStoreFault};
-ghost use Rattle.spec_statements.specs.BlockContext.{form_at};
-ghost use Rattle.spec_statements.specs.Conditions.{ConditionOK};
-ghost use Rattle.spec_statements.specs.StorageImages.{ImageStoreOK};
-ghost use Rattle.spec_statements.specs.Switches.{SwitchOK};
+ghost use Rattle.spec_statements.specs.judged.BlockContext.{form_at};
+ghost use Rattle.spec_statements.specs.judged.Conditions.{ConditionOK};
+ghost use Rattle.spec_statements.specs.judged.StorageImages.{ImageStoreOK};
+ghost use Rattle.spec_statements.specs.judged.Switches.{SwitchOK};
 ghost use Rattle.function_statement_checks.specs.Conditions.{IsConditionFault};
 ghost use Rattle.function_statements.specs.Bodies.{Meets, MeetsPlainly};
 ghost use Rattle.function_statements.specs.Faults.{IfFault, IsStatementFault};

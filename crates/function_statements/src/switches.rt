@@ -1,9 +1,9 @@
 //! Switches.
 
 ghost use Rattle.std.specs.Prelude.{◌≡◌, MatchResult, map};
-ghost use Rattle.ir_blocks.specs.View.{case_view, cases_of};
-ghost use Rattle.spec_statements.specs.BlockContext.{form_at};
-ghost use Rattle.spec_statements.specs.Switches.{SwitchOK};
+ghost use Rattle.ir_blocks.specs.found.View.{case_view, cases_of};
+ghost use Rattle.spec_statements.specs.judged.BlockContext.{form_at};
+ghost use Rattle.spec_statements.specs.judged.Switches.{SwitchOK};
 ghost use Rattle.function_statements.specs.Switches.{Selects, IsSelectorFault, IsSwitchRefusal};
 
 use function_body_checks::cases_fault;

@@ -8,8 +8,8 @@ use Rattle.std.proofs.lemmas.Option.{slice_get-get_or}
 use Rattle.std.specs.List.{range_with_len}
 use Rattle.std.specs.Ordering.{nat_cmp}
 use Rattle.std.specs.FinSet as set
-use Rattle.ir_arena.specs.Handles.{handles_between}
-use Rattle.ir_items.specs.Plain.{PlainFunction}
+use Rattle.ir_arena.specs.judged.Handles.{handles_between}
+use Rattle.ir_items.specs.judged.Plain.{PlainFunction}
 use Rattle.function_body_checks.proofs.Lists.{contains_at}
 use Rattle.function_body_checks.proofs.Tables.{head_held, only, reported_known, reported_unknown}
 use Rattle.function_body_checks.specs.Carried.{Known, known}

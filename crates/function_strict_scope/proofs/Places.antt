@@ -5,17 +5,17 @@ use Rattle.typing_errors.specs.declared.error.FunctionError.{FunctionError}
 use Rattle.typing_errors.specs.declared.error.FunctionError.TheVariants as error
 use Rattle.typing_errors.specs.declared.calls.CallError.{CallError}
 use Rattle.typing_errors.specs.declared.calls.CallError.TheVariants as call_error
-use Rattle.ir_blocks.specs.Places.{Place, here, later, inside, condition, Spot, nothing, statement, loop_condition, condition_of, spot_at}
-use Rattle.ir_blocks.specs.Plain.{ray_query, ballot, PlainStatement, emit, block, if_, switch, loop, break, continue, return, kill, operation, call, PlainBlock, stop, next, PlainCases, no_case, case}
-use Rattle.ir_blocks.specs.Shapes.{Part, inner, accepting, rejecting, case_at, loop_body, loop_continuing, shape_of, part_of, case_body}
+use Rattle.ir_blocks.specs.judged.Places.{Place, here, later, inside, condition, Spot, nothing, statement, loop_condition, condition_of, spot_at}
+use Rattle.ir_blocks.specs.judged.Plain.{ray_query, ballot, PlainStatement, emit, block, if_, switch, loop, break, continue, return, kill, operation, call, PlainBlock, stop, next, PlainCases, no_case, case}
+use Rattle.ir_blocks.specs.judged.Shapes.{Part, inner, accepting, rejecting, case_at, loop_body, loop_continuing, shape_of, part_of, case_body}
 use Rattle.ir_blocks.specs.declared.operations.RayQueryFunction.TheVariants as ray
-use Rattle.ir_items.specs.Plain.{PlainFunction}
+use Rattle.ir_items.specs.judged.Plain.{PlainFunction}
 use Rattle.spec_handles.specs.Statements.{operation_result}
 use Rattle.spec_statements.proofs.StrictLaws.{strict_by_walk_lem}
-use Rattle.spec_statements.specs.Scope.{InScope, ScopeOK}
-use Rattle.spec_statements.specs.Strict.{InStrictScope, StrictOK, needed_at, statement_needed}
-use Rattle.spec_statements.specs.SureLevel.{entering_by, at_condition_by, visible_by, sure_level}
-use Rattle.spec_statements.specs.Tables.{introduced, introduced_at}
+use Rattle.spec_statements.specs.judged.Scope.{InScope, ScopeOK}
+use Rattle.spec_statements.specs.judged.Strict.{InStrictScope, StrictOK, needed_at, statement_needed}
+use Rattle.spec_statements.specs.found.SureLevel.{entering_by, at_condition_by, visible_by, sure_level}
+use Rattle.spec_statements.specs.judged.Tables.{introduced, introduced_at}
 use Rattle.function_body_checks.proofs.FaultLaws.{call_at}
 use Rattle.function_body_checks.specs.Carried.{Known}
 use Rattle.function_strict_scope.proofs.Ranges.{operand_known, early_at, again_in_range, again_in_result}

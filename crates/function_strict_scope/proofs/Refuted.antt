@@ -4,8 +4,8 @@ use Rattle.typing_errors.specs.declared.error.FunctionError.{FunctionError}
 use Rattle.typing_errors.specs.declared.error.FunctionError.TheVariants as error
 use Rattle.typing_errors.specs.declared.calls.CallError.{CallError}
 use Rattle.typing_errors.specs.declared.calls.CallError.TheVariants as call_error
-use Rattle.ir_items.specs.Plain.{PlainFunction}
-use Rattle.spec_statements.specs.Strict.{StrictOK, needed_at}
+use Rattle.ir_items.specs.judged.Plain.{PlainFunction}
+use Rattle.spec_statements.specs.judged.Strict.{StrictOK, needed_at}
 use Rattle.function_body_checks.proofs.Lists.{contains_at}
 use Rattle.function_strict_scope.specs.Faults.{IsStrictFault, IsStrictCallError, IsOfOtherKind, of_proceed, of_ballot}
 use Rattle.function_strict_scope.specs.Laws.{StrictFaultsRefute}

@@ -5,14 +5,14 @@ use Rattle.typing_errors.specs.declared.expressions.ExpressionError.TheVariants.
 use Rattle.typing_errors.specs.declared.error.FunctionError.{FunctionError}
 use Rattle.typing_errors.specs.declared.error.FunctionError.TheVariants as error
 use Rattle.typing_errors.specs.declared.calls.CallError.TheVariants as call_error
-use Rattle.ir_blocks.specs.Places.{statement, loop_condition}
-use Rattle.ir_blocks.specs.Plain.{PlainStatement, emit, block, if_, switch, loop, break, continue, return, kill, operation, call}
-use Rattle.ir_types.specs.ExpressionPlain.{PlainExpression, plain}
+use Rattle.ir_blocks.specs.judged.Places.{statement, loop_condition}
+use Rattle.ir_blocks.specs.judged.Plain.{PlainStatement, emit, block, if_, switch, loop, break, continue, return, kill, operation, call}
+use Rattle.ir_types.specs.judged.ExpressionPlain.{PlainExpression, plain}
 use Rattle.ir_types.specs.declared.expressions.Expression.TheVariants.{RayQueryProceedResult, SubgroupBallotResult}
-use Rattle.ir_items.specs.Plain.{PlainFunction}
+use Rattle.ir_items.specs.judged.Plain.{PlainFunction}
 use Rattle.spec_handles.specs.Statements.{Emitted, statement_callee, statement_range, statement_result}
-use Rattle.spec_statements.specs.Strict.{statement_needed, needed_at}
-use Rattle.spec_statements.specs.Tables.{introduced}
+use Rattle.spec_statements.specs.judged.Strict.{statement_needed, needed_at}
+use Rattle.spec_statements.specs.judged.Tables.{introduced}
 use Rattle.function_body_checks.proofs.Tables.{head_held}
 use Rattle.function_body_checks.specs.Carried.{IsArgumentError, IsUnknown, Known}
 use Rattle.function_strict_scope.specs.Tables.{proceeds_by, ballots_by, is_proceed, is_ballot}

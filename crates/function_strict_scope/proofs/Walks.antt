@@ -4,14 +4,14 @@ use Rattle.std.proofs.Common.{◌≡◌, ℕ, Bool, true, false, List, [], ◌�
 use Rattle.std.proofs.lemmas.List.{append-nil, append_assoc}
 use Rattle.std.specs.Prelude.{is_some}
 use Rattle.typing_errors.specs.declared.error.FunctionError.{FunctionError}
-use Rattle.ir_blocks.specs.Places.{statement, loop_condition}
-use Rattle.ir_blocks.specs.Plain.{PlainStatement, if_, switch, loop, PlainBlock, stop, next, PlainCases, no_case, case}
+use Rattle.ir_blocks.specs.judged.Places.{statement, loop_condition}
+use Rattle.ir_blocks.specs.judged.Plain.{PlainStatement, if_, switch, loop, PlainBlock, stop, next, PlainCases, no_case, case}
 use Rattle.ir_kinds.specs.declared.values.SwitchValue.{SwitchValue}
-use Rattle.ir_items.specs.Plain.{PlainFunction}
-use Rattle.spec_statements.specs.Strict.{statement_needed, needed_at}
-use Rattle.spec_statements.specs.SureLevel.{holds_continue, holds_continue_in, holds_continue_in_cases, unless, sure_level}
-use Rattle.spec_statements.specs.Tables.{introduced}
-use Rattle.spec_statements.specs.Visible.{top_level}
+use Rattle.ir_items.specs.judged.Plain.{PlainFunction}
+use Rattle.spec_statements.specs.judged.Strict.{statement_needed, needed_at}
+use Rattle.spec_statements.specs.found.SureLevel.{holds_continue, holds_continue_in, holds_continue_in_cases, unless, sure_level}
+use Rattle.spec_statements.specs.judged.Tables.{introduced}
+use Rattle.spec_statements.specs.judged.Visible.{top_level}
 use Rattle.function_body_checks.specs.Carried.{Known}
 use Rattle.function_strict_scope.proofs.Errors.{if_fault_then}
 use Rattle.function_strict_scope.specs.Walked.{AllMeet, MeetWithin, MeetInCases, FaultIn, FaultWithin, FaultInCases, IfFault, IsFaultHere, left_in, first_left, cut_to}

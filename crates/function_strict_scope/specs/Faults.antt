@@ -6,17 +6,17 @@ use Rattle.typing_errors.specs.declared.error.FunctionError.{FunctionError}
 use Rattle.typing_errors.specs.declared.error.FunctionError.TheVariants as error
 use Rattle.typing_errors.specs.declared.calls.CallError.{CallError}
 use Rattle.typing_errors.specs.declared.calls.CallError.TheVariants as call_error
-use Rattle.ir_blocks.specs.Places.{Place, OccursAt}
-use Rattle.ir_blocks.specs.Plain.{emit, operation, call, ray_query, ballot}
+use Rattle.ir_blocks.specs.judged.Places.{Place, OccursAt}
+use Rattle.ir_blocks.specs.judged.Plain.{emit, operation, call, ray_query, ballot}
 use Rattle.ir_blocks.specs.declared.operations.RayQueryFunction.TheVariants.{Proceed}
 use Rattle.ir_faults.specs.Faults.{error_of}
 use Rattle.ir_faults.specs.declared.refusal.Refusal.{Refusal}
 use Rattle.ir_faults.specs.declared.refusal.Refusal.TheVariants as refusal
-use Rattle.ir_types.specs.ExpressionPlain.{PlainExpression, plain}
+use Rattle.ir_types.specs.judged.ExpressionPlain.{PlainExpression, plain}
 use Rattle.ir_types.specs.declared.expressions.Expression.TheVariants.{RayQueryProceedResult, SubgroupBallotResult}
-use Rattle.ir_items.specs.Plain.{PlainFunction}
+use Rattle.ir_items.specs.judged.Plain.{PlainFunction}
 use Rattle.spec_handles.specs.Expressions.{expression_operands}
-use Rattle.spec_statements.specs.Strict.{InStrictScope, Needs}
+use Rattle.spec_statements.specs.judged.Strict.{InStrictScope, Needs}
 
 -- an operand is used where it is not in strict scope, by another statement than a call
 pub record IsUsedUnsurely (f : PlainFunction) (o : ℕ) : Type 0 where

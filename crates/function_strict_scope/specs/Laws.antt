@@ -1,7 +1,7 @@
 -- A fault of strict scope refutes what is required.
 use Rattle.typing_errors.specs.declared.error.FunctionError.{FunctionError}
-use Rattle.ir_items.specs.Plain.{PlainFunction}
-use Rattle.spec_statements.specs.Strict.{StrictOK}
+use Rattle.ir_items.specs.judged.Plain.{PlainFunction}
+use Rattle.spec_statements.specs.judged.Strict.{StrictOK}
 use Rattle.function_strict_scope.specs.Faults.{IsStrictFault}
 
 abbrev pub StrictFaultsRefute : Type 0

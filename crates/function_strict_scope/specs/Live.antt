@@ -3,9 +3,9 @@ use Rattle.std.specs.Prelude.{◌≡◌, ℕ, ◌<◌, true, false, List, Contai
 use Rattle.std.specs.Ordering.{nat_cmp}
 use Rattle.std.specs.FinSet as set
 use Rattle.function_body_checks.specs.Lists.{listed}
-use Rattle.ir_items.specs.Plain.{PlainFunction}
+use Rattle.ir_items.specs.judged.Plain.{PlainFunction}
 use Rattle.function_operand_index.specs.Index.{ArePaired}
-use Rattle.spec_statements.specs.Scope.{PreEmitted}
+use Rattle.spec_statements.specs.judged.Scope.{PreEmitted}
 use Rattle.function_strict_scope.specs.Tables.{operands_given}
 use Rattle.function_strict_scope.specs.declared.live.LiveOperands.{LiveOperands}
 

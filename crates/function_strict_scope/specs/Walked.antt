@@ -5,16 +5,16 @@ use Rattle.typing_errors.specs.declared.expressions.ExpressionError.TheVariants.
 use Rattle.typing_errors.specs.declared.error.FunctionError.{FunctionError}
 use Rattle.typing_errors.specs.declared.error.FunctionError.TheVariants as error
 use Rattle.typing_errors.specs.declared.calls.CallError.TheVariants as call_error
-use Rattle.ir_arena.specs.Handles.{handles_between}
-use Rattle.ir_blocks.specs.Places.{Spot, nothing, statement, loop_condition}
-use Rattle.ir_blocks.specs.Plain.{PlainStatement, emit, block, if_, switch, loop, break, continue, return, kill, operation, call, PlainBlock, stop, next, PlainCases, no_case, case}
-use Rattle.ir_types.specs.ExpressionPlain.{plain}
+use Rattle.ir_arena.specs.judged.Handles.{handles_between}
+use Rattle.ir_blocks.specs.judged.Places.{Spot, nothing, statement, loop_condition}
+use Rattle.ir_blocks.specs.judged.Plain.{PlainStatement, emit, block, if_, switch, loop, break, continue, return, kill, operation, call, PlainBlock, stop, next, PlainCases, no_case, case}
+use Rattle.ir_types.specs.judged.ExpressionPlain.{plain}
 use Rattle.ir_types.specs.declared.expressions.Expression.TheVariants.{RayQueryProceedResult, SubgroupBallotResult}
-use Rattle.ir_items.specs.Plain.{PlainFunction}
-use Rattle.spec_statements.specs.Strict.{statement_needed, needed_at}
-use Rattle.spec_statements.specs.SureLevel.{holds_continue, sure_level}
-use Rattle.spec_statements.specs.Tables.{introduced, introduced_at}
-use Rattle.spec_statements.specs.Visible.{top_level}
+use Rattle.ir_items.specs.judged.Plain.{PlainFunction}
+use Rattle.spec_statements.specs.judged.Strict.{statement_needed, needed_at}
+use Rattle.spec_statements.specs.found.SureLevel.{holds_continue, sure_level}
+use Rattle.spec_statements.specs.judged.Tables.{introduced, introduced_at}
+use Rattle.spec_statements.specs.judged.Visible.{top_level}
 use Rattle.function_strict_scope.specs.Tables.{operands_given, proceeds_by, ballots_by}
 use Rattle.function_strict_scope.specs.declared.error.StrictError.{StrictError}
 use Rattle.function_strict_scope.specs.declared.error.StrictError.TheVariants as strict_error

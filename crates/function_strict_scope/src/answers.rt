@@ -1,9 +1,9 @@
 //! The kinds of what denotes answers.
 
 ghost use Rattle.std.specs.Prelude.{◌≡◌, ℕ, List, IfErr, OnOk, slice_get};
-ghost use Rattle.ir_blocks.specs.Places.{statement as spot};
-ghost use Rattle.ir_blocks.specs.View.{statement_view};
-ghost use Rattle.ir_items.specs.View.{function_view};
+ghost use Rattle.ir_blocks.specs.judged.Places.{statement as spot};
+ghost use Rattle.ir_blocks.specs.found.View.{statement_view};
+ghost use Rattle.ir_items.specs.found.View.{function_view};
 ghost use Rattle.function_strict_scope.specs.Tables.{proceeds_by, ballots_by, is_proceed, is_ballot};
 ghost use Rattle.function_strict_scope.specs.Walked.{AnswerKindOK, IfFault, IsFaultHere};
 

@@ -1,8 +1,8 @@
 //! The operands of expressions.
 
 ghost use Rattle.std.specs.Prelude.{◌≡◌, ◌++◌, OnOk, slice_get};
-ghost use Rattle.ir_types.specs.ExpressionPlain.{expression_view};
-ghost use Rattle.ir_items.specs.View.{function_view};
+ghost use Rattle.ir_types.specs.judged.ExpressionPlain.{expression_view};
+ghost use Rattle.ir_items.specs.found.View.{function_view};
 ghost use Rattle.spec_handles.specs.Expressions.{expression_operands};
 ghost use Rattle.spec_handles.specs.Operands.{these, handles_of};
 ghost use Rattle.function_strict_scope.specs.Tables.{operands_given};

@@ -1,10 +1,10 @@
 //! The strict scope of a function's body.
 
 ghost use Rattle.std.specs.Prelude.{◌≡◌, [], IfErr, IfOk, OnOk};
-ghost use Rattle.ir_items.specs.Plain.{PlainFunction};
-ghost use Rattle.ir_items.specs.View.{function_view};
-ghost use Rattle.spec_statements.specs.Scope.{ScopeOK};
-ghost use Rattle.spec_statements.specs.Strict.{StrictOK};
+ghost use Rattle.ir_items.specs.judged.Plain.{PlainFunction};
+ghost use Rattle.ir_items.specs.found.View.{function_view};
+ghost use Rattle.spec_statements.specs.judged.Scope.{ScopeOK};
+ghost use Rattle.spec_statements.specs.judged.Strict.{StrictOK};
 ghost use Rattle.function_strict_scope.specs.Faults.{IsStrictFault, IsStrictRefusal};
 ghost use Rattle.function_strict_scope.specs.Walked.{IfFault};
 

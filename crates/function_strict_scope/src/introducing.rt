@@ -1,12 +1,12 @@
 //! What statements bring into scope.
 
 ghost use Rattle.std.specs.Prelude.{◌≡◌, ◌∷◌, ◌++◌, [], true, false, All, IfErr, IfOk, OnOk, slice_get};
-ghost use Rattle.ir_arena.specs.Handles.{handles_between};
-ghost use Rattle.ir_blocks.specs.View.{statement_view};
-ghost use Rattle.ir_items.specs.Plain.{PlainFunction};
-ghost use Rattle.ir_items.specs.View.{function_view};
+ghost use Rattle.ir_arena.specs.judged.Handles.{handles_between};
+ghost use Rattle.ir_blocks.specs.found.View.{statement_view};
+ghost use Rattle.ir_items.specs.judged.Plain.{PlainFunction};
+ghost use Rattle.ir_items.specs.found.View.{function_view};
 ghost use Rattle.function_body_checks.specs.Carried.{Known, known, first_lacking};
-ghost use Rattle.spec_statements.specs.Tables.{introduced};
+ghost use Rattle.spec_statements.specs.judged.Tables.{introduced};
 ghost use Rattle.function_strict_scope.specs.Live.{Follows};
 ghost use Rattle.function_strict_scope.specs.Tables.{operands_given};
 ghost use Rattle.function_strict_scope.specs.Walked.{IfFault, EachKnown, IsFaultOfNew, emitted_by};

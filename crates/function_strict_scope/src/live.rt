@@ -9,8 +9,8 @@
 //! documents can spell it. What is wrong with a range is found as before, expression by expression.
 
 ghost use Rattle.std.specs.Prelude.{◌≡◌, ◌++◌, ◌+◌, ◌-◌, ◌<◌, ◌≤◌, ℕ, List, IsTrue, length, take};
-ghost use Rattle.ir_arena.specs.Handles.{handles_between};
-ghost use Rattle.ir_items.specs.Plain.{PlainFunction};
+ghost use Rattle.ir_arena.specs.judged.Handles.{handles_between};
+ghost use Rattle.ir_items.specs.judged.Plain.{PlainFunction};
 ghost use Rattle.function_strict_scope.specs.Live.{Follows};
 ghost use Rattle.function_strict_scope.specs.Walked.{EachKnown};
 

@@ -1,11 +1,11 @@
 //! The operands of a function's expressions, each beside the expression that it is an operand of.
 
 ghost use Rattle.std.specs.Prelude.{◌≡◌, ◌&&◌, ◌<◌, ℕ, [], true, false, Contains, IfOk, IfSome, OnOk, length, slice_get};
-ghost use Rattle.ir_items.specs.Plain.{PlainFunction};
-ghost use Rattle.ir_items.specs.View.{function_view};
-ghost use Rattle.ir_types.specs.ExpressionPlain.{expression_view};
+ghost use Rattle.ir_items.specs.judged.Plain.{PlainFunction};
+ghost use Rattle.ir_items.specs.found.View.{function_view};
+ghost use Rattle.ir_types.specs.judged.ExpressionPlain.{expression_view};
 ghost use Rattle.function_body_checks.specs.Carried.{pre_known};
-ghost use Rattle.spec_statements.specs.Scope.{is_pre_emitted};
+ghost use Rattle.spec_statements.specs.judged.Scope.{is_pre_emitted};
 ghost use Rattle.function_operand_index.specs.Index.{ArePaired};
 ghost use Rattle.function_strict_scope.specs.Live.{IsPairedAt, IsWhole, Follows};
 

@@ -1,13 +1,13 @@
 //! What is required of a statement itself.
 
 ghost use Rattle.std.specs.Prelude.{◌≡◌, ◌++◌, ℕ, All, IfErr, IfNone, IfSome, OnOk, Some};
-ghost use Rattle.ir_blocks.specs.Places.{statement as spot, loop_condition};
-ghost use Rattle.ir_blocks.specs.View.{statement_view};
-ghost use Rattle.ir_items.specs.View.{function_view};
+ghost use Rattle.ir_blocks.specs.judged.Places.{statement as spot, loop_condition};
+ghost use Rattle.ir_blocks.specs.found.View.{statement_view};
+ghost use Rattle.ir_items.specs.found.View.{function_view};
 ghost use Rattle.function_body_checks.specs.Carried.{IsArgumentError, Known};
 ghost use Rattle.spec_handles.specs.Statements.{statement_callee};
-ghost use Rattle.spec_statements.specs.Strict.{statement_needed, needed_at};
-ghost use Rattle.spec_statements.specs.Tables.{introduced};
+ghost use Rattle.spec_statements.specs.judged.Strict.{statement_needed, needed_at};
+ghost use Rattle.spec_statements.specs.judged.Tables.{introduced};
 ghost use Rattle.function_strict_scope.specs.Live.{Follows};
 ghost use Rattle.function_strict_scope.specs.Walked.{IfFault, IsFaultHere, Meets};
 

@@ -1,12 +1,12 @@
 //! The walk over a body: in the order of the text, block by block.
 
 ghost use Rattle.std.specs.Prelude.{◌≡◌, ◌++◌, ◌||◌, if◌then◌else◌, IfErr, IfOk, OnOk, None, Some, map};
-ghost use Rattle.ir_blocks.specs.View.{statement_view, block_view, case_view, cases_of};
-ghost use Rattle.ir_items.specs.Plain.{PlainFunction};
-ghost use Rattle.ir_items.specs.View.{function_view};
-ghost use Rattle.spec_statements.specs.SureLevel.{holds_continue, holds_continue_in, holds_continue_in_cases};
-ghost use Rattle.spec_statements.specs.Tables.{introduced};
-ghost use Rattle.spec_statements.specs.Visible.{top_level};
+ghost use Rattle.ir_blocks.specs.found.View.{statement_view, block_view, case_view, cases_of};
+ghost use Rattle.ir_items.specs.judged.Plain.{PlainFunction};
+ghost use Rattle.ir_items.specs.found.View.{function_view};
+ghost use Rattle.spec_statements.specs.found.SureLevel.{holds_continue, holds_continue_in, holds_continue_in_cases};
+ghost use Rattle.spec_statements.specs.judged.Tables.{introduced};
+ghost use Rattle.spec_statements.specs.judged.Visible.{top_level};
 ghost use Rattle.function_strict_scope.specs.Live.{Follows};
 ghost use Rattle.function_strict_scope.specs.Walked.{IfFault, AllMeet, MeetWithin, MeetInCases, FaultIn, FaultWithin, FaultInCases, left_in, first_left, cut_to};
 

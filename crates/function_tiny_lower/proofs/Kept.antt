@@ -6,11 +6,11 @@ use Rattle.function_interface.specs.Analysis.{IsKept}
 use Rattle.function_interface.specs.Question.{question}
 use Rattle.ir_flags.specs.declared.settings.ValidationFlags.{ValidationFlags}
 use Rattle.ir_flags.specs.declared.stages.ShaderStages.{ShaderStages}
-use Rattle.ir_items.specs.Plain.{PlainFunction, PlainModule}
+use Rattle.ir_items.specs.judged.Plain.{PlainFunction, PlainModule}
 use Rattle.ir_references.specs.First.{first_in}
 use Rattle.spec_analysis.proofs.SummaryLaws.{joined_by_callees}
-use Rattle.spec_analysis.specs.Summaries.{Summary, AgreeOnCallees}
-use Rattle.spec_statements.specs.ExpressionStages.{all_stages}
+use Rattle.spec_analysis.specs.judged.Summaries.{Summary, AgreeOnCallees}
+use Rattle.spec_statements.specs.judged.ExpressionStages.{all_stages}
 use Rattle.function_tiny_lower.proofs.Joined.{joined_of}
 use Rattle.function_tiny_lower.proofs.Typed.{none_untyped, many_told, has_form}
 use Rattle.function_tiny_lower.specs.Ends.{summary_of, ends_in}
@@ -19,8 +19,8 @@ use Rattle.function_tiny_lower.specs.Typing.{types_of}
 use Rattle.function_tiny_lower.specs.Values.{resolution_of}
 use Rattle.function_tiny_lower.specs.declared.tiny.TinyInfo.{TinyInfo}
 use Rattle.function_tiny_lower.specs.declared.value_type.ValueType.{ValueType}
-use Rattle.typing_forms.specs.Forms.{NoStructValue}
-use Rattle.typing_forms.specs.Resolutions.{resolution_view}
+use Rattle.typing_forms.specs.judged.Forms.{NoStructValue}
+use Rattle.typing_forms.specs.judged.Resolutions.{resolution_view}
 use Rattle.typing_forms.specs.declared.resolution.TypeResolution.{TypeResolution}
 use Rattle.typing_errors.specs.Answers.{form_given}
 

@@ -1,15 +1,15 @@
 -- The types of a function's expressions, found one after the other.
 use Rattle.std.proofs.Common.{◌≡◌, ◌+◌, ◌≤◌, ℕ, zero, suc, Option, Some, None, List, [], ◌∷◌, ◌++◌, length, map, drop, slice_get, option_map, refl, sym, ap, subst, ◌∙◌, inl, inr, arith}
 use Rattle.std.proofs.lemmas.List.{drop_all, length-append, length-map, map-append}
-use Rattle.ir_arena.specs.Arenas.{value_at}
+use Rattle.ir_arena.specs.found.Arenas.{value_at}
 use Rattle.ir_arena.specs.declared.span.Span.{Span}
-use Rattle.ir_types.specs.ExpressionPlain.{PlainExpression, expression_view}
+use Rattle.ir_types.specs.judged.ExpressionPlain.{PlainExpression, expression_view}
 use Rattle.ir_types.specs.declared.expressions.Expression.{Expression}
-use Rattle.ir_items.specs.GlobalView.{values_of}
-use Rattle.ir_items.specs.Plain.{PlainFunction, PlainModule}
+use Rattle.ir_items.specs.found.GlobalView.{values_of}
+use Rattle.ir_items.specs.judged.Plain.{PlainFunction, PlainModule}
 use Rattle.ir_references.proofs.Entries.{slice_get-entries}
-use Rattle.ir_types.specs.Plain.{PlainType}
-use Rattle.typing_rules.specs.Laws.{IsAmong}
+use Rattle.ir_types.specs.judged.Plain.{PlainType}
+use Rattle.typing_rules.specs.judged.Laws.{IsAmong}
 use Rattle.function_tiny_lower.specs.Typing.{earlier, expression_type, types_after, types_of, HasForm, IsUntyped}
 use Rattle.function_tiny_lower.specs.Values.{form_of, resolution_of}
 use Rattle.function_tiny_lower.specs.declared.value_type.ValueType.{ValueType}

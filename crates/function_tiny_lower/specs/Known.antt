@@ -1,6 +1,6 @@
 -- Which expressions the layer knows.
 use Rattle.std.specs.Prelude.{Option, Some, None}
-use Rattle.ir_types.specs.ExpressionPlain.{PlainExpression, compose, plain}
+use Rattle.ir_types.specs.judged.ExpressionPlain.{PlainExpression, compose, plain}
 use Rattle.ir_types.specs.declared.expressions.Expression.{Expression}
 use Rattle.ir_types.specs.declared.expressions.Expression.TheVariants as x
 use Rattle.function_tiny_lower.specs.declared.known.Known.{Known}

@@ -4,8 +4,8 @@ use Rattle.typing_errors.specs.declared.expressions.ExpressionError.{ExpressionE
 use Rattle.typing_errors.specs.declared.error.FunctionError.{FunctionError}
 use Rattle.function_interface.specs.Question.{Question}
 use Rattle.ir_flags.specs.declared.stages.ShaderStages.{ShaderStages}
-use Rattle.ir_items.specs.GlobalPlain.{PlainGlobal}
-use Rattle.ir_items.specs.Plain.{PlainFunction, PlainModule}
+use Rattle.ir_items.specs.judged.GlobalPlain.{PlainGlobal}
+use Rattle.ir_items.specs.judged.Plain.{PlainFunction, PlainModule}
 use Rattle.std.proofs.Common.{slice_get, refl, sym, ap, ◌∙◌, true≢false}
 use Rattle.function_tiny_lower.specs.Readings.{IsGiven, IsRunBy, IsTypeFault, untyped, IsUnfit, fits_at}
 use Rattle.function_tiny_lower.specs.Typing.{HasForm, IsUntyped}

@@ -1,6 +1,6 @@
 -- Which operations fit the types of their operands.
 use Rattle.std.specs.Prelude.{ℕ, Bool as Truth, true, false, ◌&&◌, List, Option, Some, None, option_and_then, slice_get}
-use Rattle.ir_types.specs.ExpressionPlain.{PlainExpression}
+use Rattle.ir_types.specs.judged.ExpressionPlain.{PlainExpression}
 use Rattle.ir_kinds.specs.declared.operators.BinaryOperator.{BinaryOperator}
 use Rattle.ir_kinds.specs.declared.operators.BinaryOperator.TheVariants as binary
 use Rattle.ir_kinds.specs.declared.operators.UnaryOperator.{UnaryOperator}

@@ -7,11 +7,11 @@ use Rattle.typing_errors.specs.declared.error.FunctionError.TheVariants.{Express
 use Rattle.function_interface.specs.Analysis.{Faults}
 use Rattle.function_interface.specs.Question.{Question}
 use Rattle.function_interface.specs.Reported.{AreReported}
-use Rattle.ir_types.specs.ExpressionPlain.{PlainExpression}
+use Rattle.ir_types.specs.judged.ExpressionPlain.{PlainExpression}
 use Rattle.ir_flags.specs.declared.stages.ShaderStages.{ShaderStages}
-use Rattle.ir_items.specs.Plain.{PlainFunction, PlainModule}
-use Rattle.spec_statements.specs.ExpressionStages.{all_stages, callee_stages}
-use Rattle.spec_statements.specs.Functions.{Reading}
+use Rattle.ir_items.specs.judged.Plain.{PlainFunction, PlainModule}
+use Rattle.spec_statements.specs.judged.ExpressionStages.{all_stages, callee_stages}
+use Rattle.spec_statements.specs.judged.Functions.{Reading}
 use Rattle.function_tiny_lower.specs.Known.{known_of}
 use Rattle.function_tiny_lower.specs.Operations.{fits}
 use Rattle.function_tiny_lower.specs.Typing.{HasForm, IsUntyped}

@@ -1,20 +1,20 @@
 -- Which expressions have a type, and which.
 use Rattle.std.specs.Prelude.{◌≡◌, ℕ, List, [], ◌∷◌, ◌++◌, Option, Some, None, option_map, option_and_then, slice_get}
-use Rattle.ir_types.specs.ExpressionPlain.{PlainExpression}
-use Rattle.ir_items.specs.Plain.{PlainArgument, PlainFunction, PlainModule}
+use Rattle.ir_types.specs.judged.ExpressionPlain.{PlainExpression}
+use Rattle.ir_items.specs.judged.Plain.{PlainArgument, PlainFunction, PlainModule}
 use Rattle.ir_items.specs.declared.functions.FunctionResult.{FunctionResult}
 use Rattle.ir_kinds.specs.declared.operators.BinaryOperator.{BinaryOperator}
 use Rattle.ir_kinds.specs.declared.operators.BinaryOperator.TheVariants as binary
 use Rattle.ir_kinds.specs.declared.values.Literal.{Literal}
 use Rattle.ir_kinds.specs.declared.values.Literal.TheVariants as literal
-use Rattle.ir_types.specs.Plain.{PlainType}
+use Rattle.ir_types.specs.judged.Plain.{PlainType}
 use Rattle.function_tiny_lower.specs.Known.{known_of}
 use Rattle.function_tiny_lower.specs.Values.{type_of_inner, form_of}
 use Rattle.function_tiny_lower.specs.declared.known.Known.{Known}
 use Rattle.function_tiny_lower.specs.declared.known.Known.TheVariants as known
 use Rattle.function_tiny_lower.specs.declared.value_type.ValueType.{ValueType}
 use Rattle.function_tiny_lower.specs.declared.value_type.ValueType.TheVariants.{U32, Bool, F32}
-use Rattle.typing_forms.specs.Resolutions.{inner_at}
+use Rattle.typing_forms.specs.judged.Resolutions.{inner_at}
 use Rattle.typing_forms.specs.declared.form.Form.{Form}
 
 -- ---- values that are written or given

@@ -1,10 +1,10 @@
 -- The types that values may have.
 use Rattle.std.specs.Prelude.{ℕ, ◌==◌, if◌then◌else◌, Option, Some, None}
-use Rattle.ir_kinds.specs.Scalars.{unsigned, floating, boolean}
+use Rattle.ir_kinds.specs.judged.Scalars.{unsigned, floating, boolean}
 use Rattle.ir_kinds.specs.declared.scalars.Scalar.{Scalar}
 use Rattle.ir_kinds.specs.declared.scalars.ScalarKind.{ScalarKind}
 use Rattle.ir_kinds.specs.declared.scalars.ScalarKind.TheVariants as kind
-use Rattle.ir_types.specs.Plain.{PlainInner, plain}
+use Rattle.ir_types.specs.judged.Plain.{PlainInner, plain}
 use Rattle.ir_types.specs.declared.types.TypeInner.TheVariants as inner
 use Rattle.function_tiny_lower.specs.declared.value_type.ValueType.{ValueType}
 use Rattle.function_tiny_lower.specs.declared.value_type.ValueType.TheVariants.{U32, Bool, F32}

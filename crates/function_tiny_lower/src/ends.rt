@@ -1,7 +1,7 @@
 //! Whether a function may end the fragment.
 
 ghost use Rattle.std.specs.Prelude.{◌≡◌, is_some, map, slice_get};
-ghost use Rattle.ir_items.specs.View.{function_view};
+ghost use Rattle.ir_items.specs.found.View.{function_view};
 ghost use Rattle.ir_references.specs.First.{first_in};
 ghost use Rattle.function_tiny_lower.specs.Ends.{ends_in, may_end, summary_of};
 

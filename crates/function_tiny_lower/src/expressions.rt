@@ -1,8 +1,8 @@
 //! The type of an expression, by the types of those before it.
 
 ghost use Rattle.std.specs.Prelude.{◌≡◌, Some, map, option_map};
-ghost use Rattle.ir_types.specs.ExpressionPlain.{expression_view};
-ghost use Rattle.ir_items.specs.View.{function_view, module_view};
+ghost use Rattle.ir_types.specs.judged.ExpressionPlain.{expression_view};
+ghost use Rattle.ir_items.specs.found.View.{function_view, module_view};
 ghost use Rattle.function_tiny_lower.specs.Typing.{binary_type, earlier, expression_type, literal_type, type_in};
 
 use crate::known::{Known, known_of};

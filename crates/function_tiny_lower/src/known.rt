@@ -1,7 +1,7 @@
 //! The expressions that the layer knows.
 
 ghost use Rattle.std.specs.Prelude.{◌≡◌};
-ghost use Rattle.ir_types.specs.ExpressionPlain.{expression_view};
+ghost use Rattle.ir_types.specs.judged.ExpressionPlain.{expression_view};
 ghost use Rattle.function_tiny_lower.specs.Known.{known_of};
 
 use ir_arena::handle::Handle;

@@ -1,9 +1,9 @@
 //! The types of what is declared: arguments, and the results of functions.
 
 ghost use Rattle.std.specs.Prelude.{◌≡◌, map, option_map, slice_get};
-ghost use Rattle.ir_items.specs.View.{argument_view, function_view, module_view};
+ghost use Rattle.ir_items.specs.found.View.{argument_view, function_view, module_view};
 ghost use Rattle.function_tiny_lower.specs.Typing.{answer_of, answer_type, argument_type, type_at};
-ghost use Rattle.typing_forms.specs.Resolutions.{types_view};
+ghost use Rattle.typing_forms.specs.judged.Resolutions.{types_view};
 
 use crate::value_type::{ValueType, type_of_inner};
 use ir_arena::handle::Handle;

@@ -1,7 +1,7 @@
 //! Whether operations fit the types of their operands.
 
 ghost use Rattle.std.specs.Prelude.{◌≡◌, Some};
-ghost use Rattle.ir_types.specs.ExpressionPlain.{expression_view};
+ghost use Rattle.ir_types.specs.judged.ExpressionPlain.{expression_view};
 ghost use Rattle.function_tiny_lower.specs.Operations.{are_same, fits, fits_in, is_condition, is_float, is_number, is_same, is_truth, is_word, left_fits, takes_one, takes_two, type_given, unary_fits};
 
 use crate::known::{Known, known_of};

@@ -1,8 +1,8 @@
 //! The stages that may run an expression.
 
 ghost use Rattle.std.specs.Prelude.{◌≡◌, Some, map};
-ghost use Rattle.ir_types.specs.ExpressionPlain.{expression_view};
-ghost use Rattle.spec_statements.specs.ExpressionStages.{callee_stages};
+ghost use Rattle.ir_types.specs.judged.ExpressionPlain.{expression_view};
+ghost use Rattle.spec_statements.specs.judged.ExpressionStages.{callee_stages};
 ghost use Rattle.function_tiny_lower.specs.Ends.{noted_of};
 ghost use Rattle.function_tiny_lower.specs.Readings.{stages_by, stages_in};
 

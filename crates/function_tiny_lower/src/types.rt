@@ -2,7 +2,7 @@
 
 ghost use Rattle.std.specs.Prelude.{◌≡◌, Some, IfErr, IfOk, map};
 ghost use Rattle.function_interface.specs.Analysis.{IsRefusedFor};
-ghost use Rattle.ir_items.specs.View.{function_view, module_view};
+ghost use Rattle.ir_items.specs.found.View.{function_view, module_view};
 ghost use Rattle.function_tiny_lower.specs.Readings.{IsTypeFault};
 ghost use Rattle.function_tiny_lower.specs.Typing.{IsUntyped, types_of};
 ghost use Rattle.function_tiny_lower.specs.Values.{resolution_of};

@@ -2,7 +2,7 @@
 
 ghost use Rattle.std.specs.Prelude.{◌≡◌};
 ghost use Rattle.function_tiny_lower.specs.Values.{resolution_of, scalar_of, type_of_form, type_of_inner, type_of_scalar};
-ghost use Rattle.ir_types.specs.Plain.{inner_view};
+ghost use Rattle.ir_types.specs.judged.Plain.{inner_view};
 
 use ir_kinds::{Scalar, ScalarKind};
 use ir_types::TypeInner;

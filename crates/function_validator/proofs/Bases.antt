@@ -1,9 +1,9 @@
 -- The bases of accesses are operands.
 use Rattle.std.proofs.Common.{◌≡◌, ◌<◌, ℕ, List, [], ◌∷◌, Some, All, subst}
 use Rattle.std.proofs.lemmas.List.Elements.{All-head}
-use Rattle.ir_types.specs.ExpressionPlain.{PlainExpression, plain}
+use Rattle.ir_types.specs.judged.ExpressionPlain.{PlainExpression, plain}
 use Rattle.ir_types.specs.declared.expressions.Expression.TheVariants as x
-use Rattle.ir_proc.specs.Bases.{base_of, BasesPrecede}
+use Rattle.ir_proc.specs.judged.Bases.{base_of, BasesPrecede}
 use Rattle.spec_handles.specs.Conditions.{OperandsPrecede}
 use Rattle.spec_handles.specs.Expressions.{expression_operands}
 

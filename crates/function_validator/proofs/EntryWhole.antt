@@ -19,17 +19,17 @@ use Rattle.ir_flags.specs.Sets.{Has}
 use Rattle.ir_flags.specs.declared.settings.Capabilities.{Capabilities}
 use Rattle.ir_flags.specs.declared.settings.ValidationFlags.{ValidationFlags}
 use Rattle.ir_flags.specs.declared.stages.ShaderStages.{ShaderStages}
-use Rattle.ir_items.specs.Plain.{PlainEntry, PlainModule}
+use Rattle.ir_items.specs.judged.Plain.{PlainEntry, PlainModule}
 use Rattle.ir_kinds.specs.declared.stages.ShaderStage.{ShaderStage}
 use Rattle.ir_kinds.specs.declared.stages.ShaderStage.TheVariants.{Vertex, Fragment, Compute, Mesh, Task, RayGeneration, AnyHit, ClosestHit, Miss}
-use Rattle.typing_rules.specs.Laws.{IsAmong}
-use Rattle.spec_analysis.specs.Chains.{HasUse, HasPair, MayKill}
-use Rattle.spec_analysis.specs.Summaries.{HasUseBit, IsSummary, Summary}
-use Rattle.spec_interface.specs.Entries.{ConnectionsOK}
-use Rattle.spec_interface.specs.Uses.{EntryUses}
-use Rattle.spec_statements.specs.ExpressionStages.{all_stages}
-use Rattle.spec_statements.specs.Functions.{AllowsStage, FunctionOK, FunctionSettings, Reading}
-use Rattle.spec_interface.specs.Contexts.{stage_set}
+use Rattle.typing_rules.specs.judged.Laws.{IsAmong}
+use Rattle.spec_analysis.specs.judged.Chains.{HasUse, HasPair, MayKill}
+use Rattle.spec_analysis.specs.judged.Summaries.{HasUseBit, IsSummary, Summary}
+use Rattle.spec_interface.specs.judged.Entries.{ConnectionsOK}
+use Rattle.spec_interface.specs.judged.Uses.{EntryUses}
+use Rattle.spec_statements.specs.judged.ExpressionStages.{all_stages}
+use Rattle.spec_statements.specs.judged.Functions.{AllowsStage, FunctionOK, FunctionSettings, Reading}
+use Rattle.spec_interface.specs.judged.Contexts.{stage_set}
 
 -- ---- refusals
 

@@ -1,8 +1,8 @@
 -- A global variable of a module whose handles are in order.
 use Rattle.std.proofs.Common.{◌≡◌, ◌<◌, ℕ, Option, Some, None, IfSome, length, slice_get, refl}
 use Rattle.module_globals.specs.There.{IsPlaced}
-use Rattle.ir_items.specs.GlobalPlain.{PlainGlobal}
-use Rattle.ir_items.specs.Plain.{PlainModule}
+use Rattle.ir_items.specs.judged.GlobalPlain.{PlainGlobal}
+use Rattle.ir_items.specs.judged.Plain.{PlainModule}
 use Rattle.spec_handles.specs.InOrder.{HandlesOK}
 use Rattle.spec_handles.specs.Modules as part
 use Rattle.spec_handles.specs.References.{item, operand}

@@ -5,10 +5,10 @@ use Rattle.std.proofs.lemmas.Option.{slice_get_within}
 use Rattle.typing_errors.specs.declared.error.FunctionError.{FunctionError}
 use Rattle.typing_errors.specs.declared.error.FunctionError.TheVariants as error
 use Rattle.function_interface.specs.Answered.{AllAnswered, IsUnansweredFault}
-use Rattle.ir_blocks.specs.Places.{Place}
-use Rattle.ir_types.specs.ExpressionPlain.{PlainExpression}
-use Rattle.spec_statements.specs.BlockContext.{BlockContext}
-use Rattle.spec_statements.specs.Results.{AnswersBy, DenotesResult, of_call, of_atomic}
+use Rattle.ir_blocks.specs.judged.Places.{Place}
+use Rattle.ir_types.specs.judged.ExpressionPlain.{PlainExpression}
+use Rattle.spec_statements.specs.judged.BlockContext.{BlockContext}
+use Rattle.spec_statements.specs.judged.Results.{AnswersBy, DenotesResult, of_call, of_atomic}
 use Rattle.function_validator.specs.Faults.{IsUnanswered}
 use Rattle.function_validator.specs.Judged.{AllAnswer}
 

@@ -4,7 +4,7 @@ use Rattle.std.specs.Int.RustNames.{bit_and}
 use Rattle.typing_errors.specs.declared.error.FunctionError.{FunctionError}
 use Rattle.function_interface.specs.Analysis.{Faults, IsRefusedFor, IsFaultBefore, in_arity as with_arity, in_analysis as with_analysis}
 use Rattle.function_interface.proofs.RefusedAs.{refused_as}
-use Rattle.ir_items.specs.Plain.{PlainFunction, PlainModule}
+use Rattle.ir_items.specs.judged.Plain.{PlainFunction, PlainModule}
 use Rattle.function_interface_checks.specs.Refusals.{IsRefusal}
 use Rattle.ir_faults.specs.Faults.{error_of}
 use Rattle.ir_faults.specs.declared.refusal.Refusal.{Refusal}
@@ -14,10 +14,10 @@ use Rattle.ir_flags.specs.declared.settings.TheConstants.ValidationFlags.{EXPRES
 use Rattle.ir_flags.specs.declared.stages.ShaderStages.{ShaderStages}
 use Rattle.function_interface.specs.Bodies.{MayRun}
 use Rattle.function_body_checks.specs.Faults.{IsScopeRefusal}
-use Rattle.spec_statements.specs.ExpressionStages.{all_stages}
-use Rattle.spec_statements.specs.BlockContext.{BlockContext}
-use Rattle.spec_statements.specs.Functions.{Reading, FunctionSettings}
-use Rattle.spec_statements.specs.Interfaces.{InterfaceOK}
+use Rattle.spec_statements.specs.judged.ExpressionStages.{all_stages}
+use Rattle.spec_statements.specs.judged.BlockContext.{BlockContext}
+use Rattle.spec_statements.specs.judged.Functions.{Reading, FunctionSettings}
+use Rattle.spec_statements.specs.judged.Interfaces.{InterfaceOK}
 use Rattle.function_statements.specs.Faults.{IsBodyRefusal}
 use Rattle.function_validator.proofs.Below.{left_has, right_has, both_have}
 use Rattle.function_validator.specs.Faults.{AllAccepted, IsBodyInOrder, IsFaultOfBody, IsUnanswered, IsFaultAfter, in_body, unanswered, IsFunctionFault, in_arity, in_analysis}

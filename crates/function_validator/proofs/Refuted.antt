@@ -12,13 +12,13 @@ use Rattle.ir_flags.specs.Sets.{Has}
 use Rattle.ir_flags.specs.declared.settings.Capabilities.{Capabilities}
 use Rattle.ir_flags.specs.declared.settings.TheConstants.ValidationFlags.{EXPRESSIONS}
 use Rattle.ir_flags.specs.declared.settings.ValidationFlags.{ValidationFlags}
-use Rattle.ir_items.specs.Plain.{PlainFunction, PlainModule}
+use Rattle.ir_items.specs.judged.Plain.{PlainFunction, PlainModule}
 use Rattle.function_operation_checks.proofs.Refuted.{faults_refute_lem as by_ray}
 use Rattle.function_body_checks.proofs.Refuted.{faults_refute_lem as by_scope}
 use Rattle.spec_handles.specs.Conditions.{AritiesMatch}
-use Rattle.spec_statements.specs.BlockContext.{BlockContext}
-use Rattle.spec_statements.specs.Functions.{Reading, FunctionSettings, AreFormsBy, BodyOK, FunctionOK, block_context}
-use Rattle.spec_statements.specs.Interfaces.{InterfaceOK}
+use Rattle.spec_statements.specs.judged.BlockContext.{BlockContext}
+use Rattle.spec_statements.specs.judged.Functions.{Reading, FunctionSettings, AreFormsBy, BodyOK, FunctionOK, block_context}
+use Rattle.spec_statements.specs.judged.Interfaces.{InterfaceOK}
 use Rattle.function_statements.proofs.Refuted.{faults_refute_lem as by_statement}
 use Rattle.function_strict_scope.proofs.Refuted.{strict_faults_refute_lem as by_strict}
 use Rattle.typing_forms.specs.declared.form.Form.{Form}

@@ -3,13 +3,13 @@ use Rattle.std.proofs.Common.{◌≡◌, ◌↔◌, ℕ, List, Option, IsTrue, s
 use Rattle.std.specs.Int.RustNames.{bit_and}
 use Rattle.ir_flags.specs.Sets.{Has}
 use Rattle.ir_flags.specs.declared.stages.ShaderStages.{ShaderStages}
-use Rattle.ir_items.specs.Plain.{PlainFunction, PlainModule}
-use Rattle.typing_rules.specs.Laws.{IsAmong}
-use Rattle.spec_analysis.specs.Summaries.{Summary, IsJoined, HasUseBit}
-use Rattle.spec_statements.specs.ExpressionStages.{all_stages}
+use Rattle.ir_items.specs.judged.Plain.{PlainFunction, PlainModule}
+use Rattle.typing_rules.specs.judged.Laws.{IsAmong}
+use Rattle.spec_analysis.specs.judged.Summaries.{Summary, IsJoined, HasUseBit}
+use Rattle.spec_statements.specs.judged.ExpressionStages.{all_stages}
 use Rattle.spec_handles.specs.Conditions.{AritiesMatch}
-use Rattle.spec_statements.specs.BlockContext.{BlockContext}
-use Rattle.spec_statements.specs.Functions.{Reading, FunctionSettings, AreFormsBy, FunctionOK, AllowsStage, block_context}
+use Rattle.spec_statements.specs.judged.BlockContext.{BlockContext}
+use Rattle.spec_statements.specs.judged.Functions.{Reading, FunctionSettings, AreFormsBy, FunctionOK, AllowsStage, block_context}
 use Rattle.typing_forms.specs.declared.form.Form.{Form}
 use Rattle.function_validator.proofs.Below.{right_has, both_have}
 use Rattle.function_validator.specs.Judged.{ArePartsMet}

@@ -13,11 +13,11 @@ use Rattle.ir_faults.specs.declared.refusal.Refusal.TheVariants as refusal
 use Rattle.ir_flags.specs.declared.settings.Capabilities.{Capabilities}
 use Rattle.ir_flags.specs.declared.settings.ValidationFlags.{ValidationFlags}
 use Rattle.ir_flags.specs.declared.stages.ShaderStages.{ShaderStages}
-use Rattle.ir_items.specs.Plain.{PlainEntry, PlainModule}
-use Rattle.spec_interface.specs.Entries.{ConnectionsOK, EntryOK}
-use Rattle.spec_interface.specs.Uses.{EntryUses}
-use Rattle.spec_statements.specs.Functions.{Reading, FunctionSettings, AllowsStage}
-use Rattle.spec_interface.specs.Contexts.{stage_set}
+use Rattle.ir_items.specs.judged.Plain.{PlainEntry, PlainModule}
+use Rattle.spec_interface.specs.judged.Entries.{ConnectionsOK, EntryOK}
+use Rattle.spec_interface.specs.judged.Uses.{EntryUses}
+use Rattle.spec_statements.specs.judged.Functions.{Reading, FunctionSettings, AllowsStage}
+use Rattle.spec_interface.specs.judged.Contexts.{stage_set}
 
 -- What is wrong with an entry point of whose function the lower layer says this, where these stages may run its callees and its
 -- function uses global variables so: with its stage, its function, its payload, what its function does at its stage, or what

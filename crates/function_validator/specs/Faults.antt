@@ -7,24 +7,24 @@ use Rattle.typing_errors.specs.declared.error.FunctionError.TheVariants as error
 use Rattle.function_interface.specs.Analysis.{Faults}
 use Rattle.function_interface.specs.Arities.{IsArityFault}
 use Rattle.function_interface_checks.specs.Interfaces.{IsInterfaceFault}
-use Rattle.ir_blocks.specs.Control.{ControlOK}
-use Rattle.ir_blocks.specs.Places.{Place, OccursAt}
-use Rattle.ir_blocks.specs.Plain.{PlainStatement}
+use Rattle.ir_blocks.specs.judged.Control.{ControlOK}
+use Rattle.ir_blocks.specs.judged.Places.{Place, OccursAt}
+use Rattle.ir_blocks.specs.judged.Plain.{PlainStatement}
 use Rattle.ir_flags.specs.Sets.{Has}
 use Rattle.ir_flags.specs.declared.settings.TheConstants.ValidationFlags.{EXPRESSIONS, BLOCKS, STRICT_SCOPE}
-use Rattle.ir_items.specs.Plain.{PlainFunction, PlainModule}
+use Rattle.ir_items.specs.judged.Plain.{PlainFunction, PlainModule}
 use Rattle.function_operation_checks.specs.Payloads.{IsPayloadsFault}
 use Rattle.function_body_checks.specs.Faults.{IsScopeFault}
 use Rattle.spec_handles.specs.Conditions.{AritiesMatch}
-use Rattle.spec_statements.specs.Answered.{EachOnce}
-use Rattle.spec_statements.specs.BlockContext.{BlockContext}
-use Rattle.spec_statements.specs.Functions.{Reading, FunctionSettings, AreFormsBy, block_context}
-use Rattle.spec_statements.specs.Interfaces.{InterfaceOK}
-use Rattle.spec_statements.specs.Payloads.{PayloadsOK}
-use Rattle.spec_statements.specs.Results.{AnswersBy, DenotesResult}
-use Rattle.spec_statements.specs.Scope.{ScopeOK}
-use Rattle.spec_statements.specs.Statements.{StatementOK}
-use Rattle.spec_statements.specs.Strict.{StrictOK}
+use Rattle.spec_statements.specs.found.Answered.{EachOnce}
+use Rattle.spec_statements.specs.judged.BlockContext.{BlockContext}
+use Rattle.spec_statements.specs.judged.Functions.{Reading, FunctionSettings, AreFormsBy, block_context}
+use Rattle.spec_statements.specs.judged.Interfaces.{InterfaceOK}
+use Rattle.spec_statements.specs.judged.Payloads.{PayloadsOK}
+use Rattle.spec_statements.specs.judged.Results.{AnswersBy, DenotesResult}
+use Rattle.spec_statements.specs.judged.Scope.{ScopeOK}
+use Rattle.spec_statements.specs.judged.Statements.{StatementOK}
+use Rattle.spec_statements.specs.judged.Strict.{StrictOK}
 use Rattle.function_statements.specs.Faults.{IsBodyFault}
 use Rattle.function_strict_scope.specs.Faults.{IsStrictFault}
 use Rattle.typing_forms.specs.declared.form.Form.{Form}

@@ -4,8 +4,8 @@ use Rattle.module_globals.specs.declared.error.GlobalVariableError.{GlobalVariab
 use Rattle.ir_faults.specs.Faults.{error_of, spans_of}
 use Rattle.ir_faults.specs.declared.refusal.Refusal.{Refusal}
 use Rattle.ir_faults.specs.declared.refusal.Refusal.TheVariants as refusal
-use Rattle.ir_items.specs.GlobalPlain.{PlainGlobal}
-use Rattle.ir_items.specs.Plain.{PlainModule}
+use Rattle.ir_items.specs.judged.GlobalPlain.{PlainGlobal}
+use Rattle.ir_items.specs.judged.Plain.{PlainModule}
 
 -- the variable is one of the module's
 abbrev pub IsVariableOf : PlainModule → PlainGlobal → Type 0

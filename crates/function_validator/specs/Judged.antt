@@ -2,24 +2,24 @@
 use Rattle.std.specs.Prelude.{◌↔◌, ◌⊎◌, ◌<◌, ℕ, Contains, List, Option, length}
 use Rattle.function_validator.specs.Faults.{AllAccepted, IsBodyInOrder, IsFaultOfBody, IsUnanswered}
 use Rattle.typing_errors.specs.declared.error.FunctionError.{FunctionError}
-use Rattle.ir_blocks.specs.Control.{ControlOK}
-use Rattle.ir_blocks.specs.Places.{Place, OccursAt}
-use Rattle.ir_blocks.specs.Plain.{PlainStatement}
+use Rattle.ir_blocks.specs.judged.Control.{ControlOK}
+use Rattle.ir_blocks.specs.judged.Places.{Place, OccursAt}
+use Rattle.ir_blocks.specs.judged.Plain.{PlainStatement}
 use Rattle.ir_flags.specs.Sets.{Has}
 use Rattle.ir_flags.specs.declared.settings.TheConstants.ValidationFlags.{EXPRESSIONS, BLOCKS, STRICT_SCOPE}
 use Rattle.ir_flags.specs.declared.stages.ShaderStages.{ShaderStages}
 use Rattle.function_operation_checks.specs.Payloads.{AreOfOneType}
-use Rattle.spec_statements.specs.ExpressionStages.{all_stages}
-use Rattle.spec_statements.specs.Answered.{EachOnce}
-use Rattle.spec_statements.specs.BlockContext.{BlockContext}
-use Rattle.spec_statements.specs.Functions.{FunctionSettings, Reading, BodyOK, AllowsStage}
-use Rattle.spec_statements.specs.Interfaces.{InterfaceOK}
-use Rattle.spec_statements.specs.Payloads.{IsPayloadAfter}
-use Rattle.spec_statements.specs.Results.{AnswersBy, DenotesResult}
-use Rattle.spec_statements.specs.Scope.{ScopeOK}
-use Rattle.spec_statements.specs.Stages.{statement_stages}
-use Rattle.spec_statements.specs.Statements.{StatementOK}
-use Rattle.spec_statements.specs.Strict.{StrictOK}
+use Rattle.spec_statements.specs.judged.ExpressionStages.{all_stages}
+use Rattle.spec_statements.specs.found.Answered.{EachOnce}
+use Rattle.spec_statements.specs.judged.BlockContext.{BlockContext}
+use Rattle.spec_statements.specs.judged.Functions.{FunctionSettings, Reading, BodyOK, AllowsStage}
+use Rattle.spec_statements.specs.judged.Interfaces.{InterfaceOK}
+use Rattle.spec_statements.specs.judged.Payloads.{IsPayloadAfter}
+use Rattle.spec_statements.specs.judged.Results.{AnswersBy, DenotesResult}
+use Rattle.spec_statements.specs.judged.Scope.{ScopeOK}
+use Rattle.spec_statements.specs.judged.Stages.{statement_stages}
+use Rattle.spec_statements.specs.judged.Statements.{StatementOK}
+use Rattle.spec_statements.specs.judged.Strict.{StrictOK}
 
 -- ---- expressions
 

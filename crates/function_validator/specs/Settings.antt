@@ -1,6 +1,6 @@
 -- With what a function is judged, as plain data.
 use Rattle.function_validator.specs.declared.settings.FunctionSettings.{FunctionSettings}
-use Rattle.spec_statements.specs.Functions.{FunctionSettings as PlainSettings}
+use Rattle.spec_statements.specs.judged.Functions.{FunctionSettings as PlainSettings}
 
 abbrev pub settings_view : FunctionSettings → PlainSettings
 settings_view s = record {

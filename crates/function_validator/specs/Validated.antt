@@ -1,21 +1,21 @@
 -- What is kept of an entry point that is accepted, over what a lower layer says.
 use Rattle.std.specs.Prelude.{◌≡◌, ◌<◌, ◌↔◌, ℕ, Bool, IsTrue, List, Option, length}
-use Rattle.spec_analysis.specs.Pairs.{SamplingPair}
+use Rattle.spec_analysis.specs.judged.Pairs.{SamplingPair}
 use Rattle.function_validator.specs.Settings.{settings_view}
 use Rattle.function_validator.specs.declared.settings.FunctionSettings.{FunctionSettings as OwnSettings}
 use Rattle.ir_flags.specs.Sets.{Has}
 use Rattle.ir_flags.specs.declared.stages.ShaderStages.{ShaderStages}
-use Rattle.ir_items.specs.Plain.{PlainEntry, PlainModule}
-use Rattle.typing_rules.specs.Laws.{IsAmong}
-use Rattle.spec_analysis.specs.Chains.{HasUse, HasPair, MayKill}
-use Rattle.spec_analysis.specs.Summaries.{Summary, HasUseBit}
-use Rattle.spec_interface.specs.Entries.{EntryOK}
-use Rattle.spec_interface.specs.Modules.{entry_settings}
-use Rattle.spec_interface.specs.Uses.{EntryUses}
-use Rattle.spec_statements.specs.ExpressionStages.{all_stages}
-use Rattle.spec_statements.specs.Functions.{Reading, FunctionSettings, AllowsStage}
-use Rattle.spec_statements.specs.Payloads.{IsPayloadAfter}
-use Rattle.spec_interface.specs.Varyings.{HasBlendSources, result_varyings}
+use Rattle.ir_items.specs.judged.Plain.{PlainEntry, PlainModule}
+use Rattle.typing_rules.specs.judged.Laws.{IsAmong}
+use Rattle.spec_analysis.specs.judged.Chains.{HasUse, HasPair, MayKill}
+use Rattle.spec_analysis.specs.judged.Summaries.{Summary, HasUseBit}
+use Rattle.spec_interface.specs.judged.Entries.{EntryOK}
+use Rattle.spec_interface.specs.judged.Modules.{entry_settings}
+use Rattle.spec_interface.specs.judged.Uses.{EntryUses}
+use Rattle.spec_statements.specs.judged.ExpressionStages.{all_stages}
+use Rattle.spec_statements.specs.judged.Functions.{Reading, FunctionSettings, AllowsStage}
+use Rattle.spec_statements.specs.judged.Payloads.{IsPayloadAfter}
+use Rattle.spec_interface.specs.judged.Varyings.{HasBlendSources, result_varyings}
 
 -- The summary has the uses of global variables that the entry point makes, over all chains of calls of its function and by its
 -- payload and its mesh output, the pairs of its function, and whether that may end the fragment.

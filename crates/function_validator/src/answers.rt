@@ -4,8 +4,8 @@ ghost use Rattle.std.specs.Prelude.{◌≡◌, ◌↔◌, ◌<◌, ◌≤◌, �
 ghost use Rattle.function_validator.specs.Faults.{IsUnanswered};
 ghost use Rattle.function_validator.specs.Judged.{AllAnswer};
 ghost use Rattle.function_interface.specs.Analysis.{IsRefusedFor};
-ghost use Rattle.ir_blocks.specs.Places.{Place};
-ghost use Rattle.spec_statements.specs.Results.{AnswersBy};
+ghost use Rattle.ir_blocks.specs.judged.Places.{Place};
+ghost use Rattle.spec_statements.specs.judged.Results.{AnswersBy};
 ghost use Rattle.function_statement_checks.specs.View.{context_view};
 
 use function_body_checks::ExpressionList;

@@ -7,11 +7,11 @@ ghost use Rattle.function_validator.specs.Settings.{settings_view};
 ghost use Rattle.function_interface.specs.Analysis.{IsRefusedFor};
 ghost use Rattle.ir_flags.specs.Sets.{Has};
 ghost use Rattle.ir_flags.specs.declared.settings.TheConstants.ValidationFlags.{STRICT_SCOPE};
-ghost use Rattle.ir_items.specs.View.{function_view};
-ghost use Rattle.ir_proc.specs.Bases.{BasesPrecede};
+ghost use Rattle.ir_items.specs.found.View.{function_view};
+ghost use Rattle.ir_proc.specs.judged.Bases.{BasesPrecede};
 ghost use Rattle.spec_handles.specs.Conditions.{AritiesMatch};
-ghost use Rattle.spec_statements.specs.Scope.{ScopeOK};
-ghost use Rattle.spec_statements.specs.Strict.{StrictOK};
+ghost use Rattle.spec_statements.specs.judged.Scope.{ScopeOK};
+ghost use Rattle.spec_statements.specs.judged.Strict.{StrictOK};
 ghost use Rattle.function_statement_checks.specs.View.{context_view, IsKnown};
 ghost use Rattle.function_strict_scope.specs.Faults.{IsStrictFault};
 

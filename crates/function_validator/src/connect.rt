@@ -5,12 +5,12 @@ ghost use Rattle.function_entry_checks.specs.Faults.{IsRefusedFor};
 ghost use Rattle.function_entries.specs.Interfaces.{AreInterfacesKnown};
 ghost use Rattle.function_validator.specs.EntryFaults.{IsUnconnected};
 ghost use Rattle.function_validator.specs.Validated.{AddsOwnUses, ReportsSame};
-ghost use Rattle.ir_items.specs.View.{entry_view, module_view};
+ghost use Rattle.ir_items.specs.found.View.{entry_view, module_view};
 ghost use Rattle.ir_items.specs.declared.entries.MeshStageInfo.{MeshStageInfo};
-ghost use Rattle.spec_analysis.specs.Summaries.{HasUseBit};
-ghost use Rattle.spec_interface.specs.Entries.{ConnectionsOK};
-ghost use Rattle.spec_interface.specs.Uses.{EntryUses, mesh_output};
-ghost use Rattle.spec_interface.specs.Varyings.{HasBlendSources, result_varyings};
+ghost use Rattle.spec_analysis.specs.judged.Summaries.{HasUseBit};
+ghost use Rattle.spec_interface.specs.judged.Entries.{ConnectionsOK};
+ghost use Rattle.spec_interface.specs.judged.Uses.{EntryUses, mesh_output};
+ghost use Rattle.spec_interface.specs.judged.Varyings.{HasBlendSources, result_varyings};
 
 use crate::settings::FunctionSettings;
 use crate::uses::{note_own, uses_of};

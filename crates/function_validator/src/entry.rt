@@ -9,13 +9,13 @@ ghost use Rattle.function_validator.specs.Settings.{settings_view};
 ghost use Rattle.function_interface.specs.Question.{question};
 ghost use Rattle.ir_faults.specs.Faults.{error_of};
 ghost use Rattle.ir_flags.specs.Sets.{Has};
-ghost use Rattle.ir_items.specs.View.{entry_view, module_view};
+ghost use Rattle.ir_items.specs.found.View.{entry_view, module_view};
 ghost use Rattle.ir_items.specs.declared.entries.MeshStageInfo.{MeshStageInfo};
-ghost use Rattle.ir_proc.specs.Filters.{ParentsPrecede};
-ghost use Rattle.spec_analysis.specs.Chains.{HasUse};
-ghost use Rattle.spec_analysis.specs.Summaries.{CalleesKnown};
+ghost use Rattle.ir_proc.specs.found.Filters.{ParentsPrecede};
+ghost use Rattle.spec_analysis.specs.judged.Chains.{HasUse};
+ghost use Rattle.spec_analysis.specs.judged.Summaries.{CalleesKnown};
 ghost use Rattle.spec_handles.specs.Conditions.{HandlesInRange, OperandsPrecede};
-ghost use Rattle.spec_interface.specs.Contexts.{stage_set};
+ghost use Rattle.spec_interface.specs.judged.Contexts.{stage_set};
 ghost use Rattle.function_statement_checks.specs.Descriptors.{AreDescriptors};
 
 use crate::connect::connect;

@@ -1,7 +1,7 @@
 //! The forms of the types of a function's expressions.
 
 ghost use Rattle.std.specs.Prelude.{◌≡◌, ◌≤◌, IfOk, length, map};
-ghost use Rattle.typing_forms.specs.Resolutions.{types_view};
+ghost use Rattle.typing_forms.specs.judged.Resolutions.{types_view};
 ghost use Rattle.typing_errors.specs.Answers.{form_given};
 
 use function_interface::Lower;

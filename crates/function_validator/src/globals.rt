@@ -4,9 +4,9 @@ ghost use Rattle.std.specs.Prelude.{IfOk, MatchResult};
 ghost use Rattle.function_validator.specs.Globals.{IsRefusedFor, IsVariableOf};
 ghost use Rattle.module_globals.specs.Faults.{IsWrongBy};
 ghost use Rattle.module_globals.specs.Initializers.{IsInitializer, IsTypedBy};
-ghost use Rattle.ir_items.specs.GlobalView.{global_view};
-ghost use Rattle.ir_items.specs.View.{module_view};
-ghost use Rattle.spec_interface.specs.Globals.{VariableBy};
+ghost use Rattle.ir_items.specs.found.GlobalView.{global_view};
+ghost use Rattle.ir_items.specs.found.View.{module_view};
+ghost use Rattle.spec_interface.specs.judged.Globals.{VariableBy};
 ghost use Rattle.spec_handles.specs.InOrder.{HandlesOK};
 
 use function_interface::Lower;

@@ -4,7 +4,7 @@ ghost use Rattle.std.specs.Prelude.{◌≡◌, ◌⊎◌, ◌↔◌, ℕ, IfOk, 
 ghost use Rattle.std.specs.BTreeSet.{contains_text};
 ghost use Rattle.std.specs.Str.{bytes_eq};
 ghost use Rattle.function_validator.specs.Names.{IsSeen, key_of, stage_letter};
-ghost use Rattle.ir_items.specs.View.{entry_view};
+ghost use Rattle.ir_items.specs.found.View.{entry_view};
 ghost use Rattle.ir_kinds.specs.declared.stages.ShaderStage.{ShaderStage};
 
 use ir_items::EntryPoint;

@@ -8,9 +8,9 @@ ghost use Rattle.function_interface.specs.Analysis.{IsRefusedFor};
 ghost use Rattle.function_interface.specs.Question.{question};
 ghost use Rattle.ir_flags.specs.Sets.{Has};
 ghost use Rattle.ir_flags.specs.declared.settings.TheConstants.ValidationFlags.{EXPRESSIONS, BLOCKS};
-ghost use Rattle.ir_blocks.specs.Places.{Place};
-ghost use Rattle.spec_statements.specs.Results.{AnswersBy};
-ghost use Rattle.ir_proc.specs.Bases.{BasesPrecede};
+ghost use Rattle.ir_blocks.specs.judged.Places.{Place};
+ghost use Rattle.spec_statements.specs.judged.Results.{AnswersBy};
+ghost use Rattle.ir_proc.specs.judged.Bases.{BasesPrecede};
 ghost use Rattle.spec_handles.specs.Conditions.{AritiesMatch};
 ghost use Rattle.function_statement_checks.specs.View.{context_view, IsKnown};
 

@@ -2,9 +2,9 @@
 
 ghost use Rattle.std.specs.Prelude.{◌≡◌, ◌<◌, ◌≤◌, ◌↔◌, ◌⊎◌, ℕ, IfOk, IfSome, Some, length};
 ghost use Rattle.std.specs.Int.{bit_at};
-ghost use Rattle.ir_items.specs.View.{entry_view};
-ghost use Rattle.spec_analysis.specs.Summaries.{HasUseBit};
-ghost use Rattle.spec_interface.specs.Uses.{OwnUse, mesh_output, own_payload_use};
+ghost use Rattle.ir_items.specs.found.View.{entry_view};
+ghost use Rattle.spec_analysis.specs.judged.Summaries.{HasUseBit};
+ghost use Rattle.spec_interface.specs.judged.Uses.{OwnUse, mesh_output, own_payload_use};
 
 use function_interface::Lower;
 use ir_arena::handle::Handle;

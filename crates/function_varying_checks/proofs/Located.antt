@@ -3,8 +3,8 @@ use Rattle.std.proofs.Common.{◌≡◌, ℕ, Some, Result, Ok, Err, MatchResult
 use Rattle.ir_flags.specs.Sets.{Has}
 use Rattle.ir_flags.specs.declared.settings.TheConstants.Capabilities.{MULTISAMPLED_SHADING}
 use Rattle.ir_kinds.specs.declared.bindings.Sampling.TheVariants.{Sample}
-use Rattle.spec_interface.specs.Contexts.{VaryingContext}
-use Rattle.spec_interface.specs.Locations.{LocationOK}
+use Rattle.spec_interface.specs.judged.Contexts.{VaryingContext}
+use Rattle.spec_interface.specs.judged.Locations.{LocationOK}
 use Rattle.spec_interface.specs.declared.varyings.Location.{Location}
 use Rattle.function_varying_checks.specs.Faults.{IsLocationFault}
 use Rattle.function_varying_checks.specs.Steps.{AreCombined, IsKept, IsSpread, ValueOK}

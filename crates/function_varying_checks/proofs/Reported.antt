@@ -1,10 +1,10 @@
 -- Whether values of a type that may not be there go between stages.
 use Rattle.std.proofs.Common.{◌≡◌, ◌<◌, ◌≤◌, ◌↔◌, ◌==◌, ℕ, zero, suc, List, [], ◌∷◌, Some, None, Bool, false, IsTrue, length, get_or, slice_get, option_map, bit_and, true≢false, refl, sym, ap, subst, ◌∙◌, arith, rules, tests}
 use Rattle.std.proofs.lemmas.Option.{slice_get-get_or}
-use Rattle.ir_types.specs.Plain.{PlainType}
-use Rattle.typing_layout.specs.Flags.{HasFlag, IoShareable}
-use Rattle.typing_layout.specs.Tree.{no_type}
-use Rattle.typing_layout.specs.View.{type_tree, tree_along, tree_found}
+use Rattle.ir_types.specs.judged.Plain.{PlainType}
+use Rattle.typing_layout.specs.judged.Flags.{HasFlag, IoShareable}
+use Rattle.typing_layout.specs.judged.Tree.{no_type}
+use Rattle.typing_layout.specs.judged.View.{type_tree, tree_along, tree_found}
 use Rattle.module_type_checks.specs.Known.{AreInfos}
 use Rattle.module_type_infos.specs.declared.info.TypeInfo.{TypeInfo}
 

@@ -11,14 +11,14 @@ use Rattle.ir_kinds.specs.declared.bindings.Sampling.TheVariants.{Center, Sample
 use Rattle.ir_kinds.specs.declared.scalars.ScalarKind.{ScalarKind}
 use Rattle.ir_kinds.specs.declared.scalars.ScalarKind.TheVariants.{Sint, Uint, Float}
 use Rattle.ir_kinds.specs.declared.stages.ShaderStage.TheVariants.{Fragment}
-use Rattle.ir_types.specs.Plain.{inner_view}
-use Rattle.typing_layout.specs.Flags.{HasFlag, IoShareable}
-use Rattle.typing_layout.specs.View.{type_tree}
-use Rattle.spec_interface.specs.BuiltIns.{AreRows, IsAhead, IsFree, IsOfType, OccursAt}
-use Rattle.spec_interface.specs.Contexts.{VaryingContext}
-use Rattle.spec_interface.specs.Locations.{NeedsInterpolation, counted, goes_with, kind_of, of_three}
-use Rattle.spec_interface.specs.Rows.{built_in_row}
-use Rattle.spec_interface.specs.Varyings.{ShowsAt, built_in_of, canonical, location_of}
+use Rattle.ir_types.specs.judged.Plain.{inner_view}
+use Rattle.typing_layout.specs.judged.Flags.{HasFlag, IoShareable}
+use Rattle.typing_layout.specs.judged.View.{type_tree}
+use Rattle.spec_interface.specs.judged.BuiltIns.{AreRows, IsAhead, IsFree, IsOfType, OccursAt}
+use Rattle.spec_interface.specs.judged.Contexts.{VaryingContext}
+use Rattle.spec_interface.specs.judged.Locations.{NeedsInterpolation, counted, goes_with, kind_of, of_three}
+use Rattle.spec_interface.specs.judged.Rows.{built_in_row}
+use Rattle.spec_interface.specs.judged.Varyings.{ShowsAt, built_in_of, canonical, location_of}
 use Rattle.spec_interface.specs.declared.rows.BuiltInRow.{BuiltInRow}
 use Rattle.spec_interface.specs.declared.rows.Exception.TheVariants.{NotAfterTasks, RowsOnly}
 use Rattle.spec_interface.specs.declared.varyings.Bound.{Bound}
@@ -26,8 +26,8 @@ use Rattle.spec_interface.specs.declared.varyings.Bound.TheVariants.{BuiltIn as 
 use Rattle.spec_interface.specs.declared.varyings.Direction.TheVariants.{Input, Output, PrimitiveOutput}
 use Rattle.spec_interface.specs.declared.varyings.Location.{Location}
 use Rattle.spec_interface.specs.declared.varyings.Varying.{Varying}
-use Rattle.typing_forms.specs.Forms.{form_of_type}
-use Rattle.typing_forms.specs.Resolutions.{inner_at}
+use Rattle.typing_forms.specs.judged.Forms.{form_of_type}
+use Rattle.typing_forms.specs.judged.Resolutions.{inner_at}
 use Rattle.function_varying_checks.specs.declared.error.VaryingError.{VaryingError}
 use Rattle.function_varying_checks.specs.declared.error.VaryingError.TheVariants as error
 use Rattle.function_varying_checks.specs.declared.error.VaryingRefusal.{VaryingRefusal}

@@ -1,14 +1,14 @@
 -- Why a value may not be the built-in one of a row.
 use Rattle.std.specs.Prelude.{◌≡◌, ℕ, List, Some, None}
 use Rattle.ir_kinds.specs.declared.bindings.BuiltIn.{BuiltIn}
-use Rattle.ir_types.specs.Plain.{PlainType, inner_view}
-use Rattle.spec_interface.specs.BuiltIns.{AreRows, IsAhead, IsOfType}
-use Rattle.spec_interface.specs.Contexts.{VaryingContext}
+use Rattle.ir_types.specs.judged.Plain.{PlainType, inner_view}
+use Rattle.spec_interface.specs.judged.BuiltIns.{AreRows, IsAhead, IsOfType}
+use Rattle.spec_interface.specs.judged.Contexts.{VaryingContext}
 use Rattle.spec_interface.specs.declared.rows.BuiltInRow.{BuiltInRow}
 use Rattle.spec_interface.specs.declared.rows.Exception.{Exception}
 use Rattle.spec_interface.specs.declared.rows.Exception.TheVariants.{NotAfterTasks, RowsOnly}
 use Rattle.function_varying_checks.specs.Faults.{IsAstray, Misses}
-use Rattle.typing_forms.specs.Resolutions.{inner_at}
+use Rattle.typing_forms.specs.judged.Resolutions.{inner_at}
 use Rattle.function_varying_checks.specs.declared.error.VaryingError.{VaryingError}
 use Rattle.function_varying_checks.specs.declared.error.VaryingError.TheVariants as error
 use Rattle.function_varying_checks.specs.declared.built_ins.RowFault.{RowFault}

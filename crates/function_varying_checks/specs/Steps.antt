@@ -9,14 +9,14 @@ use Rattle.ir_kinds.specs.declared.scalars.ScalarKind.{ScalarKind}
 use Rattle.ir_kinds.specs.declared.scalars.ScalarKind.TheVariants.{Sint, Uint, Float}
 use Rattle.ir_kinds.specs.declared.stages.ShaderStage.{ShaderStage}
 use Rattle.ir_kinds.specs.declared.stages.ShaderStage.TheVariants.{Fragment}
-use Rattle.typing_layout.specs.Flags.{HasFlag, IoShareable}
-use Rattle.typing_layout.specs.View.{type_tree}
-use Rattle.spec_interface.specs.Contexts.{VaryingContext}
-use Rattle.spec_interface.specs.Locations.{NeedsInterpolation, IsValue, PrimitiveOK, VerticesOK, counted, goes_with}
+use Rattle.typing_layout.specs.judged.Flags.{HasFlag, IoShareable}
+use Rattle.typing_layout.specs.judged.View.{type_tree}
+use Rattle.spec_interface.specs.judged.Contexts.{VaryingContext}
+use Rattle.spec_interface.specs.judged.Locations.{NeedsInterpolation, IsValue, PrimitiveOK, VerticesOK, counted, goes_with}
 use Rattle.spec_interface.specs.declared.varyings.Direction.{Direction}
 use Rattle.spec_interface.specs.declared.varyings.Direction.TheVariants.{Input, PrimitiveOutput}
 use Rattle.spec_interface.specs.declared.varyings.Location.{Location}
-use Rattle.typing_forms.specs.Forms.{form_of_type}
+use Rattle.typing_forms.specs.judged.Forms.{form_of_type}
 use Rattle.function_varying_checks.specs.declared.error.VaryingError.{VaryingError}
 use Rattle.function_varying_checks.specs.declared.error.VaryingError.TheVariants as error
 

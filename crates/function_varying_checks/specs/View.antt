@@ -1,8 +1,8 @@
 -- What the rules look at, as plain data.
 use Rattle.std.specs.Prelude.{◌≡◌, length}
-use Rattle.spec_interface.specs.Contexts.{VaryingContext as PlainContext}
+use Rattle.spec_interface.specs.judged.Contexts.{VaryingContext as PlainContext}
 use Rattle.module_type_checks.specs.Known.{AreInfos}
-use Rattle.typing_forms.specs.Resolutions.{types_view}
+use Rattle.typing_forms.specs.judged.Resolutions.{types_view}
 use Rattle.function_varying_checks.specs.declared.context.VaryingContext.{VaryingContext}
 
 abbrev pub context_view : VaryingContext → PlainContext

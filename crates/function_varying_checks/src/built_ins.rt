@@ -2,10 +2,10 @@
 
 ghost use Rattle.std.specs.Prelude.{◌≡◌, ◌≤◌, ◌↔◌, ◌⊎◌, ℕ, IfOk, IfSome, IsTrue, MatchOption, MatchResult};
 ghost use Rattle.ir_flags.specs.Sets.{Has};
-ghost use Rattle.spec_interface.specs.BuiltIns.{AreDistances, AreRows, BuiltInOK, ExceptionOK, IsAhead, IsCounted, IsFree, IsOfType, RowOK, OccursAt};
-ghost use Rattle.spec_interface.specs.Contexts.{stage_set};
-ghost use Rattle.spec_interface.specs.Rows.{built_in_row};
-ghost use Rattle.typing_forms.specs.Resolutions.{types_view};
+ghost use Rattle.spec_interface.specs.judged.BuiltIns.{AreDistances, AreRows, BuiltInOK, ExceptionOK, IsAhead, IsCounted, IsFree, IsOfType, RowOK, OccursAt};
+ghost use Rattle.spec_interface.specs.judged.Contexts.{stage_set};
+ghost use Rattle.spec_interface.specs.judged.Rows.{built_in_row};
+ghost use Rattle.typing_forms.specs.judged.Resolutions.{types_view};
 ghost use Rattle.function_varying_checks.specs.Faults.{IsBuiltInFault};
 ghost use Rattle.function_varying_checks.specs.Rows.{IsExcepted, IsRowFault, IsTypeError};
 ghost use Rattle.function_varying_checks.specs.View.{context_view};

@@ -1,10 +1,10 @@
 //! What types are made of.
 
 ghost use Rattle.std.specs.Prelude.{◌≡◌, ◌<◌, ◌↔◌, IsTrue, length};
-ghost use Rattle.typing_layout.specs.Flags.{HasFlag, IoShareable};
-ghost use Rattle.typing_layout.specs.View.{type_tree};
-ghost use Rattle.spec_interface.specs.BuiltIns.{array_of};
-ghost use Rattle.spec_interface.specs.Locations.{kind_of, of_three, three};
+ghost use Rattle.typing_layout.specs.judged.Flags.{HasFlag, IoShareable};
+ghost use Rattle.typing_layout.specs.judged.View.{type_tree};
+ghost use Rattle.spec_interface.specs.judged.BuiltIns.{array_of};
+ghost use Rattle.spec_interface.specs.judged.Locations.{kind_of, of_three, three};
 ghost use Rattle.function_varying_checks.specs.View.{IsReported, context_view};
 
 use crate::context::VaryingContext;

@@ -6,8 +6,8 @@ ghost use Rattle.ir_flags.specs.declared.settings.TheConstants.Capabilities.{MES
 ghost use Rattle.ir_kinds.specs.declared.bindings.Interpolation.TheVariants.{Flat, PerVertex};
 ghost use Rattle.ir_kinds.specs.declared.bindings.Sampling.TheVariants.{Center, Sample};
 ghost use Rattle.ir_kinds.specs.declared.stages.ShaderStage.TheVariants.{Fragment, Mesh, Vertex};
-ghost use Rattle.spec_interface.specs.Contexts.{VaryingContext as PlainContext};
-ghost use Rattle.spec_interface.specs.Locations.{NeedsInterpolation, InterpolationOK, LocationOK, PrimitiveOK, VerticesOK, counted, goes_with, is_of_vertex};
+ghost use Rattle.spec_interface.specs.judged.Contexts.{VaryingContext as PlainContext};
+ghost use Rattle.spec_interface.specs.judged.Locations.{NeedsInterpolation, InterpolationOK, LocationOK, PrimitiveOK, VerticesOK, counted, goes_with, is_of_vertex};
 ghost use Rattle.function_varying_checks.specs.Faults.{IsLocationFault};
 ghost use Rattle.function_varying_checks.specs.Steps.{AreCombined, IsKept, IsPrimitiveFault, IsSpread, IsUnfound, ValueOK};
 ghost use Rattle.function_varying_checks.specs.View.{IsReported, context_view};

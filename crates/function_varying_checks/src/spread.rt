@@ -1,11 +1,11 @@
 //! Which varyings there are.
 
 ghost use Rattle.std.specs.Prelude.{◌≡◌, ◌++◌, IfOk, OnOk, is_some, map};
-ghost use Rattle.ir_items.specs.View.{argument_view};
-ghost use Rattle.ir_types.specs.Plain.{member_view};
-ghost use Rattle.typing_layout.specs.Flags.{blend_source};
-ghost use Rattle.spec_interface.specs.Varyings.{argument_varyings, bound_member, bound_members, bound_value, has_source, unbound, varying, varyings_of};
-ghost use Rattle.typing_forms.specs.Resolutions.{inner_at, types_view};
+ghost use Rattle.ir_items.specs.found.View.{argument_view};
+ghost use Rattle.ir_types.specs.judged.Plain.{member_view};
+ghost use Rattle.typing_layout.specs.judged.Flags.{blend_source};
+ghost use Rattle.spec_interface.specs.judged.Varyings.{argument_varyings, bound_member, bound_members, bound_value, has_source, unbound, varying, varyings_of};
+ghost use Rattle.typing_forms.specs.judged.Resolutions.{inner_at, types_view};
 
 use ir_arena::handle::Handle;
 use ir_items::FunctionArgument;

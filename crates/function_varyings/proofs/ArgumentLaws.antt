@@ -7,13 +7,13 @@ use Rattle.std.proofs.lemmas.Option.{slice_get_within}
 use Rattle.ir_flags.specs.Sets.{Has}
 use Rattle.ir_flags.specs.declared.settings.ValidationFlags.{ValidationFlags}
 use Rattle.ir_flags.specs.declared.settings.TheConstants.ValidationFlags.{BINDINGS}
-use Rattle.ir_items.specs.Plain.{PlainArgument}
+use Rattle.ir_items.specs.judged.Plain.{PlainArgument}
 use Rattle.ir_kinds.specs.declared.bindings.BuiltIn.{BuiltIn}
 use Rattle.ir_kinds.specs.declared.bindings.BuiltIn.TheVariants.{Position, Barycentric}
 use Rattle.ir_sets.specs.Bits.{has_bit}
-use Rattle.ir_types.specs.Plain.{PlainType}
-use Rattle.spec_interface.specs.Contexts.{VaryingContext}
-use Rattle.spec_interface.specs.Varyings.{AreApart, BoundOK, ShowsAt, VaryingsOK, argument_varyings, argument_varyings_from, bounds, built_in_of, canonical, location_of, varying, varyings_of}
+use Rattle.ir_types.specs.judged.Plain.{PlainType}
+use Rattle.spec_interface.specs.judged.Contexts.{VaryingContext}
+use Rattle.spec_interface.specs.judged.Varyings.{AreApart, BoundOK, ShowsAt, VaryingsOK, argument_varyings, argument_varyings_from, bounds, built_in_of, canonical, location_of, varying, varyings_of}
 use Rattle.spec_interface.specs.declared.varyings.Bound.{Bound}
 use Rattle.spec_interface.specs.declared.varyings.Bound.TheVariants.{BuiltIn as built_in, Location as at_location, BlendSources, Nothing, NoMember}
 use Rattle.spec_interface.specs.declared.varyings.Varying.{Varying}

@@ -9,11 +9,11 @@ use Rattle.ir_flags.specs.declared.settings.Capabilities.{Capabilities}
 use Rattle.ir_flags.specs.declared.settings.ValidationFlags.{ValidationFlags}
 use Rattle.ir_kinds.specs.declared.stages.ShaderStage.{ShaderStage}
 use Rattle.ir_kinds.specs.declared.stages.ShaderStage.TheVariants.{Vertex, Fragment, Compute, Mesh, Task, RayGeneration, AnyHit, ClosestHit, Miss}
-use Rattle.ir_types.specs.Plain.{PlainType}
-use Rattle.spec_interface.specs.BuiltIns.{AreRows, ExceptionOK, IsAhead}
-use Rattle.spec_interface.specs.Contexts.{VaryingContext}
-use Rattle.spec_interface.specs.Rows.{built_in_row}
-use Rattle.spec_interface.specs.Varyings.{BoundOK, VaryingsOK, mesh_varyings}
+use Rattle.ir_types.specs.judged.Plain.{PlainType}
+use Rattle.spec_interface.specs.judged.BuiltIns.{AreRows, ExceptionOK, IsAhead}
+use Rattle.spec_interface.specs.judged.Contexts.{VaryingContext}
+use Rattle.spec_interface.specs.judged.Rows.{built_in_row}
+use Rattle.spec_interface.specs.judged.Varyings.{BoundOK, VaryingsOK, mesh_varyings}
 use Rattle.spec_interface.specs.declared.rows.Exception.{Exception}
 use Rattle.spec_interface.specs.declared.rows.Exception.TheVariants as exception
 use Rattle.spec_interface.specs.declared.varyings.Bound.{Bound}

@@ -1,8 +1,8 @@
 -- The varying at a place, and those before it.
 use Rattle.std.proofs.Common.{◌≡◌, ◌⊎◌, inl, inr, ℕ, ◌+◌, ◌<◌, ◌≤◌, List, Option, Some, None, MatchOption, length, sym, ap, subst, ◌∙◌, slice_get, arith, rules}
 use Rattle.std.proofs.lemmas.Option.{slice_get_within}
-use Rattle.spec_interface.specs.Contexts.{VaryingContext}
-use Rattle.spec_interface.specs.Varyings.{AreApart, ShowsAt, VaryingsOK, built_in_of, location_of}
+use Rattle.spec_interface.specs.judged.Contexts.{VaryingContext}
+use Rattle.spec_interface.specs.judged.Varyings.{AreApart, ShowsAt, VaryingsOK, built_in_of, location_of}
 use Rattle.spec_interface.specs.declared.varyings.Bound.{Bound}
 use Rattle.spec_interface.specs.declared.varyings.Varying.{Varying}
 use Rattle.function_varyings.specs.Places.{IsFine, IsNew}

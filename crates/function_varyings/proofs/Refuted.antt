@@ -9,13 +9,13 @@ use Rattle.ir_kinds.specs.declared.scalars.ScalarKind.{ScalarKind}
 use Rattle.ir_kinds.specs.declared.scalars.ScalarKind.TheVariants.{Sint, Uint, Float}
 use Rattle.ir_kinds.specs.declared.stages.ShaderStage.{ShaderStage}
 use Rattle.ir_kinds.specs.declared.stages.ShaderStage.TheVariants.{Fragment}
-use Rattle.typing_layout.specs.Flags.{HasFlag, IoShareable}
-use Rattle.typing_layout.specs.View.{type_tree}
-use Rattle.spec_interface.specs.BuiltIns.{BuiltInOK, ExceptionOK, IsFree, RowOK}
-use Rattle.spec_interface.specs.Contexts.{VaryingContext}
-use Rattle.spec_interface.specs.Locations.{NeedsInterpolation, InterpolationOK, LocationOK, PrimitiveOK, counted, kind_of}
-use Rattle.spec_interface.specs.Rows.{built_in_row}
-use Rattle.spec_interface.specs.Varyings.{AreApart, BoundOK, VaryingsOK, built_in_of, canonical, location_of}
+use Rattle.typing_layout.specs.judged.Flags.{HasFlag, IoShareable}
+use Rattle.typing_layout.specs.judged.View.{type_tree}
+use Rattle.spec_interface.specs.judged.BuiltIns.{BuiltInOK, ExceptionOK, IsFree, RowOK}
+use Rattle.spec_interface.specs.judged.Contexts.{VaryingContext}
+use Rattle.spec_interface.specs.judged.Locations.{NeedsInterpolation, InterpolationOK, LocationOK, PrimitiveOK, counted, kind_of}
+use Rattle.spec_interface.specs.judged.Rows.{built_in_row}
+use Rattle.spec_interface.specs.judged.Varyings.{AreApart, BoundOK, VaryingsOK, built_in_of, canonical, location_of}
 use Rattle.spec_interface.specs.declared.rows.BuiltInRow.{BuiltInRow}
 use Rattle.spec_interface.specs.declared.rows.Exception.{Exception}
 use Rattle.spec_interface.specs.declared.rows.Exception.TheVariants.{NotAfterTasks, RowsOnly}
@@ -25,7 +25,7 @@ use Rattle.spec_interface.specs.declared.varyings.Direction.{Direction}
 use Rattle.spec_interface.specs.declared.varyings.Direction.TheVariants.{Input, Output, VertexOutput, PrimitiveOutput}
 use Rattle.spec_interface.specs.declared.varyings.Location.{Location}
 use Rattle.spec_interface.specs.declared.varyings.Varying.{Varying}
-use Rattle.typing_forms.specs.Forms.{form_of_type}
+use Rattle.typing_forms.specs.judged.Forms.{form_of_type}
 use Rattle.function_varying_checks.specs.Faults.{IsAstray, IsBlendFault, IsBuiltIn, IsBuiltInFault, IsLocationFault, IsMemberFault, IsUnboundFault, IsOwnFault, IsRepeated, Lies, Needs, ShowsBefore}
 use Rattle.function_varying_checks.specs.declared.error.VaryingError.{VaryingError}
 use Rattle.function_varying_checks.specs.declared.error.VaryingError.TheVariants as error

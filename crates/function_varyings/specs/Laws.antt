@@ -1,7 +1,7 @@
 -- What is known of the faults of varyings.
 use Rattle.std.specs.Prelude.{ℕ, List}
-use Rattle.spec_interface.specs.Contexts.{VaryingContext}
-use Rattle.spec_interface.specs.Varyings.{VaryingsOK}
+use Rattle.spec_interface.specs.judged.Contexts.{VaryingContext}
+use Rattle.spec_interface.specs.judged.Varyings.{VaryingsOK}
 use Rattle.spec_interface.specs.declared.varyings.Varying.{Varying}
 use Rattle.function_varying_checks.specs.Faults.{IsVaryingFault}
 use Rattle.function_varying_checks.specs.declared.error.VaryingError.{VaryingError}

@@ -9,8 +9,8 @@ use Rattle.ir_flags.specs.declared.settings.TheConstants.ValidationFlags.{BINDIN
 use Rattle.ir_kinds.specs.declared.bindings.BuiltIn.{BuiltIn}
 use Rattle.ir_kinds.specs.declared.bindings.BuiltIn.TheVariants.{PrimitiveIndex, Position, ViewIndex, BaseInstance, BaseVertex, ClipDistances, CullDistance, InstanceIndex, PointSize, VertexIndex, DrawIndex, FragDepth, PointCoord, FrontFacing, Barycentric, SampleIndex, SampleMask, GlobalInvocationId, LocalInvocationId, LocalInvocationIndex, WorkGroupId, WorkGroupSize, NumWorkGroups, NumSubgroups, SubgroupId, SubgroupSize, SubgroupInvocationId, MeshTaskSize, CullPrimitive, PointIndex, LineIndices, TriangleIndices, VertexCount, Vertices, PrimitiveCount, Primitives, RayInvocationId, NumRayInvocations, InstanceCustomData, GeometryIndex, WorldRayOrigin, WorldRayDirection, ObjectRayOrigin, ObjectRayDirection, RayTmin, RayTCurrentMax, ObjectToWorld, WorldToObject, HitKind}
 use Rattle.ir_sets.specs.Bits.{has_bit}
-use Rattle.ir_types.specs.Plain.{PlainType}
-use Rattle.spec_interface.specs.Varyings.{mesh_varyings}
+use Rattle.ir_types.specs.judged.Plain.{PlainType}
+use Rattle.spec_interface.specs.judged.Varyings.{mesh_varyings}
 use Rattle.spec_interface.specs.declared.varyings.Bound.{Bound}
 use Rattle.spec_interface.specs.declared.varyings.Bound.TheVariants.{BuiltIn as built_in, Location as at_location, BlendSources, Nothing, NoMember}
 use Rattle.spec_interface.specs.declared.varyings.Varying.{Varying}

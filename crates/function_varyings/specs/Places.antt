@@ -5,8 +5,8 @@ use Rattle.std.specs.BTreeSet.{BTreeSet, contains}
 use Rattle.ir_flags.specs.Sets.{Has}
 use Rattle.ir_flags.specs.declared.settings.TheConstants.ValidationFlags.{BINDINGS}
 use Rattle.ir_kinds.specs.declared.bindings.BuiltIn.{BuiltIn}
-use Rattle.spec_interface.specs.Contexts.{VaryingContext}
-use Rattle.spec_interface.specs.Varyings.{BoundOK, ShowsAt, built_in_of, canonical, location_of}
+use Rattle.spec_interface.specs.judged.Contexts.{VaryingContext}
+use Rattle.spec_interface.specs.judged.Varyings.{BoundOK, ShowsAt, built_in_of, canonical, location_of}
 use Rattle.spec_interface.specs.declared.varyings.Bound.{Bound}
 use Rattle.spec_interface.specs.declared.varyings.Varying.{Varying}
 use Rattle.function_varying_checks.specs.Faults.{IsBuiltIn, IsOwnFault, IsRepeated, ShowsBefore}

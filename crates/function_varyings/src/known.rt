@@ -3,9 +3,9 @@
 ghost use Rattle.std.specs.Prelude.{◌≡◌, ◌↔◌, ◌≤◌, IfOk, IfSome, IsTrue, List, MatchResult, None, OnOk, Some, [], map};
 ghost use Rattle.ir_flags.specs.declared.settings.Capabilities.{Capabilities};
 ghost use Rattle.ir_flags.specs.declared.settings.ValidationFlags.{ValidationFlags};
-ghost use Rattle.ir_items.specs.View.{argument_view};
-ghost use Rattle.ir_types.specs.Plain.{PlainType};
-ghost use Rattle.spec_interface.specs.Varyings.{VaryingsOK, argument_varyings, varyings_of};
+ghost use Rattle.ir_items.specs.found.View.{argument_view};
+ghost use Rattle.ir_types.specs.judged.Plain.{PlainType};
+ghost use Rattle.spec_interface.specs.judged.Varyings.{VaryingsOK, argument_varyings, varyings_of};
 ghost use Rattle.function_varying_checks.specs.Faults.{IsRefusal};
 ghost use Rattle.function_varying_checks.specs.View.{IsReported, context_view};
 ghost use Rattle.function_varyings.specs.Known.{AreKnown, AreKnownOf, AreNotedIn, IsNewlyGiven, IsNoted, IsShownBy, IsWayOf, digit, direction_number, number_of, stage_number};

@@ -9,9 +9,9 @@ ghost use Rattle.ir_flags.specs.Sets.{Has};
 ghost use Rattle.ir_flags.specs.declared.settings.ValidationFlags.{ValidationFlags};
 ghost use Rattle.ir_flags.specs.declared.settings.TheConstants.ValidationFlags.{BINDINGS};
 ghost use Rattle.ir_sets.specs.Bits.{has_bit};
-ghost use Rattle.ir_types.specs.Plain.{PlainType};
-ghost use Rattle.spec_interface.specs.Varyings.{mesh_varyings};
-ghost use Rattle.typing_forms.specs.Resolutions.{types_view};
+ghost use Rattle.ir_types.specs.judged.Plain.{PlainType};
+ghost use Rattle.spec_interface.specs.judged.Varyings.{mesh_varyings};
+ghost use Rattle.typing_forms.specs.judged.Resolutions.{types_view};
 ghost use Rattle.function_varyings.specs.Marks.{AreMarksOf, AreNewlyTaken, IsAmong, IsIn, IsNumber, IsPartOf, KeepsBits, KeepsNumbers, KeepsWords, Takes, TakesAt, built_in_number};
 
 use bitflags::Flags;

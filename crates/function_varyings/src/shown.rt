@@ -1,7 +1,7 @@
 //! What varyings show.
 
 ghost use Rattle.std.specs.Prelude.{◌≡◌, ◌↔◌, ◌≤◌, IsTrue, Some, length};
-ghost use Rattle.spec_interface.specs.Varyings.{HasBlendSources, HasBuiltIn, built_in_of, canonical, location_of};
+ghost use Rattle.spec_interface.specs.judged.Varyings.{HasBlendSources, HasBuiltIn, built_in_of, canonical, location_of};
 ghost use Rattle.spec_interface.specs.declared.varyings.Bound.TheVariants.{BlendSources};
 ghost use Rattle.function_varying_checks.specs.Faults.{ShowsBefore};
 

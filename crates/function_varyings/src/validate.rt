@@ -3,9 +3,9 @@
 ghost use Rattle.std.specs.Prelude.{◌≡◌, ◌<◌, ◌+◌, ◌↔◌, IfOk, IsTrue, MatchOption, MatchResult, length, map, min};
 ghost use Rattle.ir_flags.specs.Sets.{Has};
 ghost use Rattle.ir_flags.specs.declared.settings.TheConstants.ValidationFlags.{BINDINGS};
-ghost use Rattle.ir_items.specs.View.{argument_view};
-ghost use Rattle.spec_interface.specs.Locations.{LocationOK};
-ghost use Rattle.spec_interface.specs.Varyings.{BoundOK, VaryingsOK, argument_varyings, built_in_of, location_of, varyings_of};
+ghost use Rattle.ir_items.specs.found.View.{argument_view};
+ghost use Rattle.spec_interface.specs.judged.Locations.{LocationOK};
+ghost use Rattle.spec_interface.specs.judged.Varyings.{BoundOK, VaryingsOK, argument_varyings, built_in_of, location_of, varyings_of};
 ghost use Rattle.spec_interface.specs.declared.varyings.Bound.TheVariants.{BlendSources};
 ghost use Rattle.spec_interface.specs.declared.varyings.Direction.TheVariants.{Output};
 ghost use Rattle.function_varying_checks.specs.Faults.{IsBlendFault, IsLocationFault, IsMemberFault, IsOwnFault, IsRefusal, IsUnboundFault};

@@ -3,10 +3,10 @@ use Rattle.std.proofs.Common.{◌≡◌, ℕ, ◌+◌, ◌-◌, ◌<◌, List, [
 use Rattle.std.specs.Prelude.{unwrap_or, slice_range}
 use Rattle.std.proofs.lemmas.List.{take_all, take_more, map-append}
 use Rattle.std.proofs.lemmas.Option.{slice_get-get_or, same_Some}
-use Rattle.ir_arena.specs.Spans.{undefined_span}
-use Rattle.ir_arena.specs.Arenas.{value_of_entry, span_of_entry, value_at, span_at}
+use Rattle.ir_arena.specs.found.Spans.{undefined_span}
+use Rattle.ir_arena.specs.found.Arenas.{value_of_entry, span_of_entry, value_at, span_at}
 use Rattle.ir_arena.specs.declared.span.Span.{Span}
-use Rattle.ir_arena.specs.Copies.{entry_of}
+use Rattle.ir_arena.specs.found.Copies.{entry_of}
 
 module _ {A B : Type 0} (view : A → B) where
   values_of_entries : (entries : List (A × Span)) → map view (map value_of_entry entries) ≡ map (λ e. e.0) (map (entry_of view) entries)

@@ -6,7 +6,7 @@ use Rattle.std.proofs.lemmas.Bool.{cases_lt}
 use Rattle.std.proofs.lemmas.List.{drop_all, take-set-le, take_more_set, drop-set-lt, get_or-set_same}
 use Rattle.std.proofs.lemmas.List.Edits.{swap_is}
 use Rattle.ir_arena.specs.declared.span.Span.{Span}
-use Rattle.ir_arena.specs.Retains.{RetainsFrom}
+use Rattle.ir_arena.specs.found.Retains.{RetainsFrom}
 
 module _ {X : Type 0} (xs : List X) (y : X) where
   swapped : (kept place : ℕ) → kept ≤ place → place < length xs → swap (slice_set xs place y) kept place ≡ slice_set (slice_set (slice_set xs place y) kept (get_or (slice_set xs place y) place y)) place (get_or (slice_set xs place y) kept y)

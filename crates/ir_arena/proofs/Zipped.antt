@@ -8,10 +8,10 @@ use Rattle.std.specs.Prelude.{slice_set, slice_range, unwrap_or, position, nat_l
 use Rattle.std.specs.List.{zip, length_refill, enumerate_from, swap, position_or_len}
 use Rattle.std.specs.Cmp.Lexicographic.{pointwise}
 use Rattle.ir_arena.specs.declared.span.Span.{Span}
-use Rattle.ir_arena.specs.Spans.{undefined_span}
-use Rattle.ir_arena.specs.Equality.{same_span, same_entries}
-use Rattle.ir_arena.specs.Arenas.{value_of_entry, span_of_entry, value_at, span_at, with_value, with_values}
-use Rattle.ir_arena.specs.Handles.{handles_from}
+use Rattle.ir_arena.specs.found.Spans.{undefined_span}
+use Rattle.ir_arena.specs.found.Equality.{same_span, same_entries}
+use Rattle.ir_arena.specs.found.Arenas.{value_of_entry, span_of_entry, value_at, span_at, with_value, with_values}
+use Rattle.ir_arena.specs.judged.Handles.{handles_from}
 
 same_first : (a b c d : Bool) → (a && c) && (b && d) ≡ (a && b) && (c && d)
 same_first true true c d = refl

@@ -1,8 +1,2 @@
-pub mod Arenas
-pub mod Handles
-pub mod IterMut
-pub mod Lends
-pub mod Retains
-pub mod Spans
-pub mod Equality
-pub mod Copies
+pub mod judged
+pub mod found

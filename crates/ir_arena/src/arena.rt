@@ -3,12 +3,12 @@
 ghost use Rattle.std.specs.Prelude.{◌≡◌, ◌<◌, ◌≤◌, ◌++◌, ◌⊎◌, ◌↔◌, Some, false, [], ◌∷◌, length, map, slice_range, IsTrue, IsOk, IfOk, IfErr, IfSome, IfNone, OnOk, OnErr};
 ghost use Rattle.std.specs.Borrow.{sem};
 ghost use Rattle.std.specs.Fn.{FnReturnsAt, FnReturnsAtPair};
-ghost use Rattle.ir_arena.specs.Arenas.{value_of_entry, span_of_entry, value_at, span_at, has_equal, found_at, place_of, with_entry, IsFirstPassing, PassesNowhere};
-ghost use Rattle.ir_arena.specs.Copies.{entry_of};
-ghost use Rattle.ir_arena.specs.IterMut.{values_to_come, loan_name};
-ghost use Rattle.ir_arena.specs.Lends.{LendsValue, LendsValues, KeepsSpans};
-ghost use Rattle.ir_arena.specs.Retains.{KeepsAt, RetainsFrom};
-ghost use Rattle.ir_arena.specs.Handles.{handles_from, entries_from};
+ghost use Rattle.ir_arena.specs.found.Arenas.{value_of_entry, span_of_entry, value_at, span_at, has_equal, found_at, place_of, with_entry, IsFirstPassing, PassesNowhere};
+ghost use Rattle.ir_arena.specs.found.Copies.{entry_of};
+ghost use Rattle.ir_arena.specs.found.IterMut.{values_to_come, loan_name};
+ghost use Rattle.ir_arena.specs.found.Lends.{LendsValue, LendsValues, KeepsSpans};
+ghost use Rattle.ir_arena.specs.found.Retains.{KeepsAt, RetainsFrom};
+ghost use Rattle.ir_arena.specs.judged.Handles.{handles_from, entries_from};
 
 use crate::copied::Copied;
 use crate::drain::Drain;
@@ -52,7 +52,7 @@ impl<T, K> Model for Arena<T, K> {
 /// Two arenas are equal where they have as many values, and each is equal to the other's at its place and has the same
 /// span.
 impl<T: PartialEq, K> PartialEq for Arena<T, K> {
-    ghost use Rattle.ir_arena.specs.Equality.{same_entries, same_entries_per};
+    ghost use Rattle.ir_arena.specs.found.Equality.{same_entries, same_entries_per};
 
     ghost eq = { same_entries T.eq };
 
@@ -64,7 +64,7 @@ impl<T: PartialEq, K> PartialEq for Arena<T, K> {
 }
 
 impl<T: Eq, K> Eq for Arena<T, K> {
-    ghost use Rattle.ir_arena.specs.Equality.{same_entries_equiv};
+    ghost use Rattle.ir_arena.specs.found.Equality.{same_entries_equiv};
 
     ghost laws = { same_entries_equiv T.Eq.laws };
 }

@@ -1,7 +1,7 @@
 //! Taking the values out of an arena.
 
 ghost use Rattle.std.specs.Prelude.{◌≡◌, ◌≤◌, length};
-ghost use Rattle.ir_arena.specs.Handles.{entries_from};
+ghost use Rattle.ir_arena.specs.judged.Handles.{entries_from};
 
 use crate::handle::Handle;
 use crate::span::Span;
@@ -27,7 +27,7 @@ impl<T, K> Model for Drain<T, K> {
     ghost use Rattle.std.specs.List.{zip};
     ghost use Rattle.std.specs.Vec.Iter.{into_iter_items};
     ghost use Rattle.ir_arena.specs.declared.span.Span.{Span};
-    ghost use Rattle.ir_arena.specs.Handles.{entries_from};
+    ghost use Rattle.ir_arena.specs.judged.Handles.{entries_from};
 
     ghost Value = { List (ℕ × T × Span) };
 

@@ -42,7 +42,7 @@ impl<'a, T, K> Iter<'a, T, K> {
 
 impl<'a, T, K> Iterator for Iter<'a, T, K> {
     ghost use Rattle.std.specs.Iterator.{YieldsFirstBy, item_count};
-    ghost use Rattle.ir_arena.specs.Handles.{handle_with_value};
+    ghost use Rattle.ir_arena.specs.judged.Handles.{handle_with_value};
 
     type Item = (Handle<K>, &'a T);
 

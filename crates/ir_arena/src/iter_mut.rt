@@ -18,7 +18,7 @@ pub struct IterMut<'a, T, K> {
 
 impl<'a, T, K> IterMut<'a, T, K> {
     ghost use Rattle.std.specs.List.{enumerate_from};
-    ghost use Rattle.ir_arena.specs.IterMut.{values_to_come, loan_name};
+    ghost use Rattle.ir_arena.specs.found.IterMut.{values_to_come, loan_name};
 
     /// An iterator over `values`, whose first has the handle 0.
     pub fn new(values: &'a mut [T]) -> Self
@@ -36,7 +36,7 @@ impl<'a, T, K> IterMut<'a, T, K> {
 
 impl<'a, T, K> Iterator for IterMut<'a, T, K> {
     ghost use Rattle.std.specs.Iterator.{YieldsFirstBy, item_count};
-    ghost use Rattle.ir_arena.specs.IterMut.{values_to_come, handle_with_value_to_change};
+    ghost use Rattle.ir_arena.specs.found.IterMut.{values_to_come, handle_with_value_to_change};
 
     type Item = (Handle<K>, &'a mut T);
 

@@ -2,7 +2,7 @@
 
 ghost use Rattle.std.specs.Prelude.{◌≡◌, ◌==◌};
 ghost use Rattle.std.specs.Ordering.{nat_cmp};
-ghost use Rattle.ir_arena.specs.Spans.{joined_span, undefined_span};
+ghost use Rattle.ir_arena.specs.found.Spans.{joined_span, undefined_span};
 
 use crate::handle::{Handle, NonMaxU32};
 use crate::span::Span;

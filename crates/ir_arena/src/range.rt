@@ -90,7 +90,7 @@ impl<T> Range<T> {
 
 impl<T> Iterator for Range<T> {
     ghost use Rattle.std.specs.Iterator.{YieldsFirst, item_count};
-    ghost use Rattle.ir_arena.specs.Handles.{handles_between};
+    ghost use Rattle.ir_arena.specs.judged.Handles.{handles_between};
 
     type Item = Handle<T>;
 

@@ -2,7 +2,7 @@
 
 ghost use Rattle.std.specs.Prelude.{◌≡◌, ◌↔◌, IsTrue, IsSome, IfSome};
 ghost use Rattle.std.specs.Iterator.{IsFinite, Drains};
-ghost use Rattle.ir_arena.specs.Spans.{span_from, span_until, is_defined_span, joined_span, total_span};
+ghost use Rattle.ir_arena.specs.found.Spans.{span_from, span_until, is_defined_span, joined_span, total_span};
 
 use std::ops::Range;
 
@@ -84,7 +84,7 @@ impl Span {
 }
 
 impl Default for Span {
-    ghost use Rattle.ir_arena.specs.Spans.{undefined_span};
+    ghost use Rattle.ir_arena.specs.found.Spans.{undefined_span};
 
     ghost is_default = { λ s. s ≡ undefined_span };
 

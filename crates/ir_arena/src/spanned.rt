@@ -3,8 +3,8 @@
 ghost use Rattle.std.specs.Prelude.{◌≡◌, ◌<◌, ◌++◌, [], ◌∷◌, Some, length, map, position, take, IfOk, IfSome, OnOk, OnErr};
 ghost use Rattle.std.specs.Borrow.{sem};
 ghost use Rattle.std.specs.List.{swap, zip};
-ghost use Rattle.ir_arena.specs.Arenas.{value_of_entry, span_of_entry, value_at, span_at, found_at, with_value};
-ghost use Rattle.ir_arena.specs.Lends.{LendsOne, LendsAll};
+ghost use Rattle.ir_arena.specs.found.Arenas.{value_of_entry, span_of_entry, value_at, span_at, found_at, with_value};
+ghost use Rattle.ir_arena.specs.found.Lends.{LendsOne, LendsAll};
 
 use crate::span::Span;
 use std::alloc::{AllocError, Global};
@@ -32,7 +32,7 @@ impl<T> Model for Spanned<T> {
 }
 
 impl<T: PartialEq> PartialEq for Spanned<T> {
-    ghost use Rattle.ir_arena.specs.Equality.{same_entries, same_entries_per};
+    ghost use Rattle.ir_arena.specs.found.Equality.{same_entries, same_entries_per};
 
     ghost eq = { same_entries T.eq };
 

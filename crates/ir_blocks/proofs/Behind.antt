@@ -1,9 +1,9 @@
 -- What is put after a list, seen through a view.
 use Rattle.std.proofs.Common.{◌≡◌, List, [], ◌∷◌, ◌++◌, map, Result, Ok, Err, OnOk, None, rules, ap, ◌∙◌}
 use Rattle.std.proofs.lemmas.List.{map-append}
-use Rattle.ir_blocks.specs.Plain.{return}
-use Rattle.ir_blocks.specs.Spans.{no_block}
-use Rattle.ir_blocks.specs.View.{statement_view, statement_spans}
+use Rattle.ir_blocks.specs.judged.Plain.{return}
+use Rattle.ir_blocks.specs.found.Spans.{no_block}
+use Rattle.ir_blocks.specs.found.View.{statement_view, statement_spans}
 use Rattle.ir_blocks.specs.declared.statements.Statement.{the_lemmas}
 use Rattle.ir_blocks.specs.declared.statements.Statement.TheVariants.{Return}
 

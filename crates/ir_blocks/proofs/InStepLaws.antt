@@ -1,12 +1,12 @@
 -- The spans of a block are in step with it at every depth.
 use Rattle.std.proofs.Common.{◌≡◌, ℕ, zero, suc, List, [], ◌∷◌, Option, Some, refl, sym, subst, map, length}
 use Rattle.ir_arena.specs.declared.span.Span.{Span}
-use Rattle.ir_blocks.specs.Plain.{PlainStatement, PlainBlock, stop}
-use Rattle.ir_blocks.specs.Shapes.{shape_of, Part, inner, accepting, rejecting, case_at, loop_body, loop_continuing, case_body, part_of}
-use Rattle.ir_blocks.specs.Places.{Place, here, later, inside, condition, OccursAt}
-use Rattle.ir_blocks.specs.Spans.{BlockSpans, spans, StatementSpans, no_spans, tail_of, case_spans, spans_in, span_at, InStep}
-use Rattle.ir_blocks.specs.Padded.{first_kept, padded}
-use Rattle.ir_blocks.specs.View.{block_of, within_of, cases_of, case_spans_of, PlainCase, statement_step, block_step, case_step, statement_spans_step, block_spans_step, case_spans_step, spans_over, statement_view, block_view, case_view, statement_spans, block_spans, case_block_spans, statements_of, spans_of, AlwaysInStep}
+use Rattle.ir_blocks.specs.judged.Plain.{PlainStatement, PlainBlock, stop}
+use Rattle.ir_blocks.specs.judged.Shapes.{shape_of, Part, inner, accepting, rejecting, case_at, loop_body, loop_continuing, case_body, part_of}
+use Rattle.ir_blocks.specs.judged.Places.{Place, here, later, inside, condition, OccursAt}
+use Rattle.ir_blocks.specs.found.Spans.{BlockSpans, spans, StatementSpans, no_spans, tail_of, case_spans, spans_in, span_at, InStep}
+use Rattle.ir_blocks.specs.found.Padded.{first_kept, padded}
+use Rattle.ir_blocks.specs.found.View.{block_of, within_of, cases_of, case_spans_of, PlainCase, statement_step, block_step, case_step, statement_spans_step, block_spans_step, case_spans_step, spans_over, statement_view, block_view, case_view, statement_spans, block_spans, case_block_spans, statements_of, spans_of, AlwaysInStep}
 use Rattle.ir_blocks.specs.declared.statements.Statement.{Statement}
 use Rattle.ir_blocks.specs.declared.statements.Statement.TheOpen.{Statement-F, Block-F, SwitchCase-F}
 use Rattle.ir_blocks.specs.declared.statements.Statement.TheFolds.{map-Statement, fold-roll-Statement, fold-roll-SwitchCase, ind-Block}

@@ -4,10 +4,10 @@ use Rattle.std.specs.Prelude.{Decides}
 use Rattle.std.specs.Cmp.Lexicographic.{pointwise_decides}
 use Rattle.std.proofs.lemmas.Bool.{and_parts, and_from, eqb-true, eq-eqb}
 use Rattle.ir_arena.specs.declared.span.Span.{Span}
-use Rattle.ir_arena.specs.Spans.{undefined_span, span_from, is_defined_span}
-use Rattle.ir_arena.specs.Equality.{same_span}
-use Rattle.ir_blocks.specs.Padded.{first_kept, padded, before_defined, up_to_defined, same_kept, KeptEquality}
-use Rattle.ir_blocks.specs.Spans.{tail_of}
+use Rattle.ir_arena.specs.found.Spans.{undefined_span, span_from, is_defined_span}
+use Rattle.ir_arena.specs.found.Equality.{same_span}
+use Rattle.ir_blocks.specs.found.Padded.{first_kept, padded, before_defined, up_to_defined, same_kept, KeptEquality}
+use Rattle.ir_blocks.specs.found.Spans.{tail_of}
 use Rattle.ir_blocks.proofs.PaddedLemmas.{undefined_is}
 
 same_span_decides : (x y : Span) → Decides (same_span x y) (x ≡ y)

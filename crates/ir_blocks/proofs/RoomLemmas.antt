@@ -5,13 +5,13 @@ use Rattle.std.specs.declared.alloc.Global.{Global}
 use Rattle.std.proofs.lemmas.List.{map-append, take_all}
 use Rattle.std.proofs.Math.ListN.{set}
 use Rattle.ir_arena.specs.declared.span.Span.{Span}
-use Rattle.ir_blocks.specs.Plain.{PlainStatement, emit, block, if_, switch, loop, break, continue, return, kill, operation, call, case}
-use Rattle.ir_blocks.specs.Shapes.{shape_of}
-use Rattle.ir_blocks.specs.Spans.{StatementSpans, in_case}
-use Rattle.ir_blocks.specs.Tails.{goes_on, finished, finished_case, finished_cases}
-use Rattle.ir_blocks.specs.TailSpans.{finished_spans, finished_case_body, finished_case_spans}
-use Rattle.ir_blocks.specs.Room.{EndRoom, end_room, has_spare, own_room, statement_room, block_room, case_room, each_room, HasOwnRoom, HasRoom, HasRoomWithin, HasRoomInCase, HasRoomInCases}
-use Rattle.ir_blocks.specs.View.{spans_over, cases_of, case_spans_of, case_view, case_block_spans, statement_view, block_view, statements_view, statement_spans, block_spans, statements_of}
+use Rattle.ir_blocks.specs.judged.Plain.{PlainStatement, emit, block, if_, switch, loop, break, continue, return, kill, operation, call, case}
+use Rattle.ir_blocks.specs.judged.Shapes.{shape_of}
+use Rattle.ir_blocks.specs.found.Spans.{StatementSpans, in_case}
+use Rattle.ir_blocks.specs.judged.Tails.{goes_on, finished, finished_case, finished_cases}
+use Rattle.ir_blocks.specs.found.TailSpans.{finished_spans, finished_case_body, finished_case_spans}
+use Rattle.ir_blocks.specs.found.Room.{EndRoom, end_room, has_spare, own_room, statement_room, block_room, case_room, each_room, HasOwnRoom, HasRoom, HasRoomWithin, HasRoomInCase, HasRoomInCases}
+use Rattle.ir_blocks.specs.found.View.{spans_over, cases_of, case_spans_of, case_view, case_block_spans, statement_view, block_view, statements_view, statement_spans, block_spans, statements_of}
 use Rattle.ir_blocks.specs.declared.statements.Statement.{Statement, the_lemmas}
 use Rattle.ir_blocks.specs.declared.statements.Statement.TheViews.{roll-Block}
 use Rattle.ir_blocks.specs.declared.statements.Block.{Block}

@@ -2,13 +2,13 @@
 use Rattle.std.proofs.Common.{◌≡◌, List, [], ◌∷◌, ◌++◌, map, take, length, Bool, true, false, refl, sym, ap, ◌∙◌, rules}
 use Rattle.std.proofs.lemmas.List.{map-append, length-map, append-nil, append_assoc}
 use Rattle.ir_arena.specs.declared.span.Span.{Span}
-use Rattle.ir_arena.specs.Spans.{undefined_span}
-use Rattle.ir_blocks.specs.Shapes.{shape_of}
-use Rattle.ir_blocks.specs.Spans.{BlockSpans, spans, InnerSpans, in_next, StatementSpans, no_block, tail_of}
-use Rattle.ir_blocks.specs.Padded.{padded}
-use Rattle.ir_blocks.specs.Tails.{goes_on}
-use Rattle.ir_blocks.specs.TailSpans.{ending_span, ending_within, with_first, completed_spans, finished_spans}
-use Rattle.ir_blocks.specs.View.{block_of, within_of, spans_over, statement_view, block_view, statement_spans, block_spans, statements_of, spans_of}
+use Rattle.ir_arena.specs.found.Spans.{undefined_span}
+use Rattle.ir_blocks.specs.judged.Shapes.{shape_of}
+use Rattle.ir_blocks.specs.found.Spans.{BlockSpans, spans, InnerSpans, in_next, StatementSpans, no_block, tail_of}
+use Rattle.ir_blocks.specs.found.Padded.{padded}
+use Rattle.ir_blocks.specs.judged.Tails.{goes_on}
+use Rattle.ir_blocks.specs.found.TailSpans.{ending_span, ending_within, with_first, completed_spans, finished_spans}
+use Rattle.ir_blocks.specs.found.View.{block_of, within_of, spans_over, statement_view, block_view, statement_spans, block_spans, statements_of, spans_of}
 use Rattle.ir_blocks.specs.declared.statements.Statement.{Statement, the_lemmas}
 use Rattle.ir_blocks.specs.declared.statements.Block.{Block, out-Block}
 use Rattle.ir_blocks.proofs.TerminatorLemmas.{block_view-statements}

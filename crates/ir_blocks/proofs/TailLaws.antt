@@ -1,9 +1,9 @@
 -- The completed body has a return at each open end of a tail block, and is else what it was.
 use Rattle.std.proofs.Common.{◌≡◌, ◌⊎◌, inl, inr, ℕ, zero, suc, Bool, true, false, None, refl, sym, ap, subst, ◌∙◌}
-use Rattle.ir_blocks.specs.Plain.{PlainStatement, emit, block, if_, switch, loop, break, continue, return, kill, operation, call, PlainBlock, stop, next, PlainCases, no_case, case}
-use Rattle.ir_blocks.specs.Shapes.{shape_of, Part, inner, accepting, rejecting, case_at, case_body, part_of}
-use Rattle.ir_blocks.specs.Places.{Place, here, later, inside, condition, spot_at, OccursAt}
-use Rattle.ir_blocks.specs.Tails.{Ends, IsTailPart, goes_on, IsOpenEnd, empty, after_last, further, in_tail, case_heads, head_of, IsCompleted, ending, completed, finished, finished_cases}
+use Rattle.ir_blocks.specs.judged.Plain.{PlainStatement, emit, block, if_, switch, loop, break, continue, return, kill, operation, call, PlainBlock, stop, next, PlainCases, no_case, case}
+use Rattle.ir_blocks.specs.judged.Shapes.{shape_of, Part, inner, accepting, rejecting, case_at, case_body, part_of}
+use Rattle.ir_blocks.specs.judged.Places.{Place, here, later, inside, condition, spot_at, OccursAt}
+use Rattle.ir_blocks.specs.judged.Tails.{Ends, IsTailPart, goes_on, IsOpenEnd, empty, after_last, further, in_tail, case_heads, head_of, IsCompleted, ending, completed, finished, finished_cases}
 
 -- ---- parts of a finished statement
 

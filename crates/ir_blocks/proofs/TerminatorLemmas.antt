@@ -1,10 +1,10 @@
 -- The completed body, as the code makes it.
 use Rattle.std.proofs.Common.{◌≡◌, List, [], ◌∷◌, ◌++◌, map, true, false, None, sym, ap, ◌∙◌, rules}
 use Rattle.std.proofs.lemmas.List.{map-append}
-use Rattle.ir_blocks.specs.Plain.{PlainStatement, return, next}
-use Rattle.ir_blocks.specs.Shapes.{shape_of}
-use Rattle.ir_blocks.specs.Tails.{goes_on, ending, completed, finished}
-use Rattle.ir_blocks.specs.View.{block_of, statement_view, block_view, statements_view, statements_of}
+use Rattle.ir_blocks.specs.judged.Plain.{PlainStatement, return, next}
+use Rattle.ir_blocks.specs.judged.Shapes.{shape_of}
+use Rattle.ir_blocks.specs.judged.Tails.{goes_on, ending, completed, finished}
+use Rattle.ir_blocks.specs.found.View.{block_of, statement_view, block_view, statements_view, statements_of}
 use Rattle.ir_blocks.specs.declared.statements.Statement.{Statement, the_lemmas}
 use Rattle.ir_blocks.specs.declared.statements.Block.{Block}
 

@@ -1,12 +1,2 @@
-pub mod Plain
-pub mod Shapes
-pub mod Places
-pub mod Spans
-pub mod Padded
-pub mod View
-pub mod Tails
-pub mod TailSpans
-pub mod Control
-pub mod SpanIters
-pub mod Lends
-pub mod Room
+pub mod judged
+pub mod found

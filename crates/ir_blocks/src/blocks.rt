@@ -2,12 +2,12 @@
 ghost use Rattle.std.specs.Prelude.{◌≡◌, ◌≤◌, ◌==◌, ◌++◌, ◌∷◌, [], length, map, replicate, IsOk, IfOk, IfSome, OnOk, OnErr, option_to_list};
 ghost use Rattle.std.specs.List.{remove_range, splice, zip};
 ghost use Rattle.std.specs.Range.Bound.{start_index, end_index};
-ghost use Rattle.ir_arena.specs.Spans.{undefined_span};
+ghost use Rattle.ir_arena.specs.found.Spans.{undefined_span};
 ghost use Rattle.std.specs.Borrow.{sem};
-ghost use Rattle.ir_blocks.specs.Lends.{LendsStatements};
-ghost use Rattle.ir_blocks.specs.Room.{HasOwnRoom};
-ghost use Rattle.ir_blocks.specs.SpanIters.{pairs_to_come};
-ghost use Rattle.ir_blocks.specs.View.{statements_of, spans_of, room_for_statements};
+ghost use Rattle.ir_blocks.specs.found.Lends.{LendsStatements};
+ghost use Rattle.ir_blocks.specs.found.Room.{HasOwnRoom};
+ghost use Rattle.ir_blocks.specs.found.SpanIters.{pairs_to_come};
+ghost use Rattle.ir_blocks.specs.found.View.{statements_of, spans_of, room_for_statements};
 
 use crate::kept::KeptSpans;
 use crate::runs::{cut, move_after, put_in};
@@ -20,8 +20,8 @@ use std::slice;
 
 impl From<Vec<Statement>> for Block {
     ghost use Rattle.std.specs.Prelude.{◌≡◌, length, replicate};
-    ghost use Rattle.ir_arena.specs.Spans.{undefined_span};
-    ghost use Rattle.ir_blocks.specs.View.{statements_of, spans_of};
+    ghost use Rattle.ir_arena.specs.found.Spans.{undefined_span};
+    ghost use Rattle.ir_blocks.specs.found.View.{statements_of, spans_of};
 
     ghost from_gives = { λ body block. (statements_of block ≡ body.items) × (spans_of block ≡ replicate (length body.items) undefined_span) };
 

@@ -1,8 +1,8 @@
 // Spans of a block's statements, which are kept only where one is defined.
 ghost use Rattle.std.specs.Prelude.{◌≡◌, ◌≤◌, ◌+◌, ◌-◌, ◌++◌, ◌∷◌, [], length, take, IsOk, IfOk, OnOk, OnErr};
 ghost use Rattle.std.specs.List.{remove_range, splice};
-ghost use Rattle.ir_arena.specs.Spans.{undefined_span};
-ghost use Rattle.ir_blocks.specs.Padded.{padded, up_to_defined};
+ghost use Rattle.ir_arena.specs.found.Spans.{undefined_span};
+ghost use Rattle.ir_blocks.specs.found.Padded.{padded, up_to_defined};
 
 use crate::runs::{cut, put_in};
 use ir_arena::span::Span;
@@ -20,7 +20,7 @@ pub(crate) struct KeptSpans {
 impl Model for KeptSpans {
     ghost use Rattle.std.specs.Prelude.{List};
     ghost use Rattle.ir_arena.specs.declared.span.Span.{Span};
-    ghost use Rattle.ir_blocks.specs.Padded.{listed_spans};
+    ghost use Rattle.ir_blocks.specs.found.Padded.{listed_spans};
 
     ghost Value = { List Span };
 
@@ -29,7 +29,7 @@ impl Model for KeptSpans {
 
 /// Two are equal where they are so up to the last span that is defined.
 impl PartialEq for KeptSpans {
-    ghost use Rattle.ir_blocks.specs.Padded.{same_kept, same_kept_per};
+    ghost use Rattle.ir_blocks.specs.found.Padded.{same_kept, same_kept_per};
 
     ghost eq = { same_kept };
 

@@ -1,9 +1,9 @@
 // Laws of the items.
 ghost use Rattle.std.specs.Prelude.{◌≡◌};
-ghost use Rattle.ir_blocks.specs.Padded.{KeptEquality};
-ghost use Rattle.ir_blocks.specs.Tails.{CompletedByTails, CompletedOnce, OneCompleted};
-ghost use Rattle.ir_blocks.specs.TailSpans.{SpansCompletedByTails};
-ghost use Rattle.ir_blocks.specs.View.{AlwaysInStep};
+ghost use Rattle.ir_blocks.specs.found.Padded.{KeptEquality};
+ghost use Rattle.ir_blocks.specs.judged.Tails.{CompletedByTails, CompletedOnce, OneCompleted};
+ghost use Rattle.ir_blocks.specs.found.TailSpans.{SpansCompletedByTails};
+ghost use Rattle.ir_blocks.specs.found.View.{AlwaysInStep};
 
 /// The completed body has a return at each open end of a tail block, keeps every statement in its place, and has no
 /// other.

@@ -1,12 +1,12 @@
 // Returns at the ends of what a function does (naga's `proc::terminator`).
 ghost use Rattle.std.specs.Prelude.{◌≡◌, ◌++◌, ◌∷◌, [], None, map, IsOk, OnOk, OnErr};
-ghost use Rattle.ir_blocks.specs.Plain.{return};
-ghost use Rattle.ir_blocks.specs.Spans.{no_block};
-ghost use Rattle.ir_arena.specs.Spans.{undefined_span};
-ghost use Rattle.ir_blocks.specs.Room.{HasOwnRoom, HasRoom, HasRoomWithin, HasRoomInCase, HasRoomInCases};
-ghost use Rattle.ir_blocks.specs.Tails.{IsCompleted, completed, finished, finished_cases, finished_case};
-ghost use Rattle.ir_blocks.specs.TailSpans.{SpansCompleted, completed_spans, finished_spans, finished_case_spans, finished_case_body};
-ghost use Rattle.ir_blocks.specs.View.{statement_view, block_view, case_view, cases_of, statement_spans, block_spans, case_block_spans, case_spans_of, statements_of, spans_of};
+ghost use Rattle.ir_blocks.specs.judged.Plain.{return};
+ghost use Rattle.ir_blocks.specs.found.Spans.{no_block};
+ghost use Rattle.ir_arena.specs.found.Spans.{undefined_span};
+ghost use Rattle.ir_blocks.specs.found.Room.{HasOwnRoom, HasRoom, HasRoomWithin, HasRoomInCase, HasRoomInCases};
+ghost use Rattle.ir_blocks.specs.judged.Tails.{IsCompleted, completed, finished, finished_cases, finished_case};
+ghost use Rattle.ir_blocks.specs.found.TailSpans.{SpansCompleted, completed_spans, finished_spans, finished_case_spans, finished_case_body};
+ghost use Rattle.ir_blocks.specs.found.View.{statement_view, block_view, case_view, cases_of, statement_spans, block_spans, case_block_spans, case_spans_of, statements_of, spans_of};
 
 use crate::plain_operation;
 use crate::statements::{Block, Statement, SwitchCase};

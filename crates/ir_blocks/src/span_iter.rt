@@ -1,9 +1,9 @@
 // Going over the statements of a block with their spans.
 ghost use Rattle.std.specs.Prelude.{◌≡◌, length};
 ghost use Rattle.std.specs.List.{zip};
-ghost use Rattle.ir_blocks.specs.Padded.{first_kept, padded};
-ghost use Rattle.ir_blocks.specs.Spans.{tail_of};
-ghost use Rattle.ir_blocks.specs.SpanIters.{pairs_to_come};
+ghost use Rattle.ir_blocks.specs.found.Padded.{first_kept, padded};
+ghost use Rattle.ir_blocks.specs.found.Spans.{tail_of};
+ghost use Rattle.ir_blocks.specs.found.SpanIters.{pairs_to_come};
 
 use crate::statements::Statement;
 use ir_arena::span::Span;
@@ -24,7 +24,7 @@ pub struct SpanIter<'a> {
 impl<'a> Model for SpanIter<'a> {
     ghost use Rattle.std.specs.Prelude.{List, length};
     ghost use Rattle.std.specs.List.{zip};
-    ghost use Rattle.ir_blocks.specs.Padded.{padded};
+    ghost use Rattle.ir_blocks.specs.found.Padded.{padded};
     ghost use Rattle.ir_arena.specs.declared.span.Span.{Span};
     ghost use Rattle.ir_blocks.specs.declared.statements.Statement.{Statement};
     ghost use Rattle.ir_blocks.specs.contracts.statements.Statement as e;
@@ -59,7 +59,7 @@ fn first_kept(spans: &[Span]) -> (&Span, &[Span])
 
 impl<'a> Iterator for SpanIter<'a> {
     ghost use Rattle.std.specs.Iterator.{YieldsFirstBy, item_count};
-    ghost use Rattle.ir_blocks.specs.SpanIters.{with_span};
+    ghost use Rattle.ir_blocks.specs.found.SpanIters.{with_span};
 
     type Item = (&'a Statement, &'a Span);
 
@@ -97,7 +97,7 @@ impl<'a> SpanIterMut<'a> {
 
 impl<'a> Iterator for SpanIterMut<'a> {
     ghost use Rattle.std.specs.Iterator.{YieldsFirstBy, item_count};
-    ghost use Rattle.ir_blocks.specs.SpanIters.{pairs_to_come, with_span_to_change};
+    ghost use Rattle.ir_blocks.specs.found.SpanIters.{pairs_to_come, with_span_to_change};
 
     type Item = (&'a mut Statement, &'a mut Span);
 
@@ -123,7 +123,7 @@ pub struct SpanIntoIter {
 impl Model for SpanIntoIter {
     ghost use Rattle.std.specs.Prelude.{List, length};
     ghost use Rattle.std.specs.List.{zip};
-    ghost use Rattle.ir_blocks.specs.Padded.{padded};
+    ghost use Rattle.ir_blocks.specs.found.Padded.{padded};
     ghost use Rattle.std.specs.Vec.Iter.{into_iter_items};
     ghost use Rattle.ir_arena.specs.declared.span.Span.{Span};
     ghost use Rattle.ir_blocks.specs.declared.statements.Statement.{Statement};

@@ -1,7 +1,7 @@
 // Statements and the blocks that hold them.
 ghost use Rattle.std.specs.Prelude.{◌≡◌, map, IfOk};
-ghost use Rattle.ir_blocks.specs.View.{statement_view, block_view, case_view, statement_spans, block_spans, case_block_spans, HoldsNoBlock, IsAct, IsSharedAct};
-ghost use Rattle.ir_blocks.specs.Spans.{no_block};
+ghost use Rattle.ir_blocks.specs.found.View.{statement_view, block_view, case_view, statement_spans, block_spans, case_block_spans, HoldsNoBlock, IsAct, IsSharedAct};
+ghost use Rattle.ir_blocks.specs.found.Spans.{no_block};
 
 use crate::kept::KeptSpans;
 use crate::operations::{AtomicFunction, GatherMode, RayPipelineFunction, RayQueryFunction};

@@ -1,8 +1,8 @@
 // Where control goes on by itself.
 ghost use Rattle.std.specs.Prelude.{◌≡◌};
-ghost use Rattle.ir_blocks.specs.Shapes.{shape_of};
-ghost use Rattle.ir_blocks.specs.Tails.{goes_on};
-ghost use Rattle.ir_blocks.specs.View.{statement_view};
+ghost use Rattle.ir_blocks.specs.judged.Shapes.{shape_of};
+ghost use Rattle.ir_blocks.specs.judged.Tails.{goes_on};
+ghost use Rattle.ir_blocks.specs.found.View.{statement_view};
 
 use crate::plain_operation;
 use crate::statements::Statement;

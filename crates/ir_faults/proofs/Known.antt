@@ -3,7 +3,7 @@ use Rattle.std.proofs.Common.{◌≡◌, ◌<◌, ℕ, zero, suc, true, List, []
 use Rattle.std.proofs.lemmas.List.{length-map}
 use Rattle.std.specs.List.{AllPass}
 use Rattle.ir_arena.specs.declared.span.Span.{Span}
-use Rattle.ir_arena.specs.Spans.{is_defined_span}
+use Rattle.ir_arena.specs.found.Spans.{is_defined_span}
 use Rattle.ir_faults.specs.Faults.{context_of}
 
 span_got : (xs : List (Span × String Global)) (k : ℕ) (d : Span × String Global) → (slice_index_or xs k d).0 ≡ (slice_index_or (map context_of xs) k (context_of d)).0

@@ -3,7 +3,7 @@ use Rattle.std.specs.Prelude.{◌≡◌, ℕ, List, [], ◌∷◌, ◌++◌, map
 use Rattle.std.specs.declared.string.String.{String}
 use Rattle.std.specs.declared.alloc.Global.{Global}
 use Rattle.ir_arena.specs.declared.span.Span.{Span}
-use Rattle.ir_arena.specs.Spans.{is_defined_span}
+use Rattle.ir_arena.specs.found.Spans.{is_defined_span}
 use Rattle.ir_faults.specs.declared.with_span.WithSpan.{WithSpan}
 
 -- a span with the bytes of its description

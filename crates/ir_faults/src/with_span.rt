@@ -3,7 +3,7 @@
 ghost use Rattle.std.specs.Prelude.{◌≡◌, ◌++◌, [], map, string_bytes, IsTrue, IsOk, IfOk, IfErr, OnErr};
 ghost use Rattle.std.specs.List.{AllPass};
 ghost use Rattle.std.specs.Slice.Iter.{iter_rest};
-ghost use Rattle.ir_arena.specs.Spans.{is_defined_span};
+ghost use Rattle.ir_arena.specs.found.Spans.{is_defined_span};
 
 use crate::contexts::copy_contexts;
 use ir_arena::span::Span;

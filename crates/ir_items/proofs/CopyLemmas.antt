@@ -1,12 +1,12 @@
 -- Functions and modules are copied part by part.
 use Rattle.std.proofs.Common.{◌≡◌, List, [], ◌∷◌, map, option_map, string_bytes, refl, sym, ap, ◌∙◌}
-use Rattle.ir_types.specs.ExpressionPlain.{expression_view}
-use Rattle.ir_types.specs.Plain.{type_view}
-use Rattle.ir_blocks.specs.View.{block_view, block_spans}
-use Rattle.ir_items.specs.GlobalView.{values_of, special_view, constant_view, override_view, global_view, node_view}
-use Rattle.ir_items.specs.View.{argument_view, local_view, function_view, entry_view}
-use Rattle.ir_arena.specs.Copies.{entry_of}
-use Rattle.ir_items.specs.Copies.{SpannedFunction, spanned_function, SpannedEntry, spanned_entry, spanned_module}
+use Rattle.ir_types.specs.judged.ExpressionPlain.{expression_view}
+use Rattle.ir_types.specs.judged.Plain.{type_view}
+use Rattle.ir_blocks.specs.found.View.{block_view, block_spans}
+use Rattle.ir_items.specs.found.GlobalView.{values_of, special_view, constant_view, override_view, global_view, node_view}
+use Rattle.ir_items.specs.found.View.{argument_view, local_view, function_view, entry_view}
+use Rattle.ir_arena.specs.found.Copies.{entry_of}
+use Rattle.ir_items.specs.found.Copies.{SpannedFunction, spanned_function, SpannedEntry, spanned_entry, spanned_module}
 use Rattle.ir_items.specs.declared.entries.EntryPoint.{EntryPoint}
 use Rattle.ir_items.specs.declared.module.Module.{Module}
 use Rattle.ir_items.specs.declared.functions.Function.{Function}

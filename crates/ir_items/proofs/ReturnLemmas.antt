@@ -3,11 +3,11 @@ use Rattle.std.proofs.Common.{◌≡◌, List, [], ◌∷◌, Result, Ok, Err, O
 use Rattle.std.specs.Prelude.{Vec}
 use Rattle.std.specs.declared.alloc.Global.{Global}
 use Rattle.ir_arena.specs.declared.span.Span.{Span}
-use Rattle.ir_arena.specs.Copies.{entry_of}
-use Rattle.ir_items.specs.GlobalView.{values_of}
-use Rattle.ir_items.specs.Copies.{SpannedFunction, SpannedEntry, spanned_function, spanned_entry, spanned_module}
-use Rattle.ir_items.specs.Returned.{returned_function, returned_entry, returned_function_spans, returned_entry_spans, returned_module_spans}
-use Rattle.ir_items.specs.View.{function_view, entry_view}
+use Rattle.ir_arena.specs.found.Copies.{entry_of}
+use Rattle.ir_items.specs.found.GlobalView.{values_of}
+use Rattle.ir_items.specs.found.Copies.{SpannedFunction, SpannedEntry, spanned_function, spanned_entry, spanned_module}
+use Rattle.ir_items.specs.judged.Returned.{returned_function, returned_entry, returned_function_spans, returned_entry_spans, returned_module_spans}
+use Rattle.ir_items.specs.found.View.{function_view, entry_view}
 use Rattle.ir_items.specs.declared.entries.EntryPoint.{EntryPoint}
 use Rattle.ir_items.specs.declared.functions.Function.{Function}
 use Rattle.ir_items.specs.declared.module.Module.{Module}

@@ -1,6 +1,6 @@
 // Entry points.
 ghost use Rattle.std.specs.Prelude.{◌≡◌, IfOk};
-ghost use Rattle.ir_items.specs.Copies.{spanned_entry};
+ghost use Rattle.ir_items.specs.found.Copies.{spanned_entry};
 
 use crate::functions::Function;
 use ir_arena::copied::Copied;
@@ -67,7 +67,7 @@ impl EntryPoint {
 }
 
 impl Copied for EntryPoint {
-    ghost use Rattle.ir_items.specs.Copies.{SpannedEntry, spanned_entry};
+    ghost use Rattle.ir_items.specs.found.Copies.{SpannedEntry, spanned_entry};
 
     ghost View = { SpannedEntry };
 

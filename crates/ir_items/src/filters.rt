@@ -1,6 +1,6 @@
 // Diagnostic filters.
 ghost use Rattle.std.specs.Prelude.{◌≡◌, IfOk};
-ghost use Rattle.ir_items.specs.GlobalView.{rule_view, node_view};
+ghost use Rattle.ir_items.specs.found.GlobalView.{rule_view, node_view};
 
 use ir_arena::copied::Copied;
 use ir_arena::handle::Handle;
@@ -85,8 +85,8 @@ impl DiagnosticFilterNode {
 }
 
 impl Copied for DiagnosticFilterNode {
-    ghost use Rattle.ir_items.specs.GlobalPlain.{PlainNode};
-    ghost use Rattle.ir_items.specs.GlobalView.{node_view};
+    ghost use Rattle.ir_items.specs.judged.GlobalPlain.{PlainNode};
+    ghost use Rattle.ir_items.specs.found.GlobalView.{node_view};
 
     ghost View = { PlainNode };
 

@@ -1,9 +1,9 @@
 // Functions, and what they have.
 ghost use Rattle.std.specs.Prelude.{◌≡◌, IfOk};
-ghost use Rattle.ir_items.specs.Copies.{spanned_function};
-ghost use Rattle.ir_blocks.specs.View.{block_spans};
-ghost use Rattle.ir_items.specs.View.{local_view, argument_view, function_view, empty_function};
-ghost use Rattle.ir_blocks.specs.Spans.{no_spans};
+ghost use Rattle.ir_items.specs.found.Copies.{spanned_function};
+ghost use Rattle.ir_blocks.specs.found.View.{block_spans};
+ghost use Rattle.ir_items.specs.found.View.{local_view, argument_view, function_view, empty_function};
+ghost use Rattle.ir_blocks.specs.found.Spans.{no_spans};
 
 use ir_arena::arena::Arena;
 use ir_arena::copied::{Copied, copy_list};
@@ -123,8 +123,8 @@ impl Function {
 }
 
 impl Copied for LocalVariable {
-    ghost use Rattle.ir_items.specs.Plain.{PlainLocal};
-    ghost use Rattle.ir_items.specs.View.{local_view};
+    ghost use Rattle.ir_items.specs.judged.Plain.{PlainLocal};
+    ghost use Rattle.ir_items.specs.found.View.{local_view};
 
     ghost View = { PlainLocal };
 
@@ -136,8 +136,8 @@ impl Copied for LocalVariable {
 }
 
 impl Copied for FunctionArgument {
-    ghost use Rattle.ir_items.specs.Plain.{PlainArgument};
-    ghost use Rattle.ir_items.specs.View.{argument_view};
+    ghost use Rattle.ir_items.specs.judged.Plain.{PlainArgument};
+    ghost use Rattle.ir_items.specs.found.View.{argument_view};
 
     ghost View = { PlainArgument };
 
@@ -149,7 +149,7 @@ impl Copied for FunctionArgument {
 }
 
 impl Copied for Function {
-    ghost use Rattle.ir_items.specs.Copies.{SpannedFunction, spanned_function};
+    ghost use Rattle.ir_items.specs.found.Copies.{SpannedFunction, spanned_function};
 
     ghost View = { SpannedFunction };
 

@@ -1,6 +1,6 @@
 // Constants, overrides and global variables.
 ghost use Rattle.std.specs.Prelude.{◌≡◌, IfOk};
-ghost use Rattle.ir_items.specs.GlobalView.{constant_view, override_view, global_view};
+ghost use Rattle.ir_items.specs.found.GlobalView.{constant_view, override_view, global_view};
 
 use ir_arena::copied::Copied;
 use ir_arena::handle::Handle;
@@ -94,8 +94,8 @@ impl GlobalVariable {
 }
 
 impl Copied for Constant {
-    ghost use Rattle.ir_items.specs.GlobalPlain.{PlainConstant};
-    ghost use Rattle.ir_items.specs.GlobalView.{constant_view};
+    ghost use Rattle.ir_items.specs.judged.GlobalPlain.{PlainConstant};
+    ghost use Rattle.ir_items.specs.found.GlobalView.{constant_view};
 
     ghost View = { PlainConstant };
 
@@ -107,8 +107,8 @@ impl Copied for Constant {
 }
 
 impl Copied for Override {
-    ghost use Rattle.ir_items.specs.GlobalPlain.{PlainOverride};
-    ghost use Rattle.ir_items.specs.GlobalView.{override_view};
+    ghost use Rattle.ir_items.specs.judged.GlobalPlain.{PlainOverride};
+    ghost use Rattle.ir_items.specs.found.GlobalView.{override_view};
 
     ghost View = { PlainOverride };
 
@@ -120,8 +120,8 @@ impl Copied for Override {
 }
 
 impl Copied for GlobalVariable {
-    ghost use Rattle.ir_items.specs.GlobalPlain.{PlainGlobal};
-    ghost use Rattle.ir_items.specs.GlobalView.{global_view};
+    ghost use Rattle.ir_items.specs.judged.GlobalPlain.{PlainGlobal};
+    ghost use Rattle.ir_items.specs.found.GlobalView.{global_view};
 
     ghost View = { PlainGlobal };
 

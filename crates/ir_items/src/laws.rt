@@ -1,5 +1,5 @@
 // Laws of the items.
-ghost use Rattle.ir_items.specs.Returned.{OneReturned, ReturnedByBodies};
+ghost use Rattle.ir_items.specs.judged.Returned.{OneReturned, ReturnedByBodies};
 
 pub use ir_blocks::laws::{
     always_in_step, completed_by_tails, completed_once, kept_equality, one_completed,

@@ -1,8 +1,8 @@
 // The module that holds everything.
 ghost use Rattle.std.specs.Prelude.{◌≡◌, IfOk};
-ghost use Rattle.ir_items.specs.Copies.{spanned_module};
-ghost use Rattle.ir_items.specs.Lists.{module_of};
-ghost use Rattle.ir_items.specs.View.{module_view, empty_module};
+ghost use Rattle.ir_items.specs.found.Copies.{spanned_module};
+ghost use Rattle.ir_items.specs.found.Lists.{module_of};
+ghost use Rattle.ir_items.specs.found.View.{module_view, empty_module};
 
 use crate::entries::EntryPoint;
 use crate::functions::Function;

@@ -1,10 +1,10 @@
 // The lists of a module in three parts, each of which is copied by itself.
 ghost use Rattle.std.specs.Prelude.{◌≡◌, IfOk, map};
-ghost use Rattle.ir_types.specs.ExpressionPlain.{expression_view};
-ghost use Rattle.ir_types.specs.Plain.{type_view};
-ghost use Rattle.ir_arena.specs.Copies.{entry_of};
-ghost use Rattle.ir_items.specs.GlobalView.{special_view, constant_view, override_view, global_view, node_view};
-ghost use Rattle.ir_items.specs.Copies.{spanned_function, spanned_entry};
+ghost use Rattle.ir_types.specs.judged.ExpressionPlain.{expression_view};
+ghost use Rattle.ir_types.specs.judged.Plain.{type_view};
+ghost use Rattle.ir_arena.specs.found.Copies.{entry_of};
+ghost use Rattle.ir_items.specs.found.GlobalView.{special_view, constant_view, override_view, global_view, node_view};
+ghost use Rattle.ir_items.specs.found.Copies.{spanned_function, spanned_entry};
 
 use crate::entries::EntryPoint;
 use crate::functions::Function;

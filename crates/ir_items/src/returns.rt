@@ -1,9 +1,9 @@
 // Returns at the ends of what a module's functions do.
 ghost use Rattle.std.specs.Prelude.{◌≡◌, map, OnOk, OnErr};
-ghost use Rattle.ir_arena.specs.Copies.{entry_of};
-ghost use Rattle.ir_items.specs.Copies.{spanned_function, spanned_entry, spanned_module};
-ghost use Rattle.ir_items.specs.Returned.{IsReturned, KeepsModuleSpans, returned_module, returned_module_spans, returned_function_spans, returned_entry_spans, FunctionHasRoom, EntryHasRoom, FunctionsHaveRoom, EntriesHaveRoom};
-ghost use Rattle.ir_items.specs.View.{module_view};
+ghost use Rattle.ir_arena.specs.found.Copies.{entry_of};
+ghost use Rattle.ir_items.specs.found.Copies.{spanned_function, spanned_entry, spanned_module};
+ghost use Rattle.ir_items.specs.judged.Returned.{IsReturned, KeepsModuleSpans, returned_module, returned_module_spans, returned_function_spans, returned_entry_spans, FunctionHasRoom, EntryHasRoom, FunctionsHaveRoom, EntriesHaveRoom};
+ghost use Rattle.ir_items.specs.found.View.{module_view};
 
 use crate::entries::EntryPoint;
 use crate::functions::Function;

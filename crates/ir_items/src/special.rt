@@ -1,6 +1,6 @@
 // The types that some expressions require.
 ghost use Rattle.std.specs.Prelude.{◌≡◌, IfOk};
-ghost use Rattle.ir_items.specs.GlobalView.{special_view, no_special};
+ghost use Rattle.ir_items.specs.found.GlobalView.{special_view, no_special};
 
 use indexmap::IndexMap;
 use ir_arena::handle::Handle;

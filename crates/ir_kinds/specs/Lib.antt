@@ -1,6 +1,2 @@
-pub mod Bindings
-pub mod Images
-pub mod Maths
-pub mod Scalars
-pub mod Spaces
-pub mod Values
+pub mod judged
+pub mod found

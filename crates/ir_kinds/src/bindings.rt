@@ -1,7 +1,7 @@
 //! How arguments, results and globals are bound.
 
 ghost use Rattle.std.specs.Prelude.{◌≡◌};
-ghost use Rattle.ir_kinds.specs.Bindings.{built_in_of};
+ghost use Rattle.ir_kinds.specs.found.Bindings.{built_in_of};
 
 /// A value that a pipeline gives to a shader or takes from it (naga's `BuiltIn`).
 #[derive(Clone, Copy, PartialEq, Eq, Hash, Debug)]

@@ -1,7 +1,7 @@
 //! Images.
 
 ghost use Rattle.std.specs.Prelude.{◌≡◌};
-ghost use Rattle.ir_kinds.specs.Images.{is_depth, is_mipmapped, is_multisampled};
+ghost use Rattle.ir_kinds.specs.judged.Images.{is_depth, is_mipmapped, is_multisampled};
 
 use crate::scalars::{Scalar, ScalarKind};
 use ir_flags::StorageAccess;
@@ -129,7 +129,7 @@ pub enum ImageClass {
 
 impl From<StorageFormat> for Scalar {
     ghost use Rattle.std.specs.Prelude.{◌≡◌};
-    ghost use Rattle.ir_kinds.specs.Images.{format_scalar};
+    ghost use Rattle.ir_kinds.specs.judged.Images.{format_scalar};
 
     ghost from_gives = { λ f r. r ≡ format_scalar f };
 

@@ -1,7 +1,7 @@
 //! What holds of the constants.
 
 ghost use Rattle.std.specs.Prelude.{◌≡◌, ◌≤◌, [], ◌∷◌, map};
-ghost use Rattle.ir_kinds.specs.Scalars.{abstract_float, abstract_int, boolean, component_place, component_count, floating, signed, unsigned};
+ghost use Rattle.ir_kinds.specs.judged.Scalars.{abstract_float, abstract_int, boolean, component_place, component_count, floating, signed, unsigned};
 
 use crate::scalars::{Scalar, SwizzleComponent, VectorSize};
 

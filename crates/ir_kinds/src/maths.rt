@@ -1,7 +1,7 @@
 //! Built-in math functions.
 
 ghost use Rattle.std.specs.Prelude.{◌≡◌};
-ghost use Rattle.ir_kinds.specs.Maths.{argument_count};
+ghost use Rattle.ir_kinds.specs.judged.Maths.{argument_count};
 
 /// A built-in math function (naga's `MathFunction`).
 #[derive(Clone, Copy, PartialEq, Eq, Debug)]

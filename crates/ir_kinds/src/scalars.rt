@@ -1,7 +1,7 @@
 //! Scalar types, and the shapes that are built of scalars.
 
 ghost use Rattle.std.specs.Prelude.{◌≡◌, ◌↔◌, ◌⊎◌, ◌≢◌, IsTrue, min};
-ghost use Rattle.ir_kinds.specs.Scalars.{component_place, floating};
+ghost use Rattle.ir_kinds.specs.judged.Scalars.{component_place, floating};
 
 /// A number of bytes (naga's `Bytes`).
 pub type Bytes = u8;
@@ -202,7 +202,7 @@ impl VectorSize {
 
 impl From<VectorSize> for u8 {
     ghost use Rattle.std.specs.Prelude.{◌≡◌};
-    ghost use Rattle.ir_kinds.specs.Scalars.{component_count};
+    ghost use Rattle.ir_kinds.specs.judged.Scalars.{component_count};
 
     ghost from_gives = { λ s n. n ≡ component_count s };
 
@@ -214,7 +214,7 @@ impl From<VectorSize> for u8 {
 
 impl From<VectorSize> for u32 {
     ghost use Rattle.std.specs.Prelude.{◌≡◌};
-    ghost use Rattle.ir_kinds.specs.Scalars.{component_count};
+    ghost use Rattle.ir_kinds.specs.judged.Scalars.{component_count};
 
     ghost from_gives = { λ s n. n ≡ component_count s };
 

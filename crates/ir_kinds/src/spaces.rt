@@ -1,7 +1,7 @@
 //! Where variables live.
 
 ghost use Rattle.std.specs.Prelude.{◌≡◌, ◌↔◌, ◌⊎◌, IsTrue};
-ghost use Rattle.ir_kinds.specs.Spaces.{access_of};
+ghost use Rattle.ir_kinds.specs.judged.Spaces.{access_of};
 
 use bitflags::Flags;
 use ir_flags::StorageAccess;

@@ -1,7 +1,7 @@
 //! The stages of a pipeline, and what belongs to entry points of some of them.
 
 ghost use Rattle.std.specs.Prelude.{◌≡◌, ◌↔◌, ◌⊎◌, IsTrue};
-ghost use Rattle.ir_kinds.specs.Bindings.{index_built_in};
+ghost use Rattle.ir_kinds.specs.found.Bindings.{index_built_in};
 
 use crate::bindings::BuiltIn;
 

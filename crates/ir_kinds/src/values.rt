@@ -1,7 +1,7 @@
 //! Values that are written in a module.
 
 ghost use Rattle.std.specs.Prelude.{◌≡◌, option_map, option_and_then, IfSome};
-ghost use Rattle.ir_kinds.specs.Values.{literal_scalar, units_of};
+ghost use Rattle.ir_kinds.specs.judged.Values.{literal_scalar, units_of};
 
 use crate::scalars::{Bytes, Scalar, ScalarKind};
 

@@ -1,7 +1,7 @@
 -- What a chain of bases starts at is one; and what a step along a chain does.
 use Rattle.std.proofs.Common.{◌≡◌, ℕ, List, sym, ap, subst, ◌∙◌}
-use Rattle.ir_types.specs.ExpressionPlain.{PlainExpression}
-use Rattle.ir_proc.specs.Bases.{StartsAt, itself, through, global_of, OneOrigin}
+use Rattle.ir_types.specs.judged.ExpressionPlain.{PlainExpression}
+use Rattle.ir_proc.specs.judged.Bases.{StartsAt, itself, through, global_of, OneOrigin}
 
 pub one_start : (expressions : List PlainExpression) (handle : ℕ) (s t : PlainExpression) → StartsAt expressions handle s → StartsAt expressions handle t → s ≡ t
 one_start expressions handle s t (itself a n) (itself b m) = let x = a in let y = b in cc

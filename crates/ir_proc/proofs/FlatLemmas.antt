@@ -8,10 +8,10 @@ use Rattle.std.proofs.lemmas.List.{reverse-append, reverse-reverse, length-appen
 use Rattle.std.proofs.lemmas.List.Elements.{All-nil, All-head, All-tail, All-append, All-push, All-weaker}
 use Rattle.ir_arena.specs.declared.span.Span.{Span}
 use Rattle.ir_types.specs.declared.expressions.Expression.{Expression}
-use Rattle.ir_types.specs.ExpressionPlain.{PlainExpression, expression_view}
-use Rattle.ir_items.specs.GlobalView.{values_of}
-use Rattle.ir_proc.specs.Bases.{expressions_of}
-use Rattle.ir_proc.specs.Flat.{parts_of, PartsPrecede, AreLeaves, none, leaf, taken_apart, OneFlattening}
+use Rattle.ir_types.specs.judged.ExpressionPlain.{PlainExpression, expression_view}
+use Rattle.ir_items.specs.found.GlobalView.{values_of}
+use Rattle.ir_proc.specs.judged.Bases.{expressions_of}
+use Rattle.ir_proc.specs.found.Flat.{parts_of, PartsPrecede, AreLeaves, none, leaf, taken_apart, OneFlattening}
 use Rattle.ir_proc.proofs.Places.{item_at}
 
 -- ---- one list

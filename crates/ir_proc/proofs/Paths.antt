@@ -4,9 +4,9 @@ use Rattle.std.specs.Option.{option_and_then}
 use Rattle.std.proofs.lemmas.Option.{slice_get_within}
 use Rattle.ir_kinds.specs.declared.diagnostics.Severity.{Severity}
 use Rattle.ir_kinds.specs.declared.diagnostics.StandardFilterableTriggeringRule.{StandardFilterableTriggeringRule}
-use Rattle.ir_items.specs.GlobalPlain.{PlainNode, standard}
+use Rattle.ir_items.specs.judged.GlobalPlain.{PlainNode, standard}
 use Rattle.ir_proc.proofs.Places.{item_at}
-use Rattle.ir_proc.specs.Filters.{ParentsPrecede, IsPath, IsNearest, HasSeverity, OneSeverity}
+use Rattle.ir_proc.specs.found.Filters.{ParentsPrecede, IsPath, IsNearest, HasSeverity, OneSeverity}
 
 pub one_path : (nodes : List PlainNode) (start : Option ℕ) (p q : List PlainNode) → IsPath nodes start p → IsPath nodes start q → p ≡ q
 one_path nodes start [] [] a b = refl

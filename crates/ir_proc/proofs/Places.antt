@@ -2,8 +2,8 @@
 use Rattle.std.proofs.Common.{◌≡◌, ℕ, zero, suc, ◌<◌, List, [], ◌∷◌, Some, length, slice_get, map, option_map, refl, sym, ap, ◌∙◌, arith}
 use Rattle.std.proofs.lemmas.Option.{slice_get-map}
 use Rattle.ir_arena.specs.declared.span.Span.{Span}
-use Rattle.ir_arena.specs.Arenas.{value_at}
-use Rattle.ir_items.specs.GlobalView.{values_of}
+use Rattle.ir_arena.specs.found.Arenas.{value_at}
+use Rattle.ir_items.specs.found.GlobalView.{values_of}
 
 -- there is something at a place within a list
 pub item_at : {T : Type 0} → (xs : List T) (k : ℕ) → k < length xs → (x : T) × (slice_get xs k ≡ Some x)

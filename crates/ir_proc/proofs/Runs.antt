@@ -8,11 +8,11 @@ use Rattle.std.proofs.Common.{length, map, ap, subst, Some, None}
 use Rattle.std.specs.Prelude.{slice_range}
 use Rattle.std.specs.List.{cons_option}
 use Rattle.ir_arena.specs.declared.span.Span.{Span}
-use Rattle.ir_arena.specs.Arenas.{span_of_entry}
-use Rattle.ir_arena.specs.Spans.{total_span}
-use Rattle.ir_blocks.specs.Plain.{emit}
-use Rattle.ir_proc.specs.Emitted as given
-use Rattle.ir_proc.specs.Emitted.{Holds, Partition}
+use Rattle.ir_arena.specs.found.Arenas.{span_of_entry}
+use Rattle.ir_arena.specs.found.Spans.{total_span}
+use Rattle.ir_blocks.specs.judged.Plain.{emit}
+use Rattle.ir_proc.specs.found.Emitted as given
+use Rattle.ir_proc.specs.found.Emitted.{Holds, Partition}
 
 -- A run by its counts alone.
 abbrev Run : Type 0

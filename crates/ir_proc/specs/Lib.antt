@@ -1,4 +1,2 @@
-pub mod Bases
-pub mod Filters
-pub mod Flat
-pub mod Emitted
+pub mod judged
+pub mod found

@@ -1,7 +1,7 @@
 //! What pointers lead to.
 ghost use Rattle.std.specs.Prelude.{◌≡◌, ◌<◌, List, length};
-ghost use Rattle.ir_types.specs.ExpressionPlain.{PlainExpression, expression_view};
-ghost use Rattle.ir_proc.specs.Bases.{expressions_of, base_of, global_of, BasesPrecede, HasOrigin};
+ghost use Rattle.ir_types.specs.judged.ExpressionPlain.{PlainExpression, expression_view};
+ghost use Rattle.ir_proc.specs.judged.Bases.{expressions_of, base_of, global_of, BasesPrecede, HasOrigin};
 
 use ir_arena::handle::Handle;
 use ir_items::{Expression, Function, key};
@@ -24,7 +24,7 @@ pub trait FunctionExt {
 }
 
 impl FunctionExt for Function {
-    ghost use Rattle.ir_proc.specs.Bases.{expressions_of};
+    ghost use Rattle.ir_proc.specs.judged.Bases.{expressions_of};
 
     ghost expressions_in = { λ f. expressions_of f.expressions };
 

@@ -1,9 +1,9 @@
 // The range of expressions that were appended lately (naga's `proc::emitter`).
 ghost use Rattle.std.specs.Prelude.{◌≡◌, ◌≤◌, IsTrue, None, Some, is_some, option_map, unwrap_or, length, map, slice_range};
-ghost use Rattle.ir_arena.specs.Arenas.{span_of_entry};
-ghost use Rattle.ir_arena.specs.Spans.{total_span};
-ghost use Rattle.ir_blocks.specs.View.{statement_view};
-ghost use Rattle.ir_proc.specs.Emitted.{emitted};
+ghost use Rattle.ir_arena.specs.found.Arenas.{span_of_entry};
+ghost use Rattle.ir_arena.specs.found.Spans.{total_span};
+ghost use Rattle.ir_blocks.specs.found.View.{statement_view};
+ghost use Rattle.ir_proc.specs.found.Emitted.{emitted};
 
 use ir_arena::arena::Arena;
 use ir_arena::range::Range;

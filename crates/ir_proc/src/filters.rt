@@ -1,9 +1,9 @@
 //! Diagnostic filters.
 ghost use Rattle.std.specs.Prelude.{◌≡◌, ◌<◌, ◌↔◌, length, map, IsTrue};
 ghost use Rattle.std.specs.Option.{ForSome};
-ghost use Rattle.ir_items.specs.GlobalPlain.{PlainNode, standard};
-ghost use Rattle.ir_items.specs.GlobalView.{node_view, values_of};
-ghost use Rattle.ir_proc.specs.Filters.{nodes_of, ParentsPrecede, HasSeverity};
+ghost use Rattle.ir_items.specs.judged.GlobalPlain.{PlainNode, standard};
+ghost use Rattle.ir_items.specs.found.GlobalView.{node_view, values_of};
+ghost use Rattle.ir_proc.specs.found.Filters.{nodes_of, ParentsPrecede, HasSeverity};
 
 use ir_arena::arena::Arena;
 use ir_arena::handle::Handle;
@@ -30,7 +30,7 @@ pub trait DiagnosticFilterNodeExt: Sized {
 }
 
 impl DiagnosticFilterNodeExt for DiagnosticFilterNode {
-    ghost use Rattle.ir_items.specs.GlobalView.{node_view};
+    ghost use Rattle.ir_items.specs.found.GlobalView.{node_view};
 
     ghost node_of = { node_view };
 

@@ -1,10 +1,10 @@
 //! What a composition of a vector comes to.
 ghost use Rattle.std.specs.Prelude.{◌≡◌, ◌<◌, ◌∷◌, [], ℕ, List, ◌++◌, length, reverse, replicate, take, IfOk, OnOk, MatchOption};
 ghost use Rattle.std.specs.List.{All};
-ghost use Rattle.ir_types.specs.Plain.{inner_view};
-ghost use Rattle.ir_types.specs.ExpressionPlain.{expression_view};
-ghost use Rattle.ir_proc.specs.Bases.{expressions_of};
-ghost use Rattle.ir_proc.specs.Flat.{types_of, size_at, vector_size, parts_of, PartsPrecede, AreLeaves, IsFlattened};
+ghost use Rattle.ir_types.specs.judged.Plain.{inner_view};
+ghost use Rattle.ir_types.specs.judged.ExpressionPlain.{expression_view};
+ghost use Rattle.ir_proc.specs.judged.Bases.{expressions_of};
+ghost use Rattle.ir_proc.specs.found.Flat.{types_of, size_at, vector_size, parts_of, PartsPrecede, AreLeaves, IsFlattened};
 
 use ir_arena::arena::Arena;
 use ir_arena::handle::Handle;

@@ -1,7 +1,7 @@
 //! Laws of the walks.
-ghost use Rattle.ir_proc.specs.Bases.{OneOrigin};
-ghost use Rattle.ir_proc.specs.Filters.{OneSeverity};
-ghost use Rattle.ir_proc.specs.Flat.{OneFlattening};
+ghost use Rattle.ir_proc.specs.judged.Bases.{OneOrigin};
+ghost use Rattle.ir_proc.specs.found.Filters.{OneSeverity};
+ghost use Rattle.ir_proc.specs.found.Flat.{OneFlattening};
 
 /// A rule has one severity at most at a node, so that [`crate::search`] can answer nothing else.
 pub fn one_severity()

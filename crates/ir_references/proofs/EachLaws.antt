@@ -1,9 +1,9 @@
 -- What holds along a body holds wherever a statement stands; and what holds of one holds of one that stands somewhere.
 use Rattle.std.proofs.Common.{◌≡◌, zero, suc, ℕ, ◌⊎◌, inl, inr, refl, subst}
-use Rattle.ir_blocks.specs.Places.{Place, here, later, condition, OccursAt}
-use Rattle.ir_blocks.specs.Places as at
-use Rattle.ir_blocks.specs.Plain.{PlainStatement, emit, block, if_, switch, loop, break, continue, return, kill, operation, call, PlainBlock, stop, next, PlainCases, no_case, case}
-use Rattle.ir_blocks.specs.Shapes.{shape_of, Part, inner, accepting, rejecting, case_at, loop_body, loop_continuing, case_body, part_of}
+use Rattle.ir_blocks.specs.judged.Places.{Place, here, later, condition, OccursAt}
+use Rattle.ir_blocks.specs.judged.Places as at
+use Rattle.ir_blocks.specs.judged.Plain.{PlainStatement, emit, block, if_, switch, loop, break, continue, return, kill, operation, call, PlainBlock, stop, next, PlainCases, no_case, case}
+use Rattle.ir_blocks.specs.judged.Shapes.{shape_of, Part, inner, accepting, rejecting, case_at, loop_body, loop_continuing, case_body, part_of}
 use Rattle.ir_references.specs.Each.{AllAre, AllWithin, AllInCases, OneIs, OneWithin, OneInCases}
 
 none_in_stop : {A : Type 0} (p : Place) (s : PlainStatement) → OccursAt stop p s → A

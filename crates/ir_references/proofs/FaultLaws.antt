@@ -2,17 +2,17 @@
 use Rattle.std.proofs.Common.{◌≡◌, inl, inr, ℕ, ◌<◌, ◌≤◌, List, map, true, false, ◌&&◌, if◌then◌else◌, Option, Some, None, option_map, option_and_then, nat_lt, nat_le, refl, sym, ap, subst, Contains, arith}
 use Rattle.std.specs.Option.{option_or, MatchOption}
 use borrow.Author.Tests.{ltb-true, ltb-false, leb-true, leb-false}
-use Rattle.ir_arena.specs.Handles.{handles_from}
+use Rattle.ir_arena.specs.judged.Handles.{handles_from}
 use Rattle.ir_arena.specs.declared.span.Span.{Span}
-use Rattle.ir_blocks.specs.Plain.{PlainStatement}
-use Rattle.ir_blocks.specs.Places.{Place, OccursAt}
-use Rattle.ir_types.specs.ExpressionPlain.{expression_view}
+use Rattle.ir_blocks.specs.judged.Plain.{PlainStatement}
+use Rattle.ir_blocks.specs.judged.Places.{Place, OccursAt}
+use Rattle.ir_types.specs.judged.ExpressionPlain.{expression_view}
 use Rattle.ir_types.specs.declared.expressions.Expression.{Expression}
-use Rattle.ir_items.specs.GlobalView.{values_of, node_view}
+use Rattle.ir_items.specs.found.GlobalView.{values_of, node_view}
 use Rattle.ir_items.specs.declared.filters.DiagnosticFilterNode.{DiagnosticFilterNode}
-use Rattle.ir_items.specs.Plain.{PlainFunction, PlainModule}
+use Rattle.ir_items.specs.judged.Plain.{PlainFunction, PlainModule}
 use Rattle.ir_items.specs.declared.functions.FunctionResult.{FunctionResult}
-use Rattle.ir_proc.specs.Filters.{ParentsPrecede}
+use Rattle.ir_proc.specs.found.Filters.{ParentsPrecede}
 use Rattle.spec_handles.specs.Conditions.{HandlesInRange, OperandsPrecede, CalleesPrecede}
 use Rattle.spec_handles.specs.Expressions.{expression_operands, expression_item}
 use Rattle.spec_handles.specs.InOrder.{named_at}

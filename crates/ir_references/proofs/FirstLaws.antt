@@ -6,12 +6,12 @@ use Rattle.std.proofs.lemmas.Option.{slice_get_within, get_or_from_slice_get}
 use Rattle.std.specs.List.{list_all}
 use Rattle.std.specs.Option.{option_or}
 use borrow.Author.Tests.{ltb-true, ltb-false}
-use Rattle.ir_arena.specs.Handles.{handles_from}
+use Rattle.ir_arena.specs.judged.Handles.{handles_from}
 use Rattle.ir_arena.specs.declared.span.Span.{Span}
-use Rattle.ir_blocks.specs.Plain.{PlainStatement, emit, block, if_, switch, loop, break, continue, return, kill, operation, call, PlainBlock, stop, next, PlainCases, no_case, case}
-use Rattle.ir_blocks.specs.Shapes.{shape_of, Part, inner, accepting, rejecting, case_at, loop_body, loop_continuing, case_body, part_of}
-use Rattle.ir_blocks.specs.Places.{Place, here, later, inside, condition, OccursAt}
-use Rattle.ir_items.specs.GlobalView.{values_of}
+use Rattle.ir_blocks.specs.judged.Plain.{PlainStatement, emit, block, if_, switch, loop, break, continue, return, kill, operation, call, PlainBlock, stop, next, PlainCases, no_case, case}
+use Rattle.ir_blocks.specs.judged.Shapes.{shape_of, Part, inner, accepting, rejecting, case_at, loop_body, loop_continuing, case_body, part_of}
+use Rattle.ir_blocks.specs.judged.Places.{Place, here, later, inside, condition, OccursAt}
+use Rattle.ir_items.specs.found.GlobalView.{values_of}
 use Rattle.ir_references.specs.First.{first_past, first_of, first_in, first_at, first_in_cases}
 
 module _ {F : Type 0} where

@@ -1,6 +1,6 @@
 -- What holds of each statement of a body, and of one of them, along the body.
 use Rattle.std.specs.Prelude.{◌⊎◌}
-use Rattle.ir_blocks.specs.Plain.{PlainStatement, emit, block, if_, switch, loop, break, continue, return, kill, operation, call, PlainBlock, stop, next, PlainCases, no_case, case}
+use Rattle.ir_blocks.specs.judged.Plain.{PlainStatement, emit, block, if_, switch, loop, break, continue, return, kill, operation, call, PlainBlock, stop, next, PlainCases, no_case, case}
 
 abbrev mutual
   -- it holds of each statement, and of those inside it

@@ -1,10 +1,10 @@
 -- What is wrong with the handles of a function, found step by step; `spec_handles` says what is required of them.
 use Rattle.std.specs.Prelude.{◌≡◌, ℕ, ◌<◌, List, length, ◌&&◌, Contains, slice_get, nat_lt, nat_le, if◌then◌else◌, Option, Some, None, option_map, option_and_then}
 use Rattle.std.specs.Option.{option_or}
-use Rattle.ir_blocks.specs.Plain.{PlainStatement}
-use Rattle.ir_types.specs.ExpressionPlain.{PlainExpression}
-use Rattle.ir_items.specs.GlobalPlain.{PlainNode}
-use Rattle.ir_items.specs.Plain.{PlainArgument, PlainLocal, PlainFunction, PlainModule}
+use Rattle.ir_blocks.specs.judged.Plain.{PlainStatement}
+use Rattle.ir_types.specs.judged.ExpressionPlain.{PlainExpression}
+use Rattle.ir_items.specs.judged.GlobalPlain.{PlainNode}
+use Rattle.ir_items.specs.judged.Plain.{PlainArgument, PlainLocal, PlainFunction, PlainModule}
 use Rattle.ir_items.specs.declared.functions.FunctionResult.{FunctionResult}
 use Rattle.ir_references.specs.First.{first_past, first_of, first_in}
 use Rattle.ir_references.specs.declared.bounds.Bounds.{Bounds}

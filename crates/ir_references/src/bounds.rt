@@ -1,7 +1,7 @@
 //! How many items of each kind may be named.
 
 ghost use Rattle.std.specs.Prelude.{◌≡◌, option_and_then, option_map};
-ghost use Rattle.ir_items.specs.View.{function_view, module_view};
+ghost use Rattle.ir_items.specs.found.View.{function_view, module_view};
 ghost use Rattle.spec_handles.specs.declared.item.ItemKind.TheVariants as kind;
 ghost use Rattle.ir_references.specs.Faults.{bounds_of, outside_functions, missing, item_missing, absent};
 

@@ -1,9 +1,9 @@
 //! What is required of each statement of a body.
 
 ghost use Rattle.std.specs.Prelude.{MatchResult, map};
-ghost use Rattle.ir_blocks.specs.Places.{Place, OccursAt};
-ghost use Rattle.ir_blocks.specs.Plain.{PlainStatement};
-ghost use Rattle.ir_blocks.specs.View.{statement_view, block_view, case_view, cases_of};
+ghost use Rattle.ir_blocks.specs.judged.Places.{Place, OccursAt};
+ghost use Rattle.ir_blocks.specs.judged.Plain.{PlainStatement};
+ghost use Rattle.ir_blocks.specs.found.View.{statement_view, block_view, case_view, cases_of};
 ghost use Rattle.ir_references.specs.Each.{AllAre, AllWithin, AllInCases, OneIs, OneWithin, OneInCases};
 
 use ir_blocks::plain_operation;

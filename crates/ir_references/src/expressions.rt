@@ -1,7 +1,7 @@
 //! What expressions name beside their operands.
 
 ghost use Rattle.std.specs.Prelude.{◌≡◌};
-ghost use Rattle.ir_types.specs.ExpressionPlain.{expression_view};
+ghost use Rattle.ir_types.specs.judged.ExpressionPlain.{expression_view};
 ghost use Rattle.spec_handles.specs.Expressions.{expression_item};
 
 use ir_types::Expression;

@@ -2,10 +2,10 @@
 
 ghost use Rattle.std.specs.Prelude.{◌≡◌, option_and_then, option_map, map};
 ghost use Rattle.std.specs.Option.{MatchOption};
-ghost use Rattle.ir_arena.specs.Handles.{handles_from};
-ghost use Rattle.ir_types.specs.ExpressionPlain.{expression_view};
-ghost use Rattle.ir_items.specs.GlobalView.{values_of};
-ghost use Rattle.ir_items.specs.View.{argument_view, local_view, function_view, module_view};
+ghost use Rattle.ir_arena.specs.judged.Handles.{handles_from};
+ghost use Rattle.ir_types.specs.judged.ExpressionPlain.{expression_view};
+ghost use Rattle.ir_items.specs.found.GlobalView.{values_of};
+ghost use Rattle.ir_items.specs.found.View.{argument_view, local_view, function_view, module_view};
 ghost use Rattle.ir_references.specs.Faults.{missing, range_out, expression_missing, statement_missing, argument_missing, local_missing, signature_missing, function_missing, IsMissingFault};
 ghost use Rattle.ir_references.specs.First.{first_of, emitted_view};
 ghost use Rattle.spec_handles.specs.Conditions.{HandlesInRange};

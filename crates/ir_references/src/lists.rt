@@ -1,8 +1,8 @@
 //! Operands that do not come before an end.
 
 ghost use Rattle.std.specs.Prelude.{◌≡◌};
-ghost use Rattle.ir_types.specs.ExpressionPlain.{expression_view};
-ghost use Rattle.ir_blocks.specs.View.{statement_view};
+ghost use Rattle.ir_types.specs.judged.ExpressionPlain.{expression_view};
+ghost use Rattle.ir_blocks.specs.found.View.{statement_view};
 ghost use Rattle.ir_references.specs.First.{first_past};
 ghost use Rattle.spec_handles.specs.Expressions.{expression_operands};
 ghost use Rattle.spec_handles.specs.Operands.{these, handles_of};

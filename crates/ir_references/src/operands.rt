@@ -1,8 +1,8 @@
 //! The operands of expressions and of statements, whatever is done with them: one arm a kind.
 
 ghost use Rattle.std.specs.Prelude.{◌≡◌, ◌∷◌};
-ghost use Rattle.ir_types.specs.ExpressionPlain.{expression_view};
-ghost use Rattle.ir_blocks.specs.View.{statement_view};
+ghost use Rattle.ir_types.specs.judged.ExpressionPlain.{expression_view};
+ghost use Rattle.ir_blocks.specs.found.View.{statement_view};
 ghost use Rattle.spec_handles.specs.Operands.{Operands, these, each_of, used, reads, reads_if, scoped, level_first, level_second, query_level, compared, where_answered, gather_index, of_expression, of_query, of_pipeline, of_statement};
 ghost use Rattle.spec_handles.specs.declared.operand.Scoping.TheVariants.{Strictly};
 

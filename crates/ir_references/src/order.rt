@@ -2,13 +2,13 @@
 
 ghost use Rattle.std.specs.Prelude.{◌≡◌, option_and_then, map};
 ghost use Rattle.std.specs.Option.{MatchOption};
-ghost use Rattle.ir_arena.specs.Handles.{handles_from};
-ghost use Rattle.ir_types.specs.ExpressionPlain.{expression_view};
-ghost use Rattle.ir_items.specs.GlobalView.{values_of, node_view};
-ghost use Rattle.ir_items.specs.View.{function_view};
+ghost use Rattle.ir_arena.specs.judged.Handles.{handles_from};
+ghost use Rattle.ir_types.specs.judged.ExpressionPlain.{expression_view};
+ghost use Rattle.ir_items.specs.found.GlobalView.{values_of, node_view};
+ghost use Rattle.ir_items.specs.found.View.{function_view};
 ghost use Rattle.ir_references.specs.Faults.{operand_forward, callee_forward, function_of, expression_forward, callees_forward, parent_forward, IsForwardOperand, IsForwardCallee, IsForwardParent};
 ghost use Rattle.ir_references.specs.First.{first_of};
-ghost use Rattle.ir_proc.specs.Filters.{ParentsPrecede};
+ghost use Rattle.ir_proc.specs.found.Filters.{ParentsPrecede};
 ghost use Rattle.spec_handles.specs.Conditions.{OperandsPrecede, CalleesPrecede};
 
 use crate::expressions::item_of;

@@ -1,8 +1,8 @@
 //! What is looked for in statements, found at its first place in a body.
 
 ghost use Rattle.std.specs.Prelude.{◌≡◌, Option, map};
-ghost use Rattle.ir_blocks.specs.Plain.{PlainStatement};
-ghost use Rattle.ir_blocks.specs.View.{statement_view, block_view, case_view, cases_of};
+ghost use Rattle.ir_blocks.specs.judged.Plain.{PlainStatement};
+ghost use Rattle.ir_blocks.specs.found.View.{statement_view, block_view, case_view, cases_of};
 ghost use Rattle.ir_references.specs.First.{first_in, first_at, first_in_cases};
 
 use ir_blocks::plain_operation;

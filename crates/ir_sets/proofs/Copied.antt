@@ -3,9 +3,9 @@ use Rattle.std.proofs.Common.{◌≡◌, ℕ, zero, suc, ◌+◌, ◌<◌, Bool,
 use Rattle.std.specs.Cmp.{IsEquivalence}
 use Rattle.std.specs.List.{AllByRecursion, IsDistinct}
 use Rattle.std.proofs.lemmas.Option.{slice_get-get_or, same_Some}
-use Rattle.ir_arena.specs.Arenas.{value_of_entry, span_at, has_equal}
+use Rattle.ir_arena.specs.found.Arenas.{value_of_entry, span_at, has_equal}
 use Rattle.ir_arena.specs.declared.span.Span.{Span}
-use Rattle.ir_arena.specs.Copies.{entry_of}
+use Rattle.ir_arena.specs.found.Copies.{entry_of}
 use Rattle.ir_arena.proofs.CopyLemmas.{same_values, entries_more}
 
 both_parts : {A : Type 0} (x y : A) (xs ys : List A) → x ∷ xs ≡ y ∷ ys → (x ≡ y) × (xs ≡ ys)

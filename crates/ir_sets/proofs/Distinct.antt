@@ -5,7 +5,7 @@ use Rattle.std.specs.List.{list_any, zip, AllByRecursion, IsDistinct}
 use Rattle.std.proofs.lemmas.List.{length_push}
 use Rattle.std.proofs.lemmas.Option.{slice_get-get_or}
 use Rattle.ir_arena.specs.declared.span.Span.{Span}
-use Rattle.ir_arena.specs.Arenas.{value_of_entry, has_value, has_equal, found_at, place_of, IsDistinctBy}
+use Rattle.ir_arena.specs.found.Arenas.{value_of_entry, has_value, has_equal, found_at, place_of, IsDistinctBy}
 use Rattle.ir_arena.proofs.Found.{passes_at, passes_nowhere, none_passes}
 
 module _ {T : Type 0} where

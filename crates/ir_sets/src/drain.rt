@@ -2,7 +2,7 @@
 
 ghost use Rattle.std.specs.Prelude.{◌≡◌, ◌≤◌, length};
 ghost use Rattle.std.specs.List.{zip};
-ghost use Rattle.ir_arena.specs.Handles.{entries_from};
+ghost use Rattle.ir_arena.specs.judged.Handles.{entries_from};
 
 use crate::keyed::KeyedState;
 use indexmap::{IndexSet, set};
@@ -29,7 +29,7 @@ impl<T, K> Model for UniqueArenaDrain<T, K> {
     ghost use Rattle.std.specs.List.{zip};
     ghost use Rattle.std.specs.Vec.Iter.{into_iter_items};
     ghost use Rattle.ir_arena.specs.declared.span.Span.{Span};
-    ghost use Rattle.ir_arena.specs.Handles.{entries_from};
+    ghost use Rattle.ir_arena.specs.judged.Handles.{entries_from};
 
     ghost Value = { List (ℕ × T × Span) };
 

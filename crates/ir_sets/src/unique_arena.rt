@@ -1,9 +1,9 @@
 //! The arena that holds no two equal values.
 
 ghost use Rattle.std.specs.Prelude.{◌≡◌, ◌<◌, ◌≤◌, ◌++◌, ◌↔◌, Some, true, false, [], ◌∷◌, length, map, IsTrue, IsOk, IfOk, IfErr, IfSome, IfNone, OnOk, OnErr};
-ghost use Rattle.ir_arena.specs.Arenas.{value_of_entry, span_of_entry, value_at, span_at, with_value, has_equal, found_at, place_of, with_entry, IsDistinctBy};
-ghost use Rattle.ir_arena.specs.Copies.{ComparesByView, entry_of};
-ghost use Rattle.ir_arena.specs.Handles.{handles_from, entries_from};
+ghost use Rattle.ir_arena.specs.found.Arenas.{value_of_entry, span_of_entry, value_at, span_at, with_value, has_equal, found_at, place_of, with_entry, IsDistinctBy};
+ghost use Rattle.ir_arena.specs.found.Copies.{ComparesByView, entry_of};
+ghost use Rattle.ir_arena.specs.judged.Handles.{handles_from, entries_from};
 
 use crate::drain::UniqueArenaDrain;
 use crate::keyed::KeyedState;
@@ -51,7 +51,7 @@ impl<T: Eq + Hash, K> Model for UniqueArena<T, K> {
 /// Two arenas are equal where they have as many values, and each is equal to the other's at its place and has the same
 /// span.
 impl<T: Eq + Hash, K> PartialEq for UniqueArena<T, K> {
-    ghost use Rattle.ir_arena.specs.Equality.{same_entries, same_entries_per};
+    ghost use Rattle.ir_arena.specs.found.Equality.{same_entries, same_entries_per};
 
     ghost eq = { same_entries T.eq };
 
@@ -63,7 +63,7 @@ impl<T: Eq + Hash, K> PartialEq for UniqueArena<T, K> {
 }
 
 impl<T: Eq + Hash, K> Eq for UniqueArena<T, K> {
-    ghost use Rattle.ir_arena.specs.Equality.{same_entries_equiv};
+    ghost use Rattle.ir_arena.specs.found.Equality.{same_entries_equiv};
 
     ghost laws = { same_entries_equiv T.Eq.laws };
 }

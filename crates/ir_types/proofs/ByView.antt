@@ -1,6 +1,6 @@
 -- Types that hold the same compare the same.
 use Rattle.std.proofs.Common.{◌≡◌, Bool, true, false, true≢false, refl, sym, ◌∙◌}
-use Rattle.ir_types.specs.Plain.{type_view}
+use Rattle.ir_types.specs.judged.Plain.{type_view}
 use Rattle.ir_types.specs.declared.types.IrType.{IrType}
 use Rattle.ir_types.specs.contracts.types.IrTypePartialEq.TheImpl.{ghosts}
 use Rattle.ir_types.proofs.TypeEquality.{type_eq}

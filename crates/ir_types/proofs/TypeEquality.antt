@@ -4,7 +4,7 @@ use Rattle.std.specs.Bool.{beq}
 use Rattle.std.specs.String.{string_eq}
 use Rattle.std.specs.Option.{option_eq}
 use Rattle.std.specs.Cmp.Lexicographic.{pointwise}
-use Rattle.ir_types.specs.Plain.{PlainMember, PlainInner, PlainType, struct, plain, member_view, inner_view, type_view}
+use Rattle.ir_types.specs.judged.Plain.{PlainMember, PlainInner, PlainType, struct, plain, member_view, inner_view, type_view}
 use Rattle.ir_types.specs.declared.types.ArraySize.{ArraySize}
 use Rattle.ir_types.specs.contracts.types.ArraySizePartialEq.TheImpl as size
 use Rattle.ir_types.specs.declared.types.StructMember.{StructMember}

@@ -1,4 +1,2 @@
-pub mod Plain
-pub mod Views
-pub mod ExpressionPlain
-pub mod ExpressionViews
+pub mod judged
+pub mod found

@@ -4,7 +4,7 @@ use ir_arena::copied::Copied;
 use std::alloc::{AllocError, Global};
 
 impl Copied for IrType {
-    ghost use Rattle.ir_types.specs.Plain.{PlainType, type_view};
+    ghost use Rattle.ir_types.specs.judged.Plain.{PlainType, type_view};
 
     ghost View = { PlainType };
 

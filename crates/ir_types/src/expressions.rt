@@ -1,6 +1,6 @@
 // Expressions.
 ghost use Rattle.std.specs.Prelude.{◌≡◌, IfOk};
-ghost use Rattle.ir_types.specs.ExpressionPlain.{expression_view, IsPlain, IsComputed, IsImageOrResult, IsResult, implicit_derivatives, always_in_scope, is_dynamic};
+ghost use Rattle.ir_types.specs.judged.ExpressionPlain.{expression_view, IsPlain, IsComputed, IsImageOrResult, IsResult, implicit_derivatives, always_in_scope, is_dynamic};
 
 use crate::key;
 use ir_arena::copied::Copied;
@@ -296,7 +296,7 @@ pub enum Expression {
 }
 
 impl Copied for Expression {
-    ghost use Rattle.ir_types.specs.ExpressionPlain.{PlainExpression, expression_view};
+    ghost use Rattle.ir_types.specs.judged.ExpressionPlain.{PlainExpression, expression_view};
 
     ghost View = { PlainExpression };
 

@@ -1,7 +1,7 @@
 // Laws of types.
 ghost use Rattle.std.specs.Prelude.{◌≡◌, ◌↔◌, IsTrue};
-ghost use Rattle.ir_types.specs.Plain.{type_view, inner_view};
-ghost use Rattle.ir_types.specs.Views.{HoldsNoStruct};
+ghost use Rattle.ir_types.specs.judged.Plain.{type_view, inner_view};
+ghost use Rattle.ir_types.specs.found.Views.{HoldsNoStruct};
 
 use crate::types::{IrType, TypeInner};
 
@@ -14,7 +14,7 @@ pub fn type_equality(left: &IrType, right: &IrType) -> bool
 }
 
 /// A struct is seen by its members: what is seen of a type holds none as it is.
-#[tactic(auto, using(crate::specs::Views::holds_no_struct))]
+#[tactic(auto, using(crate::specs::found::Views::holds_no_struct))]
 pub fn no_struct_is_held(inner: &TypeInner)
     ensures { HoldsNoStruct (inner_view inner.now) }
 {

@@ -1,7 +1,7 @@
 // The type of a literal.
 ghost use Rattle.std.specs.Prelude.{◌≡◌};
 ghost use Rattle.ir_kinds.specs.declared.scalars.Scalar.{Scalar};
-ghost use Rattle.ir_types.specs.Plain.{plain, inner_view};
+ghost use Rattle.ir_types.specs.judged.Plain.{plain, inner_view};
 ghost use Rattle.ir_types.specs.declared.types.TypeInner.TheVariants as inner;
 
 use crate::types::TypeInner;
@@ -18,7 +18,7 @@ pub trait LiteralExt: Sized {
 }
 
 impl LiteralExt for Literal {
-    ghost use Rattle.ir_kinds.specs.Values.{literal_scalar};
+    ghost use Rattle.ir_kinds.specs.judged.Values.{literal_scalar};
 
     ghost scalar_of = { literal_scalar };
 

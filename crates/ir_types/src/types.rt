@@ -1,6 +1,6 @@
 // Types of the IR.
 ghost use Rattle.std.specs.Prelude.{◌≡◌, map, option_map, string_bytes, IfOk};
-ghost use Rattle.ir_types.specs.Plain.{member_view, inner_view, type_view};
+ghost use Rattle.ir_types.specs.judged.Plain.{member_view, inner_view, type_view};
 
 use crate::key;
 use ir_arena::handle::Handle;

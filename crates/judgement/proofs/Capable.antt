@@ -3,15 +3,15 @@ use Rattle.std.proofs.Common.{◌≡◌, ℕ, Bool, sym, subst}
 use Rattle.ir_flags.specs.Sets.{Has}
 use Rattle.ir_flags.specs.declared.settings.TheConstants.ValidationFlags.{CONSTANTS}
 use Rattle.ir_flags.specs.declared.settings.ValidationFlags.{ValidationFlags}
-use Rattle.ir_items.specs.Plain.{PlainModule}
+use Rattle.ir_items.specs.judged.Plain.{PlainModule}
 use Rattle.spec_expressions.proofs.Capable.{more_capabilities as expressions_more}
-use Rattle.spec_expressions.specs.GlobalExpressions.{GlobalExpressionOK}
-use Rattle.spec_expressions.specs.Overrides.{OverrideOK}
+use Rattle.spec_expressions.specs.judged.GlobalExpressions.{GlobalExpressionOK}
+use Rattle.spec_expressions.specs.judged.Overrides.{OverrideOK}
 use Rattle.typing_layout.proofs.Capable.{more_capabilities as types_more}
-use Rattle.typing_layout.specs.Rules.{TypeOK}
-use Rattle.judgement.specs.ModuleLaws.{MayUseMore, MoreCapabilities}
+use Rattle.typing_layout.specs.judged.Rules.{TypeOK}
+use Rattle.judgement.specs.found.ModuleLaws.{MayUseMore, MoreCapabilities}
 use Rattle.judgement.specs.declared.settings.ModuleSettings.{ModuleSettings}
-use Rattle.judgement.specs.ModuleSteps.{ModuleStep, layout, type, typing, expression, constant, override, StepOK}
+use Rattle.judgement.specs.judged.ModuleSteps.{ModuleStep, layout, type, typing, expression, constant, override, StepOK}
 
 asked_too : (few many : ModuleSettings) → MayUseMore few many → Has many.flags.0 CONSTANTS.0 → Has few.flags.0 CONSTANTS.0
 asked_too few many more has = subst (λ (f : ValidationFlags). Has f.0 CONSTANTS.0) (sym more.flags) has

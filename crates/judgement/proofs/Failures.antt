@@ -1,9 +1,9 @@
 -- Which step fails first.
 use Rattle.std.proofs.Common.{◌≡◌, ◌<◌, ◌⊎◌, inl, inr, ℕ, zero, suc, sym, ap, subst, refl, ◌∙◌, arith, rules}
-use Rattle.ir_items.specs.Plain.{PlainModule}
-use Rattle.judgement.specs.ModuleLaws.{OneFailure, NoneFails}
+use Rattle.ir_items.specs.judged.Plain.{PlainModule}
+use Rattle.judgement.specs.found.ModuleLaws.{OneFailure, NoneFails}
 use Rattle.judgement.specs.declared.settings.ModuleSettings.{ModuleSettings}
-use Rattle.judgement.specs.ModuleSteps.{ModuleStep, layout, type, typing, expression, constant, override, rank, StepOK, IsFirstFailing}
+use Rattle.judgement.specs.judged.ModuleSteps.{ModuleStep, layout, type, typing, expression, constant, override, rank, StepOK, IsFirstFailing}
 
 -- the step of a rank
 ranked : ℕ → ModuleStep

@@ -2,11 +2,11 @@
 use Rattle.std.proofs.Common.{◌≡◌, ◌<◌, ◌+◌, ℕ, zero, suc, false, List, [], ◌∷◌, ◌++◌, length, slice_get, Some, refl, sym, ap, subst, ◌∙◌, arith}
 use Rattle.std.specs.Prelude.{slice_index_or, flat_map}
 use Rattle.spec_analysis.specs.declared.global_use.GlobalUse.{GlobalUse}
-use Rattle.ir_items.specs.Plain.{PlainEntry, PlainModule}
-use Rattle.spec_analysis.specs.Summaries.{no_use}
-use Rattle.judgement.specs.Lines.{each_from, buffers, is_own, global_line, entry_lines}
-use Rattle.judgement.specs.Reports.{AreUses, ArePairs}
-use Rattle.judgement.specs.ReportLaws.{OneEntryReport, OneReport}
+use Rattle.ir_items.specs.judged.Plain.{PlainEntry, PlainModule}
+use Rattle.spec_analysis.specs.judged.Summaries.{no_use}
+use Rattle.judgement.specs.judged.Lines.{each_from, buffers, is_own, global_line, entry_lines}
+use Rattle.judgement.specs.judged.Reports.{AreUses, ArePairs}
+use Rattle.judgement.specs.found.ReportLaws.{OneEntryReport, OneReport}
 use Rattle.judgement.proofs.Pairs.{one_order}
 use Rattle.judgement.proofs.Uses.{SameBits, same_line}
 

@@ -8,9 +8,9 @@ use Rattle.std.specs.declared.cmp.Ordering.{Ordering}
 use Rattle.std.specs.declared.cmp.Ordering.TheVariants.{Less, Equal, Greater}
 use Rattle.std.proofs.lemmas.Bool.{cases_lt, cases_eq}
 use Rattle.std.proofs.lemmas.Cmp.{ranked}
-use Rattle.typing_rules.specs.Laws.{IsAmong}
+use Rattle.typing_rules.specs.judged.Laws.{IsAmong}
 use Rattle.judgement.proofs.Classical.{Holds, surely, then, either}
-use Rattle.judgement.specs.Reports.{pair_cmp}
+use Rattle.judgement.specs.judged.Reports.{pair_cmp}
 
 -- ---- the order
 

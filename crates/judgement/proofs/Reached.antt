@@ -2,11 +2,11 @@
 use Rattle.std.proofs.Common.{◌≡◌, ◌<◌, ◌⊎◌, inl, inr, ℕ, zero, suc, sym, subst, arith, rules}
 use Rattle.ir_flags.specs.Sets.{Has}
 use Rattle.ir_flags.specs.declared.settings.TheConstants.ValidationFlags.{CONSTANTS}
-use Rattle.ir_items.specs.Plain.{PlainModule}
+use Rattle.ir_items.specs.judged.Plain.{PlainModule}
 use Rattle.spec_handles.specs.InOrder.{HandlesOK}
 use Rattle.judgement.proofs.Failures.{same_rank}
 use Rattle.judgement.specs.declared.settings.ModuleSettings.{ModuleSettings}
-use Rattle.judgement.specs.ModuleSteps.{ModuleStep, layout, type, typing, expression, constant, override, rank, StepPasses, IsReached, ModuleOK}
+use Rattle.judgement.specs.judged.ModuleSteps.{ModuleStep, layout, type, typing, expression, constant, override, rank, StepPasses, IsReached, ModuleOK}
 
 below_or_same : (a b : ℕ) → a < suc b → (a < b) ⊎ (a ≡ b)
 below_or_same a b lt = search rules

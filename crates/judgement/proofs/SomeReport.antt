@@ -1,16 +1,16 @@
 -- There is a report on each module whose handles are in order.
 use Rattle.std.proofs.Common.{◌≡◌, ◌<◌, ◌≤◌, inl, inr, ℕ, zero, suc, ◌+◌, List, [], ◌∷◌, ◌++◌, length, Option, Some, None, slice_get, refl, sym, ap, subst, ◌∙◌, arith}
 use Rattle.std.specs.Prelude.{◌↔◌, flat_map, slice_index_or}
-use Rattle.spec_analysis.specs.Pairs.{SamplingPair}
+use Rattle.spec_analysis.specs.judged.Pairs.{SamplingPair}
 use Rattle.spec_analysis.specs.declared.global_use.GlobalUse.{GlobalUse}
 use Rattle.spec_analysis.specs.declared.sampling.GlobalOrArgument.{GlobalOrArgument}
 use Rattle.spec_analysis.specs.declared.sampling.GlobalOrArgument.TheVariants.{Global, Argument}
-use Rattle.ir_types.specs.ExpressionPlain.{PlainExpression, plain}
+use Rattle.ir_types.specs.judged.ExpressionPlain.{PlainExpression, plain}
 use Rattle.ir_types.specs.declared.expressions.Expression.TheVariants as x
-use Rattle.ir_items.specs.Plain.{PlainEntry, PlainFunction, PlainModule}
-use Rattle.typing_rules.specs.Laws.{IsAmong}
-use Rattle.spec_analysis.specs.Chains.{base_denotes, denotes, place, Step, IsChain, end_of, bound, argument_means, seen_through, HasUse, HasPair}
-use Rattle.spec_analysis.specs.Summaries.{no_use}
+use Rattle.ir_items.specs.judged.Plain.{PlainEntry, PlainFunction, PlainModule}
+use Rattle.typing_rules.specs.judged.Laws.{IsAmong}
+use Rattle.spec_analysis.specs.judged.Chains.{base_denotes, denotes, place, Step, IsChain, end_of, bound, argument_means, seen_through, HasUse, HasPair}
+use Rattle.spec_analysis.specs.judged.Summaries.{no_use}
 use Rattle.spec_handles.specs.Conditions.{HandlesInRange}
 use Rattle.spec_handles.specs.InOrder.{HandlesOK}
 use Rattle.spec_handles.specs.References.{computed, item, expression_names}
@@ -19,9 +19,9 @@ use Rattle.judgement.proofs.Numbers.{HasBits, some_number, HasItems, some_list}
 use Rattle.judgement.proofs.Classical.{Holds, surely, then}
 use Rattle.judgement.proofs.FourKinds.{use_kind}
 use Rattle.judgement.proofs.Ordered.{some_ordered}
-use Rattle.judgement.specs.ReportLaws.{SomeReport}
-use Rattle.judgement.specs.Lines.{buffers, entry_lines}
-use Rattle.judgement.specs.Reports.{AreUses, ArePairs, IsEntryReport, AreEntryReports, IsReport}
+use Rattle.judgement.specs.found.ReportLaws.{SomeReport}
+use Rattle.judgement.specs.judged.Lines.{buffers, entry_lines}
+use Rattle.judgement.specs.judged.Reports.{AreUses, ArePairs, IsEntryReport, AreEntryReports, IsReport}
 
 -- ---- pairs are of global variables that are there
 

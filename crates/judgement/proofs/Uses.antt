@@ -4,8 +4,8 @@ use Rattle.std.specs.Prelude.{◌↔◌, codes, decimal, if◌then◌else◌}
 use Rattle.std.specs.Int.{bit_at}
 use Rattle.std.proofs.lemmas.Bool.{cases_eq}
 use Rattle.std.proofs.lemmas.Nat.Bits.{same_from_bits, bit_at-lt}
-use Rattle.judgement.specs.Lines.{is_own, is_used, use_words, global_line}
-use Rattle.ir_items.specs.Plain.{PlainEntry}
+use Rattle.judgement.specs.judged.Lines.{is_own, is_used, use_words, global_line}
+use Rattle.ir_items.specs.judged.Plain.{PlainEntry}
 use Rattle.spec_analysis.specs.declared.global_use.GlobalUse.{GlobalUse}
 
 abbrev pub SameBits : GlobalUse → GlobalUse → Type 0

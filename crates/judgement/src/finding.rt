@@ -29,7 +29,7 @@ pub enum Step {
 
 impl Display for Step {
     ghost use Rattle.std.specs.Prelude.{Some};
-    ghost use Rattle.judgement.specs.Text.{step_word};
+    ghost use Rattle.judgement.specs.judged.Text.{step_word};
 
     ghost output = { λ s. Some (step_word s) };
 
@@ -66,7 +66,7 @@ pub enum Finding {
 }
 
 impl Finding {
-    ghost use Rattle.judgement.specs.Text.{text_of};
+    ghost use Rattle.judgement.specs.judged.Text.{text_of};
 
     /// The line that tells it, ended by a line feed. The error is out of memory.
     pub fn text(self, alloc: Global) -> Result<String, AllocError>

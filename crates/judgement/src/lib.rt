@@ -1,6 +1,6 @@
 //! The judgement of a document: what a module has to meet up to its overrides, step by step, and which step fails first
-//! (`specs/ModuleSteps.antt`); all steps (`specs/Steps.antt`); the report of an accepted module, its buffers and what its entry
-//! points use, as lines (`specs/Lines.antt`, `Reports.antt`); and what is found of a document, with its text (`specs/Text.antt`).
+//! (`specs/judged/ModuleSteps.antt`); all steps (`specs/judged/Steps.antt`); the report of an accepted module, its buffers and what its entry
+//! points use, as lines (`specs/judged/Lines.antt`, `Reports.antt`); and what is found of a document, with its text (`specs/judged/Text.antt`).
 #![tactic(auto)]
 
 mod finding;

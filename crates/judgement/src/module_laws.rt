@@ -1,6 +1,6 @@
 //! Laws of the steps.
 
-ghost use Rattle.judgement.specs.ModuleLaws.{MoreCapabilities, OneFailure, NoneFails};
+ghost use Rattle.judgement.specs.found.ModuleLaws.{MoreCapabilities, OneFailure, NoneFails};
 
 /// What is accepted where shaders may use less is accepted where they may use more.
 #[tactic(auto, using(crate::proofs::Capable::module_more))]

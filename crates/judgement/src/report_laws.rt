@@ -1,6 +1,6 @@
 //! Laws of reports.
 
-ghost use Rattle.judgement.specs.ReportLaws.{OneEntryReport, OneReport, SomeReport, NamedAreReported};
+ghost use Rattle.judgement.specs.found.ReportLaws.{OneEntryReport, OneReport, SomeReport, NamedAreReported};
 
 /// A module has one report at most, and so has each of its entry points.
 pub fn one_report()

@@ -2,22 +2,22 @@
 use Rattle.std.proofs.Common.{◌≡◌, ◌∙◌, ℕ, Option, Some, None, option_and_then, slice_get, refl, sym, ap, subst, List}
 use Rattle.std.proofs.lemmas.Option.{slice_get_within}
 use Rattle.std.specs.Prelude.{IsSomeAnd}
-use Rattle.ir_blocks.specs.Places.{Place, OccursAt}
-use Rattle.ir_blocks.specs.Plain.{PlainOperation, control_barrier, memory_barrier, store, image_store, atomic, image_atomic, uniform_load, ray_query, ballot, collective, gather, cooperative_store, ray_pipeline, PlainStatement, emit, block, if_, switch, loop, break, continue, return, kill, operation, call}
-use Rattle.ir_types.specs.ExpressionPlain.{PlainExpression, plain}
+use Rattle.ir_blocks.specs.judged.Places.{Place, OccursAt}
+use Rattle.ir_blocks.specs.judged.Plain.{PlainOperation, control_barrier, memory_barrier, store, image_store, atomic, image_atomic, uniform_load, ray_query, ballot, collective, gather, cooperative_store, ray_pipeline, PlainStatement, emit, block, if_, switch, loop, break, continue, return, kill, operation, call}
+use Rattle.ir_types.specs.judged.ExpressionPlain.{PlainExpression, plain}
 use Rattle.ir_types.specs.declared.expressions.Expression.TheVariants as x
 use Rattle.ir_flags.specs.Sets.{Has}
 use Rattle.ir_flags.specs.declared.settings.TheConstants.ValidationFlags.{BLOCKS, EXPRESSIONS}
-use Rattle.ir_items.specs.Plain.{PlainFunction, PlainModule}
+use Rattle.ir_items.specs.judged.Plain.{PlainFunction, PlainModule}
 use Rattle.judgement_laws.specs.Laws.{IsCallOf, IsOperationOf, OccursOnce, EachAnswered, AnsweredByOne}
-use Rattle.spec_statements.specs.ModuleFunctions.{FunctionAtOK}
+use Rattle.spec_statements.specs.judged.ModuleFunctions.{FunctionAtOK}
 use Rattle.ir_kinds.specs.declared.scalars.Scalar.{Scalar}
 use Rattle.spec_handles.specs.Operands.{compared}
-use Rattle.spec_statements.specs.Atomics.{AnswerOK, AtomicAnswer, AtomicChangeOK, changed_scalar, declared_answer}
-use Rattle.spec_statements.specs.BlockContext.{BlockContext, form_at}
-use Rattle.spec_statements.specs.Functions.{FunctionSettings, BodyOK}
-use Rattle.spec_statements.specs.Results.{AnswersBy, DenotesResult, of_call, of_atomic, answer_of, operation_answer}
-use Rattle.spec_statements.specs.Statements.{OperationOK, StatementOK}
+use Rattle.spec_statements.specs.judged.Atomics.{AnswerOK, AtomicAnswer, AtomicChangeOK, changed_scalar, declared_answer}
+use Rattle.spec_statements.specs.judged.BlockContext.{BlockContext, form_at}
+use Rattle.spec_statements.specs.judged.Functions.{FunctionSettings, BodyOK}
+use Rattle.spec_statements.specs.judged.Results.{AnswersBy, DenotesResult, of_call, of_atomic, answer_of, operation_answer}
+use Rattle.spec_statements.specs.judged.Statements.{OperationOK, StatementOK}
 
 some_is : {A : Type 0} {x y : A} → Some x ≡ Some y → x ≡ y
 some_is e = cc (e)

@@ -1,17 +1,17 @@
 -- The global variables of an entry point's report have bindings that differ.
 use Rattle.std.proofs.Common.{◌≡◌, ◌<◌, inl, ℕ, List, Option, Some, None, length, slice_get, option_and_then, refl, subst, sym, ap, ◌∙◌}
 use Rattle.std.proofs.lemmas.Option.{slice_get_within}
-use Rattle.ir_items.specs.GlobalPlain.{PlainGlobal}
-use Rattle.ir_items.specs.Plain.{PlainEntry, PlainModule}
+use Rattle.ir_items.specs.judged.GlobalPlain.{PlainGlobal}
+use Rattle.ir_items.specs.judged.Plain.{PlainEntry, PlainModule}
 use Rattle.ir_kinds.specs.declared.bindings.ResourceBinding.{ResourceBinding}
 use Rattle.judgement_laws.specs.Laws.{IsReported, BindingsDiffer}
-use Rattle.spec_analysis.specs.Chains.{HasUse}
-use Rattle.spec_interface.specs.Modules.{EntryAtOK}
-use Rattle.spec_interface.specs.Payloads.{binding_at}
-use Rattle.spec_interface.specs.Uses.{EntryUses}
-use Rattle.spec_interface.specs.Variables.{IsUsed}
+use Rattle.spec_analysis.specs.judged.Chains.{HasUse}
+use Rattle.spec_interface.specs.judged.Modules.{EntryAtOK}
+use Rattle.spec_interface.specs.judged.Payloads.{binding_at}
+use Rattle.spec_interface.specs.judged.Uses.{EntryUses}
+use Rattle.spec_interface.specs.judged.Variables.{IsUsed}
 use Rattle.judgement.proofs.Named.{used_bit}
-use Rattle.judgement.specs.Reports.{IsEntryReport}
+use Rattle.judgement.specs.judged.Reports.{IsEntryReport}
 
 some_is : {A : Type 0} {x y : A} → Some x ≡ Some y → x ≡ y
 some_is e = cc (e)

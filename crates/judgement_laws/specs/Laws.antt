@@ -1,24 +1,24 @@
 -- What is known of every module that is accepted.
 use Rattle.std.specs.Prelude.{◌≡◌, ◌<◌, ◌++◌, ℕ, [], ◌∷◌, false, IsTrue, List, Option, Some, length, slice_get, slice_index_or}
-use Rattle.ir_blocks.specs.Places.{Place, OccursAt}
-use Rattle.ir_blocks.specs.Plain.{PlainBlock, PlainStatement, call, operation}
-use Rattle.ir_types.specs.ExpressionPlain.{PlainExpression, plain}
+use Rattle.ir_blocks.specs.judged.Places.{Place, OccursAt}
+use Rattle.ir_blocks.specs.judged.Plain.{PlainBlock, PlainStatement, call, operation}
+use Rattle.ir_types.specs.judged.ExpressionPlain.{PlainExpression, plain}
 use Rattle.ir_types.specs.declared.expressions.Expression.TheVariants as x
 use Rattle.ir_flags.specs.Sets.{Has}
 use Rattle.ir_flags.specs.declared.settings.TheConstants.ValidationFlags.{BINDINGS, BLOCKS, EXPRESSIONS}
-use Rattle.ir_items.specs.Plain.{PlainEntry, PlainFunction, PlainModule}
+use Rattle.ir_items.specs.judged.Plain.{PlainEntry, PlainFunction, PlainModule}
 use Rattle.ir_kinds.specs.declared.bindings.ResourceBinding.{ResourceBinding}
-use Rattle.spec_analysis.specs.Chains.{Step, IsChain, end_of}
-use Rattle.spec_analysis.specs.Effects.{runs, effects_of}
-use Rattle.spec_analysis.specs.Summaries.{no_use}
-use Rattle.spec_interface.specs.Modules.{EntriesOK}
-use Rattle.spec_interface.specs.Payloads.{binding_at}
-use Rattle.spec_statements.specs.ModuleFunctions.{FunctionsOK}
+use Rattle.spec_analysis.specs.judged.Chains.{Step, IsChain, end_of}
+use Rattle.spec_analysis.specs.judged.Effects.{runs, effects_of}
+use Rattle.spec_analysis.specs.judged.Summaries.{no_use}
+use Rattle.spec_interface.specs.judged.Modules.{EntriesOK}
+use Rattle.spec_interface.specs.judged.Payloads.{binding_at}
+use Rattle.spec_statements.specs.judged.ModuleFunctions.{FunctionsOK}
 use Rattle.spec_handles.specs.InOrder.{HandlesOK}
-use Rattle.judgement.specs.Lines.{is_own, is_used}
-use Rattle.judgement.specs.Reports.{IsEntryReport}
-use Rattle.spec_statements.specs.Functions.{FunctionSettings}
-use Rattle.spec_statements.specs.Results.{answer_of}
+use Rattle.judgement.specs.judged.Lines.{is_own, is_used}
+use Rattle.judgement.specs.judged.Reports.{IsEntryReport}
+use Rattle.spec_statements.specs.judged.Functions.{FunctionSettings}
+use Rattle.spec_statements.specs.judged.Results.{answer_of}
 
 -- ---- chains of calls
 

@@ -1,20 +1,20 @@
 -- The analysis of a function finds the same faults with other returns.
 use Rattle.std.proofs.Common.{◌≡◌, ◌⊎◌, inl, inr, ℕ, None, List, refl, sym, subst, IsTrue}
 use Rattle.ir_flags.specs.declared.settings.ValidationFlags.{ValidationFlags}
-use Rattle.ir_blocks.specs.Plain.{PlainBlock}
-use Rattle.ir_items.specs.Plain.{PlainFunction, PlainEntry, PlainModule}
-use Rattle.ir_types.specs.ExpressionPlain.{PlainExpression, compose, plain}
-use Rattle.typing_rules.specs.Laws.{IsAmong}
-use Rattle.spec_analysis.specs.Chains.{place}
-use Rattle.spec_analysis.specs.Effects.{samples}
-use Rattle.spec_analysis.specs.Summaries.{IsWrongArgument}
-use Rattle.spec_analysis.specs.Values.{is_source, ComesFrom, itself, through, NonUniform}
-use Rattle.spec_analysis.specs.Uniformity.{Required}
-use Rattle.spec_analysis.specs.Faults.{requirement_at}
-use Rattle.spec_analysis.specs.Faults.{FunctionFault}
-use Rattle.spec_statements.specs.Analysis.{HasWrongForm, IsAnalysed}
-use Rattle.judgement_returns.specs.Alike.{Alike}
-use Rattle.judgement_returns.specs.Like.{LikeFunction, LikeModule}
+use Rattle.ir_blocks.specs.judged.Plain.{PlainBlock}
+use Rattle.ir_items.specs.judged.Plain.{PlainFunction, PlainEntry, PlainModule}
+use Rattle.ir_types.specs.judged.ExpressionPlain.{PlainExpression, compose, plain}
+use Rattle.typing_rules.specs.judged.Laws.{IsAmong}
+use Rattle.spec_analysis.specs.judged.Chains.{place}
+use Rattle.spec_analysis.specs.judged.Effects.{samples}
+use Rattle.spec_analysis.specs.judged.Summaries.{IsWrongArgument}
+use Rattle.spec_analysis.specs.judged.Values.{is_source, ComesFrom, itself, through, NonUniform}
+use Rattle.spec_analysis.specs.judged.Uniformity.{Required}
+use Rattle.spec_analysis.specs.judged.Faults.{requirement_at}
+use Rattle.spec_analysis.specs.judged.Faults.{FunctionFault}
+use Rattle.spec_statements.specs.judged.Analysis.{HasWrongForm, IsAnalysed}
+use Rattle.judgement_returns.specs.found.Alike.{Alike}
+use Rattle.judgement_returns.specs.judged.Like.{LikeFunction, LikeModule}
 use Rattle.judgement_returns.proofs.Bodies.{asks_move}
 use Rattle.judgement_returns.proofs.Calls.{same_effects, same_expressions, step_moves, pair_moves}
 use Rattle.judgement_returns.proofs.Likeness.{function_back, module_back, over_like}

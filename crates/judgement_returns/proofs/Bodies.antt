@@ -2,22 +2,22 @@
 use native.Mathlib.Omega.{arith}
 use Rattle.std.proofs.Common.{◌≡◌, ◌⊎◌, inl, inr, ℕ, Bool, false, Option, Some, None, [], refl, sym, ap, subst, ◌∙◌, IsTrue}
 use Rattle.std.specs.Prelude.{Contains, ◌<◌}
-use Rattle.ir_blocks.specs.Plain.{PlainStatement, return, operation, PlainBlock}
-use Rattle.ir_blocks.specs.Shapes.{Exit, returns, exit_of, shape_of}
-use Rattle.ir_blocks.specs.Places.{Place, Spot, nothing, statement, loop_condition, spot_at, OccursAt}
-use Rattle.ir_blocks.specs.Control.{may_leave, parts_around, ControlOK}
-use Rattle.ir_blocks.specs.Tails.{head_of}
-use Rattle.ir_blocks.specs.View.{HoldsNoBlock}
+use Rattle.ir_blocks.specs.judged.Plain.{PlainStatement, return, operation, PlainBlock}
+use Rattle.ir_blocks.specs.judged.Shapes.{Exit, returns, exit_of, shape_of}
+use Rattle.ir_blocks.specs.judged.Places.{Place, Spot, nothing, statement, loop_condition, spot_at, OccursAt}
+use Rattle.ir_blocks.specs.judged.Control.{may_leave, parts_around, ControlOK}
+use Rattle.ir_blocks.specs.judged.Tails.{head_of}
+use Rattle.ir_blocks.specs.found.View.{HoldsNoBlock}
 use Rattle.ir_flags.specs.declared.settings.ValidationFlags.{ValidationFlags}
-use Rattle.ir_items.specs.Plain.{PlainFunction, PlainModule}
+use Rattle.ir_items.specs.judged.Plain.{PlainFunction, PlainModule}
 use Rattle.ir_kinds.specs.declared.diagnostics.Severity.{Severity}
-use Rattle.spec_analysis.specs.Disruption.{chosen_by, is_end, Disrupted, already, chosen, after}
-use Rattle.spec_analysis.specs.Uniformity.{Required, Requires, DisruptedRequirement}
-use Rattle.spec_statements.specs.Payloads.{HasPayload}
-use Rattle.spec_statements.specs.Results.{answer_of, AnswersBy, AnsweredOnce}
-use Rattle.spec_statements.specs.Scope.{Introduces, Checks, InScope, ScopeOK}
-use Rattle.spec_statements.specs.Tables.{statement_checked, checked_at, introduced, introduced_at}
-use Rattle.judgement_returns.specs.Alike.{Carried, kept, extra, IsCarried, Alike}
+use Rattle.spec_analysis.specs.judged.Disruption.{chosen_by, is_end, Disrupted, already, chosen, after}
+use Rattle.spec_analysis.specs.judged.Uniformity.{Required, Requires, DisruptedRequirement}
+use Rattle.spec_statements.specs.judged.Payloads.{HasPayload}
+use Rattle.spec_statements.specs.judged.Results.{answer_of, AnswersBy, AnsweredOnce}
+use Rattle.spec_statements.specs.judged.Scope.{Introduces, Checks, InScope, ScopeOK}
+use Rattle.spec_statements.specs.judged.Tables.{statement_checked, checked_at, introduced, introduced_at}
+use Rattle.judgement_returns.specs.found.Alike.{Carried, kept, extra, IsCarried, Alike}
 use Rattle.judgement_returns.proofs.Heads.{simple_is, by_head, checked_head, introduced_head, answer_head, chosen_head, end_head, exit_head, asks_by_head}
 
 -- ---- properties of statements

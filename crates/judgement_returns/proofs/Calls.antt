@@ -1,15 +1,15 @@
 -- Chains of calls, and what a function has over all of them, are alike.
 use Rattle.std.proofs.Common.{◌≡◌, inl, inr, ℕ, Option, Some, List, [], ◌∷◌, ◌++◌, slice_get, refl, sym, ap, subst, ◌∙◌}
-use Rattle.ir_items.specs.Plain.{PlainFunction, PlainModule}
-use Rattle.ir_types.specs.ExpressionPlain.{plain}
+use Rattle.ir_items.specs.judged.Plain.{PlainFunction, PlainModule}
+use Rattle.ir_types.specs.judged.ExpressionPlain.{plain}
 use Rattle.ir_types.specs.declared.expressions.Expression.TheVariants.{GlobalVariable}
-use Rattle.typing_rules.specs.Laws.{IsAmong}
-use Rattle.spec_analysis.specs.Pairs.{SamplingPair}
+use Rattle.typing_rules.specs.judged.Laws.{IsAmong}
+use Rattle.spec_analysis.specs.judged.Pairs.{SamplingPair}
 use Rattle.spec_analysis.specs.declared.sampling.GlobalOrArgument.{GlobalOrArgument}
-use Rattle.spec_analysis.specs.Effects.{takes, samples, runs, expressions_effects, effects_of}
-use Rattle.spec_analysis.specs.Chains.{place, Step, Calls, end_of, IsChain, seen_through, bound, Reaches, UsesDirectly, Names, IsUnusedFrom, HasUse, HasPair}
-use Rattle.spec_analysis.specs.Values.{StartsAt}
-use Rattle.judgement_returns.specs.Like.{LikeFunction, LikeModule}
+use Rattle.spec_analysis.specs.judged.Effects.{takes, samples, runs, expressions_effects, effects_of}
+use Rattle.spec_analysis.specs.judged.Chains.{place, Step, Calls, end_of, IsChain, seen_through, bound, Reaches, UsesDirectly, Names, IsUnusedFrom, HasUse, HasPair}
+use Rattle.spec_analysis.specs.judged.Values.{StartsAt}
+use Rattle.judgement_returns.specs.judged.Like.{LikeFunction, LikeModule}
 use Rattle.judgement_returns.proofs.Likeness.{function_back, module_back}
 
 pub same_expressions : {f g : PlainFunction} → LikeFunction f g → f.expressions ≡ g.expressions

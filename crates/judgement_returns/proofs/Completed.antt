@@ -1,14 +1,14 @@
 -- A body and the body completed with returns are alike.
 use Rattle.std.proofs.Common.{◌≡◌, ◌⊎◌, inl, inr, ℕ, zero, suc, Bool, true, false, Option, None, List, [], ◌∷◌, ◌++◌, refl, sym, ap, subst, ◌∙◌}
-use Rattle.ir_blocks.specs.Plain.{PlainStatement, block, if_, switch, return, PlainBlock, stop, next, PlainCases, no_case, case}
-use Rattle.ir_blocks.specs.Shapes.{Shape, leaves, nests, chooses, switches, shape_of, Part, inner, accepting, rejecting, case_at, loop_body, loop_continuing, case_body, part_of}
-use Rattle.ir_blocks.specs.Places.{Place, here, later, inside, condition, Before, earlier, both_later, both_inside, body_before_continuing, body_before_condition, continuing_before_condition, nothing, loop_condition, condition_of, spot_at, OccursAt}
-use Rattle.ir_blocks.specs.Control.{returns_in, parts_around}
-use Rattle.ir_blocks.specs.Tails.{Ends, IsTailPart, goes_on, IsOpenEnd, empty, after_last, further, in_tail, head_of, ending, completed, finished, finished_cases}
+use Rattle.ir_blocks.specs.judged.Plain.{PlainStatement, block, if_, switch, return, PlainBlock, stop, next, PlainCases, no_case, case}
+use Rattle.ir_blocks.specs.judged.Shapes.{Shape, leaves, nests, chooses, switches, shape_of, Part, inner, accepting, rejecting, case_at, loop_body, loop_continuing, case_body, part_of}
+use Rattle.ir_blocks.specs.judged.Places.{Place, here, later, inside, condition, Before, earlier, both_later, both_inside, body_before_continuing, body_before_condition, continuing_before_condition, nothing, loop_condition, condition_of, spot_at, OccursAt}
+use Rattle.ir_blocks.specs.judged.Control.{returns_in, parts_around}
+use Rattle.ir_blocks.specs.judged.Tails.{Ends, IsTailPart, goes_on, IsOpenEnd, empty, after_last, further, in_tail, head_of, ending, completed, finished, finished_cases}
 use Rattle.ir_blocks.proofs.TailLaws as tail
-use Rattle.spec_analysis.specs.Effects.{statement_effects, effects_in, effects_inside, effects_in_cases}
-use Rattle.spec_analysis.specs.Positions.{Holds, holds_later, holds_inside}
-use Rattle.judgement_returns.specs.Alike.{Carried, kept, extra, Alike}
+use Rattle.spec_analysis.specs.judged.Effects.{statement_effects, effects_in, effects_inside, effects_in_cases}
+use Rattle.spec_analysis.specs.judged.Positions.{Holds, holds_later, holds_inside}
+use Rattle.judgement_returns.specs.found.Alike.{Carried, kept, extra, Alike}
 
 -- ---- parts of a finished statement (as in TailLaws, where these are not public)
 

@@ -6,27 +6,27 @@ use Rattle.ir_flags.specs.Sets.{Has}
 use Rattle.ir_flags.specs.declared.settings.Capabilities.{Capabilities}
 use Rattle.ir_flags.specs.declared.settings.ValidationFlags.{ValidationFlags}
 use Rattle.ir_flags.specs.declared.stages.ShaderStages.{ShaderStages}
-use Rattle.ir_items.specs.GlobalPlain.{PlainGlobal}
-use Rattle.ir_items.specs.Plain.{PlainFunction, PlainEntry, PlainModule}
+use Rattle.ir_items.specs.judged.GlobalPlain.{PlainGlobal}
+use Rattle.ir_items.specs.judged.Plain.{PlainFunction, PlainEntry, PlainModule}
 use Rattle.ir_items.specs.declared.entries.MeshStageInfo.{MeshStageInfo}
 use Rattle.ir_kinds.specs.declared.stages.ShaderStage.{ShaderStage}
 use Rattle.ir_kinds.specs.declared.stages.ShaderStage.TheVariants.{Vertex, Fragment, Compute, Mesh, Task, RayGeneration, AnyHit, ClosestHit, Miss}
-use Rattle.spec_analysis.specs.Chains.{HasUse}
-use Rattle.spec_statements.specs.ExpressionStages.{all_stages}
-use Rattle.spec_statements.specs.Functions.{FunctionSettings, AllowsStage}
-use Rattle.spec_interface.specs.Contexts.{stage_set}
-use Rattle.spec_interface.specs.Entries.{ConnectionsOK, EntryOK}
-use Rattle.spec_interface.specs.EarlierPayloads.{HasEntryPayload, HasPayloadSoFar, IsPayloadBeforeEntry}
+use Rattle.spec_analysis.specs.judged.Chains.{HasUse}
+use Rattle.spec_statements.specs.judged.ExpressionStages.{all_stages}
+use Rattle.spec_statements.specs.judged.Functions.{FunctionSettings, AllowsStage}
+use Rattle.spec_interface.specs.judged.Contexts.{stage_set}
+use Rattle.spec_interface.specs.judged.Entries.{ConnectionsOK, EntryOK}
+use Rattle.spec_interface.specs.judged.EarlierPayloads.{HasEntryPayload, HasPayloadSoFar, IsPayloadBeforeEntry}
 use Rattle.spec_interface.specs.declared.parts.MeshParts.{MeshParts}
-use Rattle.spec_interface.specs.Meshes.{HasParts, ImpliesMeshInfo, without_overrides, IsSaid, MeshOK}
-use Rattle.spec_interface.specs.Modules as entries
-use Rattle.spec_interface.specs.Modules.{IsConflict, reading_with, AreStages, entry_settings, EntryAtOK, EntriesOK}
-use Rattle.spec_interface.specs.Payloads.{PayloadOK}
-use Rattle.spec_interface.specs.Stages.{StageOK}
-use Rattle.spec_interface.specs.Uses.{OwnUse, EntryUses}
-use Rattle.spec_interface.specs.Variables.{OwnPayloadOK, VariableOK, VariablesOK, IsUsed}
-use Rattle.spec_statements.specs.EarlierPayloads.{HasPayloadBefore}
-use Rattle.judgement_returns.specs.Like.{LikeEntry, LikeModule}
+use Rattle.spec_interface.specs.judged.Meshes.{HasParts, ImpliesMeshInfo, without_overrides, IsSaid, MeshOK}
+use Rattle.spec_interface.specs.judged.Modules as entries
+use Rattle.spec_interface.specs.judged.Modules.{IsConflict, reading_with, AreStages, entry_settings, EntryAtOK, EntriesOK}
+use Rattle.spec_interface.specs.judged.Payloads.{PayloadOK}
+use Rattle.spec_interface.specs.judged.Stages.{StageOK}
+use Rattle.spec_interface.specs.judged.Uses.{OwnUse, EntryUses}
+use Rattle.spec_interface.specs.judged.Variables.{OwnPayloadOK, VariableOK, VariablesOK, IsUsed}
+use Rattle.spec_statements.specs.judged.EarlierPayloads.{HasPayloadBefore}
+use Rattle.judgement_returns.specs.judged.Like.{LikeEntry, LikeModule}
 use Rattle.judgement_returns.proofs.Calls.{use_moves}
 use Rattle.judgement_returns.proofs.Functions.{payload_like, payload_before, function_moves, stage_moves}
 use Rattle.judgement_returns.proofs.Likeness.{function_back, entry_back, module_back, over_entry}

@@ -1,14 +1,14 @@
 -- What is found of modules that differ in returns alone is the same.
 use Rattle.std.proofs.Common.{Bool, true, false, sym, subst}
 use Rattle.ir_flags.specs.Settings.{PlainSettings}
-use Rattle.ir_items.specs.Plain.{PlainModule}
-use Rattle.judgement.specs.Steps.{module_settings, function_settings, IsPrepared, IsFinding}
+use Rattle.ir_items.specs.judged.Plain.{PlainModule}
+use Rattle.judgement.specs.judged.Steps.{module_settings, function_settings, IsPrepared, IsFinding}
 use Rattle.judgement.specs.declared.finding.Finding.{Finding}
 use Rattle.judgement.specs.declared.finding.Finding.TheVariants.{Accepted, RefusedDocument, RefusedHandles, Refused}
 use Rattle.judgement.specs.declared.finding.Step.TheVariants.{Layout, «Type», Typing, Expression, Constant, Override, Global, Function, Entry}
-use Rattle.judgement.specs.ModuleSteps as step
-use Rattle.judgement_returns.specs.Like.{HasNoResult, LikeModule}
-use Rattle.judgement_returns.specs.Laws.{ReturnsKeepFinding, AreJudgedAlike, ReturnsDontMatter}
+use Rattle.judgement.specs.judged.ModuleSteps as step
+use Rattle.judgement_returns.specs.judged.Like.{HasNoResult, LikeModule}
+use Rattle.judgement_returns.specs.found.Laws.{ReturnsKeepFinding, AreJudgedAlike, ReturnsDontMatter}
 use Rattle.judgement_returns.proofs.Entries.{entries_move, first_entry_moves}
 use Rattle.judgement_returns.proofs.Functions.{functions_move, first_function_moves}
 use Rattle.judgement_returns.proofs.Handles.{handles_move}

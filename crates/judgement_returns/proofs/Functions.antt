@@ -1,26 +1,26 @@
 -- A function is accepted alike with other returns.
 use Rattle.std.proofs.Common.{◌≡◌, ℕ, Option, None, List, [], refl, sym, ap, subst, ◌∙◌}
 use Rattle.std.specs.Prelude.{◌<◌, length}
-use Rattle.ir_blocks.specs.Places.{Place, OccursAt}
-use Rattle.ir_blocks.specs.Plain.{PlainStatement, return, call}
+use Rattle.ir_blocks.specs.judged.Places.{Place, OccursAt}
+use Rattle.ir_blocks.specs.judged.Plain.{PlainStatement, return, call}
 use Rattle.ir_flags.specs.Sets.{Has}
 use Rattle.ir_flags.specs.declared.settings.ValidationFlags.{ValidationFlags}
 use Rattle.ir_flags.specs.declared.stages.ShaderStages.{ShaderStages}
-use Rattle.ir_items.specs.Plain.{PlainFunction, PlainModule}
+use Rattle.ir_items.specs.judged.Plain.{PlainFunction, PlainModule}
 use Rattle.typing_forms.specs.declared.form.Form.{Form}
-use Rattle.spec_expressions.specs.Context.{inside}
+use Rattle.spec_expressions.specs.judged.Context.{inside}
 use Rattle.spec_handles.specs.Conditions.{AritiesMatch}
-use Rattle.spec_statements.specs.ExpressionStages.{all_stages}
-use Rattle.spec_statements.specs.Functions.{FunctionSettings, AreFormsBy, block_context, BodyOK, FunctionOK, AllowsStage}
-use Rattle.spec_statements.specs.Payloads.{HasPayload}
-use Rattle.spec_statements.specs.Stages.{statement_stages}
-use Rattle.spec_statements.specs.Statements.{StatementOK}
-use Rattle.spec_statements.specs.ModuleFunctions as functions
-use Rattle.spec_statements.specs.ModuleFunctions.{settings_with, FunctionAtOK, FunctionsOK}
-use Rattle.spec_statements.specs.EarlierPayloads.{HasPayloadBefore, IsPayloadBefore}
-use Rattle.spec_interface.specs.Modules.{reading_with}
-use Rattle.judgement_returns.specs.Alike.{Carried, kept, extra}
-use Rattle.judgement_returns.specs.Like.{LikeFunction, LikeModule}
+use Rattle.spec_statements.specs.judged.ExpressionStages.{all_stages}
+use Rattle.spec_statements.specs.judged.Functions.{FunctionSettings, AreFormsBy, block_context, BodyOK, FunctionOK, AllowsStage}
+use Rattle.spec_statements.specs.judged.Payloads.{HasPayload}
+use Rattle.spec_statements.specs.judged.Stages.{statement_stages}
+use Rattle.spec_statements.specs.judged.Statements.{StatementOK}
+use Rattle.spec_statements.specs.judged.ModuleFunctions as functions
+use Rattle.spec_statements.specs.judged.ModuleFunctions.{settings_with, FunctionAtOK, FunctionsOK}
+use Rattle.spec_statements.specs.judged.EarlierPayloads.{HasPayloadBefore, IsPayloadBefore}
+use Rattle.spec_interface.specs.judged.Modules.{reading_with}
+use Rattle.judgement_returns.specs.found.Alike.{Carried, kept, extra}
+use Rattle.judgement_returns.specs.judged.Like.{LikeFunction, LikeModule}
 use Rattle.judgement_returns.proofs.Analysis.{analysed_moves}
 use Rattle.judgement_returns.proofs.Strict.{strict_moves}
 use Rattle.judgement_returns.proofs.Bodies.{is_same, carry, scope_moves, control_moves, answered_moves, payload_moves}

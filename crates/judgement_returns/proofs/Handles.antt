@@ -1,8 +1,8 @@
 -- Handles in order stay in order.
 use Rattle.std.proofs.Common.{◌≡◌, ℕ, Some, List, slice_get, sym, subst}
 use Rattle.std.specs.Prelude.{◌<◌, Contains}
-use Rattle.ir_blocks.specs.Plain.{PlainBlock}
-use Rattle.ir_items.specs.Plain.{PlainFunction, PlainEntry, PlainModule}
+use Rattle.ir_blocks.specs.judged.Plain.{PlainBlock}
+use Rattle.ir_items.specs.judged.Plain.{PlainFunction, PlainEntry, PlainModule}
 use Rattle.spec_handles.specs.declared.target.Target.TheVariants as target
 use Rattle.spec_handles.specs.Items.{mesh_types, mesh_expressions, entry_variables}
 use Rattle.spec_handles.specs.References.{Named, item, operand, range, IsThere}
@@ -12,8 +12,8 @@ use Rattle.spec_handles.specs.Modules.{NamesIn, IsThereIn}
 use Rattle.spec_handles.specs.Order as order
 use Rattle.spec_handles.specs.Order.{Ordered, NamesType, DependsOn, IsBefore}
 use Rattle.spec_handles.specs.InOrder.{HandlesOK}
-use Rattle.judgement_returns.specs.Like.{Matched, LikeFunction, LikeEntry, LikeModule}
-use Rattle.judgement_returns.specs.Laws.{ReturnsKeepHandles}
+use Rattle.judgement_returns.specs.judged.Like.{Matched, LikeFunction, LikeEntry, LikeModule}
+use Rattle.judgement_returns.specs.found.Laws.{ReturnsKeepHandles}
 use Rattle.judgement_returns.proofs.Likeness.{function_back, module_back, over_like, like_returned}
 use Rattle.judgement_returns.proofs.Named.{names_move}
 use Rattle.judgement_returns.proofs.Calls.{same_expressions}

@@ -5,22 +5,22 @@ use Rattle.std.specs.List.{AllPairs}
 use Rattle.ir_kinds.specs.declared.scalars.ScalarKind.{ScalarKind}
 use Rattle.ir_kinds.specs.declared.values.SwitchValue.TheVariants.{Default}
 use Rattle.ir_flags.specs.declared.stages.ShaderStages.{ShaderStages}
-use Rattle.ir_blocks.specs.Plain.{PlainStatement, block, if_, switch, loop, PlainCases, no_case, case}
-use Rattle.ir_blocks.specs.Shapes.{exit_of, shape_of}
-use Rattle.ir_blocks.specs.Tails.{case_heads, head_of}
-use Rattle.ir_blocks.specs.View.{HoldsNoBlock}
-use Rattle.spec_analysis.specs.Disruption.{chosen_by, is_end}
-use Rattle.spec_analysis.specs.Uniformity.{Required, Requires}
+use Rattle.ir_blocks.specs.judged.Plain.{PlainStatement, block, if_, switch, loop, PlainCases, no_case, case}
+use Rattle.ir_blocks.specs.judged.Shapes.{exit_of, shape_of}
+use Rattle.ir_blocks.specs.judged.Tails.{case_heads, head_of}
+use Rattle.ir_blocks.specs.found.View.{HoldsNoBlock}
+use Rattle.spec_analysis.specs.judged.Disruption.{chosen_by, is_end}
+use Rattle.spec_analysis.specs.judged.Uniformity.{Required, Requires}
 use Rattle.ir_kinds.specs.declared.diagnostics.Severity.{Severity}
 use Rattle.spec_handles.specs.Statements.{statement_operands, statement_result, statement_range, statement_callee}
-use Rattle.spec_statements.specs.BlockContext.{BlockContext, form_at}
-use Rattle.spec_statements.specs.Results.{answer_of}
-use Rattle.spec_statements.specs.Shapes.{shaped_of}
-use Rattle.spec_statements.specs.Stages.{statement_stages}
-use Rattle.spec_statements.specs.Statements.{StatementOK}
-use Rattle.spec_statements.specs.Strict.{statement_needed}
-use Rattle.spec_statements.specs.Switches.{case_values, falls_at_end, CasesOK}
-use Rattle.spec_statements.specs.Tables.{statement_checked, introduced}
+use Rattle.spec_statements.specs.judged.BlockContext.{BlockContext, form_at}
+use Rattle.spec_statements.specs.judged.Results.{answer_of}
+use Rattle.spec_statements.specs.judged.Shapes.{shaped_of}
+use Rattle.spec_statements.specs.judged.Stages.{statement_stages}
+use Rattle.spec_statements.specs.judged.Statements.{StatementOK}
+use Rattle.spec_statements.specs.judged.Strict.{statement_needed}
+use Rattle.spec_statements.specs.judged.Switches.{case_values, falls_at_end, CasesOK}
+use Rattle.spec_statements.specs.judged.Tables.{statement_checked, introduced}
 use Rattle.judgement_returns.proofs.Shared.{some_and}
 
 -- a statement without blocks is what is seen of it from outside

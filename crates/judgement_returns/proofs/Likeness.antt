@@ -1,12 +1,12 @@
 -- Modules that differ by returns alone: how they arise, and that the relation goes both ways.
 use Rattle.std.proofs.Common.{◌≡◌, inl, ℕ, zero, suc, Some, None, List, [], ◌∷◌, slice_get, refl, sym, ap, subst, ◌∙◌}
 use Rattle.std.specs.List.{AllZip}
-use Rattle.ir_blocks.specs.Plain.{PlainBlock}
+use Rattle.ir_blocks.specs.judged.Plain.{PlainBlock}
 use Rattle.ir_blocks.proofs.OneCompleted.{one_completed}
-use Rattle.ir_items.specs.Plain.{PlainFunction, PlainEntry, PlainModule}
-use Rattle.ir_items.specs.Returned.{IsReturnedFunction, IsReturnedEntry, IsReturned}
-use Rattle.judgement_returns.specs.Alike.{kept, IsCarried, Alike}
-use Rattle.judgement_returns.specs.Like.{Matched, LikeFunction, LikeEntry, LikeModule, HasNoResult}
+use Rattle.ir_items.specs.judged.Plain.{PlainFunction, PlainEntry, PlainModule}
+use Rattle.ir_items.specs.judged.Returned.{IsReturnedFunction, IsReturnedEntry, IsReturned}
+use Rattle.judgement_returns.specs.found.Alike.{kept, IsCarried, Alike}
+use Rattle.judgement_returns.specs.judged.Like.{Matched, LikeFunction, LikeEntry, LikeModule, HasNoResult}
 use Rattle.judgement_returns.proofs.Completed.{completed_alike}
 
 -- ---- both ways

@@ -3,21 +3,21 @@ use Rattle.std.proofs.Common.{◌≡◌, ℕ, Bool, Option, Some, None, List, re
 use Rattle.std.specs.Prelude.{◌<◌, length}
 use Rattle.ir_flags.specs.declared.settings.Capabilities.{Capabilities}
 use Rattle.ir_flags.specs.declared.settings.ValidationFlags.{ValidationFlags}
-use Rattle.ir_items.specs.GlobalPlain.{PlainGlobal}
-use Rattle.ir_items.specs.Plain.{PlainFunction, PlainEntry, PlainModule}
+use Rattle.ir_items.specs.judged.GlobalPlain.{PlainGlobal}
+use Rattle.ir_items.specs.judged.Plain.{PlainFunction, PlainEntry, PlainModule}
 use Rattle.typing_forms.specs.declared.form.Form.{Form}
 use Rattle.typing_layout.specs.declared.constness.ExpressionKind.{ExpressionKind}
-use Rattle.spec_expressions.specs.ConstantCompositions.{ComponentsOK}
-use Rattle.spec_expressions.specs.Constants.{ConstantOK}
-use Rattle.spec_expressions.specs.Context.{outside}
-use Rattle.spec_expressions.specs.GlobalExpressions.{Required, of_literal, of_composition, of_value, to_work_out, required_of, IsMet, GlobalExpressionOK}
-use Rattle.spec_expressions.specs.Overrides.{DefaultOK, OverrideOK}
-use Rattle.spec_expressions.specs.Typing.{HasGlobalType}
-use Rattle.spec_interface.specs.Globals as globals
-use Rattle.spec_interface.specs.Globals.{BeginsOK, VariableOK, GlobalOK, GlobalsOK}
-use Rattle.judgement.specs.ModuleSteps.{ModuleStep, layout, type, typing, expression, constant, override, item_count, StepOK, StepPasses, ModuleOK, IsFirstFailing}
+use Rattle.spec_expressions.specs.judged.ConstantCompositions.{ComponentsOK}
+use Rattle.spec_expressions.specs.judged.Constants.{ConstantOK}
+use Rattle.spec_expressions.specs.judged.Context.{outside}
+use Rattle.spec_expressions.specs.judged.GlobalExpressions.{Required, of_literal, of_composition, of_value, to_work_out, required_of, IsMet, GlobalExpressionOK}
+use Rattle.spec_expressions.specs.judged.Overrides.{DefaultOK, OverrideOK}
+use Rattle.spec_expressions.specs.judged.Typing.{HasGlobalType}
+use Rattle.spec_interface.specs.judged.Globals as globals
+use Rattle.spec_interface.specs.judged.Globals.{BeginsOK, VariableOK, GlobalOK, GlobalsOK}
+use Rattle.judgement.specs.judged.ModuleSteps.{ModuleStep, layout, type, typing, expression, constant, override, item_count, StepOK, StepPasses, ModuleOK, IsFirstFailing}
 use Rattle.judgement.specs.declared.settings.ModuleSettings.{ModuleSettings}
-use Rattle.judgement_returns.specs.Like.{LikeModule}
+use Rattle.judgement_returns.specs.judged.Like.{LikeModule}
 use Rattle.judgement_returns.proofs.Handles.{handles_move}
 use Rattle.judgement_returns.proofs.Likeness.{module_back}
 use Rattle.judgement_returns.proofs.Shared.{if_some_moves}

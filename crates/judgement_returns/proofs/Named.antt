@@ -1,12 +1,12 @@
 -- What a function names, it names with other returns too.
 use Rattle.std.proofs.Common.{◌≡◌, Some, None, sym, subst}
 use Rattle.std.specs.Prelude.{Contains}
-use Rattle.ir_blocks.specs.Plain.{PlainBlock}
-use Rattle.ir_items.specs.Plain.{PlainFunction}
+use Rattle.ir_blocks.specs.judged.Plain.{PlainBlock}
+use Rattle.ir_items.specs.judged.Plain.{PlainFunction}
 use Rattle.spec_handles.specs.References.{Site, Named, Names, argument_type, answer_type, local_type, local_value, filter_leaf, expression_names, expression_reads, statement_reads, statement_answers, statement_emits, statement_calls}
 use Rattle.spec_handles.specs.Statements.{statement_operands, statement_result, statement_range, statement_callee}
-use Rattle.judgement_returns.specs.Alike.{IsCarried}
-use Rattle.judgement_returns.specs.Like.{LikeFunction}
+use Rattle.judgement_returns.specs.found.Alike.{IsCarried}
+use Rattle.judgement_returns.specs.judged.Like.{LikeFunction}
 use Rattle.judgement_returns.proofs.Bodies.{carry, looks, none_contained}
 use Rattle.judgement_returns.proofs.Heads.{operands_head, result_head, range_head, callee_head}
 

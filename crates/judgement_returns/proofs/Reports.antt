@@ -1,11 +1,11 @@
 -- The reports of modules that differ by returns alone are the same.
 use Rattle.std.proofs.Common.{ℕ, List, sym, ap, subst, ◌∙◌}
 use Rattle.std.specs.Prelude.{◌<◌, ◌++◌, length, flat_map}
-use Rattle.ir_items.specs.Plain.{PlainEntry, PlainModule}
-use Rattle.judgement.specs.Lines.{buffers, is_own, entry_lines}
-use Rattle.judgement.specs.Reports.{AreUses, ArePairs, IsEntryReport, IsReport}
-use Rattle.judgement_returns.specs.Like.{LikeEntry, LikeModule}
-use Rattle.judgement_returns.specs.Laws.{ReturnsKeepReport}
+use Rattle.ir_items.specs.judged.Plain.{PlainEntry, PlainModule}
+use Rattle.judgement.specs.judged.Lines.{buffers, is_own, entry_lines}
+use Rattle.judgement.specs.judged.Reports.{AreUses, ArePairs, IsEntryReport, IsReport}
+use Rattle.judgement_returns.specs.judged.Like.{LikeEntry, LikeModule}
+use Rattle.judgement_returns.specs.found.Laws.{ReturnsKeepReport}
 use Rattle.judgement_returns.proofs.Likeness.{function_back, module_back, like_returned}
 use Rattle.judgement_returns.proofs.Calls.{use_moves, pair_moves}
 

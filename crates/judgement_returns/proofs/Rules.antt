@@ -1,6 +1,6 @@
 -- The rule of a statement is met alike where functions have other bodies.
 use Rattle.std.proofs.Common.{◌≡◌, ℕ, Bool, Option, Some, None, List, slice_get, sym, subst}
-use Rattle.ir_blocks.specs.Plain.{PlainOperation, control_barrier, memory_barrier, store, image_store, atomic, image_atomic, uniform_load, ray_query, ballot, collective, gather, cooperative_store, ray_pipeline, PlainStatement, return, operation, call, PlainBlock}
+use Rattle.ir_blocks.specs.judged.Plain.{PlainOperation, control_barrier, memory_barrier, store, image_store, atomic, image_atomic, uniform_load, ray_query, ballot, collective, gather, cooperative_store, ray_pipeline, PlainStatement, return, operation, call, PlainBlock}
 use Rattle.ir_blocks.specs.declared.operations.AtomicFunction.{AtomicFunction}
 use Rattle.ir_blocks.specs.declared.operations.GatherMode.{GatherMode}
 use Rattle.ir_blocks.specs.declared.operations.GatherMode.TheVariants as mode
@@ -8,22 +8,22 @@ use Rattle.ir_blocks.specs.declared.operations.RayPipelineFunction.TheVariants a
 use Rattle.ir_blocks.specs.declared.operations.RayQueryFunction.{RayQueryFunction}
 use Rattle.ir_blocks.specs.declared.operations.RayQueryFunction.TheVariants as ray
 use Rattle.ir_flags.specs.declared.stages.SubgroupOperationSet.{SubgroupOperationSet}
-use Rattle.ir_items.specs.Plain.{PlainFunction, PlainEntry, PlainLocal, PlainArgument}
+use Rattle.ir_items.specs.judged.Plain.{PlainFunction, PlainEntry, PlainLocal, PlainArgument}
 use Rattle.ir_items.specs.declared.functions.FunctionResult.{FunctionResult}
 use Rattle.ir_kinds.specs.declared.scalars.Scalar.{Scalar}
 use Rattle.spec_handles.specs.Operands.{compared}
-use Rattle.spec_statements.specs.Atomics.{AtomicAnswer, AnswerOK, AtomicResultOK, AtomicChangeOK, changed_scalar}
-use Rattle.spec_statements.specs.Barriers.{HasSubgroupBarriers}
-use Rattle.spec_statements.specs.BlockContext.{BlockContext, form_at}
-use Rattle.spec_statements.specs.Calls.{CallResultOK, CallOK}
-use Rattle.spec_statements.specs.Interfaces.{BeginsAs, LocalOK, ArgumentOK, ResultOK, InterfaceOK}
-use Rattle.spec_statements.specs.RayQueries.{StepOK}
-use Rattle.spec_statements.specs.Returns.{ReturnOK}
-use Rattle.spec_statements.specs.Statements.{OperationOK, StatementOK}
-use Rattle.spec_statements.specs.StorageImages.{IsTexelOf, IsWritten, IsChanged, written_image, changed_image}
-use Rattle.spec_statements.specs.Subgroups.{HasOperation, IndexIsKnown}
+use Rattle.spec_statements.specs.judged.Atomics.{AtomicAnswer, AnswerOK, AtomicResultOK, AtomicChangeOK, changed_scalar}
+use Rattle.spec_statements.specs.judged.Barriers.{HasSubgroupBarriers}
+use Rattle.spec_statements.specs.judged.BlockContext.{BlockContext, form_at}
+use Rattle.spec_statements.specs.judged.Calls.{CallResultOK, CallOK}
+use Rattle.spec_statements.specs.judged.Interfaces.{BeginsAs, LocalOK, ArgumentOK, ResultOK, InterfaceOK}
+use Rattle.spec_statements.specs.judged.RayQueries.{StepOK}
+use Rattle.spec_statements.specs.judged.Returns.{ReturnOK}
+use Rattle.spec_statements.specs.judged.Statements.{OperationOK, StatementOK}
+use Rattle.spec_statements.specs.judged.StorageImages.{IsTexelOf, IsWritten, IsChanged, written_image, changed_image}
+use Rattle.spec_statements.specs.judged.Subgroups.{HasOperation, IndexIsKnown}
 use Rattle.spec_statements.specs.declared.shapes.Picture.{Picture}
-use Rattle.judgement_returns.specs.Like.{Matched, LikeFunction}
+use Rattle.judgement_returns.specs.judged.Like.{Matched, LikeFunction}
 use Rattle.judgement_returns.proofs.Shared.{some_and, if_some_moves}
 
 module _ (c : BlockContext) (functions : List PlainFunction) (entries : List PlainEntry) (body : PlainBlock) (like : Matched LikeFunction c.m.functions functions) where

@@ -1,14 +1,14 @@
 -- Strict scope holds of each body that is alike.
 use Rattle.std.proofs.Common.{◌≡◌, ◌⊎◌, inl, inr, ⊎_elim, ℕ, Option, None, refl, sym, ap, subst, ◌∙◌}
 use Rattle.std.specs.Prelude.{Contains}
-use Rattle.ir_blocks.specs.Plain.{PlainStatement, PlainOperation, emit, continue, return, operation, ray_query, ballot, PlainBlock}
-use Rattle.ir_blocks.specs.Places.{Place, Spot, nothing, statement, loop_condition, spot_at, OccursAt}
-use Rattle.ir_blocks.specs.Tails.{head_of}
-use Rattle.ir_blocks.specs.View.{HoldsNoBlock}
+use Rattle.ir_blocks.specs.judged.Plain.{PlainStatement, PlainOperation, emit, continue, return, operation, ray_query, ballot, PlainBlock}
+use Rattle.ir_blocks.specs.judged.Places.{Place, Spot, nothing, statement, loop_condition, spot_at, OccursAt}
+use Rattle.ir_blocks.specs.judged.Tails.{head_of}
+use Rattle.ir_blocks.specs.found.View.{HoldsNoBlock}
 use Rattle.ir_blocks.specs.declared.operations.RayQueryFunction.TheVariants.{Proceed}
-use Rattle.ir_items.specs.Plain.{PlainFunction}
-use Rattle.spec_statements.specs.Strict.{MaySkip, InStrictScope, StrictOK, Needs, statement_needed, needed_at}
-use Rattle.judgement_returns.specs.Alike.{IsCarried, Alike}
+use Rattle.ir_items.specs.judged.Plain.{PlainFunction}
+use Rattle.spec_statements.specs.judged.Strict.{MaySkip, InStrictScope, StrictOK, Needs, statement_needed, needed_at}
+use Rattle.judgement_returns.specs.found.Alike.{IsCarried, Alike}
 use Rattle.judgement_returns.proofs.Bodies.{carry, looks, is_same, none_contained, introduces}
 use Rattle.judgement_returns.proofs.Heads.{needed_head}
 

@@ -1,23 +1,23 @@
 -- Types of expressions see nothing of other functions but their results.
 use Rattle.std.proofs.Common.{◌≡◌, ℕ, Option, Some, None, List, slice_get, refl, sym, ap, ◌∙◌}
 use Rattle.std.specs.Prelude.{◌==◌, Result, Err, option_and_then, option_map, ok_or, if◌then◌else◌, length}
-use Rattle.ir_items.specs.Plain.{PlainFunction}
+use Rattle.ir_items.specs.judged.Plain.{PlainFunction}
 use Rattle.ir_items.specs.declared.functions.FunctionResult.{FunctionResult}
-use Rattle.ir_kinds.specs.Maths.{argument_count}
+use Rattle.ir_kinds.specs.judged.Maths.{argument_count}
 use Rattle.ir_kinds.specs.declared.maths.MathFunction.{MathFunction}
-use Rattle.ir_types.specs.ExpressionPlain.{PlainExpression, compose, plain}
+use Rattle.ir_types.specs.judged.ExpressionPlain.{PlainExpression, compose, plain}
 use Rattle.ir_types.specs.declared.expressions.Expression.{Expression}
 use Rattle.ir_types.specs.declared.expressions.Expression.TheVariants as x
 use Rattle.typing_rules.specs.declared.rules.Rule.{Rule}
-use Rattle.typing_rules.specs.Tables.{table}
-use Rattle.typing_forms.specs.Forms.{form_of_type}
+use Rattle.typing_rules.specs.judged.Tables.{table}
+use Rattle.typing_forms.specs.judged.Forms.{form_of_type}
 use Rattle.typing_forms.specs.declared.form.Form.{Form}
-use Rattle.spec_expressions.specs.Context.{Context}
-use Rattle.spec_expressions.specs.Maths.{arguments, concluded, math_of, taking}
-use Rattle.spec_expressions.specs.Typing.{HasTypeAmong, has, rule_of, rule_at}
+use Rattle.spec_expressions.specs.judged.Context.{Context}
+use Rattle.spec_expressions.specs.judged.Maths.{arguments, concluded, math_of, taking}
+use Rattle.spec_expressions.specs.judged.Typing.{HasTypeAmong, has, rule_of, rule_at}
 use Rattle.spec_expressions.specs.declared.faults.TypingFault.{TypingFault}
 use Rattle.spec_expressions.specs.declared.faults.TypingFault.TheVariants.{BuiltinArgumentsInvalid, FunctionReturnsVoid}
-use Rattle.judgement_returns.specs.Like.{Matched, LikeFunction}
+use Rattle.judgement_returns.specs.judged.Like.{Matched, LikeFunction}
 use Rattle.judgement_returns.proofs.Likeness.{function_back}
 
 abbrev pub result_at : List PlainFunction → ℕ → Option FunctionResult

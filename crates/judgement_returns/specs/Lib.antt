@@ -1,3 +1,2 @@
-pub mod Alike
-pub mod Like
-pub mod Laws
+pub mod judged
+pub mod found

@@ -3,8 +3,8 @@
 //! The functions do nothing: their contracts are the laws.
 #![tactic(auto)]
 
-ghost use Rattle.judgement_returns.specs.Alike.{CompletedAlike};
-ghost use Rattle.judgement_returns.specs.Laws.{ReturnsKeepFinding, ReturnsKeepHandles, ReturnsKeepReport, ReturnsDontMatter};
+ghost use Rattle.judgement_returns.specs.found.Alike.{CompletedAlike};
+ghost use Rattle.judgement_returns.specs.found.Laws.{ReturnsKeepFinding, ReturnsKeepHandles, ReturnsKeepReport, ReturnsDontMatter};
 
 /// All of a body is in the body completed with returns, at the same places, and the other way round, but for returns without a
 /// value at open ends; and both have the same effects in the same order.

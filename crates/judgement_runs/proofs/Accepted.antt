@@ -7,41 +7,41 @@ use Rattle.std.proofs.lemmas.Option.{slice_get_within, slice_get_cases, slice_ge
 use Rattle.ir_flags.specs.Sets.{Has}
 use Rattle.ir_flags.specs.declared.settings.TheConstants.ValidationFlags.{STRICT_SCOPE}
 use Rattle.ir_flags.specs.declared.stages.ShaderStages.{ShaderStages}
-use Rattle.ir_blocks.specs.Control.{ControlOK}
-use Rattle.ir_arena.specs.Handles.{handles_between}
-use Rattle.ir_blocks.specs.Places.{Place, Spot, nothing, statement, loop_condition, spot_at, OccursAt}
-use Rattle.ir_blocks.specs.Plain.{PlainStatement, emit, block, if_, switch, loop, break, continue, return, kill, operation, call}
-use Rattle.ir_items.specs.Plain.{PlainFunction, PlainModule}
-use Rattle.ir_types.specs.ExpressionPlain.{PlainExpression, plain}
+use Rattle.ir_blocks.specs.judged.Control.{ControlOK}
+use Rattle.ir_arena.specs.judged.Handles.{handles_between}
+use Rattle.ir_blocks.specs.judged.Places.{Place, Spot, nothing, statement, loop_condition, spot_at, OccursAt}
+use Rattle.ir_blocks.specs.judged.Plain.{PlainStatement, emit, block, if_, switch, loop, break, continue, return, kill, operation, call}
+use Rattle.ir_items.specs.judged.Plain.{PlainFunction, PlainModule}
+use Rattle.ir_types.specs.judged.ExpressionPlain.{PlainExpression, plain}
 use Rattle.ir_types.specs.declared.expressions.Expression.TheVariants.{GlobalVariable, ImageSample}
 use Rattle.typing_forms.specs.declared.form.Form.{Form}
 use Rattle.typing_forms.specs.declared.form.Form.TheVariants as form
-use Rattle.typing_forms.specs.Forms.{form_of_type}
-use Rattle.spec_expressions.specs.Typing.{HasType}
+use Rattle.typing_forms.specs.judged.Forms.{form_of_type}
+use Rattle.spec_expressions.specs.judged.Typing.{HasType}
 use Rattle.spec_handles.specs.Conditions.{HandlesInRange, AritiesMatch}
 use Rattle.spec_handles.specs.Order.{a_function, function_on_callee}
 use Rattle.spec_handles.specs.References.{done, operand, item, range, statement_reads, statement_answers, statement_emits, statement_calls}
 use Rattle.spec_handles.specs.Statements.{operation_result, statement_result, statement_range}
 use Rattle.spec_handles.specs.declared.target.Target.TheVariants as target
-use Rattle.spec_statements.specs.BlockContext.{form_at}
-use Rattle.spec_statements.specs.ExpressionStages.{all_stages, callee_stages, stages_of, IsRunBy}
-use Rattle.spec_statements.specs.Functions.{Reading, FunctionSettings, FunctionOK, BodyOK, AllowsStage, block_context}
+use Rattle.spec_statements.specs.judged.BlockContext.{form_at}
+use Rattle.spec_statements.specs.judged.ExpressionStages.{all_stages, callee_stages, stages_of, IsRunBy}
+use Rattle.spec_statements.specs.judged.Functions.{Reading, FunctionSettings, FunctionOK, BodyOK, AllowsStage, block_context}
 use Rattle.spec_statements.proofs.ScopeLaws.{none_held}
-use Rattle.spec_statements.specs.Scope.{Introduces, ScopeOK}
-use Rattle.spec_statements.specs.Tables.{introduced, introduced_at}
-use Rattle.spec_statements.specs.Stages.{statement_stages}
-use Rattle.spec_statements.specs.ModuleFunctions.{reading_over, settings_with}
-use Rattle.spec_interface.specs.Contexts.{stage_set}
-use Rattle.spec_interface.specs.Modules.{reading_with, entry_settings}
-use Rattle.spec_runs.specs.Events.{Event, entered, executed, introduced_expression, named, sampled, used, passed, returned, fell_off, escaped}
-use Rattle.spec_runs.specs.Good.{ArgumentsOK, ValueOK, DepthOK, TypesOK, UsesOK, LiveOK, SurelyLiveOK, StagesOK, NoEscape}
-use Rattle.spec_runs.specs.Invariants.{IsInvariant}
-use Rattle.spec_runs.specs.Scoping.{UsedOperands, checked_operands, all_operands, Scoping, with_skipped, without_skipped, IsLawful, IsScoped}
-use Rattle.spec_runs.specs.Laws.{AnswersNameNothing}
-use Rattle.spec_statements.specs.Strict.{StrictOK}
+use Rattle.spec_statements.specs.judged.Scope.{Introduces, ScopeOK}
+use Rattle.spec_statements.specs.judged.Tables.{introduced, introduced_at}
+use Rattle.spec_statements.specs.judged.Stages.{statement_stages}
+use Rattle.spec_statements.specs.judged.ModuleFunctions.{reading_over, settings_with}
+use Rattle.spec_interface.specs.judged.Contexts.{stage_set}
+use Rattle.spec_interface.specs.judged.Modules.{reading_with, entry_settings}
+use Rattle.spec_runs.specs.judged.Events.{Event, entered, executed, introduced_expression, named, sampled, used, passed, returned, fell_off, escaped}
+use Rattle.spec_runs.specs.judged.Good.{ArgumentsOK, ValueOK, DepthOK, TypesOK, UsesOK, LiveOK, SurelyLiveOK, StagesOK, NoEscape}
+use Rattle.spec_runs.specs.found.Invariants.{IsInvariant}
+use Rattle.spec_runs.specs.judged.Scoping.{UsedOperands, checked_operands, all_operands, Scoping, with_skipped, without_skipped, IsLawful, IsScoped}
+use Rattle.spec_runs.specs.judged.Laws.{AnswersNameNothing}
+use Rattle.spec_statements.specs.judged.Strict.{StrictOK}
 use Rattle.judgement_runs.proofs.AnswerKinds.{answers_name_nothing}
-use Rattle.judgement_runs.specs.Accepted.{IsAcceptedEntry, RunsNest, RunsPassTypes, RunsUseLive, StrictRunsUseLive, RunsKeepStage, RunsNeverEscape}
-use Rattle.spec_runs.specs.Machine.{Frame, denotes, pair_of, mentioned_at, callee_frame, entry_frame, trace}
+use Rattle.judgement_runs.specs.found.Accepted.{IsAcceptedEntry, RunsNest, RunsPassTypes, RunsUseLive, StrictRunsUseLive, RunsKeepStage, RunsNeverEscape}
+use Rattle.spec_runs.specs.judged.Machine.{Frame, denotes, pair_of, mentioned_at, callee_frame, entry_frame, trace}
 use Rattle.spec_runs.proofs.Invariance.{invariants_hold}
 use Rattle.spec_runs.proofs.Strict.{strict_is_lawful, strict_suffices}
 use Rattle.spec_runs.proofs.Scopes.{skipped_is_lawful, scope_suffices, known, introduced_known}

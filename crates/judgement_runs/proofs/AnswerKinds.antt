@@ -1,24 +1,24 @@
 -- What denotes the result of a statement has no operands, where strict scope is as it should be.
 use Rattle.std.proofs.Common.{◌≡◌, ℕ, [], Option, Some, None, IsSomeAnd, option_and_then, slice_get, refl, sym, ap, ◌∙◌, subst}
-use Rattle.ir_blocks.specs.Places.{Place, OccursAt}
-use Rattle.ir_blocks.specs.Plain.{PlainOperation, control_barrier, memory_barrier, store, image_store, atomic, image_atomic, uniform_load, ray_query, ballot, collective, gather, cooperative_store, ray_pipeline, PlainStatement, emit, block, if_, switch, loop, break, continue, return, kill, operation, call}
+use Rattle.ir_blocks.specs.judged.Places.{Place, OccursAt}
+use Rattle.ir_blocks.specs.judged.Plain.{PlainOperation, control_barrier, memory_barrier, store, image_store, atomic, image_atomic, uniform_load, ray_query, ballot, collective, gather, cooperative_store, ray_pipeline, PlainStatement, emit, block, if_, switch, loop, break, continue, return, kill, operation, call}
 use Rattle.ir_blocks.specs.declared.operations.AtomicFunction.{AtomicFunction}
 use Rattle.ir_blocks.specs.declared.operations.RayQueryFunction.{RayQueryFunction}
 use Rattle.ir_blocks.specs.declared.operations.RayQueryFunction.TheVariants as ray
 use Rattle.ir_kinds.specs.declared.scalars.Scalar.{Scalar}
-use Rattle.ir_types.specs.ExpressionPlain.{PlainExpression, plain}
+use Rattle.ir_types.specs.judged.ExpressionPlain.{PlainExpression, plain}
 use Rattle.ir_types.specs.declared.expressions.Expression.TheVariants as x
 use Rattle.spec_handles.specs.Expressions.{expression_operands}
 use Rattle.spec_handles.specs.Statements.{operation_result, ray_result}
-use Rattle.spec_statements.specs.Atomics.{AtomicResultOK, AtomicChangeOK, changed_scalar, declared_answer}
-use Rattle.spec_statements.specs.BlockContext.{BlockContext, form_at}
-use Rattle.spec_statements.specs.Calls.{CallResultOK}
-use Rattle.spec_statements.specs.Statements.{StatementOK}
-use Rattle.spec_statements.specs.Strict.{StrictOK}
-use Rattle.spec_statements.specs.Subgroups.{answered_type}
-use Rattle.spec_statements.specs.UniformLoads.{loaded_type}
-use Rattle.ir_items.specs.Plain.{PlainFunction}
-use Rattle.spec_runs.specs.Laws.{AnswersNameNothing}
+use Rattle.spec_statements.specs.judged.Atomics.{AtomicResultOK, AtomicChangeOK, changed_scalar, declared_answer}
+use Rattle.spec_statements.specs.judged.BlockContext.{BlockContext, form_at}
+use Rattle.spec_statements.specs.judged.Calls.{CallResultOK}
+use Rattle.spec_statements.specs.judged.Statements.{StatementOK}
+use Rattle.spec_statements.specs.judged.Strict.{StrictOK}
+use Rattle.spec_statements.specs.judged.Subgroups.{answered_type}
+use Rattle.spec_statements.specs.judged.UniformLoads.{loaded_type}
+use Rattle.ir_items.specs.judged.Plain.{PlainFunction}
+use Rattle.spec_runs.specs.judged.Laws.{AnswersNameNothing}
 
 no_answer : {A : Type 0} (e : ℕ) → None ≡ Some e → A
 no_answer e is = let y = is in absurd (cc)

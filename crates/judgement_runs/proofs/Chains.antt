@@ -4,26 +4,26 @@ use Rattle.std.specs.List.{AllByRecursion}
 use Rattle.std.proofs.lemmas.Option.{slice_get-map}
 use Rattle.spec_analysis.specs.declared.sampling.GlobalOrArgument.{GlobalOrArgument}
 use Rattle.spec_analysis.specs.declared.sampling.GlobalOrArgument.TheVariants.{Global, Argument}
-use Rattle.ir_blocks.specs.Places.{Place, here, later, inside, condition, OccursAt}
-use Rattle.ir_blocks.specs.Plain.{PlainStatement, block, if_, switch, loop, call, PlainBlock, stop, next, PlainCases, no_case, case}
-use Rattle.ir_blocks.specs.Shapes.{Part, inner, accepting, rejecting, case_at, loop_body, loop_continuing, shape_of, part_of, case_body}
-use Rattle.ir_types.specs.ExpressionPlain.{PlainExpression, plain}
+use Rattle.ir_blocks.specs.judged.Places.{Place, here, later, inside, condition, OccursAt}
+use Rattle.ir_blocks.specs.judged.Plain.{PlainStatement, block, if_, switch, loop, call, PlainBlock, stop, next, PlainCases, no_case, case}
+use Rattle.ir_blocks.specs.judged.Shapes.{Part, inner, accepting, rejecting, case_at, loop_body, loop_continuing, shape_of, part_of, case_body}
+use Rattle.ir_types.specs.judged.ExpressionPlain.{PlainExpression, plain}
 use Rattle.ir_types.specs.declared.expressions.Expression.TheVariants.{GlobalVariable, ImageSample}
-use Rattle.ir_items.specs.Plain.{PlainFunction, PlainModule}
-use Rattle.typing_rules.specs.Laws.{IsAmong}
+use Rattle.ir_items.specs.judged.Plain.{PlainFunction, PlainModule}
+use Rattle.typing_rules.specs.judged.Laws.{IsAmong}
 use Rattle.spec_analysis.proofs.Members.{among-left, among-right, get-among}
-use Rattle.spec_analysis.specs.Chains.{place, Step, Calls, IsChain, end_of, argument_means, seen_through, bound, Reaches, Names, HasPair}
-use Rattle.spec_analysis.specs.Effects.{Effect, takes, samples as sampling, runs, sampling_at, expression_effects, expressions_effects, statement_effects, effects_in, effects_inside, effects_in_cases, effects_of}
-use Rattle.spec_analysis.specs.Operands.{expression_operands, statement_operands}
+use Rattle.spec_analysis.specs.judged.Chains.{place, Step, Calls, IsChain, end_of, argument_means, seen_through, bound, Reaches, Names, HasPair}
+use Rattle.spec_analysis.specs.judged.Effects.{Effect, takes, samples as sampling, runs, sampling_at, expression_effects, expressions_effects, statement_effects, effects_in, effects_inside, effects_in_cases, effects_of}
+use Rattle.spec_analysis.specs.judged.Operands.{expression_operands, statement_operands}
 use Rattle.spec_handles.specs.Conditions.{HandlesInRange}
 use Rattle.spec_handles.specs.References.{computed as computed_site, expression_names}
-use Rattle.spec_statements.specs.Functions.{FunctionSettings}
-use Rattle.spec_runs.specs.Events.{Event, entered, executed, introduced_expression, named, sampled, used, passed, returned, fell_off, escaped}
-use Rattle.spec_runs.specs.Good.{NamedOK, SampledOK}
-use Rattle.spec_runs.specs.Invariants.{IsInvariant}
-use Rattle.spec_runs.specs.Scoping.{UsedOperands, with_skipped}
-use Rattle.judgement_runs.specs.Accepted.{IsAcceptedEntry, RunsNameReached, RunsSamplePairs}
-use Rattle.spec_runs.specs.Machine.{Frame, argument_global, global_meant, denotes, pair_of, mentioned_at, callee_frame, entry_frame, trace}
+use Rattle.spec_statements.specs.judged.Functions.{FunctionSettings}
+use Rattle.spec_runs.specs.judged.Events.{Event, entered, executed, introduced_expression, named, sampled, used, passed, returned, fell_off, escaped}
+use Rattle.spec_runs.specs.judged.Good.{NamedOK, SampledOK}
+use Rattle.spec_runs.specs.found.Invariants.{IsInvariant}
+use Rattle.spec_runs.specs.judged.Scoping.{UsedOperands, with_skipped}
+use Rattle.judgement_runs.specs.found.Accepted.{IsAcceptedEntry, RunsNameReached, RunsSamplePairs}
+use Rattle.spec_runs.specs.judged.Machine.{Frame, argument_global, global_meant, denotes, pair_of, mentioned_at, callee_frame, entry_frame, trace}
 use Rattle.judgement_runs.proofs.Accepted.{Fine, callee_fine, entry_fine, all_weaken}
 use Rattle.spec_runs.proofs.Invariance.{invariants_hold}
 use Rattle.spec_runs.proofs.Scopes.{skipped_is_lawful}

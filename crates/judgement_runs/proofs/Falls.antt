@@ -2,21 +2,21 @@
 use Rattle.std.proofs.Common.{◌≡◌, ◌∙◌, ℕ, List, Option, Some, None, slice_get, refl, sym, subst}
 use Rattle.std.specs.Prelude.{IsSomeAnd}
 use Rattle.std.proofs.lemmas.Option.{slice_get_within}
-use Rattle.ir_blocks.specs.Places.{Place, nothing, statement, spot_at, OccursAt}
-use Rattle.ir_blocks.specs.Plain.{PlainStatement, switch, return, PlainBlock}
-use Rattle.ir_blocks.specs.Tails.{IsOpenEnd, empty, after_last, further, in_tail, completed}
+use Rattle.ir_blocks.specs.judged.Places.{Place, nothing, statement, spot_at, OccursAt}
+use Rattle.ir_blocks.specs.judged.Plain.{PlainStatement, switch, return, PlainBlock}
+use Rattle.ir_blocks.specs.judged.Tails.{IsOpenEnd, empty, after_last, further, in_tail, completed}
 use Rattle.ir_blocks.proofs.OneCompleted.{one_completed}
 use Rattle.ir_blocks.proofs.TailLaws.{added, completed_once}
-use Rattle.ir_items.specs.Plain.{PlainFunction, PlainModule}
+use Rattle.ir_items.specs.judged.Plain.{PlainFunction, PlainModule}
 use Rattle.typing_forms.specs.declared.form.Form.{Form}
-use Rattle.spec_statements.specs.Functions.{FunctionSettings, BodyOK, block_context}
-use Rattle.spec_statements.specs.Shapes.{IsInteger, shaped_of}
-use Rattle.spec_statements.specs.Switches.{CasesOK, SwitchOK}
+use Rattle.spec_statements.specs.judged.Functions.{FunctionSettings, BodyOK, block_context}
+use Rattle.spec_statements.specs.judged.Shapes.{IsInteger, shaped_of}
+use Rattle.spec_statements.specs.judged.Switches.{CasesOK, SwitchOK}
 use Rattle.spec_statements.specs.declared.shapes.Shaped.{Shaped}
-use Rattle.spec_statements.specs.ModuleFunctions.{settings_with}
-use Rattle.spec_interface.specs.Modules.{entry_settings}
-use Rattle.spec_runs.specs.Ended.{HasNoOpenEnd}
-use Rattle.judgement_runs.specs.Accepted.{HasReturns, RunsFallByBreaks}
+use Rattle.spec_statements.specs.judged.ModuleFunctions.{settings_with}
+use Rattle.spec_interface.specs.judged.Modules.{entry_settings}
+use Rattle.spec_runs.specs.found.Ended.{HasNoOpenEnd}
+use Rattle.judgement_runs.specs.found.Accepted.{HasReturns, RunsFallByBreaks}
 use Rattle.spec_runs.proofs.Falls.{Closed, CasesEnd, SwitchesEnd, falls_by_breaks}
 
 some_is : {A : Type 0} {x y : A} → Some x ≡ Some y → x ≡ y

@@ -4,18 +4,18 @@ use Rattle.std.specs.Prelude.{codes, decimal, flat_map, slice_index_or}
 use Rattle.std.proofs.lemmas.Bool.{eqb-true}
 use Rattle.std.proofs.lemmas.Option.{slice_get_within}
 use Rattle.spec_analysis.specs.declared.global_use.GlobalUse.{GlobalUse}
-use Rattle.ir_items.specs.GlobalPlain.{PlainGlobal}
-use Rattle.ir_items.specs.Plain.{PlainEntry, PlainModule}
-use Rattle.ir_types.specs.Plain.{PlainType}
-use Rattle.typing_rules.specs.Laws.{IsAmong}
-use Rattle.spec_analysis.specs.Summaries.{no_use}
+use Rattle.ir_items.specs.judged.GlobalPlain.{PlainGlobal}
+use Rattle.ir_items.specs.judged.Plain.{PlainEntry, PlainModule}
+use Rattle.ir_types.specs.judged.Plain.{PlainType}
+use Rattle.typing_rules.specs.judged.Laws.{IsAmong}
+use Rattle.spec_analysis.specs.judged.Summaries.{no_use}
 use Rattle.judgement_runs.proofs.Texts.{whole_end, whole_append, whole_if, whole_each, whole_flat, has_itself, has_left, has_right, has_each, has_flat}
-use Rattle.spec_interface.specs.Spaces.{counted}
-use Rattle.typing_layout.specs.Layout.{size, alignment}
-use Rattle.typing_layout.specs.View.{type_tree}
-use Rattle.judgement_runs.specs.Lines.{AreWhole, HasLines, use_line, ReportsGlobal, as_payload, as_mesh, as_used, ReportsPair, LinesStand, EntriesAreReported, BuffersAreReported}
-use Rattle.judgement.specs.Lines.{each_from, is_buffer, buffer_line, buffer_of, buffers, mesh_output, is_at, is_own, own_line, is_used, use_words, global_line, pair_line, head_line, variable_lines, entry_lines}
-use Rattle.judgement.specs.Reports.{IsEntryReport}
+use Rattle.spec_interface.specs.judged.Spaces.{counted}
+use Rattle.typing_layout.specs.judged.Layout.{size, alignment}
+use Rattle.typing_layout.specs.judged.View.{type_tree}
+use Rattle.judgement_runs.specs.judged.Lines.{AreWhole, HasLines, use_line, ReportsGlobal, as_payload, as_mesh, as_used, ReportsPair, LinesStand, EntriesAreReported, BuffersAreReported}
+use Rattle.judgement.specs.judged.Lines.{each_from, is_buffer, buffer_line, buffer_of, buffers, mesh_output, is_at, is_own, own_line, is_used, use_words, global_line, pair_line, head_line, variable_lines, entry_lines}
+use Rattle.judgement.specs.judged.Reports.{IsEntryReport}
 
 -- ---- each line is whole
 

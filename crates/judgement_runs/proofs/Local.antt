@@ -1,15 +1,15 @@
 -- Chains of one module are chains of each that differs elsewhere.
 use Rattle.std.proofs.Common.{◌≡◌, inl, inr, ◌<◌, ℕ, List, [], ◌∷◌, ◌++◌, length, slice_get, refl, sym, ap, subst, ◌∙◌}
-use Rattle.spec_analysis.specs.Pairs.{SamplingPair}
+use Rattle.spec_analysis.specs.judged.Pairs.{SamplingPair}
 use Rattle.spec_analysis.specs.declared.sampling.GlobalOrArgument.TheVariants.{Global}
-use Rattle.ir_items.specs.Plain.{PlainEntry, PlainFunction, PlainModule}
-use Rattle.spec_analysis.specs.Chains.{Step, Calls, IsChain, end_of, Reaches, IsUnusedFrom, UsesDirectly, HasUse, HasPair}
-use Rattle.spec_analysis.specs.Effects.{effects_of}
+use Rattle.ir_items.specs.judged.Plain.{PlainEntry, PlainFunction, PlainModule}
+use Rattle.spec_analysis.specs.judged.Chains.{Step, Calls, IsChain, end_of, Reaches, IsUnusedFrom, UsesDirectly, HasUse, HasPair}
+use Rattle.spec_analysis.specs.judged.Effects.{effects_of}
 use Rattle.judgement.proofs.OneReport.{one_entry_report}
-use Rattle.judgement.specs.Reports.{IsEntryReport}
+use Rattle.judgement.specs.judged.Reports.{IsEntryReport}
 use Rattle.judgement_runs.proofs.Lines.{entries_are_reported}
-use Rattle.judgement_runs.specs.Lines.{HasLines}
-use Rattle.judgement_runs.specs.Local.{AgreeFrom, DifferElsewhere, ReportsAreLocal}
+use Rattle.judgement_runs.specs.judged.Lines.{HasLines}
+use Rattle.judgement_runs.specs.judged.Local.{AgreeFrom, DifferElsewhere, ReportsAreLocal}
 
 -- a chain after a chain
 end_after : (f : PlainFunction) (before after : List Step) → end_of f (after ++ before) ≡ end_of (end_of f before) after

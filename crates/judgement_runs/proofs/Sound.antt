@@ -4,22 +4,22 @@ use Rattle.std.specs.List.{AllZip}
 use Rattle.std.specs.Prelude.{slice_index_or}
 use Rattle.std.proofs.lemmas.Option.{slice_get_within}
 use Rattle.ir_flags.specs.Settings.{PlainSettings}
-use Rattle.ir_items.specs.Plain.{PlainEntry, PlainModule}
-use Rattle.ir_items.specs.Returned.{IsReturnedFunction, IsReturnedEntry, IsReturned}
-use Rattle.judgement.specs.Steps.{IsPrepared, IsFinding, function_settings, module_settings}
+use Rattle.ir_items.specs.judged.Plain.{PlainEntry, PlainModule}
+use Rattle.ir_items.specs.judged.Returned.{IsReturnedFunction, IsReturnedEntry, IsReturned}
+use Rattle.judgement.specs.judged.Steps.{IsPrepared, IsFinding, function_settings, module_settings}
 use Rattle.judgement.specs.declared.finding.Finding.TheVariants.{Accepted}
-use Rattle.spec_analysis.specs.Summaries.{no_use}
+use Rattle.spec_analysis.specs.judged.Summaries.{no_use}
 use Rattle.spec_buffers.proofs.Buffers.{buffers_are_sound}
 use Rattle.judgement.proofs.Named.{named_are_reported}
-use Rattle.judgement.specs.Lines.{is_own, is_used}
-use Rattle.judgement.specs.Reports.{IsEntryReport, IsReport}
-use Rattle.spec_runs.specs.Events.{Event, entered, executed, introduced_expression, named, sampled, used, passed, returned, fell_off, escaped}
-use Rattle.spec_runs.specs.Good.{DepthOK, NamedOK, SampledOK}
-use Rattle.spec_runs.specs.Laws.{OnEveryRun}
-use Rattle.spec_runs.specs.Scoping.{checked_operands}
-use Rattle.judgement_runs.specs.Accepted.{IsAcceptedEntry, HaveReturns}
-use Rattle.judgement_runs.specs.Lines.{NamedIsReported, SampledIsReported}
-use Rattle.judgement_runs.specs.Sound.{AreChecked, EntryIsSound, AcceptedIsSound, FunctionsBoundDepth}
+use Rattle.judgement.specs.judged.Lines.{is_own, is_used}
+use Rattle.judgement.specs.judged.Reports.{IsEntryReport, IsReport}
+use Rattle.spec_runs.specs.judged.Events.{Event, entered, executed, introduced_expression, named, sampled, used, passed, returned, fell_off, escaped}
+use Rattle.spec_runs.specs.judged.Good.{DepthOK, NamedOK, SampledOK}
+use Rattle.spec_runs.specs.judged.Laws.{OnEveryRun}
+use Rattle.spec_runs.specs.judged.Scoping.{checked_operands}
+use Rattle.judgement_runs.specs.found.Accepted.{IsAcceptedEntry, HaveReturns}
+use Rattle.judgement_runs.specs.judged.Lines.{NamedIsReported, SampledIsReported}
+use Rattle.judgement_runs.specs.judged.Sound.{AreChecked, EntryIsSound, AcceptedIsSound, FunctionsBoundDepth}
 use Rattle.judgement_runs.proofs.Accepted.{all_weaken, runs_nest, runs_pass_types, runs_use_live, strict_runs_use_live, runs_keep_stage, runs_never_escape}
 use Rattle.judgement_runs.proofs.Chains.{runs_name_reached, runs_sample_pairs}
 use Rattle.judgement_runs.proofs.Falls.{runs_fall_by_breaks}

@@ -1,9 +1,9 @@
 -- Lines that stand in a text.
 use Rattle.std.proofs.Common.{◌≡◌, inl, inr, ℕ, zero, suc, ◌+◌, List, [], ◌∷◌, ◌++◌, Bool, true, false, Some, refl, sym, ap, subst, ◌∙◌, slice_get, append_assoc, append-nil, arith, if◌then◌else◌}
 use Rattle.std.specs.Prelude.{codes, flat_map}
-use Rattle.typing_rules.specs.Laws.{IsAmong}
-use Rattle.judgement_runs.specs.Lines.{AreWhole, HasLines}
-use Rattle.judgement.specs.Lines.{each_from}
+use Rattle.typing_rules.specs.judged.Laws.{IsAmong}
+use Rattle.judgement_runs.specs.judged.Lines.{AreWhole, HasLines}
+use Rattle.judgement.specs.judged.Lines.{each_from}
 
 pub whole_end : (front : List ℕ) → AreWhole (front ++ codes "\n")
 whole_end front = inr (front, refl)

@@ -1,4 +1,2 @@
-pub mod Accepted
-pub mod Lines
-pub mod Local
-pub mod Sound
+pub mod judged
+pub mod found

@@ -3,10 +3,10 @@
 //! The functions do nothing: their contracts are the laws.
 #![tactic(auto)]
 
-ghost use Rattle.judgement_runs.specs.Accepted.{RunsNest, RunsPassTypes, RunsUseLive, StrictRunsUseLive, RunsNameReached, RunsSamplePairs, RunsKeepStage, RunsFallByBreaks, RunsNeverEscape};
-ghost use Rattle.judgement_runs.specs.Lines.{LinesStand, EntriesAreReported, BuffersAreReported};
-ghost use Rattle.judgement_runs.specs.Local.{ReportsAreLocal};
-ghost use Rattle.judgement_runs.specs.Sound.{AcceptedIsSound, FunctionsBoundDepth};
+ghost use Rattle.judgement_runs.specs.found.Accepted.{RunsNest, RunsPassTypes, RunsUseLive, StrictRunsUseLive, RunsNameReached, RunsSamplePairs, RunsKeepStage, RunsFallByBreaks, RunsNeverEscape};
+ghost use Rattle.judgement_runs.specs.judged.Lines.{LinesStand, EntriesAreReported, BuffersAreReported};
+ghost use Rattle.judgement_runs.specs.judged.Local.{ReportsAreLocal};
+ghost use Rattle.judgement_runs.specs.judged.Sound.{AcceptedIsSound, FunctionsBoundDepth};
 
 /// Calls are nested no deeper than there are functions.
 pub fn runs_nest()

@@ -1,10 +1,10 @@
 -- One call that answers, and nothing beside it.
 use Rattle.std.proofs.Common.{◌≡◌, ℕ, zero, suc, [], Some, refl, sym, ◌∙◌}
-use Rattle.ir_blocks.specs.Places.{Place, here, later, inside, condition}
-use Rattle.ir_blocks.specs.Plain.{call, stop}
+use Rattle.ir_blocks.specs.judged.Places.{Place, here, later, inside, condition}
+use Rattle.ir_blocks.specs.judged.Plain.{call, stop}
 use Rattle.spec_statements.proofs.AnswerLaws.{by_held}
 use Rattle.spec_statements.proofs.ScopeLaws.{none_held}
-use Rattle.spec_statements.specs.Results.{AnswersBy, DenotesResult, of_call, of_atomic, AnsweredOnce}
+use Rattle.spec_statements.specs.judged.Results.{AnswersBy, DenotesResult, of_call, of_atomic, AnsweredOnce}
 use Rattle.judgement_worked.specs.Worked.{one, over_answer}
 
 pub none_answers : {A : Type 0} (p : Place) (e : ℕ) → AnswersBy stop p e → A

@@ -1,16 +1,16 @@
 -- Scope in bodies that are written out: a test of a whole body, and tests of one place.
 use Rattle.std.proofs.Common.{◌≡◌, ◌&&◌, ◌||◌, not, ℕ, zero, suc, Bool, true, false, List, [], ◌∷◌, ◌++◌, ◌⊎◌, inl, inr, ⊎_elim, Option, Some, None, IsSomeAnd, Contains, nat_eq, slice_get, arith, refl, sym, ap, ◌∙◌, subst, true≢false}
 use Rattle.std.proofs.lemmas.Bool.{eqb-true, eq-eqb}
-use Rattle.ir_blocks.specs.Places.{Place, here, later, inside, condition, spot_at, condition_of}
-use Rattle.ir_blocks.specs.Plain.{PlainStatement, emit, block, if_, switch, loop, break, continue, return, kill, operation, call, PlainBlock, stop, next, PlainCases, no_case, case}
-use Rattle.ir_blocks.specs.Shapes.{Part, inner, accepting, rejecting, case_at, loop_body, loop_continuing, shape_of, part_of, case_body}
-use Rattle.ir_types.specs.ExpressionPlain.{PlainExpression}
-use Rattle.ir_items.specs.Plain.{PlainFunction}
+use Rattle.ir_blocks.specs.judged.Places.{Place, here, later, inside, condition, spot_at, condition_of}
+use Rattle.ir_blocks.specs.judged.Plain.{PlainStatement, emit, block, if_, switch, loop, break, continue, return, kill, operation, call, PlainBlock, stop, next, PlainCases, no_case, case}
+use Rattle.ir_blocks.specs.judged.Shapes.{Part, inner, accepting, rejecting, case_at, loop_body, loop_continuing, shape_of, part_of, case_body}
+use Rattle.ir_types.specs.judged.ExpressionPlain.{PlainExpression}
+use Rattle.ir_items.specs.judged.Plain.{PlainFunction}
 use Rattle.spec_handles.specs.Operands.{given}
 use Rattle.spec_statements.proofs.ScopeLaws.{none_held, scope_by_walk_lem}
-use Rattle.spec_statements.specs.Scope.{is_pre_emitted, PreEmitted, ScopeOK}
-use Rattle.spec_statements.specs.Tables.{statement_checked, checked_at, introduced, introduced_at}
-use Rattle.spec_statements.specs.Visible.{top_level, entering, at_condition, visible}
+use Rattle.spec_statements.specs.judged.Scope.{is_pre_emitted, PreEmitted, ScopeOK}
+use Rattle.spec_statements.specs.judged.Tables.{statement_checked, checked_at, introduced, introduced_at}
+use Rattle.spec_statements.specs.judged.Visible.{top_level, entering, at_condition, visible}
 
 -- ---- tests
 

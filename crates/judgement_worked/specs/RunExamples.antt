@@ -2,11 +2,11 @@
 use Rattle.std.specs.Prelude.{[], ◌∷◌, Some, None, true, List}
 use Rattle.ir_kinds.specs.declared.operators.UnaryOperator.TheVariants.{LogicalNot}
 use Rattle.ir_kinds.specs.declared.values.Literal.TheVariants.{Bool as Truth}
-use Rattle.ir_types.specs.ExpressionPlain.{PlainExpression, plain}
+use Rattle.ir_types.specs.judged.ExpressionPlain.{PlainExpression, plain}
 use Rattle.ir_types.specs.declared.expressions.Expression.TheVariants as x
-use Rattle.ir_blocks.specs.Plain.{emit, if_, loop, continue, call, stop, next}
-use Rattle.ir_items.specs.Plain.{PlainFunction}
-use Rattle.spec_runs.specs.Worked.{of_body}
+use Rattle.ir_blocks.specs.judged.Plain.{emit, if_, loop, continue, call, stop, next}
+use Rattle.ir_items.specs.judged.Plain.{PlainFunction}
+use Rattle.spec_runs.specs.found.Worked.{of_body}
 
 -- a truth value, and twice its opposite
 abbrev pub truths : List PlainExpression

@@ -1,19 +1,19 @@
 -- Functions, modules and bodies of the worked examples.
 use Rattle.std.specs.Prelude.{ℕ, List, [], ◌∷◌, Option, Some, None, true}
-use Rattle.ir_blocks.specs.Plain.{PlainStatement, if_, PlainBlock, stop, next}
-use Rattle.ir_types.specs.ExpressionPlain.{PlainExpression, plain}
+use Rattle.ir_blocks.specs.judged.Plain.{PlainStatement, if_, PlainBlock, stop, next}
+use Rattle.ir_types.specs.judged.ExpressionPlain.{PlainExpression, plain}
 use Rattle.ir_types.specs.declared.expressions.Expression.TheVariants as x
-use Rattle.ir_items.specs.Plain.{PlainArgument, PlainFunction, PlainModule}
+use Rattle.ir_items.specs.judged.Plain.{PlainArgument, PlainFunction, PlainModule}
 use Rattle.ir_items.specs.declared.functions.FunctionResult.{FunctionResult}
 use Rattle.ir_kinds.specs.declared.operators.UnaryOperator.TheVariants.{LogicalNot}
-use Rattle.ir_kinds.specs.Scalars.{boolean, unsigned}
+use Rattle.ir_kinds.specs.judged.Scalars.{boolean, unsigned}
 use Rattle.ir_kinds.specs.declared.scalars.Scalar.{Scalar}
 use Rattle.ir_kinds.specs.declared.values.Literal.TheVariants as literal
-use Rattle.ir_types.specs.Plain.{plain as plain_type}
+use Rattle.ir_types.specs.judged.Plain.{plain as plain_type}
 use Rattle.ir_types.specs.declared.types.TypeInner.TheVariants as inner
 use Rattle.typing_forms.specs.declared.form.Form.{Form}
 use Rattle.typing_forms.specs.declared.form.Form.TheVariants as form
-use Rattle.spec_statements.specs.BlockContext.{BlockContext}
+use Rattle.spec_statements.specs.judged.BlockContext.{BlockContext}
 
 -- ---- bodies
 

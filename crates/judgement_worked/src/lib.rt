@@ -10,13 +10,13 @@ ghost use Rattle.std.specs.Prelude.{◌≡◌, [], ◌∷◌, None, Some, true, 
 ghost use Rattle.ir_flags.specs.declared.settings.TheConstants.Capabilities.{SHADER_FLOAT16};
 ghost use Rattle.ir_kinds.specs.declared.scalars.ScalarKind.TheVariants.{Float, Uint, Bool as Boolean, AbstractInt};
 ghost use Rattle.ir_kinds.specs.declared.values.SwitchValue.TheVariants.{U32, Default};
-ghost use Rattle.ir_blocks.specs.Plain.{emit, block, if_, switch, loop, break, return, kill, call, stop, next, no_case, case};
-ghost use Rattle.ir_blocks.specs.Shapes.{breaks, continues, returns, kills, inner, case_at, loop_body, loop_continuing};
-ghost use Rattle.ir_blocks.specs.Control.{may_leave};
-ghost use Rattle.ir_blocks.specs.Tails.{completed};
-ghost use Rattle.typing_layout.specs.Widths.{IsKindAllowed};
+ghost use Rattle.ir_blocks.specs.judged.Plain.{emit, block, if_, switch, loop, break, return, kill, call, stop, next, no_case, case};
+ghost use Rattle.ir_blocks.specs.judged.Shapes.{breaks, continues, returns, kills, inner, case_at, loop_body, loop_continuing};
+ghost use Rattle.ir_blocks.specs.judged.Control.{may_leave};
+ghost use Rattle.ir_blocks.specs.judged.Tails.{completed};
+ghost use Rattle.typing_layout.specs.judged.Widths.{IsKindAllowed};
 ghost use Rattle.spec_handles.specs.Statements.{statement_operands, statement_callee, statement_result, statement_range};
-ghost use Rattle.judgement.specs.Text.{text_of};
+ghost use Rattle.judgement.specs.judged.Text.{text_of};
 ghost use Rattle.judgement.specs.declared.finding.Finding.TheVariants.{Accepted, RefusedDocument, RefusedHandles, Refused};
 ghost use Rattle.judgement.specs.declared.finding.Step.TheVariants.{«Type», Function};
 

@@ -1,13 +1,13 @@
 //! Runs in which a continue skips something, and events that are not good.
 ghost use Rattle.std.specs.Prelude.{◌≡◌, [], ◌∷◌, Some, None, pos};
-ghost use Rattle.ir_blocks.specs.Places.{here, later, inside};
-ghost use Rattle.ir_blocks.specs.Shapes.{loop_body, accepting, case_at};
-ghost use Rattle.spec_runs.specs.Events.{entered, executed, introduced_expression, used, passed, returned, fell_off, escaped};
-ghost use Rattle.spec_runs.specs.FinalSwitches.{LeavesFinalSwitch};
-ghost use Rattle.spec_runs.specs.Good.{DepthOK, TypesOK, LiveOK, FallsOK, NoEscape};
-ghost use Rattle.spec_runs.specs.Machine.{trace_of};
-ghost use Rattle.spec_runs.specs.Scoping.{checked_operands};
-ghost use Rattle.spec_runs.specs.Worked.{module_of, calling, skipping, breaking, using_too_early};
+ghost use Rattle.ir_blocks.specs.judged.Places.{here, later, inside};
+ghost use Rattle.ir_blocks.specs.judged.Shapes.{loop_body, accepting, case_at};
+ghost use Rattle.spec_runs.specs.judged.Events.{entered, executed, introduced_expression, used, passed, returned, fell_off, escaped};
+ghost use Rattle.spec_runs.specs.judged.FinalSwitches.{LeavesFinalSwitch};
+ghost use Rattle.spec_runs.specs.judged.Good.{DepthOK, TypesOK, LiveOK, FallsOK, NoEscape};
+ghost use Rattle.spec_runs.specs.judged.Machine.{trace_of};
+ghost use Rattle.spec_runs.specs.judged.Scoping.{checked_operands};
+ghost use Rattle.spec_runs.specs.found.Worked.{module_of, calling, skipping, breaking, using_too_early};
 ghost use Rattle.judgement_worked.specs.RunExamples.{answered, continuing, nested};
 
 /// A continue skips what is left of its loop's body at the top level, in its own turn.

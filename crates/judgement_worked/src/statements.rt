@@ -2,23 +2,23 @@
 //!
 //! The functions do nothing: their contracts are the examples.
 ghost use Rattle.std.specs.Prelude.{[], ◌∷◌, None, Some, true, false, pos};
-ghost use Rattle.ir_blocks.specs.Places.{here, condition};
-ghost use Rattle.ir_blocks.specs.Plain.{emit, block, if_, switch, loop, continue, call, stop, no_case, case};
+ghost use Rattle.ir_blocks.specs.judged.Places.{here, condition};
+ghost use Rattle.ir_blocks.specs.judged.Plain.{emit, block, if_, switch, loop, continue, call, stop, no_case, case};
 ghost use Rattle.ir_flags.specs.declared.memory.TheConstants.Barrier.{WORK_GROUP, SUB_GROUP};
-ghost use Rattle.ir_kinds.specs.Scalars.{boolean, floating, signed, unsigned};
+ghost use Rattle.ir_kinds.specs.judged.Scalars.{boolean, floating, signed, unsigned};
 ghost use Rattle.ir_kinds.specs.declared.scalars.VectorSize.TheVariants.{Bi};
 ghost use Rattle.ir_kinds.specs.declared.spaces.AddressSpace.TheVariants as space;
 ghost use Rattle.ir_kinds.specs.declared.values.SwitchValue.TheVariants.{I32, U32, Default};
-ghost use Rattle.spec_statements.specs.Barriers.{BarrierOK};
-ghost use Rattle.spec_statements.specs.Calls.{CallOK};
-ghost use Rattle.spec_statements.specs.Emits.{EmitOK};
-ghost use Rattle.spec_statements.specs.Results.{AnsweredOnce};
-ghost use Rattle.spec_statements.specs.Returns.{ReturnOK};
-ghost use Rattle.spec_statements.specs.Scope.{ScopeOK};
-ghost use Rattle.spec_statements.specs.Strict.{InStrictScope};
-ghost use Rattle.spec_statements.specs.Stores.{StoreOK};
-ghost use Rattle.spec_statements.specs.Subgroups.{BallotOK};
-ghost use Rattle.spec_statements.specs.Switches.{SwitchOK};
+ghost use Rattle.spec_statements.specs.judged.Barriers.{BarrierOK};
+ghost use Rattle.spec_statements.specs.judged.Calls.{CallOK};
+ghost use Rattle.spec_statements.specs.judged.Emits.{EmitOK};
+ghost use Rattle.spec_statements.specs.judged.Results.{AnsweredOnce};
+ghost use Rattle.spec_statements.specs.judged.Returns.{ReturnOK};
+ghost use Rattle.spec_statements.specs.judged.Scope.{ScopeOK};
+ghost use Rattle.spec_statements.specs.judged.Strict.{InStrictScope};
+ghost use Rattle.spec_statements.specs.judged.Stores.{StoreOK};
+ghost use Rattle.spec_statements.specs.judged.Subgroups.{BallotOK};
+ghost use Rattle.spec_statements.specs.judged.Switches.{SwitchOK};
 ghost use Rattle.judgement_worked.specs.Worked.{one, two, use_of, over_truths, over_answer, first_answered, storing, calling, answering, allowing};
 ghost use Rattle.typing_forms.specs.declared.form.Form.TheVariants as form;
 

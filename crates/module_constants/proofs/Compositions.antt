@@ -2,11 +2,11 @@
 use Rattle.std.proofs.Common.{◌≡◌, inl, inr, ℕ, List, [], ◌∷◌, None, map, refl, subst}
 use Rattle.module_constants.specs.Laws.{CompositionRefuted, ComponentsRefuted}
 use Rattle.typing_errors.specs.declared.compose.ComposeError.TheVariants as compose
-use Rattle.typing_rules.specs.Laws.{IsAmong}
-use Rattle.spec_expressions.specs.ConstantCompositions.{IsMadeOf, ComposeOK}
+use Rattle.typing_rules.specs.judged.Laws.{IsAmong}
+use Rattle.spec_expressions.specs.judged.ConstantCompositions.{IsMadeOf, ComposeOK}
 use Rattle.spec_expressions.proofs.TypingLaws.{one_type}
 use Rattle.typing_forms.specs.declared.form.Form.{Form}
-use Rattle.typing_forms.specs.Parts.{components_of}
+use Rattle.typing_forms.specs.judged.Parts.{components_of}
 
 pub composition_refuted : CompositionRefuted
 composition_refuted types type forms (compose.Typing ty) wrong ok =

@@ -1,8 +1,8 @@
 -- The info at an index is that of the type there.
 use Rattle.std.proofs.Common.{◌≡◌, ◌<◌, ℕ, List, length, get_or, sym, subst}
 use Rattle.std.proofs.lemmas.Option.{slice_get-get_or}
-use Rattle.ir_types.specs.Plain.{PlainType}
-use Rattle.typing_layout.specs.View.{type_tree}
+use Rattle.ir_types.specs.judged.Plain.{PlainType}
+use Rattle.typing_layout.specs.judged.View.{type_tree}
 use Rattle.module_type_checks.specs.Known.{AreInfos}
 use Rattle.module_type_infos.specs.Infos.{HasInfo}
 use Rattle.module_type_infos.specs.declared.info.TypeInfo.{TypeInfo}

@@ -4,11 +4,11 @@ use Rattle.module_constants.proofs.Compositions.{components_refuted}
 use Rattle.module_constants.proofs.Literals.{literal_refuted}
 use Rattle.module_constants.specs.Laws.{ExpressionRefuted}
 use Rattle.typing_errors.specs.declared.const_expressions.ConstExpressionError.TheVariants as error
-use Rattle.ir_types.specs.ExpressionPlain.{PlainExpression}
+use Rattle.ir_types.specs.judged.ExpressionPlain.{PlainExpression}
 use Rattle.ir_flags.specs.declared.settings.Capabilities.{Capabilities}
-use Rattle.ir_items.specs.Plain.{PlainModule}
-use Rattle.spec_expressions.specs.GlobalExpressions.{Required, of_literal, of_composition, to_work_out, required_of, IsMet, MayWait}
-use Rattle.spec_expressions.specs.Context.{outside}
+use Rattle.ir_items.specs.judged.Plain.{PlainModule}
+use Rattle.spec_expressions.specs.judged.GlobalExpressions.{Required, of_literal, of_composition, to_work_out, required_of, IsMet, MayWait}
+use Rattle.spec_expressions.specs.judged.Context.{outside}
 use Rattle.typing_layout.proofs.Latest.{one_kind}
 use Rattle.typing_layout.specs.declared.constness.ExpressionKind.{ExpressionKind}
 use Rattle.typing_layout.specs.declared.constness.ExpressionKind.TheVariants.{Runtime}

@@ -1,9 +1,9 @@
 -- The ids of the overrides before a place, and of those before the next one.
 use Rattle.std.proofs.Common.{◌≡◌, ◌<◌, ◌↔◌, ◌⊎◌, inl, inr, ℕ, ◌+◌, List, Option, Some, None, Bool, true, false, slice_get, refl, sym, ap, subst, ◌∙◌, true≢false, arith, rules}
-use Rattle.ir_items.specs.GlobalPlain.{PlainOverride}
+use Rattle.ir_items.specs.judged.GlobalPlain.{PlainOverride}
 use Rattle.module_constants.specs.Ids.{AreIds, AreIdsOrMore, IsNotedIf, IsSeen}
 use Rattle.module_constants.specs.declared.ids.OverrideIds.{OverrideIds}
-use Rattle.spec_expressions.specs.Overrides.{IsTaken}
+use Rattle.spec_expressions.specs.judged.Overrides.{IsTaken}
 
 pub below_or_same : (h k : ℕ) → h < k + 1 → (h < k) ⊎ (h ≡ k)
 below_or_same h k lt = search rules

@@ -7,25 +7,25 @@ use Rattle.module_constants.specs.declared.constant_error.ConstantError.{Constan
 use Rattle.module_constants.specs.declared.constant_error.ConstantError.TheVariants as constant_error
 use Rattle.module_constants.specs.declared.override_error.OverrideError.{OverrideError}
 use Rattle.module_constants.specs.declared.override_error.OverrideError.TheVariants as override_error
-use Rattle.ir_items.specs.GlobalPlain.{PlainConstant, PlainOverride}
-use Rattle.ir_items.specs.Plain.{PlainModule}
+use Rattle.ir_items.specs.judged.GlobalPlain.{PlainConstant, PlainOverride}
+use Rattle.ir_items.specs.judged.Plain.{PlainModule}
 use Rattle.ir_kinds.specs.declared.scalars.Scalar.{Scalar}
 use Rattle.ir_kinds.specs.declared.scalars.ScalarKind.{ScalarKind}
 use Rattle.ir_kinds.specs.declared.scalars.ScalarKind.TheVariants as scalar_kind
-use Rattle.ir_types.specs.Plain.{PlainType, plain}
+use Rattle.ir_types.specs.judged.Plain.{PlainType, plain}
 use Rattle.ir_types.specs.declared.types.TypeInner.TheVariants as inner
-use Rattle.spec_expressions.specs.Constants.{ConstantOK}
-use Rattle.spec_expressions.specs.Overrides.{DefaultOK, IsOverrideType, IsTaken, IsKnownByOverrides}
+use Rattle.spec_expressions.specs.judged.Constants.{ConstantOK}
+use Rattle.spec_expressions.specs.judged.Overrides.{DefaultOK, IsOverrideType, IsTaken, IsKnownByOverrides}
 use Rattle.spec_expressions.proofs.TypingLaws.{one_type}
-use Rattle.spec_expressions.specs.Context.{outside}
-use Rattle.spec_expressions.specs.Typing.{HasGlobalType}
-use Rattle.typing_layout.specs.Flags.{HasFlag, Constructible, among, scalar_flags}
-use Rattle.typing_layout.specs.Tree.{scalar}
-use Rattle.typing_layout.specs.View.{type_tree, tree_along, tree_found}
-use Rattle.typing_forms.specs.Forms.{form_of_type}
-use Rattle.typing_forms.specs.Resolutions.{inner_at}
+use Rattle.spec_expressions.specs.judged.Context.{outside}
+use Rattle.spec_expressions.specs.judged.Typing.{HasGlobalType}
+use Rattle.typing_layout.specs.judged.Flags.{HasFlag, Constructible, among, scalar_flags}
+use Rattle.typing_layout.specs.judged.Tree.{scalar}
+use Rattle.typing_layout.specs.judged.View.{type_tree, tree_along, tree_found}
+use Rattle.typing_forms.specs.judged.Forms.{form_of_type}
+use Rattle.typing_forms.specs.judged.Resolutions.{inner_at}
 use Rattle.typing_layout.proofs.Latest.{one_kind}
-use Rattle.typing_layout.specs.Constness.{IsOfKind}
+use Rattle.typing_layout.specs.judged.Constness.{IsOfKind}
 use Rattle.typing_layout.specs.declared.constness.ExpressionKind.TheVariants as kind
 
 constant_wrong : (m : PlainModule) (handle : ℕ) (c : PlainConstant) (e : ConstantError) → IsFaultOf m c e → (ok : ConstantOK m handle) → ok.constant ≡ c → ⊥

@@ -1,6 +1,6 @@
 -- A literal with a fault may not be used.
 use Rattle.module_constants.specs.Laws.{LiteralRefuted}
-use Rattle.ir_kinds.specs.Values.{literal_scalar}
+use Rattle.ir_kinds.specs.judged.Values.{literal_scalar}
 use Rattle.module_type_checks.proofs.Scalars.{width_refuted}
 use Rattle.module_type_infos.specs.declared.error.LiteralError.TheVariants as literal_error
 

@@ -2,11 +2,11 @@
 use Rattle.std.proofs.Common.{◌≡◌, ◌<◌, ◌≤◌, ◌+◌, ◌⊎◌, inl, inr, ◌↔◌, ℕ, zero, suc, List, [], ◌∷◌, Some, Bool, true, IsTrue, map, length, sum, take, min, slice_get, get_or, refl, sym, ap, subst, ◌∙◌, arith, rules}
 use Rattle.std.proofs.lemmas.List.Sums.{sum-map, sum_by_more}
 use Rattle.module_constants.specs.Compositions.{in_32_bits}
-use Rattle.ir_types.specs.Plain.{PlainMember, PlainType, member_view}
+use Rattle.ir_types.specs.judged.Plain.{PlainMember, PlainType, member_view}
 use Rattle.ir_types.specs.declared.types.StructMember.{StructMember}
 use Rattle.module_constants.specs.Composed.{FitBelow, AllFit, IsMember}
-use Rattle.spec_expressions.specs.ConstantCompositions.{scalars_in}
-use Rattle.typing_forms.specs.Forms.{form_of_type}
+use Rattle.spec_expressions.specs.judged.ConstantCompositions.{scalars_in}
+use Rattle.typing_forms.specs.judged.Forms.{form_of_type}
 use Rattle.typing_forms.specs.declared.form.Form.{Form}
 
 below_or_same : (h k : ℕ) → h < k + 1 → (h < k) ⊎ (h ≡ k)

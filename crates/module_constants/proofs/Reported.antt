@@ -10,18 +10,18 @@ use Rattle.module_constants.specs.declared.override_error.OverrideError.{Overrid
 use Rattle.typing_errors.specs.declared.const_expressions.ConstExpressionError.{ConstExpressionError}
 use Rattle.typing_errors.specs.declared.const_expressions.ConstExpressionError.TheVariants as error
 use Rattle.ir_arena.specs.declared.span.Span.{Span}
-use Rattle.ir_types.specs.ExpressionPlain.{PlainExpression}
+use Rattle.ir_types.specs.judged.ExpressionPlain.{PlainExpression}
 use Rattle.ir_flags.specs.declared.settings.Capabilities.{Capabilities}
-use Rattle.ir_items.specs.GlobalPlain.{PlainConstant, PlainOverride}
-use Rattle.ir_items.specs.GlobalView.{values_of}
-use Rattle.ir_items.specs.Plain.{PlainModule}
+use Rattle.ir_items.specs.judged.GlobalPlain.{PlainConstant, PlainOverride}
+use Rattle.ir_items.specs.found.GlobalView.{values_of}
+use Rattle.ir_items.specs.judged.Plain.{PlainModule}
 use Rattle.module_constants.proofs.IdLemmas.{below_or_same}
 use Rattle.module_constants.specs.Required.{IsUnmet}
 use Rattle.module_constants.specs.Refusals.{IsFineConstant, IsConstantRefused, IsExpressionRefused, IsFineBesideId, IsOverrideRefused}
-use Rattle.spec_expressions.specs.Constants.{ConstantOK}
-use Rattle.spec_expressions.specs.GlobalExpressions.{Required, of_literal, of_composition, of_value, to_work_out, required_of, IsMet, GlobalExpressionOK}
-use Rattle.spec_expressions.specs.Overrides.{IsTaken, OverrideOK}
-use Rattle.typing_layout.specs.Constness.{IsOfKind}
+use Rattle.spec_expressions.specs.judged.Constants.{ConstantOK}
+use Rattle.spec_expressions.specs.judged.GlobalExpressions.{Required, of_literal, of_composition, of_value, to_work_out, required_of, IsMet, GlobalExpressionOK}
+use Rattle.spec_expressions.specs.judged.Overrides.{IsTaken, OverrideOK}
+use Rattle.typing_layout.specs.judged.Constness.{IsOfKind}
 use Rattle.typing_layout.specs.declared.constness.ExpressionKind.{ExpressionKind}
 use Rattle.typing_layout.specs.declared.constness.ExpressionKind.TheVariants.{Runtime}
 

@@ -2,7 +2,7 @@
 use Rattle.std.proofs.Common.{◌≡◌, ◌<◌, ◌⊎◌, inl, inr, ℕ, zero, suc, Contains, slice_index_or, arith}
 use Rattle.ir_kinds.specs.declared.scalars.Scalar.{Scalar}
 use Rattle.module_constants.specs.Kinds.{integer_scalars, float_scalars}
-use Rattle.spec_expressions.specs.Overrides.{override_scalars}
+use Rattle.spec_expressions.specs.judged.Overrides.{override_scalars}
 
 by_place : (s : Scalar) (k : ℕ) → k < 6 → slice_index_or override_scalars k s ≡ s → Contains integer_scalars s ⊎ Contains float_scalars s
 by_place s zero lt e = inl (0, omega arith, e)

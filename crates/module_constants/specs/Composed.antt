@@ -4,12 +4,12 @@ use Rattle.module_constants.specs.Compositions.{in_32_bits}
 use Rattle.typing_errors.specs.declared.compose.ComposeError.{ComposeError}
 use Rattle.typing_errors.specs.declared.compose.ComposeError.TheVariants as compose
 use Rattle.ir_kinds.specs.declared.scalars.Scalar.{Scalar}
-use Rattle.ir_types.specs.Plain.{PlainMember, PlainType}
+use Rattle.ir_types.specs.judged.Plain.{PlainMember, PlainType}
 use Rattle.module_constants.specs.declared.components.Components.{Components}
 use Rattle.module_constants.specs.declared.components.Components.TheVariants.{Expressions, Types}
-use Rattle.spec_expressions.specs.ConstantCompositions.{IsOfScalar, scalars_in}
-use Rattle.typing_forms.specs.Forms.{form_of_type}
-use Rattle.typing_forms.specs.Resolutions.{types_view}
+use Rattle.spec_expressions.specs.judged.ConstantCompositions.{IsOfScalar, scalars_in}
+use Rattle.typing_forms.specs.judged.Forms.{form_of_type}
+use Rattle.typing_forms.specs.judged.Resolutions.{types_view}
 use Rattle.typing_forms.specs.declared.form.Form.{Form}
 use Rattle.typing_forms.specs.declared.form.Form.TheVariants as form
 use Rattle.typing_errors.specs.Answers.{form_given}

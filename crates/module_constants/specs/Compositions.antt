@@ -2,11 +2,11 @@
 use Rattle.std.specs.Prelude.{◌≡◌, ◌≢◌, ℕ, List, Some, None, min, slice_get}
 use Rattle.typing_errors.specs.declared.compose.ComposeError.{ComposeError}
 use Rattle.typing_errors.specs.declared.compose.ComposeError.TheVariants as compose
-use Rattle.ir_types.specs.Plain.{PlainInner, PlainType}
-use Rattle.spec_expressions.specs.ConstantCompositions.{Fits, parts_given}
-use Rattle.typing_forms.specs.Resolutions.{inner_at}
+use Rattle.ir_types.specs.judged.Plain.{PlainInner, PlainType}
+use Rattle.spec_expressions.specs.judged.ConstantCompositions.{Fits, parts_given}
+use Rattle.typing_forms.specs.judged.Resolutions.{inner_at}
 use Rattle.typing_forms.specs.declared.form.Form.{Form}
-use Rattle.typing_forms.specs.Parts.{components_of}
+use Rattle.typing_forms.specs.judged.Parts.{components_of}
 
 -- a number as far as 32 bits tell it
 abbrev pub in_32_bits : ℕ → ℕ

@@ -2,13 +2,13 @@
 use Rattle.std.specs.Prelude.{◌≡◌, ◌≢◌, ℕ, Some, slice_get}
 use Rattle.module_constants.specs.declared.constant_error.ConstantError.{ConstantError}
 use Rattle.module_constants.specs.declared.constant_error.ConstantError.TheVariants as error
-use Rattle.ir_items.specs.GlobalPlain.{PlainConstant}
-use Rattle.ir_items.specs.Plain.{PlainModule}
-use Rattle.spec_expressions.specs.Typing.{HasGlobalType}
-use Rattle.typing_layout.specs.Flags.{HasFlag, Constructible}
-use Rattle.typing_layout.specs.View.{type_tree}
-use Rattle.typing_forms.specs.Forms.{form_of_type}
-use Rattle.typing_layout.specs.Constness.{IsOfKind}
+use Rattle.ir_items.specs.judged.GlobalPlain.{PlainConstant}
+use Rattle.ir_items.specs.judged.Plain.{PlainModule}
+use Rattle.spec_expressions.specs.judged.Typing.{HasGlobalType}
+use Rattle.typing_layout.specs.judged.Flags.{HasFlag, Constructible}
+use Rattle.typing_layout.specs.judged.View.{type_tree}
+use Rattle.typing_forms.specs.judged.Forms.{form_of_type}
+use Rattle.typing_layout.specs.judged.Constness.{IsOfKind}
 use Rattle.typing_forms.specs.declared.form.Form.{Form}
 use Rattle.typing_layout.specs.declared.constness.ExpressionKind.{ExpressionKind}
 use Rattle.typing_layout.specs.declared.constness.ExpressionKind.TheVariants.{Const}

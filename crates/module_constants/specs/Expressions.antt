@@ -4,18 +4,18 @@ use Rattle.module_constants.specs.Compositions.{IsComposeFault}
 use Rattle.typing_errors.specs.declared.compose.ComposeError.{ComposeError}
 use Rattle.typing_errors.specs.declared.const_expressions.ConstExpressionError.{ConstExpressionError}
 use Rattle.typing_errors.specs.declared.const_expressions.ConstExpressionError.TheVariants as error
-use Rattle.ir_types.specs.ExpressionPlain.{PlainExpression}
+use Rattle.ir_types.specs.judged.ExpressionPlain.{PlainExpression}
 use Rattle.ir_flags.specs.declared.settings.Capabilities.{Capabilities}
-use Rattle.ir_items.specs.Plain.{PlainModule}
+use Rattle.ir_items.specs.judged.Plain.{PlainModule}
 use Rattle.ir_kinds.specs.declared.values.Literal.{Literal}
-use Rattle.typing_rules.specs.Laws.{IsAmong}
-use Rattle.spec_expressions.specs.GlobalExpressions.{of_literal, of_composition, to_work_out, required_of, MayWait}
-use Rattle.spec_expressions.specs.Context.{Context, outside}
-use Rattle.spec_expressions.specs.Typing.{HasTypeAmong}
+use Rattle.typing_rules.specs.judged.Laws.{IsAmong}
+use Rattle.spec_expressions.specs.judged.GlobalExpressions.{of_literal, of_composition, to_work_out, required_of, MayWait}
+use Rattle.spec_expressions.specs.judged.Context.{Context, outside}
+use Rattle.spec_expressions.specs.judged.Typing.{HasTypeAmong}
 use Rattle.module_type_checks.specs.Widths.{IsLiteralFault}
 use Rattle.module_type_infos.specs.declared.error.LiteralError.{LiteralError}
 use Rattle.typing_forms.specs.declared.form.Form.{Form}
-use Rattle.typing_layout.specs.Constness.{IsOfKind}
+use Rattle.typing_layout.specs.judged.Constness.{IsOfKind}
 use Rattle.typing_layout.specs.declared.constness.ExpressionKind.{ExpressionKind}
 use Rattle.typing_layout.specs.declared.constness.ExpressionKind.TheVariants.{Runtime}
 use Rattle.typing_errors.specs.Answers.{fault_of, ReportsFault}

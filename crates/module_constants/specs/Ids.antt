@@ -1,9 +1,9 @@
 -- The ids of the overrides before one.
 use Rattle.std.specs.Prelude.{◌≡◌, ◌↔◌, ◌⊎◌, ◌+◌, ◌/◌, ◌%◌, ℕ, List, Option, Some, None, Bool, false, true, slice_index_or}
 use Rattle.std.specs.Int.{bit_at}
-use Rattle.ir_items.specs.GlobalPlain.{PlainOverride}
+use Rattle.ir_items.specs.judged.GlobalPlain.{PlainOverride}
 use Rattle.module_constants.specs.declared.ids.OverrideIds.{OverrideIds}
-use Rattle.spec_expressions.specs.Overrides.{IsTaken}
+use Rattle.spec_expressions.specs.judged.Overrides.{IsTaken}
 
 -- an id is one of them: its bit is 1 in the word that has it
 abbrev pub IsSeen : OverrideIds → (id : ℕ) → Type 0

@@ -1,6 +1,6 @@
 -- The scalars that a pipeline may give, in two parts.
 use Rattle.std.specs.Prelude.{List, [], ◌∷◌}
-use Rattle.ir_kinds.specs.Scalars.{boolean, signed, unsigned, floating}
+use Rattle.ir_kinds.specs.judged.Scalars.{boolean, signed, unsigned, floating}
 use Rattle.ir_kinds.specs.declared.scalars.Scalar.{Scalar}
 
 abbrev pub integer_scalars : List Scalar

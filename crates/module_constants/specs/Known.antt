@@ -1,16 +1,16 @@
 -- What is known where global expressions, constants and overrides are judged.
 use Rattle.std.specs.Prelude.{◌≡◌, ◌<◌, ◌↔◌, ℕ, List, Some, Bool, IsTrue, length, slice_get}
-use Rattle.ir_types.specs.ExpressionPlain.{compose}
-use Rattle.ir_items.specs.GlobalPlain.{PlainConstant, PlainOverride}
-use Rattle.ir_items.specs.Plain.{PlainModule}
-use Rattle.ir_items.specs.View.{module_view}
+use Rattle.ir_types.specs.judged.ExpressionPlain.{compose}
+use Rattle.ir_items.specs.judged.GlobalPlain.{PlainConstant, PlainOverride}
+use Rattle.ir_items.specs.judged.Plain.{PlainModule}
+use Rattle.ir_items.specs.found.View.{module_view}
 use Rattle.module_constants.specs.declared.context.GlobalContext.{GlobalContext}
-use Rattle.typing_rules.specs.Laws.{IsAmong}
-use Rattle.spec_expressions.specs.Typing.{HasGlobalType}
+use Rattle.typing_rules.specs.judged.Laws.{IsAmong}
+use Rattle.spec_expressions.specs.judged.Typing.{HasGlobalType}
 use Rattle.module_type_checks.specs.Known.{AreInfos}
-use Rattle.typing_forms.specs.Forms.{form_of_type}
+use Rattle.typing_forms.specs.judged.Forms.{form_of_type}
 use Rattle.typing_forms.specs.declared.form.Form.{Form}
-use Rattle.typing_layout.specs.Constness.{AreKinds}
+use Rattle.typing_layout.specs.judged.Constness.{AreKinds}
 
 abbrev pub module_in : GlobalContext → PlainModule
 module_in c = module_view c.«module».now

@@ -8,17 +8,17 @@ use Rattle.module_constants.specs.declared.constant_error.ConstantError.{Constan
 use Rattle.module_constants.specs.declared.override_error.OverrideError.{OverrideError}
 use Rattle.typing_errors.specs.declared.compose.ComposeError.{ComposeError}
 use Rattle.typing_errors.specs.declared.const_expressions.ConstExpressionError.{ConstExpressionError}
-use Rattle.ir_types.specs.ExpressionPlain.{PlainExpression}
+use Rattle.ir_types.specs.judged.ExpressionPlain.{PlainExpression}
 use Rattle.ir_flags.specs.declared.settings.Capabilities.{Capabilities}
-use Rattle.ir_items.specs.Plain.{PlainModule}
+use Rattle.ir_items.specs.judged.Plain.{PlainModule}
 use Rattle.ir_kinds.specs.declared.values.Literal.{Literal}
-use Rattle.ir_types.specs.Plain.{PlainType}
-use Rattle.spec_expressions.specs.ConstantCompositions.{ComposeOK, ComponentsOK}
-use Rattle.spec_expressions.specs.Constants.{ConstantOK}
-use Rattle.spec_expressions.specs.GlobalExpressions.{GlobalExpressionOK}
-use Rattle.spec_expressions.specs.ConstantLiterals.{LiteralOK}
-use Rattle.spec_expressions.specs.Overrides.{OverrideOK}
-use Rattle.spec_expressions.specs.Context.{Context}
+use Rattle.ir_types.specs.judged.Plain.{PlainType}
+use Rattle.spec_expressions.specs.judged.ConstantCompositions.{ComposeOK, ComponentsOK}
+use Rattle.spec_expressions.specs.judged.Constants.{ConstantOK}
+use Rattle.spec_expressions.specs.judged.GlobalExpressions.{GlobalExpressionOK}
+use Rattle.spec_expressions.specs.judged.ConstantLiterals.{LiteralOK}
+use Rattle.spec_expressions.specs.judged.Overrides.{OverrideOK}
+use Rattle.spec_expressions.specs.judged.Context.{Context}
 use Rattle.module_type_checks.specs.Widths.{IsLiteralFault}
 use Rattle.module_type_infos.specs.declared.error.LiteralError.{LiteralError}
 use Rattle.typing_forms.specs.declared.form.Form.{Form}

@@ -11,17 +11,17 @@ use Rattle.ir_faults.specs.Faults.{error_of, spans_of}
 use Rattle.ir_faults.specs.declared.refusal.Refusal.{Refusal}
 use Rattle.ir_faults.specs.declared.refusal.Refusal.TheVariants as refusal
 use Rattle.ir_flags.specs.declared.settings.Capabilities.{Capabilities}
-use Rattle.ir_items.specs.GlobalPlain.{PlainConstant, PlainOverride}
-use Rattle.ir_items.specs.Plain.{PlainModule}
-use Rattle.spec_expressions.specs.Constants.{ConstantOK}
-use Rattle.spec_expressions.specs.GlobalExpressions.{GlobalExpressionOK}
-use Rattle.spec_expressions.specs.Overrides.{IsOverrideType, DefaultOK, OverrideOK}
-use Rattle.spec_expressions.specs.Typing.{HasGlobalType}
-use Rattle.typing_layout.specs.Flags.{HasFlag, Constructible}
-use Rattle.typing_layout.specs.View.{type_tree}
-use Rattle.typing_forms.specs.Forms.{form_of_type}
+use Rattle.ir_items.specs.judged.GlobalPlain.{PlainConstant, PlainOverride}
+use Rattle.ir_items.specs.judged.Plain.{PlainModule}
+use Rattle.spec_expressions.specs.judged.Constants.{ConstantOK}
+use Rattle.spec_expressions.specs.judged.GlobalExpressions.{GlobalExpressionOK}
+use Rattle.spec_expressions.specs.judged.Overrides.{IsOverrideType, DefaultOK, OverrideOK}
+use Rattle.spec_expressions.specs.judged.Typing.{HasGlobalType}
+use Rattle.typing_layout.specs.judged.Flags.{HasFlag, Constructible}
+use Rattle.typing_layout.specs.judged.View.{type_tree}
+use Rattle.typing_forms.specs.judged.Forms.{form_of_type}
 use Rattle.typing_forms.specs.declared.form.Form.{Form}
-use Rattle.typing_layout.specs.Constness.{IsOfKind}
+use Rattle.typing_layout.specs.judged.Constness.{IsOfKind}
 use Rattle.typing_layout.specs.declared.constness.ExpressionKind.TheVariants.{Const, Runtime}
 
 -- a constant may stand

@@ -4,9 +4,9 @@ use Rattle.module_constants.specs.Expressions.{IsComponentsFault}
 use Rattle.typing_errors.specs.declared.const_expressions.ConstExpressionError.{ConstExpressionError}
 use Rattle.typing_errors.specs.declared.const_expressions.ConstExpressionError.TheVariants as error
 use Rattle.ir_flags.specs.declared.settings.Capabilities.{Capabilities}
-use Rattle.ir_items.specs.Plain.{PlainModule}
-use Rattle.spec_expressions.specs.GlobalExpressions.{Required, of_literal, of_composition, of_value, to_work_out, MayWait}
-use Rattle.spec_expressions.specs.Context.{outside}
+use Rattle.ir_items.specs.judged.Plain.{PlainModule}
+use Rattle.spec_expressions.specs.judged.GlobalExpressions.{Required, of_literal, of_composition, of_value, to_work_out, MayWait}
+use Rattle.spec_expressions.specs.judged.Context.{outside}
 use Rattle.module_type_checks.specs.Widths.{IsLiteralFault}
 use Rattle.typing_layout.specs.declared.constness.ExpressionKind.{ExpressionKind}
 

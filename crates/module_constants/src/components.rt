@@ -2,7 +2,7 @@
 
 ghost use Rattle.std.specs.Prelude.{◌≡◌, ◌<◌, Some, length, map, slice_get};
 ghost use Rattle.module_constants.specs.Composed.{AreScalars, form_known, forms_of};
-ghost use Rattle.typing_forms.specs.Resolutions.{types_view};
+ghost use Rattle.typing_forms.specs.judged.Resolutions.{types_view};
 ghost use Rattle.typing_errors.specs.Answers.{form_given};
 
 use ir_arena::handle::Handle;

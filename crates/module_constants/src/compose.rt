@@ -2,14 +2,14 @@
 
 ghost use Rattle.std.specs.Prelude.{◌≡◌, ◌<◌, ◌≤◌, ◌↔◌, ℕ, IsTrue, Some, length, map, slice_get, sum, MatchResult};
 ghost use Rattle.module_constants.specs.Compositions.{in_32_bits, IsComposeFault};
-ghost use Rattle.ir_types.specs.Plain.{PlainMember, inner_view, member_view};
+ghost use Rattle.ir_types.specs.judged.Plain.{PlainMember, inner_view, member_view};
 ghost use Rattle.typing_errors.specs.declared.compose.ComposeError.TheVariants as compose;
 ghost use Rattle.module_constants.specs.Composed.{AllFit, IsMisfit, IsOtherCount, AreWhole, AreNotWhole, IsForm, IsScalars, IsMember, forms_of};
-ghost use Rattle.spec_expressions.specs.ConstantCompositions.{scalars_in, Fits, parts_given, ComposeOK};
-ghost use Rattle.typing_forms.specs.Forms.{form_of_type};
-ghost use Rattle.typing_forms.specs.Resolutions.{types_view};
+ghost use Rattle.spec_expressions.specs.judged.ConstantCompositions.{scalars_in, Fits, parts_given, ComposeOK};
+ghost use Rattle.typing_forms.specs.judged.Forms.{form_of_type};
+ghost use Rattle.typing_forms.specs.judged.Resolutions.{types_view};
 ghost use Rattle.typing_errors.specs.Answers.{form_given};
-ghost use Rattle.typing_forms.specs.Parts.{components_of};
+ghost use Rattle.typing_forms.specs.judged.Parts.{components_of};
 
 use crate::components::{Components, count_of, form_at, scalars_of};
 use ir_arena::handle::Handle;

@@ -2,11 +2,11 @@
 
 ghost use Rattle.std.specs.Prelude.{◌<◌, length, MatchResult};
 ghost use Rattle.module_constants.specs.Constants.{IsConstantFault, IsFaultOf};
-ghost use Rattle.ir_items.specs.GlobalView.{constant_view};
+ghost use Rattle.ir_items.specs.found.GlobalView.{constant_view};
 ghost use Rattle.module_constants.specs.Firsts.{AreAccepted, IsFirstRefused};
 ghost use Rattle.module_constants.specs.Known.{IsKnown, module_in};
 ghost use Rattle.module_constants.specs.Refusals.{IsFineConstant, IsConstantRefused};
-ghost use Rattle.spec_expressions.specs.Constants.{ConstantOK};
+ghost use Rattle.spec_expressions.specs.judged.Constants.{ConstantOK};
 
 use crate::ConstantError;
 use crate::context::{GlobalContext, has_type, is_composed, known_kind};

@@ -2,10 +2,10 @@
 
 ghost use Rattle.std.specs.Prelude.{◌≡◌, ◌<◌, ◌↔◌, IsTrue, List, Some, length, slice_get};
 ghost use Rattle.module_constants.specs.Known.{IsKnown, IsJudged, module_in};
-ghost use Rattle.ir_types.specs.Plain.{PlainType};
-ghost use Rattle.typing_layout.specs.Flags.{HasFlag, Constructible};
-ghost use Rattle.typing_layout.specs.Tree.{Tree};
-ghost use Rattle.typing_layout.specs.View.{type_tree};
+ghost use Rattle.ir_types.specs.judged.Plain.{PlainType};
+ghost use Rattle.typing_layout.specs.judged.Flags.{HasFlag, Constructible};
+ghost use Rattle.typing_layout.specs.judged.Tree.{Tree};
+ghost use Rattle.typing_layout.specs.judged.View.{type_tree};
 ghost use Rattle.module_type_infos.specs.Infos.{HasInfo};
 
 use bitflags::Flags;

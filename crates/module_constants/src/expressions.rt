@@ -2,15 +2,15 @@
 
 ghost use Rattle.std.specs.Prelude.{◌≡◌, ◌<◌, Some, length, slice_get, MatchResult};
 ghost use Rattle.module_constants.specs.Expressions.{IsComponentsFault, IsConstExpressionFault};
-ghost use Rattle.ir_types.specs.ExpressionPlain.{compose, expression_view};
+ghost use Rattle.ir_types.specs.judged.ExpressionPlain.{compose, expression_view};
 ghost use Rattle.module_constants.specs.Required.{IsLate, IsUnmet};
 ghost use Rattle.module_constants.specs.Firsts.{AreAccepted, IsFirstRefused};
 ghost use Rattle.module_constants.specs.Known.{IsKnown, module_in};
 ghost use Rattle.module_constants.specs.Refusals.{IsExpressionRefused};
-ghost use Rattle.spec_expressions.specs.ConstantCompositions.{ComponentsOK};
-ghost use Rattle.spec_expressions.specs.GlobalExpressions.{required_of, IsMet, MayWait, GlobalExpressionOK};
-ghost use Rattle.spec_expressions.specs.ConstantLiterals.{LiteralOK};
-ghost use Rattle.spec_expressions.specs.Context.{outside};
+ghost use Rattle.spec_expressions.specs.judged.ConstantCompositions.{ComponentsOK};
+ghost use Rattle.spec_expressions.specs.judged.GlobalExpressions.{required_of, IsMet, MayWait, GlobalExpressionOK};
+ghost use Rattle.spec_expressions.specs.judged.ConstantLiterals.{LiteralOK};
+ghost use Rattle.spec_expressions.specs.judged.Context.{outside};
 ghost use Rattle.module_type_checks.specs.Widths.{IsLiteralFault};
 
 use crate::context::{GlobalContext, known_kind};

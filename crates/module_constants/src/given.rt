@@ -1,7 +1,7 @@
 //! The forms of the types of expressions, made once for all of them.
 
 ghost use Rattle.std.specs.Prelude.{◌≡◌, IfOk, map};
-ghost use Rattle.typing_forms.specs.Resolutions.{types_view};
+ghost use Rattle.typing_forms.specs.judged.Resolutions.{types_view};
 ghost use Rattle.typing_errors.specs.Answers.{form_given};
 
 use ir_sets::unique_arena::UniqueArena;

@@ -2,13 +2,13 @@
 
 ghost use Rattle.std.specs.Prelude.{◌≡◌, ◌<◌, ◌+◌, ◌↔◌, ℕ, IsTrue, Contains, Some, length, IfOk, IfErr, OnOk, OnErr, MatchResult};
 ghost use Rattle.module_constants.specs.Overrides.{IsFaultOf};
-ghost use Rattle.ir_items.specs.GlobalView.{override_view};
+ghost use Rattle.ir_items.specs.found.GlobalView.{override_view};
 ghost use Rattle.module_constants.specs.Ids.{AreIds, AreIdsOrMore, IsNotedIf, IsSeen};
 ghost use Rattle.module_constants.specs.Known.{IsKnown, module_in};
 ghost use Rattle.module_constants.specs.Kinds.{integer_scalars, float_scalars};
 ghost use Rattle.module_constants.specs.Refusals.{IsDefaultFault, IsFineBesideId, IsOverrideRefusal};
-ghost use Rattle.spec_expressions.specs.Overrides.{override_scalars, IsOverrideType, DefaultOK, OverrideOK};
-ghost use Rattle.typing_forms.specs.Resolutions.{types_view};
+ghost use Rattle.spec_expressions.specs.judged.Overrides.{override_scalars, IsOverrideType, DefaultOK, OverrideOK};
+ghost use Rattle.typing_forms.specs.judged.Resolutions.{types_view};
 
 use crate::OverrideError;
 use crate::context::{GlobalContext, has_type, is_composed, known_kind};

@@ -1,8 +1,8 @@
 -- Which expressions are constant.
 use Rattle.std.proofs.Common.{◌≡◌, ◌<◌, ◌≤◌, ◌↔◌, ℕ, zero, suc, List, [], ◌∷◌, Some, IsTrue, nat_lt, length, slice_get, refl, ◌∙◌, ap, arith, rules, tests}
-use Rattle.ir_types.specs.ExpressionPlain.{PlainExpression}
+use Rattle.ir_types.specs.judged.ExpressionPlain.{PlainExpression}
 use Rattle.typing_layout.proofs.Latest.{one_kind}
-use Rattle.typing_layout.specs.Constness.{AreKinds, IsOfKind, by_itself, by_operands}
+use Rattle.typing_layout.specs.judged.Constness.{AreKinds, IsOfKind, by_itself, by_operands}
 use Rattle.typing_layout.specs.declared.constness.ExpressionKind.{ExpressionKind}
 use Rattle.typing_layout.specs.declared.constness.ExpressionKind.TheVariants.{Const}
 

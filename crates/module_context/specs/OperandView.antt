@@ -1,12 +1,12 @@
 -- What a context holds, as plain data.
 use Rattle.std.specs.Prelude.{◌≡◌, List, length, map}
-use Rattle.ir_types.specs.ExpressionPlain.{PlainExpression, expression_view}
-use Rattle.ir_items.specs.GlobalView.{values_of}
-use Rattle.ir_types.specs.Plain.{PlainType}
-use Rattle.spec_statements.specs.Scene.{Scene}
+use Rattle.ir_types.specs.judged.ExpressionPlain.{PlainExpression, expression_view}
+use Rattle.ir_items.specs.found.GlobalView.{values_of}
+use Rattle.ir_types.specs.judged.Plain.{PlainType}
+use Rattle.spec_statements.specs.judged.Scene.{Scene}
 use Rattle.module_type_checks.specs.Known.{AreInfos}
-use Rattle.typing_forms.specs.Resolutions.{types_view}
-use Rattle.typing_layout.specs.Constness.{AreKinds}
+use Rattle.typing_forms.specs.judged.Resolutions.{types_view}
+use Rattle.typing_layout.specs.judged.Constness.{AreKinds}
 use Rattle.module_context.specs.declared.check_context.CheckContext.{CheckContext}
 
 abbrev pub types_in : CheckContext → List PlainType

@@ -1,15 +1,15 @@
 //! What the checks of an expression may look at.
 
 ghost use Rattle.std.specs.Prelude.{◌≡◌, ◌↔◌, IsTrue, option_and_then, option_map, slice_get};
-ghost use Rattle.ir_types.specs.ExpressionPlain.{expression_view};
-ghost use Rattle.ir_types.specs.Plain.{inner_view};
+ghost use Rattle.ir_types.specs.judged.ExpressionPlain.{expression_view};
+ghost use Rattle.ir_types.specs.judged.Plain.{inner_view};
 ghost use Rattle.module_context.specs.OperandView.{scene_in, expressions_in, types_in, IsKnown};
-ghost use Rattle.spec_statements.specs.Access.{literal_of};
-ghost use Rattle.spec_statements.specs.Scene.{form_at};
-ghost use Rattle.spec_statements.specs.Shapes.{pointed_in};
-ghost use Rattle.typing_layout.specs.Flags.{HasFlag, Data, Sized, Constructible};
-ghost use Rattle.typing_layout.specs.View.{type_tree};
-ghost use Rattle.typing_layout.specs.Constness.{IsOfKind};
+ghost use Rattle.spec_statements.specs.judged.Access.{literal_of};
+ghost use Rattle.spec_statements.specs.judged.Scene.{form_at};
+ghost use Rattle.spec_statements.specs.judged.Shapes.{pointed_in};
+ghost use Rattle.typing_layout.specs.judged.Flags.{HasFlag, Data, Sized, Constructible};
+ghost use Rattle.typing_layout.specs.judged.View.{type_tree};
+ghost use Rattle.typing_layout.specs.judged.Constness.{IsOfKind};
 ghost use Rattle.typing_layout.specs.declared.constness.ExpressionKind.TheVariants.{Const};
 
 use crate::shapes::pointee_of;

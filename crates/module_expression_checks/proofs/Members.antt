@@ -1,8 +1,8 @@
 -- Structs of two members.
 use Rattle.std.proofs.Common.{◌≡◌, ◌≢◌, ◌↔◌, List, [], ◌∷◌, Option, Some, None, map, length, get_or, refl, subst, arith}
-use Rattle.ir_types.specs.Plain.{PlainType, member_view}
+use Rattle.ir_types.specs.judged.Plain.{PlainType, member_view}
 use Rattle.ir_types.specs.declared.types.StructMember.{StructMember}
-use Rattle.spec_statements.specs.ExpressionResults.{AreExchanged, AreExchangeMembers}
+use Rattle.spec_statements.specs.judged.ExpressionResults.{AreExchanged, AreExchangeMembers}
 use Rattle.typing_forms.specs.declared.form.Form.{Form}
 
 -- one answer about the first two members

@@ -1,10 +1,10 @@
 -- The value that was there before an exchange.
 use Rattle.std.proofs.Common.{◌≡◌, ◌↔◌, List, [], ◌∷◌, Option, Some, None, Bool, false, true≢false, IsTrue, codes, subst, refl, sym, ap}
-use Rattle.ir_types.specs.Plain.{PlainInner, PlainMember, PlainType, struct, plain}
-use Rattle.typing_forms.specs.Forms.{form_of_type}
+use Rattle.ir_types.specs.judged.Plain.{PlainInner, PlainMember, PlainType, struct, plain}
+use Rattle.typing_forms.specs.judged.Forms.{form_of_type}
 use Rattle.typing_forms.specs.declared.form.Form.{Form}
-use Rattle.spec_statements.specs.ExpressionResults.{AreExchanged, IsExchangeOf}
-use Rattle.spec_statements.specs.Shapes.{IsMadeOf, IsAlone, IsTruth}
+use Rattle.spec_statements.specs.judged.ExpressionResults.{AreExchanged, IsExchangeOf}
+use Rattle.spec_statements.specs.judged.Shapes.{IsMadeOf, IsAlone, IsTruth}
 
 -- ---- two members
 

@@ -5,7 +5,7 @@ use Rattle.typing_errors.specs.declared.expressions.ExpressionError.{ExpressionE
 use Rattle.typing_errors.specs.declared.expressions.ExpressionError.TheVariants as error
 use Rattle.ir_flags.specs.declared.settings.Capabilities.{Capabilities}
 use Rattle.ir_kinds.specs.declared.values.Literal.{Literal}
-use Rattle.ir_types.specs.Plain.{PlainType}
+use Rattle.ir_types.specs.judged.Plain.{PlainType}
 use Rattle.module_type_checks.specs.Widths.{IsLiteralFault}
 use Rattle.typing_forms.specs.declared.form.Form.{Form}
 

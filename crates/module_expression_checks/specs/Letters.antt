@@ -1,6 +1,6 @@
 -- Letters of a pattern, place by place.
 use Rattle.std.specs.Prelude.{◌≡◌, ◌<◌, ℕ, List, Some, slice_get}
-use Rattle.ir_kinds.specs.Scalars.{component_count, component_place}
+use Rattle.ir_kinds.specs.judged.Scalars.{component_count, component_place}
 use Rattle.ir_kinds.specs.declared.scalars.SwizzleComponent.{SwizzleComponent}
 use Rattle.ir_kinds.specs.declared.scalars.VectorSize.{VectorSize}
 

@@ -3,10 +3,10 @@
 ghost use Rattle.std.specs.Prelude.{◌≡◌, ◌<◌, ◌↔◌, IfSome, IsTrue, MatchResult, Some, option_and_then, slice_get};
 ghost use Rattle.module_context.specs.Refused.{IsRefused};
 ghost use Rattle.module_context.specs.OperandView.{scene_in, types_in, expressions_in};
-ghost use Rattle.ir_types.specs.Plain.{inner_view};
-ghost use Rattle.spec_statements.specs.Access.{element_count, pointed_count, row_count, known_length, literal_of, index_of, IsIndexOf, AccessOK, AccessIndexOK};
-ghost use Rattle.spec_statements.specs.Scene.{form_at};
-ghost use Rattle.typing_forms.specs.Resolutions.{inner_at};
+ghost use Rattle.ir_types.specs.judged.Plain.{inner_view};
+ghost use Rattle.spec_statements.specs.judged.Access.{element_count, pointed_count, row_count, known_length, literal_of, index_of, IsIndexOf, AccessOK, AccessIndexOK};
+ghost use Rattle.spec_statements.specs.judged.Scene.{form_at};
+ghost use Rattle.typing_forms.specs.judged.Resolutions.{inner_at};
 
 use ir_arena::handle::Handle;
 use ir_kinds::{Literal, VectorSize};

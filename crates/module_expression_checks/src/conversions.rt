@@ -3,9 +3,9 @@
 ghost use Rattle.std.specs.Prelude.{◌↔◌, IsTrue, MatchResult};
 ghost use Rattle.module_context.specs.Refused.{IsRefused};
 ghost use Rattle.module_context.specs.OperandView.{scene_in};
-ghost use Rattle.spec_statements.specs.Conversions.{IsConverted, AsOK};
-ghost use Rattle.spec_statements.specs.Scene.{form_at};
-ghost use Rattle.typing_layout.specs.Widths.{ScalarOK};
+ghost use Rattle.spec_statements.specs.judged.Conversions.{IsConverted, AsOK};
+ghost use Rattle.spec_statements.specs.judged.Scene.{form_at};
+ghost use Rattle.typing_layout.specs.judged.Widths.{ScalarOK};
 
 use ir_arena::handle::Handle;
 use ir_flags::Capabilities;

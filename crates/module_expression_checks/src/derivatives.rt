@@ -3,8 +3,8 @@
 ghost use Rattle.std.specs.Prelude.{◌↔◌, IsTrue, MatchResult};
 ghost use Rattle.module_context.specs.Refused.{IsRefused};
 ghost use Rattle.module_context.specs.OperandView.{scene_in};
-ghost use Rattle.spec_statements.specs.Derivatives.{DerivativeOK};
-ghost use Rattle.spec_statements.specs.Scene.{form_at};
+ghost use Rattle.spec_statements.specs.judged.Derivatives.{DerivativeOK};
+ghost use Rattle.spec_statements.specs.judged.Scene.{form_at};
 
 use ir_arena::handle::Handle;
 use ir_types::key;

@@ -1,9 +1,9 @@
 //! What an exchange that compares answers: a struct of the value that was there, and of whether it was exchanged.
 
 ghost use Rattle.std.specs.Prelude.{◌≡◌, ◌↔◌, IsTrue, Some, map};
-ghost use Rattle.ir_types.specs.Plain.{inner_view, member_view};
-ghost use Rattle.spec_statements.specs.ExpressionResults.{AreExchanged, AreExchangeMembers, IsExchangeOf};
-ghost use Rattle.typing_forms.specs.Resolutions.{inner_at, types_view};
+ghost use Rattle.ir_types.specs.judged.Plain.{inner_view, member_view};
+ghost use Rattle.spec_statements.specs.judged.ExpressionResults.{AreExchanged, AreExchangeMembers, IsExchangeOf};
+ghost use Rattle.typing_forms.specs.judged.Resolutions.{inner_at, types_view};
 ghost use Rattle.typing_forms.specs.declared.form.Form.{Form};
 
 use crate::shapes::is_one_truth;

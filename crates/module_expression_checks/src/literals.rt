@@ -4,8 +4,8 @@ ghost use Rattle.std.specs.Prelude.{MatchResult};
 ghost use Rattle.module_context.specs.Refused.{IsRefused};
 ghost use Rattle.module_context.specs.OperandView.{types_in, IsKnown};
 ghost use Rattle.module_expression_checks.specs.Faults.{IsBadLiteral};
-ghost use Rattle.spec_statements.specs.Literals.{ZeroOK};
-ghost use Rattle.spec_expressions.specs.ConstantLiterals.{LiteralOK};
+ghost use Rattle.spec_statements.specs.judged.Literals.{ZeroOK};
+ghost use Rattle.spec_expressions.specs.judged.ConstantLiterals.{LiteralOK};
 
 use ir_arena::handle::Handle;
 use ir_flags::Capabilities;

@@ -3,10 +3,10 @@
 ghost use Rattle.std.specs.Prelude.{◌≡◌, ◌↔◌, IsTrue, MatchResult, Some};
 ghost use Rattle.module_context.specs.Refused.{IsRefused};
 ghost use Rattle.module_context.specs.OperandView.{scene_in, types_in};
-ghost use Rattle.ir_types.specs.Plain.{inner_view};
-ghost use Rattle.spec_statements.specs.ExpressionRayQueries.{query_of, VertexPositionsOK, IntersectionOK};
-ghost use Rattle.spec_statements.specs.Scene.{form_at};
-ghost use Rattle.spec_statements.specs.Shapes.{pointed_in};
+ghost use Rattle.ir_types.specs.judged.Plain.{inner_view};
+ghost use Rattle.spec_statements.specs.judged.ExpressionRayQueries.{query_of, VertexPositionsOK, IntersectionOK};
+ghost use Rattle.spec_statements.specs.judged.Scene.{form_at};
+ghost use Rattle.spec_statements.specs.judged.Shapes.{pointed_in};
 
 use ir_arena::handle::Handle;
 use ir_types::{TypeInner, key};

@@ -3,9 +3,9 @@
 ghost use Rattle.std.specs.Prelude.{◌↔◌, IsTrue, MatchResult};
 ghost use Rattle.module_context.specs.Refused.{IsRefused};
 ghost use Rattle.module_context.specs.OperandView.{types_in, IsKnown};
-ghost use Rattle.spec_statements.specs.ExpressionResults.{IsAtomicValue, IsExchange, AtomicResultOK, UniformLoadOK};
-ghost use Rattle.typing_layout.specs.Widths.{AtomicOK};
-ghost use Rattle.typing_forms.specs.Resolutions.{inner_at};
+ghost use Rattle.spec_statements.specs.judged.ExpressionResults.{IsAtomicValue, IsExchange, AtomicResultOK, UniformLoadOK};
+ghost use Rattle.typing_layout.specs.judged.Widths.{AtomicOK};
+ghost use Rattle.typing_forms.specs.judged.Resolutions.{inner_at};
 
 use crate::exchanges::exchanged_value;
 use crate::shapes::is_alone;

@@ -3,9 +3,9 @@
 ghost use Rattle.std.specs.Prelude.{◌↔◌, IsTrue, MatchResult};
 ghost use Rattle.module_context.specs.Refused.{IsRefused};
 ghost use Rattle.module_context.specs.OperandView.{scene_in};
-ghost use Rattle.spec_statements.specs.Scene.{form_at};
-ghost use Rattle.spec_statements.specs.Selections.{ChoosesFrom, IsCondition, SelectOK, RelationalOK};
-ghost use Rattle.spec_statements.specs.Shapes.{IsRow, IsOfValue, IsFloating, IsTruth, IsMadeOf};
+ghost use Rattle.spec_statements.specs.judged.Scene.{form_at};
+ghost use Rattle.spec_statements.specs.judged.Selections.{ChoosesFrom, IsCondition, SelectOK, RelationalOK};
+ghost use Rattle.spec_statements.specs.judged.Shapes.{IsRow, IsOfValue, IsFloating, IsTruth, IsMadeOf};
 
 use crate::shapes::is_of_value;
 use ir_arena::handle::Handle;

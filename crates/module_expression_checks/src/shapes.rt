@@ -1,7 +1,7 @@
 //! Shapes that several families require.
 
 ghost use Rattle.std.specs.Prelude.{◌↔◌, IsTrue};
-ghost use Rattle.spec_statements.specs.Shapes.{IsAlone, IsOfValue, IsTruth, IsMadeOf};
+ghost use Rattle.spec_statements.specs.judged.Shapes.{IsAlone, IsOfValue, IsTruth, IsMadeOf};
 
 use module_context::{is_truth, shaped_of};
 use spec_statements::Shape;

@@ -6,15 +6,15 @@ use Rattle.typing_errors.specs.declared.expressions.ExpressionError.{ExpressionE
 use Rattle.typing_errors.specs.declared.expressions.ExpressionError.TheVariants as error
 use Rattle.module_expressions.specs.Faults.{IsPlainFault, IsFaultOf}
 use Rattle.module_expressions.specs.Laws.{ExpressionRefuted}
-use Rattle.ir_types.specs.ExpressionPlain.{PlainExpression, compose, plain}
+use Rattle.ir_types.specs.judged.ExpressionPlain.{PlainExpression, compose, plain}
 use Rattle.ir_types.specs.declared.expressions.Expression.{Expression}
 use Rattle.ir_types.specs.declared.expressions.Expression.TheVariants as x
 use Rattle.ir_kinds.specs.declared.values.Literal.{Literal}
-use Rattle.spec_statements.specs.Access.{literal_in}
-use Rattle.spec_statements.specs.Checks.{CheckOf}
-use Rattle.spec_statements.specs.Expressions.{RequiredOf}
-use Rattle.spec_statements.specs.Scene.{Scene}
-use Rattle.spec_expressions.specs.ConstantLiterals.{LiteralOK}
+use Rattle.spec_statements.specs.judged.Access.{literal_in}
+use Rattle.spec_statements.specs.judged.Checks.{CheckOf}
+use Rattle.spec_statements.specs.judged.Expressions.{RequiredOf}
+use Rattle.spec_statements.specs.judged.Scene.{Scene}
+use Rattle.spec_expressions.specs.judged.ConstantLiterals.{LiteralOK}
 
 -- what is required of a literal
 asked_literal : (s : Scene) (e : Expression) (value : Literal) → literal_in e ≡ Some value → CheckOf s e → LiteralOK s.capabilities value

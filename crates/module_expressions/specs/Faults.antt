@@ -3,12 +3,12 @@ use Rattle.std.specs.Prelude.{◌≡◌, ℕ, Option, Some, None, map, slice_get
 use Rattle.module_context.specs.Refused.{IsRefused}
 use Rattle.typing_errors.specs.declared.expressions.ExpressionError.{ExpressionError}
 use Rattle.module_expression_checks.specs.Faults.{IsBadLiteral, IsBadComposition}
-use Rattle.ir_types.specs.ExpressionPlain.{PlainExpression, compose, plain}
+use Rattle.ir_types.specs.judged.ExpressionPlain.{PlainExpression, compose, plain}
 use Rattle.ir_types.specs.declared.expressions.Expression.{Expression}
 use Rattle.ir_kinds.specs.declared.values.Literal.{Literal}
-use Rattle.spec_statements.specs.Access.{literal_in}
-use Rattle.spec_statements.specs.Checks.{CheckOf}
-use Rattle.spec_statements.specs.Scene.{Scene, form_at}
+use Rattle.spec_statements.specs.judged.Access.{literal_in}
+use Rattle.spec_statements.specs.judged.Checks.{CheckOf}
+use Rattle.spec_statements.specs.judged.Scene.{Scene, form_at}
 
 -- a literal that may not be used; of any other kind what is required does not hold, and the error has no name
 abbrev pub IsPlainFault : Scene → Expression → Option Literal → ExpressionError → Type 0

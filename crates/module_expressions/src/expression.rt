@@ -3,9 +3,9 @@
 ghost use Rattle.std.specs.Prelude.{◌<◌, length, MatchResult};
 ghost use Rattle.module_context.specs.OperandView.{scene_in, IsKnown};
 ghost use Rattle.module_expressions.specs.Faults.{IsFaultOf, IsExpressionFault};
-ghost use Rattle.ir_types.specs.ExpressionPlain.{expression_view};
-ghost use Rattle.spec_statements.specs.Expressions.{RequiredOf, ExpressionOK};
-ghost use Rattle.spec_statements.specs.ExpressionStages.{IsRunBy};
+ghost use Rattle.ir_types.specs.judged.ExpressionPlain.{expression_view};
+ghost use Rattle.spec_statements.specs.judged.Expressions.{RequiredOf, ExpressionOK};
+ghost use Rattle.spec_statements.specs.judged.ExpressionStages.{IsRunBy};
 
 use crate::stages::stages_of;
 use crate::{check_image_load, check_image_query, check_image_sample};

@@ -3,11 +3,11 @@
 ghost use Rattle.std.specs.Prelude.{◌≡◌, ◌↔◌, IsTrue, IfSome, IsSomeAnd, MatchResult, true, false, is_some};
 ghost use Rattle.module_context.specs.Refused.{IsRefused};
 ghost use Rattle.module_context.specs.OperandView.{scene_in, expressions_in, IsKnown};
-ghost use Rattle.ir_kinds.specs.Images.{is_depth, is_multisampled};
-ghost use Rattle.ir_kinds.specs.Scalars.{floating};
-ghost use Rattle.spec_statements.specs.ImageSamples.{IsFloat32, IsFiltered, IsOffset, IsGathered, IsLevel, ClampOK, OutsideOK, IsSampled, ImageSampleOK};
-ghost use Rattle.spec_statements.specs.Scene.{form_at};
-ghost use Rattle.spec_statements.specs.Shapes.{IsIntegerScalar, ExactlyIf, along, sampler_of};
+ghost use Rattle.ir_kinds.specs.judged.Images.{is_depth, is_multisampled};
+ghost use Rattle.ir_kinds.specs.judged.Scalars.{floating};
+ghost use Rattle.spec_statements.specs.judged.ImageSamples.{IsFloat32, IsFiltered, IsOffset, IsGathered, IsLevel, ClampOK, OutsideOK, IsSampled, ImageSampleOK};
+ghost use Rattle.spec_statements.specs.judged.Scene.{form_at};
+ghost use Rattle.spec_statements.specs.judged.Shapes.{IsIntegerScalar, ExactlyIf, along, sampler_of};
 
 use crate::levels::{gathers_if, is_clamp, is_float32, is_level, is_outside};
 use crate::operands::{along, is_number_if};

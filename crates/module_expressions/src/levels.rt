@@ -2,8 +2,8 @@
 
 ghost use Rattle.std.specs.Prelude.{◌≡◌, ◌↔◌, IsTrue, IfSome, Bool};
 ghost use Rattle.module_context.specs.OperandView.{scene_in};
-ghost use Rattle.spec_statements.specs.ImageSamples.{IsFloat32, HasNeighbours, IsGathered, IsLevel, IsClamped, ClampOK, OutsideOK};
-ghost use Rattle.spec_statements.specs.Scene.{form_at};
+ghost use Rattle.spec_statements.specs.judged.ImageSamples.{IsFloat32, HasNeighbours, IsGathered, IsLevel, IsClamped, ClampOK, OutsideOK};
+ghost use Rattle.spec_statements.specs.judged.Scene.{form_at};
 
 use ir_arena::handle::Handle;
 use ir_kinds::{ImageClass, ImageDimension, Scalar, ScalarKind, SwizzleComponent};

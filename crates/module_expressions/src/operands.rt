@@ -2,8 +2,8 @@
 
 ghost use Rattle.std.specs.Prelude.{◌≡◌, ◌↔◌, IsTrue};
 ghost use Rattle.module_context.specs.OperandView.{scene_in};
-ghost use Rattle.spec_statements.specs.Scene.{form_at};
-ghost use Rattle.spec_statements.specs.Shapes.{IsIntegerScalar, ExactlyIf, along};
+ghost use Rattle.spec_statements.specs.judged.Scene.{form_at};
+ghost use Rattle.spec_statements.specs.judged.Shapes.{IsIntegerScalar, ExactlyIf, along};
 
 use ir_arena::handle::Handle;
 use ir_kinds::{ImageDimension, Scalar, VectorSize};

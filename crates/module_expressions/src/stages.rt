@@ -1,8 +1,8 @@
 //! Which stages may run an expression.
 
 ghost use Rattle.std.specs.Prelude.{◌≡◌};
-ghost use Rattle.ir_types.specs.ExpressionPlain.{expression_view};
-ghost use Rattle.spec_statements.specs.ExpressionStages.{all_stages, sample_stages, callee_stages, stages_of};
+ghost use Rattle.ir_types.specs.judged.ExpressionPlain.{expression_view};
+ghost use Rattle.spec_statements.specs.judged.ExpressionStages.{all_stages, sample_stages, callee_stages, stages_of};
 
 use bitflags::Flags;
 use ir_arena::handle::Handle;

@@ -2,14 +2,14 @@
 use Rattle.std.proofs.Common.{◌≡◌, ◌<◌, ◌≤◌, inl, inr, ℕ, zero, suc, List, [], ◌∷◌, Option, Some, None, map, length, slice_get, option_map, All, refl, sym, ap, ◌∙◌, arith}
 use Rattle.std.proofs.lemmas.Bool.{cases_lt}
 use Rattle.ir_arena.specs.declared.span.Span.{Span}
-use Rattle.ir_types.specs.Plain.{PlainMember, PlainInner, struct, plain, PlainType}
+use Rattle.ir_types.specs.judged.Plain.{PlainMember, PlainInner, struct, plain, PlainType}
 use Rattle.ir_types.specs.declared.types.IrType.{IrType}
 use Rattle.ir_types.specs.declared.types.TypeInner.TheVariants as inner
 use Rattle.typing_layout.proofs.Trees.{tree_by_trees}
-use Rattle.typing_layout.specs.Tree.{Tree, member, pointer, array, binding_array, struct as struct_tree, no_type}
-use Rattle.typing_layout.specs.View.{members_by, tree_by, tree_found, tree_along, type_tree}
-use Rattle.typing_forms.specs.Order.{named_types, TypesGoBack}
-use Rattle.typing_forms.specs.Resolutions.{inner_at, types_view}
+use Rattle.typing_layout.specs.judged.Tree.{Tree, member, pointer, array, binding_array, struct as struct_tree, no_type}
+use Rattle.typing_layout.specs.judged.View.{members_by, tree_by, tree_found, tree_along, type_tree}
+use Rattle.typing_forms.specs.judged.Order.{named_types, TypesGoBack}
+use Rattle.typing_forms.specs.judged.Resolutions.{inner_at, types_view}
 
 -- ---- only the trees of the types that are named count
 

@@ -1,11 +1,11 @@
 -- The elements of a binding array come before it.
 use Rattle.std.proofs.Common.{◌≡◌, ◌<◌, ℕ, List, [], Option, Some, length, refl, subst, arith}
 use Rattle.std.proofs.lemmas.List.Elements.{All-head}
-use Rattle.ir_types.specs.Plain.{PlainInner, plain, PlainType}
+use Rattle.ir_types.specs.judged.Plain.{PlainInner, plain, PlainType}
 use Rattle.ir_types.specs.declared.types.TypeInner.TheVariants as inner
-use Rattle.spec_interface.specs.Spaces.{array_base}
-use Rattle.typing_forms.specs.Order.{TypesGoBack}
-use Rattle.typing_forms.specs.Resolutions.{inner_at}
+use Rattle.spec_interface.specs.judged.Spaces.{array_base}
+use Rattle.typing_forms.specs.judged.Order.{TypesGoBack}
+use Rattle.typing_forms.specs.judged.Resolutions.{inner_at}
 
 same : (b base : ℕ) → Some b ≡ Some base → b ≡ base
 same b base e = cc

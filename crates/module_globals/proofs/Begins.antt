@@ -1,15 +1,15 @@
 -- What a variable begins as.
 use Rattle.std.proofs.Common.{not, ◌≡◌, ◌↔◌, ◌⊎◌, inl, inr, ◌<◌, ℕ, List, Bool, true, false, length, get_or, Some, IsTrue, refl, sym, subst, slice_get}
 use Rattle.std.proofs.lemmas.Option.{slice_get-get_or}
-use Rattle.ir_items.specs.Plain.{PlainModule}
+use Rattle.ir_items.specs.judged.Plain.{PlainModule}
 use Rattle.module_constants.specs.Known.{AreTyped}
-use Rattle.spec_expressions.specs.Overrides.{IsKnownByOverrides}
+use Rattle.spec_expressions.specs.judged.Overrides.{IsKnownByOverrides}
 use Rattle.spec_expressions.proofs.TypingLaws.{one_type}
-use Rattle.spec_expressions.specs.Context.{outside}
-use Rattle.spec_expressions.specs.Typing.{HasGlobalType}
+use Rattle.spec_expressions.specs.judged.Context.{outside}
+use Rattle.spec_expressions.specs.judged.Typing.{HasGlobalType}
 use Rattle.typing_forms.specs.declared.form.Form.{Form}
 use Rattle.typing_layout.proofs.Latest.{one_kind}
-use Rattle.typing_layout.specs.Constness.{AreKinds, IsOfKind}
+use Rattle.typing_layout.specs.judged.Constness.{AreKinds, IsOfKind}
 use Rattle.typing_layout.specs.declared.constness.ExpressionKind.{ExpressionKind}
 use Rattle.typing_layout.specs.declared.constness.ExpressionKind.TheVariants.{Const, Override, Runtime}
 

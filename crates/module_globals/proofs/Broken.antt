@@ -1,14 +1,14 @@
 -- What breaks a layout inside a type refutes that of the whole.
 use Rattle.std.proofs.Common.{◌≡◌, ◌∙◌, ◌≤◌, ◌⊎◌, ◌≢◌, inl, inr, ℕ, List, Some, IfSome, sym, ap, subst, arith}
 use Rattle.std.specs.Int.{◌∣◌}
-use Rattle.ir_types.specs.Plain.{PlainType}
-use Rattle.typing_layout.specs.Buffers.{IsStorage, IsUniform, StorageAt, UniformAt, uniform_alignment, free_after}
-use Rattle.typing_layout.specs.Flags.{HasFlag, AllHave, HostShareable}
-use Rattle.typing_layout.specs.Immediates.{FitsImmediates, ImmediateAt, scalar_of}
-use Rattle.typing_layout.specs.Parts.{Part, Everywhere, EverywhereIn, Somewhere, SomewhereIn}
-use Rattle.typing_layout.specs.Layout.{alignment}
-use Rattle.typing_layout.specs.Tree.{Tree, scalar, vector, matrix, cooperative_matrix, atomic, pointer, value_pointer, array, struct, image, sampler, acceleration_structure, ray_query, binding_array, Members, no_members, member}
-use Rattle.typing_layout.specs.View.{type_tree}
+use Rattle.ir_types.specs.judged.Plain.{PlainType}
+use Rattle.typing_layout.specs.judged.Buffers.{IsStorage, IsUniform, StorageAt, UniformAt, uniform_alignment, free_after}
+use Rattle.typing_layout.specs.judged.Flags.{HasFlag, AllHave, HostShareable}
+use Rattle.typing_layout.specs.judged.Immediates.{FitsImmediates, ImmediateAt, scalar_of}
+use Rattle.typing_layout.specs.judged.Parts.{Part, Everywhere, EverywhereIn, Somewhere, SomewhereIn}
+use Rattle.typing_layout.specs.judged.Layout.{alignment}
+use Rattle.typing_layout.specs.judged.Tree.{Tree, scalar, vector, matrix, cooperative_matrix, atomic, pointer, value_pointer, array, struct, image, sampler, acceleration_structure, ray_query, binding_array, Members, no_members, member}
+use Rattle.typing_layout.specs.judged.View.{type_tree}
 use Rattle.module_type_infos.specs.BufferFaults.{BreaksStorage, BreaksUniform, IsBroken, IsUnfit, IsBadStride, IsBadSpan, IsBadOffset, IsNearAfter}
 use Rattle.module_type_infos.specs.declared.error.Disalignment.{Disalignment}
 use Rattle.module_type_infos.specs.declared.error.Disalignment.TheVariants as fault

@@ -9,21 +9,21 @@ use Rattle.ir_flags.specs.declared.memory.TheConstants.StorageAccess.{STORE}
 use Rattle.ir_flags.specs.declared.settings.Capabilities.{Capabilities}
 use Rattle.ir_flags.specs.declared.settings.ValidationFlags.{ValidationFlags}
 use Rattle.ir_flags.specs.declared.settings.TheConstants.ValidationFlags.{STRUCT_LAYOUTS}
-use Rattle.ir_items.specs.GlobalPlain.{PlainGlobal}
-use Rattle.ir_items.specs.Plain.{PlainModule}
+use Rattle.ir_items.specs.judged.GlobalPlain.{PlainGlobal}
+use Rattle.ir_items.specs.judged.Plain.{PlainModule}
 use Rattle.ir_kinds.specs.declared.spaces.AddressSpace.TheVariants.{Uniform, Storage, Immediate, TaskPayload}
-use Rattle.ir_types.specs.Plain.{PlainInner}
+use Rattle.ir_types.specs.judged.Plain.{PlainInner}
 use Rattle.module_globals.proofs.SizeLemmas.{size_found}
-use Rattle.typing_layout.specs.Buffers.{IsStorage, IsUniform, uniform_alignment}
-use Rattle.typing_layout.specs.Immediates.{FitsImmediates}
-use Rattle.spec_interface.specs.Spaces.{LiesIn, counted, is_storage}
-use Rattle.typing_layout.specs.Layout.{alignment}
+use Rattle.typing_layout.specs.judged.Buffers.{IsStorage, IsUniform, uniform_alignment}
+use Rattle.typing_layout.specs.judged.Immediates.{FitsImmediates}
+use Rattle.spec_interface.specs.judged.Spaces.{LiesIn, counted, is_storage}
+use Rattle.typing_layout.specs.judged.Layout.{alignment}
 use Rattle.module_type_infos.specs.BufferFaults.{BreaksStorage, BreaksUniform, IsBroken, IsUnfit}
 use Rattle.module_type_infos.specs.Infos.{HasInfo}
 use Rattle.module_type_infos.specs.declared.error.Disalignment.{Disalignment}
 use Rattle.module_type_infos.specs.declared.error.ImmediateError.{ImmediateError}
 use Rattle.module_type_infos.specs.declared.info.TypeInfo.{TypeInfo}
-use Rattle.typing_forms.specs.Sizes.{type_size}
+use Rattle.typing_forms.specs.judged.Sizes.{type_size}
 use Rattle.typing_forms.specs.declared.form.Form.{Form}
 
 laid : (P : ℕ → Type 0) (Q : ℕ × Disalignment → Type 0) (l : Result ℕ (ℕ × Disalignment)) → MatchResult l P Q → IsOk l → (a : ℕ) × P a

@@ -8,9 +8,9 @@ use Rattle.ir_flags.specs.declared.settings.Capabilities.{Capabilities}
 use Rattle.ir_kinds.specs.declared.spaces.AddressSpace.{AddressSpace}
 use Rattle.ir_kinds.specs.declared.spaces.AddressSpace.TheVariants.{Function, Private, WorkGroup, Uniform, Storage, Handle, Immediate, TaskPayload, RayPayload, IncomingRayPayload}
 use Rattle.module_globals.specs.Faults.{required_bits}
-use Rattle.typing_layout.specs.Flags.{TypeFlag, bit, among, Data, Sized, Copy, IoShareable, HostShareable, CreationResolved, Argument, Constructible}
-use Rattle.spec_interface.specs.Spaces.{required, HasAll}
-use Rattle.typing_layout.specs.Tree.{Tree}
+use Rattle.typing_layout.specs.judged.Flags.{TypeFlag, bit, among, Data, Sized, Copy, IoShareable, HostShareable, CreationResolved, Argument, Constructible}
+use Rattle.spec_interface.specs.judged.Spaces.{required, HasAll}
+use Rattle.typing_layout.specs.judged.Tree.{Tree}
 use Rattle.module_type_infos.specs.Infos.{AreFlags}
 use Rattle.typing_layout.specs.declared.type_flags.TypeFlags.{TypeFlags}
 

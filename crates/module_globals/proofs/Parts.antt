@@ -7,11 +7,11 @@ use Rattle.std.proofs.Math.Seq.{drop-cons}
 use Rattle.module_globals.proofs.Bits.{union_by_slots}
 use Rattle.module_globals.specs.Reached.{IsReached, IsReachedIn, IsReachedAmong}
 use Rattle.module_globals.specs.Slots.{IsIn, Meets}
-use Rattle.ir_types.specs.Plain.{PlainMember, PlainInner, PlainType, member_view}
+use Rattle.ir_types.specs.judged.Plain.{PlainMember, PlainInner, PlainType, member_view}
 use Rattle.ir_types.specs.declared.types.StructMember.{StructMember}
-use Rattle.typing_layout.specs.Tree.{Tree, scalar, vector, matrix, cooperative_matrix, atomic, pointer, value_pointer, array, struct, image, sampler, acceleration_structure, ray_query, binding_array, Members, no_members, member}
-use Rattle.typing_layout.specs.View.{members_by, tree_by, tree_found, tree_along}
-use Rattle.typing_forms.specs.Resolutions.{inner_at}
+use Rattle.typing_layout.specs.judged.Tree.{Tree, scalar, vector, matrix, cooperative_matrix, atomic, pointer, value_pointer, array, struct, image, sampler, acceleration_structure, ray_query, binding_array, Members, no_members, member}
+use Rattle.typing_layout.specs.judged.View.{members_by, tree_by, tree_found, tree_along}
+use Rattle.typing_forms.specs.judged.Resolutions.{inner_at}
 
 -- ---- numbers
 

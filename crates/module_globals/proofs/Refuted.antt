@@ -9,16 +9,16 @@ use Rattle.ir_flags.specs.Sets.{Has}
 use Rattle.ir_flags.specs.declared.settings.Capabilities.{Capabilities}
 use Rattle.ir_flags.specs.declared.settings.ValidationFlags.{ValidationFlags}
 use Rattle.ir_flags.specs.declared.settings.TheConstants.ValidationFlags.{STRUCT_LAYOUTS}
-use Rattle.ir_items.specs.GlobalPlain.{PlainGlobal}
-use Rattle.ir_items.specs.Plain.{PlainModule}
+use Rattle.ir_items.specs.judged.GlobalPlain.{PlainGlobal}
+use Rattle.ir_items.specs.judged.Plain.{PlainModule}
 use Rattle.ir_kinds.specs.declared.spaces.AddressSpace.{AddressSpace}
 use Rattle.ir_kinds.specs.declared.spaces.AddressSpace.TheVariants.{Storage}
-use Rattle.ir_types.specs.Plain.{PlainInner}
-use Rattle.typing_layout.specs.Buffers.{IsStorage}
-use Rattle.spec_interface.specs.Globals.{BeginsOK, VariableOK}
-use Rattle.spec_interface.specs.Spaces.{array_capability, space_capability, BindingArrayOK, LiesIn, is_storage}
-use Rattle.typing_layout.specs.Tree.{Tree}
-use Rattle.typing_forms.specs.Resolutions.{inner_at}
+use Rattle.ir_types.specs.judged.Plain.{PlainInner}
+use Rattle.typing_layout.specs.judged.Buffers.{IsStorage}
+use Rattle.spec_interface.specs.judged.Globals.{BeginsOK, VariableOK}
+use Rattle.spec_interface.specs.judged.Spaces.{array_capability, space_capability, BindingArrayOK, LiesIn, is_storage}
+use Rattle.typing_layout.specs.judged.Tree.{Tree}
+use Rattle.typing_forms.specs.judged.Resolutions.{inner_at}
 
 some_none : {A : Type 0} (o : Option A) (x : A) → o ≡ Some x → o ≡ None → ⊥
 some_none o x some none = cc

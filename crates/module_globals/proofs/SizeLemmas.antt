@@ -2,19 +2,19 @@
 use Rattle.std.proofs.Common.{◌≡◌, ◌≤◌, ◌+◌, ◌⊎◌, inl, inr, ℕ, zero, suc, List, [], ◌∷◌, Option, Some, None, length, map, slice_get, option_map, refl, sym, ap, subst, ◌∙◌, arith}
 use Rattle.std.proofs.lemmas.Bool.{cases_lt}
 use Rattle.module_globals.specs.Sizes.{AreGreatest, TakesBytes}
-use Rattle.ir_arena.specs.Arenas.{value_at}
+use Rattle.ir_arena.specs.found.Arenas.{value_at}
 use Rattle.ir_arena.specs.declared.span.Span.{Span}
-use Rattle.ir_items.specs.GlobalPlain.{PlainGlobal}
-use Rattle.ir_items.specs.GlobalView.{values_of, global_view}
+use Rattle.ir_items.specs.judged.GlobalPlain.{PlainGlobal}
+use Rattle.ir_items.specs.found.GlobalView.{values_of, global_view}
 use Rattle.ir_items.specs.declared.globals.GlobalVariable.{GlobalVariable}
-use Rattle.ir_items.specs.Plain.{PlainModule}
+use Rattle.ir_items.specs.judged.Plain.{PlainModule}
 use Rattle.ir_kinds.specs.declared.spaces.AddressSpace.TheVariants.{Immediate}
-use Rattle.ir_types.specs.Plain.{PlainInner, PlainType}
+use Rattle.ir_types.specs.judged.Plain.{PlainInner, PlainType}
 use Rattle.typing_layout.proofs.Sizes.{size_of_tree}
-use Rattle.typing_layout.specs.Layout.{size}
-use Rattle.typing_layout.specs.View.{tree_found, tree_along, type_tree}
-use Rattle.typing_forms.specs.Resolutions.{inner_at}
-use Rattle.typing_forms.specs.Sizes.{type_size}
+use Rattle.typing_layout.specs.judged.Layout.{size}
+use Rattle.typing_layout.specs.judged.View.{tree_found, tree_along, type_tree}
+use Rattle.typing_forms.specs.judged.Resolutions.{inner_at}
+use Rattle.typing_forms.specs.judged.Sizes.{type_size}
 
 pub size_found : (types : List PlainType) (handle : ℕ) (i : PlainInner) → inner_at types handle ≡ Some i → type_size i ≡ size (type_tree types handle)
 unfolding tree_along type_tree

@@ -7,20 +7,20 @@ use Rattle.module_globals.specs.Initializers.{HasFormOf, IsInitializer, IsTypedB
 use Rattle.module_globals.specs.declared.context.Initializer.{Initializer}
 use Rattle.module_globals.specs.declared.error.GlobalVariableError.{GlobalVariableError}
 use Rattle.module_globals.specs.declared.error.GlobalVariableError.TheVariants as error
-use Rattle.ir_arena.specs.Arenas.{value_at, value_of_entry}
+use Rattle.ir_arena.specs.found.Arenas.{value_at, value_of_entry}
 use Rattle.ir_arena.specs.declared.span.Span.{Span}
 use Rattle.ir_flags.specs.declared.settings.Capabilities.{Capabilities}
 use Rattle.ir_flags.specs.declared.settings.ValidationFlags.{ValidationFlags}
-use Rattle.ir_items.specs.GlobalPlain.{PlainGlobal}
-use Rattle.ir_items.specs.GlobalView.{values_of}
-use Rattle.ir_items.specs.Plain.{PlainModule}
+use Rattle.ir_items.specs.judged.GlobalPlain.{PlainGlobal}
+use Rattle.ir_items.specs.found.GlobalView.{values_of}
+use Rattle.ir_items.specs.judged.Plain.{PlainModule}
 use Rattle.ir_kinds.specs.declared.spaces.AddressSpace.{AddressSpace}
-use Rattle.ir_types.specs.Plain.{PlainType}
-use Rattle.spec_interface.specs.Globals.{BeginsBy, VariableBy, VariableOK, GlobalOK}
-use Rattle.spec_interface.specs.Spaces.{array_base, counted}
-use Rattle.typing_forms.specs.Forms.{form_of_type}
-use Rattle.typing_forms.specs.Order.{TypesGoBack}
-use Rattle.typing_forms.specs.Resolutions.{inner_at}
+use Rattle.ir_types.specs.judged.Plain.{PlainType}
+use Rattle.spec_interface.specs.judged.Globals.{BeginsBy, VariableBy, VariableOK, GlobalOK}
+use Rattle.spec_interface.specs.judged.Spaces.{array_base, counted}
+use Rattle.typing_forms.specs.judged.Forms.{form_of_type}
+use Rattle.typing_forms.specs.judged.Order.{TypesGoBack}
+use Rattle.typing_forms.specs.judged.Resolutions.{inner_at}
 use Rattle.typing_forms.specs.declared.form.Form.{Form}
 
 counted_by : (types : List PlainType) → TypesGoBack types → (type : ℕ) → type < length types → (o : Option ℕ) → array_base (inner_at types type) ≡ o → unwrap_or o type < length types

@@ -1,8 +1,8 @@
 -- What the rules of a global variable may look at.
 use Rattle.std.specs.Prelude.{◌≡◌, length}
 use Rattle.module_globals.specs.declared.context.VariableContext.{VariableContext}
-use Rattle.ir_items.specs.Plain.{PlainModule}
-use Rattle.ir_items.specs.View.{module_view}
+use Rattle.ir_items.specs.judged.Plain.{PlainModule}
+use Rattle.ir_items.specs.found.View.{module_view}
 use Rattle.module_type_checks.specs.Known.{AreInfos}
 
 abbrev pub module_of : VariableContext → PlainModule

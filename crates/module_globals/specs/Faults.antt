@@ -10,24 +10,24 @@ use Rattle.ir_flags.specs.declared.settings.Capabilities.{Capabilities}
 use Rattle.ir_flags.specs.declared.settings.TheConstants.Capabilities.{MEMORY_DECORATION_COHERENT, MEMORY_DECORATION_VOLATILE}
 use Rattle.ir_flags.specs.declared.settings.ValidationFlags.{ValidationFlags}
 use Rattle.ir_flags.specs.declared.settings.TheConstants.ValidationFlags.{BINDINGS, STRUCT_LAYOUTS}
-use Rattle.ir_items.specs.GlobalPlain.{PlainGlobal}
-use Rattle.ir_items.specs.Plain.{PlainModule}
+use Rattle.ir_items.specs.judged.GlobalPlain.{PlainGlobal}
+use Rattle.ir_items.specs.judged.Plain.{PlainModule}
 use Rattle.ir_kinds.specs.declared.spaces.AddressSpace.{AddressSpace}
 use Rattle.ir_kinds.specs.declared.spaces.AddressSpace.TheVariants.{Function, Private, WorkGroup, Uniform, Storage, Handle, Immediate, TaskPayload, RayPayload, IncomingRayPayload}
-use Rattle.ir_types.specs.Plain.{PlainInner, PlainType}
-use Rattle.spec_expressions.specs.Overrides.{IsKnownByOverrides}
-use Rattle.spec_expressions.specs.Typing.{HasGlobalType}
-use Rattle.spec_interface.specs.Handles.{is_handle}
-use Rattle.spec_interface.specs.Spaces.{array_base, counted, array_capability, space_capability, required, HasAll, is_resource, is_storage}
-use Rattle.typing_layout.specs.Layout.{size}
-use Rattle.typing_layout.specs.Tree.{Tree}
-use Rattle.typing_layout.specs.View.{type_tree}
+use Rattle.ir_types.specs.judged.Plain.{PlainInner, PlainType}
+use Rattle.spec_expressions.specs.judged.Overrides.{IsKnownByOverrides}
+use Rattle.spec_expressions.specs.judged.Typing.{HasGlobalType}
+use Rattle.spec_interface.specs.judged.Handles.{is_handle}
+use Rattle.spec_interface.specs.judged.Spaces.{array_base, counted, array_capability, space_capability, required, HasAll, is_resource, is_storage}
+use Rattle.typing_layout.specs.judged.Layout.{size}
+use Rattle.typing_layout.specs.judged.Tree.{Tree}
+use Rattle.typing_layout.specs.judged.View.{type_tree}
 use Rattle.module_type_infos.specs.BufferFaults.{BreaksStorage, BreaksUniform, IsBroken, IsUnfit}
 use Rattle.module_type_infos.specs.Infos.{AreFlags}
 use Rattle.module_type_infos.specs.declared.error.Disalignment.{Disalignment}
-use Rattle.typing_forms.specs.Forms.{form_of_type}
+use Rattle.typing_forms.specs.judged.Forms.{form_of_type}
 use Rattle.typing_forms.specs.declared.form.Form.{Form}
-use Rattle.typing_forms.specs.Resolutions.{inner_at}
+use Rattle.typing_forms.specs.judged.Resolutions.{inner_at}
 
 -- it is a binding array of this type
 abbrev pub IsArrayOf : List PlainType → (type base : ℕ) → Type 0

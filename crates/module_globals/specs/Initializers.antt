@@ -1,8 +1,8 @@
 -- What is known of the initializer of a global variable.
 use Rattle.std.specs.Prelude.{◌≡◌, ◌↔◌, ℕ, IsTrue, Option, Some, None}
 use Rattle.module_globals.specs.declared.context.Initializer.{Initializer}
-use Rattle.ir_items.specs.Plain.{PlainModule}
-use Rattle.spec_expressions.specs.Overrides.{IsKnownByOverrides}
+use Rattle.ir_items.specs.judged.Plain.{PlainModule}
+use Rattle.spec_expressions.specs.judged.Overrides.{IsKnownByOverrides}
 use Rattle.typing_forms.specs.declared.form.Form.{Form}
 
 -- the typing that gives every expression the form of this initializer's type

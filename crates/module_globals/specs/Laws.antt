@@ -4,8 +4,8 @@ use Rattle.module_globals.specs.Faults.{IsGlobalFault}
 use Rattle.module_globals.specs.declared.error.GlobalVariableError.{GlobalVariableError}
 use Rattle.ir_flags.specs.declared.settings.Capabilities.{Capabilities}
 use Rattle.ir_flags.specs.declared.settings.ValidationFlags.{ValidationFlags}
-use Rattle.ir_items.specs.Plain.{PlainModule}
-use Rattle.spec_interface.specs.Globals.{GlobalOK}
+use Rattle.ir_items.specs.judged.Plain.{PlainModule}
+use Rattle.spec_interface.specs.judged.Globals.{GlobalOK}
 
 -- a module may not have a variable that has a fault
 abbrev pub FaultRefutes : Type 0

@@ -3,9 +3,9 @@ use Rattle.std.specs.Prelude.{◌<◌, ◌+◌, ◌*◌, ◌⊎◌, ℕ}
 use Rattle.std.specs.List.{Contains}
 use Rattle.module_globals.specs.Slots.{Meets}
 use Rattle.spec_buffers.specs.Leaves.{Leaf, leaves}
-use Rattle.typing_layout.specs.Layout.{size}
-use Rattle.typing_layout.specs.Tree.{Tree, scalar, vector, matrix, cooperative_matrix, atomic, pointer, value_pointer, array, struct, image, sampler, acceleration_structure, ray_query, binding_array, Members, no_members, member}
-use Rattle.typing_forms.specs.Sizes.{counted}
+use Rattle.typing_layout.specs.judged.Layout.{size}
+use Rattle.typing_layout.specs.judged.Tree.{Tree, scalar, vector, matrix, cooperative_matrix, atomic, pointer, value_pointer, array, struct, image, sampler, acceleration_structure, ray_query, binding_array, Members, no_members, member}
+use Rattle.typing_forms.specs.judged.Sizes.{counted}
 
 -- a leaf of the value, which begins at an offset, meets the slot
 pub record IsMet (slot : ℕ) (t : Tree) (offset : ℕ) : Type 0 where

@@ -1,10 +1,10 @@
 -- How many bytes of immediate data a module takes.
 use Rattle.std.specs.Prelude.{◌≡◌, ◌≤◌, ◌<◌, ◌⊎◌, ℕ, Some, slice_get}
-use Rattle.ir_items.specs.GlobalPlain.{PlainGlobal}
-use Rattle.ir_items.specs.Plain.{PlainModule}
+use Rattle.ir_items.specs.judged.GlobalPlain.{PlainGlobal}
+use Rattle.ir_items.specs.judged.Plain.{PlainModule}
 use Rattle.ir_kinds.specs.declared.spaces.AddressSpace.TheVariants.{Immediate}
-use Rattle.typing_layout.specs.Layout.{size}
-use Rattle.typing_layout.specs.View.{type_tree}
+use Rattle.typing_layout.specs.judged.Layout.{size}
+use Rattle.typing_layout.specs.judged.View.{type_tree}
 
 -- the global variable at a handle is immediate data of so many bytes
 pub record TakesBytes (m : PlainModule) (handle bytes : ℕ) : Type 0 where

@@ -1,8 +1,8 @@
 -- What is required of a module in which a global variable is judged.
 use Rattle.std.specs.Prelude.{◌≡◌, ◌<◌, ℕ, Some, IfSome, length, slice_get}
-use Rattle.ir_items.specs.GlobalPlain.{PlainGlobal}
-use Rattle.ir_items.specs.Plain.{PlainModule}
-use Rattle.typing_forms.specs.Order.{TypesGoBack}
+use Rattle.ir_items.specs.judged.GlobalPlain.{PlainGlobal}
+use Rattle.ir_items.specs.judged.Plain.{PlainModule}
+use Rattle.typing_forms.specs.judged.Order.{TypesGoBack}
 
 -- the type of a variable is there, and so is what it begins as
 pub record IsPlaced (m : PlainModule) (v : PlainGlobal) : Type 0 where

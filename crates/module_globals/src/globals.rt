@@ -9,13 +9,13 @@ ghost use Rattle.module_globals.specs.declared.error.GlobalVariableError.TheVari
 ghost use Rattle.module_globals.specs.There.{IsPlaced};
 ghost use Rattle.ir_flags.specs.Sets.{Has};
 ghost use Rattle.ir_flags.specs.declared.settings.TheConstants.ValidationFlags.{BINDINGS, STRUCT_LAYOUTS};
-ghost use Rattle.ir_items.specs.GlobalView.{global_view};
-ghost use Rattle.spec_interface.specs.Globals.{BeginsBy, DecorationsOK, VariableBy};
-ghost use Rattle.spec_interface.specs.Spaces.{counted, ArraysOK, space_capability, LiesIn, required, HasAll, is_resource};
-ghost use Rattle.ir_types.specs.Plain.{inner_view};
-ghost use Rattle.typing_forms.specs.Order.{TypesGoBack};
-ghost use Rattle.typing_forms.specs.Resolutions.{inner_at};
-ghost use Rattle.typing_forms.specs.Sizes.{type_size};
+ghost use Rattle.ir_items.specs.found.GlobalView.{global_view};
+ghost use Rattle.spec_interface.specs.judged.Globals.{BeginsBy, DecorationsOK, VariableBy};
+ghost use Rattle.spec_interface.specs.judged.Spaces.{counted, ArraysOK, space_capability, LiesIn, required, HasAll, is_resource};
+ghost use Rattle.ir_types.specs.judged.Plain.{inner_view};
+ghost use Rattle.typing_forms.specs.judged.Order.{TypesGoBack};
+ghost use Rattle.typing_forms.specs.judged.Resolutions.{inner_at};
+ghost use Rattle.typing_forms.specs.judged.Sizes.{type_size};
 
 use crate::context::{Initializer, VariableContext};
 use crate::error::GlobalVariableError;

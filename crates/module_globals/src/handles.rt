@@ -1,9 +1,9 @@
 //! What is bound by handles.
 
 ghost use Rattle.std.specs.Prelude.{◌≡◌, Some};
-ghost use Rattle.ir_types.specs.Plain.{inner_view};
-ghost use Rattle.spec_interface.specs.Handles.{is_handle, is_norm_16, handle_capability, class_array_capability, handles_capability};
-ghost use Rattle.spec_interface.specs.Spaces.{array_base};
+ghost use Rattle.ir_types.specs.judged.Plain.{inner_view};
+ghost use Rattle.spec_interface.specs.judged.Handles.{is_handle, is_norm_16, handle_capability, class_array_capability, handles_capability};
+ghost use Rattle.spec_interface.specs.judged.Spaces.{array_base};
 
 use ir_arena::handle::Handle;
 use ir_flags::Capabilities;

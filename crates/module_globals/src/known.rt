@@ -4,10 +4,10 @@ ghost use Rattle.std.specs.Prelude.{MatchResult};
 ghost use Rattle.module_globals.specs.Faults.{IsGlobalFault};
 ghost use Rattle.module_globals.specs.Initializers.{IsInitializer, IsTypedBy};
 ghost use Rattle.module_globals.specs.There.{IsPlaced, IsThere};
-ghost use Rattle.ir_items.specs.GlobalView.{global_view};
+ghost use Rattle.ir_items.specs.found.GlobalView.{global_view};
 ghost use Rattle.module_constants.specs.Known.{IsKnown, module_in};
-ghost use Rattle.spec_expressions.specs.Typing.{HasGlobalType};
-ghost use Rattle.spec_interface.specs.Globals.{GlobalOK};
+ghost use Rattle.spec_expressions.specs.judged.Typing.{HasGlobalType};
+ghost use Rattle.spec_interface.specs.judged.Globals.{GlobalOK};
 
 use crate::context::{Initializer, VariableContext};
 use crate::error::GlobalVariableError;

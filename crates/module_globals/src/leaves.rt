@@ -3,12 +3,12 @@
 ghost use Rattle.std.specs.Prelude.{◌≡◌, ◌↔◌, ◌<◌, ◌+◌, ◌*◌, ℕ, map, min};
 ghost use Rattle.module_globals.specs.Reached.{IsReached, IsReachedIn, IsReachedAmong, IsMet};
 ghost use Rattle.module_globals.specs.Slots.{IsIn, Meets};
-ghost use Rattle.ir_types.specs.Plain.{inner_view, member_view};
-ghost use Rattle.typing_layout.specs.Tree.{Tree};
-ghost use Rattle.typing_layout.specs.View.{members_by, tree_by, tree_along, type_tree};
-ghost use Rattle.typing_forms.specs.Order.{TypesGoBack};
-ghost use Rattle.typing_forms.specs.Resolutions.{types_view};
-ghost use Rattle.typing_forms.specs.Sizes.{counted, type_size};
+ghost use Rattle.ir_types.specs.judged.Plain.{inner_view, member_view};
+ghost use Rattle.typing_layout.specs.judged.Tree.{Tree};
+ghost use Rattle.typing_layout.specs.judged.View.{members_by, tree_by, tree_along, type_tree};
+ghost use Rattle.typing_forms.specs.judged.Order.{TypesGoBack};
+ghost use Rattle.typing_forms.specs.judged.Resolutions.{types_view};
+ghost use Rattle.typing_forms.specs.judged.Sizes.{counted, type_size};
 
 use crate::slots::ImmediateSlots;
 use ir_arena::handle::Handle;

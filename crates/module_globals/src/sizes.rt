@@ -2,11 +2,11 @@
 
 ghost use Rattle.std.specs.Prelude.{◌≡◌, ◌↔◌, ◌≤◌, ◌⊎◌, IsTrue, length};
 ghost use Rattle.module_globals.specs.Sizes.{AreGreatest};
-ghost use Rattle.ir_items.specs.View.{module_view};
+ghost use Rattle.ir_items.specs.found.View.{module_view};
 ghost use Rattle.ir_kinds.specs.declared.spaces.AddressSpace.TheVariants.{Immediate};
-ghost use Rattle.typing_layout.specs.Layout.{size};
-ghost use Rattle.typing_layout.specs.View.{type_tree};
-ghost use Rattle.typing_forms.specs.Resolutions.{types_view};
+ghost use Rattle.typing_layout.specs.judged.Layout.{size};
+ghost use Rattle.typing_layout.specs.judged.View.{type_tree};
+ghost use Rattle.typing_forms.specs.judged.Resolutions.{types_view};
 
 use crate::slots::ImmediateSlots;
 use ir_arena::handle::Handle;

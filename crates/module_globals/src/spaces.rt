@@ -2,8 +2,8 @@
 
 ghost use Rattle.std.specs.Prelude.{◌≡◌, Some};
 ghost use Rattle.module_globals.specs.Faults.{required_bits};
-ghost use Rattle.ir_types.specs.Plain.{inner_view};
-ghost use Rattle.spec_interface.specs.Spaces.{array_capability, space_capability, is_resource, is_storage};
+ghost use Rattle.ir_types.specs.judged.Plain.{inner_view};
+ghost use Rattle.spec_interface.specs.judged.Spaces.{array_capability, space_capability, is_resource, is_storage};
 
 use crate::handles::{handle_capability, handles_capability};
 use ir_flags::Capabilities;

@@ -1,21 +1,21 @@
 -- Parts of what is made of a module's types are.
 use Rattle.std.proofs.Common.{◌≡◌, ◌<◌, ◌∙◌, ℕ, zero, suc, List, [], ◌∷◌, Bool, true, false, Option, Some, None, Result, Ok, Err, Contains, map, option_map, length, slice_get, if◌then◌else◌, refl, sym, ap, subst, arith}
 use Rattle.std.specs.Prelude.{nat_lt, ok_or}
-use Rattle.ir_kinds.specs.Scalars.{component_count}
+use Rattle.ir_kinds.specs.judged.Scalars.{component_count}
 use Rattle.ir_kinds.specs.declared.scalars.Scalar.{Scalar}
 use Rattle.ir_kinds.specs.declared.scalars.VectorSize.{VectorSize}
 use Rattle.ir_kinds.specs.declared.spaces.AddressSpace.{AddressSpace}
 use Rattle.ir_kinds.specs.declared.spaces.AddressSpace.TheVariants as space
-use Rattle.ir_types.specs.Plain.{PlainInner, PlainMember, PlainType, plain, struct}
+use Rattle.ir_types.specs.judged.Plain.{PlainInner, PlainMember, PlainType, plain, struct}
 use Rattle.ir_types.specs.declared.types.TypeInner.TheVariants as inner
 use Rattle.module_handles.specs.Types.{IsMadeOf}
-use Rattle.spec_expressions.specs.Access.{pointer_to, pointed_element, element, one_of, member, pointed_part, member_of, access_index_type}
-use Rattle.spec_expressions.specs.Loads.{variable_type, loaded, loaded_value, load_type}
+use Rattle.spec_expressions.specs.judged.Access.{pointer_to, pointed_element, element, one_of, member, pointed_part, member_of, access_index_type}
+use Rattle.spec_expressions.specs.judged.Loads.{variable_type, loaded, loaded_value, load_type}
 use Rattle.spec_expressions.specs.declared.faults.TypingFault.{TypingFault}
 use Rattle.spec_expressions.specs.declared.faults.TypingFault.TheVariants.{InvalidAccess, InvalidPointer, OutOfBoundsIndex}
-use Rattle.typing_forms.specs.Forms.{pointing, form_in, form_found, form_of_type}
-use Rattle.typing_forms.specs.Order.{TypesGoBack, named_types}
-use Rattle.typing_forms.specs.Resolutions.{inner_at}
+use Rattle.typing_forms.specs.judged.Forms.{pointing, form_in, form_found, form_of_type}
+use Rattle.typing_forms.specs.judged.Order.{TypesGoBack, named_types}
+use Rattle.typing_forms.specs.judged.Resolutions.{inner_at}
 use Rattle.typing_forms.specs.declared.form.Form.{Form}
 use Rattle.typing_forms.specs.declared.form.Form.TheVariants as form
 

@@ -1,6 +1,6 @@
 -- What the faults of functions say of their module.
 use Rattle.std.proofs.Common.{◌≡◌, inl, inr, ℕ, Some, refl, sym, slice_get}
-use Rattle.ir_items.specs.Plain.{PlainFunction, PlainEntry, PlainModule}
+use Rattle.ir_items.specs.judged.Plain.{PlainFunction, PlainEntry, PlainModule}
 use Rattle.ir_references.specs.Faults.{IsMissingFault, IsForwardOperand, IsForwardCallee, IsForwardParent}
 use Rattle.ir_references.specs.declared.fault.HandleFault.{HandleFault}
 use Rattle.ir_references.specs.declared.fault.HandleFault.TheVariants as fault

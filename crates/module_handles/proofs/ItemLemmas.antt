@@ -1,10 +1,10 @@
 -- What is found of the items that name types and global expressions alone.
 use Rattle.std.proofs.Common.{◌≡◌, ℕ, Option, Some, None, sym, ◌∙◌, ap, subst, slice_get}
 use Rattle.std.specs.Option.{MatchOption}
-use Rattle.ir_items.specs.GlobalPlain.{PlainConstant, PlainOverride, PlainGlobal}
-use Rattle.ir_items.specs.GlobalView.{values_of, constant_view, override_view, global_view}
-use Rattle.ir_items.specs.Plain.{PlainModule}
-use Rattle.ir_items.specs.View.{module_view}
+use Rattle.ir_items.specs.judged.GlobalPlain.{PlainConstant, PlainOverride, PlainGlobal}
+use Rattle.ir_items.specs.found.GlobalView.{values_of, constant_view, override_view, global_view}
+use Rattle.ir_items.specs.judged.Plain.{PlainModule}
+use Rattle.ir_items.specs.found.View.{module_view}
 use Rattle.ir_items.specs.declared.module.Module.{Module}
 use Rattle.ir_references.specs.Faults.{outside_functions}
 use Rattle.ir_references.specs.declared.bounds.Bounds.{Bounds}

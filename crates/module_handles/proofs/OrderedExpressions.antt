@@ -1,12 +1,12 @@
 -- Where handles are in order, expressions name items that are there, and operands precede.
 use Rattle.std.proofs.Common.{◌≡◌, ℕ, ◌<◌, Some, refl, length, slice_get}
-use Rattle.ir_types.specs.ExpressionPlain.{PlainExpression, compose, plain}
+use Rattle.ir_types.specs.judged.ExpressionPlain.{PlainExpression, compose, plain}
 use Rattle.ir_types.specs.declared.expressions.Expression.TheVariants as x
-use Rattle.ir_items.specs.Plain.{PlainFunction, PlainModule}
+use Rattle.ir_items.specs.judged.Plain.{PlainFunction, PlainModule}
 use Rattle.module_handles.specs.Steps.{ExpressionConditions, AllExpressions, OrderGivesExpressions}
 use Rattle.module_handles.proofs.Whole.{conditions}
 use Rattle.module_handles.specs.Conditions.{FunctionConditions}
-use Rattle.spec_expressions.specs.Context.{Context, inside, outside, NamesItem}
+use Rattle.spec_expressions.specs.judged.Context.{Context, inside, outside, NamesItem}
 use Rattle.spec_handles.specs.Expressions.{expression_item}
 use Rattle.spec_handles.specs.InOrder.{HandlesOK}
 use Rattle.spec_handles.specs.Modules.{expression, expression_names}

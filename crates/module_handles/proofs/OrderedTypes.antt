@@ -1,33 +1,33 @@
 -- The types of expressions are types of the module, or made of such.
 use Rattle.std.proofs.Common.{◌≡◌, ◌<◌, inl, inr, ℕ, zero, suc, List, [], ◌∷◌, ◌++◌, Bool, true, false, Option, Some, None, Result, Ok, Err, Contains, map, option_map, option_and_then, length, slice_get, if◌then◌else◌, refl, sym, ap, subst, arith}
 use Rattle.std.specs.Prelude.{◌==◌, ok_or}
-use Rattle.ir_types.specs.ExpressionPlain.{PlainExpression, compose, plain as simple}
+use Rattle.ir_types.specs.judged.ExpressionPlain.{PlainExpression, compose, plain as simple}
 use Rattle.ir_types.specs.declared.expressions.Expression.TheVariants as x
-use Rattle.ir_items.specs.GlobalPlain.{PlainConstant, PlainOverride, PlainGlobal}
-use Rattle.ir_items.specs.Plain.{PlainArgument, PlainLocal, PlainFunction, PlainModule}
+use Rattle.ir_items.specs.judged.GlobalPlain.{PlainConstant, PlainOverride, PlainGlobal}
+use Rattle.ir_items.specs.judged.Plain.{PlainArgument, PlainLocal, PlainFunction, PlainModule}
 use Rattle.ir_items.specs.declared.functions.FunctionResult.{FunctionResult}
 use Rattle.ir_kinds.specs.declared.predeclared.PredeclaredType.{PredeclaredType}
 use Rattle.ir_kinds.specs.declared.spaces.AddressSpace.TheVariants as space
-use Rattle.ir_types.specs.Plain.{PlainType, plain}
+use Rattle.ir_types.specs.judged.Plain.{PlainType, plain}
 use Rattle.module_handles.proofs.Forms.{at_place, Gives, GivesIf, gives, gives_none, gives_or, some_form, no_form, pointer_made, type_made, element_made, access_index_made, load_made, variable_made}
 use Rattle.module_handles.proofs.Values.{splat_made, swizzle_made, image_sample_made, image_load_made, query_made, binary_made, relational_made, as_made, matrix_loaded, value_size_made}
 use Rattle.module_handles.specs.Types.{IsMadeOf, OrderGivesTypes}
 use Rattle.module_handles.proofs.Whole.{conditions}
-use Rattle.typing_rules.specs.Laws.{IsAmong}
+use Rattle.typing_rules.specs.judged.Laws.{IsAmong}
 use Rattle.typing_rules.specs.declared.rules.Conclusion.{Conclusion}
 use Rattle.typing_rules.specs.declared.rules.Conclusion.TheVariants.{Value, Predeclared}
 use Rattle.typing_rules.specs.declared.rules.Rule.{Rule}
-use Rattle.spec_expressions.specs.Access.{element}
-use Rattle.spec_expressions.specs.Context.{Context, inside, form_if}
-use Rattle.spec_expressions.specs.CooperativeMatrices.{pointed_scalar}
-use Rattle.spec_expressions.specs.Loads.{global_if, local_if}
-use Rattle.spec_expressions.specs.Maths.{arguments, concluded, math_of, taking}
-use Rattle.ir_kinds.specs.Maths.{argument_count}
+use Rattle.spec_expressions.specs.judged.Access.{element}
+use Rattle.spec_expressions.specs.judged.Context.{Context, inside, form_if}
+use Rattle.spec_expressions.specs.judged.CooperativeMatrices.{pointed_scalar}
+use Rattle.spec_expressions.specs.judged.Loads.{global_if, local_if}
+use Rattle.spec_expressions.specs.judged.Maths.{arguments, concluded, math_of, taking}
+use Rattle.ir_kinds.specs.judged.Maths.{argument_count}
 use Rattle.ir_kinds.specs.declared.maths.MathFunction.{MathFunction}
-use Rattle.typing_rules.specs.Tables.{table}
-use Rattle.typing_rules.specs.Types.{inner_of}
-use Rattle.spec_expressions.specs.Results.{result_of}
-use Rattle.spec_expressions.specs.Typing.{HasTypeAmong, has}
+use Rattle.typing_rules.specs.judged.Tables.{table}
+use Rattle.typing_rules.specs.judged.Types.{inner_of}
+use Rattle.spec_expressions.specs.judged.Results.{result_of}
+use Rattle.spec_expressions.specs.judged.Typing.{HasTypeAmong, has}
 use Rattle.spec_expressions.specs.declared.faults.TypingFault.{TypingFault}
 use Rattle.spec_expressions.specs.declared.faults.TypingFault.TheVariants.{BuiltinArgumentsInvalid, FunctionArgumentNotFound, FunctionReturnsVoid, InvalidAccess, InvalidPointer, MissingSpecialType}
 use Rattle.spec_handles.specs.Conditions.{HandlesInRange}
@@ -39,10 +39,10 @@ use Rattle.spec_handles.specs.Modules as part
 use Rattle.spec_handles.specs.References.{ItemExists, item, argument, answer, local, computed, argument_type, answer_type, local_type, expression_names}
 use Rattle.spec_handles.specs.declared.target.Target.{Target}
 use Rattle.spec_handles.specs.declared.target.Target.TheVariants as target
-use Rattle.spec_expressions.specs.Given.{is_key, handle_for, given_type}
-use Rattle.typing_forms.specs.Forms.{form_of, form_of_type}
-use Rattle.typing_forms.specs.Order.{TypesGoBack}
-use Rattle.typing_forms.specs.Resolutions.{PlainResolution, by_handle, by_value}
+use Rattle.spec_expressions.specs.judged.Given.{is_key, handle_for, given_type}
+use Rattle.typing_forms.specs.judged.Forms.{form_of, form_of_type}
+use Rattle.typing_forms.specs.judged.Order.{TypesGoBack}
+use Rattle.typing_forms.specs.judged.Resolutions.{PlainResolution, by_handle, by_value}
 use Rattle.typing_forms.specs.declared.form.Form.{Form}
 use Rattle.typing_forms.specs.declared.form.Form.TheVariants as form
 

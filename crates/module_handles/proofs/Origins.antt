@@ -2,20 +2,20 @@
 use Rattle.std.proofs.Common.{◌≡◌, ℕ, ◌<◌, List, [], ◌∷◌, ◌++◌, map, Option, Some, None, option_map, option_to_list, All, refl, sym, ap, ◌∙◌, subst, slice_get}
 use Rattle.std.proofs.lemmas.List.Elements.{All-nil}
 use Rattle.std.proofs.lemmas.Option.{slice_get-map}
-use Rattle.ir_arena.specs.Arenas.{value_of_entry}
+use Rattle.ir_arena.specs.found.Arenas.{value_of_entry}
 use Rattle.ir_arena.specs.declared.span.Span.{Span}
-use Rattle.ir_types.specs.ExpressionPlain.{expression_view}
+use Rattle.ir_types.specs.judged.ExpressionPlain.{expression_view}
 use Rattle.ir_types.specs.declared.expressions.Expression.{Expression}
 use Rattle.ir_types.specs.declared.expressions.Expression.TheVariants as x
-use Rattle.ir_items.specs.GlobalView.{values_of}
-use Rattle.ir_items.specs.View.{function_view, entry_view, module_view}
+use Rattle.ir_items.specs.found.GlobalView.{values_of}
+use Rattle.ir_items.specs.found.View.{function_view, entry_view, module_view}
 use Rattle.ir_references.proofs.FaultLaws.{map_some}
 use Rattle.module_handles.specs.Steps.{OrderGivesOrigins}
 use Rattle.module_handles.proofs.Whole.{conditions}
 use Rattle.spec_handles.specs.Conditions.{OperandsPrecede}
 use Rattle.spec_handles.specs.Expressions.{expression_operands}
 use Rattle.std.specs.List.{cons_option}
-use Rattle.typing_layout.specs.Constness.{OriginsPrecede, origin_of, operands_from}
+use Rattle.typing_layout.specs.judged.Constness.{OriginsPrecede, origin_of, operands_from}
 
 -- arguments that may be left out, in the one form and in the other
 three_given : (a b c : Option ℕ) → cons_option a (cons_option b (cons_option c [])) ≡ option_to_list a ++ option_to_list b ++ option_to_list c

@@ -1,15 +1,15 @@
 -- What the faults outside functions say, and what it says that there is none.
 use Rattle.std.proofs.Common.{◌≡◌, inl, inr, ℕ, ◌+◌, ◌<◌, ◌≤◌, List, true, false, if◌then◌else◌, Option, Some, None, option_map, option_and_then, nat_lt, refl, sym, ap, ◌∙◌, subst, slice_get, length, Contains, arith}
 use borrow.Author.Tests.{ltb-true, ltb-false}
-use Rattle.ir_types.specs.ExpressionPlain.{PlainExpression}
-use Rattle.ir_items.specs.GlobalPlain.{PlainConstant, PlainOverride, PlainGlobal}
-use Rattle.ir_items.specs.Plain.{PlainEntry, PlainModule}
+use Rattle.ir_types.specs.judged.ExpressionPlain.{PlainExpression}
+use Rattle.ir_items.specs.judged.GlobalPlain.{PlainConstant, PlainOverride, PlainGlobal}
+use Rattle.ir_items.specs.judged.Plain.{PlainEntry, PlainModule}
 use Rattle.ir_references.proofs.FaultLaws.{missing_none, missing_some, then_some, map_none, map_some}
 use Rattle.ir_references.proofs.FirstLaws.{or_some, some_is, below_each, past_one}
 use Rattle.ir_references.specs.Faults.{outside_functions, missing, item_missing}
 use Rattle.ir_references.specs.declared.fault.HandleFault.{HandleFault}
 use Rattle.ir_references.specs.declared.fault.HandleFault.TheVariants as fault
-use Rattle.ir_types.specs.Plain.{PlainInner, PlainType}
+use Rattle.ir_types.specs.judged.Plain.{PlainInner, PlainType}
 use Rattle.module_handles.specs.Found.{first_missing, special_missing, leaf_missing, constant_missing, override_missing, variable_missing, entry_missing, pending_missing, built_forward, up_to, looked_through}
 use Rattle.module_handles.specs.LookupFound.{type_of, init_of, forward, counted_by, counted_forward}
 use Rattle.module_handles.specs.InOrder.{IsFaultIn, NamesForward, IsGlobalExpressionFault}
@@ -24,7 +24,7 @@ use Rattle.spec_handles.specs.declared.item.ItemKind.{ItemKind}
 use Rattle.spec_handles.specs.declared.item.ItemKind.TheVariants as kind
 use Rattle.spec_handles.specs.declared.target.Target.{Target}
 use Rattle.spec_handles.specs.declared.target.Target.TheVariants as target
-use Rattle.typing_forms.specs.Order.{named_types}
+use Rattle.typing_forms.specs.judged.Order.{named_types}
 
 -- ---- one thing that is named, and one that comes before
 

@@ -2,8 +2,8 @@
 use Rattle.std.proofs.Common.{◌≡◌, inl, inr, ℕ, ◌<◌, List, [], ◌∷◌, map, Option, Some, None, option_map, All, refl, sym, ap, subst}
 use Rattle.std.specs.List.{cons_option}
 use Rattle.std.proofs.lemmas.List.Elements.{All-cons, All-nil, All-head, All-tail}
-use Rattle.typing_rules.specs.Laws.{IsAmong}
-use Rattle.spec_analysis.specs.Operands.{Operand, operand, operands_in, expression_operands as operands_with_uses}
+use Rattle.typing_rules.specs.judged.Laws.{IsAmong}
+use Rattle.spec_analysis.specs.judged.Operands.{Operand, operand, operands_in, expression_operands as operands_with_uses}
 use Rattle.spec_handles.specs.declared.operand.Usage.TheVariants.{Read}
 use Rattle.spec_handles.specs.Operands.{Operands, these, each_of, of_expression, handles_of as handles_in}
 use Rattle.spec_handles.specs.declared.operand.Slot.{Slot}

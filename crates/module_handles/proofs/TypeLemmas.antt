@@ -5,17 +5,17 @@ use Rattle.std.proofs.lemmas.Option.{slice_get_within}
 use Rattle.std.specs.Option.{option_or}
 use borrow.Author.Tests.{ltb-false}
 use Rattle.ir_arena.specs.declared.span.Span.{Span}
-use Rattle.ir_types.specs.ExpressionPlain.{PlainExpression, expression_view}
+use Rattle.ir_types.specs.judged.ExpressionPlain.{PlainExpression, expression_view}
 use Rattle.ir_types.specs.declared.expressions.Expression.{Expression}
-use Rattle.ir_items.specs.GlobalView.{values_of}
-use Rattle.ir_items.specs.Plain.{PlainModule}
+use Rattle.ir_items.specs.found.GlobalView.{values_of}
+use Rattle.ir_items.specs.judged.Plain.{PlainModule}
 use Rattle.ir_references.proofs.FaultLaws.{map_some}
 use Rattle.ir_references.proofs.FirstLaws.{or_none, or_some}
 use Rattle.ir_references.specs.Faults.{outside_functions}
 use Rattle.ir_references.specs.First.{first_past}
 use Rattle.ir_references.specs.declared.fault.HandleFault.{HandleFault}
 use Rattle.ir_references.specs.declared.fault.HandleFault.TheVariants as fault
-use Rattle.ir_types.specs.Plain.{PlainInner, PlainMember, PlainType, inner_view, member_view, type_view}
+use Rattle.ir_types.specs.judged.Plain.{PlainInner, PlainMember, PlainType, inner_view, member_view, type_view}
 use Rattle.ir_types.specs.declared.types.IrType.{IrType}
 use Rattle.ir_types.specs.declared.types.StructMember.{StructMember}
 use Rattle.ir_types.specs.declared.types.TypeInner.{TypeInner}
@@ -26,8 +26,8 @@ use Rattle.module_handles.specs.Found.{pending_missing, built_forward, named_for
 use Rattle.module_handles.specs.LookupFound.{forward, counted_forward}
 use Rattle.module_handles.specs.InOrder.{IsFaultIn, NamesBefore, NamesForward, TypeOK, TypesBelow, TypesOK}
 use Rattle.spec_handles.specs.declared.item.ItemKind.TheVariants as kind
-use Rattle.typing_forms.specs.Order.{named_types}
-use Rattle.typing_forms.specs.Resolutions.{inner_at}
+use Rattle.typing_forms.specs.judged.Order.{named_types}
+use Rattle.typing_forms.specs.judged.Resolutions.{inner_at}
 
 -- ---- what members are of
 

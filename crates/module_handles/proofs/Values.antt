@@ -2,7 +2,7 @@
 use Rattle.std.proofs.Common.{◌≡◌, ℕ, List, Option, Some, None, option_map}
 use Rattle.ir_types.specs.declared.expressions.ImageQuery.{ImageQuery}
 use Rattle.ir_types.specs.declared.expressions.ImageQuery.TheVariants as query
-use Rattle.ir_kinds.specs.Scalars.{boolean, floating, unsigned}
+use Rattle.ir_kinds.specs.judged.Scalars.{boolean, floating, unsigned}
 use Rattle.ir_kinds.specs.declared.images.ImageClass.{ImageClass}
 use Rattle.ir_kinds.specs.declared.images.ImageClass.TheVariants as class
 use Rattle.ir_kinds.specs.declared.images.ImageDimension.{ImageDimension}
@@ -17,21 +17,21 @@ use Rattle.ir_kinds.specs.declared.scalars.Scalar.{Scalar}
 use Rattle.ir_kinds.specs.declared.scalars.ScalarKind.{ScalarKind}
 use Rattle.ir_kinds.specs.declared.scalars.SwizzleComponent.{SwizzleComponent}
 use Rattle.ir_kinds.specs.declared.scalars.VectorSize.{VectorSize}
-use Rattle.ir_types.specs.Plain.{PlainType, plain}
+use Rattle.ir_types.specs.judged.Plain.{PlainType, plain}
 use Rattle.module_handles.proofs.Forms.{Gives, GivesIf, gives, gives_none, some_form, no_form}
 use Rattle.module_handles.specs.Types.{IsMadeOf}
-use Rattle.typing_rules.specs.Types.{inner_of}
+use Rattle.typing_rules.specs.judged.Types.{inner_of}
 use Rattle.typing_rules.specs.declared.rules.ConstructorSize.{ConstructorSize}
 use Rattle.typing_rules.specs.declared.rules.ConstructorSize.TheVariants as shape
-use Rattle.spec_expressions.specs.Compositions.{splat_type, swizzle_type}
-use Rattle.spec_expressions.specs.Conversions.{converted, as_type}
-use Rattle.spec_expressions.specs.ImageLoads.{loaded_texel, image_load_type, extent, size_type, image_query_type}
-use Rattle.spec_expressions.specs.ImageSamples.{texel_scalar, texel, depth_sample, sample_of, image_sample_type}
-use Rattle.spec_expressions.specs.Operators.{truth_of, vector_times, matrix_times, other_times, product, binary_type}
-use Rattle.spec_expressions.specs.Selections.{relational_type}
+use Rattle.spec_expressions.specs.judged.Compositions.{splat_type, swizzle_type}
+use Rattle.spec_expressions.specs.judged.Conversions.{converted, as_type}
+use Rattle.spec_expressions.specs.judged.ImageLoads.{loaded_texel, image_load_type, extent, size_type, image_query_type}
+use Rattle.spec_expressions.specs.judged.ImageSamples.{texel_scalar, texel, depth_sample, sample_of, image_sample_type}
+use Rattle.spec_expressions.specs.judged.Operators.{truth_of, vector_times, matrix_times, other_times, product, binary_type}
+use Rattle.spec_expressions.specs.judged.Selections.{relational_type}
 use Rattle.spec_expressions.specs.declared.faults.TypingFault.TheVariants.{InvalidImage, InvalidScalar, InvalidVector, IncompatibleOperands}
-use Rattle.typing_forms.specs.Forms.{form_of}
-use Rattle.typing_forms.specs.Resolutions.{by_value}
+use Rattle.typing_forms.specs.judged.Forms.{form_of}
+use Rattle.typing_forms.specs.judged.Resolutions.{by_value}
 use Rattle.typing_forms.specs.declared.form.Form.{Form}
 use Rattle.typing_forms.specs.declared.form.Form.TheVariants as form
 

@@ -2,9 +2,9 @@
 use Rattle.std.proofs.Common.{◌≡◌, ℕ, List, map, Option, Some, option_map, sym, ap, ◌∙◌, subst, slice_get}
 use Rattle.std.proofs.lemmas.Option.{slice_get-map}
 use Rattle.std.specs.Option.{MatchOption}
-use Rattle.ir_arena.specs.Arenas.{value_at}
+use Rattle.ir_arena.specs.found.Arenas.{value_at}
 use Rattle.ir_arena.specs.declared.span.Span.{Span}
-use Rattle.ir_items.specs.GlobalView.{values_of}
+use Rattle.ir_items.specs.found.GlobalView.{values_of}
 use Rattle.ir_references.proofs.Entries.{slice_get-entries}
 use Rattle.ir_references.proofs.FaultLaws.{map_some}
 use Rattle.ir_references.specs.declared.fault.HandleFault.{HandleFault}

@@ -2,14 +2,14 @@
 use Rattle.std.proofs.Common.{◌≡◌, ℕ, ◌+◌, ◌<◌, List, Some, option_map, option_and_then, sym, ap, ◌∙◌, subst, slice_get, length, All, Contains, arith}
 use Rattle.std.proofs.lemmas.List.Elements.{All-contains, All-contains_itself}
 use Rattle.std.proofs.lemmas.Option.{slice_get_within}
-use Rattle.ir_types.specs.ExpressionPlain.{PlainExpression}
-use Rattle.ir_items.specs.GlobalPlain.{PlainConstant, PlainOverride}
-use Rattle.ir_items.specs.Plain.{PlainFunction, PlainEntry, PlainModule}
+use Rattle.ir_types.specs.judged.ExpressionPlain.{PlainExpression}
+use Rattle.ir_items.specs.judged.GlobalPlain.{PlainConstant, PlainOverride}
+use Rattle.ir_items.specs.judged.Plain.{PlainFunction, PlainEntry, PlainModule}
 use Rattle.ir_references.proofs.FaultLaws.{missing_none, then_none, map_none, map_some}
 use Rattle.ir_references.proofs.FirstLaws.{or_none, below_each}
 use Rattle.ir_references.specs.Faults.{outside_functions, missing, item_missing}
-use Rattle.ir_types.specs.Plain.{PlainInner, PlainType}
-use Rattle.ir_proc.specs.Filters.{ParentsPrecede}
+use Rattle.ir_types.specs.judged.Plain.{PlainInner, PlainType}
+use Rattle.ir_proc.specs.found.Filters.{ParentsPrecede}
 use Rattle.module_handles.proofs.OutsideFaults.{forward_none, each_there, item_there, type_found}
 use Rattle.module_handles.specs.Conditions.{FunctionConditions, ModuleConditions, OrderGivesConditions}
 use Rattle.module_handles.specs.Found.{up_to, looked_through}
@@ -24,7 +24,7 @@ use Rattle.spec_handles.specs.Order.{Ordered, a_type, a_filter, a_function, an_e
 use Rattle.spec_handles.specs.References.{Named, item}
 use Rattle.spec_handles.specs.declared.item.ItemKind.TheVariants as kind
 use Rattle.spec_handles.specs.declared.target.Target.TheVariants as target
-use Rattle.typing_forms.specs.Order.{named_types, TypesGoBack}
+use Rattle.typing_forms.specs.judged.Order.{named_types, TypesGoBack}
 
 -- one that comes before an item of the list is in the list
 earlier : {A : Type 0} (xs : List A) (place named : ℕ) (x : A) → slice_get xs place ≡ Some x → named < place → named < length xs

@@ -2,15 +2,15 @@
 -- them.
 use Rattle.std.specs.Prelude.{ℕ, ◌+◌, List, nat_lt, if◌then◌else◌, Option, Some, None, option_map, option_and_then, slice_get}
 use Rattle.std.specs.Option.{option_or}
-use Rattle.ir_types.specs.ExpressionPlain.{PlainExpression}
-use Rattle.ir_items.specs.GlobalPlain.{PlainConstant, PlainOverride, PlainGlobal, PlainSpecial}
-use Rattle.ir_items.specs.Plain.{PlainEntry, PlainModule}
+use Rattle.ir_types.specs.judged.ExpressionPlain.{PlainExpression}
+use Rattle.ir_items.specs.judged.GlobalPlain.{PlainConstant, PlainOverride, PlainGlobal, PlainSpecial}
+use Rattle.ir_items.specs.judged.Plain.{PlainEntry, PlainModule}
 use Rattle.ir_references.specs.Faults.{missing, item_missing}
 use Rattle.ir_references.specs.First.{first_past}
 use Rattle.ir_references.specs.declared.bounds.Bounds.{Bounds}
 use Rattle.ir_references.specs.declared.fault.HandleFault.{HandleFault}
 use Rattle.ir_references.specs.declared.fault.HandleFault.TheVariants as fault
-use Rattle.ir_types.specs.Plain.{PlainInner}
+use Rattle.ir_types.specs.judged.Plain.{PlainInner}
 use Rattle.module_handles.specs.LookupFound.{type_of, init_of, forward, counted_by, counted_forward}
 use Rattle.spec_handles.specs.Expressions.{expression_item}
 use Rattle.spec_handles.specs.Items.{pending_of, special_types, mesh_types, mesh_expressions, entry_variables}
@@ -18,7 +18,7 @@ use Rattle.spec_handles.specs.declared.item.ItemKind.{ItemKind}
 use Rattle.spec_handles.specs.declared.item.ItemKind.TheVariants as kind
 use Rattle.spec_handles.specs.declared.target.Target.{Target}
 use Rattle.spec_handles.specs.declared.target.Target.TheVariants as target
-use Rattle.typing_forms.specs.Order.{named_types}
+use Rattle.typing_forms.specs.judged.Order.{named_types}
 
 -- ---- what isn't there
 

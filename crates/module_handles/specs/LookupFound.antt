@@ -1,10 +1,10 @@
 -- What the items that are named are of and begin as, and what doesn't come before; `spec_handles` says what is required of them.
 use Rattle.std.specs.Prelude.{ℕ, nat_lt, if◌then◌else◌, Option, Some, None, option_map, option_and_then, slice_get}
-use Rattle.ir_items.specs.GlobalPlain.{PlainConstant, PlainOverride}
-use Rattle.ir_items.specs.Plain.{PlainModule}
+use Rattle.ir_items.specs.judged.GlobalPlain.{PlainConstant, PlainOverride}
+use Rattle.ir_items.specs.judged.Plain.{PlainModule}
 use Rattle.ir_references.specs.declared.fault.HandleFault.{HandleFault}
 use Rattle.ir_references.specs.declared.fault.HandleFault.TheVariants as fault
-use Rattle.ir_types.specs.Plain.{PlainInner}
+use Rattle.ir_types.specs.judged.Plain.{PlainInner}
 use Rattle.spec_handles.specs.Items.{pending_of}
 use Rattle.spec_handles.specs.declared.item.ItemKind.{ItemKind}
 use Rattle.spec_handles.specs.declared.item.ItemKind.TheVariants as kind

@@ -1,8 +1,8 @@
 -- The operands of an expression are the same, with the uses that they make and without.
 use Rattle.std.specs.Prelude.{◌≡◌, ◌↔◌, ℕ, List, map}
-use Rattle.ir_types.specs.ExpressionPlain.{PlainExpression}
-use Rattle.spec_analysis.specs.Operands.{Operand, expression_operands as operands_with_uses}
-use Rattle.spec_analysis.specs.Values.{OperandsPrecede as OperandsWithUsesPrecede}
+use Rattle.ir_types.specs.judged.ExpressionPlain.{PlainExpression}
+use Rattle.spec_analysis.specs.judged.Operands.{Operand, expression_operands as operands_with_uses}
+use Rattle.spec_analysis.specs.judged.Values.{OperandsPrecede as OperandsWithUsesPrecede}
 use Rattle.spec_handles.specs.Conditions.{OperandsPrecede}
 use Rattle.spec_handles.specs.Expressions.{expression_operands}
 

@@ -1,17 +1,17 @@
 -- What the steps after require of expressions, in their own words.
 use Rattle.std.specs.Prelude.{◌≡◌, ℕ, List, Some, map, slice_get}
-use Rattle.ir_arena.specs.Arenas.{value_of_entry}
-use Rattle.ir_types.specs.ExpressionPlain.{PlainExpression, expression_view}
-use Rattle.ir_items.specs.GlobalView.{values_of}
-use Rattle.ir_items.specs.Plain.{PlainFunction, PlainEntry, PlainModule}
-use Rattle.ir_items.specs.View.{module_view}
+use Rattle.ir_arena.specs.found.Arenas.{value_of_entry}
+use Rattle.ir_types.specs.judged.ExpressionPlain.{PlainExpression, expression_view}
+use Rattle.ir_items.specs.found.GlobalView.{values_of}
+use Rattle.ir_items.specs.judged.Plain.{PlainFunction, PlainEntry, PlainModule}
+use Rattle.ir_items.specs.found.View.{module_view}
 use Rattle.ir_items.specs.declared.entries.EntryPoint.{EntryPoint}
 use Rattle.ir_items.specs.declared.functions.Function.{Function}
 use Rattle.ir_items.specs.declared.module.Module.{Module}
-use Rattle.spec_analysis.specs.Values.{OperandsPrecede}
-use Rattle.spec_expressions.specs.Context.{Context, inside, outside, NamesItem}
+use Rattle.spec_analysis.specs.judged.Values.{OperandsPrecede}
+use Rattle.spec_expressions.specs.judged.Context.{Context, inside, outside, NamesItem}
 use Rattle.spec_handles.specs.InOrder.{HandlesOK}
-use Rattle.typing_layout.specs.Constness.{OriginsPrecede}
+use Rattle.typing_layout.specs.judged.Constness.{OriginsPrecede}
 
 -- the items that expressions name are there, and their operands precede
 pub record ExpressionConditions (c : Context) (expressions : List PlainExpression) : Type 0 where

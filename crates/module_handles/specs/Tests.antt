@@ -1,8 +1,8 @@
 -- Calls that pass another number of arguments than their functions have: the first, found step by step, and what is found.
 use Rattle.std.specs.Prelude.{◌≡◌, ◌≢◌, ◌==◌, ℕ, List, length, if◌then◌else◌, Option, Some, None, slice_get}
-use Rattle.ir_blocks.specs.Places.{Place, OccursAt}
-use Rattle.ir_blocks.specs.Plain.{PlainStatement, emit, block, if_, switch, loop, break, continue, return, kill, operation, call}
-use Rattle.ir_items.specs.Plain.{PlainFunction, PlainModule}
+use Rattle.ir_blocks.specs.judged.Places.{Place, OccursAt}
+use Rattle.ir_blocks.specs.judged.Plain.{PlainStatement, emit, block, if_, switch, loop, break, continue, return, kill, operation, call}
+use Rattle.ir_items.specs.judged.Plain.{PlainFunction, PlainModule}
 use Rattle.module_handles.specs.declared.arities.ArityFault.{ArityFault}
 
 -- how many arguments a function has, if it is there

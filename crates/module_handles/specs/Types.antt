@@ -1,8 +1,8 @@
 -- The types of expressions are types of the module, or made of such.
 use Rattle.std.specs.Prelude.{◌<◌, ℕ, List, length}
-use Rattle.ir_items.specs.Plain.{PlainFunction, PlainModule}
-use Rattle.ir_types.specs.Plain.{PlainType}
-use Rattle.spec_expressions.specs.Typing.{HasType}
+use Rattle.ir_items.specs.judged.Plain.{PlainFunction, PlainModule}
+use Rattle.ir_types.specs.judged.Plain.{PlainType}
+use Rattle.spec_expressions.specs.judged.Typing.{HasType}
 use Rattle.spec_handles.specs.Conditions.{HandlesInRange}
 use Rattle.spec_handles.specs.InOrder.{HandlesOK}
 use Rattle.typing_forms.specs.declared.form.Form.{Form}

@@ -1,7 +1,7 @@
 //! Whether calls pass as many arguments as their functions have.
 
 ghost use Rattle.std.specs.Prelude.{◌≡◌, ◌↔◌, IsTrue, MatchOption, option_map, slice_get};
-ghost use Rattle.ir_items.specs.View.{function_view, module_view};
+ghost use Rattle.ir_items.specs.found.View.{function_view, module_view};
 ghost use Rattle.ir_references.specs.First.{first_in};
 ghost use Rattle.spec_handles.specs.Conditions.{AritiesMatch};
 ghost use Rattle.module_handles.specs.Tests.{arity_fault_of, count_of, wrong_count, PassesWrongCount};
@@ -76,7 +76,7 @@ struct Arity<'a> {
 }
 
 impl StatementLook<ArityFault> for Arity<'_> {
-    ghost use Rattle.ir_items.specs.View.{module_view};
+    ghost use Rattle.ir_items.specs.found.View.{module_view};
     ghost use Rattle.module_handles.specs.Tests.{arity_fault_of};
 
     ghost look = { λ t s. arity_fault_of (module_view t.«module».now) s };

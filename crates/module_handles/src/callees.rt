@@ -1,7 +1,7 @@
 //! Whether the functions that a function names come before it.
 
 ghost use Rattle.std.specs.Prelude.{◌↔◌, IsTrue};
-ghost use Rattle.ir_items.specs.View.{function_view};
+ghost use Rattle.ir_items.specs.found.View.{function_view};
 ghost use Rattle.spec_handles.specs.Conditions.{CalleesPrecede};
 
 use ir_items::{Function, Module};

@@ -2,7 +2,7 @@
 
 ghost use Rattle.std.specs.Prelude.{◌≡◌, [], ◌∷◌};
 ghost use Rattle.std.specs.Option.{MatchOption, option_or};
-ghost use Rattle.ir_items.specs.View.{entry_view, module_view};
+ghost use Rattle.ir_items.specs.found.View.{entry_view, module_view};
 ghost use Rattle.module_handles.specs.Found.{first_missing, entry_missing};
 ghost use Rattle.module_handles.specs.InOrder.{IsFaultIn, EntriesOK};
 ghost use Rattle.spec_handles.specs.Operands.{given};
@@ -86,7 +86,7 @@ struct Entries<'a> {
 }
 
 impl ItemCheck<EntryPoint> for Entries<'_> {
-    ghost use Rattle.ir_items.specs.View.{entry_view, module_view};
+    ghost use Rattle.ir_items.specs.found.View.{entry_view, module_view};
     ghost use Rattle.module_handles.specs.InOrder.{EntryOK, IsEntryFault};
 
     ghost passes = { λ t k x. EntryOK (module_view t.«module».now) (entry_view x) };

@@ -2,8 +2,8 @@
 
 ghost use Rattle.std.specs.Prelude.{◌≡◌, option_and_then};
 ghost use Rattle.std.specs.Option.{MatchOption};
-ghost use Rattle.ir_types.specs.ExpressionPlain.{expression_view};
-ghost use Rattle.ir_items.specs.View.{module_view};
+ghost use Rattle.ir_types.specs.judged.ExpressionPlain.{expression_view};
+ghost use Rattle.ir_items.specs.found.View.{module_view};
 ghost use Rattle.module_handles.specs.Found.{named_missing, init_forward};
 ghost use Rattle.module_handles.specs.InOrder.{IsFaultIn, GlobalExpressionsOK};
 
@@ -34,8 +34,8 @@ struct Globals<'a> {
 }
 
 impl ItemCheck<Expression> for Globals<'_> {
-    ghost use Rattle.ir_types.specs.ExpressionPlain.{expression_view};
-    ghost use Rattle.ir_items.specs.View.{module_view};
+    ghost use Rattle.ir_types.specs.judged.ExpressionPlain.{expression_view};
+    ghost use Rattle.ir_items.specs.found.View.{module_view};
     ghost use Rattle.module_handles.specs.InOrder.{GlobalExpressionOK, IsGlobalExpressionFault};
 
     ghost passes = { λ t e x. GlobalExpressionOK (module_view t.«module».now) e (expression_view x) };

@@ -1,8 +1,8 @@
 //! Whether diagnostic filters come after their parents.
 
 ghost use Rattle.std.specs.Prelude.{◌↔◌, IsTrue};
-ghost use Rattle.ir_items.specs.View.{module_view};
-ghost use Rattle.ir_proc.specs.Filters.{ParentsPrecede};
+ghost use Rattle.ir_items.specs.found.View.{module_view};
+ghost use Rattle.ir_proc.specs.found.Filters.{ParentsPrecede};
 
 use ir_items::{Function, Module};
 use ir_references::forward_parent;

@@ -1,7 +1,7 @@
 //! What functions name.
 
 ghost use Rattle.std.specs.Option.{MatchOption};
-ghost use Rattle.ir_items.specs.View.{module_view};
+ghost use Rattle.ir_items.specs.found.View.{module_view};
 ghost use Rattle.module_handles.specs.InOrder.{IsFaultIn, FunctionsOK};
 
 use crate::lists::{ItemCheck, fault_of_values};
@@ -15,7 +15,7 @@ struct Functions<'a> {
 }
 
 impl ItemCheck<Function> for Functions<'_> {
-    ghost use Rattle.ir_items.specs.View.{function_view, module_view};
+    ghost use Rattle.ir_items.specs.found.View.{function_view, module_view};
     ghost use Rattle.module_handles.specs.Conditions.{FunctionConditions};
     ghost use Rattle.module_handles.specs.InOrder.{IsFunctionFault};
 

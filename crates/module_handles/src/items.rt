@@ -2,8 +2,8 @@
 
 ghost use Rattle.std.specs.Prelude.{◌≡◌, map, option_and_then};
 ghost use Rattle.std.specs.Option.{MatchOption, option_or};
-ghost use Rattle.ir_items.specs.GlobalView.{constant_view, override_view, global_view, special_view};
-ghost use Rattle.ir_items.specs.View.{module_view};
+ghost use Rattle.ir_items.specs.found.GlobalView.{constant_view, override_view, global_view, special_view};
+ghost use Rattle.ir_items.specs.found.View.{module_view};
 ghost use Rattle.ir_references.specs.First.{first_past};
 ghost use Rattle.module_handles.specs.Found.{first_missing, special_missing, leaf_missing, constant_missing, override_missing, variable_missing};
 ghost use Rattle.module_handles.specs.InOrder.{IsFaultIn, ItemsOK};
@@ -101,7 +101,7 @@ struct Outside {
 
 impl ItemCheck<Constant> for Outside {
     ghost use Rattle.std.specs.Prelude.{◌≡◌, Some, None};
-    ghost use Rattle.ir_items.specs.GlobalView.{constant_view};
+    ghost use Rattle.ir_items.specs.found.GlobalView.{constant_view};
     ghost use Rattle.module_handles.specs.Found.{constant_missing};
 
     ghost passes = { λ t i x. constant_missing t.bounds (constant_view x) ≡ None };
@@ -115,7 +115,7 @@ impl ItemCheck<Constant> for Outside {
 
 impl ItemCheck<Override> for Outside {
     ghost use Rattle.std.specs.Prelude.{◌≡◌, Some, None};
-    ghost use Rattle.ir_items.specs.GlobalView.{override_view};
+    ghost use Rattle.ir_items.specs.found.GlobalView.{override_view};
     ghost use Rattle.module_handles.specs.Found.{override_missing};
 
     ghost passes = { λ t i x. override_missing t.bounds (override_view x) ≡ None };
@@ -129,7 +129,7 @@ impl ItemCheck<Override> for Outside {
 
 impl ItemCheck<GlobalVariable> for Outside {
     ghost use Rattle.std.specs.Prelude.{◌≡◌, Some, None};
-    ghost use Rattle.ir_items.specs.GlobalView.{global_view};
+    ghost use Rattle.ir_items.specs.found.GlobalView.{global_view};
     ghost use Rattle.module_handles.specs.Found.{variable_missing};
 
     ghost passes = { λ t i x. variable_missing t.bounds (global_view x) ≡ None };

@@ -2,7 +2,7 @@
 
 ghost use Rattle.std.specs.Prelude.{◌≡◌};
 ghost use Rattle.std.specs.Option.{MatchOption};
-ghost use Rattle.ir_items.specs.GlobalView.{values_of};
+ghost use Rattle.ir_items.specs.found.GlobalView.{values_of};
 ghost use Rattle.ir_references.specs.First.{first_past};
 ghost use Rattle.module_handles.specs.Found.{first_missing};
 ghost use Rattle.module_handles.specs.Lists.{AllPass, SomeFails};

@@ -1,9 +1,9 @@
 //! Types and values of what is named, and what does not come before.
 
 ghost use Rattle.std.specs.Prelude.{◌≡◌, option_map, option_and_then, slice_get};
-ghost use Rattle.ir_types.specs.ExpressionPlain.{expression_view};
-ghost use Rattle.ir_items.specs.GlobalView.{constant_view, override_view};
-ghost use Rattle.ir_items.specs.View.{module_view};
+ghost use Rattle.ir_types.specs.judged.ExpressionPlain.{expression_view};
+ghost use Rattle.ir_items.specs.found.GlobalView.{constant_view, override_view};
+ghost use Rattle.ir_items.specs.found.View.{module_view};
 ghost use Rattle.module_handles.specs.LookupFound.{type_of, init_of, forward};
 ghost use Rattle.spec_handles.specs.Expressions.{expression_item};
 

@@ -1,7 +1,7 @@
 //! Whether the operands of expressions come before them.
 
 ghost use Rattle.std.specs.Prelude.{◌↔◌, IsTrue};
-ghost use Rattle.ir_items.specs.View.{function_view};
+ghost use Rattle.ir_items.specs.found.View.{function_view};
 ghost use Rattle.spec_handles.specs.Conditions.{OperandsPrecede};
 
 use ir_items::{Function, Module};

@@ -1,7 +1,7 @@
 //! Whether what a function names is there.
 
 ghost use Rattle.std.specs.Prelude.{◌↔◌, IsTrue};
-ghost use Rattle.ir_items.specs.View.{function_view, module_view};
+ghost use Rattle.ir_items.specs.found.View.{function_view, module_view};
 ghost use Rattle.spec_handles.specs.Conditions.{HandlesInRange};
 
 use ir_items::{Function, Module};

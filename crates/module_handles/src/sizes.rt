@@ -1,8 +1,8 @@
 //! What says how many elements a type has.
 
 ghost use Rattle.std.specs.Prelude.{◌≡◌};
-ghost use Rattle.ir_items.specs.View.{module_view};
-ghost use Rattle.ir_types.specs.Plain.{inner_view};
+ghost use Rattle.ir_items.specs.found.View.{module_view};
+ghost use Rattle.ir_types.specs.judged.Plain.{inner_view};
 ghost use Rattle.module_handles.specs.LookupFound.{counted_by, counted_forward};
 ghost use Rattle.spec_handles.specs.Items.{pending_in, pending_of};
 

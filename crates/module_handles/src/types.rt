@@ -2,16 +2,16 @@
 
 ghost use Rattle.std.specs.Prelude.{◌≡◌, ◌<◌, [], ◌∷◌, length, map};
 ghost use Rattle.std.specs.Option.{MatchOption, option_or};
-ghost use Rattle.ir_types.specs.ExpressionPlain.{expression_view};
-ghost use Rattle.ir_items.specs.View.{module_view};
+ghost use Rattle.ir_types.specs.judged.ExpressionPlain.{expression_view};
+ghost use Rattle.ir_items.specs.found.View.{module_view};
 ghost use Rattle.ir_references.specs.Faults.{outside_functions};
 ghost use Rattle.ir_references.specs.First.{first_past};
-ghost use Rattle.ir_types.specs.Plain.{inner_view, member_view};
+ghost use Rattle.ir_types.specs.judged.Plain.{inner_view, member_view};
 ghost use Rattle.module_handles.specs.Found.{pending_missing, built_forward, named_forward, looked_through};
 ghost use Rattle.module_handles.specs.LookupFound.{counted_forward};
 ghost use Rattle.module_handles.specs.InOrder.{IsFaultIn, NamesBefore, NamesForward, TypesOK};
-ghost use Rattle.typing_forms.specs.Order.{named_types};
-ghost use Rattle.typing_forms.specs.Resolutions.{inner_at};
+ghost use Rattle.typing_forms.specs.judged.Order.{named_types};
+ghost use Rattle.typing_forms.specs.judged.Resolutions.{inner_at};
 
 use crate::{counted_by, counted_forward, forward, init_of, pending_of, type_named};
 use ir_arena::handle::Handle;

@@ -2,9 +2,9 @@
 
 ghost use Rattle.std.specs.Prelude.{◌≡◌, MatchResult};
 ghost use Rattle.std.specs.Option.{MatchOption};
-ghost use Rattle.ir_items.specs.View.{module_view};
-ghost use Rattle.ir_items.specs.Plain.{PlainModule};
-ghost use Rattle.ir_proc.specs.Filters.{ParentsPrecede};
+ghost use Rattle.ir_items.specs.found.View.{module_view};
+ghost use Rattle.ir_items.specs.judged.Plain.{PlainModule};
+ghost use Rattle.ir_proc.specs.found.Filters.{ParentsPrecede};
 ghost use Rattle.module_handles.specs.Errors.{word_of, IsHandleError};
 ghost use Rattle.module_handles.specs.InOrder.{IsFaultIn};
 ghost use Rattle.spec_handles.specs.Conditions.{OperandsPrecede};

@@ -1,19 +1,19 @@
 -- The answer for a type, from that for what it is made of.
 use Rattle.std.proofs.Common.{◌≡◌, ◌<◌, ◌≤◌, ℕ, zero, suc, List, [], ◌∷◌, Some, All, Result, Ok, Err, MatchResult, map, length, get_or, sym, subst, arith}
-use Rattle.ir_types.specs.Plain.{PlainInner, inner_view, member_view}
+use Rattle.ir_types.specs.judged.Plain.{PlainInner, inner_view, member_view}
 use Rattle.ir_types.specs.declared.types.StructMember.{StructMember}
 use Rattle.ir_types.specs.declared.types.TypeInner.{TypeInner}
 use Rattle.ir_types.specs.declared.types.TypeInner.TheVariants as inner
-use Rattle.typing_layout.specs.Blends.{BlendsOK}
-use Rattle.typing_layout.specs.Rules.{ShapeOK, TypeOK}
+use Rattle.typing_layout.specs.judged.Blends.{BlendsOK}
+use Rattle.typing_layout.specs.judged.Rules.{ShapeOK, TypeOK}
 use Rattle.module_type_checks.proofs.Known.{tree_of}
 use Rattle.module_type_checks.specs.Checked.{IsInnerOK, AreMembersOK, AreMembersRefused, IsTypeFault}
 use Rattle.module_type_checks.specs.Known.{types_in, IsKnown}
 use Rattle.module_type_checks.specs.declared.context.TypeContext.{TypeContext}
 use Rattle.module_type_infos.specs.Faults.{IsInnerFault}
 use Rattle.module_type_infos.specs.declared.error.TypeError.{TypeError}
-use Rattle.typing_forms.specs.Order.{named_types}
-use Rattle.typing_forms.specs.Resolutions.{inner_at}
+use Rattle.typing_forms.specs.judged.Order.{named_types}
+use Rattle.typing_forms.specs.judged.Resolutions.{inner_at}
 
 all_members : (b : ℕ) (ms : List StructMember) → All (λ named. named < b) (map (λ m. m.ty) (map member_view ms)) → All (λ m. m.ty < b) ms
 all_members b [] h k d lt = absurd (omega arith)

@@ -2,16 +2,16 @@
 use Rattle.std.proofs.Common.{◌≡◌, ◌↔◌, ◌≤◌, ◌+◌, ℕ, zero, suc, List, [], ◌∷◌, Option, Some, None, Bool, IsTrue, IsSome, IfSome, map, length, slice_get, refl, sym, subst, ◌∙◌, arith, bit_and, true≢false, inl, inr, nat_le}
 use Rattle.std.proofs.lemmas.Bool.Decides.{leb_tells}
 use Rattle.ir_flags.specs.Sets.{Has}
-use Rattle.ir_types.specs.Plain.{PlainMember, member_view}
+use Rattle.ir_types.specs.judged.Plain.{PlainMember, member_view}
 use Rattle.ir_types.specs.declared.types.ArraySize.{ArraySize}
 use Rattle.ir_types.specs.declared.types.StructMember.{StructMember}
 use Rattle.module_type_checks.proofs.Sets.{by_flags, both_have}
 use Rattle.module_type_checks.specs.Sets.{AreOf, HostIf, AreKept, IoIs, AreShared, AreCommon, CommonBelow, Follows}
-use Rattle.typing_layout.specs.Blends.{HasSource, source_at}
-use Rattle.typing_layout.specs.Flags.{TypeFlag, bit, array_flags, HasFlag, AllHave, StructHas, HasBlendSource, IsInOrder, blend_source, Data, Sized, Copy, IoShareable, HostShareable, CreationResolved, Argument, Constructible}
-use Rattle.typing_layout.specs.Parts.{Part, listed, before, end_of}
-use Rattle.typing_layout.specs.Tree.{Tree, Members, no_members, member, array, struct}
-use Rattle.typing_layout.specs.View.{members_by}
+use Rattle.typing_layout.specs.judged.Blends.{HasSource, source_at}
+use Rattle.typing_layout.specs.judged.Flags.{TypeFlag, bit, array_flags, HasFlag, AllHave, StructHas, HasBlendSource, IsInOrder, blend_source, Data, Sized, Copy, IoShareable, HostShareable, CreationResolved, Argument, Constructible}
+use Rattle.typing_layout.specs.judged.Parts.{Part, listed, before, end_of}
+use Rattle.typing_layout.specs.judged.Tree.{Tree, Members, no_members, member, array, struct}
+use Rattle.typing_layout.specs.judged.View.{members_by}
 use Rattle.module_type_checks.proofs.Places.{part_at, below_none, below_more, below_all}
 use Rattle.module_type_checks.specs.Known.{tree_in}
 use Rattle.module_type_checks.specs.Placed.{parts_in, part_of, IsPlaced, IsBefore, AtPlace, Below}

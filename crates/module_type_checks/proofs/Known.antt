@@ -1,22 +1,22 @@
 -- What is known of an earlier type, from what it is made of.
 use Rattle.std.proofs.Common.{◌≡◌, ◌<◌, ◌↔◌, ℕ, Some, Bool, IsTrue, length, slice_get, get_or, sym, ap, subst, ◌∙◌, if◌then◌else◌}
 use Rattle.std.proofs.lemmas.Option.{slice_get-get_or}
-use Rattle.ir_types.specs.Plain.{PlainInner}
-use Rattle.typing_layout.specs.Buffers.{uniform_alignment, free_after}
-use Rattle.typing_layout.specs.Parts.{Part, end_of}
-use Rattle.typing_layout.specs.Rules.{IsBound}
+use Rattle.ir_types.specs.judged.Plain.{PlainInner}
+use Rattle.typing_layout.specs.judged.Buffers.{uniform_alignment, free_after}
+use Rattle.typing_layout.specs.judged.Parts.{Part, end_of}
+use Rattle.typing_layout.specs.judged.Rules.{IsBound}
 use Rattle.typing_layout.proofs.Trees.{tree_by_trees}
-use Rattle.typing_layout.specs.Layout.{alignment}
-use Rattle.typing_layout.specs.Tree.{Tree}
-use Rattle.typing_layout.specs.View.{tree_by}
+use Rattle.typing_layout.specs.judged.Layout.{alignment}
+use Rattle.typing_layout.specs.judged.Tree.{Tree}
+use Rattle.typing_layout.specs.judged.View.{tree_by}
 use Rattle.module_type_checks.specs.Known.{types_in, tree_in, IsKnown, AreFacts}
 use Rattle.module_type_checks.specs.declared.context.TypeContext.{TypeContext}
 use Rattle.module_type_checks.specs.declared.facts.Facts.{Facts}
 use Rattle.module_type_infos.specs.declared.info.TypeInfo.{TypeInfo}
-use Rattle.typing_forms.specs.Resolutions.{inner_at}
-use Rattle.typing_layout.specs.Held.{IsLayoutOf}
+use Rattle.typing_forms.specs.judged.Resolutions.{inner_at}
+use Rattle.typing_layout.specs.found.Held.{IsLayoutOf}
 use Rattle.typing_layout.specs.declared.layout.TypeLayout.{TypeLayout}
-use Rattle.typing_forms.specs.Sizes.{rounded_up}
+use Rattle.typing_forms.specs.judged.Sizes.{rounded_up}
 
 pub tree_of : (c : TypeContext) (handle : ℕ) (i : PlainInner) → IsKnown c → Some i ≡ inner_at (types_in c) handle → tree_in c handle ≡ tree_by (tree_in c) i
 tree_of c handle i known at = tree_by_trees (types_in c) known.back handle i (sym at)

@@ -1,11 +1,11 @@
 -- What is found of a member at its place.
 use Rattle.std.proofs.Common.{◌≡◌, ◌≢◌, ◌<◌, ◌≤◌, ◌+◌, ◌-◌, ◌⊎◌, inl, inr, ℕ, suc, List, [], ◌∷◌, Option, Some, None, IfSome, map, length, slice_get, get_or, refl, sym, ap, subst, ◌∙◌, arith}
-use Rattle.ir_types.specs.Plain.{PlainMember, member_view}
+use Rattle.ir_types.specs.judged.Plain.{PlainMember, member_view}
 use Rattle.ir_types.specs.declared.types.StructMember.{StructMember}
-use Rattle.typing_layout.specs.Flags.{HasFlag, Data, Sized}
-use Rattle.typing_layout.specs.Parts.{Part, before, end_of}
-use Rattle.typing_layout.specs.Structs.{MemberOK}
-use Rattle.typing_layout.specs.Layout.{size}
+use Rattle.typing_layout.specs.judged.Flags.{HasFlag, Data, Sized}
+use Rattle.typing_layout.specs.judged.Parts.{Part, before, end_of}
+use Rattle.typing_layout.specs.judged.Structs.{MemberOK}
+use Rattle.typing_layout.specs.judged.Layout.{size}
 use Rattle.module_type_checks.specs.Known.{tree_in, types_in, AreFacts}
 use Rattle.module_type_checks.specs.Placed.{parts_in, part_of, IsPlaced, IsBefore, end_after, PlacedOK}
 use Rattle.module_type_checks.specs.declared.context.TypeContext.{TypeContext}

@@ -1,10 +1,10 @@
 -- Lists of members by their places.
 use Rattle.std.proofs.Common.{◌≡◌, ◌≢◌, ◌<◌, ◌≤◌, ◌+◌, ◌-◌, ◌⊎◌, inl, inr, ℕ, zero, suc, List, [], ◌∷◌, Some, map, length, slice_get, get_or, refl, sym, ap, subst, arith, rules}
-use Rattle.ir_types.specs.Plain.{PlainMember, member_view}
+use Rattle.ir_types.specs.judged.Plain.{PlainMember, member_view}
 use Rattle.ir_types.specs.declared.types.StructMember.{StructMember}
-use Rattle.typing_layout.specs.Parts.{Part, listed, before}
-use Rattle.typing_layout.specs.Tree.{Tree}
-use Rattle.typing_layout.specs.View.{members_by}
+use Rattle.typing_layout.specs.judged.Parts.{Part, listed, before}
+use Rattle.typing_layout.specs.judged.Tree.{Tree}
+use Rattle.typing_layout.specs.judged.View.{members_by}
 use Rattle.module_type_checks.specs.Placed.{part_of, AtPlace, Below}
 
 -- the member at a place, as plain data and as a part

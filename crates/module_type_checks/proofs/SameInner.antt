@@ -1,7 +1,7 @@
 -- Two types are made of the same exactly where they compare equal.
 use Rattle.std.proofs.Common.{◌≡◌, ◌↔◌, IsTrue, None, ap}
 use Rattle.ir_types.proofs.TypeEquality.{type_eq}
-use Rattle.ir_types.specs.Plain.{PlainType, inner_view}
+use Rattle.ir_types.specs.judged.Plain.{PlainType, inner_view}
 use Rattle.ir_types.specs.contracts.types.TypeInnerPartialEq.TheImpl as of_inner
 use Rattle.ir_types.specs.declared.types.IrType.{IrType}
 use Rattle.ir_types.specs.declared.types.TypeInner.{TypeInner}

@@ -6,7 +6,7 @@ use Rattle.ir_kinds.specs.declared.scalars.Scalar.{Scalar}
 use Rattle.ir_kinds.specs.declared.scalars.ScalarKind.{ScalarKind}
 use Rattle.ir_kinds.specs.declared.scalars.ScalarKind.TheVariants.{Sint, Uint, Float, AbstractInt, AbstractFloat}
 use Rattle.ir_kinds.specs.declared.scalars.ScalarKind.TheVariants as kind
-use Rattle.typing_layout.specs.Widths.{IsWidthAllowed, IsKindAllowed, IsAtomicInteger, IsAtomicKind}
+use Rattle.typing_layout.specs.judged.Widths.{IsWidthAllowed, IsKindAllowed, IsAtomicInteger, IsAtomicKind}
 use Rattle.module_type_infos.specs.Faults.{IsNoWidth, IsNoScalar, RequiresFor, KindRequires, Lacks, IsWidthFault, IsNoAtomic, LacksAtomic, LacksWideAtomics, IsAtomicFault}
 use Rattle.module_type_infos.specs.declared.error.TypeError.{TypeError}
 use Rattle.module_type_infos.specs.declared.error.TypeError.TheVariants as error

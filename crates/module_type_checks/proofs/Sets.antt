@@ -6,7 +6,7 @@ use Rattle.ir_flags.proofs.SetLaws.{within-union_right, within-intersection, wit
 use Rattle.ir_flags.specs.Sets.{Has}
 use Rattle.ir_types.specs.declared.types.ArraySize.TheVariants as count
 use Rattle.module_type_checks.specs.Sets.{AreOf, HostIf, AreKept, IoIs, AreShared}
-use Rattle.typing_layout.specs.Flags.{TypeFlag, bit, among, Data, Sized, Copy, IoShareable, HostShareable, CreationResolved, Argument, Constructible, value_flags, shareable_flags, number_flags, atomic_flags, far_pointer_flags, own_pointer_flags, resource_flags, query_flags, binding_array_flags, array_flags}
+use Rattle.typing_layout.specs.judged.Flags.{TypeFlag, bit, among, Data, Sized, Copy, IoShareable, HostShareable, CreationResolved, Argument, Constructible, value_flags, shareable_flags, number_flags, atomic_flags, far_pointer_flags, own_pointer_flags, resource_flags, query_flags, binding_array_flags, array_flags}
 
 pub by_flags : (P : TypeFlag → Type 0) → P Data → P Sized → P Copy → P IoShareable → P HostShareable → P CreationResolved → P Argument → P Constructible → (f : TypeFlag) → P f
 by_flags P a b c d e g h i Data = a

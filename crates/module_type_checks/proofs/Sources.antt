@@ -1,22 +1,22 @@
 -- Sources of a blend, place by place.
 use Rattle.std.proofs.Common.{◌≡◌, ◌≢◌, ◌<◌, ◌≤◌, ◌+◌, ◌⊎◌, inl, inr, ℕ, zero, suc, List, [], ◌∷◌, Option, Some, None, All, Result, Ok, Err, MatchOption, MatchResult, map, length, slice_get, get_or, option_and_then, refl, sym, ap, subst, ◌∙◌, arith, rules}
-use Rattle.ir_types.specs.Plain.{PlainMember, member_view}
+use Rattle.ir_types.specs.judged.Plain.{PlainMember, member_view}
 use Rattle.ir_types.specs.declared.types.StructMember.{StructMember}
-use Rattle.typing_layout.specs.Blends.{source_at, HasSource, LocationOK, BlendOK}
-use Rattle.typing_layout.specs.Flags.{blend_source}
+use Rattle.typing_layout.specs.judged.Blends.{source_at, HasSource, LocationOK, BlendOK}
+use Rattle.typing_layout.specs.judged.Flags.{blend_source}
 use Rattle.module_type_checks.specs.Blends.{AreLocated, IsLocationFaultIn, IsSoleBelow, IsSole, IsOnlyType, IsCollision, PairOK, IsPairFault, SourcesOK}
 use Rattle.module_type_infos.specs.BlendFaults.{IsTwice, IsAbsent, IsAlone, IsSource, IsVaryingFault}
 use Rattle.ir_flags.specs.Sets.{Has}
 use Rattle.ir_flags.specs.declared.settings.TheConstants.Capabilities.{DUAL_SOURCE_BLENDING}
-use Rattle.typing_layout.specs.Blends.{location_of}
+use Rattle.typing_layout.specs.judged.Blends.{location_of}
 use Rattle.ir_kinds.specs.declared.bindings.Binding.{Binding}
 use Rattle.ir_kinds.specs.declared.bindings.Binding.TheVariants as bound
 use Rattle.module_type_checks.specs.Known.{types_in}
 use Rattle.module_type_checks.specs.declared.context.TypeContext.{TypeContext}
 use Rattle.module_type_infos.specs.declared.error.VaryingError.{VaryingError}
 use Rattle.module_type_infos.specs.declared.error.VaryingError.TheVariants as varying
-use Rattle.ir_types.specs.Plain.{PlainType}
-use Rattle.typing_forms.specs.Resolutions.{inner_at}
+use Rattle.ir_types.specs.judged.Plain.{PlainType}
+use Rattle.typing_forms.specs.judged.Resolutions.{inner_at}
 use Rattle.module_type_checks.proofs.Places.{plain_at, many_plain}
 
 -- the source at a place

@@ -1,14 +1,14 @@
 -- Sources of a blend, step by step.
 use Rattle.std.specs.Prelude.{◌≡◌, ◌≢◌, ◌⊎◌, ◌<◌, ℕ, List, Option, Some, None, length, slice_get}
-use Rattle.ir_types.specs.Plain.{PlainMember}
-use Rattle.typing_layout.specs.Blends.{location_of, source_at, LocationOK, IsOnlySource}
-use Rattle.typing_layout.specs.Flags.{HasFlag, IoShareable, blend_source}
+use Rattle.ir_types.specs.judged.Plain.{PlainMember}
+use Rattle.typing_layout.specs.judged.Blends.{location_of, source_at, LocationOK, IsOnlySource}
+use Rattle.typing_layout.specs.judged.Flags.{HasFlag, IoShareable, blend_source}
 use Rattle.module_type_checks.specs.Known.{types_in, tree_in}
 use Rattle.module_type_checks.specs.declared.context.TypeContext.{TypeContext}
 use Rattle.module_type_infos.specs.BlendFaults.{IsTwice, IsAbsent}
 use Rattle.module_type_infos.specs.declared.error.VaryingError.{VaryingError}
 use Rattle.module_type_infos.specs.declared.error.VaryingError.TheVariants as varying
-use Rattle.typing_forms.specs.Resolutions.{inner_at}
+use Rattle.typing_forms.specs.judged.Resolutions.{inner_at}
 
 abbrev pub IsLocationFault : PlainMember → VaryingError → Type 0
 IsLocationFault m (varying.InvalidBlendSrcIndex location source) =

@@ -1,10 +1,10 @@
 -- What is required of a type, from what it is made of.
 use Rattle.std.specs.Prelude.{◌≡◌, ◌⊎◌, ℕ, List, Some}
-use Rattle.ir_types.specs.Plain.{PlainInner, PlainMember}
-use Rattle.typing_layout.specs.Blends.{HasSource, BlendOK, BlendsOK}
-use Rattle.typing_layout.specs.Rules.{ShapeOK}
-use Rattle.typing_layout.specs.Structs.{StructOK}
-use Rattle.typing_layout.specs.View.{tree_by}
+use Rattle.ir_types.specs.judged.Plain.{PlainInner, PlainMember}
+use Rattle.typing_layout.specs.judged.Blends.{HasSource, BlendOK, BlendsOK}
+use Rattle.typing_layout.specs.judged.Rules.{ShapeOK}
+use Rattle.typing_layout.specs.judged.Structs.{StructOK}
+use Rattle.typing_layout.specs.judged.View.{tree_by}
 use Rattle.module_type_checks.specs.Known.{types_in, tree_in}
 use Rattle.module_type_checks.specs.Placed.{parts_in}
 use Rattle.module_type_checks.specs.declared.context.TypeContext.{TypeContext}
@@ -12,7 +12,7 @@ use Rattle.module_type_infos.specs.BlendFaults.{IsBlendFault}
 use Rattle.module_type_infos.specs.Faults.{IsInnerFault}
 use Rattle.module_type_infos.specs.MemberFaults.{IsStructFault}
 use Rattle.module_type_infos.specs.declared.error.TypeError.{TypeError}
-use Rattle.typing_forms.specs.Resolutions.{inner_at}
+use Rattle.typing_forms.specs.judged.Resolutions.{inner_at}
 
 abbrev pub IsInnerOK : TypeContext → PlainInner → Type 0
 IsInnerOK c i = ShapeOK c.capabilities c.overrides_resolved (tree_by (tree_in c) i) × BlendsOK c.capabilities (types_in c) (Some i)

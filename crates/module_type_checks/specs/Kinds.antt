@@ -1,8 +1,8 @@
 -- Kinds of types that hold no other.
 use Rattle.std.specs.Prelude.{List, []}
-use Rattle.ir_types.specs.Plain.{PlainInner, struct, plain}
+use Rattle.ir_types.specs.judged.Plain.{PlainInner, struct, plain}
 use Rattle.ir_types.specs.declared.types.TypeInner.TheVariants as inner
-use Rattle.typing_layout.specs.Flags.{TypeFlag, scalar_flags, shareable_flags, atomic_flags, pointer_flags, array_flags, resource_flags, query_flags, binding_array_flags}
+use Rattle.typing_layout.specs.judged.Flags.{TypeFlag, scalar_flags, shareable_flags, atomic_flags, pointer_flags, array_flags, resource_flags, query_flags, binding_array_flags}
 
 -- the flags of a type that has them from nothing else, and those that an array may have from its elements; a struct is never
 -- `plain`

@@ -1,19 +1,19 @@
 -- What is known of the types before one.
 use Rattle.std.specs.Prelude.{◌≡◌, ◌≤◌, ℕ, List, Some, length, slice_get, if◌then◌else◌}
-use Rattle.ir_types.specs.Plain.{PlainType}
-use Rattle.typing_layout.specs.Buffers.{uniform_alignment, free_after}
-use Rattle.typing_layout.specs.Parts.{Part, end_of}
-use Rattle.typing_layout.specs.Layout.{size, alignment}
-use Rattle.typing_layout.specs.Tree.{Tree}
-use Rattle.typing_layout.specs.View.{type_tree}
+use Rattle.ir_types.specs.judged.Plain.{PlainType}
+use Rattle.typing_layout.specs.judged.Buffers.{uniform_alignment, free_after}
+use Rattle.typing_layout.specs.judged.Parts.{Part, end_of}
+use Rattle.typing_layout.specs.judged.Layout.{size, alignment}
+use Rattle.typing_layout.specs.judged.Tree.{Tree}
+use Rattle.typing_layout.specs.judged.View.{type_tree}
 use Rattle.module_type_checks.specs.declared.context.TypeContext.{TypeContext}
 use Rattle.module_type_checks.specs.declared.facts.Facts.{Facts}
 use Rattle.module_type_infos.specs.Infos.{HasInfo}
 use Rattle.module_type_infos.specs.declared.info.TypeInfo.{TypeInfo}
-use Rattle.typing_forms.specs.Order.{TypesGoBack}
-use Rattle.typing_forms.specs.Resolutions.{types_view}
-use Rattle.typing_layout.specs.Held.{AreLayouts}
-use Rattle.typing_forms.specs.Sizes.{rounded_up}
+use Rattle.typing_forms.specs.judged.Order.{TypesGoBack}
+use Rattle.typing_forms.specs.judged.Resolutions.{types_view}
+use Rattle.typing_layout.specs.found.Held.{AreLayouts}
+use Rattle.typing_forms.specs.judged.Sizes.{rounded_up}
 
 abbrev pub types_in : TypeContext → List PlainType
 types_in c = types_view c.types.now

@@ -1,10 +1,10 @@
 -- Members at their places.
 use Rattle.std.specs.Prelude.{◌≡◌, ◌<◌, ℕ, List, Option, Some, None, slice_get}
-use Rattle.ir_types.specs.Plain.{PlainMember}
-use Rattle.typing_layout.specs.Parts.{Part, listed, before, end_of}
-use Rattle.typing_layout.specs.Structs.{MemberOK}
-use Rattle.typing_layout.specs.Tree.{Tree}
-use Rattle.typing_layout.specs.View.{members_by}
+use Rattle.ir_types.specs.judged.Plain.{PlainMember}
+use Rattle.typing_layout.specs.judged.Parts.{Part, listed, before, end_of}
+use Rattle.typing_layout.specs.judged.Structs.{MemberOK}
+use Rattle.typing_layout.specs.judged.Tree.{Tree}
+use Rattle.typing_layout.specs.judged.View.{members_by}
 use Rattle.module_type_checks.specs.Known.{tree_in, AreFacts}
 use Rattle.module_type_checks.specs.declared.context.TypeContext.{TypeContext}
 use Rattle.module_type_checks.specs.declared.members.Placed.{Placed}

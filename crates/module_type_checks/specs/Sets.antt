@@ -1,10 +1,10 @@
 -- Sets of flags as numbers, and what all members have.
 use Rattle.std.specs.Prelude.{◌↔◌, ◌≤◌, ℕ, List, Bool, IsTrue, IfSome}
 use Rattle.ir_flags.specs.Sets.{Has}
-use Rattle.ir_types.specs.Plain.{PlainMember}
-use Rattle.typing_layout.specs.Flags.{TypeFlag, bit, among, HasFlag, AllHave, Data, Sized, Copy, IoShareable, HostShareable, CreationResolved, Argument, Constructible}
-use Rattle.typing_layout.specs.Parts.{Part, before, end_of}
-use Rattle.typing_layout.specs.View.{members_by}
+use Rattle.ir_types.specs.judged.Plain.{PlainMember}
+use Rattle.typing_layout.specs.judged.Flags.{TypeFlag, bit, among, HasFlag, AllHave, Data, Sized, Copy, IoShareable, HostShareable, CreationResolved, Argument, Constructible}
+use Rattle.typing_layout.specs.judged.Parts.{Part, before, end_of}
+use Rattle.typing_layout.specs.judged.View.{members_by}
 use Rattle.module_type_checks.specs.Known.{tree_in}
 use Rattle.module_type_checks.specs.Placed.{parts_in, Below}
 use Rattle.module_type_checks.specs.declared.context.TypeContext.{TypeContext}

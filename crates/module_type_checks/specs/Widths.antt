@@ -1,7 +1,7 @@
 -- Parts of the rules of scalars.
 use Rattle.std.specs.Prelude.{◌≡◌, ◌≢◌}
 use Rattle.ir_flags.specs.declared.settings.Capabilities.{Capabilities}
-use Rattle.ir_kinds.specs.Values.{literal_scalar}
+use Rattle.ir_kinds.specs.judged.Values.{literal_scalar}
 use Rattle.ir_kinds.specs.declared.scalars.Scalar.{Scalar}
 use Rattle.ir_kinds.specs.declared.values.Literal.{Literal}
 use Rattle.module_type_infos.specs.Faults.{IsNoWidth, RequiresFor, Lacks, IsWidthFault, LacksWideAtomics}

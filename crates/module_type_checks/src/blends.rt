@@ -1,9 +1,9 @@
 //! Structs whose members are sources of a blend.
 
 ghost use Rattle.std.specs.Prelude.{◌≡◌, ◌<◌, ◌+◌, ◌↔◌, Some, None, IsTrue, All, length, map, MatchOption, MatchResult};
-ghost use Rattle.ir_types.specs.Plain.{inner_view, member_view};
-ghost use Rattle.typing_layout.specs.Blends.{HasSource, LocationOK, BlendOK, location_of};
-ghost use Rattle.typing_layout.specs.Flags.{HasFlag, IoShareable, blend_source};
+ghost use Rattle.ir_types.specs.judged.Plain.{inner_view, member_view};
+ghost use Rattle.typing_layout.specs.judged.Blends.{HasSource, LocationOK, BlendOK, location_of};
+ghost use Rattle.typing_layout.specs.judged.Flags.{HasFlag, IoShareable, blend_source};
 ghost use Rattle.module_type_checks.specs.Blends.{AreLocated, IsLocationFault, IsLocationFaultIn, IsSole, IsSoleBelow, IsCollision, IsOnlyType, PairOK, IsPairFault, SourcesOK};
 ghost use Rattle.module_type_checks.specs.Known.{IsKnown, types_in, tree_in};
 ghost use Rattle.module_type_infos.specs.BlendFaults.{IsAbsent, IsVaryingFault, IsBlendFault};

@@ -1,12 +1,12 @@
 //! The rules of a type of any kind.
 
 ghost use Rattle.std.specs.Prelude.{◌<◌, ◌≤◌, All, length, map, MatchResult};
-ghost use Rattle.ir_types.specs.Plain.{inner_view, member_view};
-ghost use Rattle.typing_layout.specs.Rules.{TypeOK};
+ghost use Rattle.ir_types.specs.judged.Plain.{inner_view, member_view};
+ghost use Rattle.typing_layout.specs.judged.Rules.{TypeOK};
 ghost use Rattle.module_type_checks.specs.Checked.{IsInnerOK, AreMembersOK, AreMembersRefused, IsTypeFault};
 ghost use Rattle.module_type_checks.specs.Known.{IsKnown, types_in};
 ghost use Rattle.module_type_infos.specs.Faults.{IsInnerFault};
-ghost use Rattle.typing_forms.specs.Order.{named_types};
+ghost use Rattle.typing_forms.specs.judged.Order.{named_types};
 
 use crate::blends::check_blend;
 use crate::images::{check_image, check_query, check_structure};

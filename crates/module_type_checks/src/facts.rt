@@ -1,15 +1,15 @@
 //! What is known of a type that another one names.
 
 ghost use Rattle.std.specs.Prelude.{◌≡◌, ◌<◌, ℕ, Some, length, max, if◌then◌else◌};
-ghost use Rattle.ir_types.specs.Plain.{inner_view};
-ghost use Rattle.typing_layout.specs.Buffers.{uniform_alignment, free_after};
-ghost use Rattle.typing_layout.specs.Parts.{Part, end_of};
-ghost use Rattle.typing_layout.specs.Layout.{alignment};
-ghost use Rattle.typing_layout.specs.Tree.{Tree};
-ghost use Rattle.typing_layout.specs.View.{tree_by};
+ghost use Rattle.ir_types.specs.judged.Plain.{inner_view};
+ghost use Rattle.typing_layout.specs.judged.Buffers.{uniform_alignment, free_after};
+ghost use Rattle.typing_layout.specs.judged.Parts.{Part, end_of};
+ghost use Rattle.typing_layout.specs.judged.Layout.{alignment};
+ghost use Rattle.typing_layout.specs.judged.Tree.{Tree};
+ghost use Rattle.typing_layout.specs.judged.View.{tree_by};
 ghost use Rattle.module_type_checks.specs.Known.{AreFacts, IsKnown, tree_in};
-ghost use Rattle.typing_forms.specs.Resolutions.{types_view, inner_at};
-ghost use Rattle.typing_forms.specs.Sizes.{rounded_up};
+ghost use Rattle.typing_forms.specs.judged.Resolutions.{types_view, inner_at};
+ghost use Rattle.typing_forms.specs.judged.Sizes.{rounded_up};
 
 use crate::context::TypeContext;
 use ir_arena::handle::Handle;

@@ -1,12 +1,12 @@
 //! What types may be used for.
 
 ghost use Rattle.std.specs.Prelude.{◌<◌, ◌≤◌, ◌↔◌, ℕ, IsTrue, All, length, map};
-ghost use Rattle.ir_types.specs.Plain.{inner_view, member_view};
+ghost use Rattle.ir_types.specs.judged.Plain.{inner_view, member_view};
 ghost use Rattle.module_type_checks.specs.Kinds.{whole_flags};
 ghost use Rattle.module_type_checks.specs.Sets.{AreOf, AreKept, AreShared, AreCommon, Follows};
-ghost use Rattle.typing_layout.specs.Flags.{scalar_flags, pointer_flags, array_flags, IsInOrder};
-ghost use Rattle.typing_layout.specs.Tree.{Tree, array, struct};
-ghost use Rattle.typing_layout.specs.View.{members_by};
+ghost use Rattle.typing_layout.specs.judged.Flags.{scalar_flags, pointer_flags, array_flags, IsInOrder};
+ghost use Rattle.typing_layout.specs.judged.Tree.{Tree, array, struct};
+ghost use Rattle.typing_layout.specs.judged.View.{members_by};
 ghost use Rattle.module_type_checks.specs.Known.{IsKnown, tree_in};
 ghost use Rattle.module_type_checks.specs.Placed.{parts_in, AtPlace};
 ghost use Rattle.module_type_infos.specs.Infos.{AreFlags};

@@ -1,7 +1,7 @@
 //! Which images, and what traces rays, there are.
 
 ghost use Rattle.std.specs.Prelude.{MatchResult};
-ghost use Rattle.typing_layout.specs.Images.{ImageOK, VerticesOK, StructureOK, QueryOK};
+ghost use Rattle.typing_layout.specs.judged.Images.{ImageOK, VerticesOK, StructureOK, QueryOK};
 ghost use Rattle.module_type_checks.specs.Images.{IsVerticesFault};
 ghost use Rattle.module_type_infos.specs.Faults.{IsImageFault, IsStructureFault, IsQueryFault};
 

@@ -1,10 +1,10 @@
 //! Members of a struct at their places.
 
 ghost use Rattle.std.specs.Prelude.{◌≡◌, ◌<◌, ◌≤◌, ◌+◌, ◌⊎◌, ℕ, suc, All, length, map, MatchOption, MatchResult};
-ghost use Rattle.typing_layout.specs.Flags.{HasFlag, Sized};
-ghost use Rattle.ir_types.specs.Plain.{member_view};
-ghost use Rattle.typing_layout.specs.Parts.{before};
-ghost use Rattle.typing_layout.specs.Structs.{StructOK};
+ghost use Rattle.typing_layout.specs.judged.Flags.{HasFlag, Sized};
+ghost use Rattle.ir_types.specs.judged.Plain.{member_view};
+ghost use Rattle.typing_layout.specs.judged.Parts.{before};
+ghost use Rattle.typing_layout.specs.judged.Structs.{StructOK};
 ghost use Rattle.module_type_checks.specs.Known.{IsKnown, types_in, tree_in};
 ghost use Rattle.module_type_checks.specs.Placed.{parts_in, IsPlaced, IsBefore, end_after, PlacedOK};
 ghost use Rattle.module_type_infos.specs.MemberFaults.{IsStructFault};

@@ -2,11 +2,11 @@
 
 ghost use Rattle.std.specs.Prelude.{◌≡◌, ◌<◌, ◌↔◌, ℕ, IsTrue, length, MatchResult};
 ghost use Rattle.ir_flags.specs.Sets.{Has};
-ghost use Rattle.ir_types.specs.Plain.{inner_view};
-ghost use Rattle.typing_layout.specs.Flags.{HasFlag, Data, Sized};
-ghost use Rattle.typing_layout.specs.Rules.{IsStorageSpace, PointerOK, ArrayOK, BindingArrayOK, IsKnownCount, IsBound};
-ghost use Rattle.typing_layout.specs.Tree.{Tree};
-ghost use Rattle.typing_layout.specs.View.{tree_by};
+ghost use Rattle.ir_types.specs.judged.Plain.{inner_view};
+ghost use Rattle.typing_layout.specs.judged.Flags.{HasFlag, Data, Sized};
+ghost use Rattle.typing_layout.specs.judged.Rules.{IsStorageSpace, PointerOK, ArrayOK, BindingArrayOK, IsKnownCount, IsBound};
+ghost use Rattle.typing_layout.specs.judged.Tree.{Tree};
+ghost use Rattle.typing_layout.specs.judged.View.{tree_by};
 ghost use Rattle.module_type_checks.specs.Known.{IsKnown, tree_in, types_in};
 ghost use Rattle.module_type_infos.specs.Faults.{IsPointerFault, IsArrayFault, IsBindingArrayFault};
 

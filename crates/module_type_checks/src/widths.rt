@@ -2,9 +2,9 @@
 
 ghost use Rattle.std.specs.Prelude.{◌≡◌, IsOk, MatchResult};
 ghost use Rattle.ir_flags.specs.Sets.{Has};
-ghost use Rattle.ir_kinds.specs.Values.{literal_scalar};
-ghost use Rattle.typing_layout.specs.Rules.{CooperativeOK};
-ghost use Rattle.typing_layout.specs.Widths.{ScalarOK, AtomicOK, IsWidthAllowed, IsAtomicInteger};
+ghost use Rattle.ir_kinds.specs.judged.Values.{literal_scalar};
+ghost use Rattle.typing_layout.specs.judged.Rules.{CooperativeOK};
+ghost use Rattle.typing_layout.specs.judged.Widths.{ScalarOK, AtomicOK, IsWidthAllowed, IsAtomicInteger};
 ghost use Rattle.module_type_checks.specs.Widths.{IsWideFault, IsLiteralFault, IsAtomicIntegerFault};
 ghost use Rattle.module_type_infos.specs.Faults.{IsWidthFault, IsScalarFault, IsMatrixFault, IsCooperativeFault, IsAtomicFault};
 

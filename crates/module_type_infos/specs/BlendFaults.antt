@@ -3,11 +3,11 @@ use Rattle.std.specs.Prelude.{◌≡◌, ◌≢◌, ◌⊎◌, ℕ, List, Some, 
 use Rattle.ir_flags.specs.Sets.{Has}
 use Rattle.ir_flags.specs.declared.settings.Capabilities.{Capabilities}
 use Rattle.ir_flags.specs.declared.settings.TheConstants.Capabilities.{DUAL_SOURCE_BLENDING}
-use Rattle.ir_types.specs.Plain.{PlainMember, PlainType}
-use Rattle.typing_layout.specs.Blends.{location_of, source_at, HasSource}
-use Rattle.typing_layout.specs.Flags.{HasFlag, IoShareable, blend_source}
-use Rattle.typing_layout.specs.View.{type_tree}
-use Rattle.typing_forms.specs.Resolutions.{inner_at}
+use Rattle.ir_types.specs.judged.Plain.{PlainMember, PlainType}
+use Rattle.typing_layout.specs.judged.Blends.{location_of, source_at, HasSource}
+use Rattle.typing_layout.specs.judged.Flags.{HasFlag, IoShareable, blend_source}
+use Rattle.typing_layout.specs.judged.View.{type_tree}
+use Rattle.typing_forms.specs.judged.Resolutions.{inner_at}
 use Rattle.module_type_infos.specs.declared.error.TypeError.{TypeError}
 use Rattle.module_type_infos.specs.declared.error.TypeError.TheVariants as error
 use Rattle.module_type_infos.specs.declared.error.VaryingError.{VaryingError}

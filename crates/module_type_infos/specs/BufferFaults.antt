@@ -1,15 +1,15 @@
 -- What keeps a host from laying out a type.
 use Rattle.std.specs.Prelude.{◌≡◌, ◌<◌, ◌⊎◌, ℕ, List, Some, slice_get}
 use Rattle.std.specs.Int.{◌∣◌}
-use Rattle.ir_types.specs.Plain.{PlainType}
+use Rattle.ir_types.specs.judged.Plain.{PlainType}
 use Rattle.ir_types.specs.declared.types.ArraySize.{ArraySize}
-use Rattle.typing_layout.specs.Buffers.{uniform_alignment, free_after}
-use Rattle.typing_layout.specs.Flags.{HasFlag, HostShareable}
-use Rattle.typing_layout.specs.Immediates.{scalar_of}
-use Rattle.typing_layout.specs.Parts.{Part, listed, before, Somewhere}
-use Rattle.typing_layout.specs.Layout.{alignment}
-use Rattle.typing_layout.specs.Tree.{Tree, Members, array, struct}
-use Rattle.typing_layout.specs.View.{type_tree}
+use Rattle.typing_layout.specs.judged.Buffers.{uniform_alignment, free_after}
+use Rattle.typing_layout.specs.judged.Flags.{HasFlag, HostShareable}
+use Rattle.typing_layout.specs.judged.Immediates.{scalar_of}
+use Rattle.typing_layout.specs.judged.Parts.{Part, listed, before, Somewhere}
+use Rattle.typing_layout.specs.judged.Layout.{alignment}
+use Rattle.typing_layout.specs.judged.Tree.{Tree, Members, array, struct}
+use Rattle.typing_layout.specs.judged.View.{type_tree}
 use Rattle.module_type_infos.specs.declared.error.Disalignment.{Disalignment}
 use Rattle.module_type_infos.specs.declared.error.Disalignment.TheVariants as fault
 use Rattle.module_type_infos.specs.declared.error.ImmediateError.{ImmediateError}

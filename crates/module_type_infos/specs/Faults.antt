@@ -3,8 +3,8 @@ use Rattle.std.specs.Prelude.{◌≡◌, ◌≢◌, ◌⊎◌, ℕ, List, Bool, 
 use Rattle.ir_flags.specs.Sets.{Has}
 use Rattle.ir_flags.specs.declared.settings.Capabilities.{Capabilities}
 use Rattle.ir_flags.specs.declared.settings.TheConstants.Capabilities.{FLOAT64, SHADER_FLOAT16, SHADER_INT16, SHADER_INT64, SHADER_FLOAT32_ATOMIC, SHADER_INT64_ATOMIC_MIN_MAX, SHADER_INT64_ATOMIC_ALL_OPS, COOPERATIVE_MATRIX, CUBE_ARRAY_TEXTURES, TEXTURE_EXTERNAL, RAY_QUERY, RAY_TRACING_PIPELINE, RAY_HIT_VERTEX_POSITION}
-use Rattle.ir_kinds.specs.Images.{is_depth}
-use Rattle.ir_kinds.specs.Scalars.{floating}
+use Rattle.ir_kinds.specs.judged.Images.{is_depth}
+use Rattle.ir_kinds.specs.judged.Scalars.{floating}
 use Rattle.ir_kinds.specs.declared.images.ImageClass.{ImageClass}
 use Rattle.ir_kinds.specs.declared.images.ImageClass.TheVariants.{External}
 use Rattle.ir_kinds.specs.declared.images.ImageDimension.{ImageDimension}
@@ -14,13 +14,13 @@ use Rattle.ir_kinds.specs.declared.scalars.ScalarKind.{ScalarKind}
 use Rattle.ir_kinds.specs.declared.scalars.ScalarKind.TheVariants.{Sint, Uint, Float, AbstractInt, AbstractFloat}
 use Rattle.ir_kinds.specs.declared.scalars.ScalarKind.TheVariants as kind
 use Rattle.ir_kinds.specs.declared.spaces.AddressSpace.{AddressSpace}
-use Rattle.ir_types.specs.Plain.{PlainInner, struct, plain, PlainType}
+use Rattle.ir_types.specs.judged.Plain.{PlainInner, struct, plain, PlainType}
 use Rattle.ir_types.specs.declared.types.ArraySize.{ArraySize}
 use Rattle.ir_types.specs.declared.types.ArraySize.TheVariants as count
 use Rattle.ir_types.specs.declared.types.TypeInner.TheVariants as inner
-use Rattle.typing_layout.specs.Flags.{HasFlag, Data, Sized}
-use Rattle.typing_layout.specs.Rules.{IsStorageSpace, BindingArrayOK}
-use Rattle.typing_layout.specs.View.{type_tree}
+use Rattle.typing_layout.specs.judged.Flags.{HasFlag, Data, Sized}
+use Rattle.typing_layout.specs.judged.Rules.{IsStorageSpace, BindingArrayOK}
+use Rattle.typing_layout.specs.judged.View.{type_tree}
 use Rattle.module_type_infos.specs.BlendFaults.{IsBlendFault}
 use Rattle.module_type_infos.specs.MemberFaults.{IsStructFault}
 use Rattle.module_type_infos.specs.declared.error.TypeError.{TypeError}

@@ -1,12 +1,12 @@
 -- What the info of a type says.
 use Rattle.std.specs.Prelude.{◌≡◌, ◌↔◌, List, MatchResult}
 use Rattle.ir_flags.specs.Sets.{Has}
-use Rattle.ir_types.specs.Plain.{PlainType}
-use Rattle.typing_layout.specs.Buffers.{IsStorage, IsUniform, uniform_alignment}
-use Rattle.typing_layout.specs.Flags.{TypeFlag, bit, HasFlag}
-use Rattle.typing_layout.specs.Immediates.{FitsImmediates}
-use Rattle.typing_layout.specs.Layout.{alignment}
-use Rattle.typing_layout.specs.Tree.{Tree}
+use Rattle.ir_types.specs.judged.Plain.{PlainType}
+use Rattle.typing_layout.specs.judged.Buffers.{IsStorage, IsUniform, uniform_alignment}
+use Rattle.typing_layout.specs.judged.Flags.{TypeFlag, bit, HasFlag}
+use Rattle.typing_layout.specs.judged.Immediates.{FitsImmediates}
+use Rattle.typing_layout.specs.judged.Layout.{alignment}
+use Rattle.typing_layout.specs.judged.Tree.{Tree}
 use Rattle.module_type_infos.specs.BufferFaults.{BreaksStorage, BreaksUniform, IsBroken, IsUnfit}
 use Rattle.typing_layout.specs.declared.type_flags.TypeFlags.{TypeFlags}
 use Rattle.module_type_infos.specs.declared.info.TypeInfo.{TypeInfo}

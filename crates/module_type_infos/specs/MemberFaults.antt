@@ -1,10 +1,10 @@
 -- Why a member is refused at its place.
 use Rattle.std.specs.Prelude.{◌≡◌, ◌≢◌, ◌<◌, ◌+◌, ℕ, suc, List, [], Some, length, slice_get}
-use Rattle.ir_types.specs.Plain.{PlainMember, PlainType}
-use Rattle.typing_layout.specs.Flags.{HasFlag, Data, Sized}
-use Rattle.typing_layout.specs.Parts.{before}
-use Rattle.typing_layout.specs.Layout.{size}
-use Rattle.typing_layout.specs.View.{type_tree}
+use Rattle.ir_types.specs.judged.Plain.{PlainMember, PlainType}
+use Rattle.typing_layout.specs.judged.Flags.{HasFlag, Data, Sized}
+use Rattle.typing_layout.specs.judged.Parts.{before}
+use Rattle.typing_layout.specs.judged.Layout.{size}
+use Rattle.typing_layout.specs.judged.View.{type_tree}
 use Rattle.module_type_infos.specs.declared.error.TypeError.{TypeError}
 use Rattle.module_type_infos.specs.declared.error.TypeError.TheVariants as error
 

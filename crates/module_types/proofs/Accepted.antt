@@ -2,17 +2,17 @@
 use Rattle.std.proofs.Common.{◌≡◌, ◌<◌, ◌≤◌, ◌+◌, ◌++◌, inl, inr, ℕ, zero, suc, List, [], ◌∷◌, Some, Bool, length, slice_get, refl, sym, ap, subst, ◌∙◌, arith, length-append}
 use Rattle.ir_arena.specs.declared.span.Span.{Span}
 use Rattle.ir_flags.specs.declared.settings.Capabilities.{Capabilities}
-use Rattle.ir_types.specs.Plain.{PlainType}
+use Rattle.ir_types.specs.judged.Plain.{PlainType}
 use Rattle.ir_types.specs.declared.types.IrType.{IrType}
 use Rattle.module_types.specs.Validated.{IsAccepted, IsRefusedFor, AreAcceptedBelow, AreAccepted, IsNextRefused, IsFirstRefused}
 use Rattle.module_types.specs.declared.validate.InvalidType.{InvalidType}
 use Rattle.module_type_checks.specs.Known.{types_in, IsKnown}
 use Rattle.module_type_checks.specs.declared.context.TypeContext.{TypeContext}
 use Rattle.module_type_infos.specs.declared.info.TypeInfo.{TypeInfo}
-use Rattle.typing_forms.specs.Order.{TypesGoBack}
-use Rattle.typing_forms.specs.Resolutions.{types_view}
+use Rattle.typing_forms.specs.judged.Order.{TypesGoBack}
+use Rattle.typing_forms.specs.judged.Resolutions.{types_view}
 use Rattle.typing_layout.proofs.Held.{pushed}
-use Rattle.typing_layout.specs.Held.{AreLayouts}
+use Rattle.typing_layout.specs.found.Held.{AreLayouts}
 
 pub known_from : (c : TypeContext) (place : ℕ) → TypesGoBack (types_in c) → AreLayouts (types_in c) c.layouter.now → place ≤ length c.layouter.now
     → AreAcceptedBelow c.capabilities c.overrides_resolved (types_in c) c.infos.now place → IsKnown c

@@ -1,7 +1,7 @@
 -- What holds inside a struct, from what holds of its members.
 use Rattle.std.proofs.Common.{◌≡◌, inl, inr, ℕ, zero, suc, Some, slice_get, refl, sym, subst}
-use Rattle.typing_layout.specs.Parts.{Part, listed, Everywhere, EverywhereIn, Somewhere, SomewhereIn}
-use Rattle.typing_layout.specs.Tree.{Tree, scalar, vector, matrix, cooperative_matrix, atomic, pointer, value_pointer, array, struct, image, sampler, acceleration_structure, ray_query, binding_array, Members, no_members, member}
+use Rattle.typing_layout.specs.judged.Parts.{Part, listed, Everywhere, EverywhereIn, Somewhere, SomewhereIn}
+use Rattle.typing_layout.specs.judged.Tree.{Tree, scalar, vector, matrix, cooperative_matrix, atomic, pointer, value_pointer, array, struct, image, sampler, acceleration_structure, ray_query, binding_array, Members, no_members, member}
 use Rattle.module_type_checks.specs.Placed.{AtPlace}
 
 -- each member has something everywhere

@@ -1,18 +1,18 @@
 -- Layouts of arrays and structs, from those of their parts.
 use Rattle.std.proofs.Common.{◌≡◌, ◌<◌, ◌≤◌, ◌+◌, inr, ℕ, List, Option, Some, None, IfSome, Bool, if◌then◌else◌, Result, Ok, Err, MatchResult, max, refl, sym, ap, subst, ◌∙◌, arith}
 use Rattle.std.specs.Int.{◌∣◌}
-use Rattle.ir_types.specs.Plain.{PlainMember}
+use Rattle.ir_types.specs.judged.Plain.{PlainMember}
 use Rattle.ir_types.specs.declared.types.ArraySize.{ArraySize}
 use Rattle.ir_types.specs.declared.types.ArraySize.TheVariants.{Constant, Pending, Dynamic}
 use Rattle.module_types.proofs.Inside.{everywhere_in, somewhere_struct, somewhere_here}
 use Rattle.module_types.specs.Layouts.{IsStructOf, IsStructAt, IsArrayAt, StoragePart, UniformPart, FitsAt, free_before, IsUniformAlignment}
-use Rattle.typing_layout.specs.Buffers.{StorageAt, IsStorage, UniformAt, IsUniform, uniform_alignment, free_after}
-use Rattle.typing_layout.specs.Flags.{HasFlag, HostShareable}
-use Rattle.typing_layout.specs.Immediates.{ImmediateAt, FitsImmediates, scalar_of}
-use Rattle.typing_layout.specs.Parts.{Part, before, end_of, Somewhere}
-use Rattle.typing_layout.specs.Layout.{alignment}
-use Rattle.typing_layout.specs.Tree.{Tree, array}
-use Rattle.typing_layout.specs.View.{members_by}
+use Rattle.typing_layout.specs.judged.Buffers.{StorageAt, IsStorage, UniformAt, IsUniform, uniform_alignment, free_after}
+use Rattle.typing_layout.specs.judged.Flags.{HasFlag, HostShareable}
+use Rattle.typing_layout.specs.judged.Immediates.{ImmediateAt, FitsImmediates, scalar_of}
+use Rattle.typing_layout.specs.judged.Parts.{Part, before, end_of, Somewhere}
+use Rattle.typing_layout.specs.judged.Layout.{alignment}
+use Rattle.typing_layout.specs.judged.Tree.{Tree, array}
+use Rattle.typing_layout.specs.judged.View.{members_by}
 use Rattle.module_type_checks.specs.Known.{types_in, tree_in}
 use Rattle.module_type_checks.specs.Placed.{parts_in, part_of, IsPlaced, IsBefore, AtPlace}
 use Rattle.module_type_checks.specs.declared.context.TypeContext.{TypeContext}
@@ -22,7 +22,7 @@ use Rattle.module_type_infos.specs.BufferFaults.{IsBadStride, IsBadSpan, IsBadOf
 use Rattle.module_type_infos.specs.declared.error.Disalignment.{Disalignment}
 use Rattle.module_type_infos.specs.declared.error.ImmediateError.{ImmediateError}
 use Rattle.module_type_infos.specs.declared.error.ImmediateError.TheVariants as immediate
-use Rattle.typing_forms.specs.Sizes.{rounded_up}
+use Rattle.typing_forms.specs.judged.Sizes.{rounded_up}
 
 pub struct_at : (c : TypeContext) (ms : List PlainMember) (span handle : ℕ) → IsStructOf c ms span handle → IsStructAt c ms handle
 struct_at c ms span handle own = record { span = span; is = own.is }

@@ -4,22 +4,22 @@ use Rattle.ir_flags.specs.declared.settings.Capabilities.{Capabilities}
 use Rattle.ir_kinds.specs.declared.bindings.Binding.TheVariants as bound
 use Rattle.ir_kinds.specs.declared.scalars.Scalar.{Scalar}
 use Rattle.ir_kinds.specs.declared.scalars.ScalarKind.TheVariants.{Float}
-use Rattle.ir_kinds.specs.Images.{is_depth}
+use Rattle.ir_kinds.specs.judged.Images.{is_depth}
 use Rattle.ir_kinds.specs.declared.images.ImageClass.{ImageClass}
 use Rattle.ir_kinds.specs.declared.images.ImageDimension.{ImageDimension}
 use Rattle.ir_kinds.specs.declared.spaces.AddressSpace.{AddressSpace}
-use Rattle.ir_types.specs.Plain.{PlainInner, PlainMember, PlainType, struct as written_struct, plain}
+use Rattle.ir_types.specs.judged.Plain.{PlainInner, PlainMember, PlainType, struct as written_struct, plain}
 use Rattle.ir_types.specs.declared.types.ArraySize.{ArraySize}
 use Rattle.ir_types.specs.declared.types.ArraySize.TheVariants as count
 use Rattle.ir_types.specs.declared.types.TypeInner.TheVariants as inner
-use Rattle.typing_layout.specs.Blends.{BlendOK, HasSource, BlendsOK, LocationOK, IsOnlySource, location_of, source_at}
-use Rattle.typing_layout.specs.Flags.{HasFlag, IoShareable, blend_source}
-use Rattle.typing_layout.specs.Images.{ImageOK, StructureOK, QueryOK}
-use Rattle.typing_layout.specs.Parts.{listed, before, end_of}
-use Rattle.typing_layout.specs.Rules.{ShapeOK, TypeOK, CooperativeOK, PointerOK, IsKnownCount, ArrayOK, BindingArrayOK}
-use Rattle.typing_layout.specs.Structs.{MemberOK, StructOK}
-use Rattle.typing_layout.specs.Widths.{IsKindAllowed}
-use Rattle.typing_layout.specs.View.{members_by, type_tree}
+use Rattle.typing_layout.specs.judged.Blends.{BlendOK, HasSource, BlendsOK, LocationOK, IsOnlySource, location_of, source_at}
+use Rattle.typing_layout.specs.judged.Flags.{HasFlag, IoShareable, blend_source}
+use Rattle.typing_layout.specs.judged.Images.{ImageOK, StructureOK, QueryOK}
+use Rattle.typing_layout.specs.judged.Parts.{listed, before, end_of}
+use Rattle.typing_layout.specs.judged.Rules.{ShapeOK, TypeOK, CooperativeOK, PointerOK, IsKnownCount, ArrayOK, BindingArrayOK}
+use Rattle.typing_layout.specs.judged.Structs.{MemberOK, StructOK}
+use Rattle.typing_layout.specs.judged.Widths.{IsKindAllowed}
+use Rattle.typing_layout.specs.judged.View.{members_by, type_tree}
 use Rattle.module_type_checks.proofs.Known.{tree_of}
 use Rattle.module_type_checks.proofs.Places.{part_at, many_parts}
 use Rattle.module_type_checks.proofs.Scalars.{lacked, width_refuted, atomic_refuted}
@@ -34,7 +34,7 @@ use Rattle.module_type_infos.specs.declared.error.TypeError.{TypeError}
 use Rattle.module_type_infos.specs.declared.error.TypeError.TheVariants as error
 use Rattle.module_type_infos.specs.declared.error.VaryingError.{VaryingError}
 use Rattle.module_type_infos.specs.declared.error.VaryingError.TheVariants as varying
-use Rattle.typing_forms.specs.Resolutions.{inner_at}
+use Rattle.typing_forms.specs.judged.Resolutions.{inner_at}
 
 -- ---- structs
 

@@ -1,6 +1,6 @@
 -- What is reported of types, from what is reported of their parts.
 use Rattle.std.proofs.Common.{◌≡◌, ℕ, Some, inr, Result, Ok, Err, MatchResult, map, refl, sym, ap, subst, ◌∙◌}
-use Rattle.ir_types.specs.Plain.{PlainInner, struct as written_struct, plain, inner_view, member_view}
+use Rattle.ir_types.specs.judged.Plain.{PlainInner, struct as written_struct, plain, inner_view, member_view}
 use Rattle.ir_types.specs.declared.types.ArraySize.{ArraySize}
 use Rattle.ir_types.specs.declared.types.TypeInner.{TypeInner}
 use Rattle.ir_types.specs.declared.types.TypeInner.TheVariants as inner
@@ -9,12 +9,12 @@ use Rattle.module_type_checks.specs.Kinds.{whole_flags}
 use Rattle.module_types.specs.Layouts.{IsStructOf, IsArrayAt, IsScalarFit, IsScalarUnfit}
 use Rattle.module_type_checks.specs.Sets.{AreOf}
 use Rattle.module_types.specs.Whole.{IsWhole}
-use Rattle.typing_layout.specs.Buffers.{IsStorage, IsUniform, uniform_alignment}
-use Rattle.typing_layout.specs.Flags.{HasFlag, HostShareable}
-use Rattle.typing_layout.specs.Immediates.{FitsImmediates, scalar_of}
-use Rattle.typing_layout.specs.Layout.{alignment}
-use Rattle.typing_layout.specs.Tree.{Tree, scalar, vector, matrix, cooperative_matrix, atomic, pointer, value_pointer, array, struct, image, sampler, acceleration_structure, ray_query, binding_array}
-use Rattle.typing_layout.specs.View.{tree_by, members_by}
+use Rattle.typing_layout.specs.judged.Buffers.{IsStorage, IsUniform, uniform_alignment}
+use Rattle.typing_layout.specs.judged.Flags.{HasFlag, HostShareable}
+use Rattle.typing_layout.specs.judged.Immediates.{FitsImmediates, scalar_of}
+use Rattle.typing_layout.specs.judged.Layout.{alignment}
+use Rattle.typing_layout.specs.judged.Tree.{Tree, scalar, vector, matrix, cooperative_matrix, atomic, pointer, value_pointer, array, struct, image, sampler, acceleration_structure, ray_query, binding_array}
+use Rattle.typing_layout.specs.judged.View.{tree_by, members_by}
 use Rattle.module_type_checks.proofs.Known.{tree_of}
 use Rattle.module_type_checks.specs.Known.{types_in, tree_in, IsKnown, AreFacts}
 use Rattle.module_type_checks.specs.declared.context.TypeContext.{TypeContext}
@@ -24,7 +24,7 @@ use Rattle.module_type_infos.specs.Infos.{AreFlags}
 use Rattle.module_type_infos.specs.declared.error.ImmediateError.{ImmediateError}
 use Rattle.module_type_infos.specs.declared.error.ImmediateError.TheVariants as immediate
 use Rattle.typing_layout.specs.declared.type_flags.TypeFlags.{TypeFlags}
-use Rattle.typing_forms.specs.Resolutions.{inner_at}
+use Rattle.typing_forms.specs.judged.Resolutions.{inner_at}
 
 pub whole_storage : (t : Tree) → IsWhole t → HasFlag HostShareable t → IsStorage t
 whole_storage (scalar s) whole host = (host, tt)

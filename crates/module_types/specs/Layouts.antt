@@ -2,14 +2,14 @@
 use Rattle.std.specs.Prelude.{◌≡◌, ◌≢◌, ◌≤◌, ℕ, List, Option, Some, None, IfSome}
 use Rattle.std.specs.Int.{◌∣◌}
 use Rattle.ir_kinds.specs.declared.scalars.Scalar.{Scalar}
-use Rattle.ir_types.specs.Plain.{PlainMember}
+use Rattle.ir_types.specs.judged.Plain.{PlainMember}
 use Rattle.ir_types.specs.declared.types.ArraySize.{ArraySize}
-use Rattle.typing_layout.specs.Buffers.{IsStorage, IsUniform, uniform_alignment, free_after}
-use Rattle.typing_layout.specs.Immediates.{FitsImmediates}
-use Rattle.typing_layout.specs.Parts.{Part, before}
-use Rattle.typing_layout.specs.Layout.{alignment}
-use Rattle.typing_layout.specs.Tree.{Tree, array, struct}
-use Rattle.typing_layout.specs.View.{members_by}
+use Rattle.typing_layout.specs.judged.Buffers.{IsStorage, IsUniform, uniform_alignment, free_after}
+use Rattle.typing_layout.specs.judged.Immediates.{FitsImmediates}
+use Rattle.typing_layout.specs.judged.Parts.{Part, before}
+use Rattle.typing_layout.specs.judged.Layout.{alignment}
+use Rattle.typing_layout.specs.judged.Tree.{Tree, array, struct}
+use Rattle.typing_layout.specs.judged.View.{members_by}
 use Rattle.module_type_checks.specs.Known.{tree_in, AreFacts}
 use Rattle.module_type_checks.specs.declared.context.TypeContext.{TypeContext}
 use Rattle.module_type_checks.specs.declared.facts.Facts.{Facts}

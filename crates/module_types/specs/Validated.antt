@@ -4,15 +4,15 @@ use Rattle.ir_faults.specs.Faults.{error_of, spans_of}
 use Rattle.ir_faults.specs.declared.refusal.Refusal.{Refusal}
 use Rattle.ir_faults.specs.declared.refusal.Refusal.TheVariants as refusal
 use Rattle.ir_flags.specs.declared.settings.Capabilities.{Capabilities}
-use Rattle.ir_types.specs.Plain.{PlainInner, PlainType}
+use Rattle.ir_types.specs.judged.Plain.{PlainInner, PlainType}
 use Rattle.module_types.specs.declared.validate.InvalidType.{InvalidType}
-use Rattle.typing_layout.specs.Rules.{TypeOK}
-use Rattle.typing_layout.specs.View.{type_tree}
+use Rattle.typing_layout.specs.judged.Rules.{TypeOK}
+use Rattle.typing_layout.specs.judged.View.{type_tree}
 use Rattle.module_type_infos.specs.Faults.{IsInnerFault}
 use Rattle.module_type_infos.specs.Infos.{HasInfo}
 use Rattle.module_type_infos.specs.declared.error.TypeError.{TypeError}
 use Rattle.module_type_infos.specs.declared.info.TypeInfo.{TypeInfo}
-use Rattle.typing_forms.specs.Resolutions.{inner_at}
+use Rattle.typing_forms.specs.judged.Resolutions.{inner_at}
 
 -- the type at a handle is accepted, and this is reported of it
 pub record IsAccepted (capabilities : Capabilities) (resolved : Bool) (types : List PlainType) (handle : ℕ) (i : TypeInfo) : Type 0 where

@@ -1,5 +1,5 @@
 -- Types that hold no other as a part.
-use Rattle.typing_layout.specs.Tree.{Tree, scalar, vector, matrix, cooperative_matrix, atomic, pointer, value_pointer, array, struct, image, sampler, acceleration_structure, ray_query, binding_array}
+use Rattle.typing_layout.specs.judged.Tree.{Tree, scalar, vector, matrix, cooperative_matrix, atomic, pointer, value_pointer, array, struct, image, sampler, acceleration_structure, ray_query, binding_array}
 
 abbrev pub IsWhole : Tree → Type 0
 IsWhole (scalar s) = Unit {0}

@@ -1,11 +1,11 @@
 //! Whether immediate data may have types.
 
 ghost use Rattle.std.specs.Prelude.{◌≡◌, ◌<◌, ℕ, All, length, map, MatchResult};
-ghost use Rattle.ir_types.specs.Plain.{inner_view, member_view};
+ghost use Rattle.ir_types.specs.judged.Plain.{inner_view, member_view};
 ghost use Rattle.module_types.specs.Layouts.{FitsAt, IsStructAt};
-ghost use Rattle.typing_layout.specs.Immediates.{scalar_of, FitsImmediates};
-ghost use Rattle.typing_layout.specs.Tree.{Tree};
-ghost use Rattle.typing_layout.specs.View.{tree_by};
+ghost use Rattle.typing_layout.specs.judged.Immediates.{scalar_of, FitsImmediates};
+ghost use Rattle.typing_layout.specs.judged.Tree.{Tree};
+ghost use Rattle.typing_layout.specs.judged.View.{tree_by};
 ghost use Rattle.module_type_checks.specs.Known.{IsKnown, tree_in};
 ghost use Rattle.module_type_checks.specs.Placed.{parts_in, AtPlace};
 ghost use Rattle.module_types.specs.Layouts.{IsScalarFit, IsScalarUnfit};

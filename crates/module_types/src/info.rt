@@ -1,18 +1,18 @@
 //! What is reported of a type, from what is reported of the types before it.
 
 ghost use Rattle.std.specs.Prelude.{◌≡◌, ◌<◌, ◌≤◌, ℕ, Some, All, length, map, MatchResult};
-ghost use Rattle.ir_types.specs.Plain.{inner_view, member_view};
+ghost use Rattle.ir_types.specs.judged.Plain.{inner_view, member_view};
 ghost use Rattle.module_types.specs.Layouts.{IsStructOf};
 ghost use Rattle.module_types.specs.Whole.{IsWhole};
-ghost use Rattle.typing_layout.specs.Buffers.{IsStorage, IsUniform, uniform_alignment};
-ghost use Rattle.typing_layout.specs.Layout.{alignment};
-ghost use Rattle.typing_layout.specs.Tree.{array};
-ghost use Rattle.typing_layout.specs.View.{tree_by};
+ghost use Rattle.typing_layout.specs.judged.Buffers.{IsStorage, IsUniform, uniform_alignment};
+ghost use Rattle.typing_layout.specs.judged.Layout.{alignment};
+ghost use Rattle.typing_layout.specs.judged.Tree.{array};
+ghost use Rattle.typing_layout.specs.judged.View.{tree_by};
 ghost use Rattle.module_type_checks.specs.Known.{IsKnown, tree_in, types_in};
 ghost use Rattle.module_type_infos.specs.BufferFaults.{BreaksStorage, BreaksUniform, IsBroken};
 ghost use Rattle.module_type_infos.specs.Infos.{AreFlags, HasInfo};
-ghost use Rattle.typing_forms.specs.Order.{named_types};
-ghost use Rattle.typing_forms.specs.Resolutions.{inner_at};
+ghost use Rattle.typing_forms.specs.judged.Order.{named_types};
+ghost use Rattle.typing_forms.specs.judged.Resolutions.{inner_at};
 
 use crate::immediates::{immediates_of_struct, immediates_of_whole};
 use crate::uniform::{uniform_of_array, uniform_of_struct};

@@ -1,10 +1,10 @@
 //! Whether a host can lay out types in storage buffers.
 
 ghost use Rattle.std.specs.Prelude.{◌≡◌, ◌<◌, All, length, map, MatchResult};
-ghost use Rattle.ir_types.specs.Plain.{member_view};
+ghost use Rattle.ir_types.specs.judged.Plain.{member_view};
 ghost use Rattle.module_types.specs.Layouts.{IsArrayAt, IsStructAt, IsStructOf, StoragePart};
-ghost use Rattle.typing_layout.specs.Buffers.{IsStorage};
-ghost use Rattle.typing_layout.specs.Layout.{alignment};
+ghost use Rattle.typing_layout.specs.judged.Buffers.{IsStorage};
+ghost use Rattle.typing_layout.specs.judged.Layout.{alignment};
 ghost use Rattle.module_type_checks.specs.Known.{IsKnown, tree_in, types_in};
 ghost use Rattle.module_type_checks.specs.Placed.{parts_in, AtPlace};
 ghost use Rattle.module_type_infos.specs.BufferFaults.{BreaksStorage, IsBroken};

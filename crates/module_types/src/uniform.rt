@@ -1,11 +1,11 @@
 //! Whether a host can lay out types in uniform buffers.
 
 ghost use Rattle.std.specs.Prelude.{◌≡◌, ◌<◌, All, length, map, MatchResult};
-ghost use Rattle.ir_types.specs.Plain.{member_view};
+ghost use Rattle.ir_types.specs.judged.Plain.{member_view};
 ghost use Rattle.module_types.specs.Layouts.{IsArrayAt, IsStructAt, IsStructOf, IsUniformAlignment, UniformPart, free_before};
-ghost use Rattle.typing_layout.specs.Buffers.{IsUniform, uniform_alignment};
-ghost use Rattle.typing_layout.specs.Parts.{before};
-ghost use Rattle.typing_layout.specs.Layout.{alignment};
+ghost use Rattle.typing_layout.specs.judged.Buffers.{IsUniform, uniform_alignment};
+ghost use Rattle.typing_layout.specs.judged.Parts.{before};
+ghost use Rattle.typing_layout.specs.judged.Layout.{alignment};
 ghost use Rattle.module_type_checks.specs.Known.{IsKnown, tree_in, types_in};
 ghost use Rattle.module_type_checks.specs.Placed.{parts_in, AtPlace, IsPlaced};
 ghost use Rattle.module_type_infos.specs.BufferFaults.{BreaksUniform, IsBroken};

@@ -2,10 +2,10 @@
 use Rattle.std.proofs.Common.{inl, inr, ℕ, suc, List, [], ◌∷◌, Contains, arith}
 use Rattle.module_handles.specs.declared.error.InvalidHandleError.{InvalidHandleError}
 use Rattle.module_handles.specs.declared.error.InvalidHandleError.TheVariants as error
-use Rattle.ir_items.specs.Plain.{PlainModule}
+use Rattle.ir_items.specs.judged.Plain.{PlainModule}
 use Rattle.module_constants.specs.Known.{AreThere}
 use Rattle.module_handles.specs.Errors.{IsHandleError}
-use Rattle.typing_rules.specs.Laws.{IsAmong}
+use Rattle.typing_rules.specs.judged.Laws.{IsAmong}
 use Rattle.spec_handles.specs.InOrder.{HandlesOK, IsAbsent, in_module, in_function, in_entry}
 use Rattle.spec_handles.specs.Modules as part
 use Rattle.spec_handles.specs.References.{Named, item, operand}

@@ -5,11 +5,11 @@ use Rattle.module_constants.specs.declared.override_error.OverrideError.{Overrid
 use Rattle.ir_faults.specs.Faults.{error_of}
 use Rattle.ir_faults.specs.declared.refusal.Refusal.{Refusal}
 use Rattle.ir_faults.specs.declared.refusal.Refusal.TheVariants as refusal
-use Rattle.ir_items.specs.Plain.{PlainModule}
+use Rattle.ir_items.specs.judged.Plain.{PlainModule}
 use Rattle.module_constants.specs.Refusals.{IsOverrideRefusal}
 use Rattle.module_validator.specs.OverrideRefusals.{IsReportedAt, IsRefusal}
 use Rattle.module_validator.specs.declared.listed_overrides.InvalidOverride.{InvalidOverride}
-use Rattle.spec_expressions.specs.Overrides.{OverrideOK}
+use Rattle.spec_expressions.specs.judged.Overrides.{OverrideOK}
 
 -- the refusal of the first override that is not accepted, as one of all
 pub refusal_reported : (resolved : Bool) (m : PlainModule) (place handle : ℕ) (r : Refusal OverrideError) (told : Refusal InvalidOverride) → handle ≡ place → place < length m.overrides

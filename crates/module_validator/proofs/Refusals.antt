@@ -9,7 +9,7 @@ use Rattle.ir_faults.specs.Faults.{error_of}
 use Rattle.ir_faults.specs.declared.refusal.Refusal.{Refusal}
 use Rattle.ir_faults.specs.declared.refusal.Refusal.TheVariants as refusal
 use Rattle.ir_faults.specs.declared.with_span.WithSpan.{WithSpan}
-use Rattle.ir_items.specs.Plain.{PlainModule}
+use Rattle.ir_items.specs.judged.Plain.{PlainModule}
 use Rattle.module_constants.specs.declared.constants.InvalidConstant.{InvalidConstant}
 use Rattle.module_constants.specs.declared.expressions.InvalidGlobalExpression.{InvalidGlobalExpression}
 use Rattle.module_handles.specs.Errors.{IsHandleError}
@@ -20,14 +20,14 @@ use Rattle.module_validator.proofs.Handles.{handle_refuted}
 use Rattle.module_validator.proofs.StepLemmas.{not_laid, not_told, not_typed}
 use Rattle.module_validator.specs.Faults.{IsModuleFault, IsReportedAs}
 use Rattle.module_validator.specs.declared.error.ModuleError.TheVariants as error
-use Rattle.spec_expressions.specs.Context.{outside}
-use Rattle.judgement.specs.ModuleSteps as step
-use Rattle.judgement.specs.ModuleSteps.{IsReached, FailsFirst}
+use Rattle.spec_expressions.specs.judged.Context.{outside}
+use Rattle.judgement.specs.judged.ModuleSteps as step
+use Rattle.judgement.specs.judged.ModuleSteps.{IsReached, FailsFirst}
 use Rattle.judgement.specs.declared.settings.ModuleSettings.{ModuleSettings}
 use Rattle.typing_expressions.specs.Types.{IsFirstUntyped}
 use Rattle.typing_expressions.specs.declared.refusal.TypingRefusal.{TypingRefusal}
 use Rattle.typing_expressions.specs.declared.refusal.TypingRefusal.TheVariants as typing
-use Rattle.typing_layout.specs.Held.{AreLayouts, IsRefused, IsRefusal}
+use Rattle.typing_layout.specs.found.Held.{AreLayouts, IsRefused, IsRefusal}
 use Rattle.typing_layout.specs.declared.error.LayoutError.{LayoutError}
 use Rattle.typing_layout.specs.declared.layout.TypeLayout.{TypeLayout}
 

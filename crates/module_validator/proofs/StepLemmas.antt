@@ -1,17 +1,17 @@
 -- What the answers of the parts of a check say of its steps.
 use Rattle.std.proofs.Common.{◌≡◌, ◌<◌, ℕ, zero, suc, List, [], ◌∷◌, Option, Some, None, length, slice_get, refl, arith}
-use Rattle.ir_items.specs.Plain.{PlainModule}
+use Rattle.ir_items.specs.judged.Plain.{PlainModule}
 use Rattle.module_types.specs.Validated.{AreAccepted, IsFirstRefused as IsTypeRefused}
 use Rattle.module_types.specs.declared.validate.InvalidType.{InvalidType}
-use Rattle.spec_expressions.specs.Context.{outside}
-use Rattle.judgement.specs.ModuleSteps.{layout, type, typing, StepPasses, FailsFirst}
+use Rattle.spec_expressions.specs.judged.Context.{outside}
+use Rattle.judgement.specs.judged.ModuleSteps.{layout, type, typing, StepPasses, FailsFirst}
 use Rattle.judgement.specs.declared.settings.ModuleSettings.{ModuleSettings}
-use Rattle.typing_layout.specs.Layout.{LayoutOK}
-use Rattle.typing_layout.specs.Tree.{Tree}
-use Rattle.typing_layout.specs.View.{type_tree}
+use Rattle.typing_layout.specs.judged.Layout.{LayoutOK}
+use Rattle.typing_layout.specs.judged.Tree.{Tree}
+use Rattle.typing_layout.specs.judged.View.{type_tree}
 use Rattle.typing_expressions.specs.Types.{AreTypes, IsUntypedFirst}
 use Rattle.typing_forms.specs.declared.resolution.TypeResolution.{TypeResolution}
-use Rattle.typing_layout.specs.Held.{AreLayouts, IsFaultOf, IsRefused}
+use Rattle.typing_layout.specs.found.Held.{AreLayouts, IsFaultOf, IsRefused}
 use Rattle.typing_layout.specs.declared.error.LayoutError.{LayoutError}
 use Rattle.typing_layout.specs.declared.error.LayoutErrorInner.{LayoutErrorInner}
 use Rattle.typing_layout.specs.declared.error.LayoutErrorInner.TheVariants.{NonPowerOfTwoWidth, TooLarge}
@@ -19,7 +19,7 @@ use Rattle.typing_layout.specs.declared.layout.TypeLayout.{TypeLayout}
 use Rattle.typing_errors.specs.Answers.{ReportsFault, fault_of, form_given}
 use Rattle.typing_errors.specs.declared.resolve_error.ResolveError.{ResolveError}
 use Rattle.spec_expressions.specs.declared.faults.TypingFault.{TypingFault}
-use Rattle.spec_expressions.specs.Typing.{HasTypeAmong}
+use Rattle.spec_expressions.specs.judged.Typing.{HasTypeAmong}
 use Rattle.module_type_infos.specs.declared.info.TypeInfo.{TypeInfo}
 use Rattle.typing_forms.specs.declared.form.Form.{Form}
 

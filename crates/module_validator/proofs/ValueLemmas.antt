@@ -6,7 +6,7 @@ use Rattle.module_constants.specs.Overrides.{IsOverrideFault}
 use Rattle.ir_flags.specs.Sets.{Has}
 use Rattle.ir_flags.specs.declared.settings.TheConstants.ValidationFlags.{CONSTANTS}
 use Rattle.ir_flags.specs.declared.settings.Capabilities.{Capabilities}
-use Rattle.ir_items.specs.Plain.{PlainModule}
+use Rattle.ir_items.specs.judged.Plain.{PlainModule}
 use Rattle.module_constants.specs.Firsts.{AreAccepted, IsFirstRefused}
 use Rattle.module_constants.specs.Known.{AreTyped, IsKnown, module_in}
 use Rattle.module_constants.specs.declared.constants.InvalidConstant.{InvalidConstant}
@@ -19,17 +19,17 @@ use Rattle.module_validator.proofs.Refusals.{by_expression, by_constant, by_over
 use Rattle.module_validator.specs.Faults.{IsModuleFault}
 use Rattle.module_validator.specs.Settings.{AreSettingsOf}
 use Rattle.module_validator.specs.declared.error.ModuleError.TheVariants as error
-use Rattle.spec_expressions.specs.Constants.{ConstantOK}
-use Rattle.spec_expressions.specs.GlobalExpressions.{GlobalExpressionOK}
-use Rattle.spec_expressions.specs.Overrides.{OverrideOK}
-use Rattle.spec_expressions.specs.Context.{outside}
+use Rattle.spec_expressions.specs.judged.Constants.{ConstantOK}
+use Rattle.spec_expressions.specs.judged.GlobalExpressions.{GlobalExpressionOK}
+use Rattle.spec_expressions.specs.judged.Overrides.{OverrideOK}
+use Rattle.spec_expressions.specs.judged.Context.{outside}
 use Rattle.spec_handles.specs.InOrder.{HandlesOK}
-use Rattle.judgement.specs.ModuleSteps.{expression, constant, override, item_count, StepPasses, IsReached, FailsFirst}
+use Rattle.judgement.specs.judged.ModuleSteps.{expression, constant, override, item_count, StepPasses, IsReached, FailsFirst}
 use Rattle.judgement.specs.declared.settings.ModuleSettings.{ModuleSettings}
-use Rattle.spec_expressions.specs.Typing.{HasGlobalType}
+use Rattle.spec_expressions.specs.judged.Typing.{HasGlobalType}
 use Rattle.typing_expressions.specs.Types.{AreTypes}
 use Rattle.typing_forms.specs.declared.resolution.TypeResolution.{TypeResolution}
-use Rattle.typing_layout.specs.Constness.{AreKinds}
+use Rattle.typing_layout.specs.judged.Constness.{AreKinds}
 use Rattle.typing_errors.specs.Answers.{form_given}
 
 pub expressions_pass : (s : ModuleSettings) (m : PlainModule) → AreAccepted (GlobalExpressionOK s.capabilities s.overrides_resolved m) (item_count m expression) → StepPasses s m expression

@@ -5,10 +5,10 @@ use Rattle.module_constants.specs.declared.override_error.OverrideError.{Overrid
 use Rattle.ir_faults.specs.Faults.{error_of, spans_of}
 use Rattle.ir_faults.specs.declared.refusal.Refusal.{Refusal}
 use Rattle.ir_faults.specs.declared.refusal.Refusal.TheVariants as refusal
-use Rattle.ir_items.specs.Plain.{PlainModule}
+use Rattle.ir_items.specs.judged.Plain.{PlainModule}
 use Rattle.module_constants.specs.Firsts.{IsFirstRefused}
 use Rattle.module_validator.specs.declared.listed_overrides.InvalidOverride.{InvalidOverride}
-use Rattle.spec_expressions.specs.Overrides.{OverrideOK}
+use Rattle.spec_expressions.specs.judged.Overrides.{OverrideOK}
 
 -- a refusal tells the same as that of the override at a handle
 abbrev pub IsReportedAt : (handle : ℕ) → Refusal OverrideError → Refusal InvalidOverride → Type 0

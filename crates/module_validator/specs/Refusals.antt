@@ -6,9 +6,9 @@ use Rattle.ir_faults.specs.declared.refusal.Refusal.{Refusal}
 use Rattle.ir_faults.specs.declared.refusal.Refusal.TheVariants as refusal
 use Rattle.ir_flags.specs.declared.settings.Capabilities.{Capabilities}
 use Rattle.ir_flags.specs.declared.settings.ValidationFlags.{ValidationFlags}
-use Rattle.ir_items.specs.Plain.{PlainModule}
+use Rattle.ir_items.specs.judged.Plain.{PlainModule}
 use Rattle.module_validator.specs.declared.globals.InvalidGlobalVariable.{InvalidGlobalVariable}
-use Rattle.spec_interface.specs.Globals.{IsFirstFailing}
+use Rattle.spec_interface.specs.judged.Globals.{IsFirstFailing}
 
 -- It is the first variable that is not accepted, and this is wrong with it.
 pub record IsVariableFault (flags : ValidationFlags) (capabilities : Capabilities) (m : PlainModule) (e : InvalidGlobalVariable) : Type 0 where

@@ -1,13 +1,13 @@
 -- What is reported of a module that is accepted.
 use Rattle.std.specs.Prelude.{◌≡◌, [], Bool, length}
-use Rattle.ir_items.specs.Plain.{PlainModule}
+use Rattle.ir_items.specs.judged.Plain.{PlainModule}
 use Rattle.typing_infos.specs.declared.info.ModuleInfo.{ModuleInfo}
 use Rattle.module_types.specs.Validated.{AreAccepted}
 use Rattle.module_validator.specs.declared.validator.ModuleValidator.{ModuleValidator}
-use Rattle.spec_expressions.specs.Context.{outside}
+use Rattle.spec_expressions.specs.judged.Context.{outside}
 use Rattle.judgement.specs.declared.settings.ModuleSettings.{ModuleSettings}
 use Rattle.typing_expressions.specs.Types.{AreTypes}
-use Rattle.typing_layout.specs.Held.{AreLayouts}
+use Rattle.typing_layout.specs.found.Held.{AreLayouts}
 
 -- The flags and the layout of each type, and the type of each global expression; nothing yet of functions and entry points.
 pub record IsInfoOf (s : ModuleSettings) (m : PlainModule) (info : ModuleInfo) : Type 0 where

@@ -2,7 +2,7 @@
 use Rattle.module_context.specs.OperandView.{scene_in}
 use Rattle.module_context.specs.declared.check_context.CheckContext.{CheckContext}
 use Rattle.ir_flags.specs.declared.settings.Capabilities.{Capabilities}
-use Rattle.spec_statements.specs.Scene.{Scene}
+use Rattle.spec_statements.specs.judged.Scene.{Scene}
 
 -- what a context holds, where shaders may use this
 abbrev pub scene_by : Capabilities → CheckContext → Scene

@@ -1,12 +1,12 @@
 //! All global variables of a module.
 
 ghost use Rattle.std.specs.Prelude.{IfErr, MatchResult, OnOk};
-ghost use Rattle.ir_items.specs.View.{module_view};
+ghost use Rattle.ir_items.specs.found.View.{module_view};
 ghost use Rattle.module_constants.specs.Known.{IsKnown, module_in};
 ghost use Rattle.module_validator.specs.Refusals.{IsVariableFault, IsRefusal};
 ghost use Rattle.module_types.specs.Validated.{AreAccepted};
-ghost use Rattle.spec_expressions.specs.Context.{outside};
-ghost use Rattle.spec_interface.specs.Globals.{GlobalsOK};
+ghost use Rattle.spec_expressions.specs.judged.Context.{outside};
+ghost use Rattle.spec_interface.specs.judged.Globals.{GlobalsOK};
 ghost use Rattle.spec_handles.specs.InOrder.{HandlesOK};
 ghost use Rattle.typing_expressions.specs.Types.{AreTypes};
 

@@ -9,9 +9,9 @@ ghost use Rattle.module_constants.specs.Known.{IsKnown as IsKnownOfValues, modul
 ghost use Rattle.module_constants.specs.Refusals.{IsExpressionRefused};
 ghost use Rattle.module_types.specs.Validated.{IsAccepted, IsRefusedFor};
 ghost use Rattle.module_validator.specs.Seen.{scene_by};
-ghost use Rattle.spec_statements.specs.Expressions.{ExpressionOK};
-ghost use Rattle.spec_statements.specs.ExpressionStages.{IsRunBy};
-ghost use Rattle.spec_expressions.specs.GlobalExpressions.{GlobalExpressionOK};
+ghost use Rattle.spec_statements.specs.judged.Expressions.{ExpressionOK};
+ghost use Rattle.spec_statements.specs.judged.ExpressionStages.{IsRunBy};
+ghost use Rattle.spec_expressions.specs.judged.GlobalExpressions.{GlobalExpressionOK};
 ghost use Rattle.module_type_checks.specs.Known.{IsKnown as IsKnownOfTypes, types_in};
 
 use crate::validator::ModuleValidator;

@@ -4,7 +4,7 @@ ghost use Rattle.std.specs.Prelude.{length, IfOk, IfErr};
 ghost use Rattle.module_constants.specs.Firsts.{AreAccepted};
 ghost use Rattle.module_constants.specs.Known.{IsKnown, module_in};
 ghost use Rattle.module_validator.specs.OverrideRefusals.{IsReportedAt, IsRefusal};
-ghost use Rattle.spec_expressions.specs.Overrides.{OverrideOK};
+ghost use Rattle.spec_expressions.specs.judged.Overrides.{OverrideOK};
 
 use ir_arena::handle::Handle;
 use ir_faults::refusal::Refusal;

@@ -1,13 +1,13 @@
 //! The steps of the check of a module, up to the types of its global expressions.
 
 ghost use Rattle.std.specs.Prelude.{◌≡◌, [], IfOk, IfErr, OnErr, OnOk, length};
-ghost use Rattle.ir_items.specs.View.{module_view};
+ghost use Rattle.ir_items.specs.found.View.{module_view};
 ghost use Rattle.module_types.specs.Validated.{AreAccepted};
 ghost use Rattle.module_validator.specs.Faults.{IsModuleFault, IsRefusal, IsReportedAs, IsOutOfMemory};
-ghost use Rattle.spec_expressions.specs.Context.{outside};
-ghost use Rattle.judgement.specs.ModuleSteps.{IsReached, layout, type, typing, expression};
+ghost use Rattle.spec_expressions.specs.judged.Context.{outside};
+ghost use Rattle.judgement.specs.judged.ModuleSteps.{IsReached, layout, type, typing, expression};
 ghost use Rattle.typing_expressions.specs.Types.{AreTypes, IsFirstUntyped};
-ghost use Rattle.typing_layout.specs.Held.{AreLayouts};
+ghost use Rattle.typing_layout.specs.found.Held.{AreLayouts};
 
 use crate::error::ModuleError;
 use ir_faults::refusal::Refusal;

@@ -1,12 +1,12 @@
 //! The checks of a module, one after the other.
 
 ghost use Rattle.std.specs.Prelude.{◌≡◌, [], MatchResult, IfOk, IfErr, OnOk, false, true};
-ghost use Rattle.ir_items.specs.View.{module_view};
+ghost use Rattle.ir_items.specs.found.View.{module_view};
 ghost use Rattle.module_validator.specs.Faults.{IsRefusal};
 ghost use Rattle.module_validator.specs.Reported.{IsInfoOf, settings_of};
-ghost use Rattle.typing_layout.specs.Widths.{ScalarOK};
-ghost use Rattle.spec_expressions.specs.ConstantLiterals.{LiteralOK};
-ghost use Rattle.judgement.specs.ModuleSteps.{ModuleOK};
+ghost use Rattle.typing_layout.specs.judged.Widths.{ScalarOK};
+ghost use Rattle.spec_expressions.specs.judged.ConstantLiterals.{LiteralOK};
+ghost use Rattle.judgement.specs.judged.ModuleSteps.{ModuleOK};
 ghost use Rattle.module_type_infos.specs.Faults.{IsWidthFault};
 ghost use Rattle.module_type_checks.specs.Widths.{IsLiteralFault};
 

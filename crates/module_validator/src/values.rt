@@ -3,13 +3,13 @@
 ghost use Rattle.std.specs.Prelude.{◌↔◌, IsTrue, IfErr, OnOk};
 ghost use Rattle.ir_flags.specs.Sets.{Has};
 ghost use Rattle.ir_flags.specs.declared.settings.TheConstants.ValidationFlags.{CONSTANTS};
-ghost use Rattle.ir_items.specs.View.{module_view};
+ghost use Rattle.ir_items.specs.found.View.{module_view};
 ghost use Rattle.module_constants.specs.Known.{IsKnown, module_in};
 ghost use Rattle.module_types.specs.Validated.{AreAccepted};
 ghost use Rattle.module_validator.specs.Faults.{IsRefusal};
 ghost use Rattle.module_validator.specs.Settings.{AreSettingsOf};
-ghost use Rattle.spec_expressions.specs.Context.{outside};
-ghost use Rattle.judgement.specs.ModuleSteps.{IsReached, ModuleOK, expression, constant, override};
+ghost use Rattle.spec_expressions.specs.judged.Context.{outside};
+ghost use Rattle.judgement.specs.judged.ModuleSteps.{IsReached, ModuleOK, expression, constant, override};
 ghost use Rattle.typing_expressions.specs.Types.{AreTypes};
 
 use crate::error::ModuleError;

@@ -2,9 +2,9 @@
 use Rattle.std.proofs.Common.{◌≡◌, ◌∙◌, ℕ, Bool, List, length, Option, Result, Ok, Err, IfErr, sym, ap, subst}
 use Rattle.shader_check.proofs.EntryByChains.{accepted_at, entry_fault, noted_by_chains}
 use Rattle.shader_check.proofs.Staged.{are_stages}
-use Rattle.shader_check.specs.Judged.{AreJudged}
-use Rattle.shader_check.specs.JudgedEntries.{AreEntriesJudged, AreEntryNotes, IsEntryRefusal, Note}
-use Rattle.shader_check.specs.Validated.{AreEntriesKept, IsEntryFault, IsFaultAfter, IsKeptWith, IsRefusedWith, IsReportedBy, IsValidated, IsValidationFault, module_settings}
+use Rattle.shader_check.specs.found.Judged.{AreJudged}
+use Rattle.shader_check.specs.found.JudgedEntries.{AreEntriesJudged, AreEntryNotes, IsEntryRefusal, Note}
+use Rattle.shader_check.specs.found.Validated.{AreEntriesKept, IsEntryFault, IsFaultAfter, IsKeptWith, IsRefusedWith, IsReportedBy, IsValidated, IsValidationFault, module_settings}
 use Rattle.check_errors.specs.declared.error.InvalidEntryPoint.{InvalidEntryPoint}
 use Rattle.check_errors.specs.declared.error.ValidationError.{ValidationError}
 use Rattle.check_errors.specs.declared.error.ValidationError.TheVariants as error
@@ -14,7 +14,7 @@ use Rattle.ir_faults.specs.declared.refusal.Refusal.TheVariants as refusal
 use Rattle.ir_flags.specs.declared.settings.Capabilities.{Capabilities}
 use Rattle.ir_flags.specs.declared.settings.ValidationFlags.{ValidationFlags}
 use Rattle.ir_flags.specs.declared.stages.ShaderStages.{ShaderStages}
-use Rattle.ir_items.specs.Plain.{PlainModule}
+use Rattle.ir_items.specs.judged.Plain.{PlainModule}
 use Rattle.module_handles.proofs.Whole.{order_gives_conditions}
 use Rattle.typing_infos.specs.declared.info.ModuleInfo.{ModuleInfo}
 use Rattle.module_types.specs.Validated.{AreAccepted}
@@ -28,16 +28,16 @@ use Rattle.module_validator.specs.declared.globals.InvalidGlobalVariable.{Invali
 use Rattle.module_validator.specs.declared.validator.ModuleValidator.{ModuleValidator}
 use Rattle.function_real_lower.specs.Made.{IsMadeOf}
 use Rattle.function_real_lower.specs.Readings.{reading_of, faults_of}
-use Rattle.spec_analysis.specs.Summaries.{Summary}
-use Rattle.spec_interface.specs.Modules.{AreStages, reading_with}
-use Rattle.spec_expressions.specs.Context.{outside}
-use Rattle.spec_interface.specs.Globals.{GlobalsOK}
+use Rattle.spec_analysis.specs.judged.Summaries.{Summary}
+use Rattle.spec_interface.specs.judged.Modules.{AreStages, reading_with}
+use Rattle.spec_expressions.specs.judged.Context.{outside}
+use Rattle.spec_interface.specs.judged.Globals.{GlobalsOK}
 use Rattle.spec_handles.specs.InOrder.{HandlesOK}
-use Rattle.judgement.specs.ModuleSteps.{ModuleOK}
+use Rattle.judgement.specs.judged.ModuleSteps.{ModuleOK}
 use Rattle.judgement.specs.declared.settings.ModuleSettings.{ModuleSettings}
-use Rattle.spec_statements.specs.Functions.{FunctionSettings}
+use Rattle.spec_statements.specs.judged.Functions.{FunctionSettings}
 use Rattle.typing_expressions.specs.Types.{AreTypes}
-use Rattle.typing_layout.specs.Held.{AreLayouts}
+use Rattle.typing_layout.specs.found.Held.{AreLayouts}
 
 -- ---- refusals
 

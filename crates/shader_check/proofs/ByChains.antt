@@ -7,20 +7,20 @@ use Rattle.typing_errors.specs.declared.error.FunctionError.TheVariants.{Express
 use Rattle.typing_errors.specs.declared.disruptor.UniformityDisruptor.TheVariants.{Discard}
 use Rattle.function_interface.specs.Question.{question}
 use Rattle.shader_check.proofs.Chained.{some_is}
-use Rattle.shader_check.specs.Judged.{IsAcceptedAt, IsRefusedAt}
+use Rattle.shader_check.specs.found.Judged.{IsAcceptedAt, IsRefusedAt}
 use Rattle.ir_flags.specs.declared.settings.ValidationFlags.{ValidationFlags}
 use Rattle.ir_flags.specs.declared.stages.ShaderStages.{ShaderStages}
-use Rattle.ir_items.specs.Plain.{PlainFunction, PlainModule}
+use Rattle.ir_items.specs.judged.Plain.{PlainFunction, PlainModule}
 use Rattle.function_real_lower.specs.Readings.{reading_of, faults_of}
-use Rattle.spec_analysis.specs.Summaries.{Summary, CalleesKnown}
+use Rattle.spec_analysis.specs.judged.Summaries.{Summary, CalleesKnown}
 use Rattle.spec_analysis.proofs.Members.{get-within}
-use Rattle.spec_expressions.specs.Context.{inside}
+use Rattle.spec_expressions.specs.judged.Context.{inside}
 use Rattle.spec_expressions.specs.declared.faults.TypingFault.{TypingFault}
 use Rattle.spec_statements.proofs.FormLaws.{wrong_by_summaries, wrong_by_chains}
 use Rattle.spec_statements.proofs.HeldLaws.{one_payload}
-use Rattle.spec_statements.specs.Analysis.{IsAnalysed}
-use Rattle.spec_statements.specs.ModuleFunctions.{reading_over, settings_with, FunctionAtOK}
-use Rattle.spec_statements.specs.Functions.{FunctionSettings, FunctionOK, AreFormsBy}
+use Rattle.spec_statements.specs.judged.Analysis.{IsAnalysed}
+use Rattle.spec_statements.specs.judged.ModuleFunctions.{reading_over, settings_with, FunctionAtOK}
+use Rattle.spec_statements.specs.judged.Functions.{FunctionSettings, FunctionOK, AreFormsBy}
 use Rattle.typing_forms.specs.declared.form.Form.{Form}
 use Rattle.function_real_lower.specs.Processed.{IsAnalysisFault, untyped, wrong_form, non_uniform}
 use Rattle.typing_errors.specs.Answers.{fault_of, ReportsFault}

@@ -6,26 +6,26 @@ use Rattle.typing_errors.specs.declared.error.FunctionError.{FunctionError}
 use Rattle.function_validator.specs.Faults.{IsFunctionFault}
 use Rattle.function_interface.specs.Analysis.{Faults, IsRefusedFor}
 use Rattle.function_interface.specs.Question.{Question, question}
-use Rattle.shader_check.specs.Judged.{Preceding, IsAcceptedAt, IsRefusedAt, IsNotedAt, AreNoted, AreJudged, IsFirstRefused, IsReportedAt, IsRefusal}
+use Rattle.shader_check.specs.found.Judged.{Preceding, IsAcceptedAt, IsRefusedAt, IsNotedAt, AreNoted, AreJudged, IsFirstRefused, IsReportedAt, IsRefusal}
 use Rattle.check_errors.specs.declared.error.InvalidFunction.{InvalidFunction}
 use Rattle.ir_faults.specs.Faults.{error_of}
 use Rattle.ir_faults.specs.declared.refusal.Refusal.{Refusal}
 use Rattle.ir_faults.specs.declared.refusal.Refusal.TheVariants as refusal
 use Rattle.ir_flags.specs.Sets.{Has}
 use Rattle.ir_flags.specs.declared.stages.ShaderStages.{ShaderStages}
-use Rattle.ir_items.specs.Plain.{PlainFunction, PlainModule}
+use Rattle.ir_items.specs.judged.Plain.{PlainFunction, PlainModule}
 use Rattle.module_handles.proofs.Whole.{order_gives_conditions}
 use Rattle.module_handles.specs.Conditions.{FunctionConditions}
 use Rattle.spec_analysis.proofs.SummaryLaws.{callees_known}
-use Rattle.spec_analysis.specs.Summaries.{Summary, IsSummary, CalleesKnown, AreSummaries, CallsBelow}
-use Rattle.spec_statements.specs.ExpressionStages.{all_stages}
+use Rattle.spec_analysis.specs.judged.Summaries.{Summary, IsSummary, CalleesKnown, AreSummaries, CallsBelow}
+use Rattle.spec_statements.specs.judged.ExpressionStages.{all_stages}
 use Rattle.spec_statements.proofs.CallLaws.{calls_precede}
 use Rattle.spec_statements.proofs.HeldLaws.{held_next}
-use Rattle.spec_statements.specs.ModuleFunctions.{settings_with}
-use Rattle.spec_statements.specs.EarlierPayloads.{IsPayloadBefore}
+use Rattle.spec_statements.specs.judged.ModuleFunctions.{settings_with}
+use Rattle.spec_statements.specs.judged.EarlierPayloads.{IsPayloadBefore}
 use Rattle.spec_handles.specs.InOrder.{HandlesOK}
-use Rattle.spec_statements.specs.Functions.{Reading, FunctionSettings, FunctionOK, AllowsStage}
-use Rattle.spec_statements.specs.Payloads.{IsPayloadAfter}
+use Rattle.spec_statements.specs.judged.Functions.{Reading, FunctionSettings, FunctionOK, AllowsStage}
+use Rattle.spec_statements.specs.judged.Payloads.{IsPayloadAfter}
 
 -- ---- summaries
 

@@ -8,22 +8,22 @@ use Rattle.shader_check.proofs.ByChains.{ok_by_chains, ok_by_summaries}
 use Rattle.shader_check.proofs.Chained.{some_is}
 use Rattle.shader_check.proofs.EntryHeld.{one_entry_held}
 use Rattle.shader_check.proofs.EntrySteps.{entry_conditions, entry_known}
-use Rattle.shader_check.specs.JudgedEntries.{IsEntryAcceptedAt, IsEntryRefusedAt, IsWrong, conflicting, unaccepted, IsFirstEntryRefused}
-use Rattle.shader_check.specs.Validated.{IsEntryFault}
+use Rattle.shader_check.specs.found.JudgedEntries.{IsEntryAcceptedAt, IsEntryRefusedAt, IsWrong, conflicting, unaccepted, IsFirstEntryRefused}
+use Rattle.shader_check.specs.found.Validated.{IsEntryFault}
 use Rattle.check_errors.specs.declared.error.InvalidEntryPoint.{InvalidEntryPoint}
 use Rattle.ir_flags.specs.declared.stages.ShaderStages.{ShaderStages}
-use Rattle.ir_items.specs.Plain.{PlainEntry, PlainFunction, PlainModule}
+use Rattle.ir_items.specs.judged.Plain.{PlainEntry, PlainFunction, PlainModule}
 use Rattle.module_handles.proofs.Whole.{order_gives_conditions}
 use Rattle.function_real_lower.specs.Readings.{reading_of, faults_of}
-use Rattle.spec_analysis.specs.Chains.{HasUse}
-use Rattle.spec_analysis.specs.Summaries.{Summary, AreSummaries, CalleesKnown}
+use Rattle.spec_analysis.specs.judged.Chains.{HasUse}
+use Rattle.spec_analysis.specs.judged.Summaries.{Summary, AreSummaries, CalleesKnown}
 use Rattle.spec_interface.proofs.OneStages.{all_agree, allows_other}
-use Rattle.spec_interface.specs.Entries.{EntryOK}
-use Rattle.spec_interface.specs.Modules.{reading_with, AreStages, entry_settings, EntryAtOK, IsConflict}
-use Rattle.spec_statements.specs.ModuleFunctions.{reading_over}
+use Rattle.spec_interface.specs.judged.Entries.{EntryOK}
+use Rattle.spec_interface.specs.judged.Modules.{reading_with, AreStages, entry_settings, EntryAtOK, IsConflict}
+use Rattle.spec_statements.specs.judged.ModuleFunctions.{reading_over}
 use Rattle.spec_handles.specs.InOrder.{HandlesOK}
-use Rattle.spec_statements.specs.Functions.{FunctionSettings, FunctionOK, AllowsStage}
-use Rattle.spec_interface.specs.Contexts.{stage_set}
+use Rattle.spec_statements.specs.judged.Functions.{FunctionSettings, FunctionOK, AllowsStage}
+use Rattle.spec_interface.specs.judged.Contexts.{stage_set}
 
 -- ---- functions
 

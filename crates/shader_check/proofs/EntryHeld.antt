@@ -5,10 +5,10 @@ use Rattle.std.specs.Prelude.{bit_and}
 use Rattle.ir_flags.specs.Sets.{Has}
 use Rattle.ir_flags.specs.declared.settings.ValidationFlags.{ValidationFlags}
 use Rattle.ir_flags.specs.declared.settings.TheConstants.ValidationFlags.{BLOCKS}
-use Rattle.ir_items.specs.Plain.{PlainEntry, PlainModule}
-use Rattle.spec_interface.specs.EarlierPayloads.{HasEntryPayload, HasPayloadSoFar, IsPayloadBeforeEntry}
-use Rattle.spec_statements.specs.EarlierPayloads.{IsPayloadBefore}
-use Rattle.spec_statements.specs.Payloads.{HasPayload, PayloadsOK, IsPayloadAfter}
+use Rattle.ir_items.specs.judged.Plain.{PlainEntry, PlainModule}
+use Rattle.spec_interface.specs.judged.EarlierPayloads.{HasEntryPayload, HasPayloadSoFar, IsPayloadBeforeEntry}
+use Rattle.spec_statements.specs.judged.EarlierPayloads.{IsPayloadBefore}
+use Rattle.spec_statements.specs.judged.Payloads.{HasPayload, PayloadsOK, IsPayloadAfter}
 
 -- what is kept after all functions is kept before the first entry point
 pub held_behind_functions : (flags : ValidationFlags) (m : PlainModule) (held : Option ℕ) → IsPayloadBefore flags m (length m.functions) held → IsPayloadBeforeEntry flags m 0 held

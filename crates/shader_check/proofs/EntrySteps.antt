@@ -11,28 +11,28 @@ use Rattle.function_interface.specs.Analysis.{Faults}
 use Rattle.function_interface.specs.Question.{Question, question}
 use Rattle.shader_check.proofs.Chained.{one_more_at, some_is, one_longer, below_or_here}
 use Rattle.shader_check.proofs.EntryHeld.{entry_held_next}
-use Rattle.shader_check.specs.JudgedEntries.{reading_at, Note, IsEntryAcceptedAt, IsEntryRefusedAt, conflicting, unaccepted, AreEntryNotes, AreEntrySummaries, AreEntriesJudged, IsFirstEntryRefused, IsEntryReportedAt, IsConflictReported, IsEntryRefusal}
+use Rattle.shader_check.specs.found.JudgedEntries.{reading_at, Note, IsEntryAcceptedAt, IsEntryRefusedAt, conflicting, unaccepted, AreEntryNotes, AreEntrySummaries, AreEntriesJudged, IsFirstEntryRefused, IsEntryReportedAt, IsConflictReported, IsEntryRefusal}
 use Rattle.check_errors.specs.declared.error.InvalidEntryPoint.{InvalidEntryPoint}
 use Rattle.ir_faults.specs.Faults.{error_of}
 use Rattle.ir_faults.specs.declared.refusal.Refusal.{Refusal}
 use Rattle.ir_faults.specs.declared.refusal.Refusal.TheVariants as refusal
 use Rattle.ir_flags.specs.declared.stages.ShaderStages.{ShaderStages}
-use Rattle.ir_items.specs.Plain.{PlainEntry, PlainModule}
+use Rattle.ir_items.specs.judged.Plain.{PlainEntry, PlainModule}
 use Rattle.ir_items.specs.declared.entries.MeshStageInfo.{MeshStageInfo}
 use Rattle.module_handles.proofs.Whole.{order_gives_conditions}
 use Rattle.module_handles.specs.Conditions.{FunctionConditions}
 use Rattle.spec_analysis.proofs.SummaryLaws.{callees_known}
-use Rattle.spec_analysis.specs.Chains.{HasUse}
-use Rattle.spec_analysis.specs.Summaries.{Summary, AreSummaries, CalleesKnown, CallsBelow}
-use Rattle.spec_interface.specs.EarlierPayloads.{IsPayloadBeforeEntry}
-use Rattle.spec_interface.specs.Modules.{IsConflict, entry_settings}
+use Rattle.spec_analysis.specs.judged.Chains.{HasUse}
+use Rattle.spec_analysis.specs.judged.Summaries.{Summary, AreSummaries, CalleesKnown, CallsBelow}
+use Rattle.spec_interface.specs.judged.EarlierPayloads.{IsPayloadBeforeEntry}
+use Rattle.spec_interface.specs.judged.Modules.{IsConflict, entry_settings}
 use Rattle.spec_statements.proofs.CallLaws.{calls_precede}
 use Rattle.spec_handles.specs.InOrder.{HandlesOK}
 use Rattle.spec_handles.specs.Items.{entry_variables, mesh_variables}
 use Rattle.spec_handles.specs.Modules.{entry, entry_variable}
 use Rattle.spec_handles.specs.References.{item}
 use Rattle.spec_handles.specs.declared.target.Target.TheVariants.{GlobalVariable}
-use Rattle.spec_statements.specs.Functions.{Reading, FunctionSettings}
+use Rattle.spec_statements.specs.judged.Functions.{Reading, FunctionSettings}
 
 -- ---- the variables that it names beside its function
 

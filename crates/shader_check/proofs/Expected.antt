@@ -3,14 +3,14 @@ use Rattle.std.proofs.Common.{◌≡◌, ◌↔◌, ◌⊎◌, inl, inr, ℕ, tr
 use Rattle.std.specs.List.{starts_with}
 use Rattle.std.specs.Io.KnownBytes.{Consumes, IsAtEnd}
 use Rattle.check_ports.specs.Source.{TakesAll}
-use Rattle.judgement.specs.Text.{text_of}
+use Rattle.judgement.specs.judged.Text.{text_of}
 use Rattle.judgement.specs.declared.finding.Finding.{Finding}
 use Rattle.judgement.specs.declared.finding.Finding.TheVariants.{Accepted, RefusedDocument, RefusedHandles, Refused}
 use Rattle.shader_check.proofs.Promises.{accepted_texts_are_sound_lem}
 use Rattle.shader_check.proofs.Returns.{returns_dont_show_lem}
-use Rattle.shader_check.specs.Judgements.{IsJudgementOn}
-use Rattle.shader_check.specs.Theorem.{Judged, IsExpected, IsReported, IsTextWithoutResults, SoundText}
-use Rattle.shader_check.specs.Theorem.{verdict_of, IsExpectedFor}
+use Rattle.shader_check.specs.found.Judgements.{IsJudgementOn}
+use Rattle.shader_check.specs.judged.Theorem.{Judged, IsExpected, IsReported, IsTextWithoutResults, SoundText}
+use Rattle.shader_check.specs.judged.Theorem.{verdict_of, IsExpectedFor}
 use Rattle.shader_check.specs.declared.check.TheConstants.{MAX_TAKEN}
 use Rattle.shader_check.specs.declared.check.Verdict.TheVariants as verdict
 use Rattle.shader_check.specs.declared.reported.Judgement.{Judgement}

@@ -1,18 +1,18 @@
 -- The first step that fails is one, and so is the item.
 use Rattle.std.proofs.Common.{◌≡◌, inl, inr, ℕ, ◌<◌, refl, ap, arith}
 use Rattle.std.proofs.lemmas.Bool.{cases_lt}
-use Rattle.ir_items.specs.Plain.{PlainModule}
-use Rattle.spec_interface.specs.Modules as entries
-use Rattle.spec_interface.specs.Modules.{EntryAtOK, EntriesOK}
-use Rattle.spec_statements.specs.ModuleFunctions as functions
-use Rattle.spec_statements.specs.ModuleFunctions.{FunctionAtOK, FunctionsOK}
-use Rattle.spec_interface.specs.Globals as globals
-use Rattle.spec_interface.specs.Globals.{GlobalOK, GlobalsOK}
+use Rattle.ir_items.specs.judged.Plain.{PlainModule}
+use Rattle.spec_interface.specs.judged.Modules as entries
+use Rattle.spec_interface.specs.judged.Modules.{EntryAtOK, EntriesOK}
+use Rattle.spec_statements.specs.judged.ModuleFunctions as functions
+use Rattle.spec_statements.specs.judged.ModuleFunctions.{FunctionAtOK, FunctionsOK}
+use Rattle.spec_interface.specs.judged.Globals as globals
+use Rattle.spec_interface.specs.judged.Globals.{GlobalOK, GlobalsOK}
 use Rattle.spec_handles.specs.InOrder.{HandlesOK}
 use Rattle.judgement.proofs.Failures.{one_failure, none_fails}
-use Rattle.judgement.specs.ModuleSteps.{ModuleStep, IsFirstFailing, ModuleOK}
+use Rattle.judgement.specs.judged.ModuleSteps.{ModuleStep, IsFirstFailing, ModuleOK}
 use Rattle.judgement.specs.declared.settings.ModuleSettings.{ModuleSettings}
-use Rattle.spec_statements.specs.Functions.{FunctionSettings}
+use Rattle.spec_statements.specs.judged.Functions.{FunctionSettings}
 
 -- the first that is not such is one
 first_once : (OK : ℕ → Type 0) (i j : ℕ) → ((k : ℕ) → k < i → OK k) → ¬ OK i → ((k : ℕ) → k < j → OK k) → ¬ OK j → i ≡ j

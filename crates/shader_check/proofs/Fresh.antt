@@ -2,7 +2,7 @@
 use Rattle.std.proofs.Common.{◌≡◌, inl, inr, ℕ, Bool, Option, Some, None, refl, sym, ap, ◌∙◌}
 use Rattle.typing_errors.specs.declared.const_expressions.ConstExpressionError.{ConstExpressionError}
 use Rattle.typing_errors.specs.declared.const_expressions.ConstExpressionError.TheVariants as constant
-use Rattle.ir_items.specs.Plain.{PlainModule}
+use Rattle.ir_items.specs.judged.Plain.{PlainModule}
 use Rattle.judgement.specs.declared.finding.Finding.{Finding}
 use Rattle.judgement.specs.declared.finding.Finding.TheVariants.{RefusedHandles, Refused}
 use Rattle.typing_infos.specs.declared.info.ModuleInfo.{ModuleInfo}
@@ -11,15 +11,15 @@ use Rattle.module_validator.specs.declared.error.ModuleError.{ModuleError}
 use Rattle.module_validator.specs.declared.error.ModuleError.TheVariants as error
 use Rattle.shader_check.proofs.Failing.{Family, up_to_overrides, at_variables, at_functions, at_entries, IsFailing, in_order, none_failing, failing_once}
 use Rattle.shader_check.proofs.Once.{step_back}
-use Rattle.shader_check.specs.Examined.{refused_by}
-use Rattle.shader_check.specs.Fresh.{AreAlike, AnswersAreAlike}
-use Rattle.shader_check.specs.Validated.{IsValidated, IsValidationFault, module_settings}
+use Rattle.shader_check.specs.found.Examined.{refused_by}
+use Rattle.shader_check.specs.found.Fresh.{AreAlike, AnswersAreAlike}
+use Rattle.shader_check.specs.found.Validated.{IsValidated, IsValidationFault, module_settings}
 use Rattle.check_errors.specs.declared.error.ValidationError.{ValidationError}
 use Rattle.check_errors.specs.declared.error.ValidationError.TheVariants as validation
 use Rattle.spec_handles.specs.InOrder.{HandlesOK}
-use Rattle.judgement.specs.ModuleSteps as step
-use Rattle.judgement.specs.ModuleSteps.{ModuleStep, IsFirstFailing}
-use Rattle.spec_statements.specs.Functions.{FunctionSettings}
+use Rattle.judgement.specs.judged.ModuleSteps as step
+use Rattle.judgement.specs.judged.ModuleSteps.{ModuleStep, IsFirstFailing}
+use Rattle.spec_statements.specs.judged.Functions.{FunctionSettings}
 
 -- the step and the item of a refusal; none of one for a handle
 pub record Spot : Type 0 where

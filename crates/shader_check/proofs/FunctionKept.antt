@@ -2,17 +2,17 @@
 use Rattle.std.proofs.Common.{ℕ, List, length, Option}
 use Rattle.std.proofs.lemmas.Option.{slice_get_within}
 use Rattle.shader_check.proofs.ByChains.{accepted_at, refused_at}
-use Rattle.shader_check.specs.Chains.{AreKept, IsFunctionFault}
-use Rattle.shader_check.specs.Judged.{AreJudged, IsFirstRefused, IsRefusal}
-use Rattle.shader_check.specs.Validated.{IsRefusedWith}
+use Rattle.shader_check.specs.found.Chains.{AreKept, IsFunctionFault}
+use Rattle.shader_check.specs.found.Judged.{AreJudged, IsFirstRefused, IsRefusal}
+use Rattle.shader_check.specs.found.Validated.{IsRefusedWith}
 use Rattle.check_errors.specs.declared.error.InvalidFunction.{InvalidFunction}
 use Rattle.ir_faults.specs.declared.refusal.Refusal.{Refusal}
 use Rattle.ir_faults.specs.declared.refusal.Refusal.TheVariants as refusal
 use Rattle.ir_flags.specs.declared.stages.ShaderStages.{ShaderStages}
-use Rattle.ir_items.specs.Plain.{PlainModule}
+use Rattle.ir_items.specs.judged.Plain.{PlainModule}
 use Rattle.function_real_lower.specs.Readings.{reading_of, faults_of}
-use Rattle.spec_analysis.specs.Summaries.{Summary}
-use Rattle.spec_statements.specs.Functions.{FunctionSettings}
+use Rattle.spec_analysis.specs.judged.Summaries.{Summary}
+use Rattle.spec_statements.specs.judged.Functions.{FunctionSettings}
 
 module _ (s : FunctionSettings) (m : PlainModule) where
   pub kept : (summaries : List Summary) (stages : List ShaderStages) (held : Option ℕ) → AreJudged reading_of s m (length m.functions) summaries stages held → AreKept s m summaries

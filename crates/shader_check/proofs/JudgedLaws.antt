@@ -1,10 +1,10 @@
 -- What is found of a document is found of the bytes that spell it.
 use Rattle.std.proofs.Common.{◌≡◌, ℕ, List, [], Result, Ok, Err, IfOk, string_bytes, sym, subst}
 use Rattle.std.specs.declared.alloc.AllocError.{AllocError}
-use Rattle.document_reader.specs.Plain.{PlainDocument}
-use Rattle.document_reader.specs.Form.{Reads}
-use Rattle.ir_items.specs.Plain.{PlainModule}
-use Rattle.judgement.specs.Steps.{IsFinding, IsPrepared, function_settings}
+use Rattle.document_reader.specs.judged.Plain.{PlainDocument}
+use Rattle.document_reader.specs.judged.Form.{Reads}
+use Rattle.ir_items.specs.judged.Plain.{PlainModule}
+use Rattle.judgement.specs.judged.Steps.{IsFinding, IsPrepared, function_settings}
 use Rattle.judgement.specs.declared.finding.Finding.{Finding}
 use Rattle.judgement.specs.declared.finding.Finding.TheVariants.{Accepted, RefusedDocument, RefusedHandles, Refused}
 use Rattle.module_validator.specs.declared.error.ModuleError.{ModuleError}
@@ -13,9 +13,9 @@ use Rattle.check_errors.specs.declared.error.ValidationError.{ValidationError}
 use Rattle.check_errors.specs.declared.error.ValidationError.TheVariants as error
 use Rattle.shader_check.proofs.Kept.{reported}
 use Rattle.shader_check.proofs.ModuleLaws.{found_of}
-use Rattle.shader_check.specs.Examined.{finding_in, refused_early, refused_by, IsExamined, IsExaminedDocument, IsKeptIn, IsReportedIn}
-use Rattle.shader_check.specs.Judgements.{IsJudgementOf, IsJudgementOn}
-use Rattle.shader_check.specs.Theorem.{Judged, JudgedDocument, IsReported, IsReportedOf}
+use Rattle.shader_check.specs.found.Examined.{finding_in, refused_early, refused_by, IsExamined, IsExaminedDocument, IsKeptIn, IsReportedIn}
+use Rattle.shader_check.specs.found.Judgements.{IsJudgementOf, IsJudgementOn}
+use Rattle.shader_check.specs.judged.Theorem.{Judged, JudgedDocument, IsReported, IsReportedOf}
 use Rattle.shader_check.specs.declared.examined.Examined.{Examined}
 use Rattle.shader_check.specs.declared.examined.Examined.TheVariants as examined
 use Rattle.shader_check.specs.declared.reported.Judgement.{Judgement}

@@ -4,8 +4,8 @@ use Rattle.std.proofs.lemmas.List.{length-map}
 use Rattle.std.proofs.lemmas.Option.{slice_get-map}
 use Rattle.typing_infos.specs.Infos.{summary_of}
 use Rattle.typing_infos.specs.declared.function_info.FunctionInfo.{FunctionInfo}
-use Rattle.shader_check.specs.Validated.{IsValidated}
-use Rattle.ir_items.specs.Plain.{PlainEntry, PlainModule}
+use Rattle.shader_check.specs.found.Validated.{IsValidated}
+use Rattle.ir_items.specs.judged.Plain.{PlainEntry, PlainModule}
 use Rattle.module_handles.proofs.Whole.{order_gives_conditions}
 use Rattle.typing_infos.specs.declared.info.ModuleInfo.{ModuleInfo}
 use Rattle.check_report.proofs.Noted.{noted_is_reported}
@@ -13,7 +13,7 @@ use Rattle.check_report.specs.Reported.{IsEntryInfo, IsReported}
 use Rattle.spec_handles.specs.Modules as part
 use Rattle.spec_handles.specs.References.{item}
 use Rattle.spec_handles.specs.declared.target.Target.TheVariants as target
-use Rattle.spec_statements.specs.Functions.{FunctionSettings}
+use Rattle.spec_statements.specs.judged.Functions.{FunctionSettings}
 
 module _ (s : FunctionSettings) (m : PlainModule) (info : ModuleInfo) (h : IsValidated s false m info) where
   entry_info : (number : ℕ) (e : PlainEntry) (i : FunctionInfo) → slice_get m.entries number ≡ Some e → slice_get info.entry_points.items number ≡ Some i → IsEntryInfo m e i

@@ -1,22 +1,22 @@
 -- One text is expected for some bytes.
 use Rattle.std.proofs.Common.{◌≡◌, ◌↔◌, IsTrue, ℕ, Bool, true, false, List, ◌++◌, refl, sym, ap, subst, ◌∙◌}
 use Rattle.ir_flags.specs.Settings.{PlainSettings}
-use Rattle.ir_items.specs.Plain.{PlainModule}
+use Rattle.ir_items.specs.judged.Plain.{PlainModule}
 use Rattle.ir_items.proofs.Returned.{one_returned}
-use Rattle.document_reader.specs.Plain.{PlainDocument}
+use Rattle.document_reader.specs.judged.Plain.{PlainDocument}
 use Rattle.document_reader.proofs.Seam.{one_document_lem}
-use Rattle.judgement.specs.Steps.{IsFinding, IsPrepared, IsScopeStrict, module_settings, function_settings}
-use Rattle.judgement.specs.Text.{text_of}
+use Rattle.judgement.specs.judged.Steps.{IsFinding, IsPrepared, IsScopeStrict, module_settings, function_settings}
+use Rattle.judgement.specs.judged.Text.{text_of}
 use Rattle.judgement.specs.declared.finding.Step.{Step}
 use Rattle.judgement.specs.declared.finding.Step.TheVariants.{Layout, «Type», Typing, Expression, Constant, Override, Global, Function, Entry}
 use Rattle.judgement.specs.declared.finding.Finding.{Finding}
 use Rattle.judgement.specs.declared.finding.Finding.TheVariants.{Accepted, RefusedDocument, RefusedHandles, Refused}
 use Rattle.spec_handles.specs.InOrder.{HandlesOK}
-use Rattle.judgement.specs.ModuleSteps as step
+use Rattle.judgement.specs.judged.ModuleSteps as step
 use Rattle.judgement.proofs.OneReport.{one_report}
-use Rattle.judgement.specs.Reports.{IsReport}
+use Rattle.judgement.specs.judged.Reports.{IsReport}
 use Rattle.shader_check.proofs.Failing.{Family, up_to_overrides, at_variables, at_functions, at_entries, IsFailing, in_order, none_failing, failing_once}
-use Rattle.shader_check.specs.Theorem.{Finds, FindsIn, Judged, OneText, IsReportOn, IsReported}
+use Rattle.shader_check.specs.judged.Theorem.{Finds, FindsIn, Judged, OneText, IsReportOn, IsReported}
 
 -- two truths that say the same are one
 same_truth : (a b : Bool) (P : Type 0) → IsTrue a ↔ P → IsTrue b ↔ P → a ≡ b

@@ -2,9 +2,9 @@
 use Rattle.std.proofs.Common.{◌≡◌, ◌<◌, ℕ, List, length, map, get_or, option_map, Some, refl, sym, ap, ◌∙◌, slice_get, subst}
 use Rattle.std.proofs.lemmas.List.{length-map}
 use Rattle.std.proofs.lemmas.Option.{slice_get-map, slice_get_read}
-use Rattle.ir_arena.specs.Arenas.{value_at, value_of_entry}
+use Rattle.ir_arena.specs.found.Arenas.{value_at, value_of_entry}
 use Rattle.ir_arena.specs.declared.span.Span.{Span}
-use Rattle.ir_items.specs.GlobalView.{values_of}
+use Rattle.ir_items.specs.found.GlobalView.{values_of}
 
 module _ {T : Type 0} (entries : List (T × Span)) (h : ℕ) (v : T) (at : Some v ≡ value_at entries h) where
   pub value_there : slice_get (values_of entries) h ≡ Some v

@@ -2,17 +2,17 @@
 use Rattle.std.proofs.Common.{◌≡◌, ℕ, suc, Bool, List, [], ◌∷◌, ◌++◌, map, length, IsTrue, codes, nat_eq, refl, ap, subst}
 use Rattle.std.specs.List.{starts_with}
 use Rattle.ir_arena.specs.declared.span.Span.{Span}
-use Rattle.ir_items.specs.GlobalView.{values_of}
+use Rattle.ir_items.specs.found.GlobalView.{values_of}
 use Rattle.document_reader.proofs.Seam.{one_document_lem}
-use Rattle.judgement.specs.Text.{text_of}
+use Rattle.judgement.specs.judged.Text.{text_of}
 use Rattle.judgement.specs.declared.finding.Finding.{Finding}
 use Rattle.judgement.specs.declared.finding.Finding.TheVariants.{Accepted, RefusedDocument, RefusedHandles, Refused}
 use Rattle.judgement_runs.proofs.Local.{reports_are_local}
 use Rattle.judgement_runs.proofs.Sound.{accepted_is_sound}
-use Rattle.judgement.specs.Reports.{IsReport}
+use Rattle.judgement.specs.judged.Reports.{IsReport}
 use Rattle.shader_check.proofs.Once.{prepared_once}
 use Rattle.shader_check.proofs.Returns.{returns_dont_show_lem}
-use Rattle.shader_check.specs.Theorem.{Finds, Judged, IsReportOn, IsReportFor, IsReported, IsExpected, SoundText, AcceptedTextsAreSound}
+use Rattle.shader_check.specs.judged.Theorem.{Finds, Judged, IsReportOn, IsReportFor, IsReported, IsExpected, SoundText, AcceptedTextsAreSound}
 
 -- how many values stand in an arena
 pub many_values : {T View : Type 0} (view : T → View) (entries : List (T × Span)) → length (map view (values_of entries)) ≡ length entries

@@ -1,18 +1,18 @@
 -- The text on a document without results is the same with missing returns put in and without.
 use Rattle.std.proofs.Common.{ℕ, Bool, true, false, List, refl, subst}
-use Rattle.ir_items.specs.Plain.{PlainModule}
-use Rattle.ir_items.specs.Returned.{returned_module}
+use Rattle.ir_items.specs.judged.Plain.{PlainModule}
+use Rattle.ir_items.specs.judged.Returned.{returned_module}
 use Rattle.ir_items.proofs.Returned.{returned_by_bodies}
-use Rattle.document_reader.specs.Plain.{PlainDocument}
-use Rattle.document_reader.specs.Form.{Reads}
+use Rattle.document_reader.specs.judged.Plain.{PlainDocument}
+use Rattle.document_reader.specs.judged.Form.{Reads}
 use Rattle.document_reader.proofs.Seam.{one_document_lem}
-use Rattle.judgement.specs.Steps.{IsPrepared}
+use Rattle.judgement.specs.judged.Steps.{IsPrepared}
 use Rattle.judgement.specs.declared.finding.Finding.{Finding}
 use Rattle.judgement.specs.declared.finding.Finding.TheVariants.{Accepted, RefusedDocument, RefusedHandles, Refused}
-use Rattle.judgement_returns.specs.Like.{HasNoResult}
-use Rattle.judgement_returns.specs.Laws.{AreJudgedAlike}
+use Rattle.judgement_returns.specs.judged.Like.{HasNoResult}
+use Rattle.judgement_returns.specs.found.Laws.{AreJudgedAlike}
 use Rattle.judgement_returns.proofs.Finding.{returns_dont_matter}
-use Rattle.shader_check.specs.Theorem.{FindsIn, Finds, JudgedDocument, Judged, IsReportOn, IsReportedOf, IsReported, with_returns, ReturnsDontShow}
+use Rattle.shader_check.specs.judged.Theorem.{FindsIn, Finds, JudgedDocument, Judged, IsReportOn, IsReportedOf, IsReported, with_returns, ReturnsDontShow}
 
 -- there is a module that is judged, whatever the settings say of returns
 some_prepared : (returns : Bool) (m : PlainModule) → (n : PlainModule) × IsPrepared returns m n

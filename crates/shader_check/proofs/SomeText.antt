@@ -6,27 +6,27 @@ use Rattle.ir_flags.specs.Sets.{Has}
 use Rattle.ir_flags.specs.Settings.{PlainSettings}
 use Rattle.ir_flags.specs.declared.settings.ValidationFlags.{ValidationFlags}
 use Rattle.ir_flags.specs.declared.settings.TheConstants.ValidationFlags.{BLOCKS, STRICT_SCOPE}
-use Rattle.ir_items.specs.Plain.{PlainModule}
-use Rattle.ir_items.specs.Returned.{returned_module}
+use Rattle.ir_items.specs.judged.Plain.{PlainModule}
+use Rattle.ir_items.specs.judged.Returned.{returned_module}
 use Rattle.ir_items.proofs.Returned.{returned_by_bodies}
-use Rattle.document_reader.specs.Plain.{PlainDocument}
-use Rattle.document_reader.specs.Distinct.{AreDistinct}
-use Rattle.document_reader.specs.Form.{Reads}
+use Rattle.document_reader.specs.judged.Plain.{PlainDocument}
+use Rattle.document_reader.specs.judged.Distinct.{AreDistinct}
+use Rattle.document_reader.specs.judged.Form.{Reads}
 use Rattle.document_reader.proofs.Candidates.{IsCandidate, candidate}
 use Rattle.spec_handles.specs.InOrder.{HandlesOK}
 use Rattle.judgement.proofs.Reached.{reach_first, reach, all_passed}
-use Rattle.judgement.specs.ModuleSteps.{ModuleStep, layout, type, typing, expression, constant, override, item_count, StepOK, StepPasses, IsReached, IsFirstFailing, ModuleOK}
-use Rattle.judgement.specs.Steps.{IsFinding, IsPrepared, IsScopeStrict, module_settings, function_settings}
-use Rattle.judgement.specs.Text.{text_of}
+use Rattle.judgement.specs.judged.ModuleSteps.{ModuleStep, layout, type, typing, expression, constant, override, item_count, StepOK, StepPasses, IsReached, IsFirstFailing, ModuleOK}
+use Rattle.judgement.specs.judged.Steps.{IsFinding, IsPrepared, IsScopeStrict, module_settings, function_settings}
+use Rattle.judgement.specs.judged.Text.{text_of}
 use Rattle.judgement.specs.declared.finding.Step.TheVariants.{Layout, «Type», Typing, Expression, Constant, Override, Global, Function, Entry}
 use Rattle.judgement.specs.declared.finding.Finding.{Finding}
 use Rattle.judgement.specs.declared.finding.Finding.TheVariants.{Accepted, RefusedDocument, RefusedHandles, Refused}
-use Rattle.shader_check.specs.Theorem.{Judged, IsReported, SomeText}
-use Rattle.spec_interface.specs.Modules.{EntryAtOK, EntriesOK}
-use Rattle.spec_statements.specs.ModuleFunctions.{FunctionAtOK, FunctionsOK}
-use Rattle.spec_interface.specs.Globals.{GlobalOK, GlobalsOK}
+use Rattle.shader_check.specs.judged.Theorem.{Judged, IsReported, SomeText}
+use Rattle.spec_interface.specs.judged.Modules.{EntryAtOK, EntriesOK}
+use Rattle.spec_statements.specs.judged.ModuleFunctions.{FunctionAtOK, FunctionsOK}
+use Rattle.spec_interface.specs.judged.Globals.{GlobalOK, GlobalsOK}
 use Rattle.judgement.proofs.SomeReport.{some_report_for}
-use Rattle.judgement.specs.Reports.{IsReport}
+use Rattle.judgement.specs.judged.Reports.{IsReport}
 use Rattle.judgement.proofs.Classical.{Holds, surely, then, either, Sought, all_or_first}
 use Rattle.shader_check.proofs.JudgedLaws.{found_in, judged}
 

@@ -2,24 +2,24 @@
 use Rattle.std.proofs.Common.{◌≡◌, ◌↔◌, ℕ, ◌<◌, List, length, Option, Some, refl, sym, ap, subst, ◌∙◌, slice_get, unwrap_or}
 use Rattle.function_interface.specs.Question.{question}
 use Rattle.shader_check.proofs.Chained.{some_is}
-use Rattle.shader_check.specs.Judged.{IsNotedAt, AreNoted}
-use Rattle.ir_blocks.specs.Places.{Place, OccursAt}
-use Rattle.ir_blocks.specs.Plain.{PlainStatement, emit, block, if_, switch, loop, break, continue, return, kill, operation, call}
-use Rattle.ir_types.specs.ExpressionPlain.{PlainExpression, compose, plain}
+use Rattle.shader_check.specs.found.Judged.{IsNotedAt, AreNoted}
+use Rattle.ir_blocks.specs.judged.Places.{Place, OccursAt}
+use Rattle.ir_blocks.specs.judged.Plain.{PlainStatement, emit, block, if_, switch, loop, break, continue, return, kill, operation, call}
+use Rattle.ir_types.specs.judged.ExpressionPlain.{PlainExpression, compose, plain}
 use Rattle.ir_types.specs.declared.expressions.Expression.{Expression}
 use Rattle.ir_types.specs.declared.expressions.Expression.TheVariants as x
 use Rattle.ir_flags.specs.Sets.{Has}
 use Rattle.ir_flags.specs.declared.stages.ShaderStages.{ShaderStages}
-use Rattle.ir_items.specs.Plain.{PlainFunction, PlainModule}
+use Rattle.ir_items.specs.judged.Plain.{PlainFunction, PlainModule}
 use Rattle.function_real_lower.specs.Readings.{reading_of}
-use Rattle.spec_analysis.specs.Summaries.{Summary}
-use Rattle.spec_interface.specs.Modules.{reading_with, AreStages}
-use Rattle.spec_statements.specs.ModuleFunctions.{settings_with}
+use Rattle.spec_analysis.specs.judged.Summaries.{Summary}
+use Rattle.spec_interface.specs.judged.Modules.{reading_with, AreStages}
+use Rattle.spec_statements.specs.judged.ModuleFunctions.{settings_with}
 use Rattle.spec_handles.specs.Conditions.{CalleesPrecede}
 use Rattle.spec_handles.specs.References.{computed, done, expression_names, statement_calls}
-use Rattle.spec_statements.specs.ExpressionStages.{all_stages, callee_stages, stages_in, stages_of}
-use Rattle.spec_statements.specs.Functions.{FunctionSettings, AllowsStage}
-use Rattle.spec_statements.specs.Stages.{statement_stages}
+use Rattle.spec_statements.specs.judged.ExpressionStages.{all_stages, callee_stages, stages_in, stages_of}
+use Rattle.spec_statements.specs.judged.Functions.{FunctionSettings, AllowsStage}
+use Rattle.spec_statements.specs.judged.Stages.{statement_stages}
 
 -- the two lists have the same stages of the functions that a function names
 abbrev Alike : (index : ℕ) → (given noted : List ShaderStages) → Type 0

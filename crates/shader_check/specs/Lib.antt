@@ -1,9 +1,2 @@
-pub mod Settings
-pub mod Judged
-pub mod JudgedEntries
-pub mod Chains
-pub mod Validated
-pub mod Examined
-pub mod Theorem
-pub mod Judgements
-pub mod Fresh
+pub mod judged
+pub mod found

@@ -6,8 +6,8 @@ ghost use Rattle.check_ports.specs.Sink.{AppendsFront, WritesAll, WritingFails, 
 ghost use Rattle.check_ports.specs.Source.{has_failed as source_failed, reader_of, Reading, ReadingFails};
 ghost use Rattle.check_ports.specs.declared.source.TheConstants.{MAX_CALLS};
 ghost use Rattle.shader_check.specs.declared.check.TheConstants.{MAX_TAKEN};
-ghost use Rattle.shader_check.specs.Theorem.{verdict_of, Answers, AnswersInCalls, BreaksOff, BreaksOffInCalls};
-ghost use Rattle.shader_check.specs.Theorem.{status_of, message_of};
+ghost use Rattle.shader_check.specs.judged.Theorem.{verdict_of, Answers, AnswersInCalls, BreaksOff, BreaksOffInCalls};
+ghost use Rattle.shader_check.specs.judged.Theorem.{status_of, message_of};
 
 use crate::judge::judge;
 use check_ports::{MAX_CALLS, ReadCall, Sink, Source, TakeError, WriteCall, WriteFailed};
@@ -53,7 +53,7 @@ impl From<AllocError> for Fault {
 }
 
 impl From<TakeError> for Fault {
-    ghost use Rattle.shader_check.specs.Theorem.{fault_of};
+    ghost use Rattle.shader_check.specs.judged.Theorem.{fault_of};
 
     ghost from_gives = { λ e f. f ≡ fault_of e };
 

@@ -3,13 +3,13 @@
 ghost use Rattle.std.specs.Prelude.{◌≡◌, ◌<◌, ◌+◌, ◌++◌, ◌∷◌, [], MatchResult, OnOk, Some, length, map, slice_get};
 ghost use Rattle.function_entries.specs.Interfaces.{AreInterfacesKnown};
 ghost use Rattle.function_validator.specs.Names.{AreNamesBelow};
-ghost use Rattle.shader_check.specs.JudgedEntries.{AreEntriesJudged, IsConflictReported, IsEntryRefusal, IsEntryReportedAt, note_of};
-ghost use Rattle.shader_check.specs.Settings.{settings_in};
-ghost use Rattle.ir_items.specs.Plain.{PlainEntry};
-ghost use Rattle.ir_items.specs.View.{module_view};
-ghost use Rattle.spec_analysis.specs.Summaries.{AreSummaries};
-ghost use Rattle.spec_interface.specs.EarlierPayloads.{IsPayloadBeforeEntry};
-ghost use Rattle.spec_interface.specs.Modules.{IsConflict};
+ghost use Rattle.shader_check.specs.found.JudgedEntries.{AreEntriesJudged, IsConflictReported, IsEntryRefusal, IsEntryReportedAt, note_of};
+ghost use Rattle.shader_check.specs.found.Settings.{settings_in};
+ghost use Rattle.ir_items.specs.judged.Plain.{PlainEntry};
+ghost use Rattle.ir_items.specs.found.View.{module_view};
+ghost use Rattle.spec_analysis.specs.judged.Summaries.{AreSummaries};
+ghost use Rattle.spec_interface.specs.judged.EarlierPayloads.{IsPayloadBeforeEntry};
+ghost use Rattle.spec_interface.specs.judged.Modules.{IsConflict};
 ghost use Rattle.spec_handles.specs.InOrder.{HandlesOK};
 ghost use Rattle.function_statement_checks.specs.Descriptors.{AreDescriptors};
 

@@ -1,6 +1,6 @@
 // What is found of a document, with the error where its module is refused.
 ghost use Rattle.std.specs.Prelude.{◌≡◌};
-ghost use Rattle.shader_check.specs.Examined.{step_of, refused_early, refused_by, finding_in};
+ghost use Rattle.shader_check.specs.found.Examined.{step_of, refused_early, refused_by, finding_in};
 
 use check_errors::ValidationError;
 use judgement::{Finding, Step};

@@ -1,9 +1,9 @@
 //! All functions of a module, one after the other.
 
 ghost use Rattle.std.specs.Prelude.{◌≡◌, ◌<◌, ◌+◌, ◌++◌, ◌∷◌, [], MatchResult, false, length, map};
-ghost use Rattle.shader_check.specs.Judged.{AreJudged, IsReportedAt, IsRefusal};
-ghost use Rattle.shader_check.specs.Settings.{settings_for};
-ghost use Rattle.ir_items.specs.View.{module_view};
+ghost use Rattle.shader_check.specs.found.Judged.{AreJudged, IsReportedAt, IsRefusal};
+ghost use Rattle.shader_check.specs.found.Settings.{settings_for};
+ghost use Rattle.ir_items.specs.found.View.{module_view};
 ghost use Rattle.spec_handles.specs.InOrder.{HandlesOK};
 ghost use Rattle.function_statement_checks.specs.Descriptors.{AreDescriptors};
 

@@ -1,13 +1,13 @@
 // The judgement over bytes.
 ghost use Rattle.std.specs.Prelude.{◌≡◌, ◌↔◌, [], IfOk, IsTrue, OnErr, OnOk, string_bytes};
-ghost use Rattle.ir_items.specs.Copies.{spanned_module};
-ghost use Rattle.ir_items.specs.View.{module_view};
-ghost use Rattle.document_reader.specs.View.{document_view, settings_view as document_settings};
-ghost use Rattle.shader_check.specs.Settings.{settings_in};
-ghost use Rattle.judgement.specs.Steps.{IsPrepared, IsScopeStrict, function_settings};
+ghost use Rattle.ir_items.specs.found.Copies.{spanned_module};
+ghost use Rattle.ir_items.specs.found.View.{module_view};
+ghost use Rattle.document_reader.specs.found.View.{document_view, settings_view as document_settings};
+ghost use Rattle.shader_check.specs.found.Settings.{settings_in};
+ghost use Rattle.judgement.specs.judged.Steps.{IsPrepared, IsScopeStrict, function_settings};
 ghost use Rattle.judgement.specs.declared.finding.Finding.TheVariants.{RefusedDocument};
-ghost use Rattle.shader_check.specs.Examined.{finding_in, IsExamined, IsExaminedDocument, IsKeptIn, IsLeft, IsReportedIn};
-ghost use Rattle.shader_check.specs.Judgements.{IsJudgementOf, IsJudgementOn};
+ghost use Rattle.shader_check.specs.found.Examined.{finding_in, IsExamined, IsExaminedDocument, IsKeptIn, IsLeft, IsReportedIn};
+ghost use Rattle.shader_check.specs.found.Judgements.{IsJudgementOf, IsJudgementOn};
 
 use crate::examined::Examined;
 use crate::reported::Judgement;

@@ -1,9 +1,9 @@
 // Laws of the judgement over bytes, and what is required of an accepted module.
 ghost use Rattle.std.specs.Prelude.{◌≡◌, false, length, true};
-ghost use Rattle.ir_items.specs.View.{module_view};
-ghost use Rattle.judgement_runs.specs.Sound.{BoundsDepth};
-ghost use Rattle.shader_check.specs.Fresh.{AnswersAreAlike};
-ghost use Rattle.shader_check.specs.Theorem.{AcceptedTextsAreSound, OneText, SomeText, ReturnsDontShow};
+ghost use Rattle.ir_items.specs.found.View.{module_view};
+ghost use Rattle.judgement_runs.specs.judged.Sound.{BoundsDepth};
+ghost use Rattle.shader_check.specs.found.Fresh.{AnswersAreAlike};
+ghost use Rattle.shader_check.specs.judged.Theorem.{AcceptedTextsAreSound, OneText, SomeText, ReturnsDontShow};
 
 pub use check_report::{Leaf, buffer_leaves};
 pub use document_reader::laws::{distinct_types, one_document};

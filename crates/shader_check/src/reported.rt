@@ -1,6 +1,6 @@
 // What is found of a document, with the report on it.
 ghost use Rattle.std.specs.Prelude.{◌≡◌, ◌++◌, IfOk, string_bytes};
-ghost use Rattle.judgement.specs.Text.{text_of};
+ghost use Rattle.judgement.specs.judged.Text.{text_of};
 
 use judgement::Finding;
 use std::alloc::{AllocError, Global};

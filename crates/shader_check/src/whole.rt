@@ -1,22 +1,22 @@
 //! A whole module.
 
 ghost use Rattle.std.specs.Prelude.{◌≡◌, IfErr, IfOk, MatchResult, None, OnOk, false, true};
-ghost use Rattle.shader_check.specs.Settings.{settings_in};
+ghost use Rattle.shader_check.specs.found.Settings.{settings_in};
 ghost use Rattle.check_errors.specs.Spans.{IsRefusedAt};
-ghost use Rattle.shader_check.specs.Validated.{IsFaultAfter, IsKeptWith, IsRefusedWith, IsReportedBy, IsValidated, IsValidationFault, module_settings};
+ghost use Rattle.shader_check.specs.found.Validated.{IsFaultAfter, IsKeptWith, IsRefusedWith, IsReportedBy, IsValidated, IsValidationFault, module_settings};
 ghost use Rattle.check_errors.specs.declared.error.ValidationError.TheVariants as error;
-ghost use Rattle.ir_items.specs.View.{module_view};
+ghost use Rattle.ir_items.specs.found.View.{module_view};
 ghost use Rattle.module_types.specs.Validated.{AreAccepted};
 ghost use Rattle.module_validator.specs.Faults.{IsModuleFault};
 ghost use Rattle.module_validator.specs.Refusals.{IsVariableFault};
 ghost use Rattle.module_validator.specs.Reported.{IsInfoOf};
-ghost use Rattle.ir_proc.specs.Filters.{ParentsPrecede};
+ghost use Rattle.ir_proc.specs.found.Filters.{ParentsPrecede};
 ghost use Rattle.function_real_lower.specs.Made.{IsMadeOf};
 ghost use Rattle.function_real_lower.specs.Severities.{AreKnown};
-ghost use Rattle.spec_expressions.specs.Context.{outside};
-ghost use Rattle.spec_interface.specs.Globals.{GlobalsOK};
+ghost use Rattle.spec_expressions.specs.judged.Context.{outside};
+ghost use Rattle.spec_interface.specs.judged.Globals.{GlobalsOK};
 ghost use Rattle.spec_handles.specs.InOrder.{HandlesOK};
-ghost use Rattle.judgement.specs.ModuleSteps.{ModuleOK};
+ghost use Rattle.judgement.specs.judged.ModuleSteps.{ModuleOK};
 ghost use Rattle.typing_expressions.specs.Types.{AreTypes};
 
 use crate::entries::judge_entries;

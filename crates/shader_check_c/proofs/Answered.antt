@@ -1,7 +1,7 @@
 -- What is known of a check over a list of bytes and an empty list.
 use Rattle.std.proofs.Common.{◌≡◌, ◌↔◌, ℕ, List, [], Option, Some, IsTrue, codes, nat_eq, sym, subst}
 use Rattle.std.specs.List.{starts_with}
-use Rattle.shader_check.specs.Theorem.{Answers, IsExpected}
+use Rattle.shader_check.specs.judged.Theorem.{Answers, IsExpected}
 use Rattle.shader_check.specs.declared.check.Verdict.{Verdict}
 use Rattle.shader_check.specs.declared.check.Verdict.TheVariants.{Accepted}
 use Rattle.shader_check.proofs.Promises.{accepted_texts_are_sound_lem}

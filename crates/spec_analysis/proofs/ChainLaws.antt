@@ -1,13 +1,13 @@
 -- A chain by its first step: what a function has over its chains is its own, joined with what each function that it calls has.
 use Rattle.std.proofs.Common.{◌≡◌, ◌⊎◌, ℕ, Option, Some, None, List, [], ◌∷◌, ◌++◌, refl, ap, sym, subst, ◌∙◌, inl, inr, ⊎_elim, slice_get}
 use Rattle.std.specs.Int.{bit_at}
-use Rattle.ir_items.specs.Plain.{PlainFunction, PlainModule}
+use Rattle.ir_items.specs.judged.Plain.{PlainFunction, PlainModule}
 use Rattle.spec_analysis.specs.declared.global_use.TheConstants.GlobalUse.{QUERY}
 use Rattle.spec_analysis.specs.declared.sampling.GlobalOrArgument.{GlobalOrArgument}
 use Rattle.spec_analysis.specs.declared.sampling.GlobalOrArgument.TheVariants.{Global, Argument}
-use Rattle.spec_analysis.specs.Pairs.{SamplingPair}
-use Rattle.spec_analysis.specs.Chains.{place, Step, Calls, IsChain, end_of, bound, argument_means, seen_through, Reaches, UsesDirectly, Names, IsUnusedFrom, HasUse, Samples, HasPair}
-use Rattle.spec_analysis.specs.Summaries.{ComesUp}
+use Rattle.spec_analysis.specs.judged.Pairs.{SamplingPair}
+use Rattle.spec_analysis.specs.judged.Chains.{place, Step, Calls, IsChain, end_of, bound, argument_means, seen_through, Reaches, UsesDirectly, Names, IsUnusedFrom, HasUse, Samples, HasPair}
+use Rattle.spec_analysis.specs.judged.Summaries.{ComesUp}
 
 pub end_of-append : (f : PlainFunction) (s : Step) (rest : List Step) → end_of f (rest ++ s ∷ []) ≡ end_of s.function rest
 end_of-append f s [] = refl

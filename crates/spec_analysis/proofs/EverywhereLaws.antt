@@ -1,9 +1,9 @@
 -- A test that is made everywhere passes at every place.
 use Rattle.std.proofs.Common.{◌≡◌, ℕ, zero, suc, Bool, true, false, ◌&&◌, refl, subst}
-use Rattle.ir_blocks.specs.Plain.{PlainStatement, emit, block, if_, switch, loop, break, continue, return, kill, operation, call, PlainBlock, stop, next, PlainCases, no_case, case}
-use Rattle.ir_blocks.specs.Shapes.{shape_of, Part, inner, accepting, rejecting, case_at, loop_body, loop_continuing, case_body, part_of}
-use Rattle.ir_blocks.specs.Places.{Place, here, later, inside, condition, OccursAt}
-use Rattle.spec_analysis.specs.Everywhere.{PassesAtPlaces, everywhere, in_statement, in_cases}
+use Rattle.ir_blocks.specs.judged.Plain.{PlainStatement, emit, block, if_, switch, loop, break, continue, return, kill, operation, call, PlainBlock, stop, next, PlainCases, no_case, case}
+use Rattle.ir_blocks.specs.judged.Shapes.{shape_of, Part, inner, accepting, rejecting, case_at, loop_body, loop_continuing, case_body, part_of}
+use Rattle.ir_blocks.specs.judged.Places.{Place, here, later, inside, condition, OccursAt}
+use Rattle.spec_analysis.specs.found.Everywhere.{PassesAtPlaces, everywhere, in_statement, in_cases}
 
 pub both_true : (a b : Bool) → (a && b) ≡ true → (a ≡ true) × (b ≡ true)
 both_true true b e = (refl, e)

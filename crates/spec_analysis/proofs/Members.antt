@@ -1,6 +1,6 @@
 -- Members of lists.
 use Rattle.std.proofs.Common.{◌≡◌, ◌⊎◌, ℕ, suc, zero, ◌<◌, Some, None, Bool, true, false, List, [], ◌∷◌, ◌++◌, length, refl, ap, sym, subst, inl, inr, ⊎_elim, arith, map, slice_get}
-use Rattle.typing_rules.specs.Laws.{IsAmong}
+use Rattle.typing_rules.specs.judged.Laws.{IsAmong}
 
 pub among-left : {X : Type 0} (xs ys : List X) (x : X) → IsAmong x xs → IsAmong x (xs ++ ys)
 among-left [] ys x h = elim h [ ]

@@ -4,13 +4,13 @@ use Rattle.std.specs.Prelude.{◌↔◌, slice_index_or}
 use Rattle.std.specs.Int.{bit_at}
 use Rattle.std.proofs.lemmas.Bool.{cases_eq}
 use Rattle.std.proofs.lemmas.Nat.Bits.{bit_at-pow_other, bit_at-lt}
-use Rattle.ir_items.specs.Plain.{PlainFunction, PlainModule}
-use Rattle.typing_rules.specs.Laws.{IsAmong}
+use Rattle.ir_items.specs.judged.Plain.{PlainFunction, PlainModule}
+use Rattle.typing_rules.specs.judged.Laws.{IsAmong}
 use Rattle.spec_analysis.specs.declared.global_use.TheConstants.GlobalUse.{QUERY}
-use Rattle.spec_analysis.specs.Pairs.{SamplingPair}
-use Rattle.spec_analysis.specs.Effects.{Effect, takes, samples, runs, discards, effects_of}
-use Rattle.spec_analysis.specs.Chains.{place, Step, Calls, Reaches, UsesDirectly, Names, IsUnusedFrom, HasUse, Samples, HasPair, Discards, MayKill}
-use Rattle.spec_analysis.specs.Summaries.{Summary, no_use, HasBit, IsSummary, CallsOne, ComesUp, JoinsUse, IsJoined, KnownCallee, CalleesKnown, AreSummaries, CallsBelow, AgreeOnCallees}
+use Rattle.spec_analysis.specs.judged.Pairs.{SamplingPair}
+use Rattle.spec_analysis.specs.judged.Effects.{Effect, takes, samples, runs, discards, effects_of}
+use Rattle.spec_analysis.specs.judged.Chains.{place, Step, Calls, Reaches, UsesDirectly, Names, IsUnusedFrom, HasUse, Samples, HasPair, Discards, MayKill}
+use Rattle.spec_analysis.specs.judged.Summaries.{Summary, no_use, HasBit, IsSummary, CallsOne, ComesUp, JoinsUse, IsJoined, KnownCallee, CalleesKnown, AreSummaries, CallsBelow, AgreeOnCallees}
 use Rattle.spec_analysis.proofs.Members.{among-get, get-among, get-within}
 use Rattle.spec_analysis.proofs.ChainLaws.{reaches-from_call, reaches-here, reaches-cases, CalleeReaches, use-from_call, pair-from_call, pair-here, pair-cases, CalleePair}
 

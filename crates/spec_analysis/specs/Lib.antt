@@ -1,15 +1,2 @@
-pub mod Operands
-pub mod Effects
-pub mod Values
-pub mod Chains
-pub mod Summaries
-pub mod Laws
-pub mod Pairs
-pub mod Words
-pub mod Everywhere
-pub mod Positions
-pub mod Disruption
-pub mod Severity
-pub mod Uniformity
-pub mod Found
-pub mod Faults
+pub mod judged
+pub mod found

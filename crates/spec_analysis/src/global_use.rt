@@ -33,7 +33,7 @@ impl fmt::Debug for GlobalUse {
 
 impl Flags for GlobalUse {
     ghost use Rattle.std.specs.Prelude.{⊤};
-    ghost use Rattle.spec_analysis.specs.Words.{global_use_words};
+    ghost use Rattle.spec_analysis.specs.found.Words.{global_use_words};
 
     type Bits = u8;
 

@@ -1,6 +1,6 @@
 //! Laws of what a function has over its chains of calls.
 
-ghost use Rattle.spec_analysis.specs.Laws.{UsesByCalls, PairsByCalls, KillsByCalls, JoinedIsSummary, JoinedByCallees, CalleesAreKnown};
+ghost use Rattle.spec_analysis.specs.found.Laws.{UsesByCalls, PairsByCalls, KillsByCalls, JoinedIsSummary, JoinedByCallees, CalleesAreKnown};
 
 /// What a function uses and pairs over all chains of calls, and whether it may end the fragment: its own, joined for each
 /// call statement with what the callee has, the arguments substituted, and then `QUERY` for each global variable that it

@@ -35,7 +35,7 @@ impl fmt::Debug for UniformityRequirements {
 
 impl Flags for UniformityRequirements {
     ghost use Rattle.std.specs.Prelude.{⊤};
-    ghost use Rattle.spec_analysis.specs.Words.{requirement_words};
+    ghost use Rattle.spec_analysis.specs.found.Words.{requirement_words};
 
     type Bits = u8;
 

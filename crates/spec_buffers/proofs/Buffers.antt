@@ -6,34 +6,34 @@ use Rattle.ir_flags.specs.Sets.{Has}
 use Rattle.ir_flags.specs.declared.settings.Capabilities.{Capabilities}
 use Rattle.ir_flags.specs.declared.settings.TheConstants.ValidationFlags.{STRUCT_LAYOUTS}
 use Rattle.ir_flags.specs.declared.settings.ValidationFlags.{ValidationFlags}
-use Rattle.ir_items.specs.GlobalPlain.{PlainGlobal}
-use Rattle.ir_items.specs.Plain.{PlainModule}
+use Rattle.ir_items.specs.judged.GlobalPlain.{PlainGlobal}
+use Rattle.ir_items.specs.judged.Plain.{PlainModule}
 use Rattle.ir_kinds.specs.declared.spaces.AddressSpace.{AddressSpace}
 use Rattle.ir_kinds.specs.declared.spaces.AddressSpace.TheVariants as space
-use Rattle.ir_types.specs.Plain.{PlainInner, struct as written_struct, plain, PlainType}
+use Rattle.ir_types.specs.judged.Plain.{PlainInner, struct as written_struct, plain, PlainType}
 use Rattle.ir_types.specs.declared.types.TypeInner.TheVariants as inner
 use Rattle.spec_buffers.proofs.Inside.{everywhere_inside}
 use Rattle.spec_buffers.proofs.Placed.{buffer_sound}
 use Rattle.spec_buffers.specs.Laws.{buffer_type, BuffersOK, TypesAreSound, BuffersAreSound}
 use Rattle.spec_buffers.specs.Sound.{StrideOK, ShapesOK, IsBuffer}
-use Rattle.spec_interface.specs.Globals.{VariableOK, GlobalsOK}
-use Rattle.spec_interface.specs.Spaces.{array_base, counted, LiesIn}
+use Rattle.spec_interface.specs.judged.Globals.{VariableOK, GlobalsOK}
+use Rattle.spec_interface.specs.judged.Spaces.{array_base, counted, LiesIn}
 use Rattle.spec_handles.specs.InOrder.{HandlesOK}
 use Rattle.spec_handles.specs.Order.{a_type, type_on_named}
 use Rattle.spec_handles.specs.Modules.{variable, variable_type}
 use Rattle.spec_handles.specs.References.{item}
 use Rattle.spec_handles.specs.declared.target.Target.TheVariants as target
-use Rattle.judgement.specs.ModuleSteps.{layout, type, ModuleOK}
+use Rattle.judgement.specs.judged.ModuleSteps.{layout, type, ModuleOK}
 use Rattle.judgement.specs.declared.settings.ModuleSettings.{ModuleSettings}
-use Rattle.judgement.specs.Lines.{is_buffer, buffer_line, buffer_of}
-use Rattle.typing_forms.specs.Order.{named_types, TypesGoBack}
-use Rattle.typing_forms.specs.Resolutions.{inner_at}
-use Rattle.typing_layout.specs.Buffers.{IsStorage, IsUniform}
-use Rattle.typing_layout.specs.Layout.{size, alignment, LayoutOK}
-use Rattle.typing_layout.specs.Parts.{Everywhere}
-use Rattle.typing_layout.specs.Rules.{ShapeOK}
-use Rattle.typing_layout.specs.Tree.{Tree, scalar, vector, matrix, cooperative_matrix, atomic, pointer, value_pointer, array, struct, image, sampler, acceleration_structure, ray_query, binding_array}
-use Rattle.typing_layout.specs.View.{type_tree}
+use Rattle.judgement.specs.judged.Lines.{is_buffer, buffer_line, buffer_of}
+use Rattle.typing_forms.specs.judged.Order.{named_types, TypesGoBack}
+use Rattle.typing_forms.specs.judged.Resolutions.{inner_at}
+use Rattle.typing_layout.specs.judged.Buffers.{IsStorage, IsUniform}
+use Rattle.typing_layout.specs.judged.Layout.{size, alignment, LayoutOK}
+use Rattle.typing_layout.specs.judged.Parts.{Everywhere}
+use Rattle.typing_layout.specs.judged.Rules.{ShapeOK}
+use Rattle.typing_layout.specs.judged.Tree.{Tree, scalar, vector, matrix, cooperative_matrix, atomic, pointer, value_pointer, array, struct, image, sampler, acceleration_structure, ray_query, binding_array}
+use Rattle.typing_layout.specs.judged.View.{type_tree}
 
 -- of what the rules of types require, so much counts for leaves
 shape_counts : (c : Capabilities) (resolved : Bool) (t : Tree) → ShapeOK c resolved t → ShapesOK t

@@ -8,12 +8,12 @@ use Rattle.ir_types.specs.declared.types.ArraySize.TheVariants as count
 use Rattle.spec_buffers.proofs.Powers.{divides_max_left, divides_max_right, alignment_power, greatest_power, part_power, uniform_divides}
 use Rattle.spec_buffers.proofs.Runs.{Runs, runs_lower, runs_higher, runs_wider, runs_append, runs_inside, runs_repeated, runs_aligned, runs_fitting, runs_apart, runs_within}
 use Rattle.spec_buffers.specs.Sound.{StrideOK, LeavesOK, ShapesOK, IsBuffer}
-use Rattle.typing_layout.specs.Buffers.{PartsAligned, StorageAt, UniformAt}
-use Rattle.typing_layout.specs.Flags.{HasFlag, AllHave, HostShareable, Sized, IsInOrder}
-use Rattle.typing_layout.specs.Layout.{size, alignment, greatest_alignment, LayoutOK}
+use Rattle.typing_layout.specs.judged.Buffers.{PartsAligned, StorageAt, UniformAt}
+use Rattle.typing_layout.specs.judged.Flags.{HasFlag, AllHave, HostShareable, Sized, IsInOrder}
+use Rattle.typing_layout.specs.judged.Layout.{size, alignment, greatest_alignment, LayoutOK}
 use Rattle.spec_buffers.specs.Leaves.{inside, repeated, leaves, member_leaves}
-use Rattle.typing_layout.specs.Parts.{Part, listed, end_of, Everywhere, EverywhereIn}
-use Rattle.typing_layout.specs.Tree.{Tree, scalar, vector, matrix, cooperative_matrix, atomic, pointer, value_pointer, array, struct, image, sampler, acceleration_structure, ray_query, binding_array, Members, no_members, member}
+use Rattle.typing_layout.specs.judged.Parts.{Part, listed, end_of, Everywhere, EverywhereIn}
+use Rattle.typing_layout.specs.judged.Tree.{Tree, scalar, vector, matrix, cooperative_matrix, atomic, pointer, value_pointer, array, struct, image, sampler, acceleration_structure, ray_query, binding_array, Members, no_members, member}
 
 -- arrays without a length have one element, or there is none
 abbrev Bounded : (held : ℕ) → Type 0 → Type 0

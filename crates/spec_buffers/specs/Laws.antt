@@ -2,19 +2,19 @@
 use Rattle.std.specs.Prelude.{◌≡◌, ℕ, List, IsTrue, Some, slice_get}
 use Rattle.ir_flags.specs.Sets.{Has}
 use Rattle.ir_flags.specs.declared.settings.TheConstants.ValidationFlags.{STRUCT_LAYOUTS}
-use Rattle.ir_items.specs.GlobalPlain.{PlainGlobal}
-use Rattle.ir_items.specs.Plain.{PlainModule}
-use Rattle.ir_types.specs.Plain.{PlainType}
+use Rattle.ir_items.specs.judged.GlobalPlain.{PlainGlobal}
+use Rattle.ir_items.specs.judged.Plain.{PlainModule}
+use Rattle.ir_types.specs.judged.Plain.{PlainType}
 use Rattle.spec_buffers.specs.Sound.{StrideOK, LeavesOK, IsBuffer}
-use Rattle.spec_interface.specs.Globals.{GlobalsOK}
-use Rattle.spec_interface.specs.Spaces.{counted}
-use Rattle.judgement.specs.ModuleSteps.{ModuleOK}
+use Rattle.spec_interface.specs.judged.Globals.{GlobalsOK}
+use Rattle.spec_interface.specs.judged.Spaces.{counted}
+use Rattle.judgement.specs.judged.ModuleSteps.{ModuleOK}
 use Rattle.judgement.specs.declared.settings.ModuleSettings.{ModuleSettings}
-use Rattle.judgement.specs.Lines.{is_buffer, buffer_line, buffer_of}
-use Rattle.typing_layout.specs.Layout.{size, alignment}
-use Rattle.typing_layout.specs.Parts.{Everywhere}
-use Rattle.typing_layout.specs.Tree.{Tree}
-use Rattle.typing_layout.specs.View.{type_tree}
+use Rattle.judgement.specs.judged.Lines.{is_buffer, buffer_line, buffer_of}
+use Rattle.typing_layout.specs.judged.Layout.{size, alignment}
+use Rattle.typing_layout.specs.judged.Parts.{Everywhere}
+use Rattle.typing_layout.specs.judged.Tree.{Tree}
+use Rattle.typing_layout.specs.judged.View.{type_tree}
 
 -- the type that counts of a global variable: of a binding array that of its elements
 abbrev pub buffer_type : List PlainType → PlainGlobal → Tree

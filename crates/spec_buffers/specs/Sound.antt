@@ -3,12 +3,12 @@ use Rattle.std.specs.Prelude.{◌+◌, ◌≤◌, ◌⊎◌, ℕ}
 use Rattle.std.specs.Int.{◌∣◌}
 use Rattle.std.specs.List.{All, AllPairs}
 use Rattle.spec_buffers.specs.Leaves.{Leaf, leaves}
-use Rattle.typing_layout.specs.Buffers.{IsStorage, IsUniform}
-use Rattle.typing_layout.specs.Flags.{HasFlag, Sized}
-use Rattle.typing_layout.specs.Layout.{size, alignment, LayoutOK}
-use Rattle.typing_layout.specs.Parts.{listed, Everywhere}
-use Rattle.typing_layout.specs.Structs.{StructOK}
-use Rattle.typing_layout.specs.Tree.{Tree, array, struct}
+use Rattle.typing_layout.specs.judged.Buffers.{IsStorage, IsUniform}
+use Rattle.typing_layout.specs.judged.Flags.{HasFlag, Sized}
+use Rattle.typing_layout.specs.judged.Layout.{size, alignment, LayoutOK}
+use Rattle.typing_layout.specs.judged.Parts.{listed, Everywhere}
+use Rattle.typing_layout.specs.judged.Structs.{StructOK}
+use Rattle.typing_layout.specs.judged.Tree.{Tree, array, struct}
 
 -- the stride of an array is not shorter than its element, so that no two elements share a byte
 abbrev pub StrideOK : Tree → Type 0

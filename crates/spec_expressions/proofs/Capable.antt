@@ -3,13 +3,13 @@ use Rattle.std.proofs.Common.{inl, inr, ℕ, Bool}
 use Rattle.ir_flags.proofs.SetLaws.{within-over}
 use Rattle.ir_flags.specs.Sets.{Has, IsWithin}
 use Rattle.ir_flags.specs.declared.settings.Capabilities.{Capabilities}
-use Rattle.ir_items.specs.Plain.{PlainModule}
+use Rattle.ir_items.specs.judged.Plain.{PlainModule}
 use Rattle.ir_kinds.specs.declared.scalars.ScalarKind.{ScalarKind}
 use Rattle.ir_kinds.specs.declared.scalars.ScalarKind.TheVariants as kind
-use Rattle.spec_expressions.specs.GlobalExpressions.{Required, of_literal, of_composition, of_value, to_work_out, IsMet}
-use Rattle.spec_expressions.specs.ConstantLaws.{MoreCapabilities}
-use Rattle.typing_layout.specs.Widths.{IsWidthAllowed, IsKindAllowed}
-use Rattle.ir_kinds.specs.Values.{literal_scalar}
+use Rattle.spec_expressions.specs.judged.GlobalExpressions.{Required, of_literal, of_composition, of_value, to_work_out, IsMet}
+use Rattle.spec_expressions.specs.found.ConstantLaws.{MoreCapabilities}
+use Rattle.typing_layout.specs.judged.Widths.{IsWidthAllowed, IsKindAllowed}
+use Rattle.ir_kinds.specs.judged.Values.{literal_scalar}
 use Rattle.typing_layout.specs.declared.constness.ExpressionKind.{ExpressionKind}
 
 has_more : (few many c : ℕ) → IsWithin few many → Has few c → Has many c

@@ -4,7 +4,7 @@ use Rattle.std.specs.Map.{lookup}
 use Rattle.ir_kinds.specs.declared.predeclared.PredeclaredType.{PredeclaredType}
 use Rattle.ir_kinds.specs.declared.predeclared.PredeclaredType.TheVariants.{AtomicCompareExchangeWeakResult, ModfResult, FrexpResult}
 use Rattle.ir_kinds.specs.contracts.predeclared.PredeclaredTypePartialEq.TheImpl.{ghosts}
-use Rattle.spec_expressions.specs.Given.{is_key, handle_for}
+use Rattle.spec_expressions.specs.judged.Given.{is_key, handle_for}
 
 same_test : (a b : PredeclaredType) → ghosts.eq a b ≡ is_key a b
 same_test (AtomicCompareExchangeWeakResult s) (AtomicCompareExchangeWeakResult t) = search rules

@@ -1,10 +1,10 @@
 -- What is accepted where overrides are resolved is accepted where they are not.
 use Rattle.std.proofs.Common.{ℕ, Option, Some, None, true, false, refl}
 use Rattle.ir_flags.specs.declared.settings.Capabilities.{Capabilities}
-use Rattle.ir_items.specs.Plain.{PlainModule}
-use Rattle.spec_expressions.specs.GlobalExpressions.{Required, of_literal, of_composition, of_value, to_work_out, MayWait, IsMet}
-use Rattle.spec_expressions.specs.ConstantLaws.{ResolvedExpressions, ResolvedOverrides}
-use Rattle.spec_expressions.specs.Overrides.{DefaultOK}
+use Rattle.ir_items.specs.judged.Plain.{PlainModule}
+use Rattle.spec_expressions.specs.judged.GlobalExpressions.{Required, of_literal, of_composition, of_value, to_work_out, MayWait, IsMet}
+use Rattle.spec_expressions.specs.found.ConstantLaws.{ResolvedExpressions, ResolvedOverrides}
+use Rattle.spec_expressions.specs.judged.Overrides.{DefaultOK}
 use Rattle.typing_layout.specs.declared.constness.ExpressionKind.{ExpressionKind}
 use Rattle.typing_layout.specs.declared.constness.ExpressionKind.TheVariants.{Const, Override, Runtime}
 

@@ -1,14 +1,14 @@
 -- One type at most, and none where there is a fault: both from one lemma, that a rule reads its operands alone.
 use Rattle.std.proofs.Common.{◌≡◌, ◌∙◌, sym, refl, ap, subst, ℕ, List, [], ◌∷◌, Ok, inl, inr, zero, suc}
-use Rattle.ir_types.specs.ExpressionPlain.{PlainExpression}
+use Rattle.ir_types.specs.judged.ExpressionPlain.{PlainExpression}
 use Rattle.typing_forms.specs.declared.form.Form.{Form}
-use Rattle.typing_forms.specs.Forms.{form_of}
-use Rattle.typing_forms.specs.Resolutions.{PlainResolution}
-use Rattle.typing_forms.specs.Equivalence.{AreEquivalent}
-use Rattle.typing_rules.specs.Laws.{IsAmong}
-use Rattle.spec_expressions.specs.Context.{Context}
-use Rattle.spec_expressions.specs.Laws.{IsFaulty}
-use Rattle.spec_expressions.specs.Typing.{operand_form, typing_operands, rule, rule_at, HasTypeAmong, has}
+use Rattle.typing_forms.specs.judged.Forms.{form_of}
+use Rattle.typing_forms.specs.judged.Resolutions.{PlainResolution}
+use Rattle.typing_forms.specs.found.Equivalence.{AreEquivalent}
+use Rattle.typing_rules.specs.judged.Laws.{IsAmong}
+use Rattle.spec_expressions.specs.judged.Context.{Context}
+use Rattle.spec_expressions.specs.found.Laws.{IsFaulty}
+use Rattle.spec_expressions.specs.judged.Typing.{operand_form, typing_operands, rule, rule_at, HasTypeAmong, has}
 use Rattle.spec_expressions.specs.declared.faults.TypingFault.{TypingFault}
 
 same_reads : (p q : ℕ → Form) (operands : List ℕ) → ((o : ℕ) → IsAmong o operands → p o ≡ q o) → (place : ℕ) → operand_form p operands place ≡ operand_form q operands place

@@ -2,8 +2,8 @@
 
 ghost use Rattle.std.specs.Prelude.{◌≡◌, ℕ, List, Option, None, Some, IfOk, IfErr};
 ghost use Rattle.ir_kinds.specs.declared.predeclared.PredeclaredType.{PredeclaredType};
-ghost use Rattle.ir_items.specs.GlobalView.{special_view};
-ghost use Rattle.typing_forms.specs.Resolutions.{PlainResolution, resolution_view};
+ghost use Rattle.ir_items.specs.found.GlobalView.{special_view};
+ghost use Rattle.typing_forms.specs.judged.Resolutions.{PlainResolution, resolution_view};
 
 use ir_items::SpecialTypes;
 use thiserror::Error;
@@ -32,7 +32,7 @@ pub trait ConclusionExt: Sized {
 }
 
 impl ConclusionExt for Conclusion {
-    ghost use Rattle.spec_expressions.specs.Given.{given_type};
+    ghost use Rattle.spec_expressions.specs.judged.Given.{given_type};
 
     ghost given = { given_type };
 

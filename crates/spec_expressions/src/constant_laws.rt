@@ -1,5 +1,5 @@
 //! Laws of the global expressions and the overrides that are accepted.
-ghost use Rattle.spec_expressions.specs.ConstantLaws.{MoreCapabilities, ResolvedExpressions, ResolvedOverrides};
+ghost use Rattle.spec_expressions.specs.found.ConstantLaws.{MoreCapabilities, ResolvedExpressions, ResolvedOverrides};
 
 /// A larger set of capabilities refuses no global expression that a smaller one accepted.
 #[tactic(auto, using(crate::proofs::Capable::more_capabilities))]

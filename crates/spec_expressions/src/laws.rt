@@ -1,5 +1,5 @@
 //! Laws of the types of expressions.
-ghost use Rattle.spec_expressions.specs.Laws.{OneType, FaultyHasNone, OperandsDecide, EquivalentOperandsDecide};
+ghost use Rattle.spec_expressions.specs.found.Laws.{OneType, FaultyHasNone, OperandsDecide, EquivalentOperandsDecide};
 
 /// An expression has one type at most.
 #[tactic(auto, using(crate::proofs::TypingLaws::one_type))]

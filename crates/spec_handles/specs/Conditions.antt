@@ -1,9 +1,9 @@
 -- When the handles of a function are in order. That filters come after their parents is `ParentsPrecede` of `ir_proc`.
 use Rattle.std.specs.Prelude.{◌≡◌, ℕ, ◌<◌, List, length, Option, Some, All, slice_get}
-use Rattle.ir_blocks.specs.Places.{Place, OccursAt}
-use Rattle.ir_blocks.specs.Plain.{call}
-use Rattle.ir_types.specs.ExpressionPlain.{PlainExpression}
-use Rattle.ir_items.specs.Plain.{PlainFunction, PlainModule}
+use Rattle.ir_blocks.specs.judged.Places.{Place, OccursAt}
+use Rattle.ir_blocks.specs.judged.Plain.{call}
+use Rattle.ir_types.specs.judged.ExpressionPlain.{PlainExpression}
+use Rattle.ir_items.specs.judged.Plain.{PlainFunction, PlainModule}
 use Rattle.spec_handles.specs.Expressions.{expression_operands}
 use Rattle.spec_handles.specs.References.{Site, Named, item, Names, IsThere}
 use Rattle.spec_handles.specs.declared.target.Target.TheVariants.{Function}

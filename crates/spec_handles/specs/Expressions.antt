@@ -1,6 +1,6 @@
 -- What expressions name, a row a kind.
 use Rattle.std.specs.Prelude.{ℕ, List, Option, Some, None}
-use Rattle.ir_types.specs.ExpressionPlain.{PlainExpression, compose, plain}
+use Rattle.ir_types.specs.judged.ExpressionPlain.{PlainExpression, compose, plain}
 use Rattle.ir_types.specs.declared.expressions.Expression.{Expression}
 use Rattle.ir_types.specs.declared.expressions.Expression.TheVariants as x
 use Rattle.spec_handles.specs.Operands.{of_expression, handles_of}

@@ -1,6 +1,6 @@
 -- When the handles of a module are in order, and what is wrong with one that isn't.
 use Rattle.std.specs.Prelude.{◌≡◌, ℕ, Option, Some, None, slice_get}
-use Rattle.ir_items.specs.Plain.{PlainFunction, PlainEntry, PlainModule}
+use Rattle.ir_items.specs.judged.Plain.{PlainFunction, PlainEntry, PlainModule}
 use Rattle.spec_handles.specs.Conditions.{HandlesInRange}
 use Rattle.spec_handles.specs.Modules.{Part, NamesIn, IsThereIn}
 use Rattle.spec_handles.specs.Order.{Ordered, kind_of, place_of, DependsOn, IsBefore}

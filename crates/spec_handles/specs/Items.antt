@@ -1,11 +1,11 @@
 -- What the items of a module name beside expressions and the parts of functions, a row a kind.
 use Rattle.std.specs.Prelude.{ℕ, List, [], ◌∷◌, ◌++◌, map, Option, Some, None}
 use Rattle.std.specs.Option.{option_to_list}
-use Rattle.ir_items.specs.GlobalPlain.{PlainSpecial}
-use Rattle.ir_items.specs.Plain.{PlainEntry}
+use Rattle.ir_items.specs.judged.GlobalPlain.{PlainSpecial}
+use Rattle.ir_items.specs.judged.Plain.{PlainEntry}
 use Rattle.ir_items.specs.declared.entries.MeshStageInfo.{MeshStageInfo}
 use Rattle.ir_kinds.specs.declared.predeclared.PredeclaredType.{PredeclaredType}
-use Rattle.ir_types.specs.Plain.{PlainInner, struct, plain}
+use Rattle.ir_types.specs.judged.Plain.{PlainInner, struct, plain}
 use Rattle.ir_types.specs.declared.types.ArraySize.{ArraySize}
 use Rattle.ir_types.specs.declared.types.ArraySize.TheVariants.{Constant, Pending, Dynamic}
 use Rattle.ir_types.specs.declared.types.TypeInner.TheVariants as inner

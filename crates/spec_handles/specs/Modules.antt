@@ -1,16 +1,16 @@
 -- The references of a module: which part of it names what, and when what is named is there. What is inside a function is
 -- reported by the references of the function.
 use Rattle.std.specs.Prelude.{◌≡◌, ℕ, ◌<◌, length, Some, Contains, slice_get}
-use Rattle.ir_types.specs.ExpressionPlain.{PlainExpression}
-use Rattle.ir_items.specs.GlobalPlain.{PlainConstant, PlainOverride, PlainGlobal, PlainNode}
-use Rattle.ir_items.specs.Plain.{PlainEntry, PlainModule}
-use Rattle.ir_types.specs.Plain.{PlainType}
+use Rattle.ir_types.specs.judged.ExpressionPlain.{PlainExpression}
+use Rattle.ir_items.specs.judged.GlobalPlain.{PlainConstant, PlainOverride, PlainGlobal, PlainNode}
+use Rattle.ir_items.specs.judged.Plain.{PlainEntry, PlainModule}
+use Rattle.ir_types.specs.judged.Plain.{PlainType}
 use Rattle.spec_handles.specs.Expressions.{expression_operands, expression_item}
 use Rattle.spec_handles.specs.Items.{pending_of, special_types, mesh_types, mesh_expressions, entry_variables}
 use Rattle.spec_handles.specs.References.{Named, item, operand, range}
 use Rattle.spec_handles.specs.declared.target.Target.{Target}
 use Rattle.spec_handles.specs.declared.target.Target.TheVariants as target
-use Rattle.typing_forms.specs.Order.{named_types}
+use Rattle.typing_forms.specs.judged.Order.{named_types}
 
 -- A part of a module that may name something, functions aside: an item of one of its lists, its special types, or the
 -- leaf of its filters. An entry point is meant without its function.

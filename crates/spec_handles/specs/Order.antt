@@ -1,16 +1,16 @@
 -- Which items have to come after others, and when they do.
 use Rattle.std.specs.Prelude.{◌≡◌, ℕ, ◌<◌, ◌≤◌, Some, Contains, slice_get}
-use Rattle.ir_types.specs.ExpressionPlain.{PlainExpression}
-use Rattle.ir_items.specs.GlobalPlain.{PlainConstant, PlainOverride, PlainNode}
-use Rattle.ir_items.specs.Plain.{PlainFunction, PlainEntry, PlainModule}
-use Rattle.ir_types.specs.Plain.{PlainType}
+use Rattle.ir_types.specs.judged.ExpressionPlain.{PlainExpression}
+use Rattle.ir_items.specs.judged.GlobalPlain.{PlainConstant, PlainOverride, PlainNode}
+use Rattle.ir_items.specs.judged.Plain.{PlainFunction, PlainEntry, PlainModule}
+use Rattle.ir_types.specs.judged.Plain.{PlainType}
 use Rattle.spec_handles.specs.Expressions.{expression_operands, expression_item}
 use Rattle.spec_handles.specs.Items.{pending_of}
 use Rattle.spec_handles.specs.References.{Site, item, Names}
 use Rattle.spec_handles.specs.declared.item.ItemKind.{ItemKind}
 use Rattle.spec_handles.specs.declared.item.ItemKind.TheVariants as kind
 use Rattle.spec_handles.specs.declared.target.Target.TheVariants as target
-use Rattle.typing_forms.specs.Order.{named_types}
+use Rattle.typing_forms.specs.judged.Order.{named_types}
 
 -- An item that others of its list come before: a type, a filter, a function, a global expression, an expression of a
 -- function, or one of the function of an entry point.

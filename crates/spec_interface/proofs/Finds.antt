@@ -3,7 +3,7 @@ use Rattle.std.proofs.Common.{◌≡◌, ◌≤◌, ◌<◌, ℕ, ◌+◌, List,
 use Rattle.std.specs.List.{filter_map, cons_option}
 use Rattle.std.proofs.lemmas.List.{map_more}
 use Rattle.std.proofs.lemmas.List.Elements.{filter_map-append}
-use Rattle.spec_interface.specs.Found.{Stands, next}
+use Rattle.spec_interface.specs.found.Found.{Stands, next}
 use Rattle.spec_interface.specs.declared.found.Found.{Found}
 use Rattle.spec_interface.specs.declared.found.Found.TheVariants.{Nothing, One, More}
 

@@ -2,11 +2,11 @@
 use Rattle.std.proofs.Common.{◌≡◌, ◌<◌, ℕ, zero, suc, List, [], ◌∷◌, length, map, Option, Some, None, option_map, slice_get, refl, sym, ap, ◌∙◌, arith, true≢false}
 use Rattle.std.specs.Prelude.{IsSome}
 use Rattle.std.proofs.lemmas.Option.{slice_get-map}
-use Rattle.ir_arena.specs.Arenas.{value_at, value_of_entry}
+use Rattle.ir_arena.specs.found.Arenas.{value_at, value_of_entry}
 use Rattle.ir_arena.specs.declared.span.Span.{Span}
-use Rattle.ir_types.specs.Plain.{PlainType, inner_view, type_view}
+use Rattle.ir_types.specs.judged.Plain.{PlainType, inner_view, type_view}
 use Rattle.ir_types.specs.declared.types.IrType.{IrType}
-use Rattle.typing_forms.specs.Resolutions.{inner_at, types_view}
+use Rattle.typing_forms.specs.judged.Resolutions.{inner_at, types_view}
 
 none_in : {A : Type 0} (xs : List A) (i : ℕ) → (i < length xs → ⊥) → slice_get xs i ≡ None
 none_in [] i past = refl

@@ -1,7 +1,7 @@
 //! Whether there is one of something, none, or more.
 
 ghost use Rattle.std.specs.Prelude.{◌≡◌};
-ghost use Rattle.spec_interface.specs.Found.{next};
+ghost use Rattle.spec_interface.specs.found.Found.{next};
 
 /// What is found of a kind of thing.
 #[derive(Clone, Copy)]

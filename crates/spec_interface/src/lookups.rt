@@ -1,13 +1,13 @@
 //! What stands at the handles of a module.
 
 ghost use Rattle.std.specs.Prelude.{◌≡◌, ◌<◌, ◌↔◌, IsTrue, MatchOption, None, Some, length, map, slice_get, unwrap_or};
-ghost use Rattle.ir_items.specs.View.{module_view};
+ghost use Rattle.ir_items.specs.found.View.{module_view};
 ghost use Rattle.ir_kinds.specs.declared.spaces.AddressSpace.TheVariants.{Immediate, TaskPayload, WorkGroup};
-ghost use Rattle.ir_types.specs.Plain.{inner_view, member_view};
-ghost use Rattle.spec_analysis.specs.Summaries.{no_use};
-ghost use Rattle.spec_interface.specs.Members.{members_at, members_in};
-ghost use Rattle.spec_interface.specs.Payloads.{binding_at, space_at};
-ghost use Rattle.typing_forms.specs.Resolutions.{inner_at};
+ghost use Rattle.ir_types.specs.judged.Plain.{inner_view, member_view};
+ghost use Rattle.spec_analysis.specs.judged.Summaries.{no_use};
+ghost use Rattle.spec_interface.specs.judged.Members.{members_at, members_in};
+ghost use Rattle.spec_interface.specs.judged.Payloads.{binding_at, space_at};
+ghost use Rattle.typing_forms.specs.judged.Resolutions.{inner_at};
 
 use ir_arena::handle::Handle;
 use ir_items::Module;

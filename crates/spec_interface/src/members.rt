@@ -1,11 +1,11 @@
 //! Members of structs by the built-in values that they are bound to.
 
 ghost use Rattle.std.specs.Prelude.{◌≡◌, ◌∷◌, ◌↔◌, [], ℕ, IsSome, IsTrue, MatchOption, Some, map};
-ghost use Rattle.ir_items.specs.View.{module_view};
+ghost use Rattle.ir_items.specs.found.View.{module_view};
 ghost use Rattle.ir_kinds.specs.declared.stages.MeshOutputTopology.{MeshOutputTopology};
-ghost use Rattle.ir_types.specs.Plain.{member_view};
-ghost use Rattle.spec_interface.specs.Members.{members_at, part_of, topologies, topologies_at, topology_of, type_bound, types_bound};
-ghost use Rattle.spec_interface.specs.Meshes.{AreParts};
+ghost use Rattle.ir_types.specs.judged.Plain.{member_view};
+ghost use Rattle.spec_interface.specs.judged.Members.{members_at, part_of, topologies, topologies_at, topology_of, type_bound, types_bound};
+ghost use Rattle.spec_interface.specs.judged.Meshes.{AreParts};
 ghost use Rattle.spec_interface.specs.declared.parts.MeshParts.{MeshParts};
 
 use crate::found::{Found, next};

@@ -1,11 +1,11 @@
 //! What entry points may do with global variables, by the memory in which these lie.
 
 ghost use Rattle.std.specs.Prelude.{◌≡◌, ℕ, List, Some};
-ghost use Rattle.ir_items.specs.View.{module_view};
-ghost use Rattle.ir_types.specs.Plain.{inner_view};
-ghost use Rattle.spec_interface.specs.Uses.{access_uses, all_but_atomic, allowed_uses, class_uses, handle_uses, is_run_for_rays, payload_uses, read_uses, traces_rays, use_if};
-ghost use Rattle.spec_interface.specs.Spaces.{array_base, counted};
-ghost use Rattle.typing_forms.specs.Resolutions.{inner_at};
+ghost use Rattle.ir_items.specs.found.View.{module_view};
+ghost use Rattle.ir_types.specs.judged.Plain.{inner_view};
+ghost use Rattle.spec_interface.specs.judged.Uses.{access_uses, all_but_atomic, allowed_uses, class_uses, handle_uses, is_run_for_rays, payload_uses, read_uses, traces_rays, use_if};
+ghost use Rattle.spec_interface.specs.judged.Spaces.{array_base, counted};
+ghost use Rattle.typing_forms.specs.judged.Resolutions.{inner_at};
 
 use crate::lookups::inner_at;
 use bitflags::Flags;

@@ -1,7 +1,7 @@
 //! Built-in values by their words.
 
 ghost use Rattle.std.specs.Prelude.{◌≡◌, ◌↔◌, IsTrue};
-ghost use Rattle.spec_interface.specs.Varyings.{canonical};
+ghost use Rattle.spec_interface.specs.judged.Varyings.{canonical};
 
 use ir_kinds::BuiltIn;
 

@@ -9,10 +9,10 @@ ghost use Rattle.ir_kinds.specs.declared.bindings.BuiltIn.TheVariants.{LineIndic
 ghost use Rattle.ir_kinds.specs.declared.spaces.AddressSpace.TheVariants.{Function, IncomingRayPayload, Private, RayPayload, Storage, TaskPayload, Uniform};
 ghost use Rattle.ir_kinds.specs.declared.stages.MeshOutputTopology.TheVariants.{Lines, Points};
 ghost use Rattle.ir_kinds.specs.declared.stages.ShaderStage.TheVariants.{AnyHit, Compute, Fragment, Mesh, RayGeneration, Task, Vertex};
-ghost use Rattle.spec_interface.specs.Members.{member, topologies, types_bound};
+ghost use Rattle.spec_interface.specs.judged.Members.{member, topologies, types_bound};
 ghost use Rattle.spec_interface.specs.declared.parts.MeshPart.TheVariants as part;
-ghost use Rattle.spec_interface.specs.Stages.{SizeOK, stage_capability};
-ghost use Rattle.spec_interface.specs.Uses.{allowed_uses, is_reached};
+ghost use Rattle.spec_interface.specs.judged.Stages.{SizeOK, stage_capability};
+ghost use Rattle.spec_interface.specs.judged.Uses.{allowed_uses, is_reached};
 
 /// What stages need.
 pub fn needed()

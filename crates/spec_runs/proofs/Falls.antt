@@ -5,24 +5,24 @@ use Rattle.std.specs.List.{AllByRecursion, flat_map}
 use Rattle.std.specs.Ordering.{int_eq}
 use Rattle.ir_kinds.specs.declared.values.SwitchValue.{SwitchValue}
 use Rattle.ir_kinds.specs.declared.values.SwitchValue.TheVariants.{I32, U32, Default}
-use Rattle.ir_blocks.specs.Plain.{PlainStatement, emit, block, if_, switch, loop, break, continue, return, kill, operation, call, PlainBlock, stop, next, PlainCases, no_case, case}
-use Rattle.ir_blocks.specs.Shapes.{shape_of, Part, inner, accepting, rejecting, case_at, case_body, loop_body, loop_continuing}
-use Rattle.ir_blocks.specs.Places.{Place, here, later, inside, OccursAt, statement, loop_condition}
-use Rattle.ir_blocks.specs.Tails.{Ends, goes_on, empty, after_last, further, in_tail}
-use Rattle.ir_types.specs.ExpressionPlain.{PlainExpression, plain}
+use Rattle.ir_blocks.specs.judged.Plain.{PlainStatement, emit, block, if_, switch, loop, break, continue, return, kill, operation, call, PlainBlock, stop, next, PlainCases, no_case, case}
+use Rattle.ir_blocks.specs.judged.Shapes.{shape_of, Part, inner, accepting, rejecting, case_at, case_body, loop_body, loop_continuing}
+use Rattle.ir_blocks.specs.judged.Places.{Place, here, later, inside, OccursAt, statement, loop_condition}
+use Rattle.ir_blocks.specs.judged.Tails.{Ends, goes_on, empty, after_last, further, in_tail}
+use Rattle.ir_types.specs.judged.ExpressionPlain.{PlainExpression, plain}
 use Rattle.ir_types.specs.declared.expressions.Expression.TheVariants.{GlobalVariable, ImageSample}
-use Rattle.ir_items.specs.Plain.{PlainFunction, PlainModule}
+use Rattle.ir_items.specs.judged.Plain.{PlainFunction, PlainModule}
 use Rattle.spec_handles.specs.Statements.{statement_operands}
-use Rattle.spec_statements.specs.Switches.{case_values, falls_at_end}
-use Rattle.spec_statements.specs.Tables.{introduced}
-use Rattle.spec_statements.specs.Visible.{top_level}
-use Rattle.spec_runs.specs.Ended.{HasNoOpenEnd}
-use Rattle.spec_runs.specs.Events.{Event, entered, executed, introduced_expression, used, passed, returned, fell_off, escaped}
-use Rattle.spec_runs.specs.FinalSwitches.{BreaksFrom, break_here, break_later, break_inside, in_block as open_block, in_accept, in_reject, LeavesFinalSwitch, of_last, of_tail, of_rest}
-use Rattle.spec_runs.specs.Good.{FallsOK}
-use Rattle.spec_runs.specs.Machine.{Frame, Configuration, Completion, normal, by_break, by_continue, by_return, halted, Outcome, completes, happen, step, answered, pair_of, denotes, mentioned_at, mentions, uses, operands_of, begins, introduces_one, introduces, leave_scope, sequence, Loop, Task, in_block, in_loop, Evaluation, side, is_value, is_default, Cases, either_cases, from_first, unless_none, chosen, fall, eval_cases, at_switch, leave_switch, next_turn, stay_or_leave, eval_condition, after_continuing, eval_continuing, after_body, eval_turn, callee_frame, enters, leave_call, eval_call, eval_statement, eval_task, eval, finish, entry_frame, initial, trace_of}
-use Rattle.spec_runs.specs.Reached.{reached_from}
-use Rattle.spec_runs.specs.Scoping.{UsedOperands}
+use Rattle.spec_statements.specs.judged.Switches.{case_values, falls_at_end}
+use Rattle.spec_statements.specs.judged.Tables.{introduced}
+use Rattle.spec_statements.specs.judged.Visible.{top_level}
+use Rattle.spec_runs.specs.found.Ended.{HasNoOpenEnd}
+use Rattle.spec_runs.specs.judged.Events.{Event, entered, executed, introduced_expression, used, passed, returned, fell_off, escaped}
+use Rattle.spec_runs.specs.judged.FinalSwitches.{BreaksFrom, break_here, break_later, break_inside, in_block as open_block, in_accept, in_reject, LeavesFinalSwitch, of_last, of_tail, of_rest}
+use Rattle.spec_runs.specs.judged.Good.{FallsOK}
+use Rattle.spec_runs.specs.judged.Machine.{Frame, Configuration, Completion, normal, by_break, by_continue, by_return, halted, Outcome, completes, happen, step, answered, pair_of, denotes, mentioned_at, mentions, uses, operands_of, begins, introduces_one, introduces, leave_scope, sequence, Loop, Task, in_block, in_loop, Evaluation, side, is_value, is_default, Cases, either_cases, from_first, unless_none, chosen, fall, eval_cases, at_switch, leave_switch, next_turn, stay_or_leave, eval_condition, after_continuing, eval_continuing, after_body, eval_turn, callee_frame, enters, leave_call, eval_call, eval_statement, eval_task, eval, finish, entry_frame, initial, trace_of}
+use Rattle.spec_runs.specs.judged.Reached.{reached_from}
+use Rattle.spec_runs.specs.judged.Scoping.{UsedOperands}
 use Rattle.spec_runs.proofs.Invariance.{all-append, all-flat_map}
 
 -- ---- other events

@@ -5,20 +5,20 @@ use Rattle.std.specs.Ordering.{int_eq}
 use Rattle.std.proofs.lemmas.Bool.{or_left, or_right}
 use Rattle.std.proofs.lemmas.List.Elements.{Contains-append_left, Contains-append_right, Contains-append_cases, Contains-push}
 use Rattle.ir_kinds.specs.declared.values.SwitchValue.{SwitchValue}
-use Rattle.ir_blocks.specs.Plain.{PlainStatement, emit, block, if_, switch, loop, break, continue, return, kill, operation, call, PlainBlock, stop, next, PlainCases, no_case, case}
-use Rattle.ir_blocks.specs.Shapes.{Exit, breaks, continues, returns, shape_of, exit_of, inner, accepting, rejecting, case_at, case_body, loop_body, loop_continuing}
-use Rattle.ir_blocks.specs.Places.{Place, here, later, inside, condition, Spot, statement, loop_condition, spot_at}
-use Rattle.ir_items.specs.Plain.{PlainFunction, PlainModule}
+use Rattle.ir_blocks.specs.judged.Plain.{PlainStatement, emit, block, if_, switch, loop, break, continue, return, kill, operation, call, PlainBlock, stop, next, PlainCases, no_case, case}
+use Rattle.ir_blocks.specs.judged.Shapes.{Exit, breaks, continues, returns, shape_of, exit_of, inner, accepting, rejecting, case_at, case_body, loop_body, loop_continuing}
+use Rattle.ir_blocks.specs.judged.Places.{Place, here, later, inside, condition, Spot, statement, loop_condition, spot_at}
+use Rattle.ir_items.specs.judged.Plain.{PlainFunction, PlainModule}
 use Rattle.spec_handles.specs.Statements.{statement_operands}
-use Rattle.spec_statements.specs.Tables.{introduced, introduced_at}
-use Rattle.spec_statements.specs.Visible.{top_level}
+use Rattle.spec_statements.specs.judged.Tables.{introduced, introduced_at}
+use Rattle.spec_statements.specs.judged.Visible.{top_level}
 use Rattle.spec_statements.proofs.ScopeLaws.{none_held}
-use Rattle.spec_runs.specs.Events.{Event, executed, introduced_expression, used, passed, returned, fell_off}
-use Rattle.spec_runs.specs.Reached.{reached_from}
-use Rattle.spec_statements.specs.SureLevel.{visible_by, holds_continue_in, holds_continue, holds_continue_in_cases}
-use Rattle.spec_runs.specs.Scoping.{UsedOperands, Scoping, IsLawful, AreThere}
-use Rattle.spec_runs.specs.Machine.{Frame, Configuration, Completion, normal, by_break, by_continue, by_return, halted, Outcome, completes, happen, step, answered, mentioned_at, mentions, uses, operands_of, begins, introduces_one, introduces, leave_scope, sequence, Loop, Task, in_block, in_loop, Evaluation, side, is_value, is_default, Cases, either_cases, from_first, unless_none, chosen, fall, eval_cases, at_switch, leave_switch, next_turn, stay_or_leave, eval_condition, after_continuing, eval_continuing, after_body, eval_turn, callee_frame, enters, leave_call, eval_call, eval_statement, eval_task, eval, finish, entry_frame, initial}
-use Rattle.spec_runs.specs.Invariants.{IsInvariant, InvariantsHold}
+use Rattle.spec_runs.specs.judged.Events.{Event, executed, introduced_expression, used, passed, returned, fell_off}
+use Rattle.spec_runs.specs.judged.Reached.{reached_from}
+use Rattle.spec_statements.specs.found.SureLevel.{visible_by, holds_continue_in, holds_continue, holds_continue_in_cases}
+use Rattle.spec_runs.specs.judged.Scoping.{UsedOperands, Scoping, IsLawful, AreThere}
+use Rattle.spec_runs.specs.judged.Machine.{Frame, Configuration, Completion, normal, by_break, by_continue, by_return, halted, Outcome, completes, happen, step, answered, mentioned_at, mentions, uses, operands_of, begins, introduces_one, introduces, leave_scope, sequence, Loop, Task, in_block, in_loop, Evaluation, side, is_value, is_default, Cases, either_cases, from_first, unless_none, chosen, fall, eval_cases, at_switch, leave_switch, next_turn, stay_or_leave, eval_condition, after_continuing, eval_continuing, after_body, eval_turn, callee_frame, enters, leave_call, eval_call, eval_statement, eval_task, eval, finish, entry_frame, initial}
+use Rattle.spec_runs.specs.found.Invariants.{IsInvariant, InvariantsHold}
 use Rattle.spec_runs.proofs.Control.{Control, control_of, enter, control_at, allows, may_allowed}
 
 -- ---- lists

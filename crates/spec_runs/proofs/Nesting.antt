@@ -1,15 +1,15 @@
 -- The bound on nesting never cuts a run: more than the steps that are left is always enough.
 use Rattle.std.proofs.Common.{◌≡◌, ℕ, zero, suc, ℤ, pos, ◌<◌, ◌≤◌, Bool, true, false, List, [], ◌∷◌, ◌++◌, Option, Some, None, slice_get, refl, sym, ap, subst, ◌∙◌, arith, le_refl}
 use Rattle.std.specs.Ordering.{int_eq}
-use Rattle.ir_blocks.specs.Places.{Place, here, later, inside, loop_condition}
-use Rattle.ir_blocks.specs.Plain.{PlainStatement, emit, block, if_, switch, loop, break, continue, return, kill, operation, call, stop, next, PlainCases, no_case, case}
-use Rattle.ir_blocks.specs.Shapes.{inner, case_at, loop_body, loop_continuing}
-use Rattle.ir_items.specs.Plain.{PlainFunction, PlainModule}
-use Rattle.spec_statements.specs.Tables.{introduced}
-use Rattle.spec_statements.specs.Visible.{top_level}
-use Rattle.spec_runs.specs.Laws.{NestingCutsNoRun}
-use Rattle.spec_runs.specs.Machine.{Frame, Configuration, Completion, normal, by_break, by_continue, by_return, halted, Outcome, step, answered, uses, begins, introduces_one, introduces, leave_scope, sequence, Loop, Task, in_block, in_loop, Evaluation, side, chosen, fall, eval_cases, leave_switch, next_turn, stay_or_leave, eval_condition, after_continuing, eval_continuing, after_body, eval_turn, callee_frame, enters, leave_call, eval_call, eval_statement, eval_task, eval}
-use Rattle.spec_runs.specs.Scoping.{UsedOperands}
+use Rattle.ir_blocks.specs.judged.Places.{Place, here, later, inside, loop_condition}
+use Rattle.ir_blocks.specs.judged.Plain.{PlainStatement, emit, block, if_, switch, loop, break, continue, return, kill, operation, call, stop, next, PlainCases, no_case, case}
+use Rattle.ir_blocks.specs.judged.Shapes.{inner, case_at, loop_body, loop_continuing}
+use Rattle.ir_items.specs.judged.Plain.{PlainFunction, PlainModule}
+use Rattle.spec_statements.specs.judged.Tables.{introduced}
+use Rattle.spec_statements.specs.judged.Visible.{top_level}
+use Rattle.spec_runs.specs.judged.Laws.{NestingCutsNoRun}
+use Rattle.spec_runs.specs.judged.Machine.{Frame, Configuration, Completion, normal, by_break, by_continue, by_return, halted, Outcome, step, answered, uses, begins, introduces_one, introduces, leave_scope, sequence, Loop, Task, in_block, in_loop, Evaluation, side, chosen, fall, eval_cases, leave_switch, next_turn, stay_or_leave, eval_condition, after_continuing, eval_continuing, after_body, eval_turn, callee_frame, enters, leave_call, eval_call, eval_statement, eval_task, eval}
+use Rattle.spec_runs.specs.judged.Scoping.{UsedOperands}
 
 -- no task makes steps
 record Falls (go : Frame → Evaluation) : Type 0 where

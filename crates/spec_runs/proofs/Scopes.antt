@@ -1,18 +1,18 @@
 -- Where scope is in order, what is used may be used.
 use Rattle.std.proofs.Common.{◌≡◌, ℕ, List, [], ◌∷◌, ◌++◌, ◌⊎◌, inl, inr, ⊎_elim, Option, Some, None, Contains, slice_get, refl, subst}
-use Rattle.ir_blocks.specs.Places.{Place, here, later, inside, condition, OccursAt}
-use Rattle.ir_blocks.specs.Plain.{PlainStatement, PlainBlock, stop, next}
-use Rattle.ir_blocks.specs.Shapes.{inner, accepting, rejecting, case_at, loop_body, loop_continuing, shape_of, part_of}
-use Rattle.ir_types.specs.ExpressionPlain.{PlainExpression}
-use Rattle.ir_items.specs.Plain.{PlainFunction}
+use Rattle.ir_blocks.specs.judged.Places.{Place, here, later, inside, condition, OccursAt}
+use Rattle.ir_blocks.specs.judged.Plain.{PlainStatement, PlainBlock, stop, next}
+use Rattle.ir_blocks.specs.judged.Shapes.{inner, accepting, rejecting, case_at, loop_body, loop_continuing, shape_of, part_of}
+use Rattle.ir_types.specs.judged.ExpressionPlain.{PlainExpression}
+use Rattle.ir_items.specs.judged.Plain.{PlainFunction}
 use Rattle.spec_statements.proofs.ScopeLaws.{none_held, scope_by_walk_lem}
-use Rattle.spec_statements.specs.Scope.{PreEmitted}
-use Rattle.spec_statements.specs.Tables.{introduced}
-use Rattle.spec_statements.specs.SureLevel.{visible_by}
-use Rattle.spec_statements.specs.Visible.{top_level, visible}
-use Rattle.spec_runs.specs.Laws.{SkippedIsLawful, ScopeSuffices}
-use Rattle.spec_runs.specs.Machine.{operands_of}
-use Rattle.spec_runs.specs.Scoping.{UsedOperands, Scoping, IsThere, AreThere, IsScoped}
+use Rattle.spec_statements.specs.judged.Scope.{PreEmitted}
+use Rattle.spec_statements.specs.judged.Tables.{introduced}
+use Rattle.spec_statements.specs.found.SureLevel.{visible_by}
+use Rattle.spec_statements.specs.judged.Visible.{top_level, visible}
+use Rattle.spec_runs.specs.judged.Laws.{SkippedIsLawful, ScopeSuffices}
+use Rattle.spec_runs.specs.judged.Machine.{operands_of}
+use Rattle.spec_runs.specs.judged.Scoping.{UsedOperands, Scoping, IsThere, AreThere, IsScoped}
 
 -- where the top level leaves all that it introduces, what is visible is what a walk carries
 visible_is : (p : Place) (outer : List ℕ) (b : PlainBlock) → visible outer p b ≡ visible_by top_level outer p b

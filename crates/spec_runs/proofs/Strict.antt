@@ -2,10 +2,10 @@
 use Rattle.std.proofs.Common.{◌≡◌, ℕ, zero, suc, ◌+◌, ◌-◌, ◌<◌, ◌≤◌, Bool, true, false, List, [], ◌∷◌, ◌++◌, ◌⊎◌, inl, inr, ⊎_elim, Option, Some, None, Contains, slice_get, option_to_list, filter, if◌then◌else◌, refl, sym, ap, ◌∙◌, subst, arith}
 use Rattle.std.proofs.lemmas.List.Elements.{Contains-append_left, Contains-append_right, Contains-append_cases, Contains-push}
 use Rattle.std.specs.List.{cons_option, range_with_len}
-use Rattle.ir_blocks.specs.Places.{Place, Spot, nothing, statement, loop_condition, spot_at, OccursAt}
-use Rattle.ir_blocks.specs.Plain.{PlainStatement, emit, block, if_, switch, loop, break, continue, return, kill, operation, call, PlainBlock, stop, next}
-use Rattle.ir_types.specs.ExpressionPlain.{PlainExpression}
-use Rattle.ir_items.specs.Plain.{PlainFunction}
+use Rattle.ir_blocks.specs.judged.Places.{Place, Spot, nothing, statement, loop_condition, spot_at, OccursAt}
+use Rattle.ir_blocks.specs.judged.Plain.{PlainStatement, emit, block, if_, switch, loop, break, continue, return, kill, operation, call, PlainBlock, stop, next}
+use Rattle.ir_types.specs.judged.ExpressionPlain.{PlainExpression}
+use Rattle.ir_items.specs.judged.Plain.{PlainFunction}
 use Rattle.spec_handles.specs.Expressions.{expression_operands}
 use Rattle.spec_handles.specs.Operands.{Operands, these, each_of, of_statement, handles_of, is_looked_up, looked_up}
 use Rattle.spec_handles.specs.declared.operand.Scoping.{Scoping}
@@ -14,12 +14,12 @@ use Rattle.spec_handles.specs.declared.operand.Slot.{Slot}
 use Rattle.spec_handles.specs.Statements.{statement_result}
 use Rattle.spec_statements.proofs.ScopeLaws.{none_held}
 use Rattle.spec_statements.proofs.StrictLaws.{strict_by_walk_lem}
-use Rattle.spec_statements.specs.Scope.{PreEmitted}
-use Rattle.spec_statements.specs.Strict.{InStrictScope, StrictOK, needed_at}
-use Rattle.spec_statements.specs.SureLevel.{holds_continue, unless, sure_level, visible_by}
-use Rattle.spec_statements.specs.Tables.{checked_at, introduced}
-use Rattle.spec_statements.specs.Visible.{top_level}
-use Rattle.spec_runs.specs.Laws.{StrictIsLawful, AnswersNameNothing, StrictSuffices}
+use Rattle.spec_statements.specs.judged.Scope.{PreEmitted}
+use Rattle.spec_statements.specs.judged.Strict.{InStrictScope, StrictOK, needed_at}
+use Rattle.spec_statements.specs.found.SureLevel.{holds_continue, unless, sure_level, visible_by}
+use Rattle.spec_statements.specs.judged.Tables.{checked_at, introduced}
+use Rattle.spec_statements.specs.judged.Visible.{top_level}
+use Rattle.spec_runs.specs.judged.Laws.{StrictIsLawful, AnswersNameNothing, StrictSuffices}
 
 -- ---- the level
 

@@ -1,10 +1,2 @@
-pub mod Events
-pub mod Reached
-pub mod Scoping
-pub mod Machine
-pub mod Invariants
-pub mod FinalSwitches
-pub mod Ended
-pub mod Good
-pub mod Laws
-pub mod Worked
+pub mod judged
+pub mod found

@@ -5,8 +5,8 @@
 
 pub mod worked;
 
-ghost use Rattle.spec_runs.specs.Laws.{NestingCutsNoRun, ScopeSuffices, SkippedIsLawful, StrictIsLawful, StrictSuffices};
-ghost use Rattle.spec_runs.specs.Reached.{AllAreReached};
+ghost use Rattle.spec_runs.specs.judged.Laws.{NestingCutsNoRun, ScopeSuffices, SkippedIsLawful, StrictIsLawful, StrictSuffices};
+ghost use Rattle.spec_runs.specs.judged.Reached.{AllAreReached};
 
 /// The machine's bound on nesting cuts no run: the steps alone do.
 pub fn nesting_cuts_no_run()

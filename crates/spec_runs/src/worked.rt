@@ -1,11 +1,11 @@
 //! Runs that are worked out by hand, each as the machine computes it.
 ghost use Rattle.std.specs.Prelude.{◌≡◌, [], ◌∷◌, Some, None, pos};
-ghost use Rattle.ir_blocks.specs.Places.{here, later, inside};
-ghost use Rattle.ir_blocks.specs.Shapes.{loop_body, loop_continuing, accepting, case_at};
-ghost use Rattle.spec_runs.specs.Events.{entered, executed, introduced_expression, named, sampled, used, passed, returned, fell_off, escaped};
-ghost use Rattle.spec_runs.specs.Machine.{trace_of};
-ghost use Rattle.spec_runs.specs.Scoping.{all_operands, checked_operands};
-ghost use Rattle.spec_runs.specs.Worked.{calling, module_of, skipping, emitting, breaking, falling, sampling, handing_on, passing, escaping, using_too_early};
+ghost use Rattle.ir_blocks.specs.judged.Places.{here, later, inside};
+ghost use Rattle.ir_blocks.specs.judged.Shapes.{loop_body, loop_continuing, accepting, case_at};
+ghost use Rattle.spec_runs.specs.judged.Events.{entered, executed, introduced_expression, named, sampled, used, passed, returned, fell_off, escaped};
+ghost use Rattle.spec_runs.specs.judged.Machine.{trace_of};
+ghost use Rattle.spec_runs.specs.judged.Scoping.{all_operands, checked_operands};
+ghost use Rattle.spec_runs.specs.found.Worked.{calling, module_of, skipping, emitting, breaking, falling, sampling, handing_on, passing, escaping, using_too_early};
 
 /// A run that uses what a continue skipped.
 pub fn skipped_use()

@@ -1,11 +1,11 @@
 -- What is carried of answers is what is answered before.
 use Rattle.std.proofs.Common.{◌++◌, List, ◌≡◌, ℕ, zero, suc, [], ◌⊎◌, inl, inr, ⊎_elim, Option, Some, None, Contains, option_to_list, refl, ap, subst, arith}
 use Rattle.std.proofs.lemmas.List.Elements.{Contains-append_left, Contains-append_right, Contains-append_cases, Contains-push_cases}
-use Rattle.ir_blocks.specs.Places.{Place, here, later, inside, condition}
-use Rattle.ir_blocks.specs.Plain.{PlainStatement, emit, block, if_, switch, loop, break, continue, return, kill, operation, call, PlainBlock, stop, next, PlainCases, no_case, case}
-use Rattle.ir_blocks.specs.Shapes.{Part, inner, accepting, rejecting, case_at, loop_body, loop_continuing, shape_of, part_of, case_body}
-use Rattle.spec_statements.specs.Answered.{answered_in, answered_at, answered_in_cases, answered_before_case, answered_before_part, answered_before, OnceByWalk}
-use Rattle.spec_statements.specs.Results.{answer_of, AnswersBy}
+use Rattle.ir_blocks.specs.judged.Places.{Place, here, later, inside, condition}
+use Rattle.ir_blocks.specs.judged.Plain.{PlainStatement, emit, block, if_, switch, loop, break, continue, return, kill, operation, call, PlainBlock, stop, next, PlainCases, no_case, case}
+use Rattle.ir_blocks.specs.judged.Shapes.{Part, inner, accepting, rejecting, case_at, loop_body, loop_continuing, shape_of, part_of, case_body}
+use Rattle.spec_statements.specs.found.Answered.{answered_in, answered_at, answered_in_cases, answered_before_case, answered_before_part, answered_before, OnceByWalk}
+use Rattle.spec_statements.specs.judged.Results.{answer_of, AnswersBy}
 use Rattle.spec_statements.proofs.ScopeLaws.{none_held}
 
 given_held : (o : Option ℕ) (e : ℕ) → o ≡ Some e → Contains (option_to_list o) e

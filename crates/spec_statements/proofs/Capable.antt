@@ -1,26 +1,26 @@
 -- More capabilities refuse nothing more.
 use Rattle.std.proofs.Common.{ℕ, List, [], ◌∷◌, Option, Some, None, IsSomeAnd, Bool, true, false}
-use Rattle.ir_types.specs.ExpressionPlain.{PlainExpression, compose, plain}
+use Rattle.ir_types.specs.judged.ExpressionPlain.{PlainExpression, compose, plain}
 use Rattle.ir_types.specs.declared.expressions.Expression.{Expression}
 use Rattle.ir_types.specs.declared.expressions.Expression.TheVariants as x
 use Rattle.ir_flags.specs.Sets.{IsWithin}
 use Rattle.ir_flags.specs.declared.settings.Capabilities.{Capabilities}
-use Rattle.ir_kinds.specs.Values.{literal_scalar}
+use Rattle.ir_kinds.specs.judged.Values.{literal_scalar}
 use Rattle.ir_kinds.specs.declared.scalars.Scalar.{Scalar}
 use Rattle.ir_kinds.specs.declared.scalars.ScalarKind.{ScalarKind}
-use Rattle.ir_types.specs.Plain.{PlainInner, PlainMember, PlainType, struct, plain as plain_type}
+use Rattle.ir_types.specs.judged.Plain.{PlainInner, PlainMember, PlainType, struct, plain as plain_type}
 use Rattle.ir_types.specs.declared.types.TypeInner.{TypeInner}
 use Rattle.ir_types.specs.declared.types.TypeInner.TheVariants as inner
-use Rattle.spec_statements.specs.Checks.{CheckOf}
-use Rattle.spec_statements.specs.Conversions.{IsConverted}
-use Rattle.spec_statements.specs.Expressions.{RequiredOf}
-use Rattle.spec_statements.specs.Laws.{MoreCapabilities, under}
-use Rattle.spec_statements.specs.ExpressionResults.{IsAtomicValue, AreExchangeMembers, IsExchange, AtomicResultOK}
-use Rattle.spec_statements.specs.Shapes.{IsAlone}
+use Rattle.spec_statements.specs.judged.Checks.{CheckOf}
+use Rattle.spec_statements.specs.judged.Conversions.{IsConverted}
+use Rattle.spec_statements.specs.judged.Expressions.{RequiredOf}
+use Rattle.spec_statements.specs.found.Laws.{MoreCapabilities, under}
+use Rattle.spec_statements.specs.judged.ExpressionResults.{IsAtomicValue, AreExchangeMembers, IsExchange, AtomicResultOK}
+use Rattle.spec_statements.specs.judged.Shapes.{IsAlone}
 use Rattle.spec_statements.specs.declared.shapes.Shaped.{Shaped}
 use Rattle.typing_layout.proofs.Capable.{more_capabilities as more_types}
-use Rattle.typing_layout.specs.Widths.{ScalarOK, AtomicOK}
-use Rattle.typing_layout.specs.View.{type_tree, tree_along}
+use Rattle.typing_layout.specs.judged.Widths.{ScalarOK, AtomicOK}
+use Rattle.typing_layout.specs.judged.View.{type_tree, tree_along}
 use Rattle.typing_forms.specs.declared.form.Form.{Form}
 
 -- a module of one type

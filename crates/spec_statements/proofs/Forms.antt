@@ -1,7 +1,7 @@
 -- The types of expressions have one list of forms.
 use Rattle.std.proofs.Common.{◌≡◌, ℕ, suc, List, [], ◌∷◌, Some, length, slice_get, refl, sym, ◌∙◌, arith}
 use Rattle.typing_forms.specs.declared.form.Form.{Form}
-use Rattle.spec_statements.specs.Laws.{OneList}
+use Rattle.spec_statements.specs.found.Laws.{OneList}
 use Rattle.spec_expressions.proofs.TypingLaws.{one_type}
 
 -- lists as long as each other, with the same at each place

@@ -5,10 +5,10 @@ use Rattle.std.specs.Prelude.{bit_and}
 use Rattle.ir_flags.specs.Sets.{Has}
 use Rattle.ir_flags.specs.declared.settings.ValidationFlags.{ValidationFlags}
 use Rattle.ir_flags.specs.declared.settings.TheConstants.ValidationFlags.{BLOCKS}
-use Rattle.ir_items.specs.Plain.{PlainFunction, PlainModule}
-use Rattle.spec_statements.specs.EarlierPayloads.{HasPayloadBefore, IsPayloadBefore}
-use Rattle.spec_statements.specs.FunctionLaws.{OnePayload}
-use Rattle.spec_statements.specs.Payloads.{HasPayload, PayloadsOK, IsPayloadAfter}
+use Rattle.ir_items.specs.judged.Plain.{PlainFunction, PlainModule}
+use Rattle.spec_statements.specs.judged.EarlierPayloads.{HasPayloadBefore, IsPayloadBefore}
+use Rattle.spec_statements.specs.found.FunctionLaws.{OnePayload}
+use Rattle.spec_statements.specs.judged.Payloads.{HasPayload, PayloadsOK, IsPayloadAfter}
 
 module _ (flags : ValidationFlags) (m : PlainModule) (count : ℕ) where
   none_with_some : (type : ℕ) → IsPayloadBefore flags m count None → IsPayloadBefore flags m count (Some type) → ⊥

@@ -1,12 +1,12 @@
 -- What is carried to a place is what stands before it.
 use Rattle.std.proofs.Common.{ℕ, List, [], ◌++◌, ◌⊎◌, inl, inr, ⊎_elim, Contains, arith}
 use Rattle.std.proofs.lemmas.List.Elements.{Contains-append_left, Contains-append_right, Contains-append_cases}
-use Rattle.ir_blocks.specs.Places.{Place, here, later, inside, condition, IsTop, top_here, top_later, Before, earlier, both_later, both_inside, body_before_continuing, body_before_condition, continuing_before_condition}
-use Rattle.ir_blocks.specs.Plain.{PlainStatement, PlainBlock, stop, next}
-use Rattle.ir_blocks.specs.Shapes.{Part, inner, accepting, rejecting, case_at, loop_body, loop_continuing, shape_of, part_of}
-use Rattle.spec_statements.specs.Scope.{Introduces}
-use Rattle.spec_statements.specs.Tables.{introduced}
-use Rattle.spec_statements.specs.Visible.{top_level, entering, visible, ScopeByWalk}
+use Rattle.ir_blocks.specs.judged.Places.{Place, here, later, inside, condition, IsTop, top_here, top_later, Before, earlier, both_later, both_inside, body_before_continuing, body_before_condition, continuing_before_condition}
+use Rattle.ir_blocks.specs.judged.Plain.{PlainStatement, PlainBlock, stop, next}
+use Rattle.ir_blocks.specs.judged.Shapes.{Part, inner, accepting, rejecting, case_at, loop_body, loop_continuing, shape_of, part_of}
+use Rattle.spec_statements.specs.judged.Scope.{Introduces}
+use Rattle.spec_statements.specs.judged.Tables.{introduced}
+use Rattle.spec_statements.specs.judged.Visible.{top_level, entering, visible, ScopeByWalk}
 
 pub none_held : {A : Type 0} (e : ℕ) → Contains [] e → A
 none_held e held = absurd (omega (arith, held.1))

@@ -2,15 +2,15 @@
 use Rattle.std.proofs.Common.{◌≡◌, ℕ, zero, suc, Bool, true, false, ◌||◌, IsTrue, List, [], ◌++◌, ◌⊎◌, inl, inr, ⊎_elim, Contains, refl, sym, ◌∙◌, subst}
 use Rattle.std.proofs.lemmas.Bool.{or_cases, or_left, or_right, cases_Bool}
 use Rattle.std.proofs.lemmas.List.Elements.{Contains-append_left, Contains-append_right, Contains-append_cases}
-use Rattle.ir_blocks.specs.Places.{Place, here, later, inside, condition, IsTop, top_here, top_later, Before, earlier, both_later, both_inside, body_before_continuing, body_before_condition, continuing_before_condition, OccursAt}
-use Rattle.ir_blocks.specs.Plain.{PlainStatement, emit, block, if_, switch, loop, break, continue, return, kill, operation, call, PlainBlock, stop, next, PlainCases, no_case, case}
-use Rattle.ir_blocks.specs.Shapes.{Part, inner, accepting, rejecting, case_at, loop_body, loop_continuing, shape_of, part_of, case_body}
+use Rattle.ir_blocks.specs.judged.Places.{Place, here, later, inside, condition, IsTop, top_here, top_later, Before, earlier, both_later, both_inside, body_before_continuing, body_before_condition, continuing_before_condition, OccursAt}
+use Rattle.ir_blocks.specs.judged.Plain.{PlainStatement, emit, block, if_, switch, loop, break, continue, return, kill, operation, call, PlainBlock, stop, next, PlainCases, no_case, case}
+use Rattle.ir_blocks.specs.judged.Shapes.{Part, inner, accepting, rejecting, case_at, loop_body, loop_continuing, shape_of, part_of, case_body}
 use Rattle.spec_statements.proofs.ScopeLaws.{none_held, top_held, held_top}
-use Rattle.spec_statements.specs.Scope.{Introduces}
-use Rattle.spec_statements.specs.Strict.{InNoLoop, IsPast, past_itself, past_within, past_later, LeadsPast, leads_later, leads_inside, to_continuing, to_condition, MaySkip}
-use Rattle.spec_statements.specs.SureLevel.{entering_by, visible_by, holds_continue_in, holds_continue, holds_continue_in_cases, unless, sure_level, StrictByWalk}
-use Rattle.spec_statements.specs.Tables.{introduced}
-use Rattle.spec_statements.specs.Visible.{top_level}
+use Rattle.spec_statements.specs.judged.Scope.{Introduces}
+use Rattle.spec_statements.specs.judged.Strict.{InNoLoop, IsPast, past_itself, past_within, past_later, LeadsPast, leads_later, leads_inside, to_continuing, to_condition, MaySkip}
+use Rattle.spec_statements.specs.found.SureLevel.{entering_by, visible_by, holds_continue_in, holds_continue, holds_continue_in_cases, unless, sure_level, StrictByWalk}
+use Rattle.spec_statements.specs.judged.Tables.{introduced}
+use Rattle.spec_statements.specs.judged.Visible.{top_level}
 
 not_both : {A : Type 0} (b : Bool) → b ≡ true → b ≡ false → A
 not_both b p q = let w : true ≡ false = sym p ∙ q in absurd (cc)

@@ -1,5 +1,5 @@
 //! Laws of the checks.
-ghost use Rattle.spec_statements.specs.Laws.{MoreCapabilities, OneList};
+ghost use Rattle.spec_statements.specs.found.Laws.{MoreCapabilities, OneList};
 
 /// A larger set of capabilities refuses no expression that a smaller one accepted.
 pub fn more_capabilities()

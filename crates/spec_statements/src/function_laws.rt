@@ -1,6 +1,6 @@
 //! What is known of the functions of a module.
 
-ghost use Rattle.spec_statements.specs.FunctionLaws.{OnePayload, FormsByCallees, CallsPrecede};
+ghost use Rattle.spec_statements.specs.found.FunctionLaws.{OnePayload, FormsByCallees, CallsPrecede};
 
 /// At most one payload type is kept before a function.
 #[tactic(auto, using(crate::proofs::HeldLaws::one_payload))]

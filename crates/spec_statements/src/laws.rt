@@ -1,7 +1,7 @@
 //! Laws of the rules of statements.
-ghost use Rattle.spec_statements.specs.Answered.{OnceByWalk};
-ghost use Rattle.spec_statements.specs.SureLevel.{StrictByWalk};
-ghost use Rattle.spec_statements.specs.Visible.{ScopeByWalk};
+ghost use Rattle.spec_statements.specs.found.Answered.{OnceByWalk};
+ghost use Rattle.spec_statements.specs.found.SureLevel.{StrictByWalk};
+ghost use Rattle.spec_statements.specs.judged.Visible.{ScopeByWalk};
 
 /// What is in scope at a place is always so, or is what a walk in the order of the text carries there: it takes up what each
 /// statement brings, drops it at the end of its block, and keeps that of a loop's body for its continuing part and its

@@ -2,12 +2,12 @@
 //! statements: a rule for each kind, what is in scope where, and which stages may run it; and what is required of a function as a
 //! whole, over any lower layer that types its expressions.
 //!
-//! The definitions stand in `specs/`, a file for each rule and each family of expressions. `specs/Statements.antt` has one row
-//! for each kind of statement, `specs/Checks.antt` one for each kind of expression that is no composition, which
-//! `specs/Expressions.antt` joins. The functions here do nothing: their contracts are what is known of the definitions
+//! The definitions stand in `specs/`, a file for each rule and each family of expressions. `specs/judged/Statements.antt` has one row
+//! for each kind of statement, `specs/judged/Checks.antt` one for each kind of expression that is no composition, which
+//! `specs/judged/Expressions.antt` joins. The functions here do nothing: their contracts are what is known of the definitions
 //! ([`laws`], [`expression_laws`]), and what they say of small expressions ([`worked`]).
 //!
-//! `specs/ModuleFunctions.antt` says what is required of the functions of a module, one after the other: the rules of a function,
+//! `specs/judged/ModuleFunctions.antt` says what is required of the functions of a module, one after the other: the rules of a function,
 //! read with the types, the analysis and the checks of expressions, and what the functions before it leave to it.
 #![tactic(auto)]
 

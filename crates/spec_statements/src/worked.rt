@@ -3,12 +3,12 @@
 //! The functions do nothing: their contracts are the examples.
 
 ghost use Rattle.std.specs.Prelude.{◌≡◌, [], ◌∷◌, pos, negsuc, Some, None, true, false};
-ghost use Rattle.ir_types.specs.ExpressionPlain.{compose, plain};
+ghost use Rattle.ir_types.specs.judged.ExpressionPlain.{compose, plain};
 ghost use Rattle.ir_types.specs.declared.expressions.Expression.TheVariants as x;
 ghost use Rattle.ir_types.specs.declared.expressions.SampleLevel.TheVariants.{Zero, Exact, Bias, Gradient};
 ghost use Rattle.ir_kinds.specs.declared.operators.DerivativeAxis.TheVariants as axis;
 ghost use Rattle.ir_kinds.specs.declared.operators.DerivativeControl.TheVariants as control;
-ghost use Rattle.ir_kinds.specs.Scalars.{boolean, floating, signed, unsigned};
+ghost use Rattle.ir_kinds.specs.judged.Scalars.{boolean, floating, signed, unsigned};
 ghost use Rattle.ir_kinds.specs.declared.operators.BinaryOperator.TheVariants as binary;
 ghost use Rattle.ir_kinds.specs.declared.operators.RelationalFunction.TheVariants as relation;
 ghost use Rattle.ir_kinds.specs.declared.operators.UnaryOperator.TheVariants as unary;
@@ -16,17 +16,17 @@ ghost use Rattle.ir_kinds.specs.declared.scalars.CooperativeRole.TheVariants as 
 ghost use Rattle.ir_kinds.specs.declared.scalars.CooperativeSize.TheVariants.{Eight, Sixteen};
 ghost use Rattle.ir_kinds.specs.declared.scalars.VectorSize.TheVariants.{Bi, Tri, Quad};
 ghost use Rattle.ir_kinds.specs.declared.spaces.AddressSpace.TheVariants.{Function};
-ghost use Rattle.ir_types.specs.Plain.{plain as plain_type};
+ghost use Rattle.ir_types.specs.judged.Plain.{plain as plain_type};
 ghost use Rattle.ir_types.specs.declared.types.ArraySize.TheVariants as count;
 ghost use Rattle.ir_types.specs.declared.types.TypeInner.TheVariants as inner;
-ghost use Rattle.spec_statements.specs.Access.{AccessIndexOK, IsIndexOf, known_length};
-ghost use Rattle.spec_statements.specs.CooperativeMatrices.{CooperativeLoadOK, MultiplyAddOK};
-ghost use Rattle.spec_statements.specs.Derivatives.{DerivativeOK};
-ghost use Rattle.spec_statements.specs.Expressions.{RequiredOf};
-ghost use Rattle.spec_statements.specs.ImageLoads.{IsAnswered, IsReadable, IsTexel};
-ghost use Rattle.spec_statements.specs.ImageSamples.{HasNeighbours, ClampOK, IsClamped, IsFiltered, IsGathered, IsLevel, IsOffset, OutsideOK};
-ghost use Rattle.spec_statements.specs.Laws.{under};
-ghost use Rattle.spec_statements.specs.Shapes.{ExactlyIf};
+ghost use Rattle.spec_statements.specs.judged.Access.{AccessIndexOK, IsIndexOf, known_length};
+ghost use Rattle.spec_statements.specs.judged.CooperativeMatrices.{CooperativeLoadOK, MultiplyAddOK};
+ghost use Rattle.spec_statements.specs.judged.Derivatives.{DerivativeOK};
+ghost use Rattle.spec_statements.specs.judged.Expressions.{RequiredOf};
+ghost use Rattle.spec_statements.specs.judged.ImageLoads.{IsAnswered, IsReadable, IsTexel};
+ghost use Rattle.spec_statements.specs.judged.ImageSamples.{HasNeighbours, ClampOK, IsClamped, IsFiltered, IsGathered, IsLevel, IsOffset, OutsideOK};
+ghost use Rattle.spec_statements.specs.found.Laws.{under};
+ghost use Rattle.spec_statements.specs.judged.Shapes.{ExactlyIf};
 ghost use Rattle.ir_types.specs.declared.expressions.ImageQuery.TheVariants.{Size, NumLevels, NumLayers, NumSamples};
 ghost use Rattle.ir_kinds.specs.declared.images.ImageClass.TheVariants as class;
 ghost use Rattle.ir_flags.specs.declared.memory.TheConstants.StorageAccess.{STORE};
@@ -34,9 +34,9 @@ ghost use Rattle.ir_kinds.specs.declared.images.StorageFormat.TheVariants.{R32Ui
 ghost use Rattle.ir_kinds.specs.declared.images.ImageDimension.TheVariants.{D2, D3, Cube};
 ghost use Rattle.ir_kinds.specs.declared.scalars.ScalarKind.TheVariants as kind;
 ghost use Rattle.ir_kinds.specs.declared.scalars.SwizzleComponent.TheVariants.{X, Y};
-ghost use Rattle.spec_statements.specs.Operators.{BinaryOK, UnaryOK};
-ghost use Rattle.spec_statements.specs.Selections.{RelationalOK, SelectOK};
-ghost use Rattle.spec_statements.specs.ExpressionStages.{all_stages, sample_stages, stages_in};
+ghost use Rattle.spec_statements.specs.judged.Operators.{BinaryOK, UnaryOK};
+ghost use Rattle.spec_statements.specs.judged.Selections.{RelationalOK, SelectOK};
+ghost use Rattle.spec_statements.specs.judged.ExpressionStages.{all_stages, sample_stages, stages_in};
 ghost use Rattle.typing_forms.specs.declared.form.Form.TheVariants as form;
 ghost use Rattle.ir_flags.specs.declared.stages.TheConstants.ShaderStages.{FRAGMENT, COMPUTE};
 

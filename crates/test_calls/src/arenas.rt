@@ -1,6 +1,6 @@
 // Arenas, each beside another that it is compared with.
 ghost use Rattle.std.specs.Prelude.{◌≡◌, ◌<◌, length};
-ghost use Rattle.ir_arena.specs.Arenas.{with_value};
+ghost use Rattle.ir_arena.specs.found.Arenas.{with_value};
 
 use crate::item::Item;
 use ir_arena::arena::Arena;

@@ -1,9 +1,9 @@
 // Types and scalars as a line of the input gives them.
 ghost use Rattle.std.specs.Prelude.{IsTrue};
-ghost use Rattle.ir_types.specs.Plain.{inner_view};
-ghost use Rattle.typing_forms.specs.Forms.{NoStructValue};
-ghost use Rattle.typing_forms.specs.Resolutions.{resolution_view};
-ghost use Rattle.typing_forms.specs.Canonical.{NotBothStructs};
+ghost use Rattle.ir_types.specs.judged.Plain.{inner_view};
+ghost use Rattle.typing_forms.specs.judged.Forms.{NoStructValue};
+ghost use Rattle.typing_forms.specs.judged.Resolutions.{resolution_view};
+ghost use Rattle.typing_forms.specs.found.Canonical.{NotBothStructs};
 
 use document_items::TypeForm;
 use ir_kinds::Scalar;

@@ -1,6 +1,6 @@
 // The calls of a block of statements that compute from some places on, each with a span of its own or with none.
 ghost use Rattle.std.specs.Prelude.{◌≤◌, length};
-ghost use Rattle.ir_blocks.specs.View.{statements_of};
+ghost use Rattle.ir_blocks.specs.found.View.{statements_of};
 
 use ir_arena::range::Range;
 use ir_arena::span::Span;

@@ -2,7 +2,7 @@
 use Rattle.std.specs.Prelude.{Bool, List}
 use Rattle.function_interface.specs.Reported.{AreReported}
 use Rattle.ir_flags.specs.declared.settings.Capabilities.{Capabilities}
-use Rattle.ir_types.specs.Plain.{PlainType}
+use Rattle.ir_types.specs.judged.Plain.{PlainType}
 use Rattle.module_types.specs.Validated.{AreAccepted}
 use Rattle.module_type_infos.specs.declared.info.TypeInfo.{TypeInfo}
 

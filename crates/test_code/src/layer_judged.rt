@@ -1,8 +1,8 @@
 //! Which functions of a module are accepted over the small layer.
 
 ghost use Rattle.std.specs.Prelude.{◌≡◌, IsTrue};
-ghost use Rattle.ir_items.specs.View.{function_view, module_view};
-ghost use Rattle.ir_proc.specs.Filters.{ParentsPrecede};
+ghost use Rattle.ir_items.specs.found.View.{function_view, module_view};
+ghost use Rattle.ir_proc.specs.found.Filters.{ParentsPrecede};
 ghost use Rattle.spec_handles.specs.Conditions.{HandlesInRange, OperandsPrecede};
 ghost use Rattle.function_tiny_lower.specs.Readings.{IsMadeOf};
 

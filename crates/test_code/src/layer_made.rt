@@ -2,9 +2,9 @@
 
 ghost use Rattle.std.specs.Prelude.{IfOk, IfSome};
 ghost use Rattle.function_interface.specs.Reported.{AreReported};
-ghost use Rattle.ir_items.specs.View.{module_view};
+ghost use Rattle.ir_items.specs.found.View.{module_view};
 ghost use Rattle.function_tiny_lower.specs.Readings.{IsMadeOf};
-ghost use Rattle.typing_forms.specs.Resolutions.{types_view};
+ghost use Rattle.typing_forms.specs.judged.Resolutions.{types_view};
 
 use function_tiny_lower::TinyLower;
 use ir_faults::refusal::Refusal;

@@ -4,7 +4,7 @@ use borrow.Author.Count.{below_more}
 use Rattle.std.proofs.lemmas.List.{length-map}
 use Rattle.std.proofs.lemmas.Option.{slice_get_within}
 use Rattle.ir_arena.specs.declared.span.Span.{Span}
-use Rattle.ir_items.specs.GlobalView.{values_of}
+use Rattle.ir_items.specs.found.GlobalView.{values_of}
 
 -- this holds at each place below a bound
 abbrev pub UpTo : {P : Type 0} → (ℕ → P → Type 0) → List P → ℕ → Type 0

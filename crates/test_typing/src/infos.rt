@@ -1,8 +1,8 @@
 // What is reported of types, and why one is refused.
 ghost use Rattle.std.specs.Prelude.{◌≡◌, length};
-ghost use Rattle.typing_forms.specs.Order.{TypesGoBack};
-ghost use Rattle.typing_forms.specs.Resolutions.{types_view};
-ghost use Rattle.typing_layout.specs.Held.{AreLayouts};
+ghost use Rattle.typing_forms.specs.judged.Order.{TypesGoBack};
+ghost use Rattle.typing_forms.specs.judged.Resolutions.{types_view};
+ghost use Rattle.typing_layout.specs.found.Held.{AreLayouts};
 
 use ir_faults::refusal::Refusal;
 use ir_flags::Capabilities;

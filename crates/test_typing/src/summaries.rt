@@ -1,7 +1,7 @@
 // What is found of functions, from their own bodies and from what is found of the functions that they call.
 ghost use Rattle.std.specs.Prelude.{IsTrue};
-ghost use Rattle.ir_items.specs.View.{function_view, module_view};
-ghost use Rattle.ir_proc.specs.Filters.{ParentsPrecede};
+ghost use Rattle.ir_items.specs.found.View.{function_view, module_view};
+ghost use Rattle.ir_proc.specs.found.Filters.{ParentsPrecede};
 ghost use Rattle.spec_handles.specs.Conditions.{HandlesInRange, OperandsPrecede};
 
 use function_real_lower::process_function;

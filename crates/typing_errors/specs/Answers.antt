@@ -1,14 +1,14 @@
 -- What an answer says: a canonical form, or a fault.
 use Rattle.std.specs.Prelude.{ℕ, List, Option, Some, None, Result, Ok, Err, option_map}
-use Rattle.ir_types.specs.Plain.{PlainType}
-use Rattle.ir_types.specs.ExpressionPlain.{PlainExpression}
-use Rattle.spec_expressions.specs.Context.{Context}
-use Rattle.spec_expressions.specs.Laws.{IsFaulty}
-use Rattle.spec_expressions.specs.Typing.{HasTypeAmong}
+use Rattle.ir_types.specs.judged.Plain.{PlainType}
+use Rattle.ir_types.specs.judged.ExpressionPlain.{PlainExpression}
+use Rattle.spec_expressions.specs.judged.Context.{Context}
+use Rattle.spec_expressions.specs.found.Laws.{IsFaulty}
+use Rattle.spec_expressions.specs.judged.Typing.{HasTypeAmong}
 use Rattle.typing_forms.specs.declared.form.Form.{Form}
 use Rattle.typing_forms.specs.declared.resolution.TypeResolution.{TypeResolution}
-use Rattle.typing_forms.specs.Forms.{form_of}
-use Rattle.typing_forms.specs.Resolutions.{resolution_view}
+use Rattle.typing_forms.specs.judged.Forms.{form_of}
+use Rattle.typing_forms.specs.judged.Resolutions.{resolution_view}
 use Rattle.spec_expressions.specs.declared.faults.TypingFault.{TypingFault}
 use Rattle.spec_expressions.specs.declared.faults.TypingFault.TheVariants as fault
 use Rattle.typing_errors.specs.declared.resolve_error.ResolveError.{ResolveError}

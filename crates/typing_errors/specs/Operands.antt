@@ -1,13 +1,13 @@
 -- The types of operands as they are at hand.
 use Rattle.std.specs.Prelude.{List, Option, Some, None, Result}
 use Rattle.std.specs.Borrow.{Bor}
-use Rattle.ir_types.specs.Plain.{PlainType}
+use Rattle.ir_types.specs.judged.Plain.{PlainType}
 use Rattle.typing_forms.specs.declared.form.Form.{Form}
 use Rattle.typing_forms.specs.declared.form.Form.TheVariants as form
 use Rattle.typing_forms.specs.declared.resolution.TypeResolution.{TypeResolution}
-use Rattle.ir_types.specs.ExpressionPlain.{PlainExpression}
-use Rattle.spec_expressions.specs.Context.{Context}
-use Rattle.spec_expressions.specs.Typing.{rule}
+use Rattle.ir_types.specs.judged.ExpressionPlain.{PlainExpression}
+use Rattle.spec_expressions.specs.judged.Context.{Context}
+use Rattle.spec_expressions.specs.judged.Typing.{rule}
 use Rattle.spec_expressions.specs.declared.faults.TypingFault.{TypingFault}
 use Rattle.typing_errors.specs.declared.operands.Given.{Given}
 use Rattle.typing_errors.specs.Answers.{form_given}

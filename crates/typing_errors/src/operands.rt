@@ -1,11 +1,11 @@
 //! The operands whose types make that of an expression.
 
 ghost use Rattle.std.specs.Prelude.{◌≡◌, List, IfOk, Ok, Some, None, slice_get};
-ghost use Rattle.ir_types.specs.ExpressionPlain.{expression_view};
-ghost use Rattle.ir_types.specs.Plain.{PlainType};
-ghost use Rattle.spec_expressions.specs.Maths.{math_operands};
-ghost use Rattle.spec_expressions.specs.Typing.{typing_operands};
-ghost use Rattle.typing_forms.specs.Resolutions.{types_view};
+ghost use Rattle.ir_types.specs.judged.ExpressionPlain.{expression_view};
+ghost use Rattle.ir_types.specs.judged.Plain.{PlainType};
+ghost use Rattle.spec_expressions.specs.judged.Maths.{math_operands};
+ghost use Rattle.spec_expressions.specs.judged.Typing.{typing_operands};
+ghost use Rattle.typing_forms.specs.judged.Resolutions.{types_view};
 ghost use Rattle.typing_errors.specs.Answers.{form_given, form_answer};
 ghost use Rattle.typing_errors.specs.Operands.{given_form};
 

@@ -2,19 +2,19 @@
 use Rattle.std.proofs.Common.{◌≡◌, ◌⊎◌, ℕ, zero, suc, ◌+◌, ◌<◌, ◌≤◌, Some, None, Err, List, [], ◌∷◌, ◌++◌, length, map, refl, sym, ap, ◌∙◌, subst, inl, inr, arith, slice_get}
 use Rattle.std.specs.Prelude.{slice_index_or}
 use Rattle.std.proofs.lemmas.Bool.{cases_lt}
-use Rattle.typing_rules.specs.Laws.{IsAmong}
-use Rattle.ir_arena.specs.Handles.{handles_from}
+use Rattle.typing_rules.specs.judged.Laws.{IsAmong}
+use Rattle.ir_arena.specs.judged.Handles.{handles_from}
 use Rattle.ir_arena.specs.declared.span.Span.{Span}
-use Rattle.ir_types.specs.ExpressionPlain.{PlainExpression, compose, plain, expression_view}
+use Rattle.ir_types.specs.judged.ExpressionPlain.{PlainExpression, compose, plain, expression_view}
 use Rattle.ir_types.specs.declared.expressions.Expression.{Expression}
 use Rattle.ir_types.specs.declared.expressions.Expression.TheVariants as x
-use Rattle.ir_items.specs.GlobalView.{values_of}
-use Rattle.spec_analysis.specs.Operands.{Operand, operand, expression_operands}
+use Rattle.ir_items.specs.found.GlobalView.{values_of}
+use Rattle.spec_analysis.specs.judged.Operands.{Operand, operand, expression_operands}
 use Rattle.spec_handles.specs.declared.operand.Usage.TheVariants.{Base, Query, Read}
-use Rattle.spec_analysis.specs.Values.{OperandsPrecede}
+use Rattle.spec_analysis.specs.judged.Values.{OperandsPrecede}
 use Rattle.spec_analysis.proofs.Members.{get-within}
-use Rattle.spec_expressions.specs.Context.{Context}
-use Rattle.spec_expressions.specs.Typing.{typing_operands, HasTypeAmong}
+use Rattle.spec_expressions.specs.judged.Context.{Context}
+use Rattle.spec_expressions.specs.judged.Typing.{typing_operands, HasTypeAmong}
 use Rattle.typing_forms.specs.declared.resolution.TypeResolution.{TypeResolution}
 use Rattle.typing_forms.specs.declared.form.Form.{Form}
 use Rattle.typing_errors.specs.Answers.{form_given}

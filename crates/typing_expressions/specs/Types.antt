@@ -1,9 +1,9 @@
 -- The types of the expressions of a list.
 use Rattle.std.specs.Prelude.{◌≡◌, ℕ, ◌<◌, List, Some, length, slice_get, Result, Ok, Err}
-use Rattle.ir_types.specs.ExpressionPlain.{PlainExpression}
-use Rattle.spec_expressions.specs.Context.{Context, NamesItem}
-use Rattle.spec_expressions.specs.Typing.{typing_operands, HasTypeAmong}
-use Rattle.typing_rules.specs.Laws.{IsAmong}
+use Rattle.ir_types.specs.judged.ExpressionPlain.{PlainExpression}
+use Rattle.spec_expressions.specs.judged.Context.{Context, NamesItem}
+use Rattle.spec_expressions.specs.judged.Typing.{typing_operands, HasTypeAmong}
+use Rattle.typing_rules.specs.judged.Laws.{IsAmong}
 use Rattle.typing_forms.specs.declared.form.Form.{Form}
 use Rattle.typing_forms.specs.declared.resolution.TypeResolution.{TypeResolution}
 use Rattle.typing_errors.specs.Answers.{form_given, fault_of, ReportsFault, IsAnswer}

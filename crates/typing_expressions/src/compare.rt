@@ -1,10 +1,10 @@
 //! Comparing types by what has them: a module, or what a global expression may name.
 
 ghost use Rattle.std.specs.Prelude.{◌↔◌, IsTrue, List};
-ghost use Rattle.ir_types.specs.Plain.{PlainType};
-ghost use Rattle.typing_forms.specs.Resolutions.{types_view, resolution_view};
-ghost use Rattle.typing_forms.specs.Forms.{NoStructValue};
-ghost use Rattle.typing_forms.specs.Equivalence.{AreEquivalent};
+ghost use Rattle.ir_types.specs.judged.Plain.{PlainType};
+ghost use Rattle.typing_forms.specs.judged.Resolutions.{types_view, resolution_view};
+ghost use Rattle.typing_forms.specs.judged.Forms.{NoStructValue};
+ghost use Rattle.typing_forms.specs.found.Equivalence.{AreEquivalent};
 
 use ir_items::{GlobalCtx, Module};
 use typing_forms::{TypeResolution, compare_types};

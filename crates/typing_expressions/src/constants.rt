@@ -1,9 +1,9 @@
 //! The types of a module's global expressions.
 
 ghost use Rattle.std.specs.Prelude.{◌≡◌, ◌<◌, ◌≤◌, [], IfOk, IfErr, length};
-ghost use Rattle.ir_items.specs.View.{module_view};
-ghost use Rattle.spec_analysis.specs.Values.{OperandsPrecede};
-ghost use Rattle.spec_expressions.specs.Context.{outside};
+ghost use Rattle.ir_items.specs.found.View.{module_view};
+ghost use Rattle.spec_analysis.specs.judged.Values.{OperandsPrecede};
+ghost use Rattle.spec_expressions.specs.judged.Context.{outside};
 ghost use Rattle.typing_expressions.specs.Types.{ItemsNamed, TypedSoFar, AreTypes, IsFirstUntyped};
 ghost use Rattle.typing_errors.specs.Answers.{IsAnswer};
 ghost use Rattle.typing_resolve.specs.View.{context_view};

@@ -1,10 +1,10 @@
 //! The types of the expressions of a list.
 
 ghost use Rattle.std.specs.Prelude.{◌≡◌, ◌++◌, ◌∷◌, [], List, Err, IfOk, IfErr, OnOk, length, map, slice_index_or};
-ghost use Rattle.ir_types.specs.ExpressionPlain.{PlainExpression, expression_view};
-ghost use Rattle.ir_items.specs.GlobalView.{values_of};
-ghost use Rattle.spec_analysis.specs.Values.{OperandsPrecede};
-ghost use Rattle.spec_expressions.specs.Context.{Context, NamesItem};
+ghost use Rattle.ir_types.specs.judged.ExpressionPlain.{PlainExpression, expression_view};
+ghost use Rattle.ir_items.specs.found.GlobalView.{values_of};
+ghost use Rattle.spec_analysis.specs.judged.Values.{OperandsPrecede};
+ghost use Rattle.spec_expressions.specs.judged.Context.{Context, NamesItem};
 ghost use Rattle.typing_expressions.specs.Types.{ItemsNamed, AreTypes, IsFirstUntyped, OperandsBelow, Decided, DecidedAt, IsTypedBy};
 ghost use Rattle.typing_errors.specs.Answers.{IsAnswer};
 ghost use Rattle.typing_resolve.specs.View.{context_view};

@@ -1,11 +1,11 @@
 -- A canonical form is in its own canonical form.
 use Rattle.std.proofs.Common.{◌≡◌, ℕ, List, Option, Some, None, refl, subst}
 use Rattle.ir_kinds.specs.declared.spaces.AddressSpace.{AddressSpace}
-use Rattle.ir_types.specs.Plain.{PlainInner, struct, plain, PlainType}
+use Rattle.ir_types.specs.judged.Plain.{PlainInner, struct, plain, PlainType}
 use Rattle.ir_types.specs.declared.types.TypeInner.TheVariants as inner
-use Rattle.typing_forms.specs.Forms.{form_in, pointing}
-use Rattle.typing_forms.specs.Resolutions.{inner_at}
-use Rattle.typing_forms.specs.Canonical.{canonical, value_pointer, CanonicalOnce}
+use Rattle.typing_forms.specs.judged.Forms.{form_in, pointing}
+use Rattle.typing_forms.specs.judged.Resolutions.{inner_at}
+use Rattle.typing_forms.specs.found.Canonical.{canonical, value_pointer, CanonicalOnce}
 
 some_is : {A : Type 0} (x y : A) → Some x ≡ Some y → x ≡ y
 some_is x y e = cc

@@ -3,14 +3,14 @@ use Rattle.std.proofs.Common.{◌≡◌, ◌↔◌, ◌<◌, ◌≤◌, ◌+◌,
 use Rattle.std.specs.List.{list_all}
 use Rattle.std.proofs.lemmas.List.Folds.{list_all-map}
 use Rattle.std.proofs.lemmas.Option.{slice_get_past, slice_get_within, get_or_from_slice_get}
-use Rattle.ir_types.specs.Plain.{PlainInner, struct, plain, PlainMember, PlainType, inner_view, member_view}
+use Rattle.ir_types.specs.judged.Plain.{PlainInner, struct, plain, PlainMember, PlainType, inner_view, member_view}
 use Rattle.ir_types.specs.declared.types.ArraySize.TheVariants as count
 use Rattle.ir_types.specs.declared.types.StructMember.{StructMember}
 use Rattle.ir_types.specs.declared.types.TypeInner.{TypeInner}
 use Rattle.ir_types.specs.declared.types.TypeInner.TheVariants as inner
-use Rattle.typing_forms.specs.Order.{named_types, TypesGoBack}
-use Rattle.typing_forms.specs.Resolutions.{inner_at}
-use Rattle.typing_forms.specs.Constructible.{is_constructible_alone, parts_of, IsConstructible, alone, composed, IsConstructibleAt, known_at, composed_by, composed_of, AreFoundBelow}
+use Rattle.typing_forms.specs.judged.Order.{named_types, TypesGoBack}
+use Rattle.typing_forms.specs.judged.Resolutions.{inner_at}
+use Rattle.typing_forms.specs.found.Constructible.{is_constructible_alone, parts_of, IsConstructible, alone, composed, IsConstructibleAt, known_at, composed_by, composed_of, AreFoundBelow}
 
 both : (x y : Bool) → IsTrue (x && y) → IsTrue x × IsTrue y
 both true true e = (refl, refl)

@@ -1,10 +1,10 @@
 -- The type at a handle of an arena.
 use Rattle.std.proofs.Common.{◌≡◌, ℕ, zero, suc, ◌<◌, List, [], ◌∷◌, length, Some, None, option_map, refl, sym, ap, ◌∙◌, arith}
-use Rattle.ir_arena.specs.Arenas.{value_at}
+use Rattle.ir_arena.specs.found.Arenas.{value_at}
 use Rattle.ir_arena.specs.declared.span.Span.{Span}
-use Rattle.ir_types.specs.Plain.{inner_view}
+use Rattle.ir_types.specs.judged.Plain.{inner_view}
 use Rattle.ir_types.specs.declared.types.IrType.{IrType}
-use Rattle.typing_forms.specs.Resolutions.{types_view, inner_at}
+use Rattle.typing_forms.specs.judged.Resolutions.{types_view, inner_at}
 
 pub inner_value : (entries : List (IrType × Span)) (h : ℕ) → inner_at (types_view entries) h ≡ option_map (λ t. inner_view t.inner) (value_at entries h)
 inner_value [] h = refl

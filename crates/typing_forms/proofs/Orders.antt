@@ -4,13 +4,13 @@ use Rattle.std.proofs.lemmas.List.Elements.{All-map}
 use Rattle.ir_arena.specs.declared.span.Span.{Span}
 use Rattle.ir_types.specs.declared.types.IrType.{IrType}
 use Rattle.typing_forms.proofs.Lookups.{inner_found}
-use Rattle.ir_arena.specs.Arenas.{value_at}
-use Rattle.ir_types.specs.Plain.{PlainInner, PlainMember, PlainType, member_view, inner_view}
-use Rattle.typing_forms.specs.Resolutions.{types_view, inner_at}
+use Rattle.ir_arena.specs.found.Arenas.{value_at}
+use Rattle.ir_types.specs.judged.Plain.{PlainInner, PlainMember, PlainType, member_view, inner_view}
+use Rattle.typing_forms.specs.judged.Resolutions.{types_view, inner_at}
 use Rattle.ir_types.specs.declared.types.StructMember.{StructMember}
 use Rattle.ir_types.specs.declared.types.TypeInner.{TypeInner}
 use Rattle.ir_types.specs.declared.types.TypeInner.TheVariants as inner
-use Rattle.typing_forms.specs.Order.{named_types, TypesGoBack}
+use Rattle.typing_forms.specs.judged.Order.{named_types, TypesGoBack}
 
 all_members : (b : ℕ) (ms : List StructMember) → All (λ named. named < b) (map (λ m. m.ty) (map member_view ms)) → All (λ m. m.ty < b) ms
 all_members b [] h k d lt = absurd (omega arith)

@@ -1,12 +1,12 @@
 -- Types of one shape, a step at a time.
 use Rattle.std.proofs.Common.{◌≡◌, ◌<◌, ℕ, List, [], ◌∷◌, length, Option, Some, None, Bool, true, false, All, if◌then◌else◌, IfSome, IfNone, refl, sym, ap, subst, ◌∙◌, rules}
 use Rattle.ir_kinds.specs.declared.scalars.Scalar.{Scalar}
-use Rattle.ir_types.specs.Plain.{PlainInner, struct, plain, PlainType}
+use Rattle.ir_types.specs.judged.Plain.{PlainInner, struct, plain, PlainType}
 use Rattle.ir_types.specs.declared.types.TypeInner.TheVariants as inner
-use Rattle.typing_forms.specs.Order.{named_types, TypesGoBack}
-use Rattle.typing_forms.specs.Ranks.{conversion}
-use Rattle.typing_forms.specs.Resolutions.{inner_at}
-use Rattle.typing_forms.specs.Conversions.{same_count, scalars_of, bases_of, both_found, both_at, SameShape, alike, elements, SameShapeAt}
+use Rattle.typing_forms.specs.judged.Order.{named_types, TypesGoBack}
+use Rattle.typing_forms.specs.judged.Ranks.{conversion}
+use Rattle.typing_forms.specs.judged.Resolutions.{inner_at}
+use Rattle.typing_forms.specs.found.Conversions.{same_count, scalars_of, bases_of, both_found, both_at, SameShape, alike, elements, SameShapeAt}
 use Rattle.typing_forms.proofs.Walks.{one_below}
 
 some_is : {A : Type 0} (x y : A) → Some x ≡ Some y → x ≡ y

@@ -1,12 +1,2 @@
-pub mod Forms
-pub mod Order
-pub mod Ranks
-pub mod Resolutions
-pub mod Canonical
-pub mod Constructible
-pub mod Conversions
-pub mod Elements
-pub mod Equivalence
-pub mod Lengths
-pub mod Parts
-pub mod Sizes
+pub mod judged
+pub mod found

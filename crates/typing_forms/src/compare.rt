@@ -1,9 +1,9 @@
 //! Which types are equivalent.
 
 ghost use Rattle.std.specs.Prelude.{◌↔◌, IsTrue};
-ghost use Rattle.typing_forms.specs.Resolutions.{types_view, resolution_view};
-ghost use Rattle.typing_forms.specs.Forms.{NoStructValue};
-ghost use Rattle.typing_forms.specs.Equivalence.{AreEquivalent};
+ghost use Rattle.typing_forms.specs.judged.Resolutions.{types_view, resolution_view};
+ghost use Rattle.typing_forms.specs.judged.Forms.{NoStructValue};
+ghost use Rattle.typing_forms.specs.found.Equivalence.{AreEquivalent};
 
 use crate::laws::form_equality;
 use crate::{TypeResolution, form_of};

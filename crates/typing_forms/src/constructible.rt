@@ -2,10 +2,10 @@
 
 ghost use Rattle.std.specs.Prelude.{◌↔◌, ◌≡◌, IsTrue, IfOk};
 ghost use Rattle.std.specs.List.{list_all};
-ghost use Rattle.ir_types.specs.Plain.{inner_view};
-ghost use Rattle.typing_forms.specs.Order.{TypesGoBack};
-ghost use Rattle.typing_forms.specs.Resolutions.{types_view};
-ghost use Rattle.typing_forms.specs.Constructible.{IsConstructible, AreFound, known_at, composed_of};
+ghost use Rattle.ir_types.specs.judged.Plain.{inner_view};
+ghost use Rattle.typing_forms.specs.judged.Order.{TypesGoBack};
+ghost use Rattle.typing_forms.specs.judged.Resolutions.{types_view};
+ghost use Rattle.typing_forms.specs.found.Constructible.{IsConstructible, AreFound, known_at, composed_of};
 
 use crate::order::type_at;
 use ir_arena::handle::Handle;

@@ -2,11 +2,11 @@
 
 ghost use Rattle.std.specs.Prelude.{◌≡◌, IsTrue, IfSome, IfNone, None};
 ghost use Rattle.ir_kinds.specs.declared.scalars.Scalar.{Scalar};
-ghost use Rattle.ir_types.specs.Plain.{inner_view};
-ghost use Rattle.typing_forms.specs.Order.{TypesGoBack};
-ghost use Rattle.typing_forms.specs.Ranks.{conversion};
-ghost use Rattle.typing_forms.specs.Resolutions.{types_view};
-ghost use Rattle.typing_forms.specs.Conversions.{same_size, same_count, scalars_of, bases_of, both_at, SameShape, SameShapeAt, Converts};
+ghost use Rattle.ir_types.specs.judged.Plain.{inner_view};
+ghost use Rattle.typing_forms.specs.judged.Order.{TypesGoBack};
+ghost use Rattle.typing_forms.specs.judged.Ranks.{conversion};
+ghost use Rattle.typing_forms.specs.judged.Resolutions.{types_view};
+ghost use Rattle.typing_forms.specs.found.Conversions.{same_size, same_count, scalars_of, bases_of, both_at, SameShape, SameShapeAt, Converts};
 
 use crate::{converted_rank, inner_of};
 use ir_arena::handle::Handle;

@@ -2,10 +2,10 @@
 
 ghost use Rattle.std.specs.Prelude.{◌≡◌, ◌↔◌, IsTrue, IfSome, IfNone};
 ghost use Rattle.ir_kinds.specs.declared.scalars.Scalar.{Scalar};
-ghost use Rattle.ir_types.specs.Plain.{PlainInner, inner_view};
-ghost use Rattle.typing_forms.specs.Order.{TypesGoBack};
-ghost use Rattle.typing_forms.specs.Resolutions.{types_view};
-ghost use Rattle.typing_forms.specs.Elements.{LeadsTo, base_of, last_of, converted_scalar, HasAbstractScalar, is_runtime_array, ConvertsBy, IsAbstract, IsDynamicallySized};
+ghost use Rattle.ir_types.specs.judged.Plain.{PlainInner, inner_view};
+ghost use Rattle.typing_forms.specs.judged.Order.{TypesGoBack};
+ghost use Rattle.typing_forms.specs.judged.Resolutions.{types_view};
+ghost use Rattle.typing_forms.specs.found.Elements.{LeadsTo, base_of, last_of, converted_scalar, HasAbstractScalar, is_runtime_array, ConvertsBy, IsAbstract, IsDynamicallySized};
 
 use crate::inner_of;
 use ir_arena::handle::Handle;

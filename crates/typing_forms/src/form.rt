@@ -1,9 +1,9 @@
 //! The canonical form of a type.
 
 ghost use Rattle.std.specs.Prelude.{◌≡◌, option_map};
-ghost use Rattle.ir_types.specs.Plain.{inner_view};
-ghost use Rattle.typing_forms.specs.Resolutions.{types_view, resolution_view, inner_at};
-ghost use Rattle.typing_forms.specs.Forms.{pointing, struct_at, form_in, form_of_type, form_of};
+ghost use Rattle.ir_types.specs.judged.Plain.{inner_view};
+ghost use Rattle.typing_forms.specs.judged.Resolutions.{types_view, resolution_view, inner_at};
+ghost use Rattle.typing_forms.specs.judged.Forms.{pointing, struct_at, form_in, form_of_type, form_of};
 
 use crate::resolution::TypeResolution;
 use ir_arena::handle::Handle;

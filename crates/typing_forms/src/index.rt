@@ -1,9 +1,9 @@
 //! How many elements there are to index.
 
 ghost use Rattle.std.specs.Prelude.{◌≡◌};
-ghost use Rattle.ir_types.specs.Plain.{inner_view};
-ghost use Rattle.typing_forms.specs.Resolutions.{types_view};
-ghost use Rattle.typing_forms.specs.Lengths.{array_length, elements_of, length_of};
+ghost use Rattle.ir_types.specs.judged.Plain.{inner_view};
+ghost use Rattle.typing_forms.specs.judged.Resolutions.{types_view};
+ghost use Rattle.typing_forms.specs.found.Lengths.{array_length, elements_of, length_of};
 
 use crate::inner_of;
 use ir_sets::unique_arena::UniqueArena;

@@ -1,9 +1,9 @@
 //! Whether types are built of types that come before them.
 
 ghost use Rattle.std.specs.Prelude.{◌↔◌, ◌<◌, ◌≡◌, IsTrue, All, Some, length};
-ghost use Rattle.ir_types.specs.Plain.{inner_view};
-ghost use Rattle.typing_forms.specs.Order.{named_types, TypesGoBack};
-ghost use Rattle.typing_forms.specs.Resolutions.{types_view, inner_at};
+ghost use Rattle.ir_types.specs.judged.Plain.{inner_view};
+ghost use Rattle.typing_forms.specs.judged.Order.{named_types, TypesGoBack};
+ghost use Rattle.typing_forms.specs.judged.Resolutions.{types_view, inner_at};
 
 use ir_arena::handle::Handle;
 use ir_sets::unique_arena::UniqueArena;

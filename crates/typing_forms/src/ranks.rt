@@ -1,7 +1,7 @@
 //! How well a scalar is taken for another one.
 
 ghost use Rattle.std.specs.Prelude.{◌≡◌};
-ghost use Rattle.typing_forms.specs.Ranks.{rank_in, float_ranks, integer_ranks, conversion, rank};
+ghost use Rattle.typing_forms.specs.judged.Ranks.{rank_in, float_ranks, integer_ranks, conversion, rank};
 
 use ir_kinds::{Scalar, ScalarKind};
 

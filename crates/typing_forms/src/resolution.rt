@@ -1,8 +1,8 @@
 //! What the type of an expression is given as.
 
 ghost use Rattle.std.specs.Prelude.{◌≡◌, ◌↔◌, IsTrue, Some, length, IfOk};
-ghost use Rattle.ir_types.specs.Plain.{inner_view};
-ghost use Rattle.typing_forms.specs.Resolutions.{types_view, resolution_view, handle_of, resolved, IsAmong};
+ghost use Rattle.ir_types.specs.judged.Plain.{inner_view};
+ghost use Rattle.typing_forms.specs.judged.Resolutions.{types_view, resolution_view, handle_of, resolved, IsAmong};
 
 use ir_arena::handle::Handle;
 use ir_sets::unique_arena::UniqueArena;

@@ -1,7 +1,7 @@
 //! Laws of equivalence.
 ghost use Rattle.std.specs.Prelude.{◌≡◌};
-ghost use Rattle.typing_forms.specs.Canonical.{CanonicalOnce};
-ghost use Rattle.typing_forms.specs.Equivalence.{EquivalentToItself, EquivalentBothWays, EquivalentAlong};
+ghost use Rattle.typing_forms.specs.found.Canonical.{CanonicalOnce};
+ghost use Rattle.typing_forms.specs.found.Equivalence.{EquivalentToItself, EquivalentBothWays, EquivalentAlong};
 
 /// A type that is there is equivalent to itself, so that [`crate::compare_types`] is true of it and itself.
 pub fn compare_reflexive()

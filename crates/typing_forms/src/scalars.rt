@@ -4,7 +4,7 @@ ghost use Rattle.std.specs.Prelude.{◌≡◌, ◌≢◌, ◌↔◌, IsTrue};
 ghost use Rattle.ir_kinds.specs.declared.scalars.Scalar.{Scalar};
 ghost use Rattle.ir_kinds.specs.declared.scalars.ScalarKind.{ScalarKind};
 ghost use Rattle.ir_kinds.specs.declared.scalars.ScalarKind.TheVariants as kind;
-ghost use Rattle.ir_types.specs.Plain.{plain, inner_view};
+ghost use Rattle.ir_types.specs.judged.Plain.{plain, inner_view};
 ghost use Rattle.ir_types.specs.declared.types.TypeInner.TheVariants as inner;
 
 use ir_kinds::{Scalar, ScalarKind, VectorSize};

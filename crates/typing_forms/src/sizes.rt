@@ -1,8 +1,8 @@
 //! How many bytes a value takes.
 
 ghost use Rattle.std.specs.Prelude.{◌≡◌, ◌*◌, ◌≤◌, ◌<◌, ◌^◌};
-ghost use Rattle.ir_types.specs.Plain.{inner_view};
-ghost use Rattle.typing_forms.specs.Sizes.{column_size, cooperative_count, counted, type_size};
+ghost use Rattle.ir_types.specs.judged.Plain.{inner_view};
+ghost use Rattle.typing_forms.specs.judged.Sizes.{column_size, cooperative_count, counted, type_size};
 
 use ir_kinds::{CooperativeSize, VectorSize};
 use ir_types::{ArraySize, TypeInner};

@@ -2,18 +2,18 @@
 
 ghost use Rattle.std.specs.Prelude.{◌≡◌, ◌↔◌, IsTrue, IfSome, IfNone, IfOk, None, option_map};
 ghost use Rattle.ir_kinds.specs.declared.scalars.Scalar.{Scalar};
-ghost use Rattle.ir_types.specs.Plain.{PlainInner, inner_view};
-ghost use Rattle.typing_forms.specs.Forms.{form_in};
-ghost use Rattle.typing_forms.specs.Order.{TypesGoBack};
-ghost use Rattle.typing_forms.specs.Ranks.{conversion};
-ghost use Rattle.typing_forms.specs.Resolutions.{types_view, resolution_view};
-ghost use Rattle.typing_forms.specs.Canonical.{canonical, NotBothStructs};
-ghost use Rattle.typing_forms.specs.Constructible.{IsConstructible};
-ghost use Rattle.typing_forms.specs.Conversions.{SameShape, Converts};
-ghost use Rattle.typing_forms.specs.Elements.{ConvertsBy, IsAbstract, IsDynamicallySized};
-ghost use Rattle.typing_forms.specs.Lengths.{length_of};
-ghost use Rattle.typing_forms.specs.Parts.{scalar_of, scalar_kind_of, scalar_width_of, size_and_scalar, components_of, component_at, space_of, pointee_of, points_to_atomic, storage_dimension, dimension_of};
-ghost use Rattle.typing_forms.specs.Sizes.{type_size, allowed};
+ghost use Rattle.ir_types.specs.judged.Plain.{PlainInner, inner_view};
+ghost use Rattle.typing_forms.specs.judged.Forms.{form_in};
+ghost use Rattle.typing_forms.specs.judged.Order.{TypesGoBack};
+ghost use Rattle.typing_forms.specs.judged.Ranks.{conversion};
+ghost use Rattle.typing_forms.specs.judged.Resolutions.{types_view, resolution_view};
+ghost use Rattle.typing_forms.specs.found.Canonical.{canonical, NotBothStructs};
+ghost use Rattle.typing_forms.specs.found.Constructible.{IsConstructible};
+ghost use Rattle.typing_forms.specs.found.Conversions.{SameShape, Converts};
+ghost use Rattle.typing_forms.specs.found.Elements.{ConvertsBy, IsAbstract, IsDynamicallySized};
+ghost use Rattle.typing_forms.specs.found.Lengths.{length_of};
+ghost use Rattle.typing_forms.specs.judged.Parts.{scalar_of, scalar_kind_of, scalar_width_of, size_and_scalar, components_of, component_at, space_of, pointee_of, points_to_atomic, storage_dimension, dimension_of};
+ghost use Rattle.typing_forms.specs.judged.Sizes.{type_size, allowed};
 
 use crate::constructible::is_constructible;
 use crate::conversions::automatically_converts_to;

@@ -1,10 +1,10 @@
 -- What the info of a function says.
 use Rattle.std.specs.Prelude.{◌≡◌, ℕ, List, [], ◌∷◌, Some, None, Option, bit_or, slice_set, slice_index_or}
 use Rattle.std.specs.Int.{bit_at}
-use Rattle.typing_rules.specs.Laws.{IsAmong}
+use Rattle.typing_rules.specs.judged.Laws.{IsAmong}
 use Rattle.ir_flags.specs.Sets.{Has}
 use Rattle.spec_analysis.specs.declared.global_use.GlobalUse.{GlobalUse}
-use Rattle.spec_analysis.specs.Summaries.{Summary, no_use}
+use Rattle.spec_analysis.specs.judged.Summaries.{Summary, no_use}
 pub use Rattle.typing_infos.specs.Keys.{key_of_parts, key_of}
 use Rattle.typing_infos.specs.declared.function_info.FunctionInfo.{FunctionInfo}
 

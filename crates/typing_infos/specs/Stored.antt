@@ -1,6 +1,6 @@
 -- The pairs that are kept, few or many.
 use Rattle.std.specs.Prelude.{List}
-use Rattle.spec_analysis.specs.Pairs.{SamplingPair}
+use Rattle.spec_analysis.specs.judged.Pairs.{SamplingPair}
 use Rattle.spec_analysis.specs.declared.sampling.SamplingKey.{SamplingKey}
 use Rattle.typing_infos.specs.declared.sampled.StoredPairs.{StoredPairs}
 use Rattle.typing_infos.specs.declared.sampled.StoredPairs.TheVariants as pairs

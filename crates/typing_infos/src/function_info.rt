@@ -4,7 +4,7 @@ ghost use Rattle.std.specs.Prelude.{◌≡◌, ◌<◌, ◌⊎◌, ◌↔◌, �
 ghost use Rattle.bitflags.specs.Sets.{known_bits};
 ghost use Rattle.ir_flags.specs.Words.{shader_stages};
 ghost use Rattle.typing_infos.specs.Infos.{summary_of, NotesUse, Dominates};
-ghost use Rattle.spec_analysis.specs.Summaries.{HasUseBit};
+ghost use Rattle.spec_analysis.specs.judged.Summaries.{HasUseBit};
 
 use crate::sampled::{SampledKeys, SampledPairs};
 use crate::uses::{dominates, mark_all};

@@ -2,7 +2,7 @@
 
 ghost use Rattle.std.specs.Prelude.{◌≡◌, ◌↔◌, ◌++◌, ◌∷◌, [], IfOk, IfSome, IsTrue, OnErr, OnOk, if◌then◌else◌, length};
 ghost use Rattle.std.specs.List.{flat_map, list_any};
-ghost use Rattle.spec_analysis.specs.Pairs.{pair_eq};
+ghost use Rattle.spec_analysis.specs.judged.Pairs.{pair_eq};
 ghost use Rattle.typing_infos.specs.Keys.{key_of};
 ghost use Rattle.typing_infos.specs.Marks.{EachOnce, Indexes, marks_of};
 
@@ -53,7 +53,7 @@ struct Pairs {
 
 impl Model for Pairs {
     ghost use Rattle.std.specs.Prelude.{List};
-    ghost use Rattle.spec_analysis.specs.Pairs.{SamplingPair};
+    ghost use Rattle.spec_analysis.specs.judged.Pairs.{SamplingPair};
 
     ghost Value = { List SamplingPair };
 

@@ -3,7 +3,7 @@
 ghost use Rattle.std.specs.Prelude.{◌≡◌, ◌↔◌, IsTrue, Some, slice_index_or};
 ghost use Rattle.ir_flags.specs.Sets.{Has};
 ghost use Rattle.typing_infos.specs.Infos.{joined_use, marked, with_uses, Dominates};
-ghost use Rattle.spec_analysis.specs.Summaries.{no_use};
+ghost use Rattle.spec_analysis.specs.judged.Summaries.{no_use};
 
 use bitflags::Flags;
 use ir_arena::handle::Handle;

@@ -2,16 +2,16 @@
 use Rattle.std.proofs.Common.{◌≡◌, ◌<◌, ◌≤◌, ◌+◌, ℕ, zero, suc, List, [], ◌∷◌, All, map, max, drop, length, get_or, refl, sym, ap, subst, ◌∙◌, arith, add-one}
 use Rattle.std.proofs.lemmas.Option.{slice_get-get_or}
 use Rattle.std.proofs.Math.Seq.{drop-cons}
-use Rattle.ir_types.specs.Plain.{member_view, inner_view}
+use Rattle.ir_types.specs.judged.Plain.{member_view, inner_view}
 use Rattle.ir_types.specs.declared.types.StructMember.{StructMember}
 use Rattle.ir_types.specs.declared.types.TypeInner.{TypeInner}
 use Rattle.ir_types.specs.declared.types.TypeInner.TheVariants as inner
-use Rattle.typing_forms.specs.Order.{named_types}
-use Rattle.typing_layout.specs.Layout.{alignment, greatest_alignment, IsWidthOK}
-use Rattle.typing_layout.specs.Tree.{Tree, Members, no_members, member}
-use Rattle.typing_layout.specs.View.{members_by, tree_by}
+use Rattle.typing_forms.specs.judged.Order.{named_types}
+use Rattle.typing_layout.specs.judged.Layout.{alignment, greatest_alignment, IsWidthOK}
+use Rattle.typing_layout.specs.judged.Tree.{Tree, Members, no_members, member}
+use Rattle.typing_layout.specs.judged.View.{members_by, tree_by}
 use Rattle.typing_layout.specs.declared.layout.TypeLayout.{TypeLayout}
-use Rattle.typing_layout.specs.Laid.{AreAligned}
+use Rattle.typing_layout.specs.found.Laid.{AreAligned}
 
 pub below_at : (ms : List StructMember) (k n : ℕ) (d : StructMember) → All (λ m. m.ty < n) ms → k < length ms → (get_or ms k d).ty < n
 below_at ms k n d all lt = all k d lt

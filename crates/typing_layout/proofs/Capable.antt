@@ -6,13 +6,13 @@ use Rattle.ir_flags.specs.declared.settings.Capabilities.{Capabilities}
 use Rattle.ir_kinds.specs.declared.scalars.ScalarKind.{ScalarKind}
 use Rattle.ir_kinds.specs.declared.scalars.ScalarKind.TheVariants.{Sint, Uint, Float, AbstractInt, AbstractFloat}
 use Rattle.ir_kinds.specs.declared.scalars.ScalarKind.TheVariants as kind
-use Rattle.ir_types.specs.Plain.{PlainInner, PlainType, struct as written_struct, plain}
-use Rattle.typing_layout.specs.Tree.{Tree, scalar, vector, matrix, cooperative_matrix, atomic, pointer, value_pointer, array, struct, image, sampler, acceleration_structure, ray_query, binding_array}
-use Rattle.typing_layout.specs.Blends.{BlendOK, BlendsOK}
-use Rattle.typing_layout.specs.Images.{VerticesOK}
-use Rattle.typing_layout.specs.TreeLaws.{MoreCapabilities}
-use Rattle.typing_layout.specs.Rules.{ShapeOK}
-use Rattle.typing_layout.specs.Widths.{IsWidthAllowed, IsKindAllowed, IsAtomicInteger, IsAtomicKind}
+use Rattle.ir_types.specs.judged.Plain.{PlainInner, PlainType, struct as written_struct, plain}
+use Rattle.typing_layout.specs.judged.Tree.{Tree, scalar, vector, matrix, cooperative_matrix, atomic, pointer, value_pointer, array, struct, image, sampler, acceleration_structure, ray_query, binding_array}
+use Rattle.typing_layout.specs.judged.Blends.{BlendOK, BlendsOK}
+use Rattle.typing_layout.specs.judged.Images.{VerticesOK}
+use Rattle.typing_layout.specs.found.TreeLaws.{MoreCapabilities}
+use Rattle.typing_layout.specs.judged.Rules.{ShapeOK}
+use Rattle.typing_layout.specs.judged.Widths.{IsWidthAllowed, IsKindAllowed, IsAtomicInteger, IsAtomicKind}
 
 has_more : (few many c : ℕ) → IsWithin few many → Has few c → Has many c
 has_more few many c more has = within-over c few many has more

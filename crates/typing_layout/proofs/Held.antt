@@ -4,20 +4,20 @@ use Rattle.std.proofs.Math.Bridge.{le_prop}
 use Rattle.std.proofs.Math.Seq.{take-length}
 use Rattle.std.proofs.lemmas.List.{take-append-le}
 use Rattle.std.proofs.lemmas.Option.{slice_get_within}
-use Rattle.ir_arena.specs.Arenas.{value_at}
+use Rattle.ir_arena.specs.found.Arenas.{value_at}
 use Rattle.ir_arena.specs.declared.span.Span.{Span}
-use Rattle.ir_types.specs.Plain.{PlainInner, PlainType, inner_view}
+use Rattle.ir_types.specs.judged.Plain.{PlainInner, PlainType, inner_view}
 use Rattle.ir_types.specs.declared.types.IrType.{IrType}
-use Rattle.typing_forms.specs.Order.{named_types, TypesGoBack}
-use Rattle.typing_forms.specs.Resolutions.{types_view, inner_at}
+use Rattle.typing_forms.specs.judged.Order.{named_types, TypesGoBack}
+use Rattle.typing_forms.specs.judged.Resolutions.{types_view, inner_at}
 use Rattle.typing_forms.proofs.Lookups.{inner_found}
-use Rattle.typing_layout.specs.Tree.{Tree}
-use Rattle.typing_layout.specs.View.{tree_by, type_tree}
+use Rattle.typing_layout.specs.judged.Tree.{Tree}
+use Rattle.typing_layout.specs.judged.View.{tree_by, type_tree}
 use Rattle.typing_layout.proofs.Trees.{tree_by_trees, trees_stay}
 use Rattle.typing_layout.specs.declared.error.LayoutError.{LayoutError}
 use Rattle.typing_layout.specs.declared.layout.TypeLayout.{TypeLayout}
-use Rattle.typing_layout.specs.Held.{IsLayoutOf, AreLayouts, IsFaultOf, IsRefused, OneLayout, LayoutsStay}
-use Rattle.typing_layout.specs.Laid.{AreAligned}
+use Rattle.typing_layout.specs.found.Held.{IsLayoutOf, AreLayouts, IsFaultOf, IsRefused, OneLayout, LayoutsStay}
+use Rattle.typing_layout.specs.found.Laid.{AreAligned}
 
 -- lists with the same elements are the same
 same_list : {A : Type 0} (xs ys : List A) → length xs ≡ length ys → ((k : ℕ) (x y : A) → slice_get xs k ≡ Some x → slice_get ys k ≡ Some y → x ≡ y) → xs ≡ ys

@@ -2,8 +2,8 @@
 use Rattle.std.proofs.Common.{◌≡◌, ◌≢◌, ◌<◌, ◌≤◌, ◌+◌, ◌-◌, ◌*◌, ◌/◌, ◌%◌, ◌^◌, ℕ, subst, arith, rules, Fits, w32, IsTrue, ◌==◌}
 use Rattle.std.specs.Int.{◌∣◌}
 use Rattle.std.proofs.Math.Nat.{dvd-mul_right}
-use Rattle.typing_forms.specs.Sizes.{rounded_up}
-use Rattle.typing_layout.specs.Layout.{IsLeastMultiple}
+use Rattle.typing_forms.specs.judged.Sizes.{rounded_up}
+use Rattle.typing_layout.specs.judged.Layout.{IsLeastMultiple}
 use Rattle.typing_layout.proofs.Sizes.{least_near, rounded_is_least}
 
 pub rest_is_none : (rest : ℕ) → IsTrue (rest == 0) → rest ≡ 0

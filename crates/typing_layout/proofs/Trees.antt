@@ -1,11 +1,11 @@
 -- The tree of a type is made of the trees of the types that it names, and stays where types are added after.
 use Rattle.std.proofs.Common.{◌≡◌, ◌<◌, ℕ, zero, suc, List, [], ◌∷◌, ◌++◌, Option, Some, None, map, option_map, length, slice_get, All, refl, ap, ◌∙◌, arith}
-use Rattle.ir_types.specs.Plain.{PlainMember, PlainInner, struct, plain, PlainType}
+use Rattle.ir_types.specs.judged.Plain.{PlainMember, PlainInner, struct, plain, PlainType}
 use Rattle.ir_types.specs.declared.types.TypeInner.TheVariants as inner
-use Rattle.typing_forms.specs.Order.{named_types, TypesGoBack}
-use Rattle.typing_forms.specs.Resolutions.{inner_at}
-use Rattle.typing_layout.specs.Tree.{Tree, member, pointer, array, binding_array, struct as struct_tree}
-use Rattle.typing_layout.specs.View.{members_by, tree_by, tree_found, tree_along, type_tree, TreeByTrees, TreesStay}
+use Rattle.typing_forms.specs.judged.Order.{named_types, TypesGoBack}
+use Rattle.typing_forms.specs.judged.Resolutions.{inner_at}
+use Rattle.typing_layout.specs.judged.Tree.{Tree, member, pointer, array, binding_array, struct as struct_tree}
+use Rattle.typing_layout.specs.judged.View.{members_by, tree_by, tree_found, tree_along, type_tree, TreeByTrees, TreesStay}
 
 -- ---- only the trees of the types that are named count
 

@@ -2,8 +2,8 @@
 
 ghost use Rattle.std.specs.Prelude.{◌≡◌, ◌↔◌, ◌<◌, ◌≤◌, ◌^◌, IsTrue, IsSome, IfSome};
 ghost use Rattle.std.specs.Int.{IsPowerOfTwo, ◌∣◌};
-ghost use Rattle.typing_layout.specs.Layout.{IsLeastMultiple};
-ghost use Rattle.typing_forms.specs.Sizes.{rounded_up};
+ghost use Rattle.typing_layout.specs.judged.Layout.{IsLeastMultiple};
+ghost use Rattle.typing_forms.specs.judged.Sizes.{rounded_up};
 
 use ir_kinds::{CooperativeSize, VectorSize};
 use std::fmt::{self, Display};
@@ -136,7 +136,7 @@ impl Mul for Alignment {
 
 impl From<VectorSize> for Alignment {
     ghost use Rattle.std.specs.Prelude.{◌≡◌};
-    ghost use Rattle.typing_forms.specs.Sizes.{vector_alignment};
+    ghost use Rattle.typing_forms.specs.judged.Sizes.{vector_alignment};
 
     ghost from_gives = { λ size a. a ≡ vector_alignment size 1 };
 
@@ -152,7 +152,7 @@ impl From<VectorSize> for Alignment {
 
 impl From<CooperativeSize> for Alignment {
     ghost use Rattle.std.specs.Prelude.{◌≡◌};
-    ghost use Rattle.typing_forms.specs.Sizes.{cooperative_count};
+    ghost use Rattle.typing_forms.specs.judged.Sizes.{cooperative_count};
 
     ghost from_gives = { λ size a. a ≡ cooperative_count size };
 

@@ -3,13 +3,13 @@
 //! The functions do nothing: their contracts are the examples.
 
 ghost use Rattle.std.specs.Prelude.{◌≡◌, None, false};
-ghost use Rattle.ir_kinds.specs.Scalars.{boolean, floating, unsigned};
+ghost use Rattle.ir_kinds.specs.judged.Scalars.{boolean, floating, unsigned};
 ghost use Rattle.ir_kinds.specs.declared.scalars.VectorSize.TheVariants.{Tri, Quad};
 ghost use Rattle.ir_types.specs.declared.types.ArraySize.TheVariants.{Constant, Pending, Dynamic};
-ghost use Rattle.typing_layout.specs.Buffers.{uniform_alignment};
-ghost use Rattle.typing_layout.specs.Flags.{HasFlag, Constructible, Data, HostShareable, IoShareable, Sized};
-ghost use Rattle.typing_layout.specs.Immediates.{FitsImmediates};
-ghost use Rattle.typing_layout.specs.Tree.{scalar, vector, array, struct, sampler, no_members, member};
+ghost use Rattle.typing_layout.specs.judged.Buffers.{uniform_alignment};
+ghost use Rattle.typing_layout.specs.judged.Flags.{HasFlag, Constructible, Data, HostShareable, IoShareable, Sized};
+ghost use Rattle.typing_layout.specs.judged.Immediates.{FitsImmediates};
+ghost use Rattle.typing_layout.specs.judged.Tree.{scalar, vector, array, struct, sampler, no_members, member};
 
 /// What types may be used for.
 pub fn flags()

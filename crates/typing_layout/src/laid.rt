@@ -5,14 +5,14 @@
 
 ghost use Rattle.std.specs.Prelude.{◌≡◌, ◌<◌, ◌≤◌, ◌*◌, ℕ, length, map, max, All, MatchOption, MatchResult};
 ghost use Rattle.std.specs.Int.{IsPowerOfTwo};
-ghost use Rattle.ir_types.specs.Plain.{inner_view, member_view};
-ghost use Rattle.typing_forms.specs.Order.{named_types};
-ghost use Rattle.typing_forms.specs.Sizes.{vector_alignment};
-ghost use Rattle.typing_layout.specs.Layout.{alignment, greatest_alignment, IsWidthOK};
-ghost use Rattle.typing_layout.specs.Tree.{Tree};
-ghost use Rattle.typing_layout.specs.View.{members_by, tree_by};
-ghost use Rattle.typing_layout.specs.Held.{IsLayoutOf, IsFaultOf};
-ghost use Rattle.typing_layout.specs.Laid.{AreAligned, IsAlignmentOf};
+ghost use Rattle.ir_types.specs.judged.Plain.{inner_view, member_view};
+ghost use Rattle.typing_forms.specs.judged.Order.{named_types};
+ghost use Rattle.typing_forms.specs.judged.Sizes.{vector_alignment};
+ghost use Rattle.typing_layout.specs.judged.Layout.{alignment, greatest_alignment, IsWidthOK};
+ghost use Rattle.typing_layout.specs.judged.Tree.{Tree};
+ghost use Rattle.typing_layout.specs.judged.View.{members_by, tree_by};
+ghost use Rattle.typing_layout.specs.found.Held.{IsLayoutOf, IsFaultOf};
+ghost use Rattle.typing_layout.specs.found.Laid.{AreAligned, IsAlignmentOf};
 
 use crate::alignment::Alignment;
 use crate::error::LayoutErrorInner;

@@ -1,6 +1,6 @@
 //! Laws of layouts and of kinds.
-ghost use Rattle.typing_layout.specs.Constness.{OneKind};
-ghost use Rattle.typing_layout.specs.Held.{OneLayout, LayoutsStay};
+ghost use Rattle.typing_layout.specs.judged.Constness.{OneKind};
+ghost use Rattle.typing_layout.specs.found.Held.{OneLayout, LayoutsStay};
 
 /// As many layouts of the types of one module are the same layouts: so several calls of [`crate::Layouter::update`], the last
 /// of which sees all types, leave what one call leaves.

@@ -1,7 +1,7 @@
 //! The layout of a type.
 
 ghost use Rattle.std.specs.Prelude.{◌+◌, ◌≤◌};
-ghost use Rattle.typing_layout.specs.Layout.{IsLeastMultiple};
+ghost use Rattle.typing_layout.specs.judged.Layout.{IsLeastMultiple};
 
 use crate::alignment::Alignment;
 

@@ -1,9 +1,9 @@
 //! The layouts of the types of a module.
 
 ghost use Rattle.std.specs.Prelude.{◌≡◌, ◌<◌, [], Some, length, slice_get, take, OnOk, IfErr};
-ghost use Rattle.typing_forms.specs.Order.{TypesGoBack};
-ghost use Rattle.typing_forms.specs.Resolutions.{types_view};
-ghost use Rattle.typing_layout.specs.Held.{AreLayouts, IsRefusal};
+ghost use Rattle.typing_forms.specs.judged.Order.{TypesGoBack};
+ghost use Rattle.typing_forms.specs.judged.Resolutions.{types_view};
+ghost use Rattle.typing_layout.specs.found.Held.{AreLayouts, IsRefusal};
 
 use crate::error::LayoutError;
 use crate::laid::layout_of;

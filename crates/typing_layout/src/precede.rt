@@ -1,9 +1,9 @@
 //! Whether expressions have their kinds from expressions before them.
 
 ghost use Rattle.std.specs.Prelude.{◌≡◌, ◌<◌, ◌↔◌, ◌++◌, ◌∷◌, [], IsTrue, map, option_to_list, All};
-ghost use Rattle.ir_arena.specs.Arenas.{value_of_entry};
-ghost use Rattle.ir_types.specs.ExpressionPlain.{expression_view};
-ghost use Rattle.typing_layout.specs.Constness.{OriginsPrecede, origin_of, operands_from};
+ghost use Rattle.ir_arena.specs.found.Arenas.{value_of_entry};
+ghost use Rattle.ir_types.specs.judged.ExpressionPlain.{expression_view};
+ghost use Rattle.typing_layout.specs.judged.Constness.{OriginsPrecede, origin_of, operands_from};
 
 use ir_arena::arena::Arena;
 use ir_arena::handle::Handle;

@@ -1,11 +1,11 @@
 //! The kinds of the expressions of an arena.
 
 ghost use Rattle.std.specs.Prelude.{◌≡◌, ◌<◌, ◌↔◌, ◌⊎◌, ◌++◌, ◌∷◌, [], ℕ, Some, IsTrue, IfOk, length, map, option_to_list, slice_get, All};
-ghost use Rattle.ir_arena.specs.Arenas.{value_of_entry};
-ghost use Rattle.ir_types.specs.ExpressionPlain.{expression_view};
-ghost use Rattle.typing_layout.specs.Constness.{AreKinds, OriginsPrecede, later, latest, origin_of, operands_from};
+ghost use Rattle.ir_arena.specs.found.Arenas.{value_of_entry};
+ghost use Rattle.ir_types.specs.judged.ExpressionPlain.{expression_view};
+ghost use Rattle.typing_layout.specs.judged.Constness.{AreKinds, OriginsPrecede, later, latest, origin_of, operands_from};
 ghost use Rattle.typing_layout.specs.declared.constness.ExpressionKind.TheVariants.{Const, Override};
-ghost use Rattle.typing_layout.specs.Kinds.{known_kind, kind_by};
+ghost use Rattle.typing_layout.specs.found.Kinds.{known_kind, kind_by};
 
 use crate::constness::ExpressionKind;
 use ir_arena::arena::Arena;

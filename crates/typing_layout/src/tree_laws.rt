@@ -1,6 +1,6 @@
 //! Laws of trees, sizes and alignments.
-ghost use Rattle.typing_layout.specs.Layout.{RoundedIsLeast, SizeOfTree};
-ghost use Rattle.typing_layout.specs.View.{TreeByTrees, TreesStay};
+ghost use Rattle.typing_layout.specs.judged.Layout.{RoundedIsLeast, SizeOfTree};
+ghost use Rattle.typing_layout.specs.judged.View.{TreeByTrees, TreesStay};
 
 /// In a module whose types go back, the tree of a type is made of the trees of the types that it names.
 #[tactic(auto, using(crate::proofs::Trees::tree_by_trees))]

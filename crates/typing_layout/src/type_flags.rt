@@ -40,7 +40,7 @@ impl fmt::Debug for TypeFlags {
 
 impl Flags for TypeFlags {
     ghost use Rattle.std.specs.Prelude.{⊤};
-    ghost use Rattle.typing_layout.specs.FlagWords.{type_flags};
+    ghost use Rattle.typing_layout.specs.found.FlagWords.{type_flags};
 
     type Bits = u8;
 

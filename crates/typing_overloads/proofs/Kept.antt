@@ -3,18 +3,18 @@ use Rattle.std.proofs.Common.{◌≡◌, ◌==◌, ◌∙◌, ◌++◌, ◌&&◌
 use Rattle.std.proofs.lemmas.List.Elements.{filter-append}
 use Rattle.std.proofs.lemmas.Option.{slice_get-map}
 use Rattle.ir_kinds.specs.declared.scalars.Scalar.{Scalar}
-use Rattle.ir_types.specs.Plain.{PlainInner}
-use Rattle.typing_forms.specs.Ranks.{rank}
+use Rattle.ir_types.specs.judged.Plain.{PlainInner}
+use Rattle.typing_forms.specs.judged.Ranks.{rank}
 use Rattle.typing_rules.specs.declared.patterns.Pattern.{Pattern}
 use Rattle.typing_rules.specs.declared.patterns.Pattern.TheVariants as pattern
 use Rattle.typing_rules.specs.declared.rules.ConstructorSize.{ConstructorSize}
 use Rattle.typing_rules.specs.declared.rules.Rule.{Rule}
 use Rattle.typing_rules.specs.declared.rules.ValueType.{ValueType}
-use Rattle.typing_rules.specs.Ranks.{rank_if, accepts, accepts_if, accepts_inner, is_abstract_kind, is_concrete}
-use Rattle.typing_rules.specs.Tables.{arguments_of, rule_of, row, rules_over}
-use Rattle.typing_rules.specs.Types.{constructor_place, listed, value_type_of}
-use Rattle.typing_rules.specs.Bits.{marks}
-use Rattle.typing_rules.specs.Members.{scalars, scalars_in, sizes, sizes_in}
+use Rattle.typing_rules.specs.judged.Ranks.{rank_if, accepts, accepts_if, accepts_inner, is_abstract_kind, is_concrete}
+use Rattle.typing_rules.specs.judged.Tables.{arguments_of, rule_of, row, rules_over}
+use Rattle.typing_rules.specs.judged.Types.{constructor_place, listed, value_type_of}
+use Rattle.typing_rules.specs.found.Bits.{marks}
+use Rattle.typing_rules.specs.found.Members.{scalars, scalars_in, sizes, sizes_in}
 use Rattle.typing_overloads.specs.declared.required.Required.{Required}
 use Rattle.typing_overloads.specs.Products.{required_size, required_scalar, required_type, required_by, all_concrete}
 use Rattle.typing_overloads.proofs.Masks.{chosen_by_both}

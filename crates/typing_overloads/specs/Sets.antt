@@ -3,8 +3,8 @@ use Rattle.std.specs.Prelude.{ℕ, List, [], ◌∷◌, Option, Some, None, slic
 use Rattle.std.specs.List.{fold, flat_map}
 use Rattle.typing_rules.specs.declared.rules.Rule.{Rule}
 use Rattle.typing_rules.specs.declared.rules.ValueType.{ValueType}
-use Rattle.typing_rules.specs.Laws.{arity}
-use Rattle.typing_rules.specs.Types.{listed}
+use Rattle.typing_rules.specs.judged.Laws.{arity}
+use Rattle.typing_rules.specs.judged.Types.{listed}
 
 -- the least number of arguments, and 0 where there is no rule
 abbrev pub fewest_arguments : List Rule → ℕ

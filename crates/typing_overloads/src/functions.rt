@@ -66,7 +66,7 @@ pub trait MathFunctionExt: Sized {
 }
 
 impl MathFunctionExt for MathFunction {
-    ghost use Rattle.typing_rules.specs.Tables as tables;
+    ghost use Rattle.typing_rules.specs.judged.Tables as tables;
 
     ghost table = { tables.table };
 

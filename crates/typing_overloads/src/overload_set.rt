@@ -1,9 +1,9 @@
 //! What every overload set is.
 
 ghost use Rattle.std.specs.Prelude.{◌≡◌, ◌<◌, ◌==◌, List, IfOk, Some, filter, length, slice_get};
-ghost use Rattle.ir_types.specs.Plain.{inner_view};
+ghost use Rattle.ir_types.specs.judged.Plain.{inner_view};
 ghost use Rattle.typing_rules.specs.declared.rules.Rule.{Rule};
-ghost use Rattle.typing_rules.specs.Ranks.{accepts_inner, is_concrete};
+ghost use Rattle.typing_rules.specs.judged.Ranks.{accepts_inner, is_concrete};
 ghost use Rattle.typing_overloads.specs.Sets.{fewest_arguments, most_arguments, arguments_at};
 
 use ir_types::TypeInner;

@@ -1,11 +1,11 @@
 //! What the rules of a pattern require at each place, and which of them take a type there.
 
 ghost use Rattle.std.specs.Prelude.{◌≡◌, ◌==◌, is_some, length, map, slice_get};
-ghost use Rattle.typing_rules.specs.Tables.{column_size, row_size};
-ghost use Rattle.typing_rules.specs.Types.{constructor_place};
-ghost use Rattle.typing_forms.specs.Ranks.{rank};
-ghost use Rattle.typing_rules.specs.Bits.{marks};
-ghost use Rattle.typing_rules.specs.Members.{scalars, sizes};
+ghost use Rattle.typing_rules.specs.judged.Tables.{column_size, row_size};
+ghost use Rattle.typing_rules.specs.judged.Types.{constructor_place};
+ghost use Rattle.typing_forms.specs.judged.Ranks.{rank};
+ghost use Rattle.typing_rules.specs.found.Bits.{marks};
+ghost use Rattle.typing_rules.specs.found.Members.{scalars, sizes};
 ghost use Rattle.typing_overloads.specs.Products.{required_size, required_scalar, required_by, all_concrete};
 
 use ir_kinds::{Scalar, VectorSize};

@@ -2,9 +2,9 @@
 
 ghost use Rattle.std.specs.Prelude.{◌≡◌, IfOk, filter, max, min};
 ghost use Rattle.std.specs.List.{fold};
-ghost use Rattle.ir_types.specs.Plain.{inner_view};
-ghost use Rattle.typing_rules.specs.Laws.{arity};
-ghost use Rattle.typing_rules.specs.Ranks.{accepts_inner, is_concrete};
+ghost use Rattle.ir_types.specs.judged.Plain.{inner_view};
+ghost use Rattle.typing_rules.specs.judged.Laws.{arity};
+ghost use Rattle.typing_rules.specs.judged.Ranks.{accepts_inner, is_concrete};
 ghost use Rattle.typing_overloads.specs.Sets.{arguments_at};
 
 use crate::product::add_type;

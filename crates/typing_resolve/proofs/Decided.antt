@@ -1,15 +1,15 @@
 -- From what is known of the operands to what is known of the answer.
 use Rattle.std.proofs.Common.{◌≡◌, ◌∙◌, ℕ, zero, suc, List, [], ◌∷◌, Option, Some, None, option_map, Result, Ok, Err, slice_get, inl, inr, sym, ap, subst}
 use Rattle.std.specs.Borrow.{Bor}
-use Rattle.ir_types.specs.Plain.{PlainType}
-use Rattle.ir_types.specs.ExpressionPlain.{PlainExpression}
+use Rattle.ir_types.specs.judged.Plain.{PlainType}
+use Rattle.ir_types.specs.judged.ExpressionPlain.{PlainExpression}
 use Rattle.typing_forms.specs.declared.form.Form.{Form}
 use Rattle.typing_forms.specs.declared.resolution.TypeResolution.{TypeResolution}
-use Rattle.typing_rules.specs.Laws.{IsAmong}
+use Rattle.typing_rules.specs.judged.Laws.{IsAmong}
 use Rattle.spec_expressions.proofs.TypingLaws.{faulty_has_none}
-use Rattle.spec_expressions.specs.Context.{Context}
-use Rattle.spec_expressions.specs.Laws.{IsFaulty}
-use Rattle.spec_expressions.specs.Typing.{form_read, operand_form, rule, rule_at, typing_operands, HasTypeAmong, has}
+use Rattle.spec_expressions.specs.judged.Context.{Context}
+use Rattle.spec_expressions.specs.found.Laws.{IsFaulty}
+use Rattle.spec_expressions.specs.judged.Typing.{form_read, operand_form, rule, rule_at, typing_operands, HasTypeAmong, has}
 use Rattle.spec_expressions.specs.declared.faults.TypingFault.{TypingFault}
 use Rattle.typing_errors.specs.Answers.{form_given, fault_of, told, ReportsFault, IsAnswer}
 use Rattle.typing_errors.specs.Operands.{given_form}

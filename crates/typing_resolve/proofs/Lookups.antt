@@ -1,8 +1,8 @@
 -- What an arena's view has at a handle.
 use Rattle.std.proofs.Common.{◌≡◌, ℕ, zero, suc, ◌∙◌, List, [], ◌∷◌, map, slice_get, Some, option_map, refl, sym, ap}
-use Rattle.ir_arena.specs.Arenas.{value_at}
+use Rattle.ir_arena.specs.found.Arenas.{value_at}
 use Rattle.ir_arena.specs.declared.span.Span.{Span}
-use Rattle.ir_items.specs.GlobalView.{values_of}
+use Rattle.ir_items.specs.found.GlobalView.{values_of}
 
 pub viewed : {T View : Type 0} (view : T → View) (entries : List (T × Span)) (h : ℕ) → slice_get (map view (values_of entries)) h ≡ option_map view (value_at entries h)
 viewed view [] h = refl

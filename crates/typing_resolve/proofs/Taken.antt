@@ -1,11 +1,11 @@
 -- The rules that take one argument after the other.
 use Rattle.std.proofs.Common.{◌≡◌, ◌∙◌, ℕ, zero, suc, ◌<◌, List, [], ◌∷◌, length, get_or, drop, filter, refl, sym, ap, arith}
-use Rattle.ir_types.specs.Plain.{PlainInner}
+use Rattle.ir_types.specs.judged.Plain.{PlainInner}
 use Rattle.typing_forms.specs.declared.form.Form.{Form}
 use Rattle.typing_rules.specs.declared.rules.Rule.{Rule}
-use Rattle.typing_rules.specs.Ranks.{accepts_if, accepts_inner}
-use Rattle.typing_rules.specs.Types.{value_type_of}
-use Rattle.spec_expressions.specs.Maths.{value_of, taking}
+use Rattle.typing_rules.specs.judged.Ranks.{accepts_if, accepts_inner}
+use Rattle.typing_rules.specs.judged.Types.{value_type_of}
+use Rattle.spec_expressions.specs.judged.Maths.{value_of, taking}
 
 dropped : {A : Type 0} (xs : List A) (k : ℕ) (d : A) → k < length xs → drop k xs ≡ get_or xs k d ∷ drop (suc k) xs
 dropped [] k d lt = absurd (omega arith)

@@ -1,9 +1,9 @@
 -- What a context holds, as plain data.
 use Rattle.std.specs.Prelude.{map}
-use Rattle.ir_items.specs.GlobalView.{values_of, constant_view, override_view, global_view, special_view}
-use Rattle.ir_items.specs.View.{argument_view, local_view, function_view}
-use Rattle.typing_forms.specs.Resolutions.{types_view}
-use Rattle.spec_expressions.specs.Context.{Context}
+use Rattle.ir_items.specs.found.GlobalView.{values_of, constant_view, override_view, global_view, special_view}
+use Rattle.ir_items.specs.found.View.{argument_view, local_view, function_view}
+use Rattle.typing_forms.specs.judged.Resolutions.{types_view}
+use Rattle.spec_expressions.specs.judged.Context.{Context}
 use Rattle.typing_resolve.specs.declared.context.ResolveContext.{ResolveContext}
 
 abbrev pub context_view : ResolveContext → Context

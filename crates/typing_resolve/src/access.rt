@@ -1,11 +1,11 @@
 //! Parts of a value, and pointers to parts of what a pointer leads to.
 
 ghost use Rattle.std.specs.Prelude.{◌≡◌, List, None, map, option_map, slice_get};
-ghost use Rattle.ir_kinds.specs.Scalars.{component_count};
-ghost use Rattle.ir_types.specs.Plain.{PlainType, inner_view, member_view};
-ghost use Rattle.spec_expressions.specs.Access.{pointer_to, pointed_element, element, access_type, one_of, member_of, pointed_part, access_index_type};
-ghost use Rattle.typing_forms.specs.Forms.{form_in};
-ghost use Rattle.typing_forms.specs.Resolutions.{types_view, inner_at};
+ghost use Rattle.ir_kinds.specs.judged.Scalars.{component_count};
+ghost use Rattle.ir_types.specs.judged.Plain.{PlainType, inner_view, member_view};
+ghost use Rattle.spec_expressions.specs.judged.Access.{pointer_to, pointed_element, element, access_type, one_of, member_of, pointed_part, access_index_type};
+ghost use Rattle.typing_forms.specs.judged.Forms.{form_in};
+ghost use Rattle.typing_forms.specs.judged.Resolutions.{types_view, inner_at};
 ghost use Rattle.typing_errors.specs.Answers.{form_given, form_answer};
 
 use ir_arena::handle::Handle;

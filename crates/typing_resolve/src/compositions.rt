@@ -1,8 +1,8 @@
 //! One scalar all over a vector, and components of a vector.
 
 ghost use Rattle.std.specs.Prelude.{◌≡◌, List};
-ghost use Rattle.ir_types.specs.Plain.{PlainType};
-ghost use Rattle.spec_expressions.specs.Compositions.{splat_type, swizzle_type};
+ghost use Rattle.ir_types.specs.judged.Plain.{PlainType};
+ghost use Rattle.spec_expressions.specs.judged.Compositions.{splat_type, swizzle_type};
 ghost use Rattle.typing_errors.specs.Answers.{form_answer};
 
 use ir_arena::handle::Handle;

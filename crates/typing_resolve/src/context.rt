@@ -1,14 +1,14 @@
 //! What an expression may name, and the call that finds its type.
 
 ghost use Rattle.std.specs.Prelude.{◌≡◌, ◌↔◌, IsTrue, ℕ, List, map, slice_get, Some};
-ghost use Rattle.ir_types.specs.Plain.{PlainType};
+ghost use Rattle.ir_types.specs.judged.Plain.{PlainType};
 ghost use Rattle.std.specs.Borrow.{Bor};
-ghost use Rattle.ir_types.specs.ExpressionPlain.{PlainExpression, expression_view};
-ghost use Rattle.ir_items.specs.GlobalView.{values_of};
-ghost use Rattle.ir_items.specs.View.{argument_view, local_view, module_view};
-ghost use Rattle.typing_rules.specs.Laws.{IsAmong};
-ghost use Rattle.spec_expressions.specs.Context.{NamesItem, context_with};
-ghost use Rattle.spec_expressions.specs.Typing.{typing_operands, rule_at, form_read, HasTypeAmong};
+ghost use Rattle.ir_types.specs.judged.ExpressionPlain.{PlainExpression, expression_view};
+ghost use Rattle.ir_items.specs.found.GlobalView.{values_of};
+ghost use Rattle.ir_items.specs.found.View.{argument_view, local_view, module_view};
+ghost use Rattle.typing_rules.specs.judged.Laws.{IsAmong};
+ghost use Rattle.spec_expressions.specs.judged.Context.{NamesItem, context_with};
+ghost use Rattle.spec_expressions.specs.judged.Typing.{typing_operands, rule_at, form_read, HasTypeAmong};
 ghost use Rattle.typing_forms.specs.declared.form.Form.{Form};
 ghost use Rattle.typing_forms.specs.declared.resolution.TypeResolution.{TypeResolution};
 ghost use Rattle.typing_errors.specs.Answers.{form_given, told, IsAnswer};

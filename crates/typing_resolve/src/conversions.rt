@@ -1,8 +1,8 @@
 //! A value as another kind of scalar.
 
 ghost use Rattle.std.specs.Prelude.{◌≡◌, List};
-ghost use Rattle.ir_types.specs.Plain.{PlainType};
-ghost use Rattle.spec_expressions.specs.Conversions.{converted, as_type};
+ghost use Rattle.ir_types.specs.judged.Plain.{PlainType};
+ghost use Rattle.spec_expressions.specs.judged.Conversions.{converted, as_type};
 ghost use Rattle.typing_errors.specs.Answers.{form_answer};
 
 use ir_kinds::{Bytes, Scalar, ScalarKind};

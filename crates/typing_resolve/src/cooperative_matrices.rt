@@ -1,8 +1,8 @@
 //! Matrices that invocations work on together.
 
 ghost use Rattle.std.specs.Prelude.{◌≡◌};
-ghost use Rattle.spec_expressions.specs.CooperativeMatrices.{pointed_scalar, cooperative_load_type};
-ghost use Rattle.typing_forms.specs.Resolutions.{types_view};
+ghost use Rattle.spec_expressions.specs.judged.CooperativeMatrices.{pointed_scalar, cooperative_load_type};
+ghost use Rattle.typing_forms.specs.judged.Resolutions.{types_view};
 ghost use Rattle.typing_errors.specs.Answers.{form_answer};
 
 use ir_arena::handle::Handle;

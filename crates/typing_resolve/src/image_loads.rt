@@ -1,9 +1,9 @@
 //! Texels of images, and what is required of images.
 
 ghost use Rattle.std.specs.Prelude.{◌≡◌, List, None};
-ghost use Rattle.ir_types.specs.Plain.{PlainType, inner_view};
-ghost use Rattle.spec_expressions.specs.ImageLoads.{loaded_texel, image_load_type, extent, size_type, image_query_type};
-ghost use Rattle.typing_forms.specs.Forms.{form_in};
+ghost use Rattle.ir_types.specs.judged.Plain.{PlainType, inner_view};
+ghost use Rattle.spec_expressions.specs.judged.ImageLoads.{loaded_texel, image_load_type, extent, size_type, image_query_type};
+ghost use Rattle.typing_forms.specs.judged.Forms.{form_in};
 ghost use Rattle.typing_errors.specs.Answers.{form_given, form_answer};
 
 use crate::image_samples::{texel, texel_scalar};

@@ -1,8 +1,8 @@
 //! Samples of images.
 
 ghost use Rattle.std.specs.Prelude.{◌≡◌, List};
-ghost use Rattle.ir_types.specs.Plain.{PlainType};
-ghost use Rattle.spec_expressions.specs.ImageSamples.{texel_scalar, texel, depth_sample, image_sample_type};
+ghost use Rattle.ir_types.specs.judged.Plain.{PlainType};
+ghost use Rattle.spec_expressions.specs.judged.ImageSamples.{texel_scalar, texel, depth_sample, image_sample_type};
 ghost use Rattle.typing_errors.specs.Answers.{form_given, form_answer};
 
 use ir_arena::handle::Handle;

@@ -1,10 +1,10 @@
 //! Values that are written or declared: literals, constants, overrides, zeros.
 
 ghost use Rattle.std.specs.Prelude.{◌≡◌, ◌<◌, List, length, map, option_map, slice_get};
-ghost use Rattle.ir_items.specs.GlobalView.{values_of, constant_view, override_view};
-ghost use Rattle.ir_types.specs.Plain.{PlainType};
-ghost use Rattle.spec_expressions.specs.Context.{form_if};
-ghost use Rattle.spec_expressions.specs.Literals.{literal_type};
+ghost use Rattle.ir_items.specs.found.GlobalView.{values_of, constant_view, override_view};
+ghost use Rattle.ir_types.specs.judged.Plain.{PlainType};
+ghost use Rattle.spec_expressions.specs.judged.Context.{form_if};
+ghost use Rattle.spec_expressions.specs.judged.Literals.{literal_type};
 ghost use Rattle.typing_errors.specs.Answers.{form_given};
 
 use ir_arena::arena::Arena;

@@ -1,13 +1,13 @@
 //! What a function is given, variables, and what lies where a pointer leads.
 
 ghost use Rattle.std.specs.Prelude.{◌≡◌, ◌<◌, List, Some, length, map, ok_or, option_map, slice_get};
-ghost use Rattle.ir_items.specs.GlobalView.{values_of, global_view};
-ghost use Rattle.ir_items.specs.View.{argument_view, local_view};
-ghost use Rattle.ir_types.specs.Plain.{PlainType};
-ghost use Rattle.spec_expressions.specs.Loads.{variable_type, global_if, local_if, loaded, loaded_value, load_type, array_length_type};
+ghost use Rattle.ir_items.specs.found.GlobalView.{values_of, global_view};
+ghost use Rattle.ir_items.specs.found.View.{argument_view, local_view};
+ghost use Rattle.ir_types.specs.judged.Plain.{PlainType};
+ghost use Rattle.spec_expressions.specs.judged.Loads.{variable_type, global_if, local_if, loaded, loaded_value, load_type, array_length_type};
 ghost use Rattle.spec_expressions.specs.declared.faults.TypingFault.TheVariants.{FunctionArgumentNotFound};
-ghost use Rattle.typing_forms.specs.Forms.{form_of_type};
-ghost use Rattle.typing_forms.specs.Resolutions.{types_view, inner_at};
+ghost use Rattle.typing_forms.specs.judged.Forms.{form_of_type};
+ghost use Rattle.typing_forms.specs.judged.Resolutions.{types_view, inner_at};
 ghost use Rattle.typing_errors.specs.Answers.{form_given, form_answer};
 
 use crate::access::pointer_to;

@@ -1,9 +1,9 @@
 //! Operations on one value and on two.
 
 ghost use Rattle.std.specs.Prelude.{◌≡◌, List, IfOk, Ok};
-ghost use Rattle.ir_types.specs.Plain.{PlainType};
-ghost use Rattle.spec_expressions.specs.Operators.{truth_of, vector_times, matrix_times, other_times, product, binary_type};
-ghost use Rattle.typing_forms.specs.Resolutions.{types_view};
+ghost use Rattle.ir_types.specs.judged.Plain.{PlainType};
+ghost use Rattle.spec_expressions.specs.judged.Operators.{truth_of, vector_times, matrix_times, other_times, product, binary_type};
+ghost use Rattle.typing_forms.specs.judged.Resolutions.{types_view};
 ghost use Rattle.typing_errors.specs.Answers.{form_answer};
 ghost use Rattle.typing_errors.specs.Operands.{given_form};
 

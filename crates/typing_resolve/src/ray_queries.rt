@@ -1,10 +1,10 @@
 //! What ray queries answer.
 
 ghost use Rattle.std.specs.Prelude.{◌≡◌, List, ok_or, option_map};
-ghost use Rattle.ir_types.specs.Plain.{PlainType};
-ghost use Rattle.spec_expressions.specs.RayQueries.{proceed_type};
+ghost use Rattle.ir_types.specs.judged.Plain.{PlainType};
+ghost use Rattle.spec_expressions.specs.judged.RayQueries.{proceed_type};
 ghost use Rattle.spec_expressions.specs.declared.faults.TypingFault.TheVariants.{MissingSpecialType};
-ghost use Rattle.typing_forms.specs.Forms.{form_of_type};
+ghost use Rattle.typing_forms.specs.judged.Forms.{form_of_type};
 ghost use Rattle.typing_errors.specs.Answers.{form_given, form_answer};
 
 use ir_arena::handle::Handle;

@@ -1,12 +1,12 @@
 //! What calls answered.
 
 ghost use Rattle.std.specs.Prelude.{◌≡◌, ◌<◌, List, length, map, ok_or, option_and_then, option_map, slice_get};
-ghost use Rattle.ir_items.specs.GlobalView.{values_of};
-ghost use Rattle.ir_items.specs.View.{function_view};
+ghost use Rattle.ir_items.specs.found.GlobalView.{values_of};
+ghost use Rattle.ir_items.specs.found.View.{function_view};
 ghost use Rattle.ir_items.specs.declared.functions.FunctionResult.{FunctionResult};
-ghost use Rattle.ir_types.specs.Plain.{PlainType};
+ghost use Rattle.ir_types.specs.judged.Plain.{PlainType};
 ghost use Rattle.spec_expressions.specs.declared.faults.TypingFault.TheVariants.{FunctionReturnsVoid};
-ghost use Rattle.typing_forms.specs.Forms.{form_of_type};
+ghost use Rattle.typing_forms.specs.judged.Forms.{form_of_type};
 ghost use Rattle.typing_errors.specs.Answers.{form_answer};
 
 use ir_arena::arena::Arena;

@@ -1,8 +1,8 @@
 //! Selections and relational functions.
 
 ghost use Rattle.std.specs.Prelude.{◌≡◌, List};
-ghost use Rattle.ir_types.specs.Plain.{PlainType};
-ghost use Rattle.spec_expressions.specs.Selections.{relational_type};
+ghost use Rattle.ir_types.specs.judged.Plain.{PlainType};
+ghost use Rattle.spec_expressions.specs.judged.Selections.{relational_type};
 ghost use Rattle.typing_errors.specs.Answers.{form_answer};
 
 use crate::operators::truth_of;

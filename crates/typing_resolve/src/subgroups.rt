@@ -1,8 +1,8 @@
 //! What operations of a subgroup answered.
 
 ghost use Rattle.std.specs.Prelude.{◌≡◌, List};
-ghost use Rattle.ir_types.specs.Plain.{PlainType};
-ghost use Rattle.spec_expressions.specs.Subgroups.{ballot_type};
+ghost use Rattle.ir_types.specs.judged.Plain.{PlainType};
+ghost use Rattle.spec_expressions.specs.judged.Subgroups.{ballot_type};
 ghost use Rattle.typing_errors.specs.Answers.{form_given};
 
 use ir_kinds::{Scalar, VectorSize};

@@ -1,9 +1,9 @@
 //! The type of an expression, by the types of its operands: one arm for each kind.
 
 ghost use Rattle.std.specs.Prelude.{◌≡◌, List, IfOk, Some};
-ghost use Rattle.ir_types.specs.Plain.{PlainType};
-ghost use Rattle.ir_types.specs.ExpressionPlain.{expression_view};
-ghost use Rattle.spec_expressions.specs.Context.{NamesItem};
+ghost use Rattle.ir_types.specs.judged.Plain.{PlainType};
+ghost use Rattle.ir_types.specs.judged.ExpressionPlain.{expression_view};
+ghost use Rattle.spec_expressions.specs.judged.Context.{NamesItem};
 ghost use Rattle.typing_errors.specs.Answers.{form_answer, told};
 ghost use Rattle.typing_errors.specs.Operands.{rule_given};
 ghost use Rattle.typing_resolve.specs.View.{context_view};

@@ -2,12 +2,12 @@
 use Rattle.std.proofs.Common.{◌≡◌, ◌==◌, ℕ, zero, suc, List, [], ◌∷◌, Bool, true, refl, arith, rules, All}
 use Rattle.std.specs.List.{list_all}
 use Rattle.std.proofs.lemmas.Bool.{and_parts}
-use Rattle.ir_kinds.specs.Maths.{argument_count}
+use Rattle.ir_kinds.specs.judged.Maths.{argument_count}
 use Rattle.ir_kinds.specs.declared.maths.MathFunction.{MathFunction}
 use Rattle.ir_kinds.specs.declared.maths.MathFunction.TheVariants as math
 use Rattle.typing_rules.specs.declared.rules.Rule.{Rule}
-use Rattle.typing_rules.specs.Laws.{arity, ArgumentCounts}
-use Rattle.typing_rules.specs.Tables.{table}
+use Rattle.typing_rules.specs.judged.Laws.{arity, ArgumentCounts}
+use Rattle.typing_rules.specs.judged.Tables.{table}
 
 abbrev all_counted : ℕ → List Rule → Bool
 all_counted n rules = list_all (λ rule. arity rule == n) rules

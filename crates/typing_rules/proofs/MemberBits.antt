@@ -6,11 +6,11 @@ use Rattle.std.specs.List.{position_or_len}
 use Rattle.std.proofs.lemmas.Nat.{pow_pos}
 use Rattle.std.proofs.lemmas.Nat.Bits.{and_pow, bit_at-suc, bit_at_lowest, bit_at-lt}
 use Rattle.ir_flags.specs.Sets.{Has}
-use Rattle.ir_kinds.specs.Scalars.{is_scalar}
+use Rattle.ir_kinds.specs.judged.Scalars.{is_scalar}
 use Rattle.ir_kinds.specs.declared.scalars.Scalar.{Scalar}
-use Rattle.typing_rules.specs.Types.{constructor_place}
-use Rattle.typing_rules.specs.Bits.{put_if, chosen, MembersByBits}
-use Rattle.typing_rules.specs.Members.{scalars, sizes}
+use Rattle.typing_rules.specs.judged.Types.{constructor_place}
+use Rattle.typing_rules.specs.found.Bits.{put_if, chosen, MembersByBits}
+use Rattle.typing_rules.specs.found.Members.{scalars, sizes}
 
 -- ---- one bit
 

@@ -2,7 +2,7 @@
 use Rattle.std.proofs.Common.{◌≡◌, ◌<◌, ◌+◌, ◌*◌, ◌/◌, ◌%◌, ◌^◌, ◌==◌, ◌∙◌, ℕ, zero, suc, Bool, true, false, List, refl, ap, sym, subst, arith, rules, sum}
 use Rattle.std.proofs.Math.Nat.{pow-succ', mul-suc, mul_assoc, mul_comm}
 use Rattle.std.proofs.lemmas.List.Sums.{sum_by-cons}
-use Rattle.typing_rules.specs.Bits.{put_if, chosen, powers, IsRisingFrom, ArePowersOfTwo}
+use Rattle.typing_rules.specs.found.Bits.{put_if, chosen, powers, IsRisingFrom, ArePowersOfTwo}
 
 -- ---- sums
 

@@ -4,13 +4,13 @@ use Rattle.std.specs.Prelude.{◌&&◌, ◌==◌, nat_le, is_some, filter, slice
 use Rattle.ir_kinds.specs.declared.scalars.ScalarKind.{ScalarKind}
 use Rattle.ir_kinds.specs.declared.scalars.ScalarKind.TheVariants as kind
 use Rattle.ir_kinds.specs.declared.scalars.Scalar.{Scalar}
-use Rattle.ir_kinds.specs.Scalars.{kind_place, is_scalar, abstract_int, abstract_float}
-use Rattle.typing_forms.specs.Ranks.{rank, conversion, rank_in, float_ranks, integer_ranks}
+use Rattle.ir_kinds.specs.judged.Scalars.{kind_place, is_scalar, abstract_int, abstract_float}
+use Rattle.typing_forms.specs.judged.Ranks.{rank, conversion, rank_in, float_ranks, integer_ranks}
 use Rattle.typing_rules.specs.declared.rules.ValueType.{ValueType}
 use Rattle.typing_rules.specs.declared.rules.Rule.{Rule}
-use Rattle.typing_rules.specs.Types.{constructor_place, value_type_of, listed}
-use Rattle.typing_rules.specs.Ranks.{type_rank, rank_if, rank_at, accepts_if, is_concrete}
-use Rattle.typing_rules.specs.Laws.{Demand, supplied, concrete, meets, left_by, IsAmong}
+use Rattle.typing_rules.specs.judged.Types.{constructor_place, value_type_of, listed}
+use Rattle.typing_rules.specs.judged.Ranks.{type_rank, rank_if, rank_at, accepts_if, is_concrete}
+use Rattle.typing_rules.specs.judged.Laws.{Demand, supplied, concrete, meets, left_by, IsAmong}
 
 -- ---- the test
 

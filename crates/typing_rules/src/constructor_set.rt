@@ -1,10 +1,10 @@
 //! Sets of shapes.
 
 ghost use Rattle.std.specs.Prelude.{◌≡◌, ◌==◌, [], ◌∷◌, length};
-ghost use Rattle.ir_types.specs.Plain.{inner_view};
-ghost use Rattle.typing_rules.specs.Types.{value_type_of};
-ghost use Rattle.typing_rules.specs.Bits.{chosen};
-ghost use Rattle.typing_rules.specs.Members.{sizes_in, single_sizes, size_of};
+ghost use Rattle.ir_types.specs.judged.Plain.{inner_view};
+ghost use Rattle.typing_rules.specs.judged.Types.{value_type_of};
+ghost use Rattle.typing_rules.specs.found.Bits.{chosen};
+ghost use Rattle.typing_rules.specs.found.Members.{sizes_in, single_sizes, size_of};
 
 use crate::one_bits::Members;
 use crate::{ConstructorSize, ValueType};
@@ -52,7 +52,7 @@ bitflag_items! {
 
 impl Flags for ConstructorSet {
     ghost use Rattle.std.specs.Prelude.{⊤};
-    ghost use Rattle.typing_rules.specs.Words.{constructor_words};
+    ghost use Rattle.typing_rules.specs.found.Words.{constructor_words};
 
     type Bits = u16;
 

@@ -1,6 +1,6 @@
 //! What holds of rules, whatever arguments are supplied.
 
-ghost use Rattle.typing_rules.specs.Laws.{ArgumentCounts, PreferredIsBest, DemandsCommute, DemandsRepeat};
+ghost use Rattle.typing_rules.specs.judged.Laws.{ArgumentCounts, PreferredIsBest, DemandsCommute, DemandsRepeat};
 
 /// Each rule of a math function has as many arguments as `MathFunction::argument_count` says.
 #[tactic(auto, using(crate::proofs::Counts::argument_counts))]

@@ -1,7 +1,7 @@
 //! The one bits of a number, and what stands at their places.
 
 ghost use Rattle.std.specs.Prelude.{◌≡◌};
-ghost use Rattle.typing_rules.specs.Bits.{chosen, one_bits};
+ghost use Rattle.typing_rules.specs.found.Bits.{chosen, one_bits};
 
 use std::marker::Model;
 
@@ -15,7 +15,7 @@ pub struct Members<'a, T> {
 
 impl<'a, T> Model for Members<'a, T> {
     ghost use Rattle.std.specs.Prelude.{List};
-    ghost use Rattle.typing_rules.specs.Bits.{chosen};
+    ghost use Rattle.typing_rules.specs.found.Bits.{chosen};
 
     ghost Value = { List T };
 

@@ -1,8 +1,8 @@
 //! How rules are made of a shape and a scalar.
 
 ghost use Rattle.std.specs.Prelude.{◌≡◌};
-ghost use Rattle.typing_rules.specs.Types.{value_type};
-ghost use Rattle.typing_rules.specs.Tables.{vector_size, column_size, row_size, transposed, arguments_of, conclusion_of, rule_of};
+ghost use Rattle.typing_rules.specs.judged.Types.{value_type};
+ghost use Rattle.typing_rules.specs.judged.Tables.{vector_size, column_size, row_size, transposed, arguments_of, conclusion_of, rule_of};
 
 use crate::rules::{Arguments, Conclusion, ConstructorSize, Rule, ValueType};
 use ir_kinds::{PredeclaredType, Scalar, VectorSize};

@@ -1,9 +1,9 @@
 //! Rules, and how they are made.
 
 ghost use Rattle.std.specs.Prelude.{◌≡◌, length, slice_get};
-ghost use Rattle.ir_types.specs.Plain.{plain, inner_view};
-ghost use Rattle.typing_rules.specs.Types.{constructor_place, inner_of, value_type_of, listed};
-ghost use Rattle.typing_rules.specs.Ranks.{type_rank, rank_at, accepts_inner, is_abstract_kind, is_concrete};
+ghost use Rattle.ir_types.specs.judged.Plain.{plain, inner_view};
+ghost use Rattle.typing_rules.specs.judged.Types.{constructor_place, inner_of, value_type_of, listed};
+ghost use Rattle.typing_rules.specs.judged.Ranks.{type_rank, rank_at, accepts_inner, is_abstract_kind, is_concrete};
 
 use ir_kinds::{PredeclaredType, Scalar, ScalarKind, VectorSize};
 use ir_types::TypeInner;

@@ -1,10 +1,10 @@
 //! Sets of scalars.
 
 ghost use Rattle.std.specs.Prelude.{◌≡◌, ◌<◌, Some, filter, is_some, length, map, slice_get};
-ghost use Rattle.ir_kinds.specs.Scalars.{is_scalar};
-ghost use Rattle.typing_forms.specs.Ranks.{rank};
-ghost use Rattle.typing_rules.specs.Bits.{chosen, marks};
-ghost use Rattle.typing_rules.specs.Members.{scalars, scalars_in, single_scalars};
+ghost use Rattle.ir_kinds.specs.judged.Scalars.{is_scalar};
+ghost use Rattle.typing_forms.specs.judged.Ranks.{rank};
+ghost use Rattle.typing_rules.specs.found.Bits.{chosen, marks};
+ghost use Rattle.typing_rules.specs.found.Members.{scalars, scalars_in, single_scalars};
 
 use crate::one_bits::Members;
 use bitflags::{Flag, Flags, bitflag_items};
@@ -49,7 +49,7 @@ bitflag_items! {
 
 impl Flags for ScalarSet {
     ghost use Rattle.std.specs.Prelude.{⊤};
-    ghost use Rattle.typing_rules.specs.Words.{scalar_words};
+    ghost use Rattle.typing_rules.specs.found.Words.{scalar_words};
 
     type Bits = u16;
 

@@ -1,10 +1,10 @@
 //! What holds of the sets and of one bits.
 
 ghost use Rattle.std.specs.Prelude.{◌≡◌, ◌++◌, [], ◌∷◌, sum};
-ghost use Rattle.ir_kinds.specs.Scalars.{boolean, abstract_int, abstract_float};
-ghost use Rattle.typing_rules.specs.Tables.{numbers, floats, integers, vectors};
-ghost use Rattle.typing_rules.specs.Bits.{one_bits, IsRisingFrom, ArePowersOfTwo, MembersByBits};
-ghost use Rattle.typing_rules.specs.Members.{scalars, scalars_in, sizes, sizes_in};
+ghost use Rattle.ir_kinds.specs.judged.Scalars.{boolean, abstract_int, abstract_float};
+ghost use Rattle.typing_rules.specs.judged.Tables.{numbers, floats, integers, vectors};
+ghost use Rattle.typing_rules.specs.found.Bits.{one_bits, IsRisingFrom, ArePowersOfTwo, MembersByBits};
+ghost use Rattle.typing_rules.specs.found.Members.{scalars, scalars_in, sizes, sizes_in};
 
 use crate::{ConstructorSet, ScalarSet};
 

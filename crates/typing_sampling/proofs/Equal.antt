@@ -5,7 +5,7 @@ use Rattle.std.proofs.lemmas.Bool.{eqb-true, eq-eqb}
 use Rattle.spec_analysis.specs.declared.sampling.GlobalOrArgument.{GlobalOrArgument}
 use Rattle.spec_analysis.specs.declared.sampling.GlobalOrArgument.TheVariants.{Global, Argument}
 use Rattle.spec_analysis.specs.contracts.sampling.GlobalOrArgumentPartialEq as each
-use Rattle.spec_analysis.specs.Pairs.{SamplingPair, pair_eq}
+use Rattle.spec_analysis.specs.judged.Pairs.{SamplingPair, pair_eq}
 
 pub both : (x y : Bool) → (x && y) ≡ true → (x ≡ true) × (y ≡ true)
 both true y e = (refl, e)

@@ -2,13 +2,13 @@
 use Rattle.std.proofs.Common.{◌≡◌, ◌⊎◌, ℕ, zero, suc, ◌<◌, ◌≤◌, Bool, true, false, true≢false, ◌||◌, List, [], ◌∷◌, ◌++◌, fold, inl, inr, length, drop, get_or, Option, Some, None, slice_get, refl, sym, ap, ◌∙◌, subst, arith, if◌then◌else◌}
 use Rattle.std.specs.List.{list_any}
 use Rattle.indexmap.specs.IndexSet.{insert_all, insert_key}
-use Rattle.typing_rules.specs.Laws.{IsAmong}
-use Rattle.ir_types.specs.ExpressionPlain.{PlainExpression}
+use Rattle.typing_rules.specs.judged.Laws.{IsAmong}
+use Rattle.ir_types.specs.judged.ExpressionPlain.{PlainExpression}
 use Rattle.spec_analysis.specs.declared.sampling.GlobalOrArgument.{GlobalOrArgument}
 use Rattle.spec_analysis.specs.declared.sampling.GlobalOrArgument.TheVariants.{Global, Argument}
-use Rattle.spec_analysis.specs.Pairs.{SamplingPair, pair_eq}
+use Rattle.spec_analysis.specs.judged.Pairs.{SamplingPair, pair_eq}
 use Rattle.typing_infos.specs.Marks.{EachOnce, marks_of}
-use Rattle.spec_analysis.specs.Chains.{place, seen_through}
+use Rattle.spec_analysis.specs.judged.Chains.{place, seen_through}
 use Rattle.typing_sampling.specs.Fronts.{BeginsWith}
 use Rattle.typing_sampling.specs.Pairings.{Paired, pair_one, passed_for, pass_up, pass_all_up}
 use Rattle.typing_sampling.specs.Passed.{PassesOn, PassesAllOn}

@@ -1,9 +1,9 @@
 -- Each argument among pairs is marked.
 use Rattle.std.proofs.Common.{◌≡◌, ◌⊎◌, ℕ, zero, suc, Bool, true, false, List, [], ◌∷◌, fold, inl, inr, Option, Some, None, slice_get, refl, sym, ap, ◌∙◌, subst}
-use Rattle.typing_rules.specs.Laws.{IsAmong}
+use Rattle.typing_rules.specs.judged.Laws.{IsAmong}
 use Rattle.spec_analysis.specs.declared.sampling.GlobalOrArgument.{GlobalOrArgument}
 use Rattle.spec_analysis.specs.declared.sampling.GlobalOrArgument.TheVariants.{Global, Argument}
-use Rattle.spec_analysis.specs.Pairs.{SamplingPair}
+use Rattle.spec_analysis.specs.judged.Pairs.{SamplingPair}
 use Rattle.typing_infos.specs.Marks.{marked_at, marked_part, marked_pair, marks_of}
 
 abbrev IsMarked : List Bool → ℕ → Type 0

@@ -1,6 +1,6 @@
 -- The pairs of a list.
 use Rattle.std.specs.Prelude.{List, ◌++◌}
-use Rattle.spec_analysis.specs.Pairs.{SamplingPair}
+use Rattle.spec_analysis.specs.judged.Pairs.{SamplingPair}
 use Rattle.typing_sampling.specs.declared.list.PairList.{PairList}
 
 abbrev pub listed : PairList → List SamplingPair

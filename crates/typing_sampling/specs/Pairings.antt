@@ -1,12 +1,12 @@
 -- The pairs of images and samplers, and what each effect of a function does to them.
 use Rattle.std.specs.Prelude.{ℕ, List, [], ◌∷◌, Option, Some, None, slice_get}
 use Rattle.indexmap.specs.IndexSet.{insert_key}
-use Rattle.ir_types.specs.ExpressionPlain.{PlainExpression, plain}
+use Rattle.ir_types.specs.judged.ExpressionPlain.{PlainExpression, plain}
 use Rattle.ir_types.specs.declared.expressions.Expression.TheVariants.{ImageSample}
 use Rattle.spec_analysis.specs.declared.sampling.GlobalOrArgument.{GlobalOrArgument}
 use Rattle.spec_analysis.specs.declared.sampling.GlobalOrArgument.TheVariants.{Global, Argument}
-use Rattle.spec_analysis.specs.Pairs.{SamplingPair, pair_eq}
-use Rattle.spec_analysis.specs.Chains.{place, seen_through}
+use Rattle.spec_analysis.specs.judged.Pairs.{SamplingPair, pair_eq}
+use Rattle.spec_analysis.specs.judged.Chains.{place, seen_through}
 use Rattle.typing_sampling.specs.Listed.{listed}
 use Rattle.typing_sampling.specs.declared.pairs.Sampled.{Sampled}
 

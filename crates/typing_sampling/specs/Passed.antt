@@ -1,10 +1,10 @@
 -- What a caller passes on as it was given it.
 use Rattle.std.specs.Prelude.{◌≡◌, ℕ, List, Option, Some, slice_get}
-use Rattle.typing_rules.specs.Laws.{IsAmong}
+use Rattle.typing_rules.specs.judged.Laws.{IsAmong}
 use Rattle.spec_analysis.specs.declared.sampling.GlobalOrArgument.{GlobalOrArgument}
 use Rattle.spec_analysis.specs.declared.sampling.GlobalOrArgument.TheVariants.{Argument}
-use Rattle.spec_analysis.specs.Pairs.{SamplingPair}
-use Rattle.spec_analysis.specs.Chains.{argument_means, seen_through}
+use Rattle.spec_analysis.specs.judged.Pairs.{SamplingPair}
+use Rattle.spec_analysis.specs.judged.Chains.{argument_means, seen_through}
 
 -- what is passed for an argument is the caller's argument of the same number
 abbrev pub PassesOn : (meaning : ℕ → Option GlobalOrArgument) → (arguments : List ℕ) → ℕ → Type 0

@@ -2,7 +2,7 @@
 
 ghost use Rattle.std.specs.Prelude.{◌≡◌, ◌++◌, [], IfOk, IsTrue, OnErr, OnOk};
 ghost use Rattle.indexmap.specs.IndexSet.{insert_key};
-ghost use Rattle.spec_analysis.specs.Pairs.{pair_eq};
+ghost use Rattle.spec_analysis.specs.judged.Pairs.{pair_eq};
 ghost use Rattle.typing_infos.specs.Marks.{EachOnce};
 ghost use Rattle.typing_sampling.specs.Fronts.{BeginsWith};
 

@@ -1,10 +1,10 @@
 //! Pairs of images and samplers.
 
 ghost use Rattle.std.specs.Prelude.{◌≡◌, ℕ, Some, IfOk, IsTrue, OnOk, None, [], slice_get, true};
-ghost use Rattle.ir_types.specs.ExpressionPlain.{expression_view};
-ghost use Rattle.ir_items.specs.GlobalView.{values_of};
+ghost use Rattle.ir_types.specs.judged.ExpressionPlain.{expression_view};
+ghost use Rattle.ir_items.specs.found.GlobalView.{values_of};
 ghost use Rattle.typing_infos.specs.Marks.{EachOnce};
-ghost use Rattle.spec_analysis.specs.Chains.{place, seen_through};
+ghost use Rattle.spec_analysis.specs.judged.Chains.{place, seen_through};
 ghost use Rattle.std.specs.Prelude.{map};
 ghost use Rattle.typing_sampling.specs.Pairings.{Paired, paired, with_pair, with_wrong, first_wrong, part_wrong, pair_one, passed_for, pass_up, pass_all_up};
 ghost use Rattle.typing_sampling.specs.Passed.{PassesOn, PassesAllOn};

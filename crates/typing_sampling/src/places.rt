@@ -2,9 +2,9 @@
 
 ghost use Rattle.std.specs.Prelude.{◌≡◌, Some, map, slice_get, option_map};
 ghost use Rattle.std.specs.Option.{option_copied};
-ghost use Rattle.ir_types.specs.ExpressionPlain.{expression_view};
-ghost use Rattle.ir_items.specs.GlobalView.{values_of};
-ghost use Rattle.spec_analysis.specs.Chains.{place, base_denotes, denotes};
+ghost use Rattle.ir_types.specs.judged.ExpressionPlain.{expression_view};
+ghost use Rattle.ir_items.specs.found.GlobalView.{values_of};
+ghost use Rattle.spec_analysis.specs.judged.Chains.{place, base_denotes, denotes};
 
 use ir_arena::arena::Arena;
 use ir_arena::handle::Handle;

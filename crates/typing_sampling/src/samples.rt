@@ -1,9 +1,9 @@
 //! The pair that an expression samples.
 
 ghost use Rattle.std.specs.Prelude.{◌≡◌, Some, map, OnOk};
-ghost use Rattle.ir_types.specs.ExpressionPlain.{expression_view};
-ghost use Rattle.ir_items.specs.GlobalView.{values_of};
-ghost use Rattle.spec_analysis.specs.Chains.{place};
+ghost use Rattle.ir_types.specs.judged.ExpressionPlain.{expression_view};
+ghost use Rattle.ir_items.specs.found.GlobalView.{values_of};
+ghost use Rattle.spec_analysis.specs.judged.Chains.{place};
 ghost use Rattle.typing_sampling.specs.Pairings.{paired, sample_one};
 
 use crate::pairs::{Part, Sampled};

@@ -7,18 +7,18 @@ use Rattle.std.specs.Option.{option_eq}
 use Rattle.std.proofs.lemmas.Bool.{eqb-true}
 use Rattle.std.proofs.lemmas.Option.{slice_get-map, slice_get-get_or, slice_get_past}
 use Rattle.indexmap.specs.IndexSet.{insert_key}
-use Rattle.typing_rules.specs.Laws.{IsAmong}
-use Rattle.ir_types.specs.ExpressionPlain.{PlainExpression}
+use Rattle.typing_rules.specs.judged.Laws.{IsAmong}
+use Rattle.ir_types.specs.judged.ExpressionPlain.{PlainExpression}
 use Rattle.spec_analysis.specs.declared.sampling.GlobalOrArgument.{GlobalOrArgument}
 use Rattle.spec_analysis.specs.declared.sampling.GlobalOrArgument.TheVariants.{Global, Argument}
-use Rattle.spec_analysis.specs.Pairs.{SamplingPair, pair_eq}
+use Rattle.spec_analysis.specs.judged.Pairs.{SamplingPair, pair_eq}
 use Rattle.typing_sampling.proofs.Equal.{both, part_same, pair_self}
 use Rattle.typing_sampling.proofs.Marked.{is_marked}
 use Rattle.typing_infos.specs.Infos.{summary_of}
 use Rattle.typing_infos.specs.Marks.{marks_of}
 use Rattle.typing_infos.specs.declared.function_info.FunctionInfo.{FunctionInfo}
-use Rattle.spec_analysis.specs.Chains.{place, seen_through, argument_means}
-use Rattle.spec_analysis.specs.Summaries.{Summary}
+use Rattle.spec_analysis.specs.judged.Chains.{place, seen_through, argument_means}
+use Rattle.spec_analysis.specs.judged.Summaries.{Summary}
 use Rattle.spec_analysis.proofs.Members.{among-cases}
 use Rattle.typing_summaries.specs.Joined.{IsKept, IsWrong, IsCovered, AreJoined}
 use Rattle.typing_summaries.specs.Parts.{parts_of, AllStand}

@@ -4,19 +4,19 @@ use Rattle.std.specs.Prelude.{◌↔◌, ◌==◌, slice_index_or}
 use Rattle.std.specs.Int.{bit_at}
 use Rattle.std.proofs.lemmas.Bool.{cases_eq, eqb-true, ne_eqb, eq-eqb}
 use Rattle.std.proofs.lemmas.List.{get_or-replicate, length-replicate}
-use Rattle.typing_rules.specs.Laws.{IsAmong}
-use Rattle.ir_types.specs.ExpressionPlain.{PlainExpression, compose, plain}
+use Rattle.typing_rules.specs.judged.Laws.{IsAmong}
+use Rattle.ir_types.specs.judged.ExpressionPlain.{PlainExpression, compose, plain}
 use Rattle.ir_types.specs.declared.expressions.Expression.TheVariants as x
-use Rattle.ir_blocks.specs.Plain.{PlainBlock}
-use Rattle.ir_items.specs.Plain.{PlainFunction}
+use Rattle.ir_blocks.specs.judged.Plain.{PlainBlock}
+use Rattle.ir_items.specs.judged.Plain.{PlainFunction}
 use Rattle.spec_analysis.specs.declared.global_use.GlobalUse.{GlobalUse}
 use Rattle.spec_analysis.specs.declared.global_use.TheConstants.GlobalUse.{QUERY}
-use Rattle.spec_analysis.specs.Pairs.{SamplingPair}
-use Rattle.spec_analysis.specs.Operands.{Operand}
-use Rattle.spec_analysis.specs.Effects.{Effect, takes, samples, runs, discards, expressions_effects, effects_in, effects_of, places_of}
-use Rattle.spec_analysis.specs.Values.{StartsAt, AreStarts}
-use Rattle.spec_analysis.specs.Chains.{place, UsesDirectly, Names, Samples, Discards}
-use Rattle.spec_analysis.specs.Summaries.{Summary, no_use, HasUseBit, HasBit, CallsOne, ComesUp, JoinsUse, IsJoined, IsWrongArgument, IsFormFault}
+use Rattle.spec_analysis.specs.judged.Pairs.{SamplingPair}
+use Rattle.spec_analysis.specs.judged.Operands.{Operand}
+use Rattle.spec_analysis.specs.judged.Effects.{Effect, takes, samples, runs, discards, expressions_effects, effects_in, effects_of, places_of}
+use Rattle.spec_analysis.specs.judged.Values.{StartsAt, AreStarts}
+use Rattle.spec_analysis.specs.judged.Chains.{place, UsesDirectly, Names, Samples, Discards}
+use Rattle.spec_analysis.specs.judged.Summaries.{Summary, no_use, HasUseBit, HasBit, CallsOne, ComesUp, JoinsUse, IsJoined, IsWrongArgument, IsFormFault}
 use Rattle.typing_summaries.specs.Tallies.{Known, Tallied, queried, name_one, name_all, nothing_tallied, expressions_done, done_in, named, whole_tally}
 use Rattle.typing_summaries.specs.Tallied.{summary_in, IsTally}
 use Rattle.typing_summaries.proofs.Effects.{do_all, do_append, do_expressions, do_in}

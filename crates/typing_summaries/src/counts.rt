@@ -1,10 +1,10 @@
 //! How often expressions are operands, and how global variables are used.
 
 ghost use Rattle.std.specs.Prelude.{◌≡◌, Option, List, Some, map, IfOk, replicate, slice_index_or, ◌==◌};
-ghost use Rattle.spec_analysis.specs.Operands.{operand};
+ghost use Rattle.spec_analysis.specs.judged.Operands.{operand};
 ghost use Rattle.spec_handles.specs.declared.operand.Usage.TheVariants.{Read};
-ghost use Rattle.spec_analysis.specs.Summaries.{no_use};
-ghost use Rattle.spec_analysis.specs.Values.{known_at};
+ghost use Rattle.spec_analysis.specs.judged.Summaries.{no_use};
+ghost use Rattle.spec_analysis.specs.judged.Values.{known_at};
 ghost use Rattle.typing_infos.specs.Infos.{marked, joined_use};
 ghost use Rattle.typing_summaries.specs.Tallies.{Counted, counted, bumped, take_one, take_all, merged, queried};
 

@@ -1,9 +1,9 @@
 //! The effects of expressions, and the global variables that they name.
 
 ghost use Rattle.std.specs.Prelude.{◌≡◌, map, OnOk};
-ghost use Rattle.ir_types.specs.ExpressionPlain.{expression_view};
-ghost use Rattle.ir_arena.specs.Handles.{handles_from};
-ghost use Rattle.ir_items.specs.GlobalView.{values_of};
+ghost use Rattle.ir_types.specs.judged.ExpressionPlain.{expression_view};
+ghost use Rattle.ir_arena.specs.judged.Handles.{handles_from};
+ghost use Rattle.ir_items.specs.found.GlobalView.{values_of};
 ghost use Rattle.typing_summaries.specs.Tallies.{known, counted, tallied, expression_done, expressions_done, expressions_done_with, name_one, name_all, name_all_with};
 
 use crate::counts::{Counts, name};

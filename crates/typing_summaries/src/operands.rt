@@ -1,9 +1,9 @@
 //! The operands of expressions and of statements, counted.
 
 ghost use Rattle.std.specs.Prelude.{◌≡◌};
-ghost use Rattle.ir_types.specs.ExpressionPlain.{expression_view};
-ghost use Rattle.ir_blocks.specs.View.{statement_view};
-ghost use Rattle.spec_analysis.specs.Operands.{operand, operands_in, expression_operands, statement_operands};
+ghost use Rattle.ir_types.specs.judged.ExpressionPlain.{expression_view};
+ghost use Rattle.ir_blocks.specs.found.View.{statement_view};
+ghost use Rattle.spec_analysis.specs.judged.Operands.{operand, operands_in, expression_operands, statement_operands};
 ghost use Rattle.spec_handles.specs.Operands.{these};
 ghost use Rattle.typing_summaries.specs.Tallies.{counted, take_one, take_all};
 
@@ -23,7 +23,7 @@ struct Counter<'a> {
 
 impl OperandUser<Counts, ()> for Counter<'_> {
     ghost use Rattle.std.specs.Prelude.{◌≡◌};
-    ghost use Rattle.spec_analysis.specs.Operands.{operands_in};
+    ghost use Rattle.spec_analysis.specs.judged.Operands.{operands_in};
     ghost use Rattle.typing_summaries.specs.Tallies.{counted, take_all};
 
     ghost does = { λ counter before after answer operands. counted after ≡ take_all counter.globals.now (operands_in operands) (counted before) };

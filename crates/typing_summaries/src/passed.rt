@@ -1,10 +1,10 @@
 //! What callees with many pairs were passed, so that each is joined once for what it is passed.
 
 ghost use Rattle.std.specs.Prelude.{◌≡◌, ◌⊎◌, IfOk, IsTrue, OnOk, map};
-ghost use Rattle.ir_types.specs.ExpressionPlain.{expression_view};
-ghost use Rattle.ir_items.specs.GlobalView.{values_of};
+ghost use Rattle.ir_types.specs.judged.ExpressionPlain.{expression_view};
+ghost use Rattle.ir_items.specs.found.GlobalView.{values_of};
 ghost use Rattle.typing_infos.specs.Marks.{marks_of};
-ghost use Rattle.spec_analysis.specs.Chains.{place};
+ghost use Rattle.spec_analysis.specs.judged.Chains.{place};
 ghost use Rattle.typing_summaries.specs.Parts.{part_if, parts_of, Stands, AllStand};
 ghost use Rattle.typing_summaries.specs.Joined.{IsKept, IsWrong, AreJoined};
 ghost use Rattle.typing_summaries.specs.Tallies.{known, paired, pass_all_up};

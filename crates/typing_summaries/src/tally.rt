@@ -1,7 +1,7 @@
 //! What is counted of a function.
 
 ghost use Rattle.std.specs.Prelude.{◌≡◌, IfOk, length};
-ghost use Rattle.ir_blocks.specs.View.{block_view};
+ghost use Rattle.ir_blocks.specs.found.View.{block_view};
 ghost use Rattle.typing_summaries.specs.Tallies.{known, tallied, nothing_tallied, whole_tally};
 
 use crate::counts::Counts;

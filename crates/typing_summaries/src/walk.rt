@@ -1,7 +1,7 @@
 //! The effects of a body's statements, in the order of its text.
 
 ghost use Rattle.std.specs.Prelude.{◌≡◌, map, OnOk, slice_get};
-ghost use Rattle.ir_blocks.specs.View.{statement_view, block_view, case_view, cases_of};
+ghost use Rattle.ir_blocks.specs.found.View.{statement_view, block_view, case_view, cases_of};
 ghost use Rattle.typing_summaries.specs.Joined.{AreJoined};
 ghost use Rattle.typing_summaries.specs.Tallies.{Known, known, tallied, join_summary, leave, statement_done, done_in, done_inside, done_in_cases};
 

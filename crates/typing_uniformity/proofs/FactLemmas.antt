@@ -2,17 +2,17 @@
 use Rattle.std.proofs.Common.{◌≡◌, ◌⊎◌, ℕ, zero, suc, ◌+◌, ◌<◌, ◌≤◌, Option, Some, None, Bool, true, false, true≢false, IsTrue, List, [], ◌∷◌, ◌++◌, length, map, refl, sym, ap, ◌∙◌, subst, inl, inr, arith, slice_get}
 use Rattle.std.specs.Prelude.{◌↔◌}
 use Rattle.std.proofs.lemmas.Bool.{cases_lt}
-use Rattle.typing_rules.specs.Laws.{IsAmong}
-use Rattle.ir_arena.specs.Handles.{handles_from}
+use Rattle.typing_rules.specs.judged.Laws.{IsAmong}
+use Rattle.ir_arena.specs.judged.Handles.{handles_from}
 use Rattle.ir_arena.specs.declared.span.Span.{Span}
-use Rattle.ir_types.specs.ExpressionPlain.{PlainExpression, plain, expression_view}
+use Rattle.ir_types.specs.judged.ExpressionPlain.{PlainExpression, plain, expression_view}
 use Rattle.ir_types.specs.declared.expressions.Expression.{Expression}
 use Rattle.ir_types.specs.declared.expressions.Expression.TheVariants as x
-use Rattle.ir_items.specs.GlobalView.{values_of}
-use Rattle.ir_items.specs.Plain.{PlainFunction, PlainModule}
-use Rattle.spec_analysis.specs.Operands.{Operand, operand, expression_operands}
+use Rattle.ir_items.specs.found.GlobalView.{values_of}
+use Rattle.ir_items.specs.judged.Plain.{PlainFunction, PlainModule}
+use Rattle.spec_analysis.specs.judged.Operands.{Operand, operand, expression_operands}
 use Rattle.spec_handles.specs.declared.operand.Usage.TheVariants.{Base}
-use Rattle.spec_analysis.specs.Values.{inner_of, known_at, is_source, ComesFrom, itself, through, StartsAt, is_global, accessed, accessed_index, AreStarts, OperandsPrecede, IsExact}
+use Rattle.spec_analysis.specs.judged.Values.{inner_of, known_at, is_source, ComesFrom, itself, through, StartsAt, is_global, accessed, accessed_index, AreStarts, OperandsPrecede, IsExact}
 use Rattle.typing_uniformity.specs.Facts.{or_known, find_all, source_if, source_of, start_of, sources_of, starts_of, AreSources}
 
 some_is : {X : Type 0} {x y : X} → Some x ≡ Some y → x ≡ y

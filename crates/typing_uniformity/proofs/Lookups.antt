@@ -1,9 +1,9 @@
 -- What a view has at a handle.
 use Rattle.std.proofs.Common.{◌≡◌, ℕ, zero, suc, ◌≤◌, ◌∙◌, List, [], ◌∷◌, map, length, slice_get, Some, None, option_map, refl, sym, ap, arith}
-use Rattle.ir_arena.specs.Arenas.{value_at}
+use Rattle.ir_arena.specs.found.Arenas.{value_at}
 use Rattle.ir_arena.specs.declared.span.Span.{Span}
-use Rattle.ir_items.specs.GlobalView.{values_of}
-use Rattle.ir_items.specs.View.{argument_view}
+use Rattle.ir_items.specs.found.GlobalView.{values_of}
+use Rattle.ir_items.specs.found.View.{argument_view}
 use Rattle.ir_items.specs.declared.functions.FunctionArgument.{FunctionArgument}
 
 viewed : {T View : Type 0} (view : T → View) (entries : List (T × Span)) (h : ℕ) → slice_get (map view (values_of entries)) h ≡ option_map view (value_at entries h)

@@ -2,15 +2,15 @@
 use Rattle.std.proofs.Common.{◌≡◌, ◌⊎◌, ◌++◌, inl, inr, ℕ, zero, suc, ◌+◌, ◌<◌, ◌≤◌, List, [], ◌∷◌, Option, Some, None, length, slice_get, map, option_map, refl, sym, ap, ◌∙◌, subst, arith}
 use Rattle.std.specs.Option.{option_and_then}
 use Rattle.std.proofs.lemmas.Option.{slice_get-map}
-use Rattle.ir_arena.specs.Arenas.{value_at}
+use Rattle.ir_arena.specs.found.Arenas.{value_at}
 use Rattle.ir_arena.specs.declared.span.Span.{Span}
-use Rattle.ir_items.specs.GlobalView.{values_of}
+use Rattle.ir_items.specs.found.GlobalView.{values_of}
 use Rattle.ir_kinds.specs.declared.diagnostics.Severity.{Severity}
 use Rattle.ir_kinds.specs.declared.diagnostics.StandardFilterableTriggeringRule.{StandardFilterableTriggeringRule}
-use Rattle.ir_items.specs.GlobalPlain.{PlainNode, standard}
-use Rattle.ir_proc.specs.Filters.{ParentsPrecede}
+use Rattle.ir_items.specs.judged.GlobalPlain.{PlainNode, standard}
+use Rattle.ir_proc.specs.found.Filters.{ParentsPrecede}
 use Rattle.ir_kinds.specs.declared.diagnostics.StandardFilterableTriggeringRule.TheVariants.{DerivativeUniformity}
-use Rattle.spec_analysis.specs.Severity.{IsTrail, IsFirst, IsNearest}
+use Rattle.spec_analysis.specs.judged.Severity.{IsTrail, IsFirst, IsNearest}
 use Rattle.typing_uniformity.specs.Nearest.{AreNearest}
 
 -- the plain item at a handle

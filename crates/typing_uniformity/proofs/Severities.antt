@@ -2,9 +2,9 @@
 use Rattle.std.proofs.Common.{◌≡◌, inl, inr, ℕ, List, [], ◌∷◌, Option, Some, None, refl, sym, subst, ◌∙◌}
 use Rattle.ir_kinds.specs.declared.diagnostics.Severity.{Severity}
 use Rattle.ir_kinds.specs.declared.diagnostics.StandardFilterableTriggeringRule.{StandardFilterableTriggeringRule}
-use Rattle.ir_items.specs.GlobalPlain.{PlainNode}
-use Rattle.ir_items.specs.Plain.{PlainFunction, PlainModule}
-use Rattle.spec_analysis.specs.Severity.{IsTrail, IsFirst, IsNearest, HasSeverity}
+use Rattle.ir_items.specs.judged.GlobalPlain.{PlainNode}
+use Rattle.ir_items.specs.judged.Plain.{PlainFunction, PlainModule}
+use Rattle.spec_analysis.specs.judged.Severity.{IsTrail, IsFirst, IsNearest, HasSeverity}
 
 one_trail : (nodes : List PlainNode) (start : Option ℕ) (p q : List PlainNode) → IsTrail nodes start p → IsTrail nodes start q → p ≡ q
 one_trail nodes start [] [] a b = refl

@@ -1,16 +1,16 @@
 -- What is put together of each expression is what the definitions say of it.
 use Rattle.std.proofs.Common.{◌≡◌, ℕ, zero, suc, ◌+◌, List, [], ◌∷◌, length, map, Option, Some, None, option_map, slice_get, refl, sym, ap, ◌∙◌, subst, arith}
 use Rattle.std.proofs.lemmas.Option.{slice_get-map, slice_get_within}
-use Rattle.ir_arena.specs.Handles.{handles_from}
+use Rattle.ir_arena.specs.judged.Handles.{handles_from}
 use Rattle.ir_arena.specs.declared.span.Span.{Span}
-use Rattle.ir_types.specs.ExpressionPlain.{PlainExpression, expression_view}
+use Rattle.ir_types.specs.judged.ExpressionPlain.{PlainExpression, expression_view}
 use Rattle.ir_types.specs.declared.expressions.Expression.{Expression}
-use Rattle.ir_items.specs.GlobalView.{values_of}
-use Rattle.ir_items.specs.Plain.{PlainFunction, PlainModule}
+use Rattle.ir_items.specs.found.GlobalView.{values_of}
+use Rattle.ir_items.specs.judged.Plain.{PlainFunction, PlainModule}
 use Rattle.spec_analysis.specs.declared.uniformity.Uniformity.{Uniformity}
-use Rattle.spec_analysis.specs.Values.{ComesFrom, IsExact}
+use Rattle.spec_analysis.specs.judged.Values.{ComesFrom, IsExact}
 use Rattle.typing_uniformity.specs.Facts.{AreSources, IsUniformity, AreUniformities}
-use Rattle.spec_analysis.specs.Faults.{requirement_in}
+use Rattle.spec_analysis.specs.judged.Faults.{requirement_in}
 use Rattle.typing_uniformity.specs.Reported.{Reported, told, reported_of, all_reported}
 
 some_is : {X : Type 0} {a b : X} → Some a ≡ Some b → a ≡ b

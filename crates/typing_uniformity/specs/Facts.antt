@@ -1,13 +1,13 @@
 -- What is known of expressions, from what is known of those before them.
 use Rattle.std.specs.Prelude.{◌≡◌, ℕ, ◌<◌, Bool, true, false, List, [], ◌∷◌, ◌++◌, length, Option, Some, None, slice_get}
-use Rattle.ir_types.specs.ExpressionPlain.{PlainExpression, plain, expression_view}
+use Rattle.ir_types.specs.judged.ExpressionPlain.{PlainExpression, plain, expression_view}
 use Rattle.ir_types.specs.declared.expressions.Expression.{Expression}
 use Rattle.ir_types.specs.declared.expressions.Expression.TheVariants.{GlobalVariable, Access, AccessIndex}
-use Rattle.ir_items.specs.Plain.{PlainFunction, PlainModule}
+use Rattle.ir_items.specs.judged.Plain.{PlainFunction, PlainModule}
 use Rattle.spec_analysis.specs.declared.uniformity.Uniformity.{Uniformity}
-use Rattle.spec_analysis.specs.Operands.{Operand, expression_operands}
-use Rattle.spec_analysis.specs.Values.{known_at, is_source, ComesFrom, IsExact}
-use Rattle.spec_analysis.specs.Faults.{requirement_at}
+use Rattle.spec_analysis.specs.judged.Operands.{Operand, expression_operands}
+use Rattle.spec_analysis.specs.judged.Values.{known_at, is_source, ComesFrom, IsExact}
+use Rattle.spec_analysis.specs.judged.Faults.{requirement_at}
 
 -- what is found already, or what is known of one more operand
 abbrev pub or_known : List (Option ℕ) → ℕ → Option ℕ → Option ℕ

@@ -4,7 +4,7 @@ use Rattle.ir_kinds.specs.declared.diagnostics.Severity.{Severity}
 use Rattle.ir_kinds.specs.declared.diagnostics.Severity.TheVariants.{Off, Info, Warning, Error}
 use Rattle.spec_analysis.specs.declared.uniformity.Uniformity.{Uniformity}
 use Rattle.spec_analysis.specs.declared.uniformity.TheConstants.UniformityRequirements.{DERIVATIVE, IMPLICIT_LEVEL, COOP_OPS}
-use Rattle.spec_analysis.specs.Uniformity.{Required}
+use Rattle.spec_analysis.specs.judged.Uniformity.{Required}
 use Rattle.typing_uniformity.specs.declared.fault.NonUniform.{NonUniform}
 
 abbrev pub source_in : Option Uniformity → Option ℕ

@@ -1,10 +1,10 @@
 //! What is known of all expressions of a function.
 
 ghost use Rattle.std.specs.Prelude.{◌≡◌, ◌++◌, ◌∷◌, [], OnOk, IfOk};
-ghost use Rattle.ir_arena.specs.Handles.{handles_from};
-ghost use Rattle.ir_types.specs.ExpressionPlain.{expression_view};
-ghost use Rattle.ir_items.specs.View.{function_view, module_view};
-ghost use Rattle.spec_analysis.specs.Values.{AreStarts, OperandsPrecede, known_at};
+ghost use Rattle.ir_arena.specs.judged.Handles.{handles_from};
+ghost use Rattle.ir_types.specs.judged.ExpressionPlain.{expression_view};
+ghost use Rattle.ir_items.specs.found.View.{function_view, module_view};
+ghost use Rattle.spec_analysis.specs.judged.Values.{AreStarts, OperandsPrecede, known_at};
 ghost use Rattle.typing_uniformity.specs.Facts.{source_if, source_of, start_of, sources_of, starts_of, AreUniformities};
 
 use crate::found::{known, source_below};

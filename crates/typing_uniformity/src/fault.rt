@@ -3,9 +3,9 @@
 ghost use Rattle.std.specs.Prelude.{◌≡◌, ◌↔◌, IsTrue, IfOk, false, option_map};
 ghost use Rattle.ir_flags.specs.Sets.{Has};
 ghost use Rattle.ir_flags.specs.declared.settings.TheConstants.ValidationFlags.{CONTROL_FLOW_UNIFORMITY};
-ghost use Rattle.ir_blocks.specs.View.{block_view};
+ghost use Rattle.ir_blocks.specs.found.View.{block_view};
 ghost use Rattle.typing_errors.specs.declared.error.FunctionError.TheVariants.{NonUniformControlFlow};
-ghost use Rattle.spec_analysis.specs.Found.{required_in};
+ghost use Rattle.spec_analysis.specs.found.Found.{required_in};
 ghost use Rattle.typing_uniformity.specs.Requiring.{varies_of, look_of, required_view};
 ghost use Rattle.typing_uniformity.specs.Uniform.{IsAnswer};
 

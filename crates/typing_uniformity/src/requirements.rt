@@ -1,8 +1,8 @@
 //! What expressions require of control flow.
 
 ghost use Rattle.std.specs.Prelude.{◌≡◌};
-ghost use Rattle.ir_types.specs.ExpressionPlain.{expression_view};
-ghost use Rattle.spec_analysis.specs.Values.{requirements_of};
+ghost use Rattle.ir_types.specs.judged.ExpressionPlain.{expression_view};
+ghost use Rattle.spec_analysis.specs.judged.Values.{requirements_of};
 
 use ir_types::Expression;
 use spec_analysis::UniformityRequirements;

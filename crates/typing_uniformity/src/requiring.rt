@@ -1,7 +1,7 @@
 //! What is known of expressions.
 
 ghost use Rattle.std.specs.Prelude.{◌≡◌, is_some, option_map, slice_get};
-ghost use Rattle.spec_analysis.specs.Found.{where_disrupted};
+ghost use Rattle.spec_analysis.specs.found.Found.{where_disrupted};
 ghost use Rattle.typing_uniformity.specs.Requiring.{varies_of, look_of, required_with, required_from, required_view};
 
 use crate::fault::NonUniform;

@@ -1,13 +1,13 @@
 //! How severe faults of derivatives are in a function.
 
 ghost use Rattle.std.specs.Prelude.{◌≡◌, ◌↔◌, ◌⊎◌, ◌<◌, IfOk, IsTrue, length, map};
-ghost use Rattle.ir_items.specs.GlobalPlain.{standard};
-ghost use Rattle.ir_items.specs.GlobalView.{node_view};
-ghost use Rattle.ir_items.specs.View.{function_view, module_view};
+ghost use Rattle.ir_items.specs.judged.GlobalPlain.{standard};
+ghost use Rattle.ir_items.specs.found.GlobalView.{node_view};
+ghost use Rattle.ir_items.specs.found.View.{function_view, module_view};
 ghost use Rattle.ir_kinds.specs.declared.diagnostics.StandardFilterableTriggeringRule.TheVariants.{DerivativeUniformity};
-ghost use Rattle.ir_proc.specs.Filters.{nodes_of, ParentsPrecede};
+ghost use Rattle.ir_proc.specs.found.Filters.{nodes_of, ParentsPrecede};
 ghost use Rattle.typing_uniformity.specs.Nearest.{AreNearest};
-ghost use Rattle.spec_analysis.specs.Severity.{IsNearest, HasSeverity};
+ghost use Rattle.spec_analysis.specs.judged.Severity.{IsNearest, HasSeverity};
 
 use ir_arena::arena::Arena;
 use ir_arena::handle::Handle;

@@ -1,8 +1,8 @@
 //! The uniformity of each expression of a function.
 
 ghost use Rattle.std.specs.Prelude.{◌≡◌, map, IfOk};
-ghost use Rattle.ir_arena.specs.Handles.{handles_from};
-ghost use Rattle.spec_analysis.specs.Values.{known_at};
+ghost use Rattle.ir_arena.specs.judged.Handles.{handles_from};
+ghost use Rattle.spec_analysis.specs.judged.Values.{known_at};
 ghost use Rattle.typing_uniformity.specs.Reported.{told, all_reported};
 
 use crate::requirements::requirements_of;

@@ -1,10 +1,10 @@
 //! The walk over a body.
 
 ghost use Rattle.std.specs.Prelude.{◌≡◌, ◌||◌, false, is_some, option_map, map};
-ghost use Rattle.ir_blocks.specs.View.{statement_view, block_view, case_view, cases_of};
-ghost use Rattle.spec_analysis.specs.Disruption.{ends_in, ends_at, ends_in_cases};
-ghost use Rattle.spec_analysis.specs.Found.{first_required, where_disrupted, required_in, required_at, required_in_cases};
-ghost use Rattle.spec_analysis.specs.Uniformity.{Required};
+ghost use Rattle.ir_blocks.specs.found.View.{statement_view, block_view, case_view, cases_of};
+ghost use Rattle.spec_analysis.specs.judged.Disruption.{ends_in, ends_at, ends_in_cases};
+ghost use Rattle.spec_analysis.specs.found.Found.{first_required, where_disrupted, required_in, required_at, required_in_cases};
+ghost use Rattle.spec_analysis.specs.judged.Uniformity.{Required};
 ghost use Rattle.spec_analysis.specs.declared.uniformity.TheConstants.UniformityRequirements.{WORK_GROUP_BARRIER};
 ghost use Rattle.typing_uniformity.specs.Requiring.{varies_of, look_of, required_view};
 

@@ -1,4 +1,4 @@
-use Rattle.document_reader.specs.View.{document_view}
+use Rattle.document_reader.specs.found.View.{document_view}
 use Rattle.check_explanation.proofs.ExplainedLaws.{explained_if, listed_if, misread_if, misread_lines}
 use Rattle.check_explanation.proofs.explanation.explain.Goals as goal
 

@@ -1,4 +1,4 @@
-use Rattle.document_reader.specs.View.{document_view}
+use Rattle.document_reader.specs.found.View.{document_view}
 use Rattle.check_explanation.proofs.ExplainedLaws.{found_if, can_report, listed_in}
 use Rattle.check_explanation.proofs.explanation.explain_document.Goals as goal
 

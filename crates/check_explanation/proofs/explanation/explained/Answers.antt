@@ -1,7 +1,7 @@
 -- proofs/explanation/explained/Answers.antt
 use Rattle.std.proofs.Common.{◌≡◌, IfOk, subst, sym}
-use Rattle.ir_items.specs.View.{module_view}
-use Rattle.shader_check.specs.Examined.{finding_in}
+use Rattle.ir_items.specs.found.View.{module_view}
+use Rattle.shader_check.specs.found.Examined.{finding_in}
 use Rattle.check_explanation.specs.Explained.{finding_of}
 use Rattle.check_explanation.proofs.ExplainedLaws.{accepted_if, accepted_lines, refused_if, refused_lines}
 use Rattle.check_explanation.proofs.explanation.explained.Goals as goal

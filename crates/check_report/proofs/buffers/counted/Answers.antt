@@ -1,6 +1,6 @@
 use Rattle.std.proofs.Common.{unwrap_or, ap, ◌∙◌}
 use Rattle.typing_forms.proofs.Lookups.{inner_found}
-use Rattle.spec_interface.specs.Spaces.{array_base}
+use Rattle.spec_interface.specs.judged.Spaces.{array_base}
 use Rattle.check_report.proofs.buffers.counted.Goals as goal
 
 pub returns : goal.returns

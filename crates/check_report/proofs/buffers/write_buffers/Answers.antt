@@ -1,10 +1,10 @@
 use Rattle.std.proofs.Common.{◌++◌, string_bytes, ap, ◌∙◌}
-use Rattle.ir_arena.specs.Arenas.{value_at}
-use Rattle.ir_items.specs.GlobalView.{global_view}
-use Rattle.ir_items.specs.View.{module_view}
+use Rattle.ir_arena.specs.found.Arenas.{value_at}
+use Rattle.ir_items.specs.found.GlobalView.{global_view}
+use Rattle.ir_items.specs.found.View.{module_view}
 use Rattle.check_report.proofs.Counted.{global_found}
 use Rattle.check_report.proofs.Written.{each_more}
-use Rattle.judgement.specs.Lines.{buffer_of, buffers}
+use Rattle.judgement.specs.judged.Lines.{buffer_of, buffers}
 use Rattle.check_report.proofs.buffers.write_buffers.Goals as goal
 
 pub write_variable-requires-clause-typed : goal.write_variable-requires-clause-typed

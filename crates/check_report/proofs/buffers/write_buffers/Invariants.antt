@@ -1,7 +1,7 @@
 -- What is written and what the rest gives are what all give.
 use Rattle.std.proofs.Common.{◌≡◌, ◌++◌, drop, string_bytes}
-use Rattle.ir_items.specs.View.{module_view}
-use Rattle.judgement.specs.Lines.{each_from, buffer_of, buffers}
+use Rattle.ir_items.specs.found.View.{module_view}
+use Rattle.judgement.specs.judged.Lines.{each_from, buffer_of, buffers}
 use Rattle.check_report.proofs.buffers.write_buffers.Given as goal
 
 abbrev pub invariant-loop-number : goal.invariant-loop-number

@@ -1,8 +1,8 @@
 use Rattle.std.proofs.Common.{◌≡◌, ◌<◌, ◌++◌, length, string_bytes, sym, ap, subst, ◌∙◌}
 use Rattle.std.proofs.lemmas.Result.{on_ok_weaker}
-use Rattle.ir_items.specs.GlobalView.{global_view}
-use Rattle.judgement.specs.Lines.{buffer_line, buffer_of}
-use Rattle.ir_items.specs.View.{module_view}
+use Rattle.ir_items.specs.found.GlobalView.{global_view}
+use Rattle.judgement.specs.judged.Lines.{buffer_line, buffer_of}
+use Rattle.ir_items.specs.found.View.{module_view}
 use Rattle.check_report.proofs.Counted.{counted_there, buffer_told}
 use Rattle.check_report.proofs.buffers.write_variable.Goals as goal
 

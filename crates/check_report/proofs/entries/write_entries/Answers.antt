@@ -1,6 +1,6 @@
 use Rattle.std.proofs.lemmas.Option.{slice_get_read, slice_get-map}
 use Rattle.std.proofs.Common.{rules, ◌<◌, ◌∙◌, ap, length, option_map, refl, string_bytes}
-use Rattle.ir_items.specs.View.{entry_view, module_view}
+use Rattle.ir_items.specs.found.View.{entry_view, module_view}
 use Rattle.check_report.proofs.Written.{one_more}
 use Rattle.check_report.proofs.entries.write_entries.Goals as goal
 

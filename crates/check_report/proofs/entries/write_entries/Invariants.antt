@@ -1,6 +1,6 @@
 -- The lines of the entry points so far are written.
 use Rattle.std.proofs.Common.{string_bytes}
-use Rattle.ir_items.specs.View.{module_view}
+use Rattle.ir_items.specs.found.View.{module_view}
 use Rattle.check_report.specs.Reported.{Tells, AreEntryLines}
 use Rattle.check_report.proofs.entries.write_entries.Given as goal
 

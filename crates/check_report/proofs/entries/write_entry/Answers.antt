@@ -1,9 +1,9 @@
 use Rattle.std.proofs.Common.{ap, subst, ◌∙◌, filter_map}
 use Rattle.std.proofs.lemmas.Result.{on_ok_weaker}
 use Rattle.std.specs.Prelude.{◌≡◌, ◌↔◌, ◌++◌, string_bytes}
-use Rattle.typing_rules.specs.Laws.{IsAmong}
-use Rattle.judgement.specs.Lines.{variable_lines}
-use Rattle.ir_items.specs.View.{entry_view}
+use Rattle.typing_rules.specs.judged.Laws.{IsAmong}
+use Rattle.judgement.specs.judged.Lines.{variable_lines}
+use Rattle.ir_items.specs.found.View.{entry_view}
 use Rattle.check_report.specs.Reported.{numbers_of, Tells, ArePairLines}
 use Rattle.check_report.proofs.Written.{further}
 use Rattle.check_report.proofs.entries.write_entry.Goals as goal

@@ -1,7 +1,7 @@
 -- What is written and what the rest gives are what all give.
 use Rattle.std.proofs.Common.{◌≡◌, ◌++◌, drop, string_bytes}
-use Rattle.ir_items.specs.View.{entry_view}
-use Rattle.judgement.specs.Lines.{each_from, global_line}
+use Rattle.ir_items.specs.found.View.{entry_view}
+use Rattle.judgement.specs.judged.Lines.{each_from, global_line}
 use Rattle.check_report.proofs.entries.write_uses.Given as goal
 
 abbrev pub invariant-loop-number : goal.invariant-loop-number

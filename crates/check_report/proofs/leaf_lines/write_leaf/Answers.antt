@@ -1,9 +1,9 @@
 use Rattle.std.proofs.Common.{◌≡◌, ◌++◌, string_bytes, sym, ap, ◌∙◌}
 use Rattle.std.proofs.lemmas.Result.{on_ok_weaker}
-use Rattle.ir_types.specs.Plain.{inner_view}
+use Rattle.ir_types.specs.judged.Plain.{inner_view}
 use Rattle.check_report.proofs.LeavesWritten.{one_line}
 use Rattle.check_report.specs.Lines.{leaf_line}
-use Rattle.typing_forms.specs.Sizes.{type_size}
+use Rattle.typing_forms.specs.judged.Sizes.{type_size}
 use Rattle.check_report.proofs.leaf_lines.write_leaf.Goals as goal
 
 pub returns : goal.returns

@@ -1,7 +1,7 @@
 use Rattle.std.proofs.Common.{◌++◌, string_bytes, ap, ◌∙◌}
-use Rattle.ir_arena.specs.Arenas.{value_at}
-use Rattle.ir_items.specs.GlobalView.{global_view}
-use Rattle.ir_items.specs.View.{module_view}
+use Rattle.ir_arena.specs.found.Arenas.{value_at}
+use Rattle.ir_items.specs.found.GlobalView.{global_view}
+use Rattle.ir_items.specs.found.View.{module_view}
 use Rattle.check_report.proofs.Laid.{global_found}
 use Rattle.check_report.proofs.Reported.{each_more}
 use Rattle.check_report.specs.Lines.{described, leaf_report}

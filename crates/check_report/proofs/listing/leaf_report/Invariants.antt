@@ -1,8 +1,8 @@
 -- What is written and what the rest gives are what all give.
 use Rattle.std.proofs.Common.{◌≡◌, ◌++◌, drop, string_bytes}
-use Rattle.ir_items.specs.View.{module_view}
+use Rattle.ir_items.specs.found.View.{module_view}
 use Rattle.check_report.specs.Lines.{described, leaf_report}
-use Rattle.judgement.specs.Lines.{each_from}
+use Rattle.judgement.specs.judged.Lines.{each_from}
 use Rattle.check_report.proofs.listing.leaf_report.Given as goal
 
 abbrev pub invariant-loop-number : goal.invariant-loop-number

@@ -1,7 +1,7 @@
 use Rattle.std.proofs.Common.{◌≡◌, ◌<◌, ◌++◌, [], length, string_bytes, sym, ap, subst, ◌∙◌}
 use Rattle.std.proofs.lemmas.Result.{on_ok_weaker}
-use Rattle.ir_items.specs.GlobalView.{global_view}
-use Rattle.ir_items.specs.View.{module_view}
+use Rattle.ir_items.specs.found.GlobalView.{global_view}
+use Rattle.ir_items.specs.found.View.{module_view}
 use Rattle.check_report.proofs.Along.{many_types}
 use Rattle.check_report.proofs.Laid.{laid_in_range}
 use Rattle.check_report.proofs.Reported.{buffer_described, counted_there}
@@ -9,7 +9,7 @@ use Rattle.check_report.specs.Lines.{leaf_lines}
 use Rattle.check_report.specs.Paths.{parts_at, path_along}
 use Rattle.spec_buffers.proofs.Buffers.{types_go_back}
 use Rattle.spec_buffers.specs.Leaves.{leaves}
-use Rattle.typing_layout.specs.View.{tree_along}
+use Rattle.typing_layout.specs.judged.View.{tree_along}
 use Rattle.check_report.proofs.listing.write_variable.Goals as goal
 
 pub layout-layout-requires : goal.layout-layout-requires

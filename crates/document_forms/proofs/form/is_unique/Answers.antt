@@ -1,5 +1,5 @@
 use Rattle.std.proofs.Common.{sym, ◌∙◌}
-use Rattle.document_forms.specs.Inverse.{some_is}
+use Rattle.document_forms.specs.found.Inverse.{some_is}
 use Rattle.document_forms.proofs.form.is_unique.Goals as goal
 
 pub returns : goal.returns

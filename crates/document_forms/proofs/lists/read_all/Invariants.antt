@@ -1,6 +1,6 @@
 use Rattle.std.proofs.Common.{◌≡◌, drop, ◌++◌, option_map, map}
 use Rattle.serde_json.specs.View.{items_view}
-use Rattle.document_forms.specs.Decide.{each}
+use Rattle.document_forms.specs.found.Decide.{each}
 use Rattle.document_forms.proofs.lists.read_all.Given as goal
 
 -- what was found so far, and what the rest gives, is what all of it gives

@@ -1,7 +1,7 @@
 use Rattle.std.proofs.Common.{◌≡◌, length, ◌++◌, option_map, map}
 use Rattle.std.specs.Vec.Iter.{into_iter_items, into_iter_len}
 use Rattle.serde_json.specs.View.{items_view}
-use Rattle.document_forms.specs.Decide.{each}
+use Rattle.document_forms.specs.found.Decide.{each}
 use Rattle.document_forms.proofs.lists.take_items.Given as goal
 
 -- what was found so far, and what the rest gives, is what all of it gives

@@ -1,6 +1,6 @@
 use Rattle.std.proofs.Common.{ap, ◌∙◌}
 use Rattle.document_reader.proofs.Seam.{err_if, reads_document, reads_none, none_written, reason_of}
-use Rattle.document_reader.specs.Reasons.{of_part}
+use Rattle.document_reader.specs.found.Reasons.{of_part}
 use Rattle.document_reader.proofs.reading.take_document.Goals as goal
 
 pub returns-in_err-read_value-in-Ok-clause-reason : goal.returns-in_err-read_value-in-Ok-clause-reason

@@ -1,8 +1,8 @@
 use Rattle.std.proofs.Common.{◌≡◌, ◌+◌, ◌*◌, drop, map, ◌++◌, option_map}
 use Rattle.serde_json.specs.View.{items_view}
-use Rattle.ir_blocks.specs.View.{statement_view, case_view}
-use Rattle.document_forms.specs.Decide.{each}
-use Rattle.document_reader.specs.Statements.{statement_at, case_with, block_at}
+use Rattle.ir_blocks.specs.found.View.{statement_view, case_view}
+use Rattle.document_forms.specs.found.Decide.{each}
+use Rattle.document_reader.specs.found.Statements.{statement_at, case_with, block_at}
 use Rattle.document_reader.proofs.statements.+statements.Given as goal
 
 abbrev pub decreases-statement : goal.decreases-statement

@@ -1,7 +1,7 @@
 use Rattle.std.proofs.Common.{◌≡◌, ◌↔◌, Some, None, subst}
 use Rattle.module_expression_checks.proofs.OldValues.{by_test, by_none}
-use Rattle.spec_statements.specs.ExpressionResults.{IsExchangeOf}
-use Rattle.typing_forms.specs.Resolutions.{inner_at}
+use Rattle.spec_statements.specs.judged.ExpressionResults.{IsExchangeOf}
+use Rattle.typing_forms.specs.judged.Resolutions.{inner_at}
 use Rattle.typing_forms.specs.declared.form.Form.{Form}
 use Rattle.typing_forms.specs.declared.form.Form.TheVariants as form
 use Rattle.function_atomic_checks.proofs.atomics.is_exchange_of.Goals as goal

@@ -1,5 +1,5 @@
 use Rattle.std.proofs.Common.{sym}
-use Rattle.ir_items.specs.View.{function_view}
+use Rattle.ir_items.specs.found.View.{function_view}
 use Rattle.function_body_checks.proofs.Firsts.{always_reported}
 use Rattle.function_body_checks.proofs.always.has_always.Goals as goal
 

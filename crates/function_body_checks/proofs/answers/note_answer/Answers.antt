@@ -1,6 +1,6 @@
 use Rattle.std.proofs.Common.{rules, ◌≡◌, Some, false, inl, inr}
-use Rattle.ir_blocks.specs.View.{statement_view}
-use Rattle.spec_statements.specs.Results.{answer_of}
+use Rattle.ir_blocks.specs.found.View.{statement_view}
+use Rattle.spec_statements.specs.judged.Results.{answer_of}
 use Rattle.function_body_checks.proofs.Tables.{was_there}
 use Rattle.function_body_checks.proofs.answers.note_answer.Goals as goal
 

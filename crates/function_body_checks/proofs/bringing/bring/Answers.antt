@@ -1,7 +1,7 @@
 use Rattle.std.proofs.Common.{subst}
-use Rattle.ir_blocks.specs.View.{statement_view}
-use Rattle.ir_items.specs.View.{function_view}
-use Rattle.spec_statements.specs.Tables.{introduced}
+use Rattle.ir_blocks.specs.found.View.{statement_view}
+use Rattle.ir_items.specs.found.View.{function_view}
+use Rattle.spec_statements.specs.judged.Tables.{introduced}
 use Rattle.function_body_checks.specs.Carried.{AreBrought}
 use Rattle.function_body_checks.proofs.bringing.bring.Goals as goal
 

@@ -1,6 +1,6 @@
 use Rattle.std.proofs.Common.{rules, ◌≡◌, IfOk, Some, subst}
-use Rattle.ir_blocks.specs.View.{statement_view}
-use Rattle.ir_items.specs.View.{function_view}
+use Rattle.ir_blocks.specs.found.View.{statement_view}
+use Rattle.ir_items.specs.found.View.{function_view}
 use Rattle.ir_references.specs.First.{emitted_view}
 use Rattle.spec_handles.specs.Statements.{statement_range}
 use Rattle.function_body_checks.proofs.Tables.{emitted}

@@ -1,5 +1,5 @@
 use Rattle.std.proofs.Common.{refl}
-use Rattle.ir_items.specs.View.{function_view}
+use Rattle.ir_items.specs.found.View.{function_view}
 use Rattle.function_body_checks.proofs.Tables.{reported_known}
 use Rattle.function_body_checks.proofs.bringing.bring_one.Goals as goal
 

@@ -1,6 +1,6 @@
 use Rattle.std.proofs.Common.{rules, ◌≡◌, true, false, inl}
-use Rattle.ir_arena.specs.Handles.{handles_between}
-use Rattle.ir_items.specs.View.{function_view}
+use Rattle.ir_arena.specs.judged.Handles.{handles_between}
+use Rattle.ir_items.specs.found.View.{function_view}
 use Rattle.function_body_checks.proofs.Firsts.{known_found, known_stays, all_brought, none_brought}
 use Rattle.function_body_checks.proofs.bringing.bring_range.Goals as goal
 

@@ -1,6 +1,6 @@
 use Rattle.std.proofs.Common.{◌≡◌, inl, inr, subst, arith}
 use Rattle.std.proofs.lemmas.Bool.{cases_lt}
-use Rattle.ir_items.specs.View.{function_view}
+use Rattle.ir_items.specs.found.View.{function_view}
 use Rattle.function_body_checks.proofs.Firsts.{none_of_range}
 use Rattle.function_body_checks.proofs.Ranges.{between_contains}
 use Rattle.function_body_checks.proofs.Tables.{reported_known, reported_unknown}

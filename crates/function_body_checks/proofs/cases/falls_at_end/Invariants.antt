@@ -1,6 +1,6 @@
 use Rattle.std.proofs.Common.{◌≡◌, drop, map, false}
-use Rattle.ir_blocks.specs.View.{case_view, cases_of}
-use Rattle.spec_statements.specs.Switches.{falls_at_end}
+use Rattle.ir_blocks.specs.found.View.{case_view, cases_of}
+use Rattle.spec_statements.specs.judged.Switches.{falls_at_end}
 use Rattle.function_body_checks.proofs.cases.falls_at_end.Given as goal
 
 abbrev pub invariant-loop-case : goal.invariant-loop-case

@@ -2,7 +2,7 @@ use Rattle.std.proofs.Common.{◌≡◌, ◌≢◌, ℕ, ℤ, map, take, Contain
 use Rattle.std.specs.List.{AllPairs}
 use Rattle.std.specs.BTreeSet.{contains}
 use Rattle.ir_kinds.specs.declared.values.SwitchValue.{SwitchValue}
-use Rattle.spec_statements.specs.Switches.{FitsKind}
+use Rattle.spec_statements.specs.judged.Switches.{FitsKind}
 use Rattle.function_body_checks.proofs.CaseLemmas.{key_cmp, value_of, has_key}
 use Rattle.function_body_checks.proofs.cases.values_fault.Given as goal
 

@@ -1,6 +1,6 @@
 use Rattle.std.proofs.Common.{drop, map}
 use Rattle.typing_errors.specs.declared.error.FunctionError.{FunctionError}
-use Rattle.ir_blocks.specs.View.{statements_view, case_view, cases_of}
+use Rattle.ir_blocks.specs.found.View.{statements_view, case_view, cases_of}
 use Rattle.function_body_checks.specs.Allowed.{view_of, AllLeave, CasesLeave, LeavesIn, LeavesInCases}
 use Rattle.function_body_checks.proofs.control_walk.+walk.Given as goal
 

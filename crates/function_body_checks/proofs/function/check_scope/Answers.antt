@@ -1,5 +1,5 @@
 use Rattle.std.proofs.Common.{true≢false, sym, ◌∙◌}
-use Rattle.ir_items.specs.View.{function_view}
+use Rattle.ir_items.specs.found.View.{function_view}
 use Rattle.function_body_checks.proofs.FaultLaws.{reported_in_body, scope_fine, each_once, is_asked, all_answers, if_fault_then}
 use Rattle.function_body_checks.specs.Faults.{IsScopeFault}
 use Rattle.function_body_checks.proofs.function.check_scope.Goals as goal

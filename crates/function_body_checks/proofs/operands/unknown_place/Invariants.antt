@@ -1,5 +1,5 @@
 use Rattle.std.proofs.Common.{◌≡◌, drop}
-use Rattle.ir_items.specs.View.{function_view}
+use Rattle.ir_items.specs.found.View.{function_view}
 use Rattle.function_body_checks.specs.Carried.{known, place_lacking}
 use Rattle.function_body_checks.proofs.operands.unknown_place.Given as goal
 

@@ -1,5 +1,5 @@
 use Rattle.std.proofs.Common.{rules, ◌≡◌, None}
-use Rattle.ir_items.specs.View.{function_view}
+use Rattle.ir_items.specs.found.View.{function_view}
 use Rattle.function_body_checks.proofs.Tables.{all_placed}
 use Rattle.function_body_checks.specs.Carried.{known, place_lacking}
 use Rattle.function_body_checks.proofs.statement.argument_error.Goals as goal

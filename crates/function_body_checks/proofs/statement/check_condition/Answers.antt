@@ -1,7 +1,7 @@
 use Rattle.std.proofs.Common.{rules, ◌≡◌, Some, refl}
 use Rattle.typing_errors.specs.declared.expressions.ExpressionError.TheVariants.{NotInScope}
 use Rattle.typing_errors.specs.declared.error.FunctionError.TheVariants.{Expression}
-use Rattle.ir_items.specs.View.{function_view}
+use Rattle.ir_items.specs.found.View.{function_view}
 use Rattle.function_body_checks.proofs.Tables.{condition_known, condition_unknown, reported_known, reported_unknown}
 use Rattle.function_body_checks.proofs.statement.check_condition.Goals as goal
 

@@ -1,9 +1,9 @@
 use Rattle.std.proofs.Common.{rules, ℕ, Bool, List}
 use Rattle.std.proofs.lemmas.Result.{IfErr-weaker}
-use Rattle.ir_blocks.specs.Places.{statement as spot}
-use Rattle.ir_blocks.specs.View.{statement_view}
-use Rattle.ir_items.specs.Plain.{PlainFunction}
-use Rattle.ir_items.specs.View.{function_view}
+use Rattle.ir_blocks.specs.judged.Places.{statement as spot}
+use Rattle.ir_blocks.specs.found.View.{statement_view}
+use Rattle.ir_items.specs.judged.Plain.{PlainFunction}
+use Rattle.ir_items.specs.found.View.{function_view}
 use Rattle.function_body_checks.proofs.FaultLaws.{if_fault_then}
 use Rattle.function_body_checks.specs.Carried.{IfFault, IsFaultHere}
 use Rattle.function_body_checks.proofs.statement.check_own.Goals as goal

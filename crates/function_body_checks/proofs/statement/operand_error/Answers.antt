@@ -2,10 +2,10 @@ use Rattle.std.proofs.Common.{rules, ◌≡◌, None, Some, refl}
 use Rattle.typing_errors.specs.declared.expressions.ExpressionError.TheVariants.{NotInScope}
 use Rattle.typing_errors.specs.declared.error.FunctionError.TheVariants.{Expression}
 use Rattle.std.proofs.lemmas.Option.{IfSome_then}
-use Rattle.ir_blocks.specs.View.{statement_view}
-use Rattle.ir_items.specs.View.{function_view}
+use Rattle.ir_blocks.specs.found.View.{statement_view}
+use Rattle.ir_items.specs.found.View.{function_view}
 use Rattle.spec_handles.specs.Statements.{statement_callee}
-use Rattle.spec_statements.specs.Tables.{statement_checked}
+use Rattle.spec_statements.specs.judged.Tables.{statement_checked}
 use Rattle.function_body_checks.proofs.FaultLaws.{argument_fault, if_fault_then}
 use Rattle.function_body_checks.proofs.Tables.{all_known, not_known, operand_unknown}
 use Rattle.function_body_checks.specs.Carried.{known, first_lacking}

@@ -2,11 +2,11 @@ use Rattle.std.proofs.Common.{rules, ◌≡◌, map}
 use Rattle.ir_blocks.specs.declared.statements.Statement.{the_lemmas}
 use Rattle.std.proofs.lemmas.Result.{IfErr-weaker, on_ok_weaker}
 use Rattle.typing_errors.specs.declared.error.FunctionError.{FunctionError}
-use Rattle.ir_blocks.specs.Places.{statement}
+use Rattle.ir_blocks.specs.judged.Places.{statement}
 use Rattle.function_body_checks.proofs.FaultLaws.{if_fault_then}
-use Rattle.ir_blocks.specs.Plain.{if_, switch, loop}
-use Rattle.ir_blocks.specs.View.{statement_view, block_view, case_view, cases_of}
-use Rattle.ir_items.specs.View.{function_view}
+use Rattle.ir_blocks.specs.judged.Plain.{if_, switch, loop}
+use Rattle.ir_blocks.specs.found.View.{statement_view, block_view, case_view, cases_of}
+use Rattle.ir_items.specs.found.View.{function_view}
 use Rattle.function_body_checks.proofs.Walks.{if_fine, if_answered, if_wrong, switch_fine, loop_scope, loop_answered, loop_wrong}
 use Rattle.function_body_checks.specs.Carried.{FaultWithin, IfFault, IsFaultHere}
 use Rattle.function_body_checks.proofs.walk.+walk.Goals as goal

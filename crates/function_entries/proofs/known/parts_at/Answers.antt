@@ -1,7 +1,7 @@
 use Rattle.std.proofs.Common.{◌∙◌, map, sym, subst}
-use Rattle.ir_types.specs.Plain.{member_view}
+use Rattle.ir_types.specs.judged.Plain.{member_view}
 use Rattle.spec_interface.proofs.Places.{none_some, some_is}
-use Rattle.spec_interface.specs.Meshes.{AreParts}
+use Rattle.spec_interface.specs.judged.Meshes.{AreParts}
 use Rattle.function_entries.proofs.known.parts_at.Goals as goal
 
 pub returns-in-Some-parts_of : goal.returns-in-Some-parts_of

@@ -1,5 +1,5 @@
 use Rattle.std.proofs.Common.{sym, ap, ◌∙◌}
-use Rattle.spec_interface.specs.Meshes.{array_of}
+use Rattle.spec_interface.specs.judged.Meshes.{array_of}
 use Rattle.function_entries.proofs.meshes.array_at.Goals as goal
 
 pub returns-in-Some : goal.returns-in-Some

@@ -1,6 +1,6 @@
 use Rattle.std.proofs.Common.{◌∙◌, sym, true≢false}
 use Rattle.function_entries.proofs.MeshLaws.{is_said, otherwise, primitives_unlike, unlike, vertices_unlike}
-use Rattle.ir_items.specs.View.{module_view}
+use Rattle.ir_items.specs.found.View.{module_view}
 use Rattle.function_entries.proofs.meshes.check_implied.Goals as goal
 
 pub returns : goal.returns

@@ -1,4 +1,4 @@
-use Rattle.ir_items.specs.View.{module_view}
+use Rattle.ir_items.specs.found.View.{module_view}
 use Rattle.function_entries.proofs.MeshLaws.{said_refused}
 use Rattle.function_entries.proofs.meshes.check_said.Goals as goal
 

@@ -1,7 +1,7 @@
 use Rattle.std.proofs.Common.{sym, subst}
 use Rattle.spec_interface.proofs.Places.{found}
-use Rattle.ir_items.specs.GlobalView.{global_view}
-use Rattle.ir_items.specs.View.{module_view}
+use Rattle.ir_items.specs.found.GlobalView.{global_view}
+use Rattle.ir_items.specs.found.View.{module_view}
 use Rattle.function_entries.proofs.MeshLaws.{no_parts, variable_parts}
 use Rattle.function_entries.specs.MeshFaults.{IsImpliedFault}
 use Rattle.function_entries.proofs.meshes.fields_with.Goals as goal

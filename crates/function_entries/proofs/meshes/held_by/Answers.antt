@@ -1,7 +1,7 @@
 use Rattle.std.proofs.Common.{◌≡◌, ℕ, sym, ap, ◌∙◌}
 use Rattle.spec_interface.proofs.Places.{none_some, some_is}
 use Rattle.ir_types.specs.declared.types.ArraySize.{ArraySize}
-use Rattle.spec_interface.specs.Meshes.{most}
+use Rattle.spec_interface.specs.judged.Meshes.{most}
 use Rattle.function_entries.proofs.meshes.held_by.Goals as goal
 
 pub returns-in-None : goal.returns-in-None

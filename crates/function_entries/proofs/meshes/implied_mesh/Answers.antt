@@ -1,8 +1,8 @@
 use Rattle.std.proofs.Common.{◌≡◌, ◌∷◌, [], map, subst, sym}
-use Rattle.spec_interface.specs.Members.{topologies_at}
+use Rattle.spec_interface.specs.judged.Members.{topologies_at}
 use Rattle.function_entries.proofs.MeshLaws.{bad_primitives_of}
-use Rattle.ir_items.specs.View.{module_view}
-use Rattle.ir_types.specs.Plain.{member_view}
+use Rattle.ir_items.specs.found.View.{module_view}
+use Rattle.ir_types.specs.judged.Plain.{member_view}
 use Rattle.function_entries.proofs.meshes.implied_mesh.Goals as goal
 
 pub returns-in-None-topology_at : goal.returns-in-None-topology_at

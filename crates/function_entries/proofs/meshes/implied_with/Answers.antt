@@ -1,6 +1,6 @@
 use Rattle.std.proofs.Common.{◌≡◌, ◌∷◌, [], sym, subst}
-use Rattle.spec_interface.specs.Members.{topologies_at}
-use Rattle.ir_items.specs.View.{module_view}
+use Rattle.spec_interface.specs.judged.Members.{topologies_at}
+use Rattle.ir_items.specs.found.View.{module_view}
 use Rattle.function_entries.proofs.MeshLaws.{bad_primitives_by}
 use Rattle.function_entries.specs.MeshFaults.{IsImpliedFault}
 use Rattle.function_entries.proofs.meshes.implied_with.Goals as goal

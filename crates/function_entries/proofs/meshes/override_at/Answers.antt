@@ -1,8 +1,8 @@
 use Rattle.std.proofs.Common.{true≢false, sym, ap, ◌∙◌}
 use Rattle.std.specs.Prelude.{option_and_then}
 use Rattle.spec_interface.proofs.Places.{found, missing}
-use Rattle.ir_types.specs.ExpressionPlain.{expression_view}
-use Rattle.spec_interface.specs.Meshes.{override_of}
+use Rattle.ir_types.specs.judged.ExpressionPlain.{expression_view}
+use Rattle.spec_interface.specs.judged.Meshes.{override_of}
 use Rattle.function_entries.proofs.meshes.override_at.Goals as goal
 
 pub returns-in-Ok : goal.returns-in-Ok

@@ -1,11 +1,11 @@
 use Rattle.std.proofs.Common.{◌≡◌, Some, None, map, sym, subst}
 use Rattle.std.specs.Prelude.{MatchOption, option_and_then}
 use Rattle.spec_interface.proofs.Places.{found}
-use Rattle.ir_items.specs.GlobalPlain.{PlainGlobal}
-use Rattle.ir_items.specs.GlobalView.{global_view}
-use Rattle.ir_items.specs.View.{module_view}
-use Rattle.ir_types.specs.Plain.{member_view}
-use Rattle.spec_interface.specs.Members.{members_at}
+use Rattle.ir_items.specs.judged.GlobalPlain.{PlainGlobal}
+use Rattle.ir_items.specs.found.GlobalView.{global_view}
+use Rattle.ir_items.specs.found.View.{module_view}
+use Rattle.ir_types.specs.judged.Plain.{member_view}
+use Rattle.spec_interface.specs.judged.Members.{members_at}
 use Rattle.function_entries.proofs.meshes.variable_members.Goals as goal
 
 pub returns : goal.returns

@@ -4,8 +4,8 @@ use Rattle.function_entries.proofs.Reported.{given_refused}
 use Rattle.function_entries.specs.Contexts.{varying_context}
 use Rattle.function_entries.specs.VaryingFaults.{IsGivenFault}
 use Rattle.ir_items.specs.declared.functions.FunctionResult.{FunctionResult}
-use Rattle.ir_types.specs.Plain.{PlainType}
-use Rattle.spec_interface.specs.Varyings.{result_varyings, varyings_of}
+use Rattle.ir_types.specs.judged.Plain.{PlainType}
+use Rattle.spec_interface.specs.judged.Varyings.{result_varyings, varyings_of}
 use Rattle.spec_interface.specs.declared.varyings.Direction.TheVariants.{Output}
 use Rattle.function_varying_checks.specs.View.{context_view}
 use Rattle.function_entries.proofs.varyings.answered.Goals as goal

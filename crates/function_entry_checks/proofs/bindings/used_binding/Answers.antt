@@ -1,5 +1,5 @@
 use Rattle.function_entry_checks.proofs.UsedLaws.{bound_told}
-use Rattle.ir_items.specs.View.{module_view}
+use Rattle.ir_items.specs.found.View.{module_view}
 use Rattle.function_entry_checks.proofs.bindings.used_binding.Goals as goal
 
 pub returns : goal.returns

@@ -1,7 +1,7 @@
 use Rattle.std.proofs.Common.{◌∙◌}
 use Rattle.module_globals.proofs.SizeLemmas.{size_found, size_missing}
-use Rattle.ir_items.specs.View.{module_view}
-use Rattle.ir_types.specs.Plain.{inner_view}
+use Rattle.ir_items.specs.found.View.{module_view}
+use Rattle.ir_types.specs.judged.Plain.{inner_view}
 use Rattle.function_entry_checks.proofs.variables.bytes_of.Goals as goal
 
 pub returns-in-Some : goal.returns-in-Some

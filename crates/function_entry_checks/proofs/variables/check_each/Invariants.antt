@@ -1,6 +1,6 @@
 use Rattle.function_entry_checks.proofs.UsedLaws.{EachBelow}
-use Rattle.ir_items.specs.View.{entry_view, module_view}
-use Rattle.spec_analysis.specs.Summaries.{HasUseBit}
+use Rattle.ir_items.specs.found.View.{entry_view, module_view}
+use Rattle.spec_analysis.specs.judged.Summaries.{HasUseBit}
 use Rattle.function_entry_checks.proofs.variables.check_each.Given as goal
 
 -- those before this one are used as they may be

@@ -1,8 +1,8 @@
 use Rattle.std.proofs.Common.{sym, ◌∙◌}
 use borrow.Author.Tests.{eqb-true, eq-eqb}
 use Rattle.function_entry_checks.proofs.UsedLaws.{variable_allowed, variable_not_allowed}
-use Rattle.ir_items.specs.GlobalView.{global_view}
-use Rattle.ir_items.specs.View.{entry_view, module_view}
+use Rattle.ir_items.specs.found.GlobalView.{global_view}
+use Rattle.ir_items.specs.found.View.{entry_view, module_view}
 use Rattle.function_entry_checks.proofs.variables.check_variable.Goals as goal
 
 pub returns-then-contains : goal.returns-then-contains

@@ -1,6 +1,6 @@
 use Rattle.std.proofs.Common.{◌≡◌, true, not, nat_eq, true≢false, sym, subst}
 use Rattle.function_entry_checks.proofs.UsedLaws.{immediate_told, unused_by}
-use Rattle.ir_items.specs.View.{module_view}
+use Rattle.ir_items.specs.found.View.{module_view}
 use Rattle.function_entry_checks.proofs.variables.is_used_immediate.Goals as goal
 
 pub returns-then-use_at-ne0 : goal.returns-then-use_at-ne0

@@ -2,7 +2,7 @@ use Rattle.std.proofs.Common.{map, refl}
 use Rattle.function_interface.specs.Analysis.{IsFaultBefore, in_analysis}
 use Rattle.function_interface.specs.Question.{question}
 use Rattle.function_interface.proofs.RefusedAs.{refused_as}
-use Rattle.ir_items.specs.View.{function_view, module_view}
+use Rattle.ir_items.specs.found.View.{function_view, module_view}
 use Rattle.function_interface.proofs.analysed.analyse_function.Goals as goal
 
 pub returns-in-Ok-analyse-clause-kept : goal.returns-in-Ok-analyse-clause-kept

@@ -2,8 +2,8 @@ use Rattle.std.proofs.Common.{◌≡◌, Some, slice_get, sym, subst, arith}
 use Rattle.module_context.proofs.Lookups.{found, many_viewed}
 use Rattle.function_interface.proofs.AnsweredLemmas.{one_unanswered, answered_more, answered_all}
 use Rattle.function_interface.specs.Answered.{IsUnanswered}
-use Rattle.ir_types.specs.ExpressionPlain.{expression_view}
-use Rattle.ir_items.specs.View.{function_view}
+use Rattle.ir_types.specs.judged.ExpressionPlain.{expression_view}
+use Rattle.ir_items.specs.found.View.{function_view}
 use Rattle.function_interface.proofs.answered.check_answered.Goals as goal
 
 pub returns-then-not-is_answered : goal.returns-then-not-is_answered

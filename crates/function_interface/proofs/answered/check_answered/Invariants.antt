@@ -1,5 +1,5 @@
 use Rattle.function_interface.specs.Answered.{AnsweredBelow}
-use Rattle.ir_items.specs.View.{function_view}
+use Rattle.ir_items.specs.found.View.{function_view}
 use Rattle.function_interface.proofs.answered.check_answered.Given as goal
 
 -- those before have been answered

@@ -1,4 +1,4 @@
-use Rattle.ir_items.specs.View.{function_view, module_view}
+use Rattle.ir_items.specs.found.View.{function_view, module_view}
 use Rattle.function_interface.proofs.ArityLaws.{never_missing}
 use Rattle.function_interface.proofs.arities.check_arities.Goals as goal
 

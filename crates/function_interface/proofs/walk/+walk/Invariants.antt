@@ -1,5 +1,5 @@
 use Rattle.std.proofs.Common.{◌≡◌, drop, map}
-use Rattle.ir_blocks.specs.View.{statements_view, case_view, cases_of}
+use Rattle.ir_blocks.specs.found.View.{statements_view, case_view, cases_of}
 use Rattle.function_interface.specs.Left.{left_in, left_in_cases}
 use Rattle.function_interface.proofs.walk.+walk.Given as goal
 

@@ -1,4 +1,4 @@
-use Rattle.ir_blocks.specs.View.{block_view}
+use Rattle.ir_blocks.specs.found.View.{block_view}
 use Rattle.function_interface.proofs.Runs.{run_by}
 use Rattle.function_interface.proofs.walk.stages_of.Goals as goal
 

@@ -1,7 +1,7 @@
 use Rattle.std.proofs.Common.{refl, ap, length, arith}
 use Rattle.function_interface.proofs.Below.{one_more, all_below, viewed_at, as_many_viewed}
-use Rattle.ir_items.specs.View.{argument_view}
-use Rattle.spec_statements.specs.Interfaces.{ArgumentOK}
+use Rattle.ir_items.specs.found.View.{argument_view}
+use Rattle.spec_statements.specs.judged.Interfaces.{ArgumentOK}
 use Rattle.function_statement_checks.specs.View.{context_view}
 use Rattle.function_interface_checks.proofs.arguments.check_arguments.Goals as goal
 

@@ -1,7 +1,7 @@
 use Rattle.std.proofs.Common.{arith, refl}
 use Rattle.module_context.proofs.Absent.{known_flag}
 use Rattle.function_interface_checks.proofs.Known.{taken_past}
-use Rattle.typing_layout.specs.Flags.{Argument}
+use Rattle.typing_layout.specs.judged.Flags.{Argument}
 use Rattle.function_interface_checks.proofs.flags.is_argument.Goals as goal
 
 pub returns-in-Some : goal.returns-in-Some

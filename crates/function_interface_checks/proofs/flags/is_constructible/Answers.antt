@@ -1,6 +1,6 @@
 use Rattle.std.proofs.Common.{arith, refl}
 use Rattle.module_context.proofs.Absent.{known_flag, absent_flag, none_composed}
-use Rattle.typing_layout.specs.Flags.{Constructible}
+use Rattle.typing_layout.specs.judged.Flags.{Constructible}
 use Rattle.function_interface_checks.proofs.flags.is_constructible.Goals as goal
 
 pub returns-in-Some : goal.returns-in-Some

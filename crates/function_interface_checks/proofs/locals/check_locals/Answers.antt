@@ -2,8 +2,8 @@ use Rattle.std.proofs.Common.{◌≡◌, Some, slice_get, refl, sym, subst, arit
 use Rattle.module_context.proofs.Lookups.{found, many_viewed}
 use Rattle.function_interface.proofs.Below.{one_more, all_below}
 use Rattle.function_interface.specs.Items.{EachBelow}
-use Rattle.ir_items.specs.View.{local_view}
-use Rattle.spec_statements.specs.Interfaces.{LocalOK}
+use Rattle.ir_items.specs.found.View.{local_view}
+use Rattle.spec_statements.specs.judged.Interfaces.{LocalOK}
 use Rattle.function_statement_checks.specs.View.{context_view}
 use Rattle.function_interface_checks.proofs.locals.check_locals.Goals as goal
 

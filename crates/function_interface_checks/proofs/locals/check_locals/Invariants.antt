@@ -1,5 +1,5 @@
 use Rattle.function_interface.specs.Items.{EachBelow}
-use Rattle.spec_statements.specs.Interfaces.{LocalOK}
+use Rattle.spec_statements.specs.judged.Interfaces.{LocalOK}
 use Rattle.function_statement_checks.specs.View.{context_view}
 use Rattle.function_interface_checks.proofs.locals.check_locals.Given as goal
 

@@ -2,7 +2,7 @@ use Rattle.std.proofs.Common.{◌≡◌, arith, length}
 use Rattle.module_context.proofs.Constness.{past_the_last}
 use Rattle.module_context.proofs.Lookups.{many_viewed}
 use Rattle.function_interface_checks.proofs.Known.{known_early, unknown_past}
-use Rattle.ir_types.specs.ExpressionPlain.{expression_view}
+use Rattle.ir_types.specs.judged.ExpressionPlain.{expression_view}
 use Rattle.function_statement_checks.specs.View.{context_view}
 use Rattle.function_interface_checks.proofs.locals.is_known.Goals as goal
 

@@ -1,5 +1,5 @@
 use Rattle.std.proofs.Common.{sym, ◌∙◌, subst}
-use Rattle.ir_items.specs.View.{function_view, module_view}
+use Rattle.ir_items.specs.found.View.{function_view, module_view}
 use Rattle.function_real_lower.specs.Processed.{IsAnalysisFault, non_uniform}
 use Rattle.function_real_lower.proofs.process.check_uniformity.Goals as goal
 

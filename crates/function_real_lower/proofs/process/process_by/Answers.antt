@@ -1,5 +1,5 @@
 use Rattle.std.proofs.Common.{map}
-use Rattle.ir_items.specs.View.{function_view, module_view}
+use Rattle.ir_items.specs.found.View.{function_view, module_view}
 use Rattle.typing_infos.specs.Infos.{summary_of}
 use Rattle.spec_analysis.proofs.SummaryLaws.{summary_of_joined}
 use Rattle.module_handles.proofs.SameLemmas.{same_order}

@@ -1,4 +1,4 @@
-use Rattle.ir_items.specs.View.{module_view}
+use Rattle.ir_items.specs.found.View.{module_view}
 use Rattle.typing_uniformity.proofs.Nearest.{nothing_known}
 use Rattle.function_real_lower.proofs.process.process_function.Goals as goal
 

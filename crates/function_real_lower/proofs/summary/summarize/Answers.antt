@@ -1,5 +1,5 @@
 use Rattle.std.proofs.Common.{map, subst}
-use Rattle.ir_items.specs.View.{function_view, module_view}
+use Rattle.ir_items.specs.found.View.{function_view, module_view}
 use Rattle.typing_infos.specs.Infos.{summary_of}
 use Rattle.typing_summaries.specs.Tallied.{IsTally}
 use Rattle.typing_summaries.specs.Tallies.{tallied}

@@ -1,4 +1,4 @@
-use Rattle.ir_items.specs.View.{function_view}
+use Rattle.ir_items.specs.found.View.{function_view}
 use Rattle.function_statement_checks.specs.Calls.{PassesBelow}
 use Rattle.function_statement_checks.proofs.calls.arguments_fault.Given as goal
 

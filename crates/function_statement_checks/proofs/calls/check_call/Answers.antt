@@ -1,5 +1,5 @@
 use Rattle.std.proofs.Common.{refl, sym, ◌∙◌, true≢false}
-use Rattle.ir_items.specs.View.{function_view}
+use Rattle.ir_items.specs.found.View.{function_view}
 use Rattle.function_statement_checks.proofs.calls.check_call.Goals as goal
 
 pub returns-in-Some-arguments_fault : goal.returns-in-Some-arguments_fault

@@ -2,7 +2,7 @@ use Rattle.std.proofs.Common.{◌≡◌, ◌↔◌, [], ◌∷◌, ◌++◌, IsT
 use Rattle.function_statement_checks.specs.Descriptors.{AreDescriptors, IsDescriptorAt}
 use Rattle.function_statement_checks.proofs.DescriptorLemmas.{longer, none_marked, one_marked}
 use Rattle.function_statement_checks.proofs.descriptors.marks_of.Goals as goal
-use Rattle.typing_forms.specs.Resolutions.{types_view}
+use Rattle.typing_forms.specs.judged.Resolutions.{types_view}
 
 pub loop-index-init : goal.loop-index-init
 loop-index-init c =

@@ -1,5 +1,5 @@
 use Rattle.std.proofs.Common.{rules, sym}
-use Rattle.spec_statements.specs.Stores.{itself, through}
+use Rattle.spec_statements.specs.judged.Stores.{itself, through}
 use Rattle.function_statement_checks.proofs.pointers.beginning_of.Goals as goal
 
 pub loop-base-preserved : goal.loop-base-preserved

@@ -1,5 +1,5 @@
 use Rattle.std.proofs.Common.{ℕ}
-use Rattle.spec_statements.specs.Stores.{BeginsAt}
+use Rattle.spec_statements.specs.judged.Stores.{BeginsAt}
 use Rattle.function_statement_checks.proofs.pointers.beginning_of.Given as goal
 
 abbrev pub decreases-loop-base : goal.decreases-loop-base

@@ -1,7 +1,7 @@
 use Rattle.std.proofs.Common.{◌≡◌, rules, sym, subst}
-use Rattle.ir_blocks.specs.Places.{Place, OccursAt}
-use Rattle.ir_blocks.specs.Plain.{PlainStatement}
-use Rattle.ir_blocks.specs.View.{block_view}
+use Rattle.ir_blocks.specs.judged.Places.{Place, OccursAt}
+use Rattle.ir_blocks.specs.judged.Plain.{PlainStatement}
+use Rattle.ir_blocks.specs.found.View.{block_view}
 use Rattle.function_statements.proofs.Places.{all_fine, one_wrong}
 use Rattle.function_statements.specs.Bodies.{IsWrong}
 use Rattle.function_statements.specs.Faults.{IsBodyFault}

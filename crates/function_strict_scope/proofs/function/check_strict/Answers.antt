@@ -1,5 +1,5 @@
 use Rattle.std.proofs.Common.{subst, sym}
-use Rattle.ir_items.specs.View.{function_view}
+use Rattle.ir_items.specs.found.View.{function_view}
 use Rattle.function_strict_scope.proofs.Errors.{if_fault_then}
 use Rattle.function_strict_scope.proofs.Places.{strict_met, reported_in_body}
 use Rattle.function_strict_scope.specs.Faults.{IsStrictFault}

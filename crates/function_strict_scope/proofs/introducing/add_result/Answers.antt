@@ -1,5 +1,5 @@
 use Rattle.std.proofs.Common.{◌≡◌, ◌++◌, ap, sym, subst, ◌∙◌}
-use Rattle.ir_arena.specs.Handles.{handles_between}
+use Rattle.ir_arena.specs.judged.Handles.{handles_between}
 use Rattle.function_strict_scope.proofs.LiveLemmas.{one_between}
 use Rattle.function_strict_scope.specs.Live.{Follows}
 use Rattle.function_strict_scope.proofs.introducing.add_result.Goals as goal

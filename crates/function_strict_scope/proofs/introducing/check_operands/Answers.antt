@@ -1,5 +1,5 @@
 use Rattle.std.proofs.Common.{rules, ◌≡◌, None, Some, inl, refl, slice_get}
-use Rattle.ir_items.specs.View.{function_view}
+use Rattle.ir_items.specs.found.View.{function_view}
 use Rattle.function_body_checks.proofs.Tables.{all_known, not_known}
 use Rattle.function_body_checks.specs.Carried.{known, first_lacking}
 use Rattle.function_strict_scope.specs.Tables.{operands_given}

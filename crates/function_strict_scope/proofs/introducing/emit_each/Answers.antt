@@ -1,7 +1,7 @@
 use Rattle.std.proofs.Common.{rules, ◌∷◌, []}
-use Rattle.ir_arena.specs.Handles.{handles_between}
-use Rattle.ir_items.specs.View.{function_view}
-use Rattle.ir_items.specs.Plain.{PlainFunction}
+use Rattle.ir_arena.specs.judged.Handles.{handles_between}
+use Rattle.ir_items.specs.found.View.{function_view}
+use Rattle.ir_items.specs.judged.Plain.{PlainFunction}
 use Rattle.function_strict_scope.proofs.Errors.{if_fault_then}
 use Rattle.function_strict_scope.proofs.Ranges.{only_again, range_fault}
 use Rattle.function_strict_scope.specs.Walked.{IfFault, IsFaultOfNew}

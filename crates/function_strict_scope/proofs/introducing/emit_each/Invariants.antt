@@ -1,5 +1,5 @@
-use Rattle.ir_arena.specs.Handles.{handles_between}
-use Rattle.ir_items.specs.View.{function_view}
+use Rattle.ir_arena.specs.judged.Handles.{handles_between}
+use Rattle.ir_items.specs.found.View.{function_view}
 use Rattle.function_strict_scope.proofs.Ranges.{LeadsRange}
 use Rattle.function_strict_scope.proofs.introducing.emit_each.Given as goal
 

@@ -1,5 +1,5 @@
 use Rattle.std.proofs.Common.{◌≡◌, drop}
-use Rattle.ir_items.specs.View.{function_view}
+use Rattle.ir_items.specs.found.View.{function_view}
 use Rattle.function_body_checks.specs.Carried.{known, first_lacking}
 use Rattle.function_strict_scope.proofs.introducing.first_of.Given as goal
 

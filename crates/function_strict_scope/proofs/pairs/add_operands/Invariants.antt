@@ -1,5 +1,5 @@
 use Rattle.std.proofs.Common.{◌≡◌, ℕ, length, drop}
-use Rattle.ir_items.specs.View.{function_view}
+use Rattle.ir_items.specs.found.View.{function_view}
 use Rattle.function_operand_index.specs.Index.{ArePaired}
 use Rattle.function_strict_scope.proofs.LiveLemmas.{LeadsPaired}
 use Rattle.function_strict_scope.proofs.pairs.add_operands.Given as goal

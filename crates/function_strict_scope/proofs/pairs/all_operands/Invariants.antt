@@ -1,5 +1,5 @@
 use Rattle.std.proofs.Common.{◌≡◌, ℕ, ◌<◌, length}
-use Rattle.ir_items.specs.View.{function_view}
+use Rattle.ir_items.specs.found.View.{function_view}
 use Rattle.function_strict_scope.specs.Live.{IsIndexed}
 use Rattle.function_strict_scope.proofs.pairs.all_operands.Given as goal
 

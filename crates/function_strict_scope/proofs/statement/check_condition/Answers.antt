@@ -1,5 +1,5 @@
 use Rattle.std.proofs.Common.{rules, ◌≡◌, Some}
-use Rattle.ir_items.specs.View.{function_view}
+use Rattle.ir_items.specs.found.View.{function_view}
 use Rattle.function_body_checks.proofs.Tables.{reported_known, reported_unknown}
 use Rattle.function_strict_scope.proofs.Statements.{condition_known, condition_fault}
 use Rattle.function_strict_scope.proofs.statement.check_condition.Goals as goal

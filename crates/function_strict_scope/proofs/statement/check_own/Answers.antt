@@ -1,7 +1,7 @@
 use Rattle.std.proofs.Common.{rules, ℕ, List}
-use Rattle.ir_blocks.specs.Places.{statement as spot}
-use Rattle.ir_blocks.specs.View.{statement_view}
-use Rattle.ir_items.specs.View.{function_view}
+use Rattle.ir_blocks.specs.judged.Places.{statement as spot}
+use Rattle.ir_blocks.specs.found.View.{statement_view}
+use Rattle.ir_items.specs.found.View.{function_view}
 use Rattle.function_strict_scope.proofs.Errors.{if_fault_then}
 use Rattle.function_strict_scope.specs.Walked.{IfFault, IsFaultHere}
 use Rattle.function_strict_scope.proofs.statement.check_own.Goals as goal

@@ -2,11 +2,11 @@ use Rattle.std.proofs.Common.{rules, ◌≡◌, ◌++◌, ◌∙◌, map}
 use Rattle.ir_blocks.specs.declared.statements.Statement.{the_lemmas}
 use Rattle.std.proofs.lemmas.Result.{on_ok_weaker}
 use Rattle.typing_errors.specs.declared.error.FunctionError.{FunctionError}
-use Rattle.ir_blocks.specs.Places.{statement}
-use Rattle.ir_blocks.specs.Plain.{if_, switch, loop}
-use Rattle.ir_blocks.specs.View.{statement_view, block_view, case_view, cases_of}
-use Rattle.ir_items.specs.View.{function_view}
-use Rattle.spec_statements.specs.SureLevel.{sure_level}
+use Rattle.ir_blocks.specs.judged.Places.{statement}
+use Rattle.ir_blocks.specs.judged.Plain.{if_, switch, loop}
+use Rattle.ir_blocks.specs.found.View.{statement_view, block_view, case_view, cases_of}
+use Rattle.ir_items.specs.found.View.{function_view}
+use Rattle.spec_statements.specs.found.SureLevel.{sure_level}
 use Rattle.function_strict_scope.proofs.Errors.{if_fault_then}
 use Rattle.function_strict_scope.proofs.Walks.{left_told, if_meets, if_wrong, switch_meets, switch_wrong, body_left, loop_scope, loop_meets, continuing_wrong, condition_wrong}
 use Rattle.function_strict_scope.specs.Walked.{FaultWithin, IfFault, IsFaultHere}

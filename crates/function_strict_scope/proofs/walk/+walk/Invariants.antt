@@ -1,6 +1,6 @@
 use Rattle.std.proofs.Common.{◌≡◌, drop, map}
-use Rattle.ir_blocks.specs.View.{statements_view, case_view, cases_of}
-use Rattle.ir_items.specs.View.{function_view}
+use Rattle.ir_blocks.specs.found.View.{statements_view, case_view, cases_of}
+use Rattle.ir_items.specs.found.View.{function_view}
 use Rattle.function_strict_scope.proofs.Walks.{Leads, LeadsCases}
 use Rattle.function_strict_scope.specs.Live.{Follows}
 use Rattle.function_strict_scope.proofs.walk.+walk.Given as goal

@@ -1,5 +1,5 @@
 use Rattle.std.proofs.Common.{sym, subst}
-use Rattle.ir_items.specs.View.{function_view, module_view}
+use Rattle.ir_items.specs.found.View.{function_view, module_view}
 use Rattle.function_tiny_lower.specs.Readings.{IsTypeFault, untyped}
 use Rattle.function_tiny_lower.proofs.types.refused.Goals as goal
 

@@ -1,6 +1,6 @@
 use Rattle.std.proofs.Common.{◌≡◌, ◌+◌, [], ◌∷◌, ◌++◌, Some, None, map, sym, subst}
-use Rattle.ir_types.specs.ExpressionPlain.{expression_view}
-use Rattle.ir_items.specs.View.{function_view, module_view}
+use Rattle.ir_types.specs.judged.ExpressionPlain.{expression_view}
+use Rattle.ir_items.specs.found.View.{function_view, module_view}
 use Rattle.function_tiny_lower.proofs.Typed.{occurs_at, AreFound, found_more, found_untyped}
 use Rattle.function_tiny_lower.specs.Typing.{expression_type, IsUntyped}
 use Rattle.function_tiny_lower.proofs.types.types_of.Goals as goal

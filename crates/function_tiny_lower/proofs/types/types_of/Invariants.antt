@@ -1,4 +1,4 @@
-use Rattle.ir_items.specs.View.{function_view, module_view}
+use Rattle.ir_items.specs.found.View.{function_view, module_view}
 use Rattle.function_tiny_lower.proofs.Typed.{AreFound}
 use Rattle.function_tiny_lower.proofs.types.types_of.Given as goal
 

@@ -2,8 +2,8 @@ use Rattle.std.proofs.Common.{subst, sym}
 use Rattle.function_validator.proofs.Marks.{as_many, all_answer, unanswered}
 use Rattle.function_validator.specs.Faults.{IsUnanswered}
 use Rattle.function_interface.specs.Answered.{AllAnswered, IsUnansweredFault}
-use Rattle.ir_arena.specs.Arenas.{value_of_entry}
-use Rattle.ir_types.specs.ExpressionPlain.{expression_view}
+use Rattle.ir_arena.specs.found.Arenas.{value_of_entry}
+use Rattle.ir_types.specs.judged.ExpressionPlain.{expression_view}
 use Rattle.function_statement_checks.specs.View.{context_view}
 use Rattle.function_validator.proofs.answers.check_answers.Goals as goal
 

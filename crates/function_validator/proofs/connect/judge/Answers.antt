@@ -4,11 +4,11 @@ use Rattle.function_entry_checks.specs.Faults.{IsRefusedFor}
 use Rattle.function_entries.specs.ConnectionFaults.{IsConnectionFault}
 use Rattle.function_validator.proofs.EntryWhole.{refused_as, unconnected}
 use Rattle.function_validator.specs.EntryFaults.{IsUnconnected}
-use Rattle.ir_arena.specs.Arenas.{value_of_entry}
-use Rattle.ir_items.specs.GlobalView.{global_view, values_of}
-use Rattle.ir_items.specs.View.{entry_view, module_view}
-use Rattle.spec_analysis.specs.Summaries.{HasUseBit}
-use Rattle.spec_interface.specs.Entries.{ConnectionsOK}
+use Rattle.ir_arena.specs.found.Arenas.{value_of_entry}
+use Rattle.ir_items.specs.found.GlobalView.{global_view, values_of}
+use Rattle.ir_items.specs.found.View.{entry_view, module_view}
+use Rattle.spec_analysis.specs.judged.Summaries.{HasUseBit}
+use Rattle.spec_interface.specs.judged.Entries.{ConnectionsOK}
 use Rattle.module_type_checks.specs.Known.{AreInfos}
 use Rattle.function_validator.proofs.connect.judge.Goals as goal
 

@@ -1,4 +1,4 @@
-use Rattle.ir_items.specs.View.{module_view}
+use Rattle.ir_items.specs.found.View.{module_view}
 use Rattle.function_validator.proofs.entry.validate_entry_point.Goals as goal
 
 pub validate_entry_point_with-requires-clause-interfaces : goal.validate_entry_point_with-requires-clause-interfaces

@@ -7,13 +7,13 @@ use Rattle.function_validator.specs.Faults.{IsFunctionFault}
 use Rattle.function_interface.specs.Analysis.{IsRefusedFor as IsFunctionRefusedFor}
 use Rattle.function_interface.specs.Question.{question}
 use Rattle.ir_flags.specs.Sets.{Has}
-use Rattle.ir_items.specs.View.{entry_view, module_view}
-use Rattle.spec_analysis.specs.Chains.{HasUse}
-use Rattle.spec_analysis.specs.Summaries.{HasUseBit}
-use Rattle.spec_interface.specs.Uses.{EntryUses}
-use Rattle.spec_statements.specs.ExpressionStages.{all_stages}
-use Rattle.spec_statements.specs.Functions.{AllowsStage, FunctionOK, FunctionSettings}
-use Rattle.spec_statements.specs.Payloads.{IsPayloadAfter}
+use Rattle.ir_items.specs.found.View.{entry_view, module_view}
+use Rattle.spec_analysis.specs.judged.Chains.{HasUse}
+use Rattle.spec_analysis.specs.judged.Summaries.{HasUseBit}
+use Rattle.spec_interface.specs.judged.Uses.{EntryUses}
+use Rattle.spec_statements.specs.judged.ExpressionStages.{all_stages}
+use Rattle.spec_statements.specs.judged.Functions.{AllowsStage, FunctionOK, FunctionSettings}
+use Rattle.spec_statements.specs.judged.Payloads.{IsPayloadAfter}
 use Rattle.function_validator.proofs.entry.validate_entry_point_with.Goals as goal
 
 pub returns-in-Err-clause-judged : goal.returns-in-Err-clause-judged

@@ -1,6 +1,6 @@
 use Rattle.std.proofs.Common.{◌≡◌, [], ◌∷◌, ◌++◌, Some, map, take, slice_get, ap, sym, subst, ◌∙◌}
 use Rattle.function_validator.proofs.TakeLaws.{one_more_taken}
-use Rattle.typing_forms.specs.Resolutions.{types_view}
+use Rattle.typing_forms.specs.judged.Resolutions.{types_view}
 use Rattle.typing_errors.specs.Answers.{form_given}
 use Rattle.function_validator.proofs.forms.forms_of.Goals as goal
 

@@ -1,5 +1,5 @@
 use Rattle.std.proofs.Common.{◌≡◌, map, take}
-use Rattle.typing_forms.specs.Resolutions.{types_view}
+use Rattle.typing_forms.specs.judged.Resolutions.{types_view}
 use Rattle.typing_errors.specs.Answers.{form_given}
 use Rattle.function_validator.proofs.forms.forms_of.Given as goal
 

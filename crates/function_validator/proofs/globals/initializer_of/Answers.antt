@@ -2,8 +2,8 @@ use Rattle.std.proofs.Common.{Some, sym, subst, arith}
 use Rattle.module_globals.proofs.Begins.{known_by}
 use Rattle.module_globals.specs.Initializers.{IsInitializer, IsTypedBy}
 use Rattle.module_globals.specs.declared.context.Initializer.{Initializer}
-use Rattle.ir_items.specs.GlobalView.{global_view}
-use Rattle.ir_items.specs.View.{module_view}
+use Rattle.ir_items.specs.found.GlobalView.{global_view}
+use Rattle.ir_items.specs.found.View.{module_view}
 use Rattle.module_handles.proofs.Origins.{order_gives_origins}
 use Rattle.typing_layout.specs.declared.constness.ExpressionKind.TheVariants.{Const}
 use Rattle.function_validator.proofs.GlobalLemmas.{value_there}

@@ -1,5 +1,5 @@
-use Rattle.ir_items.specs.GlobalView.{global_view}
-use Rattle.ir_items.specs.View.{module_view}
+use Rattle.ir_items.specs.found.GlobalView.{global_view}
+use Rattle.ir_items.specs.found.View.{module_view}
 use Rattle.module_handles.proofs.Whole.{conditions}
 use Rattle.function_validator.proofs.GlobalLemmas.{is_placed}
 use Rattle.function_validator.proofs.globals.validate_global_var.Goals as goal

@@ -4,7 +4,7 @@ use Rattle.std.specs.Prelude.{◌↔◌}
 use Rattle.spec_analysis.specs.declared.global_use.GlobalUse.{GlobalUse}
 use Rattle.spec_analysis.specs.declared.global_use.TheConstants.GlobalUse.{READ}
 use Rattle.function_validator.proofs.Noted.{put_both}
-use Rattle.spec_analysis.specs.Summaries.{HasUseBit}
+use Rattle.spec_analysis.specs.judged.Summaries.{HasUseBit}
 use Rattle.function_validator.proofs.uses.note_own.Goals as goal
 
 pub returns-clause-uses : goal.returns-clause-uses

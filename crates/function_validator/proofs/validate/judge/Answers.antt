@@ -1,4 +1,4 @@
-use Rattle.ir_items.specs.View.{function_view}
+use Rattle.ir_items.specs.found.View.{function_view}
 use Rattle.function_validator.proofs.Bases.{bases_precede}
 use Rattle.module_handles.proofs.Origins.{origins}
 use Rattle.function_validator.proofs.validate.judge.Goals as goal

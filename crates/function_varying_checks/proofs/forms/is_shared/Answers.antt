@@ -1,5 +1,5 @@
 use Rattle.std.proofs.Common.{arith}
-use Rattle.typing_forms.specs.Resolutions.{types_view}
+use Rattle.typing_forms.specs.judged.Resolutions.{types_view}
 use Rattle.function_varying_checks.proofs.Reported.{known_shared, none_shared}
 use Rattle.function_varying_checks.proofs.forms.is_shared.Goals as goal
 

@@ -1,8 +1,8 @@
 -- What was added with the rest is what all add.
 use Rattle.std.proofs.Common.{◌≡◌, ◌++◌, drop, map}
-use Rattle.ir_items.specs.View.{argument_view}
-use Rattle.spec_interface.specs.Varyings.{argument_varyings, argument_varyings_from}
-use Rattle.typing_forms.specs.Resolutions.{types_view}
+use Rattle.ir_items.specs.found.View.{argument_view}
+use Rattle.spec_interface.specs.judged.Varyings.{argument_varyings, argument_varyings_from}
+use Rattle.typing_forms.specs.judged.Resolutions.{types_view}
 use Rattle.function_varying_checks.proofs.spread.argument_varyings.Given as goal
 
 abbrev pub invariant-loop-index : goal.invariant-loop-index

@@ -1,7 +1,7 @@
 -- The rest has a source where all have one.
 use Rattle.std.proofs.Common.{◌≡◌, drop, map}
-use Rattle.ir_types.specs.Plain.{member_view}
-use Rattle.spec_interface.specs.Varyings.{has_source}
+use Rattle.ir_types.specs.judged.Plain.{member_view}
+use Rattle.spec_interface.specs.judged.Varyings.{has_source}
 use Rattle.function_varying_checks.proofs.spread.has_source.Given as goal
 
 abbrev pub invariant-loop-member : goal.invariant-loop-member

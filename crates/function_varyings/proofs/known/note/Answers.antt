@@ -1,7 +1,7 @@
 use Rattle.std.proofs.Common.{◌≡◌, ℕ, cond, true, subst}
 use Rattle.std.specs.BTreeSet.{contains}
 use Rattle.std.specs.Ordering.{is_eq}
-use Rattle.spec_interface.specs.Varyings.{VaryingsOK}
+use Rattle.spec_interface.specs.judged.Varyings.{VaryingsOK}
 use Rattle.function_varying_checks.specs.View.{context_view}
 use Rattle.function_varyings.proofs.KnownLaws.{noted_still, one_noted}
 use Rattle.function_varyings.specs.Known.{IsShownBy, number_of, pair_cmp}

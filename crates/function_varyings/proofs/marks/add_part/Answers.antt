@@ -1,7 +1,7 @@
 use Rattle.std.proofs.Common.{◌≡◌, ◌++◌, ◌∙◌, List, Contains, length, ap, sym, subst, arith}
-use Rattle.spec_interface.specs.Varyings.{mesh_varyings}
+use Rattle.spec_interface.specs.judged.Varyings.{mesh_varyings}
 use Rattle.spec_interface.specs.declared.varyings.Varying.{Varying}
-use Rattle.typing_forms.specs.Resolutions.{types_view}
+use Rattle.typing_forms.specs.judged.Resolutions.{types_view}
 use Rattle.function_varyings.proofs.MarkLaws.{part_made}
 use Rattle.function_varyings.specs.Marks.{IsPartOf}
 use Rattle.function_varyings.proofs.marks.add_part.Goals as goal

@@ -1,6 +1,6 @@
 use Rattle.std.proofs.Common.{◌<◌, inl, inr, length, get_or, true≢false, sym, subst, arith}
 use Rattle.std.proofs.lemmas.Option.{slice_get-get_or}
-use Rattle.spec_interface.specs.Varyings.{ShowsAt, built_in_of, canonical}
+use Rattle.spec_interface.specs.judged.Varyings.{ShowsAt, built_in_of, canonical}
 use Rattle.function_varyings.proofs.Places.{below_or_same, shows_here}
 use Rattle.function_varyings.proofs.shown.shows_before.Goals as goal
 

@@ -1,6 +1,6 @@
 -- None of those before shows it.
 use Rattle.std.proofs.Common.{ℕ, ◌<◌}
-use Rattle.spec_interface.specs.Varyings.{ShowsAt, built_in_of, canonical}
+use Rattle.spec_interface.specs.judged.Varyings.{ShowsAt, built_in_of, canonical}
 use Rattle.function_varyings.proofs.shown.shows_before.Given as goal
 
 abbrev pub invariant-loop-earlier : goal.invariant-loop-earlier

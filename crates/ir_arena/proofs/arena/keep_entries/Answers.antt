@@ -1,9 +1,9 @@
 use Rattle.std.proofs.Common.{◌<◌, length, true, false, slice_set, subst, ◌∙◌, arith, length-set, length-take}
 use Rattle.std.proofs.lemmas.List.Edits.{length-swap}
 use Rattle.ir_arena.specs.declared.span.Span.{Span}
-use Rattle.ir_arena.specs.Spans.{undefined_span}
-use Rattle.ir_arena.specs.Arenas.{span_at}
-use Rattle.ir_arena.specs.Retains.{KeepsAt, RetainsFrom}
+use Rattle.ir_arena.specs.found.Spans.{undefined_span}
+use Rattle.ir_arena.specs.found.Arenas.{span_at}
+use Rattle.ir_arena.specs.found.Retains.{KeepsAt, RetainsFrom}
 use Rattle.ir_arena.proofs.Zipped.{value_got, span_got}
 use Rattle.ir_arena.proofs.Kept.{so_far-kept, so_far-dropped, so_far-all}
 use Rattle.ir_arena.proofs.arena.keep_entries.Goals as goal

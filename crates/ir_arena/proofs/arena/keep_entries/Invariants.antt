@@ -1,5 +1,5 @@
 use Rattle.std.proofs.Common.{◌≡◌, ◌≤◌, ◌++◌, take, drop, length}
-use Rattle.ir_arena.specs.Retains.{KeepsAt, RetainsFrom}
+use Rattle.ir_arena.specs.found.Retains.{KeepsAt, RetainsFrom}
 use Rattle.ir_arena.proofs.arena.keep_entries.Given as goal
 
 abbrev pub invariant-loop-place : goal.invariant-loop-place

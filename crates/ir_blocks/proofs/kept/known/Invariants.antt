@@ -1,6 +1,6 @@
 -- What is after the first `count` is undefined.
 use Rattle.std.proofs.Common.{◌≡◌, ◌≤◌, length, take}
-use Rattle.ir_blocks.specs.Padded.{up_to_defined}
+use Rattle.ir_blocks.specs.found.Padded.{up_to_defined}
 use Rattle.ir_blocks.proofs.kept.known.Given as goal
 
 abbrev pub invariant-loop-count : goal.invariant-loop-count

@@ -1,10 +1,10 @@
 use Rattle.std.proofs.Common.{◌≡◌, ◌+◌, ◌-◌, ◌<◌, ◌≤◌, take, length, IsOk, subst, true≢false, true, false, refl, sym, ap, ◌∙◌, arith}
 use Rattle.std.proofs.Math.ListN.{set}
-use Rattle.ir_blocks.specs.Shapes.{shape_of}
-use Rattle.ir_blocks.specs.Padded.{padded}
-use Rattle.ir_blocks.specs.Tails.{goes_on, finished_case}
-use Rattle.ir_blocks.specs.TailSpans.{finished_case_body}
-use Rattle.ir_blocks.specs.View.{cases_of, case_spans_of, statement_view, case_view, case_block_spans, statements_of, spans_of}
+use Rattle.ir_blocks.specs.judged.Shapes.{shape_of}
+use Rattle.ir_blocks.specs.found.Padded.{padded}
+use Rattle.ir_blocks.specs.judged.Tails.{goes_on, finished_case}
+use Rattle.ir_blocks.specs.found.TailSpans.{finished_case_body}
+use Rattle.ir_blocks.specs.found.View.{cases_of, case_spans_of, statement_view, case_view, case_block_spans, statements_of, spans_of}
 use Rattle.ir_blocks.proofs.TerminatorLemmas.{block_view-statements, complete_stays, complete_adds}
 use Rattle.ir_blocks.proofs.SpanLemmas.{block_spans-lists, spans_over-lists, spans_stay, spans_added}
 use Rattle.ir_blocks.proofs.RoomLemmas.{at_end, set_end, length_set, same_at, block_view-roll, block_spans-roll, finished_on, finished_spans_on, on_ok_then, on_ok_both, own_known, within_last, room_here, unvisited_more, done_more, all_done, cases_finished, case_spans_finished}

@@ -1,7 +1,7 @@
 use Rattle.std.proofs.Common.{◌≡◌, map, take}
-use Rattle.ir_blocks.specs.Tails.{finished_case}
-use Rattle.ir_blocks.specs.TailSpans.{finished_case_body}
-use Rattle.ir_blocks.specs.View.{case_view, case_block_spans}
+use Rattle.ir_blocks.specs.judged.Tails.{finished_case}
+use Rattle.ir_blocks.specs.found.TailSpans.{finished_case_body}
+use Rattle.ir_blocks.specs.found.View.{case_view, case_block_spans}
 use Rattle.ir_blocks.proofs.returns.+adds.Given as goal
 
 abbrev pub invariant-add_to_cases-loop-index : goal.invariant-add_to_cases-loop-index

@@ -1,7 +1,7 @@
 use Rattle.std.proofs.Common.{◌≡◌, ◌+◌, ◌-◌, ◌<◌, length, false, sym, ap, ◌∙◌, arith}
-use Rattle.ir_blocks.specs.Shapes.{shape_of}
-use Rattle.ir_blocks.specs.Tails.{goes_on}
-use Rattle.ir_blocks.specs.View.{block_of, spans_over, statement_view, statement_spans, case_view, case_block_spans}
+use Rattle.ir_blocks.specs.judged.Shapes.{shape_of}
+use Rattle.ir_blocks.specs.judged.Tails.{goes_on}
+use Rattle.ir_blocks.specs.found.View.{block_of, spans_over, statement_view, statement_spans, case_view, case_block_spans}
 use Rattle.ir_blocks.proofs.TerminatorLemmas.{block_view-statements}
 use Rattle.ir_blocks.proofs.SpanLemmas.{block_spans-over}
 use Rattle.ir_blocks.proofs.RoomLemmas.{same_looks, same_at, block_view-roll, block_spans-roll, block_room-roll, on_ok_then, room_made, room_within, unvisited_more, room_more}

@@ -1,6 +1,6 @@
 use Rattle.std.proofs.Common.{◌≡◌, map, take}
-use Rattle.ir_blocks.specs.Room.{HasRoomInCases}
-use Rattle.ir_blocks.specs.View.{case_view, case_block_spans}
+use Rattle.ir_blocks.specs.found.Room.{HasRoomInCases}
+use Rattle.ir_blocks.specs.found.View.{case_view, case_block_spans}
 use Rattle.ir_blocks.proofs.returns.+reserves.Given as goal
 
 abbrev pub invariant-reserve_cases-loop-index : goal.invariant-reserve_cases-loop-index

@@ -1,5 +1,5 @@
 use Rattle.std.proofs.Common.{refl}
-use Rattle.ir_blocks.specs.View.{statement_view, statement_spans}
+use Rattle.ir_blocks.specs.found.View.{statement_view, statement_spans}
 use Rattle.ir_blocks.proofs.Behind.{seen_behind_if, return_view, return_spans}
 use Rattle.ir_blocks.proofs.returns.add_one.Goals as goal
 

@@ -1,6 +1,6 @@
 use Rattle.std.proofs.Common.{ap, ◌∙◌}
-use Rattle.ir_blocks.specs.Tails.{completed}
-use Rattle.ir_blocks.specs.TailSpans.{completed_spans}
+use Rattle.ir_blocks.specs.judged.Tails.{completed}
+use Rattle.ir_blocks.specs.found.TailSpans.{completed_spans}
 use Rattle.ir_blocks.proofs.InStepLaws.{always_in_step}
 use Rattle.ir_blocks.proofs.SpanLaws.{completed_is, spans_completed_is}
 use Rattle.ir_blocks.proofs.returns.ensure_block_returns.Goals as goal

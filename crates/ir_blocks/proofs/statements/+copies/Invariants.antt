@@ -1,5 +1,5 @@
 use Rattle.std.proofs.Common.{◌≡◌, map, take}
-use Rattle.ir_blocks.specs.View.{statement_view, case_view, statement_spans, case_block_spans}
+use Rattle.ir_blocks.specs.found.View.{statement_view, case_view, statement_spans, case_block_spans}
 use Rattle.ir_blocks.proofs.statements.+copies.Given as goal
 
 -- the copies so far are equal to the statements before the present one, and so are the spans inside them

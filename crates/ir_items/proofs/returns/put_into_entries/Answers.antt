@@ -1,7 +1,7 @@
 use Rattle.std.proofs.Common.{◌<◌, ◌≤◌, length, arith, ◌∙◌}
 use Rattle.ir_blocks.proofs.RoomLemmas.{unvisited_more, done_more, all_done}
-use Rattle.ir_items.specs.Copies.{spanned_entry}
-use Rattle.ir_items.specs.Returned.{EntryHasRoom, returned_entry_spans}
+use Rattle.ir_items.specs.found.Copies.{spanned_entry}
+use Rattle.ir_items.specs.judged.Returned.{EntryHasRoom, returned_entry_spans}
 use Rattle.ir_items.proofs.EachLemmas.{here_has, both_maps}
 use Rattle.ir_items.proofs.returns.put_into_entries.Goals as goal
 

@@ -1,7 +1,7 @@
 use Rattle.std.proofs.Common.{◌≡◌, map, take}
 use Rattle.ir_blocks.proofs.RoomLemmas.{Unvisited}
-use Rattle.ir_items.specs.Copies.{spanned_entry}
-use Rattle.ir_items.specs.Returned.{returned_entry_spans}
+use Rattle.ir_items.specs.found.Copies.{spanned_entry}
+use Rattle.ir_items.specs.judged.Returned.{returned_entry_spans}
 use Rattle.ir_items.proofs.returns.put_into_entries.Given as goal
 
 abbrev pub invariant-loop-place : goal.invariant-loop-place

@@ -1,7 +1,7 @@
 use Rattle.std.proofs.Common.{◌<◌, length, arith, ◌∙◌}
 use Rattle.ir_blocks.proofs.RoomLemmas.{length_set, same_looks}
-use Rattle.ir_items.specs.Copies.{spanned_entry}
-use Rattle.ir_items.specs.Returned.{EntryHasRoom}
+use Rattle.ir_items.specs.found.Copies.{spanned_entry}
+use Rattle.ir_items.specs.judged.Returned.{EntryHasRoom}
 use Rattle.ir_items.proofs.EachLemmas.{more_have, all_have}
 use Rattle.ir_items.proofs.returns.reserve_in_entries.Goals as goal
 

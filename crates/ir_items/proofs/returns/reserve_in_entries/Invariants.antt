@@ -1,6 +1,6 @@
 use Rattle.std.proofs.Common.{◌≡◌, length, map, take}
-use Rattle.ir_items.specs.Copies.{spanned_entry}
-use Rattle.ir_items.specs.Returned.{EntriesHaveRoom}
+use Rattle.ir_items.specs.found.Copies.{spanned_entry}
+use Rattle.ir_items.specs.judged.Returned.{EntriesHaveRoom}
 use Rattle.ir_items.proofs.returns.reserve_in_entries.Given as goal
 
 abbrev pub invariant-loop-place : goal.invariant-loop-place

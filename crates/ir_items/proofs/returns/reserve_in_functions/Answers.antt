@@ -1,7 +1,7 @@
 use Rattle.std.proofs.Common.{◌<◌, length, arith, ◌∙◌}
 use Rattle.ir_blocks.proofs.RoomLemmas.{length_set}
-use Rattle.ir_items.specs.Copies.{spanned_function}
-use Rattle.ir_items.specs.Returned.{FunctionHasRoom}
+use Rattle.ir_items.specs.found.Copies.{spanned_function}
+use Rattle.ir_items.specs.judged.Returned.{FunctionHasRoom}
 use Rattle.ir_items.proofs.EachLemmas.{entry_stays, entries_have, all_have}
 use Rattle.ir_items.proofs.returns.reserve_in_functions.Goals as goal
 

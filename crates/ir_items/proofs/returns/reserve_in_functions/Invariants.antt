@@ -1,7 +1,7 @@
 use Rattle.std.proofs.Common.{◌≡◌, length, map, take}
-use Rattle.ir_arena.specs.Copies.{entry_of}
-use Rattle.ir_items.specs.Copies.{spanned_function}
-use Rattle.ir_items.specs.Returned.{FunctionsHaveRoom}
+use Rattle.ir_arena.specs.found.Copies.{entry_of}
+use Rattle.ir_items.specs.found.Copies.{spanned_function}
+use Rattle.ir_items.specs.judged.Returned.{FunctionsHaveRoom}
 use Rattle.ir_items.proofs.returns.reserve_in_functions.Given as goal
 
 abbrev pub invariant-loop-place : goal.invariant-loop-place

@@ -1,6 +1,6 @@
 use Rattle.std.proofs.Common.{◌≡◌, ◌<◌, length, sym, ap, ◌∙◌, arith}
-use Rattle.ir_types.specs.ExpressionPlain.{expression_view}
-use Rattle.ir_proc.specs.Bases.{itself, through, global_of}
+use Rattle.ir_types.specs.judged.ExpressionPlain.{expression_view}
+use Rattle.ir_proc.specs.judged.Bases.{itself, through, global_of}
 use Rattle.ir_proc.proofs.Places.{plain_at}
 use Rattle.ir_proc.proofs.bases.origin_of.Goals as goal
 

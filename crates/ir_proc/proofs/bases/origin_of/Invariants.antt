@@ -1,6 +1,6 @@
 -- What is left of the chain stays in the arena, and starts at what the whole chain starts at.
 use Rattle.std.proofs.Common.{◌<◌, length, ℕ, Option}
-use Rattle.ir_proc.specs.Bases.{expressions_of, HasOrigin}
+use Rattle.ir_proc.specs.judged.Bases.{expressions_of, HasOrigin}
 use Rattle.ir_proc.proofs.bases.origin_of.Given as goal
 
 abbrev pub invariant-loop-base : goal.invariant-loop-base

@@ -1,5 +1,5 @@
 use Rattle.std.proofs.Common.{◌≡◌, take}
-use Rattle.ir_arena.specs.Spans.{total_span}
+use Rattle.ir_arena.specs.found.Spans.{total_span}
 use Rattle.ir_proc.proofs.emitter.span_of.Given as goal
 
 -- the spans so far are joined

@@ -1,6 +1,6 @@
 use Rattle.std.proofs.Common.{◌≡◌, ◌<◌, length, Some, sym, ap, subst, arith}
-use Rattle.ir_items.specs.GlobalView.{node_view}
-use Rattle.ir_proc.specs.Filters.{nodes_of, HasSeverity}
+use Rattle.ir_items.specs.found.GlobalView.{node_view}
+use Rattle.ir_proc.specs.found.Filters.{nodes_of, HasSeverity}
 use Rattle.ir_proc.proofs.Paths.{ahead, ahead_before, found, passed}
 use Rattle.ir_proc.proofs.Places.{plain_at}
 use Rattle.ir_proc.proofs.filters.severity_of.Goals as goal

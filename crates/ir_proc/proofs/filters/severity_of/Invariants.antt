@@ -2,7 +2,7 @@
 use Rattle.std.proofs.Common.{◌<◌, length}
 use Rattle.std.specs.Option.{ForSome}
 use Rattle.ir_kinds.specs.declared.diagnostics.Severity.{Severity}
-use Rattle.ir_proc.specs.Filters.{nodes_of, HasSeverity}
+use Rattle.ir_proc.specs.found.Filters.{nodes_of, HasSeverity}
 use Rattle.ir_proc.proofs.Paths.{ahead}
 use Rattle.ir_proc.proofs.filters.severity_of.Given as goal
 

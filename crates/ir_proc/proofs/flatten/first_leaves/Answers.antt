@@ -2,9 +2,9 @@ use Rattle.std.proofs.Common.{◌≡◌, ◌<◌, ◌++◌, [], ℕ, List, lengt
 use Rattle.std.specs.List.{All}
 use Rattle.std.proofs.lemmas.List.{reverse-reverse}
 use Rattle.std.proofs.lemmas.List.Elements.{All-pop}
-use Rattle.ir_types.specs.ExpressionPlain.{expression_view}
-use Rattle.ir_proc.specs.Bases.{expressions_of}
-use Rattle.ir_proc.specs.Flat.{AreLeaves}
+use Rattle.ir_types.specs.judged.ExpressionPlain.{expression_view}
+use Rattle.ir_proc.specs.judged.Bases.{expressions_of}
+use Rattle.ir_proc.specs.found.Flat.{AreLeaves}
 use Rattle.ir_proc.proofs.FlatLemmas.{All-reverse, goes_on, stays_in, comes_nearer, one_more, empty, enough, nothing_left}
 use Rattle.ir_proc.proofs.Places.{plain_at}
 use Rattle.ir_proc.proofs.flatten.first_leaves.Goals as goal

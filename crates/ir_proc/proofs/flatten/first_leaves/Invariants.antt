@@ -1,8 +1,8 @@
 -- The leaves that were found, and then those of what is ahead, are the leaves of all.
 use Rattle.std.proofs.Common.{◌<◌, ◌≤◌, ◌++◌, List, ℕ, length, reverse}
 use Rattle.std.specs.List.{All}
-use Rattle.ir_proc.specs.Bases.{expressions_of}
-use Rattle.ir_proc.specs.Flat.{AreLeaves}
+use Rattle.ir_proc.specs.judged.Bases.{expressions_of}
+use Rattle.ir_proc.specs.found.Flat.{AreLeaves}
 use Rattle.ir_proc.proofs.FlatLemmas.{total, steps}
 use Rattle.ir_proc.proofs.flatten.first_leaves.Given as goal
 

@@ -1,8 +1,8 @@
 use Rattle.std.proofs.Common.{◌≡◌, ℕ, List, Option, sym, ap, subst, ◌∙◌}
 use Rattle.std.specs.Option.{option_and_then}
-use Rattle.ir_types.specs.Plain.{PlainType, type_view}
-use Rattle.ir_proc.specs.Bases.{expressions_of}
-use Rattle.ir_proc.specs.Flat.{types_of, size_at, vector_size, IsFlattened}
+use Rattle.ir_types.specs.judged.Plain.{PlainType, type_view}
+use Rattle.ir_proc.specs.judged.Bases.{expressions_of}
+use Rattle.ir_proc.specs.found.Flat.{types_of, size_at, vector_size, IsFlattened}
 use Rattle.ir_proc.proofs.Places.{plain_at}
 use Rattle.ir_proc.proofs.flatten.flatten_compose.Goals as goal
 

@@ -1,5 +1,5 @@
 use Rattle.std.proofs.Common.{drop, map}
-use Rattle.ir_blocks.specs.View.{statements_view, case_view, cases_of}
+use Rattle.ir_blocks.specs.found.View.{statements_view, case_view, cases_of}
 use Rattle.ir_references.specs.Each.{AllAre, AllInCases, OneIs, OneInCases}
 use Rattle.ir_references.proofs.each.+each.Given as goal
 

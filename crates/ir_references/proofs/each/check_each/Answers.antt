@@ -1,4 +1,4 @@
-use Rattle.ir_blocks.specs.View.{block_view}
+use Rattle.ir_blocks.specs.found.View.{block_view}
 use Rattle.ir_references.proofs.EachLaws.{is_at, one_in}
 use Rattle.ir_references.proofs.each.check_each.Goals as goal
 

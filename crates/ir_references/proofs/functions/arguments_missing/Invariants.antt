@@ -1,5 +1,5 @@
 use Rattle.std.proofs.Common.{◌≡◌, drop, map}
-use Rattle.ir_items.specs.View.{argument_view}
+use Rattle.ir_items.specs.found.View.{argument_view}
 use Rattle.ir_references.specs.Faults.{argument_missing}
 use Rattle.ir_references.specs.First.{first_of}
 use Rattle.ir_references.proofs.functions.arguments_missing.Given as goal

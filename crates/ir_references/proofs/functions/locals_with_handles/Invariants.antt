@@ -1,6 +1,6 @@
 use Rattle.std.proofs.Common.{◌≡◌}
-use Rattle.ir_arena.specs.Handles.{handles_from}
-use Rattle.ir_items.specs.View.{local_view}
+use Rattle.ir_arena.specs.judged.Handles.{handles_from}
+use Rattle.ir_items.specs.found.View.{local_view}
 use Rattle.ir_references.specs.Faults.{local_missing}
 use Rattle.ir_references.specs.First.{first_of}
 use Rattle.ir_references.proofs.functions.locals_with_handles.Given as goal

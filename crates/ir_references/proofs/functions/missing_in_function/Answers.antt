@@ -1,6 +1,6 @@
 use Rattle.std.proofs.Common.{sym, ◌∙◌, ap, subst}
 use Rattle.std.specs.Option.{MatchOption}
-use Rattle.ir_items.specs.View.{function_view, module_view}
+use Rattle.ir_items.specs.found.View.{function_view, module_view}
 use Rattle.ir_references.specs.Faults.{function_missing, IsMissingFault}
 use Rattle.ir_references.proofs.FaultLaws.{missing_told}
 use Rattle.spec_handles.specs.Conditions.{HandlesInRange}

@@ -1,6 +1,6 @@
 use Rattle.std.proofs.Common.{◌≡◌}
-use Rattle.ir_arena.specs.Handles.{handles_from}
-use Rattle.ir_types.specs.ExpressionPlain.{expression_view}
+use Rattle.ir_arena.specs.judged.Handles.{handles_from}
+use Rattle.ir_types.specs.judged.ExpressionPlain.{expression_view}
 use Rattle.ir_references.specs.Faults.{expression_forward}
 use Rattle.ir_references.specs.First.{first_of}
 use Rattle.ir_references.proofs.order.expressions_with_handles.Given as goal

@@ -1,6 +1,6 @@
 use Rattle.std.proofs.Common.{sym, subst}
 use Rattle.std.specs.Option.{MatchOption}
-use Rattle.ir_items.specs.View.{function_view}
+use Rattle.ir_items.specs.found.View.{function_view}
 use Rattle.ir_references.specs.Faults.{IsForwardCallee}
 use Rattle.ir_references.proofs.FaultLaws.{callees_told}
 use Rattle.spec_handles.specs.Conditions.{CalleesPrecede}

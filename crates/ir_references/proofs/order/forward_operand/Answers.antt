@@ -1,7 +1,7 @@
 use Rattle.std.proofs.Common.{sym, subst, map}
 use Rattle.std.specs.Option.{MatchOption}
-use Rattle.ir_types.specs.ExpressionPlain.{expression_view}
-use Rattle.ir_items.specs.GlobalView.{values_of}
+use Rattle.ir_types.specs.judged.ExpressionPlain.{expression_view}
+use Rattle.ir_items.specs.found.GlobalView.{values_of}
 use Rattle.ir_references.specs.Faults.{IsForwardOperand}
 use Rattle.ir_references.proofs.FaultLaws.{operands_told}
 use Rattle.spec_handles.specs.Conditions.{OperandsPrecede}

@@ -1,9 +1,9 @@
 use Rattle.std.proofs.Common.{sym, subst, map}
 use Rattle.std.specs.Option.{MatchOption}
-use Rattle.ir_items.specs.GlobalView.{values_of, node_view}
+use Rattle.ir_items.specs.found.GlobalView.{values_of, node_view}
 use Rattle.ir_references.specs.Faults.{IsForwardParent}
 use Rattle.ir_references.proofs.FaultLaws.{parents_told}
-use Rattle.ir_proc.specs.Filters.{ParentsPrecede}
+use Rattle.ir_proc.specs.found.Filters.{ParentsPrecede}
 use Rattle.ir_references.proofs.order.forward_parent.Goals as goal
 
 pub returns : goal.returns

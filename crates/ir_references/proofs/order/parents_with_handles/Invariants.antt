@@ -1,6 +1,6 @@
 use Rattle.std.proofs.Common.{◌≡◌}
-use Rattle.ir_arena.specs.Handles.{handles_from}
-use Rattle.ir_items.specs.GlobalView.{node_view}
+use Rattle.ir_arena.specs.judged.Handles.{handles_from}
+use Rattle.ir_items.specs.found.GlobalView.{node_view}
 use Rattle.ir_references.specs.Faults.{parent_forward}
 use Rattle.ir_references.specs.First.{first_of}
 use Rattle.ir_references.proofs.order.parents_with_handles.Given as goal

@@ -1,4 +1,4 @@
-use Rattle.spec_runs.specs.FinalSwitches.{break_here, of_last}
+use Rattle.spec_runs.specs.judged.FinalSwitches.{break_here, of_last}
 use Rattle.judgement_worked.proofs.runs.final_break.Goals as goal
 
 pub returns : goal.returns

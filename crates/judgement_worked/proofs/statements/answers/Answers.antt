@@ -1,10 +1,10 @@
 use Rattle.std.proofs.Common.{[], Some, refl}
-use Rattle.ir_blocks.specs.Places.{here, later, inside}
-use Rattle.ir_blocks.specs.Plain.{call}
-use Rattle.ir_blocks.specs.Shapes.{inner}
+use Rattle.ir_blocks.specs.judged.Places.{here, later, inside}
+use Rattle.ir_blocks.specs.judged.Plain.{call}
+use Rattle.ir_blocks.specs.judged.Shapes.{inner}
 use Rattle.judgement_worked.proofs.AnswerExamples.{none_answers, answered_once}
 use Rattle.judgement_worked.proofs.statements.answers.Goals as goal
-use Rattle.spec_statements.specs.Results.{of_call}
+use Rattle.spec_statements.specs.judged.Results.{of_call}
 
 pub returns-clause-answered : goal.returns-clause-answered
 returns-clause-answered c = answered_once

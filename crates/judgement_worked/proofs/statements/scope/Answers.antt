@@ -1,6 +1,6 @@
 use Rattle.std.proofs.Common.{refl}
-use Rattle.ir_blocks.specs.Places.{here, later, inside}
-use Rattle.ir_blocks.specs.Shapes.{case_at, loop_continuing}
+use Rattle.ir_blocks.specs.judged.Places.{here, later, inside}
+use Rattle.ir_blocks.specs.judged.Shapes.{case_at, loop_continuing}
 use Rattle.judgement_worked.proofs.ScopeExamples.{in_order, used_early, brought_again}
 use Rattle.judgement_worked.proofs.statements.scope.Goals as goal
 

@@ -1,12 +1,12 @@
 use Rattle.std.proofs.Common.{ℕ, ◌≡◌, ◌∷◌, [], zero, suc, Option, Some, None, refl, sym, ap, subst, slice_get}
-use Rattle.ir_items.specs.Plain.{PlainArgument, PlainFunction}
-use Rattle.ir_kinds.specs.Scalars.{unsigned}
-use Rattle.spec_statements.specs.Shapes.{IsIntegerScalar}
+use Rattle.ir_items.specs.judged.Plain.{PlainArgument, PlainFunction}
+use Rattle.ir_kinds.specs.judged.Scalars.{unsigned}
+use Rattle.spec_statements.specs.judged.Shapes.{IsIntegerScalar}
 use Rattle.judgement_worked.proofs.statements.statements.Goals as goal
-use Rattle.spec_statements.specs.BlockContext.{form_at}
-use Rattle.spec_statements.specs.Stores.{itself}
+use Rattle.spec_statements.specs.judged.BlockContext.{form_at}
+use Rattle.spec_statements.specs.judged.Stores.{itself}
 use Rattle.judgement_worked.specs.Worked.{calling, given_first}
-use Rattle.typing_forms.specs.Forms.{form_of_type}
+use Rattle.typing_forms.specs.judged.Forms.{form_of_type}
 use Rattle.typing_forms.specs.declared.form.Form.TheVariants as form
 
 pub returns-clause-stored : goal.returns-clause-stored

@@ -1,7 +1,7 @@
 use Rattle.std.proofs.Common.{inr, ⊎_elim, true≢false, sym, refl, Some, None, arith}
-use Rattle.ir_blocks.specs.Places.{here, condition}
-use Rattle.ir_blocks.specs.Plain.{emit, if_, loop, continue, PlainBlock, stop}
-use Rattle.ir_items.specs.Plain.{PlainFunction}
+use Rattle.ir_blocks.specs.judged.Places.{here, condition}
+use Rattle.ir_blocks.specs.judged.Plain.{emit, if_, loop, continue, PlainBlock, stop}
+use Rattle.ir_items.specs.judged.Plain.{PlainFunction}
 use Rattle.spec_statements.proofs.ScopeLaws.{none_held}
 use Rattle.spec_statements.proofs.StrictLaws.{strict_by_walk_lem}
 use Rattle.judgement_worked.specs.Worked.{one, two, over_truths}

@@ -1,8 +1,8 @@
 use Rattle.std.proofs.Common.{true≢false, map, refl, sym, ◌∙◌, arith}
-use Rattle.ir_types.specs.Plain.{member_view}
+use Rattle.ir_types.specs.judged.Plain.{member_view}
 use Rattle.module_constants.proofs.Places.{fit_none, fit_more, fit_all}
 use Rattle.module_constants.specs.Composed.{IsMember, forms_of}
-use Rattle.typing_forms.specs.Resolutions.{types_view}
+use Rattle.typing_forms.specs.judged.Resolutions.{types_view}
 use Rattle.module_constants.proofs.compose.check_each_member.Goals as goal
 
 pub loop-place-init : goal.loop-place-init

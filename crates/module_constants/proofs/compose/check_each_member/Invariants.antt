@@ -1,8 +1,8 @@
 -- The components that were passed may be the members at their places.
 use Rattle.std.proofs.Common.{map}
-use Rattle.ir_types.specs.Plain.{member_view}
+use Rattle.ir_types.specs.judged.Plain.{member_view}
 use Rattle.module_constants.specs.Composed.{FitBelow, IsMember, forms_of}
-use Rattle.typing_forms.specs.Resolutions.{types_view}
+use Rattle.typing_forms.specs.judged.Resolutions.{types_view}
 use Rattle.module_constants.proofs.compose.check_each_member.Given as goal
 
 abbrev pub invariant-loop-place : goal.invariant-loop-place

@@ -1,5 +1,5 @@
 use Rattle.std.proofs.Common.{arith}
-use Rattle.typing_forms.specs.Resolutions.{types_view}
+use Rattle.typing_forms.specs.judged.Resolutions.{types_view}
 use Rattle.module_constants.proofs.Places.{member_past}
 use Rattle.module_constants.proofs.compose.fits_member.Goals as goal
 

@@ -1,4 +1,4 @@
-use Rattle.typing_forms.specs.Resolutions.{types_view}
+use Rattle.typing_forms.specs.judged.Resolutions.{types_view}
 use Rattle.module_constants.proofs.Places.{member_fits}
 use Rattle.module_constants.proofs.compose.fits_member_at.Goals as goal
 

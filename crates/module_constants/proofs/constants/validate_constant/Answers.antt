@@ -1,5 +1,5 @@
 use Rattle.std.proofs.Common.{arith}
-use Rattle.ir_items.specs.GlobalView.{constant_view}
+use Rattle.ir_items.specs.found.GlobalView.{constant_view}
 use Rattle.module_constants.proofs.Reported.{constant_told}
 use Rattle.module_constants.specs.Known.{module_in}
 use Rattle.typing_resolve.proofs.Lookups.{found}

@@ -1,8 +1,8 @@
 use Rattle.std.proofs.Common.{arith}
-use Rattle.ir_items.specs.GlobalView.{constant_view}
+use Rattle.ir_items.specs.found.GlobalView.{constant_view}
 use Rattle.module_constants.proofs.Reported.{accepted_more, many_viewed}
 use Rattle.module_constants.specs.Known.{module_in}
-use Rattle.spec_expressions.specs.Constants.{ConstantOK}
+use Rattle.spec_expressions.specs.judged.Constants.{ConstantOK}
 use Rattle.module_constants.proofs.constants.validate_constants.Goals as goal
 
 pub loop-place-init : goal.loop-place-init

@@ -1,6 +1,6 @@
 use Rattle.std.proofs.Common.{◌≡◌, ◌∙◌, Some, ap, rules}
 use Rattle.typing_errors.specs.declared.const_expressions.ConstExpressionError.TheVariants as error
-use Rattle.ir_types.specs.ExpressionPlain.{expression_view}
+use Rattle.ir_types.specs.judged.ExpressionPlain.{expression_view}
 use Rattle.module_constants.proofs.Reported.{expression_refused, expression_told}
 use Rattle.module_constants.specs.Known.{module_in}
 use Rattle.typing_layout.specs.declared.constness.ExpressionKind.TheVariants.{Runtime}

@@ -1,8 +1,8 @@
 use Rattle.std.proofs.Common.{arith}
-use Rattle.ir_types.specs.ExpressionPlain.{expression_view}
+use Rattle.ir_types.specs.judged.ExpressionPlain.{expression_view}
 use Rattle.module_constants.proofs.Reported.{accepted_more, many_viewed}
 use Rattle.module_constants.specs.Known.{module_in}
-use Rattle.spec_expressions.specs.GlobalExpressions.{GlobalExpressionOK}
+use Rattle.spec_expressions.specs.judged.GlobalExpressions.{GlobalExpressionOK}
 use Rattle.module_constants.proofs.expressions.validate_const_expressions.Goals as goal
 
 pub loop-place-init : goal.loop-place-init

@@ -1,7 +1,7 @@
 -- Those that were passed are accepted.
 use Rattle.std.proofs.Common.{ℕ, ◌<◌}
 use Rattle.module_constants.specs.Known.{module_in}
-use Rattle.spec_expressions.specs.GlobalExpressions.{GlobalExpressionOK}
+use Rattle.spec_expressions.specs.judged.GlobalExpressions.{GlobalExpressionOK}
 use Rattle.module_constants.proofs.expressions.validate_const_expressions.Given as goal
 
 abbrev pub invariant-loop-place : goal.invariant-loop-place

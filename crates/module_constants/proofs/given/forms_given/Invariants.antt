@@ -1,6 +1,6 @@
 -- The forms that were made with those of the rest are those of all.
 use Rattle.std.proofs.Common.{◌≡◌, ◌++◌, map, drop}
-use Rattle.typing_forms.specs.Resolutions.{types_view}
+use Rattle.typing_forms.specs.judged.Resolutions.{types_view}
 use Rattle.typing_errors.specs.Answers.{form_given}
 use Rattle.module_constants.proofs.given.forms_given.Given as goal
 

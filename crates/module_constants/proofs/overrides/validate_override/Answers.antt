@@ -1,6 +1,6 @@
 use Rattle.std.proofs.Common.{refl, sym, subst, arith}
 use Rattle.module_constants.specs.declared.override_error.OverrideError.TheVariants as error
-use Rattle.ir_items.specs.GlobalView.{override_view}
+use Rattle.ir_items.specs.found.GlobalView.{override_view}
 use Rattle.module_constants.proofs.IdLemmas.{noted_ids, own_is, taken_is, more_ids}
 use Rattle.module_constants.proofs.Reported.{override_fine, override_wrong}
 use Rattle.module_constants.specs.Known.{module_in}

@@ -1,6 +1,6 @@
 use Rattle.std.proofs.Common.{◌≡◌, ◌↔◌, Bool, IsTrue, subst}
 use Rattle.module_context.proofs.Refusals.{by_test}
-use Rattle.spec_statements.specs.CooperativeMatrices.{MultiplyAddOK}
+use Rattle.spec_statements.specs.judged.CooperativeMatrices.{MultiplyAddOK}
 use Rattle.typing_forms.specs.declared.form.Form.{Form}
 use Rattle.module_expression_checks.proofs.cooperative_matrices.check_multiply_add.Goals as goal
 

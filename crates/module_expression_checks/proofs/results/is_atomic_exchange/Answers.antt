@@ -1,7 +1,7 @@
 use Rattle.module_context.specs.OperandView.{types_in}
 use Rattle.module_expression_checks.proofs.OldValues.{by_test}
-use Rattle.spec_statements.specs.ExpressionResults.{IsAtomicValue}
-use Rattle.typing_forms.specs.Resolutions.{inner_at}
+use Rattle.spec_statements.specs.judged.ExpressionResults.{IsAtomicValue}
+use Rattle.typing_forms.specs.judged.Resolutions.{inner_at}
 use Rattle.module_expression_checks.proofs.results.is_atomic_exchange.Goals as goal
 
 pub returns-in-Some : goal.returns-in-Some

@@ -1,5 +1,5 @@
 use Rattle.module_context.proofs.Lookups.{found}
-use Rattle.ir_types.specs.ExpressionPlain.{expression_view}
+use Rattle.ir_types.specs.judged.ExpressionPlain.{expression_view}
 use Rattle.module_expressions.proofs.expression.validate_expression.Goals as goal
 
 pub returns-in-Ok : goal.returns-in-Ok

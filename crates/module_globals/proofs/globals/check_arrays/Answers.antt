@@ -1,7 +1,7 @@
 use Rattle.std.proofs.Common.{sym, ap, ◌∙◌}
 use Rattle.module_globals.proofs.Arrays.{base_there}
 use Rattle.module_globals.specs.Contexts.{module_of}
-use Rattle.spec_interface.specs.Spaces.{array_base}
+use Rattle.spec_interface.specs.judged.Spaces.{array_base}
 use Rattle.module_globals.proofs.globals.check_arrays.Goals as goal
 
 pub inner_of-inner-requires : goal.inner_of-inner-requires

@@ -4,13 +4,13 @@ use Rattle.module_globals.specs.Faults.{IsLayoutFault}
 use Rattle.module_globals.specs.Initializers.{HasFormOf}
 use Rattle.ir_flags.specs.Sets.{Has}
 use Rattle.ir_flags.specs.declared.settings.TheConstants.ValidationFlags.{STRUCT_LAYOUTS}
-use Rattle.ir_items.specs.GlobalView.{global_view}
-use Rattle.ir_types.specs.Plain.{inner_view}
+use Rattle.ir_items.specs.found.GlobalView.{global_view}
+use Rattle.ir_types.specs.judged.Plain.{inner_view}
 use Rattle.module_constants.proofs.FlagLemmas.{info_at}
 use Rattle.module_globals.specs.Contexts.{module_of}
-use Rattle.typing_layout.specs.View.{type_tree}
+use Rattle.typing_layout.specs.judged.View.{type_tree}
 use Rattle.module_type_infos.specs.Infos.{HasInfo}
-use Rattle.typing_forms.specs.Resolutions.{inner_at}
+use Rattle.typing_forms.specs.judged.Resolutions.{inner_at}
 use Rattle.module_globals.proofs.globals.check_lies.Goals as goal
 
 pub returns-in-Uniform : goal.returns-in-Uniform

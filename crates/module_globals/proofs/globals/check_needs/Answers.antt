@@ -2,13 +2,13 @@ use Rattle.std.proofs.Common.{◌≡◌, ◌<◌, get_or, IfSome, refl, sym, ap,
 use borrow.Author.Tests.{eqb-true, eq-eqb}
 use Rattle.module_globals.proofs.Needs.{all_asked, none_missing, capability_met, none_needed}
 use Rattle.ir_flags.specs.Sets.{Has}
-use Rattle.ir_items.specs.GlobalView.{global_view}
+use Rattle.ir_items.specs.found.GlobalView.{global_view}
 use Rattle.module_constants.proofs.FlagLemmas.{info_at}
 use Rattle.module_globals.specs.Contexts.{module_of}
-use Rattle.spec_interface.specs.Spaces.{space_capability, required, HasAll}
-use Rattle.typing_layout.specs.View.{type_tree}
+use Rattle.spec_interface.specs.judged.Spaces.{space_capability, required, HasAll}
+use Rattle.typing_layout.specs.judged.View.{type_tree}
 use Rattle.module_type_infos.specs.Infos.{AreFlags}
-use Rattle.typing_forms.specs.Resolutions.{inner_at}
+use Rattle.typing_forms.specs.judged.Resolutions.{inner_at}
 use Rattle.module_globals.proofs.globals.check_needs.Goals.{in-Some+else-not-contains, in_default}
 use Rattle.module_globals.proofs.globals.check_needs.Goals as goal
 

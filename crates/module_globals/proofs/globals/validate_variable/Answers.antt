@@ -3,8 +3,8 @@ use Rattle.module_globals.proofs.Whole.{counted_there, begun, there_is, there_is
 use Rattle.module_globals.specs.Contexts.{module_of}
 use Rattle.module_globals.specs.Faults.{IsWrongBy}
 use Rattle.module_globals.specs.Initializers.{HasFormOf, IsInitializer}
-use Rattle.ir_items.specs.GlobalView.{global_view}
-use Rattle.spec_interface.specs.Globals.{BeginsBy, VariableBy}
+use Rattle.ir_items.specs.found.GlobalView.{global_view}
+use Rattle.spec_interface.specs.judged.Globals.{BeginsBy, VariableBy}
 use Rattle.module_globals.proofs.globals.validate_variable.Goals as goal
 
 pub check_lies-requires-clause-counts : goal.check_lies-requires-clause-counts

@@ -3,7 +3,7 @@ use Rattle.module_globals.proofs.Begins.{known_by, typed_at}
 use Rattle.module_globals.specs.Initializers.{IsInitializer, IsTypedBy}
 use Rattle.module_globals.specs.declared.context.Initializer.{Initializer}
 use Rattle.module_constants.specs.Known.{module_in}
-use Rattle.spec_expressions.specs.Typing.{HasGlobalType}
+use Rattle.spec_expressions.specs.judged.Typing.{HasGlobalType}
 use Rattle.typing_layout.specs.declared.constness.ExpressionKind.TheVariants.{Const}
 use Rattle.module_globals.proofs.known.initializer_of.Goals as goal
 

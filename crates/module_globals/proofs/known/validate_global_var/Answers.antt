@@ -2,10 +2,10 @@ use Rattle.std.proofs.Common.{◌≡◌, Some, sym, subst, ◌∙◌}
 use Rattle.module_globals.proofs.Whole.{global_found, at_handle, variable_by}
 use Rattle.module_globals.proofs.Begins.{one_form}
 use Rattle.module_globals.specs.There.{IsPlaced}
-use Rattle.ir_items.specs.GlobalPlain.{PlainGlobal}
-use Rattle.ir_items.specs.GlobalView.{global_view}
+use Rattle.ir_items.specs.judged.GlobalPlain.{PlainGlobal}
+use Rattle.ir_items.specs.found.GlobalView.{global_view}
 use Rattle.module_constants.specs.Known.{module_in}
-use Rattle.spec_expressions.specs.Typing.{HasGlobalType}
+use Rattle.spec_expressions.specs.judged.Typing.{HasGlobalType}
 use Rattle.module_globals.proofs.known.validate_global_var.Goals as goal
 
 same : (v w : PlainGlobal) → Some v ≡ Some w → v ≡ w

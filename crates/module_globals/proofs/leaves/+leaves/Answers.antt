@@ -1,8 +1,8 @@
 use Rattle.std.proofs.Common.{◌+◌, drop, map, sym, arith}
-use Rattle.ir_types.specs.Plain.{inner_view, member_view}
+use Rattle.ir_types.specs.judged.Plain.{inner_view, member_view}
 use Rattle.module_globals.proofs.Parts.{far, element_more, element_all, element_rest, member_more, split_at, none_met, none_along, missing_along, found_along, met_found}
-use Rattle.typing_layout.specs.View.{tree_along}
-use Rattle.typing_forms.specs.Resolutions.{types_view}
+use Rattle.typing_layout.specs.judged.View.{tree_along}
+use Rattle.typing_forms.specs.judged.Resolutions.{types_view}
 use Rattle.module_globals.proofs.leaves.+leaves.Goals as goal
 use Rattle.module_globals.proofs.leaves.+leaves.Goals.{slots_along-then-depth-eq0-via-then-depth-eq0, slots_along-then-depth-eq0-via-else-depth-eq0+then-offset-ge256}
 

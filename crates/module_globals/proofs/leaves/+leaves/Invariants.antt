@@ -1,9 +1,9 @@
 use Rattle.std.proofs.Common.{◌↔◌, ◌<◌, ◌+◌, ◌*◌, ◌⊎◌, ℕ, drop, map}
 use Rattle.module_globals.specs.Reached.{IsReachedIn, IsReachedAmong}
 use Rattle.module_globals.specs.Slots.{IsIn}
-use Rattle.ir_types.specs.Plain.{member_view}
-use Rattle.typing_layout.specs.View.{members_by, tree_along}
-use Rattle.typing_forms.specs.Resolutions.{types_view}
+use Rattle.ir_types.specs.judged.Plain.{member_view}
+use Rattle.typing_layout.specs.judged.View.{members_by, tree_along}
+use Rattle.typing_forms.specs.judged.Resolutions.{types_view}
 use Rattle.module_globals.proofs.leaves.+leaves.Given as goal
 
 abbrev pub decreases-slots_along : goal.decreases-slots_along

@@ -1,5 +1,5 @@
 use Rattle.std.proofs.Common.{refl}
-use Rattle.ir_items.specs.View.{function_view, module_view}
+use Rattle.ir_items.specs.found.View.{function_view, module_view}
 use Rattle.module_handles.proofs.OrderLaws.{wrong_refutes}
 use Rattle.module_handles.proofs.arities.arities_match.Goals as goal
 

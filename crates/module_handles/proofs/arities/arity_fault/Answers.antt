@@ -1,5 +1,5 @@
 use Rattle.std.proofs.Common.{sym, ◌∙◌}
-use Rattle.ir_items.specs.View.{function_view, module_view}
+use Rattle.ir_items.specs.found.View.{function_view, module_view}
 use Rattle.module_handles.proofs.OrderLaws.{arities, wrong_found}
 use Rattle.module_handles.proofs.arities.arity_fault.Goals as goal
 

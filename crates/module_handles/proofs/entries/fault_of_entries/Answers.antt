@@ -1,6 +1,6 @@
 use Rattle.std.proofs.Common.{subst}
 use Rattle.std.specs.Option.{MatchOption}
-use Rattle.ir_items.specs.View.{entry_view, module_view}
+use Rattle.ir_items.specs.found.View.{entry_view, module_view}
 use Rattle.module_handles.proofs.FunctionFaults.{whole_entry_fault}
 use Rattle.module_handles.proofs.Viewed.{reported_viewed}
 use Rattle.module_handles.specs.InOrder.{IsFaultIn, EntryOK, IsEntryFault}

@@ -1,6 +1,6 @@
-use Rattle.ir_types.specs.ExpressionPlain.{expression_view}
-use Rattle.ir_items.specs.GlobalView.{values_of}
-use Rattle.ir_items.specs.View.{module_view}
+use Rattle.ir_types.specs.judged.ExpressionPlain.{expression_view}
+use Rattle.ir_items.specs.found.GlobalView.{values_of}
+use Rattle.ir_items.specs.found.View.{module_view}
 use Rattle.module_handles.proofs.OutsideFaults.{global_fault}
 use Rattle.module_handles.proofs.Viewed.{reported_viewed}
 use Rattle.module_handles.specs.InOrder.{IsFaultIn, GlobalExpressionOK, IsGlobalExpressionFault}

@@ -1,5 +1,5 @@
-use Rattle.ir_items.specs.GlobalView.{values_of}
-use Rattle.ir_items.specs.View.{function_view, module_view}
+use Rattle.ir_items.specs.found.GlobalView.{values_of}
+use Rattle.ir_items.specs.found.View.{function_view, module_view}
 use Rattle.module_handles.proofs.FunctionFaults.{function_fault}
 use Rattle.module_handles.proofs.Viewed.{reported_viewed}
 use Rattle.module_handles.specs.Conditions.{FunctionConditions}

@@ -1,5 +1,5 @@
 use Rattle.std.proofs.lemmas.Option.{MatchOption-at_some, MatchOption-at_none}
-use Rattle.ir_items.specs.View.{module_view}
+use Rattle.ir_items.specs.found.View.{module_view}
 use Rattle.module_handles.proofs.ItemLemmas.{special_told, leaf_told, constants_told, overrides_told, variables_reported}
 use Rattle.module_handles.proofs.PassLemmas.{weaker}
 use Rattle.module_handles.proofs.items.fault_of_items.Goals as goal

@@ -1,4 +1,4 @@
-use Rattle.ir_items.specs.GlobalView.{values_of}
+use Rattle.ir_items.specs.found.GlobalView.{values_of}
 use Rattle.module_handles.proofs.PassLemmas.{PassBelow}
 use Rattle.module_handles.proofs.lists.fault_of_values.Given as goal
 

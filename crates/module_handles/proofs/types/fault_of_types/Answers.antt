@@ -1,6 +1,6 @@
 use Rattle.std.proofs.Common.{sym, ◌∙◌}
-use Rattle.ir_items.specs.View.{module_view}
-use Rattle.ir_types.specs.Plain.{inner_view}
+use Rattle.ir_items.specs.found.View.{module_view}
+use Rattle.ir_types.specs.judged.Plain.{inner_view}
 use Rattle.module_handles.proofs.TypeLemmas.{own_fault_in, looked_fault_in, one_known, all_known, types_long}
 use Rattle.module_handles.proofs.types.fault_of_types.Goals as goal
 

@@ -1,4 +1,4 @@
-use Rattle.ir_items.specs.View.{module_view}
+use Rattle.ir_items.specs.found.View.{module_view}
 use Rattle.module_handles.specs.InOrder.{TypesBelow, NamesBefore}
 use Rattle.module_handles.proofs.types.fault_of_types.Given as goal
 

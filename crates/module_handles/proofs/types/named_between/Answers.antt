@@ -1,6 +1,6 @@
 use Rattle.std.proofs.Common.{sym, ◌∙◌, arith}
-use Rattle.ir_types.specs.ExpressionPlain.{expression_view}
-use Rattle.ir_items.specs.View.{module_view}
+use Rattle.ir_types.specs.judged.ExpressionPlain.{expression_view}
+use Rattle.ir_items.specs.found.View.{module_view}
 use Rattle.module_handles.proofs.TypeLemmas.{between_more, between_all, expressions_long}
 use Rattle.module_handles.proofs.Viewed.{entry_at}
 use Rattle.module_handles.proofs.types.named_between.Goals as goal

@@ -1,4 +1,4 @@
-use Rattle.ir_items.specs.View.{module_view}
+use Rattle.ir_items.specs.found.View.{module_view}
 use Rattle.module_handles.specs.InOrder.{NamesBefore}
 use Rattle.module_handles.proofs.types.named_between.Given as goal
 

@@ -1,5 +1,5 @@
 use Rattle.std.proofs.Common.{◌≡◌, Some, subst}
-use Rattle.ir_arena.specs.Arenas.{value_at}
+use Rattle.ir_arena.specs.found.Arenas.{value_at}
 use Rattle.typing_forms.proofs.Lookups.{inner_found}
 use Rattle.module_handles.proofs.types.type_at.Goals as goal
 

@@ -1,4 +1,4 @@
-use Rattle.ir_items.specs.View.{module_view}
+use Rattle.ir_items.specs.found.View.{module_view}
 use Rattle.module_handles.proofs.FunctionFaults.{parent_fault}
 use Rattle.module_handles.proofs.PassLemmas.{weaker}
 use Rattle.module_handles.proofs.validate.fault_of_filters.Goals as goal

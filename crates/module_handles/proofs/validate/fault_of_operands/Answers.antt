@@ -1,4 +1,4 @@
-use Rattle.ir_items.specs.View.{module_view}
+use Rattle.ir_items.specs.found.View.{module_view}
 use Rattle.module_handles.proofs.FunctionFaults.{global_operand_fault}
 use Rattle.module_handles.proofs.PassLemmas.{weaker}
 use Rattle.module_handles.proofs.validate.fault_of_operands.Goals as goal

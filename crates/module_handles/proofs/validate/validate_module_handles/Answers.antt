@@ -1,4 +1,4 @@
-use Rattle.ir_items.specs.View.{module_view}
+use Rattle.ir_items.specs.found.View.{module_view}
 use Rattle.module_handles.proofs.validate.validate_module_handles.Goals as goal
 
 pub returns-in-Some : goal.returns-in-Some

@@ -1,5 +1,5 @@
 use Rattle.std.proofs.Common.{map, arith}
-use Rattle.ir_types.specs.Plain.{member_view}
+use Rattle.ir_types.specs.judged.Plain.{member_view}
 use Rattle.module_type_checks.proofs.Sources.{located_more, located_all, plain_here}
 use Rattle.module_type_checks.proofs.blends.check_locations.Goals as goal
 

@@ -1,6 +1,6 @@
 -- The members that were passed have no other locations.
 use Rattle.std.proofs.Common.{map}
-use Rattle.ir_types.specs.Plain.{member_view}
+use Rattle.ir_types.specs.judged.Plain.{member_view}
 use Rattle.module_type_checks.proofs.Sources.{LocatedBelow}
 use Rattle.module_type_checks.proofs.blends.check_locations.Given as goal
 

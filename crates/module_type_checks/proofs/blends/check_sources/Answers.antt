@@ -1,5 +1,5 @@
 use Rattle.std.proofs.Common.{map}
-use Rattle.ir_types.specs.Plain.{member_view}
+use Rattle.ir_types.specs.judged.Plain.{member_view}
 use Rattle.module_type_checks.proofs.Sources.{other_present, sources_answer, named_within, where_none}
 use Rattle.module_type_checks.proofs.blends.check_sources.Goals as goal
 

@@ -1,5 +1,5 @@
 use Rattle.std.proofs.Common.{◌≡◌, ◌≢◌, None, map, refl, sym, ◌∙◌, true≢false, arith, rules}
-use Rattle.ir_types.specs.Plain.{member_view}
+use Rattle.ir_types.specs.judged.Plain.{member_view}
 use Rattle.module_type_checks.proofs.Sources.{source_got, none_more, none_at_all, some_or_none}
 use Rattle.module_type_checks.proofs.blends.has_source.Goals as goal
 

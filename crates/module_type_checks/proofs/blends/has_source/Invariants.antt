@@ -1,6 +1,6 @@
 -- No source was passed.
 use Rattle.std.proofs.Common.{map}
-use Rattle.ir_types.specs.Plain.{member_view}
+use Rattle.ir_types.specs.judged.Plain.{member_view}
 use Rattle.module_type_checks.proofs.Sources.{NoneBelow}
 use Rattle.module_type_checks.proofs.blends.has_source.Given as goal
 

@@ -1,6 +1,6 @@
 -- What was found is the only one that was passed.
 use Rattle.std.proofs.Common.{map}
-use Rattle.ir_types.specs.Plain.{member_view}
+use Rattle.ir_types.specs.judged.Plain.{member_view}
 use Rattle.module_type_checks.specs.Blends.{IsSoleBelow}
 use Rattle.module_type_checks.proofs.blends.sole_source.Given as goal
 

@@ -1,7 +1,7 @@
 use Rattle.std.proofs.Common.{◌≡◌, ◌≢◌, Some, None, get_or, map, refl, sym, ◌∙◌, rules, true≢false}
-use Rattle.ir_types.specs.Plain.{member_view}
-use Rattle.typing_layout.specs.Blends.{source_at}
-use Rattle.typing_layout.specs.Flags.{blend_source}
+use Rattle.ir_types.specs.judged.Plain.{member_view}
+use Rattle.typing_layout.specs.judged.Blends.{source_at}
+use Rattle.typing_layout.specs.judged.Flags.{blend_source}
 use Rattle.module_type_checks.proofs.Sources.{source_got, sole_skip, sole_here, twice}
 use Rattle.module_type_checks.proofs.blends.sole_with.Goals as goal
 

@@ -1,4 +1,4 @@
-use Rattle.ir_types.specs.Plain.{inner_view}
+use Rattle.ir_types.specs.judged.Plain.{inner_view}
 use Rattle.module_type_checks.proofs.Checks.{names_within, type_answer}
 use Rattle.module_type_checks.proofs.check.check_type.Goals as goal
 

@@ -1,5 +1,5 @@
 use Rattle.std.proofs.Common.{refl}
-use Rattle.ir_types.specs.Plain.{inner_view}
+use Rattle.ir_types.specs.judged.Plain.{inner_view}
 use Rattle.module_type_checks.proofs.Known.{facts_from}
 use Rattle.module_type_checks.proofs.facts.facts_of.Goals as goal
 

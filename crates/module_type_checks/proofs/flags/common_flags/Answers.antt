@@ -1,5 +1,5 @@
 use Rattle.std.proofs.Common.{map, refl, arith}
-use Rattle.ir_types.specs.Plain.{member_view}
+use Rattle.ir_types.specs.judged.Plain.{member_view}
 use Rattle.module_type_checks.proofs.FlagLaws.{common_none, common_more, common_all}
 use Rattle.module_type_checks.proofs.flags.common_flags.Goals as goal
 

@@ -1,6 +1,6 @@
 -- The flags that the members have that were passed.
 use Rattle.std.proofs.Common.{map}
-use Rattle.ir_types.specs.Plain.{member_view}
+use Rattle.ir_types.specs.judged.Plain.{member_view}
 use Rattle.module_type_checks.specs.Sets.{CommonBelow}
 use Rattle.module_type_checks.proofs.flags.common_flags.Given as goal
 

@@ -1,5 +1,5 @@
 use Rattle.std.proofs.Common.{map}
-use Rattle.ir_types.specs.Plain.{member_view}
+use Rattle.ir_types.specs.judged.Plain.{member_view}
 use Rattle.module_type_checks.proofs.FlagLaws.{struct_are}
 use Rattle.module_type_checks.proofs.flags.flags_of_struct.Goals as goal
 

@@ -1,5 +1,5 @@
 use Rattle.std.proofs.Common.{map, refl}
-use Rattle.ir_types.specs.Plain.{member_view}
+use Rattle.ir_types.specs.judged.Plain.{member_view}
 use Rattle.module_type_checks.proofs.FlagLaws.{follows_none, follows_some, le_tells}
 use Rattle.module_type_checks.proofs.flags.follows.Goals as goal
 

@@ -1,5 +1,5 @@
 use Rattle.std.proofs.Common.{map, refl, sym, ◌∙◌, true≢false, arith}
-use Rattle.ir_types.specs.Plain.{member_view}
+use Rattle.ir_types.specs.judged.Plain.{member_view}
 use Rattle.module_type_checks.specs.Sets.{Follows}
 use Rattle.module_type_checks.proofs.Places.{below_more, below_all}
 use Rattle.module_type_checks.specs.Known.{tree_in}

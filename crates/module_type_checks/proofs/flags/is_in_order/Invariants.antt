@@ -1,6 +1,6 @@
 -- The members that were passed are in order.
 use Rattle.std.proofs.Common.{map}
-use Rattle.ir_types.specs.Plain.{member_view}
+use Rattle.ir_types.specs.judged.Plain.{member_view}
 use Rattle.module_type_checks.specs.Sets.{Follows}
 use Rattle.module_type_checks.specs.Placed.{parts_in, Below}
 use Rattle.module_type_checks.proofs.flags.is_in_order.Given as goal

@@ -1,5 +1,5 @@
 use Rattle.std.proofs.Common.{arith, rules}
-use Rattle.typing_layout.specs.Flags.{HasFlag, Data}
+use Rattle.typing_layout.specs.judged.Flags.{HasFlag, Data}
 use Rattle.module_type_checks.specs.Known.{tree_in}
 use Rattle.module_type_checks.proofs.PlacedLaws.{placed_ok}
 use Rattle.module_type_checks.proofs.members.check_member.Goals as goal

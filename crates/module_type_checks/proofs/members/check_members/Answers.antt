@@ -1,6 +1,6 @@
 use Rattle.std.proofs.Common.{◌≢◌, [], map, arith, rules}
-use Rattle.ir_types.specs.Plain.{member_view}
-use Rattle.typing_layout.specs.Structs.{MemberOK}
+use Rattle.ir_types.specs.judged.Plain.{member_view}
+use Rattle.typing_layout.specs.judged.Structs.{MemberOK}
 use Rattle.module_type_checks.specs.Known.{tree_in}
 use Rattle.module_type_checks.specs.Placed.{parts_in}
 use Rattle.module_type_checks.proofs.PlacedLaws.{parts_some}

@@ -1,7 +1,7 @@
 -- The members that were passed may stand at their places.
 use Rattle.std.proofs.Common.{map}
-use Rattle.ir_types.specs.Plain.{member_view}
-use Rattle.typing_layout.specs.Structs.{MemberOK}
+use Rattle.ir_types.specs.judged.Plain.{member_view}
+use Rattle.typing_layout.specs.judged.Structs.{MemberOK}
 use Rattle.module_type_checks.specs.Placed.{parts_in, Below}
 use Rattle.module_type_checks.proofs.members.check_members.Given as goal
 

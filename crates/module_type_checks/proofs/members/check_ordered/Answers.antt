@@ -1,5 +1,5 @@
 use Rattle.std.proofs.Common.{map, inr, arith, refl}
-use Rattle.ir_types.specs.Plain.{member_view}
+use Rattle.ir_types.specs.judged.Plain.{member_view}
 use Rattle.module_type_checks.proofs.PlacedLaws.{free_none, free_behind_it, overlaps}
 use Rattle.module_type_checks.proofs.members.check_ordered.Goals as goal
 

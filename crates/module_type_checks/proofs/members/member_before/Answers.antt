@@ -1,5 +1,5 @@
 use Rattle.std.proofs.Common.{map}
-use Rattle.ir_types.specs.Plain.{member_view}
+use Rattle.ir_types.specs.judged.Plain.{member_view}
 use Rattle.module_type_checks.proofs.PlacedLaws.{placed_before}
 use Rattle.module_type_checks.proofs.members.member_before.Goals as goal
 

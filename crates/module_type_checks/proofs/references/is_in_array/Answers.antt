@@ -1,4 +1,4 @@
-use Rattle.ir_types.specs.Plain.{inner_view}
+use Rattle.ir_types.specs.judged.Plain.{inner_view}
 use Rattle.module_type_checks.proofs.Known.{bound_from}
 use Rattle.module_type_checks.proofs.references.is_in_array.Goals as goal
 

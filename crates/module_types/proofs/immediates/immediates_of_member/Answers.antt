@@ -1,5 +1,5 @@
 use Rattle.std.proofs.Common.{map}
-use Rattle.ir_types.specs.Plain.{member_view}
+use Rattle.ir_types.specs.judged.Plain.{member_view}
 use Rattle.module_types.proofs.LayoutLaws.{member_fits}
 use Rattle.module_types.proofs.immediates.immediates_of_member.Goals as goal
 

@@ -1,5 +1,5 @@
 use Rattle.std.proofs.Common.{map, arith}
-use Rattle.ir_types.specs.Plain.{member_view}
+use Rattle.ir_types.specs.judged.Plain.{member_view}
 use Rattle.module_types.proofs.LayoutLaws.{fit_struct}
 use Rattle.module_types.specs.Layouts.{FitsAt}
 use Rattle.module_type_checks.proofs.Places.{below_more, below_all}

@@ -1,4 +1,4 @@
-use Rattle.ir_types.specs.Plain.{inner_view}
+use Rattle.ir_types.specs.judged.Plain.{inner_view}
 use Rattle.module_type_checks.proofs.Checks.{names_within}
 use Rattle.module_types.proofs.info.info_of.Goals as goal
 

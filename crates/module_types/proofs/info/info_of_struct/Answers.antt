@@ -1,5 +1,5 @@
 use Rattle.std.proofs.Common.{sym, subst, map}
-use Rattle.ir_types.specs.Plain.{member_view}
+use Rattle.ir_types.specs.judged.Plain.{member_view}
 use Rattle.module_types.proofs.LayoutLaws.{struct_at}
 use Rattle.module_type_infos.specs.Infos.{AreFlags}
 use Rattle.module_types.proofs.info.info_of_struct.Goals as goal

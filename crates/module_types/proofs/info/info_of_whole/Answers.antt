@@ -1,4 +1,4 @@
-use Rattle.ir_types.specs.Plain.{inner_view}
+use Rattle.ir_types.specs.judged.Plain.{inner_view}
 use Rattle.module_types.proofs.WholeLaws.{at_whole, at_flags, at_immediates}
 use Rattle.module_type_checks.specs.Known.{tree_in}
 use Rattle.module_types.proofs.info.info_of_whole.Goals as goal

@@ -1,7 +1,7 @@
 use Rattle.std.proofs.Common.{rules, ◌∙◌}
 use Rattle.module_types.proofs.LayoutLaws.{broken_here}
 use Rattle.module_types.proofs.WholeLaws.{whole_storage, whole_uniform, whole_alignment}
-use Rattle.typing_layout.specs.Flags.{HasFlag, HostShareable}
+use Rattle.typing_layout.specs.judged.Flags.{HasFlag, HostShareable}
 use Rattle.module_type_checks.specs.Known.{tree_in}
 use Rattle.module_type_infos.specs.BufferFaults.{BreaksStorage, BreaksUniform}
 use Rattle.module_type_infos.specs.declared.error.Disalignment.TheVariants as fault

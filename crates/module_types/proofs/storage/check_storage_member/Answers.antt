@@ -1,7 +1,7 @@
 use Rattle.std.proofs.Common.{map, rules, true≢false, sym, ◌∙◌}
-use Rattle.ir_types.specs.Plain.{member_view}
+use Rattle.ir_types.specs.judged.Plain.{member_view}
 use Rattle.module_types.proofs.LayoutLaws.{broken_part, broken_here, bad_offset, storage_part}
-use Rattle.typing_layout.specs.Layout.{alignment}
+use Rattle.typing_layout.specs.judged.Layout.{alignment}
 use Rattle.module_type_checks.specs.Known.{types_in, tree_in}
 use Rattle.module_type_infos.specs.BufferFaults.{BreaksStorage, IsBroken}
 use Rattle.module_type_infos.specs.declared.error.Disalignment.TheVariants as fault

@@ -1,6 +1,6 @@
 use Rattle.std.proofs.Common.{◌≡◌, true≢false, sym, ◌∙◌}
 use Rattle.module_types.proofs.LayoutLaws.{broken_here, bad_stride, storage_array}
-use Rattle.typing_layout.specs.Layout.{alignment}
+use Rattle.typing_layout.specs.judged.Layout.{alignment}
 use Rattle.module_type_infos.specs.BufferFaults.{BreaksStorage}
 use Rattle.module_type_infos.specs.declared.error.Disalignment.TheVariants as fault
 use Rattle.module_types.proofs.storage.storage_of_array.Goals as goal

@@ -1,5 +1,5 @@
 use Rattle.std.proofs.Common.{map, rules}
-use Rattle.ir_types.specs.Plain.{member_view}
+use Rattle.ir_types.specs.judged.Plain.{member_view}
 use Rattle.module_types.proofs.LayoutLaws.{broken_part}
 use Rattle.module_type_checks.specs.Known.{types_in, tree_in}
 use Rattle.module_type_infos.specs.BufferFaults.{BreaksUniform, IsBroken}

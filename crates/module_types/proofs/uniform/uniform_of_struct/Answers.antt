@@ -1,9 +1,9 @@
 use Rattle.std.proofs.Common.{map, rules, arith, true≢false, sym, subst, ◌∙◌}
 use Rattle.std.specs.Int.{◌∣◌}
-use Rattle.ir_types.specs.Plain.{member_view}
+use Rattle.ir_types.specs.judged.Plain.{member_view}
 use Rattle.module_types.proofs.LayoutLaws.{struct_at, broken_here, bad_span, uniform_struct, struct_sixteen}
 use Rattle.module_types.specs.Layouts.{UniformPart}
-use Rattle.typing_layout.specs.Flags.{HasFlag, HostShareable}
+use Rattle.typing_layout.specs.judged.Flags.{HasFlag, HostShareable}
 use Rattle.module_type_checks.proofs.Places.{below_more, below_all}
 use Rattle.module_type_checks.specs.Known.{tree_in}
 use Rattle.module_type_checks.specs.Placed.{parts_in}

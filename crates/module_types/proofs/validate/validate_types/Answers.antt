@@ -1,5 +1,5 @@
 use Rattle.std.proofs.Common.{arith}
-use Rattle.typing_forms.specs.Resolutions.{types_view}
+use Rattle.typing_forms.specs.judged.Resolutions.{types_view}
 use Rattle.module_types.proofs.Accepted.{accepted_more, first_refused}
 use Rattle.module_types.proofs.validate.validate_types.Goals as goal
 

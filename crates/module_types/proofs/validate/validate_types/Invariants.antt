@@ -1,5 +1,5 @@
 -- The types that were passed are accepted, and it is reported of each.
-use Rattle.typing_forms.specs.Resolutions.{types_view}
+use Rattle.typing_forms.specs.judged.Resolutions.{types_view}
 use Rattle.module_types.specs.Validated.{AreAcceptedBelow}
 use Rattle.module_types.proofs.validate.validate_types.Given as goal
 

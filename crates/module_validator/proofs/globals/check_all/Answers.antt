@@ -1,10 +1,10 @@
 use Rattle.std.proofs.Common.{◌≡◌, sym, subst, arith}
 use Rattle.module_globals.proofs.Refuted.{fault_refutes}
-use Rattle.ir_items.specs.GlobalView.{global_view}
+use Rattle.ir_items.specs.found.GlobalView.{global_view}
 use Rattle.module_constants.proofs.Reported.{accepted_more, many_viewed}
 use Rattle.module_constants.specs.Known.{module_in}
 use Rattle.module_validator.proofs.Known.{is_there}
-use Rattle.spec_interface.specs.Globals.{GlobalOK}
+use Rattle.spec_interface.specs.judged.Globals.{GlobalOK}
 use Rattle.module_validator.proofs.globals.check_all.Goals as goal
 
 pub loop-place-init : goal.loop-place-init

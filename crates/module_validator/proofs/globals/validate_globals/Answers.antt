@@ -1,5 +1,5 @@
 use Rattle.std.proofs.Common.{◌≡◌, map, rules}
-use Rattle.ir_items.specs.View.{module_view}
+use Rattle.ir_items.specs.found.View.{module_view}
 use Rattle.module_handles.proofs.Origins.{order_gives_origins}
 use Rattle.module_validator.proofs.ValueLemmas.{known_in}
 use Rattle.typing_errors.specs.Answers.{form_given}

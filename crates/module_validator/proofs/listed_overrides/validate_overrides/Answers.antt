@@ -1,10 +1,10 @@
 use Rattle.std.proofs.Common.{◌+◌, subst, arith}
-use Rattle.ir_items.specs.GlobalView.{override_view}
+use Rattle.ir_items.specs.found.GlobalView.{override_view}
 use Rattle.module_constants.proofs.Reported.{accepted_more, many_viewed}
 use Rattle.module_validator.proofs.OverrideTold.{refusal_reported}
 use Rattle.module_constants.specs.Ids.{AreIds}
 use Rattle.module_constants.specs.Known.{module_in}
-use Rattle.spec_expressions.specs.Overrides.{OverrideOK}
+use Rattle.spec_expressions.specs.judged.Overrides.{OverrideOK}
 use Rattle.module_validator.proofs.listed_overrides.validate_overrides.Goals as goal
 
 pub loop-place-preserved : goal.loop-place-preserved

@@ -2,7 +2,7 @@
 use Rattle.std.proofs.Common.{ℕ, ◌<◌}
 use Rattle.module_constants.specs.Ids.{AreIds}
 use Rattle.module_constants.specs.Known.{module_in}
-use Rattle.spec_expressions.specs.Overrides.{OverrideOK}
+use Rattle.spec_expressions.specs.judged.Overrides.{OverrideOK}
 use Rattle.module_validator.proofs.listed_overrides.validate_overrides.Given as goal
 
 abbrev pub invariant-loop-place : goal.invariant-loop-place

@@ -1,9 +1,9 @@
 use Rattle.std.proofs.Common.{refl}
-use Rattle.ir_items.specs.View.{module_view}
+use Rattle.ir_items.specs.found.View.{module_view}
 use Rattle.module_handles.proofs.OrderedExpressions.{order_gives_expressions}
 use Rattle.module_validator.proofs.StepLemmas.{typed}
 use Rattle.judgement.proofs.Reached.{reach}
-use Rattle.judgement.specs.ModuleSteps as step
+use Rattle.judgement.specs.judged.ModuleSteps as step
 use Rattle.module_validator.proofs.steps.expression_types.Goals as goal
 
 pub const_expression_types-requires-clause-precede : goal.const_expression_types-requires-clause-precede

@@ -1,12 +1,12 @@
 use Rattle.std.proofs.Common.{refl, arith, rules}
-use Rattle.ir_items.specs.View.{module_view}
-use Rattle.ir_types.specs.Plain.{type_view}
+use Rattle.ir_items.specs.found.View.{module_view}
+use Rattle.ir_types.specs.judged.Plain.{type_view}
 use Rattle.module_constants.proofs.Reported.{many_viewed}
 use Rattle.module_handles.proofs.Whole.{order_gives_conditions}
 use Rattle.module_validator.proofs.Refusals.{by_told}
 use Rattle.module_validator.proofs.StepLemmas.{laid}
 use Rattle.judgement.proofs.Reached.{reach}
-use Rattle.judgement.specs.ModuleSteps as step
+use Rattle.judgement.specs.judged.ModuleSteps as step
 use Rattle.module_validator.proofs.steps.lay_out.Goals as goal
 
 pub update-requires-clause-back : goal.update-requires-clause-back

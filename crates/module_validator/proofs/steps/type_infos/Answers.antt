@@ -1,9 +1,9 @@
 use Rattle.std.proofs.Common.{refl}
-use Rattle.ir_items.specs.View.{module_view}
+use Rattle.ir_items.specs.found.View.{module_view}
 use Rattle.module_handles.proofs.Whole.{order_gives_conditions}
 use Rattle.module_validator.proofs.StepLemmas.{told}
 use Rattle.judgement.proofs.Reached.{reach}
-use Rattle.judgement.specs.ModuleSteps as step
+use Rattle.judgement.specs.judged.ModuleSteps as step
 use Rattle.module_validator.proofs.steps.type_infos.Goals as goal
 
 pub validate_types-requires-clause-back : goal.validate_types-requires-clause-back

@@ -1,4 +1,4 @@
-use Rattle.ir_items.specs.View.{module_view}
+use Rattle.ir_items.specs.found.View.{module_view}
 use Rattle.module_validator.proofs.Refusals.{by_refusal}
 use Rattle.module_validator.proofs.steps.untyped.Goals as goal
 

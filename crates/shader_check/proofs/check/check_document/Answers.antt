@@ -1,5 +1,5 @@
 use Rattle.std.proofs.Common.{◌++◌, string_bytes}
-use Rattle.judgement.specs.Text.{text_of}
+use Rattle.judgement.specs.judged.Text.{text_of}
 use Rattle.shader_check.proofs.Expected.{expected, expected_for, without_results, verdict_is, sound_answer, sound_of}
 use Rattle.shader_check.proofs.check.check_document.Goals as goal
 

@@ -2,9 +2,9 @@ use Rattle.std.proofs.Common.{◌≡◌, ◌<◌, map, length, sym, subst, arith
 use Rattle.std.proofs.lemmas.List.{length-map}
 use Rattle.shader_check.proofs.EntrySteps.{none_judged, some_item, told_conflict}
 use Rattle.shader_check.proofs.NameSteps.{no_names}
-use Rattle.shader_check.specs.JudgedEntries.{AreEntriesJudged, note_of}
-use Rattle.shader_check.specs.Settings.{settings_in}
-use Rattle.ir_items.specs.View.{entry_view, module_view}
+use Rattle.shader_check.specs.found.JudgedEntries.{AreEntriesJudged, note_of}
+use Rattle.shader_check.specs.found.Settings.{settings_in}
+use Rattle.ir_items.specs.found.View.{entry_view, module_view}
 use Rattle.shader_check.proofs.entries.judge_entries.Goals as goal
 
 pub loop-index-init : goal.loop-index-init

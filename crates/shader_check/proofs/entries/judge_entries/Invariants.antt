@@ -1,9 +1,9 @@
 use Rattle.std.proofs.Common.{map}
 use Rattle.function_entries.specs.Interfaces.{AreInterfacesKnown}
 use Rattle.function_validator.specs.Names.{AreNamesBelow}
-use Rattle.shader_check.specs.JudgedEntries.{AreEntriesJudged, note_of}
-use Rattle.shader_check.specs.Settings.{settings_in}
-use Rattle.ir_items.specs.View.{module_view}
+use Rattle.shader_check.specs.found.JudgedEntries.{AreEntriesJudged, note_of}
+use Rattle.shader_check.specs.found.Settings.{settings_in}
+use Rattle.ir_items.specs.found.View.{module_view}
 use Rattle.shader_check.proofs.entries.judge_entries.Given as goal
 
 -- the entry points before are accepted, and their names are noted

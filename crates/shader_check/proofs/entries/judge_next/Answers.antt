@@ -2,9 +2,9 @@ use Rattle.std.proofs.Common.{◌∙◌, map}
 use Rattle.std.proofs.lemmas.List.{length-map}
 use Rattle.shader_check.proofs.EntrySteps.{entry_conditions, entry_known, judged_more, payload_there, output_there, reported_entry}
 use Rattle.shader_check.proofs.Placed.{item_there}
-use Rattle.shader_check.specs.JudgedEntries.{note_of}
-use Rattle.shader_check.specs.Settings.{settings_in}
-use Rattle.ir_items.specs.View.{entry_view, module_view}
+use Rattle.shader_check.specs.found.JudgedEntries.{note_of}
+use Rattle.shader_check.specs.found.Settings.{settings_in}
+use Rattle.ir_items.specs.found.View.{entry_view, module_view}
 use Rattle.module_handles.proofs.Whole.{order_gives_conditions}
 use Rattle.shader_check.proofs.entries.judge_next.Goals as goal
 

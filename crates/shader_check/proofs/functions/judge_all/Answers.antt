@@ -1,10 +1,10 @@
 use Rattle.std.proofs.Common.{◌≡◌, false, None, map, length, subst, ◌∙◌, arith}
 use Rattle.std.proofs.lemmas.List.{length-map}
-use Rattle.shader_check.specs.Judged.{AreJudged}
-use Rattle.shader_check.specs.Settings.{settings_for}
-use Rattle.ir_arena.specs.Arenas.{value_of_entry}
-use Rattle.ir_items.specs.GlobalView.{values_of}
-use Rattle.ir_items.specs.View.{function_view, module_view}
+use Rattle.shader_check.specs.found.Judged.{AreJudged}
+use Rattle.shader_check.specs.found.Settings.{settings_for}
+use Rattle.ir_arena.specs.found.Arenas.{value_of_entry}
+use Rattle.ir_items.specs.found.GlobalView.{values_of}
+use Rattle.ir_items.specs.found.View.{function_view, module_view}
 use Rattle.shader_check.proofs.functions.judge_all.Goals as goal
 
 pub returns : goal.returns

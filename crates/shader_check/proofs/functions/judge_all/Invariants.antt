@@ -1,7 +1,7 @@
 use Rattle.std.proofs.Common.{false, None, map}
-use Rattle.shader_check.specs.Judged.{AreJudged}
-use Rattle.shader_check.specs.Settings.{settings_for}
-use Rattle.ir_items.specs.View.{module_view}
+use Rattle.shader_check.specs.found.Judged.{AreJudged}
+use Rattle.shader_check.specs.found.Settings.{settings_for}
+use Rattle.ir_items.specs.found.View.{module_view}
 use Rattle.shader_check.proofs.functions.judge_all.Given as goal
 
 -- the functions before this one are judged

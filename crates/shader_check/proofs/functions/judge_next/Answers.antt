@@ -1,8 +1,8 @@
 use Rattle.std.proofs.Common.{None, false, map}
 use Rattle.shader_check.proofs.Chained.{conditions_at, judged_more, reported_refusal}
 use Rattle.shader_check.proofs.Placed.{view_there}
-use Rattle.shader_check.specs.Settings.{settings_for}
-use Rattle.ir_items.specs.View.{function_view, module_view}
+use Rattle.shader_check.specs.found.Settings.{settings_for}
+use Rattle.ir_items.specs.found.View.{function_view, module_view}
 use Rattle.module_handles.proofs.Whole.{order_gives_conditions}
 use Rattle.shader_check.proofs.functions.judge_next.Goals as goal
 

@@ -1,5 +1,5 @@
-use Rattle.document_reader.specs.View.{document_view}
-use Rattle.ir_items.specs.View.{module_view}
+use Rattle.document_reader.specs.found.View.{document_view}
+use Rattle.ir_items.specs.found.View.{module_view}
 use Rattle.shader_check.proofs.JudgedLaws.{examined_if}
 use Rattle.shader_check.proofs.judge.examine_document.Goals as goal
 

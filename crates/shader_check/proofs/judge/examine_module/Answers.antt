@@ -1,11 +1,11 @@
 use Rattle.std.proofs.Common.{subst, sym, false}
 use Rattle.check_errors.specs.Spans.{IsRefusedAt}
-use Rattle.shader_check.specs.Validated.{IsValidated, IsValidationFault}
-use Rattle.shader_check.specs.Settings.{settings_in}
+use Rattle.shader_check.specs.found.Validated.{IsValidated, IsValidationFault}
+use Rattle.shader_check.specs.found.Settings.{settings_in}
 use Rattle.check_errors.specs.declared.error.ValidationError.{ValidationError}
 use Rattle.ir_faults.specs.declared.refusal.Refusal.{Refusal}
-use Rattle.ir_items.specs.View.{module_view}
-use Rattle.spec_statements.specs.Functions.{FunctionSettings}
+use Rattle.ir_items.specs.found.View.{module_view}
+use Rattle.spec_statements.specs.judged.Functions.{FunctionSettings}
 use Rattle.shader_check.proofs.judge.examine_module.Goals as goal
 
 pub returns-in-Ok : goal.returns-in-Ok

@@ -1,4 +1,4 @@
-use Rattle.document_reader.specs.View.{document_view}
+use Rattle.document_reader.specs.found.View.{document_view}
 use Rattle.shader_check.proofs.JudgedLaws.{judgement_if, nothing_on}
 use Rattle.shader_check.proofs.judge.judge.Goals as goal
 

@@ -1,4 +1,4 @@
-use Rattle.document_reader.specs.View.{document_view}
+use Rattle.document_reader.specs.found.View.{document_view}
 use Rattle.shader_check.proofs.JudgedLaws.{judgement_of, kept_in}
 use Rattle.shader_check.proofs.judge.judge_document.Goals as goal
 

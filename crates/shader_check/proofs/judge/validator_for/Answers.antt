@@ -1,5 +1,5 @@
 use Rattle.std.proofs.Common.{◌∙◌, false, None}
-use Rattle.shader_check.specs.Settings.{settings_for}
+use Rattle.shader_check.specs.found.Settings.{settings_for}
 use Rattle.shader_check.proofs.judge.validator_for.Goals as goal
 
 pub returns : goal.returns

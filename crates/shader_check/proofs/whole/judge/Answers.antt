@@ -1,15 +1,15 @@
 use Rattle.std.proofs.Common.{sym, subst}
 use Rattle.shader_check.proofs.Assembled.{fault_after, made_of, reported_by, validated, widened}
-use Rattle.shader_check.specs.Settings.{settings_in}
-use Rattle.shader_check.specs.Validated.{IsFaultAfter, IsKeptWith, IsRefusedWith, IsValidationFault, module_settings}
+use Rattle.shader_check.specs.found.Settings.{settings_in}
+use Rattle.shader_check.specs.found.Validated.{IsFaultAfter, IsKeptWith, IsRefusedWith, IsValidationFault, module_settings}
 use Rattle.check_errors.specs.declared.error.ValidationError.TheVariants as error
-use Rattle.ir_items.specs.View.{module_view}
+use Rattle.ir_items.specs.found.View.{module_view}
 use Rattle.typing_infos.specs.declared.info.ModuleInfo.{ModuleInfo}
 use Rattle.module_handles.proofs.Whole.{order_gives_conditions}
 use Rattle.module_validator.specs.Faults.{IsModuleFault}
 use Rattle.module_validator.specs.Refusals.{IsVariableFault}
 use Rattle.function_real_lower.specs.Made.{IsMadeOf}
-use Rattle.spec_statements.specs.Functions.{FunctionSettings}
+use Rattle.spec_statements.specs.judged.Functions.{FunctionSettings}
 use Rattle.shader_check.proofs.whole.judge.Goals as goal
 
 pub over-requires : goal.over-requires

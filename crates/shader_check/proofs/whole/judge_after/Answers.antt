@@ -5,15 +5,15 @@ use Rattle.typing_infos.specs.declared.function_info.FunctionInfo.{FunctionInfo}
 use Rattle.shader_check.proofs.Assembled.{entries_kept, entries_noted, entry_refused, run_so, reported_by}
 use Rattle.shader_check.proofs.EntryHeld.{held_behind_functions}
 use Rattle.shader_check.proofs.FunctionKept.{kept, refused_by}
-use Rattle.shader_check.specs.Chains.{AreKept, IsFunctionFault}
-use Rattle.shader_check.specs.JudgedEntries.{AreEntriesJudged, IsEntryRefusal, note_of}
-use Rattle.shader_check.specs.Settings.{settings_in}
-use Rattle.shader_check.specs.Validated.{AreEntriesKept, AreNoted, IsEntryFault, IsFaultAfter}
+use Rattle.shader_check.specs.found.Chains.{AreKept, IsFunctionFault}
+use Rattle.shader_check.specs.found.JudgedEntries.{AreEntriesJudged, IsEntryRefusal, note_of}
+use Rattle.shader_check.specs.found.Settings.{settings_in}
+use Rattle.shader_check.specs.found.Validated.{AreEntriesKept, AreNoted, IsEntryFault, IsFaultAfter}
 use Rattle.check_errors.specs.declared.error.ValidationError.TheVariants as error
-use Rattle.ir_items.specs.View.{module_view}
+use Rattle.ir_items.specs.found.View.{module_view}
 use Rattle.typing_infos.specs.declared.info.ModuleInfo.{ModuleInfo}
 use Rattle.function_real_lower.specs.Readings.{reading_of, faults_of}
-use Rattle.spec_analysis.specs.Summaries.{AreSummaries}
+use Rattle.spec_analysis.specs.judged.Summaries.{AreSummaries}
 use Rattle.shader_check.proofs.whole.judge_after.Goals as goal
 
 pub judge_all-requires-clause-made : goal.judge_all-requires-clause-made

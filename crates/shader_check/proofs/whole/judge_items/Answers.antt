@@ -1,12 +1,12 @@
 use Rattle.std.proofs.Common.{OnOk, IfOk, IfErr, subst}
 use Rattle.shader_check.proofs.Assembled.{if_err_as, items_refused, settings_are}
-use Rattle.shader_check.specs.Settings.{settings_in}
-use Rattle.shader_check.specs.Validated.{IsRefusedWith, module_settings}
-use Rattle.ir_items.specs.View.{module_view}
+use Rattle.shader_check.specs.found.Settings.{settings_in}
+use Rattle.shader_check.specs.found.Validated.{IsRefusedWith, module_settings}
+use Rattle.ir_items.specs.found.View.{module_view}
 use Rattle.module_validator.specs.Faults as items
 use Rattle.module_validator.specs.Faults.{IsModuleFault}
 use Rattle.module_validator.specs.Reported.{IsInfoOf}
-use Rattle.judgement.specs.ModuleSteps.{ModuleOK}
+use Rattle.judgement.specs.judged.ModuleSteps.{ModuleOK}
 use Rattle.judgement.specs.declared.settings.ModuleSettings.{ModuleSettings}
 use Rattle.shader_check.proofs.whole.judge_items.Goals as goal
 

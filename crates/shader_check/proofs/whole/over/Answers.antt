@@ -1,6 +1,6 @@
 use Rattle.std.proofs.Common.{◌∙◌, sym, ap, subst, false, None}
-use Rattle.shader_check.specs.Settings.{settings_for}
-use Rattle.ir_items.specs.View.{module_view}
+use Rattle.shader_check.specs.found.Settings.{settings_for}
+use Rattle.ir_items.specs.found.View.{module_view}
 use Rattle.function_real_lower.specs.Severities.{AreKnown}
 use Rattle.function_real_lower.specs.declared.real.RealLower.{RealLower}
 use Rattle.shader_check.proofs.whole.over.Goals as goal

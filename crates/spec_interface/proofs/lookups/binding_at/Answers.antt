@@ -1,8 +1,8 @@
 use Rattle.std.proofs.Common.{sym, ap}
 use Rattle.std.specs.Prelude.{option_and_then}
 use Rattle.spec_interface.proofs.Places.{found}
-use Rattle.ir_items.specs.GlobalPlain.{PlainGlobal}
-use Rattle.ir_items.specs.GlobalView.{global_view}
+use Rattle.ir_items.specs.judged.GlobalPlain.{PlainGlobal}
+use Rattle.ir_items.specs.found.GlobalView.{global_view}
 use Rattle.spec_interface.proofs.lookups.binding_at.Goals as goal
 
 pub returns : goal.returns

@@ -1,7 +1,7 @@
 use Rattle.std.proofs.Common.{◌≡◌, Some, None, map, sym, ap, subst}
 use Rattle.std.specs.Prelude.{MatchOption}
-use Rattle.ir_types.specs.Plain.{member_view}
-use Rattle.spec_interface.specs.Members.{members_in}
+use Rattle.ir_types.specs.judged.Plain.{member_view}
+use Rattle.spec_interface.specs.judged.Members.{members_in}
 use Rattle.spec_interface.proofs.lookups.members_at.Goals as goal
 
 pub returns-in-Some : goal.returns-in-Some

@@ -1,7 +1,7 @@
 use Rattle.std.proofs.Common.{option_map, ap}
 use Rattle.spec_interface.proofs.Places.{found}
-use Rattle.ir_items.specs.GlobalPlain.{PlainGlobal}
-use Rattle.ir_items.specs.GlobalView.{global_view}
+use Rattle.ir_items.specs.judged.GlobalPlain.{PlainGlobal}
+use Rattle.ir_items.specs.found.GlobalView.{global_view}
 use Rattle.spec_interface.proofs.lookups.space_at.Goals as goal
 
 pub returns : goal.returns

@@ -1,7 +1,7 @@
 use Rattle.std.proofs.Common.{map, take}
-use Rattle.spec_interface.specs.Found.{Stands}
-use Rattle.ir_types.specs.Plain.{member_view}
-use Rattle.spec_interface.specs.Members.{types_bound}
+use Rattle.spec_interface.specs.found.Found.{Stands}
+use Rattle.ir_types.specs.judged.Plain.{member_view}
+use Rattle.spec_interface.specs.judged.Members.{types_bound}
 use Rattle.spec_interface.proofs.members.only_type.Given as goal
 
 -- what is found among the members before this one

@@ -1,7 +1,7 @@
 use Rattle.std.proofs.Common.{◌≡◌, ◌∷◌, [], sym, ap, subst, ◌∙◌}
 use Rattle.std.specs.Prelude.{MatchOption}
 use Rattle.ir_kinds.specs.declared.stages.MeshOutputTopology.{MeshOutputTopology}
-use Rattle.spec_interface.specs.Members.{topologies_of}
+use Rattle.spec_interface.specs.judged.Members.{topologies_of}
 use Rattle.spec_interface.proofs.members.topology_at.Goals as goal
 
 pub returns-in-Some : goal.returns-in-Some

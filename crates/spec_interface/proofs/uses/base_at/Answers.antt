@@ -1,5 +1,5 @@
 use Rattle.std.proofs.Common.{sym, ap, ◌∙◌}
-use Rattle.spec_interface.specs.Spaces.{array_base}
+use Rattle.spec_interface.specs.judged.Spaces.{array_base}
 use Rattle.spec_interface.proofs.uses.base_at.Goals as goal
 
 pub returns-in-Some : goal.returns-in-Some

@@ -1,5 +1,5 @@
 use Rattle.std.proofs.Common.{sym, ap, ◌∙◌}
-use Rattle.spec_interface.specs.Uses.{handle_uses}
+use Rattle.spec_interface.specs.judged.Uses.{handle_uses}
 use Rattle.spec_interface.proofs.uses.uses_at.Goals as goal
 
 pub returns-in-Some : goal.returns-in-Some

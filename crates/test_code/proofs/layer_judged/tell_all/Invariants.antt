@@ -1,4 +1,4 @@
-use Rattle.ir_items.specs.View.{module_view}
+use Rattle.ir_items.specs.found.View.{module_view}
 use Rattle.function_tiny_lower.specs.Readings.{IsMadeOf}
 use Rattle.test_code.proofs.layer_judged.tell_all.Given as goal
 

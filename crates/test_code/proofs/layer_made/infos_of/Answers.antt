@@ -1,6 +1,6 @@
 use Rattle.std.proofs.Common.{false}
 use Rattle.test_code.proofs.Accepted.{reported_of}
-use Rattle.typing_forms.specs.Resolutions.{types_view}
+use Rattle.typing_forms.specs.judged.Resolutions.{types_view}
 use Rattle.test_code.proofs.layer_made.infos_of.Goals as goal
 
 pub returns-in-Ok-validate_types : goal.returns-in-Ok-validate_types

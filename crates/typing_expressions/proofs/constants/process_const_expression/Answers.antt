@@ -1,7 +1,7 @@
 use Rattle.std.proofs.Common.{arith, sym, subst, map}
-use Rattle.ir_types.specs.ExpressionPlain.{expression_view}
-use Rattle.ir_items.specs.GlobalView.{values_of}
-use Rattle.spec_expressions.specs.Context.{NamesItem}
+use Rattle.ir_types.specs.judged.ExpressionPlain.{expression_view}
+use Rattle.ir_items.specs.found.GlobalView.{values_of}
+use Rattle.spec_expressions.specs.judged.Context.{NamesItem}
 use Rattle.typing_expressions.specs.Types.{TypedSoFar}
 use Rattle.typing_errors.specs.Answers.{IsAnswer}
 use Rattle.typing_resolve.proofs.Lookups.{found}

@@ -1,6 +1,6 @@
 use Rattle.std.proofs.Common.{rules}
 use Rattle.std.specs.Prelude.{slice_index_or}
-use Rattle.ir_types.specs.ExpressionPlain.{expression_view}
+use Rattle.ir_types.specs.judged.ExpressionPlain.{expression_view}
 use Rattle.typing_errors.specs.Answers.{form_given}
 use Rattle.typing_resolve.specs.View.{context_view}
 use Rattle.typing_expressions.proofs.TypeLemmas.{operands_typed}

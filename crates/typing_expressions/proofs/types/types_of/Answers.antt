@@ -1,6 +1,6 @@
 use Rattle.std.proofs.Common.{length, map, sym, subst, ◌<◌}
-use Rattle.ir_types.specs.ExpressionPlain.{expression_view}
-use Rattle.ir_items.specs.GlobalView.{values_of}
+use Rattle.ir_types.specs.judged.ExpressionPlain.{expression_view}
+use Rattle.ir_items.specs.found.GlobalView.{values_of}
 use Rattle.typing_resolve.specs.View.{context_view}
 use Rattle.typing_expressions.proofs.TypeLemmas.{Rest, rest_first, rest_end, operands_below, one_more, refused}
 use Rattle.typing_expressions.proofs.types.types_of.Goals as goal

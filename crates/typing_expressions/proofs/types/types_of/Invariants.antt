@@ -1,6 +1,6 @@
 use Rattle.std.proofs.Common.{map}
-use Rattle.ir_types.specs.ExpressionPlain.{expression_view}
-use Rattle.ir_items.specs.GlobalView.{values_of}
+use Rattle.ir_types.specs.judged.ExpressionPlain.{expression_view}
+use Rattle.ir_items.specs.found.GlobalView.{values_of}
 use Rattle.typing_resolve.specs.View.{context_view}
 use Rattle.typing_expressions.proofs.TypeLemmas.{Known}
 use Rattle.typing_expressions.proofs.types.types_of.Given as goal

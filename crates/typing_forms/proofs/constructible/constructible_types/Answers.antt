@@ -1,5 +1,5 @@
-use Rattle.ir_types.specs.Plain.{inner_view}
-use Rattle.typing_forms.specs.Resolutions.{types_view}
+use Rattle.ir_types.specs.judged.Plain.{inner_view}
+use Rattle.typing_forms.specs.judged.Resolutions.{types_view}
 use Rattle.typing_forms.proofs.Constructed.{found_more}
 use Rattle.typing_forms.proofs.constructible.constructible_types.Goals as goal
 

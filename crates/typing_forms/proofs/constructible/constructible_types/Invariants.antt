@@ -1,6 +1,6 @@
 -- It is known of the types that were passed.
-use Rattle.typing_forms.specs.Resolutions.{types_view}
-use Rattle.typing_forms.specs.Constructible.{AreFoundBelow}
+use Rattle.typing_forms.specs.judged.Resolutions.{types_view}
+use Rattle.typing_forms.specs.found.Constructible.{AreFoundBelow}
 use Rattle.typing_forms.proofs.constructible.constructible_types.Given as goal
 
 abbrev pub invariant-loop-place : goal.invariant-loop-place

@@ -1,6 +1,6 @@
 use Rattle.std.proofs.Common.{sym, ◌∙◌}
-use Rattle.ir_types.specs.Plain.{inner_view}
-use Rattle.typing_forms.specs.Resolutions.{types_view}
+use Rattle.ir_types.specs.judged.Plain.{inner_view}
+use Rattle.typing_forms.specs.judged.Resolutions.{types_view}
 use Rattle.typing_forms.proofs.Shapes.{no_conversion}
 use Rattle.typing_forms.proofs.conversions.automatically_converts_to.Goals as goal
 

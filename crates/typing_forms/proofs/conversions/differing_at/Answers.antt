@@ -1,5 +1,5 @@
 use Rattle.std.proofs.Common.{sym, ◌∙◌}
-use Rattle.typing_forms.specs.Resolutions.{types_view}
+use Rattle.typing_forms.specs.judged.Resolutions.{types_view}
 use Rattle.typing_forms.proofs.Shapes.{pair_below, scalars_more, some_differ, none_differ}
 use Rattle.typing_forms.proofs.conversions.differing_at.Goals as goal
 

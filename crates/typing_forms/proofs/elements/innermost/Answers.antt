@@ -1,7 +1,7 @@
 use Rattle.std.proofs.Common.{sym, ◌∙◌}
-use Rattle.ir_types.specs.Plain.{inner_view}
-use Rattle.typing_forms.specs.Resolutions.{types_view}
-use Rattle.typing_forms.specs.Elements.{ends, base_of}
+use Rattle.ir_types.specs.judged.Plain.{inner_view}
+use Rattle.typing_forms.specs.judged.Resolutions.{types_view}
+use Rattle.typing_forms.specs.found.Elements.{ends, base_of}
 use Rattle.typing_forms.proofs.Walks.{goes_down, base_named, same_ends_more}
 use Rattle.typing_forms.proofs.elements.innermost.Goals as goal
 

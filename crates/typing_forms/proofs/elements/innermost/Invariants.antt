@@ -1,7 +1,7 @@
 -- What is left of the chain leads to where the whole chain leads to.
-use Rattle.ir_types.specs.Plain.{inner_view}
-use Rattle.typing_forms.specs.Resolutions.{types_view}
-use Rattle.typing_forms.specs.Elements.{base_of}
+use Rattle.ir_types.specs.judged.Plain.{inner_view}
+use Rattle.typing_forms.specs.judged.Resolutions.{types_view}
+use Rattle.typing_forms.specs.found.Elements.{base_of}
 use Rattle.typing_forms.proofs.Walks.{SameEnds, steps}
 use Rattle.typing_forms.proofs.elements.innermost.Given as goal
 

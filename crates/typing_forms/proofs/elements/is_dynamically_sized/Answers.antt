@@ -1,7 +1,7 @@
 use Rattle.std.proofs.Common.{sym, ap, ◌∙◌}
-use Rattle.ir_types.specs.Plain.{inner_view}
-use Rattle.typing_forms.specs.Resolutions.{types_view}
-use Rattle.typing_forms.specs.Elements.{last_of, is_runtime_array}
+use Rattle.ir_types.specs.judged.Plain.{inner_view}
+use Rattle.typing_forms.specs.judged.Resolutions.{types_view}
+use Rattle.typing_forms.specs.found.Elements.{last_of, is_runtime_array}
 use Rattle.typing_forms.proofs.Walks.{one_end}
 use Rattle.typing_forms.proofs.elements.is_dynamically_sized.Goals as goal
 

@@ -1,5 +1,5 @@
-use Rattle.ir_types.specs.Plain.{inner_view}
-use Rattle.typing_forms.specs.Resolutions.{types_view}
+use Rattle.ir_types.specs.judged.Plain.{inner_view}
+use Rattle.typing_forms.specs.judged.Resolutions.{types_view}
 use Rattle.typing_forms.proofs.Walks.{no_scalar}
 use Rattle.typing_forms.proofs.elements.scalar_for_conversions.Goals as goal
 

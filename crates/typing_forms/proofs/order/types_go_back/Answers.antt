@@ -1,6 +1,6 @@
 use Rattle.std.proofs.Common.{sym, ◌∙◌, refl, true≢false, arith}
-use Rattle.ir_types.specs.Plain.{inner_view}
-use Rattle.typing_forms.specs.Resolutions.{types_view}
+use Rattle.ir_types.specs.judged.Plain.{inner_view}
+use Rattle.typing_forms.specs.judged.Resolutions.{types_view}
 use Rattle.typing_forms.proofs.Orders.{back_more, back_all}
 use Rattle.typing_forms.proofs.order.types_go_back.Goals as goal
 

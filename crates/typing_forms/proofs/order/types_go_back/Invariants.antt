@@ -1,6 +1,6 @@
 -- The types that were passed go back.
 use Rattle.typing_forms.proofs.Orders.{GoBackBelow}
-use Rattle.typing_forms.specs.Resolutions.{types_view}
+use Rattle.typing_forms.specs.judged.Resolutions.{types_view}
 use Rattle.typing_forms.proofs.order.types_go_back.Given as goal
 
 abbrev pub invariant-loop-place : goal.invariant-loop-place

@@ -1,7 +1,7 @@
 use Rattle.std.proofs.Common.{◌≤◌, map, arith}
-use Rattle.ir_types.specs.Plain.{member_view}
-use Rattle.typing_layout.specs.Layout.{greatest_alignment}
-use Rattle.typing_layout.specs.View.{members_by}
+use Rattle.ir_types.specs.judged.Plain.{member_view}
+use Rattle.typing_layout.specs.judged.Layout.{greatest_alignment}
+use Rattle.typing_layout.specs.judged.View.{members_by}
 use Rattle.typing_layout.proofs.Alignments.{member_aligned, one_or_more, greatest_next, next_greatest}
 use Rattle.typing_layout.proofs.laid.greatest_alignment.Goals as goal
 

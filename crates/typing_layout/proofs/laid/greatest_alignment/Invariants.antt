@@ -1,10 +1,10 @@
 -- The greatest so far, and of the rest, is the greatest of all.
 use Rattle.std.proofs.Common.{◌≡◌, ◌≤◌, ℕ, drop, map, max}
-use Rattle.ir_types.specs.Plain.{member_view}
-use Rattle.typing_layout.specs.Layout.{greatest_alignment}
-use Rattle.typing_layout.specs.Tree.{Tree}
-use Rattle.typing_layout.specs.View.{members_by}
-use Rattle.typing_layout.specs.Laid.{AreAligned}
+use Rattle.ir_types.specs.judged.Plain.{member_view}
+use Rattle.typing_layout.specs.judged.Layout.{greatest_alignment}
+use Rattle.typing_layout.specs.judged.Tree.{Tree}
+use Rattle.typing_layout.specs.judged.View.{members_by}
+use Rattle.typing_layout.specs.found.Laid.{AreAligned}
 use Rattle.typing_layout.proofs.laid.greatest_alignment.Given as goal
 
 abbrev pub invariant-loop-member : goal.invariant-loop-member

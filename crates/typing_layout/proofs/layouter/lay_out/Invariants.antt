@@ -1,5 +1,5 @@
 -- The types before this one are laid out.
-use Rattle.typing_forms.specs.Resolutions.{types_view}
+use Rattle.typing_forms.specs.judged.Resolutions.{types_view}
 use Rattle.typing_layout.proofs.Held.{AreFirst}
 use Rattle.typing_layout.proofs.layouter.lay_out.Given as goal
 

@@ -1,7 +1,7 @@
 -- The expressions that were passed have their kinds from earlier ones.
 use Rattle.std.proofs.Common.{map}
-use Rattle.ir_arena.specs.Arenas.{value_of_entry}
-use Rattle.ir_types.specs.ExpressionPlain.{expression_view}
+use Rattle.ir_arena.specs.found.Arenas.{value_of_entry}
+use Rattle.ir_types.specs.judged.ExpressionPlain.{expression_view}
 use Rattle.typing_layout.proofs.Precedence.{PrecedeBelow}
 use Rattle.typing_layout.proofs.precede.origins_precede.Given as goal
 

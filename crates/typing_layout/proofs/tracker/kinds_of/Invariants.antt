@@ -1,7 +1,7 @@
 -- The kinds of the expressions before this one are found.
 use Rattle.std.proofs.Common.{map}
-use Rattle.ir_arena.specs.Arenas.{value_of_entry}
-use Rattle.ir_types.specs.ExpressionPlain.{expression_view}
+use Rattle.ir_arena.specs.found.Arenas.{value_of_entry}
+use Rattle.ir_types.specs.judged.ExpressionPlain.{expression_view}
 use Rattle.typing_layout.proofs.Latest.{AreFirstKinds}
 use Rattle.typing_layout.proofs.tracker.kinds_of.Given as goal
 

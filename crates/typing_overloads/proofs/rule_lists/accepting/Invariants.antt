@@ -1,6 +1,6 @@
 use Rattle.std.proofs.Common.{◌≡◌, ◌++◌, drop, filter}
-use Rattle.ir_types.specs.Plain.{inner_view}
-use Rattle.typing_rules.specs.Ranks.{accepts_inner}
+use Rattle.ir_types.specs.judged.Plain.{inner_view}
+use Rattle.typing_rules.specs.judged.Ranks.{accepts_inner}
 use Rattle.typing_overloads.proofs.rule_lists.accepting.Given as goal
 
 abbrev pub invariant-loop-rule : goal.invariant-loop-rule

@@ -1,5 +1,5 @@
 use Rattle.std.proofs.Common.{◌≡◌, fold, min, take}
-use Rattle.typing_rules.specs.Laws.{arity}
+use Rattle.typing_rules.specs.judged.Laws.{arity}
 use Rattle.typing_overloads.proofs.rule_lists.min_arity.Given as goal
 
 abbrev pub invariant-loop-rule : goal.invariant-loop-rule

@@ -1,6 +1,6 @@
 use Rattle.std.proofs.Common.{◌≡◌, drop}
-use Rattle.typing_rules.specs.Tables.{table}
-use Rattle.spec_expressions.specs.Maths.{taking}
+use Rattle.typing_rules.specs.judged.Tables.{table}
+use Rattle.spec_expressions.specs.judged.Maths.{taking}
 use Rattle.typing_overloads.specs.Either.{any_rules}
 use Rattle.typing_resolve.proofs.maths.taking.Given as goal
 

@@ -1,4 +1,4 @@
-use Rattle.typing_rules.specs.Laws.{meets}
+use Rattle.typing_rules.specs.judged.Laws.{meets}
 use Rattle.typing_rules.proofs.Filters.{filter-commutes, filter-repeats}
 use Rattle.typing_rules.proofs.laws.arguments_filter.Goals as goal
 

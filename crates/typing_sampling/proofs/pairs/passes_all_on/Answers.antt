@@ -1,7 +1,7 @@
 use Rattle.std.proofs.Common.{◌≡◌, map}
-use Rattle.ir_types.specs.ExpressionPlain.{expression_view}
-use Rattle.ir_items.specs.GlobalView.{values_of}
-use Rattle.spec_analysis.specs.Chains.{place}
+use Rattle.ir_types.specs.judged.ExpressionPlain.{expression_view}
+use Rattle.ir_items.specs.found.GlobalView.{values_of}
+use Rattle.spec_analysis.specs.judged.Chains.{place}
 use Rattle.typing_sampling.proofs.Joining.{all_same}
 use Rattle.typing_sampling.proofs.pairs.passes_all_on.Goals as goal
 

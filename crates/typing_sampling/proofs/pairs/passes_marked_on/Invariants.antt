@@ -1,8 +1,8 @@
 -- What is marked before this number is passed on.
 use Rattle.std.proofs.Common.{◌≡◌, ℕ, ◌<◌, true, map, Some, slice_get}
-use Rattle.ir_types.specs.ExpressionPlain.{expression_view}
-use Rattle.ir_items.specs.GlobalView.{values_of}
-use Rattle.spec_analysis.specs.Chains.{place}
+use Rattle.ir_types.specs.judged.ExpressionPlain.{expression_view}
+use Rattle.ir_items.specs.found.GlobalView.{values_of}
+use Rattle.spec_analysis.specs.judged.Chains.{place}
 use Rattle.typing_sampling.specs.Passed.{PassesOn}
 use Rattle.typing_sampling.proofs.pairs.passes_marked_on.Given as goal
 

@@ -1,8 +1,8 @@
 -- What was found with what the rest gives is what all give.
 use Rattle.std.proofs.Common.{◌≡◌, ◌++◌, drop, map}
-use Rattle.ir_types.specs.ExpressionPlain.{expression_view}
-use Rattle.ir_items.specs.GlobalView.{values_of}
-use Rattle.spec_analysis.specs.Chains.{place}
+use Rattle.ir_types.specs.judged.ExpressionPlain.{expression_view}
+use Rattle.ir_items.specs.found.GlobalView.{values_of}
+use Rattle.spec_analysis.specs.judged.Chains.{place}
 use Rattle.typing_summaries.specs.Parts.{parts_of}
 use Rattle.typing_summaries.proofs.passed.parts_of.Given as goal
 

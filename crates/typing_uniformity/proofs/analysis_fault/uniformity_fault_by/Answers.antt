@@ -1,6 +1,6 @@
 use Rattle.std.proofs.lemmas.Result.{IfOk-weaker}
-use Rattle.ir_blocks.specs.View.{block_view}
-use Rattle.ir_items.specs.View.{function_view, module_view}
+use Rattle.ir_blocks.specs.found.View.{block_view}
+use Rattle.ir_items.specs.found.View.{function_view, module_view}
 use Rattle.typing_uniformity.specs.Uniform.{IsAnswer}
 use Rattle.typing_uniformity.specs.Faults.{IsAnswer as IsFunctionAnswer}
 use Rattle.typing_uniformity.proofs.Known.{answered}

@@ -1,6 +1,6 @@
 use Rattle.std.proofs.Common.{◌≡◌, []}
-use Rattle.ir_arena.specs.Handles.{handles_from}
-use Rattle.ir_items.specs.View.{function_view, module_view}
+use Rattle.ir_arena.specs.judged.Handles.{handles_from}
+use Rattle.ir_items.specs.found.View.{function_view, module_view}
 use Rattle.typing_uniformity.specs.Facts.{sources_of}
 use Rattle.typing_uniformity.proofs.facts.all_sources.Given as goal
 

@@ -1,5 +1,5 @@
 use Rattle.std.proofs.Common.{◌≡◌, []}
-use Rattle.ir_arena.specs.Handles.{handles_from}
+use Rattle.ir_arena.specs.judged.Handles.{handles_from}
 use Rattle.typing_uniformity.specs.Facts.{starts_of}
 use Rattle.typing_uniformity.proofs.facts.all_starts.Given as goal
 

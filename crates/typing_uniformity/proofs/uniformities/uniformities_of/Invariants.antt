@@ -1,6 +1,6 @@
 -- What was reported with what the rest tells is what all tell.
 use Rattle.std.proofs.Common.{◌≡◌, ◌++◌, map}
-use Rattle.ir_arena.specs.Handles.{handles_from}
+use Rattle.ir_arena.specs.judged.Handles.{handles_from}
 use Rattle.typing_uniformity.specs.Reported.{told, all_reported}
 use Rattle.typing_uniformity.proofs.uniformities.uniformities_of.Given as goal
 

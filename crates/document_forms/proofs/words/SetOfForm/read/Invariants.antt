@@ -1,6 +1,6 @@
 use Rattle.std.proofs.Common.{◌≡◌, drop}
 use Rattle.serde_json.specs.View.{items_view}
-use Rattle.document_forms.specs.Decide.{joins}
+use Rattle.document_forms.specs.found.Decide.{joins}
 use Rattle.document_forms.proofs.words.SetOfForm.read.Given as goal
 
 -- what the rest gives after what was found so far is what all of it gives

@@ -1,6 +1,6 @@
 use Rattle.std.proofs.Common.{◌≡◌, drop, []}
 use Rattle.serde_json.specs.View.{items_view}
-use Rattle.document_items.specs.Special.{pairs_with}
+use Rattle.document_items.specs.found.Special.{pairs_with}
 use Rattle.document_items.proofs.special.PairsFormForm.read.Given as goal
 
 -- what the rest gives after the pairs so far is what all of it gives

@@ -1,5 +1,5 @@
 use Rattle.std.proofs.Common.{sym, ◌∙◌}
-use Rattle.ir_arena.specs.Spans.{undefined_span}
+use Rattle.ir_arena.specs.found.Spans.{undefined_span}
 use Rattle.document_items.proofs.TypeListLaws.{not_grown}
 use Rattle.document_items.proofs.type_list.UniqueArenaIrTypeKeyIrTypeGrowTypeForm.add.Goals as goal
 

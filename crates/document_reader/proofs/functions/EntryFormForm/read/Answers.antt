@@ -1,5 +1,5 @@
 use Rattle.std.proofs.Common.{rules, Some, ap, ◌∙◌}
-use Rattle.ir_items.specs.View.{entry_view}
+use Rattle.ir_items.specs.found.View.{entry_view}
 use Rattle.document_reader.proofs.functions.EntryFormForm.read.Goals as goal
 
 pub returns : goal.returns

@@ -1,5 +1,5 @@
 use Rattle.std.proofs.Common.{rules, Some, ap, ◌∙◌}
-use Rattle.ir_items.specs.View.{function_view}
+use Rattle.ir_items.specs.found.View.{function_view}
 use Rattle.document_reader.proofs.functions.FunctionFormForm.read.Goals as goal
 
 pub returns : goal.returns

@@ -1,5 +1,5 @@
 use Rattle.std.proofs.Common.{sym, subst}
-use Rattle.ir_items.specs.View.{module_view}
+use Rattle.ir_items.specs.found.View.{module_view}
 use Rattle.function_entries.specs.Interfaces.{ArePartsAt}
 use Rattle.function_varyings.proofs.MarkLaws.{one_more}
 use Rattle.function_entries.proofs.known.KnownMeshes.find_parts.Goals as goal

@@ -1,6 +1,6 @@
 use Rattle.std.proofs.Common.{◌≡◌, ◌∷◌, [], sym, subst}
-use Rattle.ir_items.specs.View.{module_view}
-use Rattle.spec_interface.specs.Members.{topologies_at}
+use Rattle.ir_items.specs.found.View.{module_view}
+use Rattle.spec_interface.specs.judged.Members.{topologies_at}
 use Rattle.function_varyings.proofs.MarkLaws.{one_more}
 use Rattle.function_entries.proofs.known.KnownMeshes.find_topology.Goals as goal
 

@@ -1,6 +1,6 @@
 use Rattle.std.proofs.Common.{map}
 use Rattle.typing_infos.specs.declared.function_info.FunctionInfo.{FunctionInfo}
-use Rattle.ir_items.specs.View.{function_view, module_view}
+use Rattle.ir_items.specs.found.View.{function_view, module_view}
 use Rattle.function_real_lower.proofs.Kept.{kept_by, fault_by}
 use Rattle.function_real_lower.proofs.real.RealLowerLower.analyse.Goals as goal
 

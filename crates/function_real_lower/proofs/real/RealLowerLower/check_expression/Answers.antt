@@ -1,7 +1,7 @@
 use Rattle.std.proofs.Common.{◌≡◌, [], sym, ap, ◌∙◌}
 use Rattle.module_context.proofs.Lookups.{found}
-use Rattle.ir_types.specs.ExpressionPlain.{PlainExpression, expression_view}
-use Rattle.spec_statements.specs.ExpressionStages.{stages_of}
+use Rattle.ir_types.specs.judged.ExpressionPlain.{PlainExpression, expression_view}
+use Rattle.spec_statements.specs.judged.ExpressionStages.{stages_of}
 use Rattle.function_real_lower.proofs.real.RealLowerLower.check_expression.Goals as goal
 
 pub stages_by-requires : goal.stages_by-requires

@@ -1,5 +1,5 @@
 use Rattle.std.proofs.Common.{map, ap, ◌∙◌}
-use Rattle.ir_items.specs.View.{function_view, module_view}
+use Rattle.ir_items.specs.found.View.{function_view, module_view}
 use Rattle.function_tiny_lower.proofs.Kept.{kept_of}
 use Rattle.function_tiny_lower.specs.Ends.{noted_of}
 use Rattle.function_tiny_lower.specs.Values.{resolution_of}

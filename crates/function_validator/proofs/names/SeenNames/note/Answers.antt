@@ -5,7 +5,7 @@ use Rattle.std.specs.BTreeSet.{contains_text}
 use Rattle.std.specs.Str.{bytes_eq}
 use Rattle.function_validator.proofs.NameLaws.{fresh_if, if_ok_as, seen_more}
 use Rattle.function_validator.specs.Names.{key_of}
-use Rattle.ir_items.specs.View.{entry_view}
+use Rattle.ir_items.specs.found.View.{entry_view}
 use Rattle.function_validator.proofs.names.SeenNames.note.Goals as goal
 
 pub returns-clause-fresh : goal.returns-clause-fresh

@@ -1,8 +1,8 @@
 use Rattle.std.proofs.Common.{◌≡◌, ◌+◌, ◌<◌, ◌++◌, ◌∷◌, [], ◌∙◌, length, map, take, sym, ap, subst, arith}
 use Rattle.std.proofs.lemmas.List.{map-append, take_more}
-use Rattle.ir_items.specs.View.{argument_view}
+use Rattle.ir_items.specs.found.View.{argument_view}
 use Rattle.ir_items.specs.declared.functions.FunctionArgument.{FunctionArgument}
-use Rattle.spec_interface.specs.Varyings.{VaryingsOK, argument_varyings}
+use Rattle.spec_interface.specs.judged.Varyings.{VaryingsOK, argument_varyings}
 use Rattle.function_varying_checks.specs.View.{context_view}
 use Rattle.function_varyings.proofs.ArgumentLaws.{fine_more, taken_more}
 use Rattle.function_varyings.specs.Marks.{AreTaken}

@@ -1,7 +1,7 @@
 -- The arguments before are as they should be, and what they take is taken.
 use Rattle.std.proofs.Common.{map, take}
-use Rattle.ir_items.specs.View.{argument_view}
-use Rattle.spec_interface.specs.Varyings.{VaryingsOK, argument_varyings}
+use Rattle.ir_items.specs.found.View.{argument_view}
+use Rattle.spec_interface.specs.judged.Varyings.{VaryingsOK, argument_varyings}
 use Rattle.function_varying_checks.specs.View.{context_view}
 use Rattle.function_varyings.specs.Known.{AreKnown}
 use Rattle.function_varyings.specs.Marks.{AreTaken}

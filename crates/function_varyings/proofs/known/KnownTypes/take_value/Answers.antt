@@ -1,5 +1,5 @@
 use Rattle.std.proofs.Common.{◌∙◌, subst}
-use Rattle.spec_interface.specs.Varyings.{VaryingsOK}
+use Rattle.spec_interface.specs.judged.Varyings.{VaryingsOK}
 use Rattle.function_varying_checks.specs.View.{context_view}
 use Rattle.function_varyings.specs.Marks.{AreNewlyTaken}
 use Rattle.function_varyings.proofs.known.KnownTypes.take_value.Goals as goal

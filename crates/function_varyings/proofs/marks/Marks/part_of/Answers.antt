@@ -1,6 +1,6 @@
 use Rattle.std.proofs.Common.{sym, subst}
-use Rattle.spec_interface.specs.Varyings.{mesh_varyings}
-use Rattle.typing_forms.specs.Resolutions.{types_view}
+use Rattle.spec_interface.specs.judged.Varyings.{mesh_varyings}
+use Rattle.typing_forms.specs.judged.Resolutions.{types_view}
 use Rattle.function_varyings.proofs.MarkLaws.{marks_still, one_more}
 use Rattle.function_varyings.specs.Marks.{IsPartOf}
 use Rattle.function_varyings.proofs.marks.Marks.part_of.Goals as goal

@@ -1,7 +1,7 @@
 -- What those before take is taken, and was not.
 use Rattle.std.proofs.Common.{◌≡◌, ◌<◌, ℕ, List, true, false}
 use Rattle.ir_sets.specs.Bits.{has_bit}
-use Rattle.ir_types.specs.Plain.{PlainType}
+use Rattle.ir_types.specs.judged.Plain.{PlainType}
 use Rattle.function_varyings.specs.Marks.{AreMarksOf, IsNumber, KeepsBits, KeepsNumbers, TakesAt}
 use Rattle.function_varyings.proofs.marks.Marks.take_each.Given as goal
 

@@ -1,7 +1,7 @@
 use Rattle.std.proofs.Common.{◌≡◌, ℕ, true, false, subst}
 use Rattle.ir_sets.specs.Bits.{has_bit}
-use Rattle.spec_interface.specs.Varyings.{mesh_varyings}
-use Rattle.typing_forms.specs.Resolutions.{types_view}
+use Rattle.spec_interface.specs.judged.Varyings.{mesh_varyings}
+use Rattle.typing_forms.specs.judged.Resolutions.{types_view}
 use Rattle.function_varyings.proofs.MarkLaws.{newly_by_part}
 use Rattle.function_varyings.specs.Marks.{IsAmong}
 use Rattle.function_varyings.proofs.marks.Marks.take_members.Goals as goal

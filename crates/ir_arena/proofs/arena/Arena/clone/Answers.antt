@@ -1,5 +1,5 @@
 use Rattle.std.proofs.Common.{◌<◌, ◌∙◌, length, map, ap, arith}
-use Rattle.ir_arena.specs.Arenas.{value_of_entry, span_of_entry}
+use Rattle.ir_arena.specs.found.Arenas.{value_of_entry, span_of_entry}
 use Rattle.ir_arena.proofs.Zipped.{length_map, value_read, span_read}
 use Rattle.ir_arena.proofs.CopyLemmas.{entries_more, read_again}
 use Rattle.ir_arena.proofs.arena.Arena.clone.Goals as goal

@@ -1,7 +1,7 @@
 use Rattle.std.proofs.Common.{◌≡◌, ◌≤◌, length}
 use Rattle.std.specs.Fn.{FnReturnsAtPair}
 use Rattle.std.proofs.lemmas.Result.{IfOk-weaker, on_err_weaker}
-use Rattle.ir_arena.specs.Arenas.{PassesNowhere}
+use Rattle.ir_arena.specs.found.Arenas.{PassesNowhere}
 use Rattle.ir_arena.proofs.arena.Arena.fetch_if_or_append.Goals as goal
 
 pub returns-in-Some-clause-found : goal.returns-in-Some-clause-found

@@ -1,7 +1,7 @@
 use Rattle.std.proofs.Common.{sym, ◌∙◌, refl}
 use Rattle.std.proofs.lemmas.Result.{on_err_weaker}
 use Rattle.ir_arena.proofs.Found.{passes_at, passes_nowhere, none_passes}
-use Rattle.ir_arena.specs.Arenas.{has_value}
+use Rattle.ir_arena.specs.found.Arenas.{has_value}
 use Rattle.ir_arena.proofs.arena.Arena.fetch_or_append.Goals as goal
 
 pub returns-in-Some-clause-ok : goal.returns-in-Some-clause-ok

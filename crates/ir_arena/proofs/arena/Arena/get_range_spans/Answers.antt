@@ -1,4 +1,4 @@
-use Rattle.ir_arena.specs.Arenas.{span_of_entry}
+use Rattle.ir_arena.specs.found.Arenas.{span_of_entry}
 use Rattle.ir_arena.proofs.Zipped.{part_of}
 use Rattle.ir_arena.proofs.arena.Arena.get_range_spans.Goals as goal
 

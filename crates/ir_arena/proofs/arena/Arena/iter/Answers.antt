@@ -1,6 +1,6 @@
 use Rattle.std.proofs.Common.{ap, ◌∙◌}
 use Rattle.std.specs.List.{enumerate_from}
-use Rattle.ir_arena.specs.Handles.{handles_from}
+use Rattle.ir_arena.specs.judged.Handles.{handles_from}
 use Rattle.ir_arena.proofs.Zipped.{handles_numbered}
 use Rattle.ir_arena.proofs.arena.Arena.iter.Goals as goal
 

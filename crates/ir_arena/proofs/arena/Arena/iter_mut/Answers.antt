@@ -1,7 +1,7 @@
 use Rattle.std.proofs.Common.{sym, ap, ◌∙◌, arith}
 use Rattle.std.specs.List.{enumerate_from}
-use Rattle.ir_arena.specs.Arenas.{with_values}
-use Rattle.ir_arena.specs.Handles.{handles_from}
+use Rattle.ir_arena.specs.found.Arenas.{with_values}
+use Rattle.ir_arena.specs.judged.Handles.{handles_from}
 use Rattle.ir_arena.proofs.Zipped.{handles_numbered, length_with_values, spans_with_values}
 use Rattle.ir_arena.proofs.arena.Arena.iter_mut.Goals as goal
 

@@ -1,5 +1,5 @@
 use Rattle.std.proofs.Common.{◌≡◌}
-use Rattle.ir_arena.specs.Spans.{total_span}
+use Rattle.ir_arena.specs.found.Spans.{total_span}
 use Rattle.ir_arena.proofs.span.Span.total_span.Given as goal
 
 abbrev pub invariant-loop-span : goal.invariant-loop-span

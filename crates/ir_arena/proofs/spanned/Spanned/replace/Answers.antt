@@ -1,5 +1,5 @@
 use Rattle.std.proofs.Common.{ap, ◌∙◌, arith}
-use Rattle.ir_arena.specs.Arenas.{with_value}
+use Rattle.ir_arena.specs.found.Arenas.{with_value}
 use Rattle.ir_arena.proofs.Zipped.{opened, zip_set}
 use Rattle.ir_arena.proofs.spanned.Spanned.replace.Goals as goal
 

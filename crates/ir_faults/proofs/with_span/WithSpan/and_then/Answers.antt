@@ -1,7 +1,7 @@
 use Rattle.std.proofs.Common.{◌≡◌, true, map, refl, ap, ◌∙◌}
 use Rattle.std.proofs.lemmas.List.{map-append}
 use Rattle.std.proofs.lemmas.List.Elements.{All-append}
-use Rattle.ir_arena.specs.Spans.{is_defined_span}
+use Rattle.ir_arena.specs.found.Spans.{is_defined_span}
 use Rattle.ir_faults.specs.Faults.{context_of}
 use Rattle.ir_faults.proofs.with_span.WithSpan.and_then.Goals as goal
 

@@ -1,6 +1,6 @@
 use Rattle.std.proofs.Common.{◌≡◌, true}
 use Rattle.std.proofs.lemmas.List.Elements.{All-map}
-use Rattle.ir_arena.specs.Spans.{is_defined_span}
+use Rattle.ir_arena.specs.found.Spans.{is_defined_span}
 use Rattle.ir_faults.specs.Faults.{context_of}
 use Rattle.ir_faults.proofs.with_span.WithSpan.spans.Goals as goal
 

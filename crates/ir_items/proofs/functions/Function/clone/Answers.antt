@@ -1,5 +1,5 @@
 use Rattle.std.proofs.Common.{map, refl, ap, ◌∙◌}
-use Rattle.ir_items.specs.View.{argument_view}
+use Rattle.ir_items.specs.found.View.{argument_view}
 use Rattle.ir_items.specs.declared.functions.Function.{Function}
 use Rattle.ir_items.proofs.CopyLemmas.{same_function}
 use Rattle.ir_items.proofs.functions.Function.clone.Goals as goal

@@ -1,6 +1,6 @@
 use Rattle.std.proofs.Common.{refl, ap, ◌∙◌}
-use Rattle.ir_items.specs.Copies.{spanned_module}
-use Rattle.ir_items.specs.Lists.{module_of}
+use Rattle.ir_items.specs.found.Copies.{spanned_module}
+use Rattle.ir_items.specs.found.Lists.{module_of}
 use Rattle.ir_items.proofs.CopyLemmas.{same_module}
 use Rattle.ir_items.proofs.module.Module.clone.Goals as goal
 

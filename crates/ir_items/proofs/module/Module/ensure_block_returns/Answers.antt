@@ -1,5 +1,5 @@
 use Rattle.std.proofs.Common.{refl, ap}
-use Rattle.ir_items.specs.Copies.{SpannedModule}
+use Rattle.ir_items.specs.found.Copies.{SpannedModule}
 use Rattle.ir_items.proofs.Returned.{is_returned, keeps_module_spans}
 use Rattle.ir_items.proofs.ReturnLemmas.{on_err, module_stays, returned_after}
 use Rattle.ir_items.proofs.module.Module.ensure_block_returns.Goals as goal

@@ -1,5 +1,5 @@
 use Rattle.std.proofs.Common.{◌≡◌, map, take}
-use Rattle.ir_arena.specs.Copies.{entry_of}
+use Rattle.ir_arena.specs.found.Copies.{entry_of}
 use Rattle.ir_sets.proofs.unique_arena.UniqueArena.clone.Given as goal
 
 -- the copy holds the values so far

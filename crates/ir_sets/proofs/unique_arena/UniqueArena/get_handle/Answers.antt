@@ -1,5 +1,5 @@
 use Rattle.std.proofs.Common.{ap, ◌∙◌, arith}
-use Rattle.ir_arena.specs.Arenas.{value_at}
+use Rattle.ir_arena.specs.found.Arenas.{value_at}
 use Rattle.ir_arena.proofs.Zipped.{value_read}
 use Rattle.ir_sets.proofs.unique_arena.UniqueArena.get_handle.Goals as goal
 

@@ -1,5 +1,5 @@
 use Rattle.std.proofs.Common.{ap, ◌∙◌, arith}
-use Rattle.ir_arena.specs.Arenas.{span_at}
+use Rattle.ir_arena.specs.found.Arenas.{span_at}
 use Rattle.ir_arena.proofs.CopyLemmas.{read_again}
 use Rattle.ir_arena.proofs.Zipped.{span_read, span_past}
 use Rattle.ir_sets.proofs.unique_arena.UniqueArena.get_span.Goals as goal

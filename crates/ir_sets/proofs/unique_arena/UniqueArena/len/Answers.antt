@@ -1,5 +1,5 @@
 use Rattle.std.proofs.Common.{◌∙◌, arith, subst}
-use Rattle.ir_arena.specs.Arenas.{IsDistinctBy}
+use Rattle.ir_arena.specs.found.Arenas.{IsDistinctBy}
 use Rattle.ir_arena.proofs.Zipped.{opened}
 use Rattle.ir_sets.proofs.Distinct.{distinct_entries}
 use Rattle.ir_sets.proofs.unique_arena.UniqueArena.len.Goals as goal

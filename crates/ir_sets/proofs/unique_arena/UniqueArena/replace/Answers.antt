@@ -1,6 +1,6 @@
 use Rattle.std.proofs.Common.{length, ap, ◌∙◌, arith, length-set}
 use Rattle.std.specs.List.{zip}
-use Rattle.ir_arena.specs.Arenas.{with_value}
+use Rattle.ir_arena.specs.found.Arenas.{with_value}
 use Rattle.ir_arena.proofs.Zipped.{opened, zip_set}
 use Rattle.ir_sets.proofs.Distinct.{put_last, exchanged}
 use Rattle.ir_sets.proofs.unique_arena.UniqueArena.replace.Goals as goal

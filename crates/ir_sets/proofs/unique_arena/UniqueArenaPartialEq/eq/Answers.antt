@@ -1,6 +1,6 @@
 use Rattle.std.proofs.Common.{◌&&◌, sym, ap, ◌∙◌}
 use Rattle.std.specs.Cmp.Lexicographic.{pointwise}
-use Rattle.ir_arena.specs.Equality.{same_span}
+use Rattle.ir_arena.specs.found.Equality.{same_span}
 use Rattle.ir_arena.proofs.Zipped.{both_same}
 use Rattle.ir_sets.proofs.unique_arena.UniqueArenaPartialEq.eq.Goals as goal
 

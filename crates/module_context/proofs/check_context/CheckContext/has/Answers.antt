@@ -1,7 +1,7 @@
 use Rattle.std.proofs.Common.{arith}
 use Rattle.module_context.proofs.Absent.{known_flag, absent_flag, none_stored, none_sized, none_composed}
 use Rattle.module_context.specs.OperandView.{types_in}
-use Rattle.typing_layout.specs.Flags.{Data, Sized, Constructible}
+use Rattle.typing_layout.specs.judged.Flags.{Data, Sized, Constructible}
 use Rattle.module_context.proofs.check_context.CheckContext.has.Goals as goal
 
 pub returns-in-Some-clause-data : goal.returns-in-Some-clause-data

@@ -1,7 +1,7 @@
 use Rattle.std.proofs.Common.{◌≡◌, arith, length}
 use Rattle.module_context.proofs.Constness.{constant_at, none_past, past_the_last}
 use Rattle.module_context.proofs.Lookups.{many_viewed}
-use Rattle.ir_types.specs.ExpressionPlain.{expression_view}
+use Rattle.ir_types.specs.judged.ExpressionPlain.{expression_view}
 use Rattle.module_context.specs.OperandView.{expressions_in}
 use Rattle.module_context.proofs.check_context.CheckContext.is_const.Goals as goal
 

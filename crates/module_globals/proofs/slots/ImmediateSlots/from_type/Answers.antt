@@ -1,8 +1,8 @@
 use Rattle.std.proofs.Common.{sym, ◌∙◌}
-use Rattle.ir_types.specs.Plain.{inner_view}
+use Rattle.ir_types.specs.judged.Plain.{inner_view}
 use Rattle.module_globals.proofs.Along.{tree_along_all, many_types}
 use Rattle.module_globals.proofs.LeafLemmas.{met_all}
-use Rattle.typing_forms.specs.Resolutions.{types_view}
+use Rattle.typing_forms.specs.judged.Resolutions.{types_view}
 use Rattle.module_globals.proofs.slots.ImmediateSlots.from_type.Goals as goal
 
 pub returns : goal.returns

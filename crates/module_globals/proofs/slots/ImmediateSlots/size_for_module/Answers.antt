@@ -1,6 +1,6 @@
 use Rattle.std.proofs.Common.{◌≡◌, sym, ◌∙◌, subst, arith}
-use Rattle.ir_items.specs.GlobalView.{global_view}
-use Rattle.ir_items.specs.View.{module_view}
+use Rattle.ir_items.specs.found.GlobalView.{global_view}
+use Rattle.ir_items.specs.found.View.{module_view}
 use Rattle.module_globals.specs.Sizes.{AreGreatest}
 use Rattle.module_globals.proofs.SizeLemmas.{variable_at, many_variables, greatest_more, greatest_none}
 use Rattle.module_globals.proofs.slots.ImmediateSlots.size_for_module.Goals as goal

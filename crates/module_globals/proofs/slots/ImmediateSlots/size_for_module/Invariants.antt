@@ -1,4 +1,4 @@
-use Rattle.ir_items.specs.View.{module_view}
+use Rattle.ir_items.specs.found.View.{module_view}
 use Rattle.module_globals.specs.Sizes.{AreGreatest}
 use Rattle.module_globals.proofs.slots.ImmediateSlots.size_for_module.Given as goal
 

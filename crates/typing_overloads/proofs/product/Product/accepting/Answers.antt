@@ -1,5 +1,5 @@
-use Rattle.ir_types.specs.Plain.{inner_view}
-use Rattle.typing_rules.specs.Members.{scalars_in, sizes_in}
+use Rattle.ir_types.specs.judged.Plain.{inner_view}
+use Rattle.typing_rules.specs.found.Members.{scalars_in, sizes_in}
 use Rattle.typing_overloads.specs.Products.{rules_of}
 use Rattle.typing_overloads.proofs.Kept.{accepted, no_argument, no_value}
 use Rattle.typing_overloads.proofs.product.Product.accepting.Goals as goal

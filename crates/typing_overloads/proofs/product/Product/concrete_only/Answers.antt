@@ -1,4 +1,4 @@
-use Rattle.typing_rules.specs.Members.{sizes_in}
+use Rattle.typing_rules.specs.found.Members.{sizes_in}
 use Rattle.typing_overloads.proofs.Kept.{concrete_left}
 use Rattle.typing_overloads.proofs.product.Product.concrete_only.Goals as goal
 

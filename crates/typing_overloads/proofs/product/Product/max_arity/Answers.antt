@@ -1,5 +1,5 @@
 use Rattle.std.proofs.Common.{◌∙◌, ap, length, max}
-use Rattle.typing_rules.specs.Members.{scalars_in, sizes_in}
+use Rattle.typing_rules.specs.found.Members.{scalars_in, sizes_in}
 use Rattle.typing_overloads.specs.Products.{rules_of}
 use Rattle.typing_overloads.proofs.Arity.{most_found, none_found}
 use Rattle.typing_overloads.proofs.product.Product.max_arity.Goals as goal

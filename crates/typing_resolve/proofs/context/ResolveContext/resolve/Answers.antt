@@ -1,4 +1,4 @@
-use Rattle.ir_types.specs.ExpressionPlain.{expression_view}
+use Rattle.ir_types.specs.judged.ExpressionPlain.{expression_view}
 use Rattle.typing_resolve.proofs.Decided.{by_reads, decided}
 use Rattle.typing_resolve.proofs.context.ResolveContext.resolve.Goals as goal
 use Rattle.typing_resolve.specs.View.{context_view}

@@ -1,5 +1,5 @@
 use Rattle.std.proofs.Common.{◌≡◌, length}
-use Rattle.typing_rules.specs.Bits.{chosen}
+use Rattle.typing_rules.specs.found.Bits.{chosen}
 use Rattle.typing_rules.proofs.one_bits.MembersIterator.next.Given as goal
 
 abbrev pub invariant-loop-first : goal.invariant-loop-first

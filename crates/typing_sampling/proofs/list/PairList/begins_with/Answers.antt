@@ -1,5 +1,5 @@
 use Rattle.std.proofs.Common.{subst}
-use Rattle.spec_analysis.specs.Pairs.{pair_eq}
+use Rattle.spec_analysis.specs.judged.Pairs.{pair_eq}
 use Rattle.typing_sampling.specs.Fronts.{BeginsWith}
 use Rattle.typing_sampling.proofs.Joining.{begins_longer}
 use Rattle.typing_sampling.proofs.list.PairList.begins_with.Goals as goal

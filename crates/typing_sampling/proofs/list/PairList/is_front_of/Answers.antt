@@ -1,5 +1,5 @@
 use Rattle.std.proofs.Common.{length, ap, sym, ◌∙◌, subst}
-use Rattle.spec_analysis.specs.Pairs.{pair_eq}
+use Rattle.spec_analysis.specs.judged.Pairs.{pair_eq}
 use Rattle.typing_sampling.specs.Fronts.{BeginsWith}
 use Rattle.typing_sampling.specs.Listed.{listed}
 use Rattle.typing_sampling.proofs.Joining.{begins_both}

@@ -1,7 +1,7 @@
 use Rattle.std.proofs.Common.{◌≡◌, ◌∙◌, refl, map, subst}
-use Rattle.ir_types.specs.ExpressionPlain.{expression_view}
-use Rattle.ir_items.specs.GlobalView.{values_of}
-use Rattle.spec_analysis.specs.Pairs.{pair_eq}
+use Rattle.ir_types.specs.judged.ExpressionPlain.{expression_view}
+use Rattle.ir_items.specs.found.GlobalView.{values_of}
+use Rattle.spec_analysis.specs.judged.Pairs.{pair_eq}
 use Rattle.typing_sampling.specs.Fronts.{BeginsWith}
 use Rattle.typing_sampling.specs.Listed.{listed}
 use Rattle.typing_sampling.specs.Pairings.{paired}

@@ -1,6 +1,6 @@
 use Rattle.std.proofs.Common.{◌≡◌, drop, map}
-use Rattle.ir_types.specs.ExpressionPlain.{expression_view}
-use Rattle.ir_items.specs.GlobalView.{values_of}
+use Rattle.ir_types.specs.judged.ExpressionPlain.{expression_view}
+use Rattle.ir_items.specs.found.GlobalView.{values_of}
 use Rattle.typing_sampling.specs.Pairings.{paired, pass_all_up}
 use Rattle.typing_sampling.proofs.pairs.Sampled.pass_all_up.Given as goal
 

@@ -1,5 +1,5 @@
 use Rattle.std.proofs.Common.{◌≡◌, drop, map}
-use Rattle.ir_blocks.specs.View.{statements_view, case_view, cases_of}
+use Rattle.ir_blocks.specs.found.View.{statements_view, case_view, cases_of}
 use Rattle.typing_summaries.specs.Joined.{AreJoined}
 use Rattle.typing_summaries.specs.Tallies.{known, tallied, done_in, done_in_cases}
 use Rattle.typing_summaries.proofs.tally.Tally.+walk.Given as goal

@@ -1,5 +1,5 @@
 use Rattle.std.proofs.Common.{◌≡◌}
-use Rattle.ir_arena.specs.Handles.{handles_from}
+use Rattle.ir_arena.specs.judged.Handles.{handles_from}
 use Rattle.typing_summaries.specs.Tallies.{known, tallied, expressions_done_with}
 use Rattle.typing_summaries.proofs.tally.Tally.add_with_handles.Given as goal
 

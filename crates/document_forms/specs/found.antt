@@ -1,0 +1,11 @@
+pub mod Exact
+pub mod Answers
+pub mod Decide
+pub mod Inverse
+pub mod Refusals
+pub mod PartLaws
+pub mod ListLaws
+pub mod RowLaws
+pub mod KindLaws
+pub mod Forms
+pub mod Rows

@@ -1,0 +1,65 @@
+-- How a document is written, and when bytes spell it.
+use Rattle.std.specs.Prelude.{◌≡◌, ℕ, ◌≤◌, List, length, Some, IsUtf8}
+use Rattle.serde_json.specs.Data.{Data, number, unsigned}
+use Rattle.serde_json.specs.Read.{read}
+use Rattle.ir_flags.specs.Settings.{PlainSettings}
+use Rattle.document_words.specs.Tables.{flags, capabilities, stages, operations}
+use Rattle.document_words.specs.Unions.{flag_union, capability_union, stage_union, operation_union}
+use Rattle.document_forms.specs.judged.Form.{ABool, ASet, AnArray, AList, Ends, ◌▸◌}
+use Rattle.document_items.specs.judged.Form.{AType}
+use Rattle.document_expressions.specs.judged.Form.{AnExpression}
+use Rattle.document_items.specs.judged.ItemForm.{ASpecial, AllFilters, AConstant, AnOverride, AGlobal}
+use Rattle.document_reader.specs.judged.FunctionForm.{AFunction}
+use Rattle.document_reader.specs.judged.EntryForm.{AnEntry}
+use Rattle.document_reader.specs.declared.reading.TheConstants.{MAX_LEN}
+use Rattle.document_reader.specs.judged.Distinct.{AreDistinct}
+use Rattle.document_reader.specs.judged.Plain.{PlainDocument}
+
+-- the version of the format
+abbrev pub IsVersion : Data → Type 0
+IsVersion d = d ≡ number (unsigned 1)
+
+-- the stages and the subgroup operations that may stand there
+abbrev pub TheSubgroups : PlainSettings → Data → Type 0
+TheSubgroups s = AnArray (ASet stages (record { 0 = 0 }) stage_union s.stages ▸ ASet operations (record { 0 = 0 }) operation_union s.operations ▸ Ends)
+
+-- version, flags, capabilities, subgroup sets, returns; types, special types, filters, constants, overrides, global
+-- expressions, globals, functions, entries
+abbrev pub ADocument : PlainDocument → Data → Type 0
+ADocument d =
+    AnArray (
+    IsVersion ▸
+    ASet flags (record { 0 = 0 }) flag_union d.settings.flags ▸
+    ASet capabilities (record { 0 = 0 }) capability_union d.settings.capabilities ▸
+    TheSubgroups d.settings ▸
+    ABool d.settings.returns ▸
+    AList AType d.content.types ▸
+    ASpecial d.content.special ▸
+    AllFilters (d.content.filters, d.content.leaf) ▸
+    AList AConstant d.content.constants ▸
+    AList AnOverride d.content.overrides ▸
+    AList AnExpression d.content.global_expressions ▸
+    AList AGlobal d.content.globals ▸
+    AList AFunction d.content.functions ▸
+    AList AnEntry d.content.entries ▸
+    Ends)
+
+-- The bytes are few enough, and the JSON reader reads them as this value.
+pub record IsValueOf (bytes : List ℕ) (value : Data) : Type 0 where
+  pub short : length bytes ≤ MAX_LEN
+  pub utf8 : IsUtf8 bytes
+  pub value_is : read bytes ≡ Some value
+
+-- The bytes are few enough, the JSON reader reads them as a value, that value is written for the document, and no two
+-- of its types are equal.
+pub record Reads (bytes : List ℕ) (d : PlainDocument) : Type 0 where
+  pub short : length bytes ≤ MAX_LEN
+  pub utf8 : IsUtf8 bytes
+  pub value : Data
+  pub value_is : read bytes ≡ Some value
+  pub form : ADocument d value
+  pub distinct : AreDistinct d.content.types
+
+-- bytes spell one document at most
+abbrev pub OneDocument : Type 0
+OneDocument = (bytes : List ℕ) (d e : PlainDocument) → Reads bytes d → Reads bytes e → d ≡ e

@@ -1,0 +1,4 @@
+pub mod Lists
+pub mod View
+pub mod Copies
+pub mod GlobalView

@@ -1,0 +1,3 @@
+pub mod Plain
+pub mod Returned
+pub mod GlobalPlain

@@ -1,0 +1,54 @@
+-- What a composition of a vector comes to, once the compositions inside it are taken apart.
+use Rattle.std.specs.Prelude.{◌≡◌, ℕ, ◌<◌, List, [], ◌∷◌, ◌++◌, map, take, replicate, Option, Some, None, slice_get, MatchOption}
+use Rattle.std.specs.List.{All}
+use Rattle.std.specs.Option.{option_and_then}
+use Rattle.ir_arena.specs.declared.span.Span.{Span}
+use Rattle.ir_kinds.specs.judged.Scalars.{component_count}
+use Rattle.ir_types.specs.declared.types.IrType.{IrType}
+use Rattle.ir_types.specs.declared.types.TypeInner.TheVariants.{Vector}
+use Rattle.ir_types.specs.judged.Plain.{PlainType, PlainInner, plain as other, type_view}
+use Rattle.ir_types.specs.declared.expressions.Expression.TheVariants.{Splat}
+use Rattle.ir_types.specs.judged.ExpressionPlain.{PlainExpression, compose, plain}
+use Rattle.ir_items.specs.found.GlobalView.{values_of}
+
+-- the types of an arena
+abbrev pub types_of : List (IrType × Span) → List PlainType
+types_of entries = map type_view (values_of entries)
+
+-- what an expression is put together from: a composition from its components, a splat from its scalar so many times
+abbrev pub parts_of : PlainExpression → Option (List ℕ)
+parts_of (compose type components) = Some components
+parts_of (plain (Splat size value)) = Some (replicate (component_count size) value)
+parts_of _ = None
+
+-- the parts of each expression come before it
+abbrev pub PartsPrecede : List PlainExpression → Type 0
+PartsPrecede expressions = (handle : ℕ) (e : PlainExpression) (parts : List ℕ) → slice_get expressions handle ≡ Some e → parts_of e ≡ Some parts → All (λ part. part < handle) parts
+
+-- The leaves of the expressions at these handles, one after the other: an expression without parts is a leaf itself, and
+-- those of any other are the leaves of its parts.
+pub data AreLeaves (expressions : List PlainExpression) : List ℕ → List ℕ → Type 0 where
+  none : AreLeaves expressions [] []
+  leaf : {handle : ℕ} {rest leaves : List ℕ} {e : PlainExpression}
+      → slice_get expressions handle ≡ Some e → parts_of e ≡ None → AreLeaves expressions rest leaves → AreLeaves expressions (handle ∷ rest) (handle ∷ leaves)
+  taken_apart : {handle : ℕ} {rest parts inside leaves : List ℕ} {e : PlainExpression}
+      → slice_get expressions handle ≡ Some e → parts_of e ≡ Some parts → AreLeaves expressions parts inside → AreLeaves expressions rest leaves → AreLeaves expressions (handle ∷ rest) (inside ++ leaves)
+
+-- how many components a vector has
+abbrev pub vector_size : PlainInner → Option ℕ
+vector_size (other (Vector size scalar)) = Some (component_count size)
+vector_size _ = None
+
+-- how many components a value of the type at a handle has, if that is a vector
+abbrev pub size_at : List PlainType → ℕ → Option ℕ
+size_at types handle = option_and_then (λ (t : PlainType). vector_size t.inner) (slice_get types handle)
+
+-- what these components come to: those of a vector to their leaves, as many as it has components at most, and any others
+-- to themselves
+abbrev pub IsFlattened : List PlainExpression → Option ℕ → List ℕ → List ℕ → Type 0
+IsFlattened expressions size components flat =
+    MatchOption size (flat ≡ components) (λ n. (leaves : List ℕ) × AreLeaves expressions components leaves × (flat ≡ take n leaves))
+
+-- components come to one list at most
+abbrev pub OneFlattening : Type 0
+OneFlattening = (expressions : List PlainExpression) (size : Option ℕ) (components a b : List ℕ) → IsFlattened expressions size components a → IsFlattened expressions size components b → a ≡ b

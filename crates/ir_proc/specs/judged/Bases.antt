@@ -1,0 +1,40 @@
+-- What an access of an access, and so on, starts at.
+use Rattle.std.specs.Prelude.{◌≡◌, ℕ, ◌<◌, List, map, Option, Some, None, slice_get}
+use Rattle.ir_arena.specs.declared.span.Span.{Span}
+use Rattle.ir_types.specs.declared.expressions.Expression.{Expression}
+use Rattle.ir_types.specs.declared.expressions.Expression.TheVariants.{Access, AccessIndex, GlobalVariable}
+use Rattle.ir_types.specs.judged.ExpressionPlain.{PlainExpression, plain, expression_view}
+use Rattle.ir_items.specs.found.GlobalView.{values_of}
+
+-- the expressions of an arena
+abbrev pub expressions_of : List (Expression × Span) → List PlainExpression
+expressions_of entries = map expression_view (values_of entries)
+
+-- what an access takes a part of
+abbrev pub base_of : PlainExpression → Option ℕ
+base_of (plain (Access base index)) = Some base
+base_of (plain (AccessIndex base index)) = Some base
+base_of _ = None
+
+-- the base of each access comes before it
+abbrev pub BasesPrecede : List PlainExpression → Type 0
+BasesPrecede expressions = (handle base : ℕ) (e : PlainExpression) → slice_get expressions handle ≡ Some e → base_of e ≡ Some base → base < handle
+
+-- The chain of bases from the expression at a handle starts at another: at that expression itself where it is no access,
+-- and else where the chain from its base starts.
+pub data StartsAt (expressions : List PlainExpression) : ℕ → PlainExpression → Type 0 where
+  itself : {handle : ℕ} {e : PlainExpression} → slice_get expressions handle ≡ Some e → base_of e ≡ None → StartsAt expressions handle e
+  through : {handle base : ℕ} {e start : PlainExpression} → slice_get expressions handle ≡ Some e → base_of e ≡ Some base → StartsAt expressions base start → StartsAt expressions handle start
+
+-- the global that an expression is
+abbrev pub global_of : PlainExpression → Option ℕ
+global_of (plain (GlobalVariable global)) = Some global
+global_of _ = None
+
+-- this is the global that the chain from a handle starts at, if it starts at one
+abbrev pub HasOrigin : List PlainExpression → ℕ → Option ℕ → Type 0
+HasOrigin expressions handle origin = (start : PlainExpression) × StartsAt expressions handle start × (origin ≡ global_of start)
+
+-- a chain starts at one expression at most
+abbrev pub OneOrigin : Type 0
+OneOrigin = (expressions : List PlainExpression) (handle : ℕ) (a b : Option ℕ) → HasOrigin expressions handle a → HasOrigin expressions handle b → a ≡ b

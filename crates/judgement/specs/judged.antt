@@ -1,0 +1,5 @@
+pub mod Steps
+pub mod Text
+pub mod ModuleSteps
+pub mod Lines
+pub mod Reports

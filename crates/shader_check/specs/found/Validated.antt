@@ -1,0 +1,110 @@
+-- What is answered of a whole module.
+use Rattle.std.specs.Prelude.{◌≡◌, [], Bool, List, length, map}
+use Rattle.typing_infos.specs.Infos.{summary_of}
+use Rattle.typing_infos.specs.declared.function_info.FunctionInfo.{FunctionInfo}
+use Rattle.shader_check.specs.found.Chains.{AreKept, IsFunctionFault}
+use Rattle.shader_check.specs.found.JudgedEntries.{AreEntryNotes, AreEntrySummaries, IsEntryRefusedAt, note_of}
+use Rattle.check_errors.specs.declared.error.InvalidEntryPoint.{InvalidEntryPoint}
+use Rattle.check_errors.specs.declared.error.ValidationError.{ValidationError}
+use Rattle.check_errors.specs.declared.error.ValidationError.TheVariants as error
+use Rattle.ir_faults.specs.Faults.{error_of, spans_of}
+use Rattle.ir_faults.specs.declared.refusal.Refusal.{Refusal}
+use Rattle.ir_faults.specs.declared.refusal.Refusal.TheVariants as refusal
+use Rattle.ir_flags.specs.declared.stages.ShaderStages.{ShaderStages}
+use Rattle.ir_items.specs.judged.Plain.{PlainModule}
+use Rattle.typing_infos.specs.declared.info.ModuleInfo.{ModuleInfo}
+use Rattle.module_types.specs.Validated.{AreAccepted}
+use Rattle.module_validator.specs.Faults.{IsModuleFault}
+use Rattle.module_validator.specs.Refusals.{IsVariableFault}
+use Rattle.function_real_lower.specs.Readings.{reading_of, faults_of}
+use Rattle.spec_analysis.specs.judged.Summaries.{Summary, AreSummaries}
+use Rattle.spec_interface.specs.judged.Modules as entries
+use Rattle.spec_interface.specs.judged.Modules.{EntriesOK, AreStages, reading_with}
+use Rattle.spec_expressions.specs.judged.Context.{outside}
+use Rattle.spec_statements.specs.judged.ModuleFunctions.{FunctionsOK}
+use Rattle.spec_interface.specs.judged.Globals.{GlobalsOK}
+use Rattle.judgement.specs.judged.ModuleSteps.{ModuleOK}
+use Rattle.judgement.specs.declared.settings.ModuleSettings.{ModuleSettings}
+use Rattle.spec_statements.specs.judged.Functions.{FunctionSettings}
+use Rattle.typing_expressions.specs.Types.{AreTypes}
+use Rattle.typing_layout.specs.found.Held.{AreLayouts}
+
+-- by what the steps up to overrides are judged
+abbrev pub module_settings : FunctionSettings → (resolved : Bool) → ModuleSettings
+module_settings s resolved = record { flags = s.flags; capabilities = s.capabilities; overrides_resolved = resolved }
+
+-- All entry points are accepted, and these are their summaries.
+pub record AreEntriesKept (s : FunctionSettings) (m : PlainModule) (kept : List Summary) : Type 0 where
+  pub accepted : EntriesOK s m
+  pub many : length kept ≡ length m.entries
+  pub known : AreEntrySummaries m kept
+
+-- these stages may run a function
+abbrev pub stages_of : FunctionInfo → ShaderStages
+stages_of i = i.available_stages
+
+-- What is noted of functions and of entry points: which stages may run each of them, with the functions that it calls, and whether
+-- an entry point answers two sources of a blend.
+pub record AreNoted (s : FunctionSettings) (m : PlainModule) (functions entries : List FunctionInfo) : Type 0 where
+  pub run : AreStages s m (map stages_of functions)
+  pub counted : length entries ≡ length m.entries
+  pub entries_noted : AreEntryNotes (λ e. reading_with (map stages_of functions) m e.function) s m (map stages_of functions) (map (note_of stages_of (λ i. i.dual_source_blending)) entries)
+
+-- All steps accept the module, and this is kept of it.
+pub record IsValidated (s : FunctionSettings) (resolved : Bool) (m : PlainModule) (info : ModuleInfo) : Type 0 where
+  pub ok : ModuleOK (module_settings s resolved) m
+  pub globals : GlobalsOK s.flags s.capabilities m
+  pub functions : AreKept s m (map summary_of info.functions.items)
+  pub entries : AreEntriesKept s m (map summary_of info.entry_points.items)
+  pub noted : AreNoted s m info.functions.items info.entry_points.items
+  pub types : AreAccepted s.capabilities resolved m.types info.types.items
+  pub layouts : AreLayouts m.types info.layouter
+  pub laid : length info.layouter ≡ length m.types
+  pub expressions : AreTypes (outside m) m.global_expressions info.const_expression_types.items
+
+-- It is the first entry point that is not accepted, and this is wrong with it.
+pub record IsEntryFault (s : FunctionSettings) (m : PlainModule) (e : InvalidEntryPoint) : Type 0 where
+  pub first : entries.IsFirstFailing s m e.index
+  pub summaries : List Summary
+  pub many : length summaries ≡ length m.functions
+  pub known : AreSummaries m summaries
+  pub stages : List ShaderStages
+  pub run : AreStages s m stages
+  pub fault : IsEntryRefusedAt reading_of faults_of s m summaries stages e.index e.error
+
+-- Each error stands where its step is the first that fails, at the first item that fails it, which has the fault that the
+-- error tells.
+abbrev pub IsValidationFault : FunctionSettings → (resolved : Bool) → PlainModule → ValidationError → Type 0
+IsValidationFault s resolved m (error.Module e) = IsModuleFault (module_settings s resolved) m e
+IsValidationFault s resolved m (error.GlobalVariable e) = ModuleOK (module_settings s resolved) m × IsVariableFault s.flags s.capabilities m e
+IsValidationFault s resolved m (error.Function e) = ModuleOK (module_settings s resolved) m × GlobalsOK s.flags s.capabilities m × IsFunctionFault s m e
+IsValidationFault s resolved m (error.EntryPoint e) = ModuleOK (module_settings s resolved) m × GlobalsOK s.flags s.capabilities m × FunctionsOK s m × IsEntryFault s m e
+
+-- memory ran out, or this is reported, with no span
+abbrev pub IsRefusedWith : {E : Type 0} → (E → Type 0) → Refusal E → Type 0
+IsRefusedWith IsFault (refusal.Memory e) = Unit {0}
+IsRefusedWith IsFault (refusal.Fault e) = IsFault (error_of e) × (spans_of e ≡ [])
+
+-- ---- after the global variables
+
+-- The functions and the entry points are accepted; this is kept of them, and else what was kept before.
+pub record IsKeptWith (s : FunctionSettings) (m : PlainModule) (before info : ModuleInfo) : Type 0 where
+  pub functions : AreKept s m (map summary_of info.functions.items)
+  pub entries : AreEntriesKept s m (map summary_of info.entry_points.items)
+  pub noted : AreNoted s m info.functions.items info.entry_points.items
+  pub types : info.types ≡ before.types
+  pub layouts : info.layouter ≡ before.layouter
+  pub expressions : info.const_expression_types ≡ before.const_expression_types
+
+abbrev pub IsFaultAfter : FunctionSettings → PlainModule → ValidationError → Type 0
+IsFaultAfter s m (error.Module e) = ⊥
+IsFaultAfter s m (error.GlobalVariable e) = ⊥
+IsFaultAfter s m (error.Function e) = IsFunctionFault s m e
+IsFaultAfter s m (error.EntryPoint e) = FunctionsOK s m × IsEntryFault s m e
+
+-- a refusal of a step, as one of the module
+abbrev pub IsReportedBy : {E : Type 0} → (E → ValidationError) → Refusal E → Refusal ValidationError → Type 0
+IsReportedBy of (refusal.Memory e) (refusal.Memory d) = Unit {0}
+IsReportedBy of (refusal.Memory e) (refusal.Fault g) = ⊥
+IsReportedBy of (refusal.Fault f) (refusal.Memory d) = ⊥
+IsReportedBy of (refusal.Fault f) (refusal.Fault g) = (error_of g ≡ of (error_of f)) × (spans_of g ≡ [])

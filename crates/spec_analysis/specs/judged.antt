@@ -1,0 +1,11 @@
+pub mod Operands
+pub mod Effects
+pub mod Values
+pub mod Chains
+pub mod Summaries
+pub mod Pairs
+pub mod Positions
+pub mod Disruption
+pub mod Severity
+pub mod Uniformity
+pub mod Faults

@@ -1,9 +1,0 @@
--- When an expression may be a literal.
-use Rattle.ir_flags.specs.declared.settings.Capabilities.{Capabilities}
-use Rattle.ir_kinds.specs.Values.{literal_scalar}
-use Rattle.ir_kinds.specs.declared.values.Literal.{Literal}
-use Rattle.typing_layout.specs.Widths.{ScalarOK}
-
--- there is its scalar
-abbrev pub LiteralOK : Capabilities → Literal → Type 0
-LiteralOK capabilities literal = ScalarOK capabilities (literal_scalar literal)

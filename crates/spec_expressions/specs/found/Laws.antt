@@ -1,0 +1,42 @@
+-- What holds of all types of expressions.
+use Rattle.std.specs.Prelude.{◌≡◌, ℕ, List, Some, Err, slice_get}
+use Rattle.ir_types.specs.judged.ExpressionPlain.{PlainExpression}
+use Rattle.typing_forms.specs.declared.form.Form.{Form}
+use Rattle.typing_forms.specs.judged.Forms.{form_of}
+use Rattle.typing_forms.specs.judged.Resolutions.{PlainResolution}
+use Rattle.typing_forms.specs.found.Equivalence.{AreEquivalent}
+use Rattle.typing_rules.specs.judged.Laws.{IsAmong}
+use Rattle.spec_expressions.specs.judged.Context.{Context}
+use Rattle.spec_expressions.specs.judged.Typing.{typing_operands, rule_at, HasTypeAmong}
+use Rattle.spec_expressions.specs.declared.faults.TypingFault.{TypingFault}
+
+-- an expression has one type at most
+abbrev pub OneType : Type 0
+OneType = (context : Context) (expressions : List PlainExpression) (place : ℕ) (s t : Form)
+    → HasTypeAmong context expressions place s → HasTypeAmong context expressions place t → s ≡ t
+
+-- An expression has a fault: its operands have types, for which the rule of its kind gives no type.
+pub record IsFaulty (context : Context) (expressions : List PlainExpression) (place : ℕ) (fault : TypingFault) : Type 0 where
+  pub expression : PlainExpression
+  pub past : ℕ → Form
+  pub stands : slice_get expressions place ≡ Some expression
+  pub operands : (operand : ℕ) → IsAmong operand (typing_operands expression) → HasTypeAmong context expressions operand (past operand)
+  pub refused : rule_at context expression past ≡ Err fault
+
+-- what has a fault has no type
+abbrev pub FaultyHasNone : Type 0
+FaultyHasNone = (context : Context) (expressions : List PlainExpression) (place : ℕ) (fault : TypingFault)
+    → IsFaulty context expressions place fault → (t : Form) → HasTypeAmong context expressions place t → ⊥
+
+-- operands of the same forms give one form, or one fault
+abbrev pub OperandsDecide : Type 0
+OperandsDecide = (context : Context) (expression : PlainExpression) (p q : ℕ → Form)
+    → ((operand : ℕ) → IsAmong operand (typing_operands expression) → p operand ≡ q operand)
+    → rule_at context expression p ≡ rule_at context expression q
+
+-- operands of equivalent types give equivalent types, or are refused alike, in every kind of expression
+abbrev pub EquivalentOperandsDecide : Type 0
+EquivalentOperandsDecide = (context : Context) (expression : PlainExpression) (p q : ℕ → PlainResolution)
+    → ((operand : ℕ) → IsAmong operand (typing_operands expression) → AreEquivalent context.types (p operand) (q operand))
+    → rule_at context expression (λ operand. form_of context.types (p operand))
+    ≡ rule_at context expression (λ operand. form_of context.types (q operand))

@@ -1,0 +1,37 @@
+-- Samples of images.
+use Rattle.std.specs.Prelude.{ℕ, Option, Some, None, Result, Ok, Err}
+use Rattle.ir_kinds.specs.declared.images.ImageClass.{ImageClass}
+use Rattle.ir_kinds.specs.declared.images.ImageClass.TheVariants.{Sampled, Depth, External, Storage}
+use Rattle.ir_kinds.specs.declared.scalars.ScalarKind.{ScalarKind}
+use Rattle.ir_kinds.specs.declared.scalars.Scalar.{Scalar}
+use Rattle.ir_kinds.specs.declared.scalars.SwizzleComponent.{SwizzleComponent}
+use Rattle.ir_kinds.specs.declared.scalars.VectorSize.TheVariants.{Quad}
+use Rattle.ir_kinds.specs.judged.Scalars.{floating}
+use Rattle.typing_forms.specs.declared.form.Form.{Form}
+use Rattle.typing_forms.specs.declared.form.Form.TheVariants as form
+use Rattle.spec_expressions.specs.declared.faults.TypingFault.{TypingFault}
+use Rattle.spec_expressions.specs.declared.faults.TypingFault.TheVariants.{InvalidImage}
+
+-- a texel of this kind has 32-bit components
+abbrev pub texel_scalar : ScalarKind → Scalar
+texel_scalar kind = record { kind = kind; width = 4 }
+
+-- four components of a scalar
+abbrev pub texel : Scalar → Form
+texel s = form.Vector Quad s
+
+-- a depth, or four of them where they are gathered
+abbrev pub depth_sample : Option SwizzleComponent → Form
+depth_sample None = form.Scalar (floating 4)
+depth_sample (Some component) = texel (floating 4)
+
+-- image is the image's expression; storage images are not sampled
+abbrev pub sample_of : (image : ℕ) → Option SwizzleComponent → ImageClass → Result Form TypingFault
+sample_of image gather (Sampled kind multi) = Ok (texel (texel_scalar kind))
+sample_of image gather (Depth multi) = Ok (depth_sample gather)
+sample_of image gather External = Ok (texel (floating 4))
+sample_of image gather (Storage format access) = Err (InvalidImage image)
+
+abbrev pub image_sample_type : (image : ℕ) → Option SwizzleComponent → (of : Form) → Result Form TypingFault
+image_sample_type image gather (form.Image dim arrayed class) = sample_of image gather class
+image_sample_type image gather _ = Err (InvalidImage image)

@@ -1,0 +1,68 @@
+-- Operations on one value and on two.
+use Rattle.std.specs.Prelude.{Result, Ok, Err}
+use Rattle.ir_kinds.specs.declared.operators.BinaryOperator.{BinaryOperator}
+use Rattle.ir_kinds.specs.declared.operators.BinaryOperator.TheVariants.{Add, Subtract, Multiply, Divide, Modulo, Equal, NotEqual, Less, LessEqual, Greater, GreaterEqual, And, ExclusiveOr, InclusiveOr, LogicalAnd, LogicalOr, ShiftLeft, ShiftRight}
+use Rattle.ir_kinds.specs.declared.scalars.Scalar.{Scalar}
+use Rattle.ir_kinds.specs.declared.scalars.VectorSize.{VectorSize}
+use Rattle.ir_kinds.specs.judged.Scalars.{boolean}
+use Rattle.typing_forms.specs.declared.form.Form.{Form}
+use Rattle.typing_forms.specs.declared.form.Form.TheVariants as form
+use Rattle.spec_expressions.specs.declared.faults.TypingFault.{TypingFault}
+use Rattle.spec_expressions.specs.declared.faults.TypingFault.TheVariants.{IncompatibleOperands}
+
+-- an operation on one value gives a value of its type
+abbrev pub unary_type : (of : Form) → Form
+unary_type of = of
+
+-- truth values in the shape of a value: one for a scalar, one a component for a vector
+abbrev pub truth_of : Form → Result Form TypingFault
+truth_of (form.Scalar s) = Ok (form.Scalar boolean)
+truth_of (form.Vector n s) = Ok (form.Vector n boolean)
+truth_of _ = Err IncompatibleOperands
+
+-- a vector times a vector is taken by components, and times a matrix it has one for each column
+abbrev pub vector_times : (left right : Form) → Result Form TypingFault
+vector_times left (form.Scalar s) = Ok left
+vector_times left (form.Vector n s) = Ok left
+vector_times left (form.Matrix columns rows s) = Ok (form.Vector columns s)
+vector_times left _ = Err IncompatibleOperands
+
+-- a matrix of so many rows of a scalar, times a vector, has a component for each row; times a matrix, that one's columns
+abbrev pub matrix_times : (left : Form) → (rows : VectorSize) → Scalar → (right : Form) → Result Form TypingFault
+matrix_times left rows s (form.Scalar t) = Ok left
+matrix_times left rows s (form.Vector n t) = Ok (form.Vector rows s)
+matrix_times left rows s (form.Matrix columns lines t) = Ok (form.Matrix columns rows s)
+matrix_times left rows s _ = Err IncompatibleOperands
+
+-- anything else is multiplied by scalars alone
+abbrev pub other_times : (left right : Form) → Result Form TypingFault
+other_times left (form.Scalar s) = Ok left
+other_times left _ = Err IncompatibleOperands
+
+-- a scalar scales what the other operand is; products of vectors, of matrices and of both; nothing else
+abbrev pub product : (left right : Form) → Result Form TypingFault
+product (form.Scalar s) right = Ok right
+product (form.Vector n s) right = vector_times (form.Vector n s) right
+product (form.Matrix columns rows s) right = matrix_times (form.Matrix columns rows s) rows s right
+product left right = other_times left right
+
+-- comparisons give truth values, products what they are products of, and all else what depends on the left
+abbrev pub binary_type : BinaryOperator → (left right : Form) → Result Form TypingFault
+binary_type Add left right = Ok left
+binary_type Subtract left right = Ok left
+binary_type Multiply left right = product left right
+binary_type Divide left right = Ok left
+binary_type Modulo left right = Ok left
+binary_type Equal left right = truth_of left
+binary_type NotEqual left right = truth_of left
+binary_type Less left right = truth_of left
+binary_type LessEqual left right = truth_of left
+binary_type Greater left right = truth_of left
+binary_type GreaterEqual left right = truth_of left
+binary_type And left right = Ok left
+binary_type ExclusiveOr left right = Ok left
+binary_type InclusiveOr left right = Ok left
+binary_type LogicalAnd left right = Ok left
+binary_type LogicalOr left right = Ok left
+binary_type ShiftLeft left right = Ok left
+binary_type ShiftRight left right = Ok left

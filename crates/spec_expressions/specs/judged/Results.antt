@@ -1,0 +1,24 @@
+-- What statements answered: calls, atomic operations, uniform loads of workgroup memory.
+use Rattle.std.specs.Prelude.{ℕ, Option, option_map, option_and_then, Result, ok_or, slice_get}
+use Rattle.ir_items.specs.declared.functions.FunctionResult.{FunctionResult}
+use Rattle.typing_forms.specs.declared.form.Form.{Form}
+use Rattle.typing_forms.specs.judged.Forms.{form_of_type}
+use Rattle.spec_expressions.specs.judged.Context.{Context}
+use Rattle.spec_expressions.specs.declared.faults.TypingFault.{TypingFault}
+use Rattle.spec_expressions.specs.declared.faults.TypingFault.TheVariants.{FunctionReturnsVoid}
+
+-- what a function declares to answer
+abbrev pub result_of : Context → ℕ → Option FunctionResult
+result_of c function = option_and_then (λ f. f.result) (slice_get c.functions function)
+
+-- what a call answered has the type that the function declares
+abbrev pub call_result_type : Context → ℕ → Result Form TypingFault
+call_result_type c function = ok_or (option_map (λ (r : FunctionResult). form_of_type c.types r.ty) (result_of c function)) FunctionReturnsVoid
+
+-- what an atomic operation answered has the type that it says
+abbrev pub atomic_result_type : Context → ℕ → Form
+atomic_result_type c type = form_of_type c.types type
+
+-- so has what a uniform load answered
+abbrev pub uniform_load_type : Context → ℕ → Form
+uniform_load_type c type = form_of_type c.types type

@@ -1,0 +1,20 @@
+-- Selections and relational functions.
+use Rattle.std.specs.Prelude.{Result, Ok}
+use Rattle.ir_kinds.specs.declared.operators.RelationalFunction.{RelationalFunction}
+use Rattle.ir_kinds.specs.declared.operators.RelationalFunction.TheVariants.{All, Any, IsNan, IsInf}
+use Rattle.ir_kinds.specs.judged.Scalars.{boolean}
+use Rattle.typing_forms.specs.declared.form.Form.{Form}
+use Rattle.typing_forms.specs.declared.form.Form.TheVariants as form
+use Rattle.spec_expressions.specs.judged.Operators.{truth_of}
+use Rattle.spec_expressions.specs.declared.faults.TypingFault.{TypingFault}
+
+-- a choice has the type of what is taken where the condition holds
+abbrev pub select_type : (accept : Form) → Form
+select_type accept = accept
+
+-- all or any of the components: one truth value; about numbers: one for each
+abbrev pub relational_type : RelationalFunction → (of : Form) → Result Form TypingFault
+relational_type All of = Ok (form.Scalar boolean)
+relational_type Any of = Ok (form.Scalar boolean)
+relational_type IsNan of = truth_of of
+relational_type IsInf of = truth_of of

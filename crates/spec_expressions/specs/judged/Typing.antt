@@ -1,0 +1,142 @@
+-- The type of an expression by the types of its operands: a rule for each kind, and the relation that the rules give.
+use Rattle.std.specs.Prelude.{◌≡◌, ℕ, List, [], ◌∷◌, Option, Some, None, Result, Ok, slice_get}
+use Rattle.ir_types.specs.judged.ExpressionPlain.{PlainExpression, compose, plain}
+use Rattle.ir_types.specs.declared.expressions.Expression.{Expression}
+use Rattle.ir_types.specs.declared.expressions.Expression.TheVariants as x
+use Rattle.ir_items.specs.judged.Plain.{PlainFunction, PlainModule}
+use Rattle.typing_forms.specs.declared.form.Form.{Form}
+use Rattle.typing_forms.specs.declared.form.Form.TheVariants as form
+use Rattle.typing_rules.specs.judged.Laws.{IsAmong}
+use Rattle.spec_expressions.specs.judged.Access.{access_type, access_index_type}
+use Rattle.spec_expressions.specs.judged.Compositions.{compose_type, splat_type, swizzle_type}
+use Rattle.spec_expressions.specs.judged.Context.{Context, inside, outside}
+use Rattle.spec_expressions.specs.judged.Conversions.{as_type}
+use Rattle.spec_expressions.specs.judged.CooperativeMatrices.{cooperative_load_type, multiply_add_type}
+use Rattle.spec_expressions.specs.judged.Derivatives.{derivative_type}
+use Rattle.spec_expressions.specs.judged.ImageLoads.{image_load_type, image_query_type}
+use Rattle.spec_expressions.specs.judged.ImageSamples.{image_sample_type}
+use Rattle.spec_expressions.specs.judged.Literals.{literal_type, constant_type, override_type, zero_type}
+use Rattle.spec_expressions.specs.judged.Loads.{argument_type, global_type, local_type, load_type, array_length_type}
+use Rattle.spec_expressions.specs.judged.Maths.{math_operands, math_type}
+use Rattle.spec_expressions.specs.judged.Operators.{unary_type, binary_type}
+use Rattle.spec_expressions.specs.judged.RayQueries.{vertex_positions_type, intersection_type, proceed_type}
+use Rattle.spec_expressions.specs.judged.Results.{call_result_type, atomic_result_type, uniform_load_type}
+use Rattle.spec_expressions.specs.judged.Selections.{select_type, relational_type}
+use Rattle.spec_expressions.specs.judged.Subgroups.{ballot_type, subgroup_type}
+use Rattle.spec_expressions.specs.declared.faults.TypingFault.{TypingFault}
+
+-- ---- operands
+
+-- the operands whose types make that of the expression, in order
+abbrev pub operands_of : Expression → List ℕ
+operands_of (x.Literal value) = []
+operands_of (x.Constant constant) = []
+operands_of (x.Override override) = []
+operands_of (x.ZeroValue type) = []
+operands_of (x.Compose type components) = []
+operands_of (x.Access base index) = base ∷ []
+operands_of (x.AccessIndex base index) = base ∷ []
+operands_of (x.Splat size value) = value ∷ []
+operands_of (x.Swizzle size vector pattern) = vector ∷ []
+operands_of (x.FunctionArgument number) = []
+operands_of (x.GlobalVariable global) = []
+operands_of (x.LocalVariable local) = []
+operands_of (x.Load pointer) = pointer ∷ []
+operands_of (x.ImageSample image sampler gather coordinate array_index offset level depth_ref clamp_to_edge) = image ∷ []
+operands_of (x.ImageLoad image coordinate array_index sample level) = image ∷ []
+operands_of (x.ImageQuery image query) = image ∷ []
+operands_of (x.Unary op expr) = expr ∷ []
+operands_of (x.Binary op left right) = left ∷ right ∷ []
+operands_of (x.Select condition accept reject) = accept ∷ []
+operands_of (x.Derivative axis ctrl expr) = expr ∷ []
+operands_of (x.Relational fun argument) = argument ∷ []
+operands_of (x.Math fun arg arg1 arg2 arg3) = math_operands arg arg1 arg2 arg3
+operands_of (x.As expr kind convert) = expr ∷ []
+operands_of (x.CallResult function) = []
+operands_of (x.AtomicResult type comparison) = []
+operands_of (x.WorkGroupUniformLoadResult type) = []
+operands_of (x.ArrayLength array) = []
+operands_of (x.RayQueryVertexPositions query committed) = []
+operands_of x.RayQueryProceedResult = []
+operands_of (x.RayQueryGetIntersection query committed) = []
+operands_of x.SubgroupBallotResult = []
+operands_of (x.SubgroupOperationResult type) = []
+operands_of (x.CooperativeLoad columns rows role block) = block.pointer ∷ []
+operands_of (x.CooperativeMultiplyAdd a b c) = c ∷ []
+
+abbrev pub typing_operands : PlainExpression → List ℕ
+typing_operands (compose type components) = []
+typing_operands (plain expression) = operands_of expression
+
+-- ---- one rule a kind
+
+-- The type of an expression, or why it has none, where its operands have the forms a, b, c and d, in order.
+abbrev pub rule_of : Context → Expression → (a b c d : Form) → Result Form TypingFault
+rule_of context (x.Literal value) a b c d = Ok (literal_type value)
+rule_of context (x.Constant constant) a b c d = Ok (constant_type context constant)
+rule_of context (x.Override override) a b c d = Ok (override_type context override)
+rule_of context (x.ZeroValue type) a b c d = Ok (zero_type context type)
+rule_of context (x.Compose type components) a b c d = Ok (compose_type context type)
+rule_of context (x.Access base index) a b c d = access_type context.types base a
+rule_of context (x.AccessIndex base index) a b c d = access_index_type context.types base index a
+rule_of context (x.Splat size value) a b c d = splat_type size value a
+rule_of context (x.Swizzle size vector pattern) a b c d = swizzle_type size vector a
+rule_of context (x.FunctionArgument number) a b c d = argument_type context number
+rule_of context (x.GlobalVariable global) a b c d = Ok (global_type context global)
+rule_of context (x.LocalVariable local) a b c d = Ok (local_type context local)
+rule_of context (x.Load pointer) a b c d = load_type context.types pointer a
+rule_of context (x.ImageSample image sampler gather coordinate array_index offset level depth_ref clamp_to_edge) a b c d = image_sample_type image gather a
+rule_of context (x.ImageLoad image coordinate array_index sample level) a b c d = image_load_type image a
+rule_of context (x.ImageQuery image query) a b c d = image_query_type image query a
+rule_of context (x.Unary op expr) a b c d = Ok (unary_type a)
+rule_of context (x.Binary op left right) a b c d = binary_type op a b
+rule_of context (x.Select condition accept reject) a b c d = Ok (select_type a)
+rule_of context (x.Derivative axis ctrl expr) a b c d = Ok (derivative_type a)
+rule_of context (x.Relational fun argument) a b c d = relational_type fun a
+rule_of context (x.Math fun arg arg1 arg2 arg3) a b c d = math_type context fun arg1 arg2 arg3 a b c d
+rule_of context (x.As expr kind convert) a b c d = as_type kind convert a
+rule_of context (x.CallResult function) a b c d = call_result_type context function
+rule_of context (x.AtomicResult type comparison) a b c d = Ok (atomic_result_type context type)
+rule_of context (x.WorkGroupUniformLoadResult type) a b c d = Ok (uniform_load_type context type)
+rule_of context (x.ArrayLength array) a b c d = Ok array_length_type
+rule_of context (x.RayQueryVertexPositions query committed) a b c d = vertex_positions_type context
+rule_of context x.RayQueryProceedResult a b c d = Ok proceed_type
+rule_of context (x.RayQueryGetIntersection query committed) a b c d = intersection_type context
+rule_of context x.SubgroupBallotResult a b c d = Ok ballot_type
+rule_of context (x.SubgroupOperationResult type) a b c d = Ok (subgroup_type context type)
+rule_of context (x.CooperativeLoad columns rows role block) a b c d = cooperative_load_type context.types columns rows role block.pointer a
+rule_of context (x.CooperativeMultiplyAdd p q r) a b c d = Ok (multiply_add_type a)
+
+abbrev pub rule : Context → PlainExpression → (a b c d : Form) → Result Form TypingFault
+rule context (compose type components) a b c d = Ok (compose_type context type)
+rule context (plain expression) a b c d = rule_of context expression a b c d
+
+-- the form of an operand, where there is one
+abbrev pub form_read : (ℕ → Form) → Option ℕ → Form
+form_read past (Some operand) = past operand
+form_read past None = form.Nothing
+
+abbrev pub operand_form : (ℕ → Form) → List ℕ → (place : ℕ) → Form
+operand_form past operands place = form_read past (slice_get operands place)
+
+-- the same, where each expression has the form that past says
+abbrev pub rule_at : Context → PlainExpression → (past : ℕ → Form) → Result Form TypingFault
+rule_at context expression past =
+    rule context expression (operand_form past (typing_operands expression) 0) (operand_form past (typing_operands expression) 1)
+    (operand_form past (typing_operands expression) 2) (operand_form past (typing_operands expression) 3)
+
+-- ---- the relation
+
+-- An expression has a type of a form where its operands have types, and the rule of its kind gives the form for theirs.
+pub data HasTypeAmong (context : Context) (expressions : List PlainExpression) : ℕ → Form → Type 0 where
+  has : {place : ℕ} {t : Form} (expression : PlainExpression) (past : ℕ → Form) → slice_get expressions place ≡ Some expression
+      → ((operand : ℕ) → IsAmong operand (typing_operands expression) → HasTypeAmong context expressions operand (past operand))
+      → rule_at context expression past ≡ Ok t → HasTypeAmong context expressions place t
+
+-- an expression of a function of the module has a type of this form
+abbrev pub HasType : PlainModule → PlainFunction → ℕ → Form → Type 0
+HasType m f = HasTypeAmong (inside m f) f.expressions
+
+-- the same of a global expression
+abbrev pub HasGlobalType : PlainModule → ℕ → Form → Type 0
+HasGlobalType m = HasTypeAmong (outside m) m.global_expressions

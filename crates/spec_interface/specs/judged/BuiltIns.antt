@@ -1,0 +1,87 @@
+-- What is required of one built-in value.
+use Rattle.std.specs.Prelude.{◌≡◌, ◌⊎◌, ◌≤◌, ◌<◌, ℕ, List, Option, Some, None, IfSome, IsSomeAnd, IsTrue, slice_get}
+use Rattle.ir_flags.specs.Sets.{Has}
+use Rattle.ir_kinds.specs.judged.Scalars.{floating}
+use Rattle.ir_kinds.specs.declared.bindings.BuiltIn.{BuiltIn}
+use Rattle.ir_kinds.specs.declared.stages.ShaderStage.{ShaderStage}
+use Rattle.ir_kinds.specs.declared.stages.ShaderStage.TheVariants.{Mesh}
+use Rattle.ir_types.specs.judged.Plain.{PlainType}
+use Rattle.ir_types.specs.declared.types.ArraySize.{ArraySize}
+use Rattle.ir_types.specs.declared.types.ArraySize.TheVariants as size
+use Rattle.spec_interface.specs.judged.Contexts.{VaryingContext, stage_set}
+use Rattle.spec_interface.specs.judged.Rows.{built_in_row}
+use Rattle.spec_interface.specs.declared.rows.BuiltInRow.{BuiltInRow}
+use Rattle.spec_interface.specs.declared.rows.BuiltInType.{BuiltInType}
+use Rattle.spec_interface.specs.declared.rows.BuiltInType.TheVariants.{Value, Distances}
+use Rattle.spec_interface.specs.declared.rows.Exception.{Exception}
+use Rattle.spec_interface.specs.declared.rows.Exception.TheVariants as exception
+use Rattle.spec_interface.specs.declared.rows.TheConstants.BuiltInRow.{HITS}
+use Rattle.spec_interface.specs.declared.varyings.Direction.{Direction}
+use Rattle.spec_interface.specs.declared.varyings.Direction.TheVariants.{Input, Output, VertexOutput, PrimitiveOutput}
+use Rattle.typing_forms.specs.judged.Forms.{form_of_type}
+use Rattle.typing_forms.specs.declared.form.Form.{Form}
+use Rattle.typing_forms.specs.declared.form.Form.TheVariants as form
+
+-- ---- where it occurs
+
+-- a row says that it goes this way at a stage
+abbrev pub OccursAt : Direction → ShaderStage → BuiltInRow → Type 0
+OccursAt Input stage r = Has r.inputs.0 (stage_set stage).0
+OccursAt Output stage r = Has r.outputs.0 (stage_set stage).0
+OccursAt VertexOutput stage r = Has r.outputs.0 (stage_set stage).0
+OccursAt PrimitiveOutput stage r = Has r.outputs.0 (stage_set stage).0 ⊎ IsTrue r.primitive
+
+-- what needs no capability at a stage, though its row names one
+abbrev pub IsFree : ShaderStage → Exception → Type 0
+IsFree stage exception.None = ⊥
+IsFree stage exception.FreeAtHits = Has HITS.0 (stage_set stage).0
+IsFree stage exception.NotAfterTasks = ⊥
+IsFree stage exception.RowsOnly = ⊥
+
+-- workgroups are rows: they have one invocation in all ways but the first
+abbrev pub AreRows : List ℕ → Type 0
+AreRows sizes = (way many : ℕ) → 0 < way → slice_get sizes way ≡ Some many → many ≤ 1
+
+-- a mesh shader is ahead of all where no task hands it a payload
+abbrev pub IsAhead : VaryingContext → Type 0
+IsAhead c = c.stage ≡ Mesh → c.payload ≡ None
+
+-- what a row says besides
+abbrev pub ExceptionOK : VaryingContext → Exception → Type 0
+ExceptionOK c exception.None = Unit {0}
+ExceptionOK c exception.FreeAtHits = Unit {0}
+ExceptionOK c exception.NotAfterTasks = IsAhead c
+ExceptionOK c exception.RowsOnly = AreRows c.sizes
+
+-- ---- of which type it is
+
+-- the elements of an array of so many
+abbrev pub array_of : Form → Option (ℕ × ArraySize)
+array_of (form.Array base size stride) = Some (base, size)
+array_of _ = None
+
+-- it has so many elements, and no override says how many
+abbrev pub IsCounted : ArraySize → (ℕ → Type 0) → Type 0
+IsCounted (size.Constant count) P = P count
+IsCounted (size.Pending override) P = ⊥
+IsCounted size.Dynamic P = ⊥
+
+-- floats of four bytes in a row, eight at most
+abbrev pub AreDistances : List PlainType → Form → Type 0
+AreDistances types t = IsSomeAnd (array_of t) (λ a. (form_of_type types a.0 ≡ form.Scalar (floating 4)) × IsCounted a.1 (λ count. count ≤ 8))
+
+abbrev pub IsOfType : List PlainType → BuiltInType → (type : ℕ) → Type 0
+IsOfType types (Value t) type = form_of_type types type ≡ t
+IsOfType types Distances type = AreDistances types (form_of_type types type)
+
+-- ---- the whole
+
+pub record RowOK (c : VaryingContext) (type : ℕ) (r : BuiltInRow) : Type 0 where
+  pub capable : IsFree c.stage r.exception ⊎ IfSome r.capability (λ x. Has c.capabilities.0 x.0)
+  pub stands : OccursAt c.direction c.stage r
+  pub besides : ExceptionOK c r.exception
+  pub typed : IsOfType c.types r.ty type
+
+-- A value of the type may be the built-in one.
+abbrev pub BuiltInOK : VaryingContext → (type : ℕ) → BuiltIn → Type 0
+BuiltInOK c type b = RowOK c type (built_in_row b)

@@ -1,0 +1,114 @@
+-- What is required of one value at a location.
+use Rattle.std.specs.Prelude.{◌≡◌, ◌≢◌, ◌⊎◌, ◌==◌, ℕ, Bool, true, false, not, List, Option, Some, None, IsSome, IsSomeAnd, IsTrue, if◌then◌else◌, option_and_then}
+use Rattle.ir_flags.specs.Sets.{Has}
+use Rattle.ir_flags.specs.declared.settings.TheConstants.Capabilities.{MESH_SHADER, MULTISAMPLED_SHADING, PER_VERTEX}
+use Rattle.ir_kinds.specs.declared.bindings.Interpolation.{Interpolation}
+use Rattle.ir_kinds.specs.declared.bindings.Interpolation.TheVariants.{Perspective, Linear, Flat, PerVertex}
+use Rattle.ir_kinds.specs.declared.bindings.Sampling.{Sampling}
+use Rattle.ir_kinds.specs.declared.bindings.Sampling.TheVariants.{Center, Centroid, Sample, First, Either}
+use Rattle.ir_kinds.specs.declared.scalars.ScalarKind.{ScalarKind}
+use Rattle.ir_kinds.specs.declared.scalars.ScalarKind.TheVariants as kind
+use Rattle.ir_kinds.specs.declared.stages.ShaderStage.{ShaderStage}
+use Rattle.ir_kinds.specs.declared.stages.ShaderStage.TheVariants.{Vertex, Fragment, Mesh}
+use Rattle.ir_types.specs.judged.Plain.{PlainType}
+use Rattle.ir_types.specs.declared.types.ArraySize.{ArraySize}
+use Rattle.ir_types.specs.declared.types.ArraySize.TheVariants as size
+use Rattle.typing_layout.specs.judged.Flags.{HasFlag, IoShareable}
+use Rattle.typing_layout.specs.judged.View.{type_tree}
+use Rattle.spec_interface.specs.judged.BuiltIns.{array_of}
+use Rattle.spec_interface.specs.judged.Contexts.{VaryingContext}
+use Rattle.spec_interface.specs.declared.varyings.Direction.{Direction}
+use Rattle.spec_interface.specs.declared.varyings.Direction.TheVariants.{Input, Output, VertexOutput, PrimitiveOutput}
+use Rattle.spec_interface.specs.declared.varyings.Location.{Location}
+use Rattle.typing_forms.specs.judged.Forms.{form_of_type}
+use Rattle.typing_forms.specs.declared.form.Form.{Form}
+use Rattle.typing_forms.specs.declared.form.Form.TheVariants as form
+
+-- ---- primitives
+
+-- all that a mesh shader gives with a primitive belongs to it, and so may what a fragment is given; nothing else does
+abbrev pub PrimitiveOK : Direction → ShaderStage → (per_primitive : Bool) → Type 0
+PrimitiveOK Input stage per_primitive = IsTrue per_primitive → stage ≡ Fragment
+PrimitiveOK Output stage per_primitive = per_primitive ≡ false
+PrimitiveOK VertexOutput stage per_primitive = per_primitive ≡ false
+PrimitiveOK PrimitiveOutput stage per_primitive = per_primitive ≡ true
+
+-- ---- values of each vertex
+
+-- the elements of an array of three
+abbrev pub three : (base : ℕ) → ArraySize → Option ℕ
+three base (size.Constant count) = if count == 3 then Some base else None
+three base (size.Pending override) = None
+three base size.Dynamic = None
+
+abbrev pub of_three : Form → Option ℕ
+of_three t = option_and_then (λ a. three a.0 a.1) (array_of t)
+
+-- the type that counts: where every vertex gives its own value, that of the elements
+abbrev pub counted : List PlainType → Option Interpolation → (type : ℕ) → Option ℕ
+counted types None type = Some type
+counted types (Some Perspective) type = Some type
+counted types (Some Linear) type = Some type
+counted types (Some Flat) type = Some type
+counted types (Some PerVertex) type = of_three (form_of_type types type)
+
+pub record VerticesOK (c : VaryingContext) : Type 0 where
+  pub fragment : c.stage ≡ Fragment
+  pub capable : Has c.capabilities.0 PER_VERTEX.0
+
+-- ---- how a value between vertices is found
+
+abbrev pub is_of_vertex : Sampling → Bool
+is_of_vertex Center = false
+is_of_vertex Centroid = false
+is_of_vertex Sample = false
+is_of_vertex First = true
+is_of_vertex Either = true
+
+-- which places go with which way of finding a value; the values of each vertex are taken at none
+abbrev pub goes_with : Interpolation → Sampling → Bool
+goes_with Perspective s = not (is_of_vertex s)
+goes_with Linear s = not (is_of_vertex s)
+goes_with Flat s = is_of_vertex s
+goes_with PerVertex s = false
+
+-- a value between vertices has to be found there
+abbrev pub NeedsInterpolation : Direction → ShaderStage → (per_primitive : Bool) → Type 0
+NeedsInterpolation Input stage per_primitive = (stage ≡ Fragment) × (per_primitive ≡ false)
+NeedsInterpolation Output stage per_primitive = (stage ≡ Vertex) ⊎ (stage ≡ Mesh)
+NeedsInterpolation VertexOutput stage per_primitive = (stage ≡ Vertex) ⊎ (stage ≡ Mesh)
+NeedsInterpolation PrimitiveOutput stage per_primitive = (stage ≡ Vertex) ⊎ (stage ≡ Mesh)
+
+-- floats are found in some way, and integers lie in no way between
+abbrev pub InterpolationOK : ScalarKind → Option Interpolation → Type 0
+InterpolationOK kind.Sint i = i ≡ Some Flat
+InterpolationOK kind.Uint i = i ≡ Some Flat
+InterpolationOK kind.Float i = IsSome i
+InterpolationOK kind.Bool i = Unit {0}
+InterpolationOK kind.AbstractInt i = Unit {0}
+InterpolationOK kind.AbstractFloat i = Unit {0}
+
+-- what the scalars of a scalar or of a vector are
+abbrev pub kind_of : Form → Option ScalarKind
+kind_of (form.Scalar s) = Some s.kind
+kind_of (form.Vector n s) = Some s.kind
+kind_of _ = None
+
+-- a scalar or a vector, which is interpolated where that is required
+abbrev pub IsValue : (between : Type 0) → Option Interpolation → Form → Type 0
+IsValue between i t = IsSomeAnd (kind_of t) (λ kind. between → InterpolationOK kind i)
+
+-- ---- the whole
+
+-- A value of the type may go to the location.
+pub record LocationOK (c : VaryingContext) (type : ℕ) (l : Location) : Type 0 where
+  pub capable : IsTrue l.per_primitive → Has c.capabilities.0 MESH_SHADER.0
+  pub primitive : PrimitiveOK c.direction c.stage l.per_primitive
+  pub vertices : l.interpolation ≡ Some PerVertex → VerticesOK c
+  pub element : ℕ
+  pub counts : counted c.types l.interpolation type ≡ Some element
+  pub shared : HasFlag IoShareable (type_tree c.types element)
+  pub value : l.interpolation ≢ Some PerVertex → IsValue (NeedsInterpolation c.direction c.stage l.per_primitive) l.interpolation (form_of_type c.types type)
+  pub alone : l.blend_src ≡ None
+  pub sampled : (i : Interpolation) (s : Sampling) → l.interpolation ≡ Some i → l.sampling ≡ Some s → goes_with i s ≡ true
+  pub multisampled : l.sampling ≡ Some Sample → Has c.capabilities.0 MULTISAMPLED_SHADING.0

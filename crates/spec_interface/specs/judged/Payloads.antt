@@ -1,0 +1,33 @@
+-- The payload that a task shader hands to mesh shaders.
+use Rattle.std.specs.Prelude.{◌≡◌, ℕ, Bool, true, false, IsTrue, Option, Some, IfSome, IsSome, option_map, option_and_then, slice_get}
+use Rattle.ir_items.specs.judged.GlobalPlain.{PlainGlobal}
+use Rattle.ir_items.specs.judged.Plain.{PlainEntry, PlainModule}
+use Rattle.ir_kinds.specs.declared.bindings.ResourceBinding.{ResourceBinding}
+use Rattle.ir_kinds.specs.declared.spaces.AddressSpace.{AddressSpace}
+use Rattle.ir_kinds.specs.declared.spaces.AddressSpace.TheVariants.{TaskPayload}
+use Rattle.ir_kinds.specs.declared.stages.ShaderStage.{ShaderStage}
+use Rattle.ir_kinds.specs.declared.stages.ShaderStage.TheVariants.{Vertex, Fragment, Compute, Mesh, Task, RayGeneration, AnyHit, ClosestHit, Miss}
+
+-- where the global variable at a handle lies, and what a host binds it to
+abbrev pub space_at : PlainModule → ℕ → Option AddressSpace
+space_at m g = option_map (λ (v : PlainGlobal). v.space) (slice_get m.globals g)
+
+abbrev pub binding_at : PlainModule → ℕ → Option ResourceBinding
+binding_at m g = option_and_then (λ (v : PlainGlobal). v.binding) (slice_get m.globals g)
+
+-- a task shader hands a payload on, and a mesh shader may be handed one
+abbrev pub has_payload : ShaderStage → Bool
+has_payload Vertex = false
+has_payload Fragment = false
+has_payload Compute = false
+has_payload Mesh = true
+has_payload Task = true
+has_payload RayGeneration = false
+has_payload AnyHit = false
+has_payload ClosestHit = false
+has_payload Miss = false
+
+pub record PayloadOK (m : PlainModule) (e : PlainEntry) : Type 0 where
+  pub handed : e.stage ≡ Task → IsSome e.payload
+  pub stages : IsSome e.payload → IsTrue (has_payload e.stage)
+  pub lies : IfSome e.payload (λ g. space_at m g ≡ Some TaskPayload)

@@ -1,0 +1,140 @@
+-- What entry points may do with global variables, by the memory in which these lie.
+use Rattle.std.specs.Prelude.{◌≡◌, ◌==◌, ◌⊎◌, ℕ, List, Bool, true, false, Option, Some, if◌then◌else◌, bit_and, bit_or, option_map}
+use Rattle.std.specs.Int.{bit_at}
+use Rattle.spec_analysis.specs.declared.global_use.GlobalUse.{GlobalUse}
+use Rattle.spec_analysis.specs.declared.global_use.TheConstants.GlobalUse as use_
+use Rattle.ir_flags.specs.declared.memory.StorageAccess.{StorageAccess}
+use Rattle.ir_flags.specs.declared.memory.TheConstants.StorageAccess as access
+use Rattle.ir_items.specs.judged.Plain.{PlainEntry}
+use Rattle.ir_items.specs.declared.entries.MeshStageInfo.{MeshStageInfo}
+use Rattle.ir_kinds.specs.declared.images.ImageClass.{ImageClass}
+use Rattle.ir_kinds.specs.declared.images.ImageClass.TheVariants as class
+use Rattle.ir_kinds.specs.declared.spaces.AddressSpace.{AddressSpace}
+use Rattle.ir_kinds.specs.declared.spaces.AddressSpace.TheVariants as space
+use Rattle.ir_kinds.specs.declared.stages.ShaderStage.{ShaderStage}
+use Rattle.ir_kinds.specs.declared.stages.ShaderStage.TheVariants.{Vertex, Fragment, Compute, Mesh, Task, RayGeneration, AnyHit, ClosestHit, Miss}
+use Rattle.ir_types.specs.judged.Plain.{PlainInner, plain}
+use Rattle.ir_types.specs.declared.types.TypeInner.TheVariants.{Image}
+
+-- ---- kinds of use
+
+abbrev pub no_uses : GlobalUse
+no_uses = record { 0 = 0 }
+
+-- these are read, and their size is queried
+abbrev pub read_uses : GlobalUse
+read_uses = record { 0 = bit_or use_.READ.0 use_.QUERY.0 }
+
+-- and written
+abbrev pub all_but_atomic : GlobalUse
+all_but_atomic = record { 0 = bit_or read_uses.0 use_.WRITE.0 }
+
+-- a kind of use where some access allows it
+abbrev pub use_if : StorageAccess → (needed : StorageAccess) → GlobalUse → ℕ
+use_if access needed kind = if bit_and access.0 needed.0 == needed.0 then kind.0 else 0
+
+-- what memory of some access may be used for
+abbrev pub access_uses : StorageAccess → GlobalUse
+access_uses a = record { 0 = bit_or (bit_or (bit_or use_.QUERY.0 (use_if a access.LOAD use_.READ)) (use_if a access.STORE use_.WRITE)) (use_if a access.ATOMIC use_.ATOMIC) }
+
+-- ---- images and samplers
+
+abbrev pub class_uses : ImageClass → GlobalUse
+class_uses (class.Sampled kind multi) = read_uses
+class_uses (class.Depth multi) = read_uses
+class_uses class.External = read_uses
+class_uses (class.Storage format access) = access_uses access
+
+-- what is made of this
+abbrev pub handle_uses : Option PlainInner → GlobalUse
+handle_uses (Some (plain (Image dim arrayed class))) = class_uses class
+handle_uses _ = read_uses
+
+-- ---- spaces
+
+-- a task shader writes the payload that it hands on
+abbrev pub payload_uses : ShaderStage → GlobalUse
+payload_uses Task = all_but_atomic
+payload_uses Vertex = read_uses
+payload_uses Fragment = read_uses
+payload_uses Compute = read_uses
+payload_uses Mesh = read_uses
+payload_uses RayGeneration = read_uses
+payload_uses AnyHit = read_uses
+payload_uses ClosestHit = read_uses
+payload_uses Miss = read_uses
+
+-- what a stage may do with a variable in a space, of what is made of this; of a binding array what its elements are made of
+abbrev pub allowed_uses : ShaderStage → AddressSpace → Option PlainInner → GlobalUse
+allowed_uses stage space.Function i = no_uses
+allowed_uses stage space.Private i = all_but_atomic
+allowed_uses stage space.WorkGroup i = all_but_atomic
+allowed_uses stage space.Uniform i = read_uses
+allowed_uses stage (space.Storage access) i = access_uses access
+allowed_uses stage space.Handle i = handle_uses i
+allowed_uses stage space.Immediate i = read_uses
+allowed_uses stage space.TaskPayload i = payload_uses stage
+allowed_uses stage space.RayPayload i = all_but_atomic
+allowed_uses stage space.IncomingRayPayload i = all_but_atomic
+
+-- it traces rays with payloads
+abbrev pub traces_rays : ShaderStage → Bool
+traces_rays Vertex = false
+traces_rays Fragment = false
+traces_rays Compute = false
+traces_rays Mesh = false
+traces_rays Task = false
+traces_rays RayGeneration = true
+traces_rays AnyHit = false
+traces_rays ClosestHit = true
+traces_rays Miss = true
+
+-- it runs for a ray that has one
+abbrev pub is_run_for_rays : ShaderStage → Bool
+is_run_for_rays Vertex = false
+is_run_for_rays Fragment = false
+is_run_for_rays Compute = false
+is_run_for_rays Mesh = false
+is_run_for_rays Task = false
+is_run_for_rays RayGeneration = false
+is_run_for_rays AnyHit = true
+is_run_for_rays ClosestHit = true
+is_run_for_rays Miss = true
+
+-- a stage has variables in a space at all
+abbrev pub is_reached : ShaderStage → AddressSpace → Bool
+is_reached stage space.Function = true
+is_reached stage space.Private = true
+is_reached stage space.WorkGroup = true
+is_reached stage space.Uniform = true
+is_reached stage (space.Storage access) = true
+is_reached stage space.Handle = true
+is_reached stage space.Immediate = true
+is_reached stage space.TaskPayload = true
+is_reached stage space.RayPayload = traces_rays stage
+is_reached stage space.IncomingRayPayload = is_run_for_rays stage
+
+-- ---- what an entry point does with the variables that it names beside its function
+
+-- its payload
+abbrev pub own_payload_use : ShaderStage → GlobalUse
+own_payload_use Task = record { 0 = bit_or use_.READ.0 use_.WRITE.0 }
+own_payload_use Mesh = use_.READ
+own_payload_use Vertex = no_uses
+own_payload_use Fragment = no_uses
+own_payload_use Compute = no_uses
+own_payload_use RayGeneration = no_uses
+own_payload_use AnyHit = no_uses
+own_payload_use ClosestHit = no_uses
+own_payload_use Miss = no_uses
+
+-- the variable that holds what a mesh shader gives, which is read
+abbrev pub mesh_output : PlainEntry → Option ℕ
+mesh_output e = option_map (λ (mesh : MeshStageInfo). mesh.output_variable) e.mesh
+
+abbrev pub OwnUse : PlainEntry → (g k : ℕ) → Type 0
+OwnUse e g k = ((e.payload ≡ Some g) × (bit_at (own_payload_use e.stage).0 k ≡ 1)) ⊎ ((mesh_output e ≡ Some g) × (bit_at use_.READ.0 k ≡ 1))
+
+-- an entry point whose function uses global variables in this way does so
+abbrev pub EntryUses : PlainEntry → (ℕ → ℕ → Type 0) → (g k : ℕ) → Type 0
+EntryUses e Uses g k = Uses g k ⊎ OwnUse e g k

@@ -1,0 +1,3 @@
+pub mod Invariants
+pub mod Ended
+pub mod Worked

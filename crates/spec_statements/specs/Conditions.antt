@@ -1,7 +1,0 @@
--- Conditions.
-use Rattle.typing_forms.specs.declared.form.Form.{Form}
-use Rattle.spec_statements.specs.Shapes.{IsMadeOf, IsAlone, IsTruth}
-
--- a truth value alone
-abbrev pub ConditionOK : (condition : Form) → Type 0
-ConditionOK = IsMadeOf IsAlone IsTruth

@@ -1,9 +1,0 @@
--- Which types have a zero. When a literal may be used is reported in `spec_expressions`.
-use Rattle.std.specs.Prelude.{ℕ, List}
-use Rattle.ir_types.specs.Plain.{PlainType}
-use Rattle.typing_layout.specs.Flags.{HasFlag, Constructible}
-use Rattle.typing_layout.specs.View.{type_tree}
-
--- values of the type can be composed
-abbrev pub ZeroOK : List PlainType → (type : ℕ) → Type 0
-ZeroOK types type = HasFlag Constructible (type_tree types type)

@@ -1,0 +1,4 @@
+pub mod SureLevel
+pub mod Answered
+pub mod Laws
+pub mod FunctionLaws

@@ -1,0 +1,25 @@
+-- What is known of the checks.
+use Rattle.std.specs.Prelude.{◌≡◌, ℕ, List}
+use Rattle.ir_types.specs.judged.ExpressionPlain.{PlainExpression}
+use Rattle.ir_flags.specs.Sets.{IsWithin}
+use Rattle.ir_flags.specs.declared.settings.Capabilities.{Capabilities}
+use Rattle.ir_types.specs.judged.Plain.{PlainType}
+use Rattle.typing_forms.specs.declared.form.Form.{Form}
+use Rattle.spec_expressions.specs.judged.Context.{Context}
+use Rattle.spec_statements.specs.judged.Expressions.{ExpressionOK}
+use Rattle.spec_statements.specs.judged.Scene.{Scene, AreForms}
+
+-- the scene, under capabilities
+abbrev pub under : Capabilities → List PlainType → List PlainExpression → List Form → Scene
+under capabilities types expressions forms = record { capabilities = capabilities; types = types; expressions = expressions; forms = forms }
+
+-- what fewer capabilities accept, more accept
+abbrev pub MoreCapabilities : Type 0
+MoreCapabilities =
+    (few many : Capabilities) → IsWithin few.0 many.0 → (types : List PlainType) (expressions : List PlainExpression) (forms : List Form) (handle : ℕ)
+    → ExpressionOK (under few types expressions forms) handle → ExpressionOK (under many types expressions forms) handle
+
+-- the types of expressions have one list of forms
+abbrev pub OneList : Type 0
+OneList =
+    (c : Context) (expressions : List PlainExpression) (left right : List Form) → AreForms c expressions left → AreForms c expressions right → left ≡ right

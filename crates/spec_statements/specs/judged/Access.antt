@@ -1,0 +1,138 @@
+-- Indexes of accesses.
+use Rattle.std.specs.Prelude.{◌<◌, ℕ, ℤ, pos, negsuc, List, Option, Some, None, IfSome, option_and_then}
+use Rattle.ir_types.specs.judged.ExpressionPlain.{PlainExpression, compose, plain}
+use Rattle.ir_types.specs.declared.expressions.Expression.{Expression}
+use Rattle.ir_types.specs.declared.expressions.Expression.TheVariants as x
+use Rattle.ir_kinds.specs.judged.Scalars.{component_count}
+use Rattle.ir_kinds.specs.declared.scalars.VectorSize.{VectorSize}
+use Rattle.ir_kinds.specs.declared.values.Literal.{Literal}
+use Rattle.ir_kinds.specs.declared.values.Literal.TheVariants as literal
+use Rattle.ir_types.specs.judged.Plain.{PlainInner, struct, plain as plain_type, PlainType}
+use Rattle.ir_types.specs.declared.types.ArraySize.{ArraySize}
+use Rattle.ir_types.specs.declared.types.ArraySize.TheVariants as count
+use Rattle.ir_types.specs.declared.types.TypeInner.TheVariants as inner
+use Rattle.typing_forms.specs.declared.form.Form.{Form}
+use Rattle.typing_forms.specs.declared.form.Form.TheVariants as form
+use Rattle.typing_forms.specs.judged.Resolutions.{inner_at}
+use Rattle.spec_statements.specs.judged.Shapes.{IsIntegerScalar}
+
+-- ---- how many parts there are, where the module says it
+
+abbrev pub element_count : ArraySize → Option ℕ
+element_count (count.Constant n) = Some n
+element_count (count.Pending override) = None
+element_count count.Dynamic = None
+
+-- of what a pointer leads to
+abbrev pub pointed_count : Option PlainInner → Option ℕ
+pointed_count None = None
+pointed_count (Some (struct members span)) = None
+pointed_count (Some (plain_type (inner.Scalar s))) = None
+pointed_count (Some (plain_type (inner.Vector n s))) = Some (component_count n)
+pointed_count (Some (plain_type (inner.Matrix columns rows s))) = Some (component_count columns)
+pointed_count (Some (plain_type (inner.CooperativeMatrix columns rows s role))) = None
+pointed_count (Some (plain_type (inner.Atomic s))) = None
+pointed_count (Some (plain_type (inner.Pointer base space))) = None
+pointed_count (Some (plain_type (inner.ValuePointer n s space))) = None
+pointed_count (Some (plain_type (inner.Array base n stride))) = element_count n
+pointed_count (Some (plain_type (inner.Struct members span))) = None
+pointed_count (Some (plain_type (inner.Image dim arrayed class))) = None
+pointed_count (Some (plain_type (inner.Sampler comparison))) = None
+pointed_count (Some (plain_type (inner.AccelerationStructure vertex_return))) = None
+pointed_count (Some (plain_type (inner.RayQuery vertex_return))) = None
+pointed_count (Some (plain_type (inner.BindingArray base n))) = element_count n
+
+abbrev pub row_count : Option VectorSize → Option ℕ
+row_count (Some n) = Some (component_count n)
+row_count None = None
+
+-- of a vector, the columns of a matrix, of an array whose length is written, and of what a pointer to one of these leads to
+abbrev pub known_length : List PlainType → Form → Option ℕ
+known_length types (form.Vector n s) = Some (component_count n)
+known_length types (form.Matrix columns rows s) = Some (component_count columns)
+known_length types (form.Array base n stride) = element_count n
+known_length types (form.BindingArray base n) = element_count n
+known_length types (form.ValuePointer n s space) = row_count n
+known_length types (form.Pointer base space) = pointed_count (inner_at types base)
+known_length types (form.Scalar s) = None
+known_length types (form.CooperativeMatrix columns rows s role) = None
+known_length types (form.Atomic s) = None
+known_length types (form.Struct handle) = None
+known_length types (form.Image dim arrayed class) = None
+known_length types (form.Sampler comparison) = None
+known_length types (form.AccelerationStructure vertex_return) = None
+known_length types (form.RayQuery vertex_return) = None
+known_length types form.Nothing = None
+
+-- ---- an index that is computed
+
+-- the literal that an expression is
+abbrev pub literal_in : Expression → Option Literal
+literal_in (x.Literal value) = Some value
+literal_in (x.Constant constant) = None
+literal_in (x.Override override) = None
+literal_in (x.ZeroValue type) = None
+literal_in (x.Compose type components) = None
+literal_in (x.Access base index) = None
+literal_in (x.AccessIndex base index) = None
+literal_in (x.Splat size value) = None
+literal_in (x.Swizzle size vector pattern) = None
+literal_in (x.FunctionArgument number) = None
+literal_in (x.GlobalVariable global) = None
+literal_in (x.LocalVariable local) = None
+literal_in (x.Load pointer) = None
+literal_in (x.ImageSample image sampler gather coordinate array_index offset level depth_ref clamp_to_edge) = None
+literal_in (x.ImageLoad image coordinate array_index sample level) = None
+literal_in (x.ImageQuery image query) = None
+literal_in (x.Unary op expr) = None
+literal_in (x.Binary op left right) = None
+literal_in (x.Select condition accept reject) = None
+literal_in (x.Derivative axis ctrl expr) = None
+literal_in (x.Relational fun argument) = None
+literal_in (x.Math fun arg arg1 arg2 arg3) = None
+literal_in (x.As expr kind convert) = None
+literal_in (x.CallResult function) = None
+literal_in (x.AtomicResult type comparison) = None
+literal_in (x.WorkGroupUniformLoadResult type) = None
+literal_in (x.ArrayLength array) = None
+literal_in (x.RayQueryVertexPositions query committed) = None
+literal_in x.RayQueryProceedResult = None
+literal_in (x.RayQueryGetIntersection query committed) = None
+literal_in x.SubgroupBallotResult = None
+literal_in (x.SubgroupOperationResult type) = None
+literal_in (x.CooperativeLoad columns rows role block) = None
+literal_in (x.CooperativeMultiplyAdd a b c) = None
+
+abbrev pub literal_of : PlainExpression → Option Literal
+literal_of (compose type components) = None
+literal_of (plain expression) = literal_in expression
+
+-- the index that a literal is: of 32 bits, signed or not
+abbrev pub index_of : Literal → Option ℤ
+index_of (literal.I32 z) = Some z
+index_of (literal.U32 n) = Some (pos n)
+index_of (literal.F64 bits) = None
+index_of (literal.F32 bits) = None
+index_of (literal.F16 bits) = None
+index_of (literal.U16 n) = None
+index_of (literal.I16 z) = None
+index_of (literal.U64 n) = None
+index_of (literal.I64 z) = None
+index_of (literal.Bool b) = None
+index_of (literal.AbstractInt z) = None
+index_of (literal.AbstractFloat bits) = None
+
+-- an index of so many parts, if it is known how many there are
+abbrev pub IsIndexOf : (parts : Option ℕ) → ℤ → Type 0
+IsIndexOf parts (pos n) = IfSome parts (λ many. n < many)
+IsIndexOf parts (negsuc n) = ⊥
+
+-- the index is an integer; where it is written, it is that of a part
+pub record AccessOK (types : List PlainType) (base index : Form) (written : Option PlainExpression) : Type 0 where
+  pub integer : IsIntegerScalar index
+  pub within : IfSome (option_and_then index_of (option_and_then literal_of written)) (IsIndexOf (known_length types base))
+
+-- ---- an index that is written
+
+abbrev pub AccessIndexOK : List PlainType → (base : Form) → (index : ℕ) → Type 0
+AccessIndexOK types base index = IfSome (known_length types base) (λ many. index < many)

@@ -1,0 +1,36 @@
+-- What the analysis requires of a function, by the chains of calls that begin at it.
+use Rattle.std.specs.Prelude.{◌≡◌, ◌⊎◌, ℕ, None}
+use Rattle.spec_analysis.specs.judged.Pairs.{SamplingPair}
+use Rattle.spec_analysis.specs.judged.Faults.{FunctionFault}
+use Rattle.ir_flags.specs.declared.settings.ValidationFlags.{ValidationFlags}
+use Rattle.ir_items.specs.judged.Plain.{PlainFunction, PlainModule}
+use Rattle.typing_rules.specs.judged.Laws.{IsAmong}
+use Rattle.spec_analysis.specs.judged.Chains.{place, Step, Calls, HasPair}
+use Rattle.spec_analysis.specs.judged.Effects.{samples, effects_of}
+use Rattle.spec_analysis.specs.judged.Summaries.{IsWrongArgument}
+use Rattle.spec_analysis.specs.judged.Uniformity.{Required}
+
+-- an image or a sampler of a sampling at e denotes neither a global variable nor an argument
+pub record SamplesWrongForm (f : PlainFunction) (e : ℕ) : Type 0 where
+  pub image : ℕ
+  pub sampler : ℕ
+  pub sampling : IsAmong (samples e image sampler) (effects_of f)
+  pub wrong : (place f.expressions image ≡ None) ⊎ (place f.expressions sampler ≡ None)
+
+-- e is passed to a function for the image or the sampler of a pair that it has, and denotes neither
+pub record PassesWrongForm (m : PlainModule) (f : PlainFunction) (e : ℕ) : Type 0 where
+  pub step : Step
+  pub pair : SamplingPair
+  pub calls : Calls m f step
+  pub sampled : HasPair m step.function pair
+  pub wrong : IsWrongArgument f.expressions step.arguments pair.0 e ⊎ IsWrongArgument f.expressions step.arguments pair.1 e
+
+-- an operand of a wrong form stands at e
+abbrev pub HasWrongForm : PlainModule → PlainFunction → ℕ → Type 0
+HasWrongForm m f e = SamplesWrongForm f e ⊎ PassesWrongForm m f e
+
+-- What denotes images and samplers is of the right form, and nothing requires that all invocations arrive together where they
+-- may not.
+pub record IsAnalysed (flags : ValidationFlags) (m : PlainModule) (f : PlainFunction) : Type 0 where
+  pub formed : (e : ℕ) → HasWrongForm m f e → ⊥
+  pub uniform : (x : Required) → FunctionFault flags m f x → ⊥

@@ -1,0 +1,20 @@
+-- What the rules of a statement may look at.
+use Rattle.std.specs.Prelude.{ℕ, List}
+use Rattle.ir_flags.specs.declared.settings.Capabilities.{Capabilities}
+use Rattle.ir_flags.specs.declared.stages.SubgroupOperationSet.{SubgroupOperationSet}
+use Rattle.ir_items.specs.judged.Plain.{PlainFunction, PlainModule}
+use Rattle.typing_forms.specs.declared.form.Form.{Form}
+use Rattle.spec_statements.specs.judged.Scene as scene
+
+-- The capabilities and the operations of subgroups that may be used, the module, the function whose body it is, and the forms
+-- of the types of all its expressions.
+pub record BlockContext : Type 0 where
+  pub capabilities : Capabilities
+  pub operations : SubgroupOperationSet
+  pub m : PlainModule
+  pub f : PlainFunction
+  pub forms : List Form
+
+-- the form of the type of an expression
+abbrev pub form_at : BlockContext → ℕ → Form
+form_at c e = scene.form_at c.forms e

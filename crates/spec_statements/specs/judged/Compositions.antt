@@ -1,0 +1,23 @@
+-- Components of vectors in another order.
+use Rattle.std.specs.Prelude.{◌≡◌, ◌<◌, ℕ, List, Option, Some, None, IsSomeAnd, slice_get}
+use Rattle.ir_kinds.specs.judged.Scalars.{component_count, component_place}
+use Rattle.ir_kinds.specs.declared.scalars.SwizzleComponent.{SwizzleComponent}
+use Rattle.ir_kinds.specs.declared.scalars.VectorSize.{VectorSize}
+use Rattle.typing_forms.specs.declared.form.Form.{Form}
+use Rattle.spec_statements.specs.judged.Shapes.{shaped_of}
+use Rattle.spec_statements.specs.declared.shapes.Shape.{Shape}
+use Rattle.spec_statements.specs.declared.shapes.Shape.TheVariants as shape
+
+abbrev pub row_size : Shape → Option VectorSize
+row_size shape.One = None
+row_size (shape.Row n) = Some n
+row_size (shape.Grid columns rows) = None
+row_size (shape.Shared columns rows role) = None
+
+-- of the pattern as many letters count as the size says, and each is that of a component
+abbrev pub AreComponents : (size : VectorSize) → (pattern : List SwizzleComponent) → (of : VectorSize) → Type 0
+AreComponents size pattern of =
+    (place : ℕ) (letter : SwizzleComponent) → place < component_count size → slice_get pattern place ≡ Some letter → component_place letter < component_count of
+
+abbrev pub SwizzleOK : VectorSize → (pattern : List SwizzleComponent) → (of : Form) → Type 0
+SwizzleOK size pattern of = IsSomeAnd (shaped_of of) (λ v. IsSomeAnd (row_size v.shape) (AreComponents size pattern))

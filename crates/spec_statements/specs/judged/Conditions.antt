@@ -1,0 +1,7 @@
+-- Conditions.
+use Rattle.typing_forms.specs.declared.form.Form.{Form}
+use Rattle.spec_statements.specs.judged.Shapes.{IsMadeOf, IsAlone, IsTruth}
+
+-- a truth value alone
+abbrev pub ConditionOK : (condition : Form) → Type 0
+ConditionOK = IsMadeOf IsAlone IsTruth

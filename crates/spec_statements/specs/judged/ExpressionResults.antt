@@ -1,0 +1,47 @@
+-- What statements may answer.
+use Rattle.std.specs.Prelude.{◌≡◌, ℕ, List, [], ◌∷◌, Option, Some, None, Bool, true, false, IsSomeAnd, codes}
+use Rattle.ir_flags.specs.declared.settings.Capabilities.{Capabilities}
+use Rattle.ir_types.specs.judged.Plain.{PlainInner, PlainMember, struct, plain, PlainType}
+use Rattle.typing_layout.specs.judged.Flags.{HasFlag, Sized, Constructible}
+use Rattle.typing_layout.specs.judged.Widths.{AtomicOK}
+use Rattle.typing_layout.specs.judged.View.{type_tree}
+use Rattle.typing_forms.specs.judged.Forms.{form_of_type}
+use Rattle.typing_forms.specs.judged.Resolutions.{inner_at}
+use Rattle.typing_forms.specs.declared.form.Form.{Form}
+use Rattle.spec_statements.specs.judged.Shapes.{shaped_of, IsAlone, IsTruth, IsMadeOf}
+
+-- a scalar that atomics have
+abbrev pub IsAtomicValue : Capabilities → Form → Type 0
+IsAtomicValue capabilities t = IsSomeAnd (shaped_of t) (λ x. IsAlone x.shape × AtomicOK capabilities x.scalar)
+
+-- the value that was there, which is as `IsOld` says, and whether it was exchanged
+pub record AreExchanged (IsOld : Form → Type 0) (types : List PlainType) (old exchanged : PlainMember) : Type 0 where
+  pub old_name : old.name ≡ Some (codes "old_value")
+  pub old_type : IsOld (form_of_type types old.ty)
+  pub exchanged_name : exchanged.name ≡ Some (codes "exchanged")
+  pub exchanged_type : IsMadeOf IsAlone IsTruth (form_of_type types exchanged.ty)
+
+abbrev pub AreExchangeMembers : (IsOld : Form → Type 0) → List PlainType → List PlainMember → Type 0
+AreExchangeMembers IsOld types [] = ⊥
+AreExchangeMembers IsOld types (old ∷ []) = ⊥
+AreExchangeMembers IsOld types (old ∷ exchanged ∷ []) = AreExchanged IsOld types old exchanged
+AreExchangeMembers IsOld types (old ∷ exchanged ∷ more ∷ rest) = ⊥
+
+-- a struct of exactly these members
+abbrev pub IsExchangeOf : (IsOld : Form → Type 0) → List PlainType → Option PlainInner → Type 0
+IsExchangeOf IsOld types (Some (struct members span)) = AreExchangeMembers IsOld types members
+IsExchangeOf IsOld types (Some (plain i)) = ⊥
+IsExchangeOf IsOld types None = ⊥
+
+-- of a scalar that atomics have
+abbrev pub IsExchange : Capabilities → List PlainType → Option PlainInner → Type 0
+IsExchange capabilities = IsExchangeOf (IsAtomicValue capabilities)
+
+-- an atomic operation answers a scalar, and an exchange that compares a struct of it
+abbrev pub AtomicResultOK : Capabilities → List PlainType → (type : ℕ) → (comparison : Bool) → Type 0
+AtomicResultOK capabilities types type false = IsAtomicValue capabilities (form_of_type types type)
+AtomicResultOK capabilities types type true = IsExchange capabilities types (inner_at types type)
+
+-- values of a size that is known, which can be composed
+abbrev pub UniformLoadOK : List PlainType → (type : ℕ) → Type 0
+UniformLoadOK types type = HasFlag Sized (type_tree types type) × HasFlag Constructible (type_tree types type)

@@ -1,0 +1,59 @@
+-- How texels are loaded, and what is required of images.
+use Rattle.std.specs.Prelude.{◌≡◌, ℕ, List, Option, Some, None, true, IsSomeAnd}
+use Rattle.ir_types.specs.declared.expressions.ImageQuery.{ImageQuery}
+use Rattle.ir_types.specs.declared.expressions.ImageQuery.TheVariants.{Size, NumLevels, NumLayers, NumSamples}
+use Rattle.ir_flags.specs.Sets.{Has}
+use Rattle.ir_flags.specs.declared.memory.TheConstants.StorageAccess.{LOAD}
+use Rattle.ir_kinds.specs.judged.Images.{is_multisampled, is_mipmapped}
+use Rattle.ir_kinds.specs.declared.images.ImageClass.{ImageClass}
+use Rattle.ir_kinds.specs.declared.images.ImageClass.TheVariants.{Sampled, Depth, External, Storage}
+use Rattle.ir_kinds.specs.declared.images.ImageDimension.{ImageDimension}
+use Rattle.ir_kinds.specs.declared.images.ImageDimension.TheVariants.{D1, D2, D3, Cube}
+use Rattle.typing_forms.specs.declared.form.Form.{Form}
+use Rattle.spec_statements.specs.judged.Scene.{form_at}
+use Rattle.spec_statements.specs.judged.Shapes.{shaped_of, IsInteger, IsIntegerScalar, ExactlyIf, along, picture_of}
+use Rattle.spec_statements.specs.declared.shapes.Picture.{Picture}
+
+-- ---- loads
+
+-- the number of a texel each way, of any integers; those of cubes have none
+abbrev pub IsFlat : ImageDimension → Type 0
+IsFlat D1 = Unit {0}
+IsFlat D2 = Unit {0}
+IsFlat D3 = Unit {0}
+IsFlat Cube = ⊥
+
+abbrev pub IsTexel : ImageDimension → (coordinate : Form) → Type 0
+IsTexel dim coordinate = IsFlat dim × IsSomeAnd (shaped_of coordinate) (λ x. IsInteger x.scalar.kind × (coordinate ≡ along dim x.scalar))
+
+-- storage images are loaded from where they allow it
+abbrev pub IsReadable : ImageClass → Type 0
+IsReadable (Sampled kind multi) = Unit {0}
+IsReadable (Depth multi) = Unit {0}
+IsReadable External = Unit {0}
+IsReadable (Storage format access) = Has access.0 LOAD.0
+
+-- a texel, with its layer, its sample and its level each exactly where the image has several
+pub record IsTexelLoad (forms : List Form) (image : Picture) (texel : ℕ) (array_index of_texel of_image : Option ℕ) : Type 0 where
+  pub coordinate : IsTexel image.dim (form_at forms texel)
+  pub layer : ExactlyIf image.arrayed array_index (λ layer. IsIntegerScalar (form_at forms layer))
+  pub sample : ExactlyIf (is_multisampled image.class) of_texel (λ sample. IsIntegerScalar (form_at forms sample))
+  pub level : ExactlyIf (is_mipmapped image.class) of_image (λ level. IsIntegerScalar (form_at forms level))
+  pub readable : IsReadable image.class
+
+abbrev pub ImageLoadOK : (forms : List Form) → (image : Form) → (coordinate : ℕ) → (array_index sample level : Option ℕ) → Type 0
+ImageLoadOK forms image coordinate array_index sample level =
+    IsSomeAnd (picture_of image) (λ picture. IsTexelLoad forms picture coordinate array_index sample level)
+
+-- ---- queries
+
+-- the size at a level, and how many levels there are, where there are several; how many layers; how many samples
+abbrev pub IsAnswered : (forms : List Form) → ImageQuery → Picture → Type 0
+IsAnswered forms (Size None) image = Unit {0}
+IsAnswered forms (Size (Some level)) image = (is_mipmapped image.class ≡ true) × IsIntegerScalar (form_at forms level)
+IsAnswered forms NumLevels image = is_mipmapped image.class ≡ true
+IsAnswered forms NumLayers image = image.arrayed ≡ true
+IsAnswered forms NumSamples image = is_multisampled image.class ≡ true
+
+abbrev pub ImageQueryOK : (forms : List Form) → (image : Form) → ImageQuery → Type 0
+ImageQueryOK forms image query = IsSomeAnd (picture_of image) (IsAnswered forms query)

@@ -1,0 +1,93 @@
+-- How images are sampled.
+use Rattle.std.specs.Prelude.{◌≡◌, ◌≢◌, ◌⊎◌, ℕ, List, Option, Some, None, Bool, true, false, is_some, IfSome, IsSomeAnd}
+use Rattle.ir_types.specs.judged.ExpressionPlain.{PlainExpression}
+use Rattle.ir_types.specs.declared.expressions.SampleLevel.{SampleLevel}
+use Rattle.ir_types.specs.declared.expressions.SampleLevel.TheVariants.{Auto, Zero, Exact, Bias, Gradient}
+use Rattle.ir_kinds.specs.judged.Images.{is_multisampled, is_depth}
+use Rattle.ir_kinds.specs.judged.Scalars.{signed, floating}
+use Rattle.ir_kinds.specs.declared.images.ImageClass.{ImageClass}
+use Rattle.ir_kinds.specs.declared.images.ImageClass.TheVariants.{Sampled, Depth, External, Storage}
+use Rattle.ir_kinds.specs.declared.images.ImageDimension.{ImageDimension}
+use Rattle.ir_kinds.specs.declared.images.ImageDimension.TheVariants.{D1, D2, D3, Cube}
+use Rattle.ir_kinds.specs.declared.scalars.ScalarKind.TheVariants.{Float}
+use Rattle.ir_kinds.specs.declared.scalars.SwizzleComponent.{SwizzleComponent}
+use Rattle.ir_kinds.specs.declared.scalars.SwizzleComponent.TheVariants.{X}
+use Rattle.typing_forms.specs.declared.form.Form.{Form}
+use Rattle.typing_forms.specs.declared.form.Form.TheVariants as form
+use Rattle.typing_layout.specs.judged.Constness.{IsOfKind}
+use Rattle.typing_layout.specs.declared.constness.ExpressionKind.TheVariants.{Const}
+use Rattle.spec_statements.specs.judged.Scene.{form_at}
+use Rattle.spec_statements.specs.judged.Shapes.{IsIntegerScalar, ExactlyIf, along, picture_of, sampler_of}
+use Rattle.spec_statements.specs.declared.shapes.Picture.{Picture}
+use Rattle.spec_statements.specs.declared.shapes.Sampling.{Sampling}
+
+-- a 32-bit float
+abbrev pub IsFloat32 : Form → Type 0
+IsFloat32 t = t ≡ form.Scalar (floating 4)
+
+-- texels that are not floats are only gathered
+abbrev pub IsFiltered : ImageClass → (gather : Option SwizzleComponent) → Type 0
+IsFiltered (Sampled kind multi) (Some letter) = Unit {0}
+IsFiltered (Sampled kind multi) None = kind ≡ Float
+IsFiltered (Depth multi) gather = Unit {0}
+IsFiltered External gather = Unit {0}
+IsFiltered (Storage format access) gather = Unit {0}
+
+-- of squares and of cubes
+abbrev pub HasNeighbours : ImageDimension → Type 0
+HasNeighbours D1 = ⊥
+HasNeighbours D2 = Unit {0}
+HasNeighbours D3 = ⊥
+HasNeighbours Cube = Unit {0}
+
+-- four texels of the finest level; of depths their one component
+pub record IsGathered (image : Picture) (level : SampleLevel) (letter : SwizzleComponent) : Type 0 where
+  pub neighbours : HasNeighbours image.dim
+  pub finest : level ≡ Zero
+  pub component : is_depth image.class ≡ true → letter ≡ X
+
+-- an offset is constant, with so many texels each way; on cubes there is none
+pub record IsOffset (expressions : List PlainExpression) (forms : List Form) (dim : ImageDimension) (offset : ℕ) : Type 0 where
+  pub known : IsOfKind expressions offset Const
+  pub texels : form_at forms offset ≡ along dim (signed 4)
+  pub flat : dim ≢ Cube
+
+-- a level is a float, of depths also an integer; slopes are as the coordinate
+abbrev pub IsLevel : (forms : List Form) → ImageClass → (coordinate : Form) → SampleLevel → Type 0
+IsLevel forms class coordinate Auto = Unit {0}
+IsLevel forms class coordinate Zero = Unit {0}
+IsLevel forms class coordinate (Exact level) = IsFloat32 (form_at forms level) ⊎ ((is_depth class ≡ true) × IsIntegerScalar (form_at forms level))
+IsLevel forms class coordinate (Bias bias) = IsFloat32 (form_at forms bias)
+IsLevel forms class coordinate (Gradient right below) = (form_at forms right ≡ coordinate) × (form_at forms below ≡ coordinate)
+
+-- of floats, in a flat image without layers
+abbrev pub IsClamped : Picture → Type 0
+IsClamped image = (image.dim ≡ D2) × (image.arrayed ≡ false) × ((multi : Bool) × (image.class ≡ Sampled Float multi))
+
+-- images from outside are always clamped, others where they may be
+abbrev pub ClampOK : Picture → (clamp_to_edge : Bool) → Type 0
+ClampOK image true = (image.class ≡ External) ⊎ IsClamped image
+ClampOK image false = image.class ≢ External
+
+-- images from outside are sampled at the finest level as they are
+abbrev pub OutsideOK : ImageClass → (gather : Option SwizzleComponent) → (offset : Option ℕ) → SampleLevel → Type 0
+OutsideOK class gather offset level = class ≡ External → (level ≡ Zero) × (gather ≡ None) × (offset ≡ None)
+
+pub record IsSampled (expressions : List PlainExpression) (forms : List Form) (image : Picture) (by : Sampling) : Type 0 where
+  -- a sampler compares exactly where there is something to compare with: a float, and depths
+  pub sampler : IsSomeAnd (sampler_of (form_at forms by.sampler)) (λ comparison. comparison ≡ is_some by.depth_ref)
+  pub compared : IfSome by.depth_ref (λ reference. IsFloat32 (form_at forms reference) × (is_depth image.class ≡ true))
+  -- a texel has one sample
+  pub single : is_multisampled image.class ≡ false
+  pub filtered : IsFiltered image.class by.gather
+  -- a place in the image, and a layer exactly where there are layers
+  pub coordinate : form_at forms by.coordinate ≡ along image.dim (floating 4)
+  pub layer : ExactlyIf image.arrayed by.array_index (λ layer. IsIntegerScalar (form_at forms layer))
+  pub offset : IfSome by.offset (IsOffset expressions forms image.dim)
+  pub gathered : IfSome by.gather (IsGathered image by.level)
+  pub level : IsLevel forms image.class (form_at forms by.coordinate) by.level
+  pub clamped : ClampOK image by.clamp_to_edge
+  pub outside : OutsideOK image.class by.gather by.offset by.level
+
+abbrev pub ImageSampleOK : (expressions : List PlainExpression) → (forms : List Form) → (image : Form) → Sampling → Type 0
+ImageSampleOK expressions forms image by = IsSomeAnd (picture_of image) (λ picture. IsSampled expressions forms picture by)

@@ -1,0 +1,116 @@
+-- Which operands operations on one value and on two take.
+use Rattle.std.specs.Prelude.{◌≡◌, IsSomeAnd}
+use Rattle.ir_kinds.specs.judged.Scalars.{unsigned}
+use Rattle.ir_kinds.specs.declared.operators.BinaryOperator.{BinaryOperator}
+use Rattle.ir_kinds.specs.declared.operators.BinaryOperator.TheVariants.{Add, Subtract, Multiply, Divide, Modulo, Equal, NotEqual, Less, LessEqual, Greater, GreaterEqual, And, ExclusiveOr, InclusiveOr, LogicalAnd, LogicalOr, ShiftLeft, ShiftRight}
+use Rattle.ir_kinds.specs.declared.operators.UnaryOperator.{UnaryOperator}
+use Rattle.ir_kinds.specs.declared.operators.UnaryOperator.TheVariants.{Negate, LogicalNot, BitwiseNot}
+use Rattle.ir_kinds.specs.declared.scalars.ScalarKind.{ScalarKind}
+use Rattle.ir_kinds.specs.declared.scalars.ScalarKind.TheVariants as kind
+use Rattle.typing_forms.specs.declared.form.Form.{Form}
+use Rattle.spec_statements.specs.judged.Shapes.{shaped_of, form_of_shape, AnyShape, IsAlone, IsOfValue, IsInteger, IsNumeric, IsTruth, IsMadeOf, IsValue}
+use Rattle.spec_statements.specs.declared.shapes.Shape.{Shape}
+use Rattle.spec_statements.specs.declared.shapes.Shape.TheVariants as shape
+
+-- ---- on one value
+
+-- negative numbers are signed integers and floats
+abbrev pub IsSigned : ScalarKind → Type 0
+IsSigned kind.Sint = Unit {0}
+IsSigned kind.Uint = ⊥
+IsSigned kind.Float = Unit {0}
+IsSigned kind.Bool = ⊥
+IsSigned kind.AbstractInt = ⊥
+IsSigned kind.AbstractFloat = ⊥
+
+-- the scalars that an operation on one value takes
+abbrev pub TakesKind : UnaryOperator → ScalarKind → Type 0
+TakesKind Negate k = IsSigned k
+TakesKind LogicalNot k = IsTruth k
+TakesKind BitwiseNot k = IsInteger k
+
+-- the operand is made of such scalars, whatever its shape
+abbrev pub UnaryOK : UnaryOperator → (of : Form) → Type 0
+UnaryOK op of = IsMadeOf AnyShape (TakesKind op) of
+
+-- ---- on two values
+
+-- truth values and integers
+abbrev pub IsBits : ScalarKind → Type 0
+IsBits kind.Sint = Unit {0}
+IsBits kind.Uint = Unit {0}
+IsBits kind.Float = ⊥
+IsBits kind.Bool = Unit {0}
+IsBits kind.AbstractInt = ⊥
+IsBits kind.AbstractFloat = ⊥
+
+-- numbers alone and in a row, and any matrix
+abbrev pub IsAdded : Shape → ScalarKind → Type 0
+IsAdded shape.One k = IsNumeric k
+IsAdded (shape.Row n) k = IsNumeric k
+IsAdded (shape.Grid columns rows) k = Unit {0}
+IsAdded (shape.Shared columns rows role) k = Unit {0}
+
+abbrev pub SumOK : (left right : Form) → Type 0
+SumOK left right = (left ≡ right) × IsSomeAnd (shaped_of left) (λ x. IsAdded x.shape x.scalar.kind)
+
+-- A scalar scales anything. Rows are as long as each other; the rows and the columns of a matrix are multiplied with as long
+-- a row; and of two matrices the left one has as many columns as the right one has rows.
+abbrev pub AreMultiplied : (left right : Shape) → Type 0
+AreMultiplied shape.One right = Unit {0}
+AreMultiplied (shape.Row n) shape.One = Unit {0}
+AreMultiplied (shape.Row n) (shape.Row m) = n ≡ m
+AreMultiplied (shape.Row n) (shape.Grid columns rows) = n ≡ rows
+AreMultiplied (shape.Row n) (shape.Shared columns rows role) = ⊥
+AreMultiplied (shape.Grid columns rows) shape.One = Unit {0}
+AreMultiplied (shape.Grid columns rows) (shape.Row n) = columns ≡ n
+AreMultiplied (shape.Grid columns rows) (shape.Grid more lines) = columns ≡ lines
+AreMultiplied (shape.Grid columns rows) (shape.Shared more lines role) = ⊥
+AreMultiplied (shape.Shared columns rows role) shape.One = Unit {0}
+AreMultiplied (shape.Shared columns rows role) (shape.Row n) = ⊥
+AreMultiplied (shape.Shared columns rows role) (shape.Grid more lines) = ⊥
+AreMultiplied (shape.Shared columns rows role) (shape.Shared more lines other) = ⊥
+
+-- of one scalar, in shapes that are multiplied
+abbrev pub ProductOK : (left right : Form) → Type 0
+ProductOK left right = IsSomeAnd (shaped_of left) (λ x. IsSomeAnd (shaped_of right) (λ y. (x.scalar ≡ y.scalar) × AreMultiplied x.shape y.shape))
+
+-- two of one type: numbers, values, truth values alone, scalars of any shape that are truth values or integers
+abbrev pub NumbersOK : (left right : Form) → Type 0
+NumbersOK left right = (left ≡ right) × IsMadeOf IsOfValue IsNumeric left
+
+abbrev pub ValuesOK : (left right : Form) → Type 0
+ValuesOK left right = (left ≡ right) × IsValue left
+
+abbrev pub TruthsOK : (left right : Form) → Type 0
+TruthsOK left right = (left ≡ right) × IsMadeOf IsAlone IsTruth left
+
+abbrev pub BitsOK : (left right : Form) → Type 0
+BitsOK left right = (left ≡ right) × IsMadeOf AnyShape IsBits left
+
+abbrev pub IntegersOK : (left right : Form) → Type 0
+IntegersOK left right = (left ≡ right) × IsMadeOf AnyShape IsInteger left
+
+-- integers of any shape, shifted by as many 32-bit unsigned ones
+abbrev pub ShiftOK : (left right : Form) → Type 0
+ShiftOK left right = IsSomeAnd (shaped_of left) (λ x. IsInteger x.scalar.kind × (right ≡ form_of_shape x.shape (unsigned 4)))
+
+abbrev pub BinaryOK : BinaryOperator → (left right : Form) → Type 0
+BinaryOK Add left right = SumOK left right
+BinaryOK Subtract left right = SumOK left right
+BinaryOK Multiply left right = ProductOK left right
+BinaryOK Divide left right = NumbersOK left right
+BinaryOK Modulo left right = NumbersOK left right
+BinaryOK Equal left right = ValuesOK left right
+BinaryOK NotEqual left right = ValuesOK left right
+BinaryOK Less left right = NumbersOK left right
+BinaryOK LessEqual left right = NumbersOK left right
+BinaryOK Greater left right = NumbersOK left right
+BinaryOK GreaterEqual left right = NumbersOK left right
+BinaryOK And left right = BitsOK left right
+BinaryOK ExclusiveOr left right = IntegersOK left right
+BinaryOK InclusiveOr left right = BitsOK left right
+BinaryOK LogicalAnd left right = TruthsOK left right
+BinaryOK LogicalOr left right = TruthsOK left right
+BinaryOK ShiftLeft left right = ShiftOK left right
+BinaryOK ShiftRight left right = ShiftOK left right

@@ -1,0 +1,32 @@
+-- Which values are chosen from, by which condition; of which values something is required.
+use Rattle.std.specs.Prelude.{◌≡◌, IsSomeAnd}
+use Rattle.ir_kinds.specs.declared.operators.RelationalFunction.{RelationalFunction}
+use Rattle.ir_kinds.specs.declared.operators.RelationalFunction.TheVariants.{All, Any, IsNan, IsInf}
+use Rattle.typing_forms.specs.declared.form.Form.{Form}
+use Rattle.spec_statements.specs.judged.Shapes.{shaped_of, IsRow, IsOfValue, IsFloating, IsTruth, IsMadeOf}
+use Rattle.spec_statements.specs.declared.shapes.Shape.{Shape}
+use Rattle.spec_statements.specs.declared.shapes.Shape.TheVariants as shape
+
+-- one truth value for the whole, or one for each of as many components
+abbrev pub ChoosesFrom : (condition value : Shape) → Type 0
+ChoosesFrom shape.One value = Unit {0}
+ChoosesFrom (shape.Row n) shape.One = ⊥
+ChoosesFrom (shape.Row n) (shape.Row m) = n ≡ m
+ChoosesFrom (shape.Row n) (shape.Grid columns rows) = ⊥
+ChoosesFrom (shape.Row n) (shape.Shared columns rows role) = ⊥
+ChoosesFrom (shape.Grid columns rows) value = ⊥
+ChoosesFrom (shape.Shared columns rows role) value = ⊥
+
+abbrev pub IsCondition : (condition : Form) → (value : Shape) → Type 0
+IsCondition condition value = IsSomeAnd (shaped_of condition) (λ x. IsTruth x.scalar.kind × ChoosesFrom x.shape value)
+
+-- values of one type, and a condition for them
+abbrev pub SelectOK : (condition accept reject : Form) → Type 0
+SelectOK condition accept reject = (accept ≡ reject) × IsSomeAnd (shaped_of accept) (λ x. IsOfValue x.shape × IsCondition condition x.shape)
+
+-- all or any of the components of a vector of truth values; floats are numbers or not, finite or not
+abbrev pub RelationalOK : RelationalFunction → (of : Form) → Type 0
+RelationalOK All of = IsMadeOf IsRow IsTruth of
+RelationalOK Any of = IsMadeOf IsRow IsTruth of
+RelationalOK IsNan of = IsMadeOf IsOfValue IsFloating of
+RelationalOK IsInf of = IsMadeOf IsOfValue IsFloating of

@@ -1,0 +1,127 @@
+-- Texels that are written, and texels that are changed atomically.
+use Rattle.std.specs.Prelude.{◌≡◌, ℕ, List, Option, Some, None, IsSomeAnd, option_and_then}
+use Rattle.std.specs.Option.{option_or}
+use Rattle.ir_blocks.specs.declared.operations.AtomicFunction.{AtomicFunction}
+use Rattle.ir_blocks.specs.declared.operations.AtomicFunction.TheVariants as fun
+use Rattle.ir_flags.specs.Sets.{Has}
+use Rattle.ir_flags.specs.declared.memory.StorageAccess.{StorageAccess}
+use Rattle.ir_flags.specs.declared.memory.TheConstants.StorageAccess.{ATOMIC}
+use Rattle.ir_flags.specs.declared.settings.Capabilities.{Capabilities}
+use Rattle.ir_flags.specs.declared.settings.TheConstants.Capabilities.{TEXTURE_ATOMIC, TEXTURE_INT64_ATOMIC}
+use Rattle.ir_kinds.specs.judged.Images.{format_scalar}
+use Rattle.ir_kinds.specs.declared.images.ImageClass.{ImageClass}
+use Rattle.ir_kinds.specs.declared.images.ImageClass.TheVariants as class
+use Rattle.ir_kinds.specs.declared.images.StorageFormat.{StorageFormat}
+use Rattle.ir_kinds.specs.declared.images.StorageFormat.TheVariants as format
+use Rattle.ir_kinds.specs.declared.scalars.VectorSize.TheVariants.{Quad}
+use Rattle.ir_types.specs.judged.Plain.{PlainType}
+use Rattle.ir_items.specs.judged.Plain.{PlainFunction, PlainModule}
+use Rattle.typing_forms.specs.judged.Forms.{form_of_type}
+use Rattle.typing_forms.specs.declared.form.Form.{Form}
+use Rattle.typing_forms.specs.declared.form.Form.TheVariants as form
+use Rattle.spec_statements.specs.judged.ImageLoads.{IsTexel}
+use Rattle.spec_statements.specs.judged.Shapes.{ExactlyIf, IsIntegerScalar, picture_of}
+use Rattle.spec_statements.specs.declared.shapes.Picture.{Picture}
+use Rattle.spec_statements.specs.judged.BlockContext.{BlockContext, form_at}
+use Rattle.spec_statements.specs.judged.Variables.{variable_at, accessed_at}
+
+-- ---- the image
+
+-- the type of the resources of an array of such
+abbrev pub resource_of : Form → Option ℕ
+resource_of (form.BindingArray base size) = Some base
+resource_of (form.Scalar s) = None
+resource_of (form.Vector n s) = None
+resource_of (form.Matrix columns rows s) = None
+resource_of (form.CooperativeMatrix columns rows s role) = None
+resource_of (form.Atomic s) = None
+resource_of (form.Pointer base space) = None
+resource_of (form.ValuePointer n s space) = None
+resource_of (form.Array base size stride) = None
+resource_of (form.Struct handle) = None
+resource_of (form.Image dim arrayed class) = None
+resource_of (form.Sampler comparison) = None
+resource_of (form.AccelerationStructure vertex_return) = None
+resource_of (form.RayQuery vertex_return) = None
+resource_of form.Nothing = None
+
+-- texels are written in a global variable that is an image, or in one of an array of images
+abbrev pub written_image : PlainModule → PlainFunction → (image : ℕ) → Option Picture
+written_image m f image = option_or
+    (option_and_then (λ g. picture_of (form_of_type m.types g.ty)) (variable_at m f image))
+    (option_and_then (λ g. option_and_then (λ r. picture_of (form_of_type m.types r)) (resource_of (form_of_type m.types g.ty))) (accessed_at m f image))
+
+-- an array of images counts as one of them
+abbrev pub picture_in : List PlainType → Form → Option ℕ → Option Picture
+picture_in types t (Some resource) = picture_of (form_of_type types resource)
+picture_in types t None = picture_of t
+
+-- texels are changed atomically in a global variable, or in an element of one, which are images or arrays of them
+abbrev pub changed_image : PlainModule → PlainFunction → (image : ℕ) → Option Picture
+changed_image m f image =
+    option_and_then (λ g. picture_in m.types (form_of_type m.types g.ty) (resource_of (form_of_type m.types g.ty)))
+    (option_or (variable_at m f image) (accessed_at m f image))
+
+-- ---- the texel
+
+-- A texel of the image: its coordinate, and its layer exactly where there are several.
+pub record IsTexelOf (c : BlockContext) (image : Picture) (coordinate : ℕ) (array_index : Option ℕ) : Type 0 where
+  pub flat : IsTexel image.dim (form_at c coordinate)
+  pub layer : ExactlyIf image.arrayed array_index (λ layer. IsIntegerScalar (form_at c layer))
+
+-- a value of the image's format
+abbrev pub IsWritten : ImageClass → (value : Form) → Type 0
+IsWritten (class.Sampled kind multi) value = ⊥
+IsWritten (class.Depth multi) value = ⊥
+IsWritten class.External value = ⊥
+IsWritten (class.Storage format access) value = value ≡ form.Vector Quad (format_scalar format)
+
+abbrev pub ImageStoreOK : BlockContext → (image coordinate : ℕ) → (array_index : Option ℕ) → (value : ℕ) → Type 0
+ImageStoreOK c image coordinate array_index value =
+    IsSomeAnd (written_image c.m c.f image) (λ picture. IsTexelOf c picture coordinate array_index × IsWritten picture.class (form_at c value))
+
+-- ---- what is done with it
+
+abbrev pub IsExtremum : AtomicFunction → Type 0
+IsExtremum fun.Add = ⊥
+IsExtremum fun.Subtract = ⊥
+IsExtremum fun.And = ⊥
+IsExtremum fun.ExclusiveOr = ⊥
+IsExtremum fun.InclusiveOr = ⊥
+IsExtremum fun.Min = Unit {0}
+IsExtremum fun.Max = Unit {0}
+IsExtremum (fun.Exchange compare) = ⊥
+
+-- all but subtractions and exchanges
+abbrev pub IsDoneAtTexels : AtomicFunction → Type 0
+IsDoneAtTexels fun.Add = Unit {0}
+IsDoneAtTexels fun.Subtract = ⊥
+IsDoneAtTexels fun.And = Unit {0}
+IsDoneAtTexels fun.ExclusiveOr = Unit {0}
+IsDoneAtTexels fun.InclusiveOr = Unit {0}
+IsDoneAtTexels fun.Min = Unit {0}
+IsDoneAtTexels fun.Max = Unit {0}
+IsDoneAtTexels (fun.Exchange compare) = ⊥
+
+-- What the texels of a format are changed by, with the capability that it needs.
+pub data FormatAllows (capabilities : Capabilities) (done : AtomicFunction) : StorageFormat → Type 0 where
+  wide : Has capabilities.0 TEXTURE_INT64_ATOMIC.0 → IsExtremum done → FormatAllows capabilities done format.R64Uint
+  unsigned : Has capabilities.0 TEXTURE_ATOMIC.0 → IsDoneAtTexels done → FormatAllows capabilities done format.R32Uint
+  signed : Has capabilities.0 TEXTURE_ATOMIC.0 → IsDoneAtTexels done → FormatAllows capabilities done format.R32Sint
+
+-- The image allows that a texel is changed so by the value.
+pub record IsChangedBy (capabilities : Capabilities) (format : StorageFormat) (access : StorageAccess) (done : AtomicFunction) (value : Form) : Type 0 where
+  pub atomic : Has access.0 ATOMIC.0
+  pub allowed : FormatAllows capabilities done format
+  pub fits : value ≡ form.Scalar (format_scalar format)
+
+abbrev pub IsChanged : Capabilities → ImageClass → AtomicFunction → (value : Form) → Type 0
+IsChanged capabilities (class.Sampled kind multi) done value = ⊥
+IsChanged capabilities (class.Depth multi) done value = ⊥
+IsChanged capabilities class.External done value = ⊥
+IsChanged capabilities (class.Storage format access) done value = IsChangedBy capabilities format access done value
+
+abbrev pub ImageAtomicOK : BlockContext → (image coordinate : ℕ) → (array_index : Option ℕ) → AtomicFunction → (value : ℕ) → Type 0
+ImageAtomicOK c image coordinate array_index done value =
+    IsSomeAnd (changed_image c.m c.f image)
+    (λ picture. IsTexelOf c picture coordinate array_index × IsChanged c.capabilities picture.class done (form_at c value))

@@ -1,0 +1,142 @@
+-- Values that are stored.
+use Rattle.std.specs.Prelude.{◌≡◌, ℕ, List, Option, Some, None, IsSomeAnd, option_and_then, slice_get}
+use Rattle.ir_types.specs.judged.ExpressionPlain.{PlainExpression, compose, plain}
+use Rattle.ir_types.specs.declared.expressions.Expression.{Expression}
+use Rattle.ir_types.specs.declared.expressions.Expression.TheVariants as x
+use Rattle.ir_flags.specs.Sets.{Has}
+use Rattle.ir_flags.specs.declared.memory.TheConstants.StorageAccess.{STORE}
+use Rattle.ir_kinds.specs.judged.Spaces.{access_of}
+use Rattle.ir_kinds.specs.declared.spaces.AddressSpace.{AddressSpace}
+use Rattle.ir_types.specs.judged.Plain.{PlainType}
+use Rattle.ir_proc.specs.judged.Bases.{base_of}
+use Rattle.typing_forms.specs.declared.form.Form.{Form}
+use Rattle.typing_forms.specs.declared.form.Form.TheVariants as form
+use Rattle.typing_forms.specs.judged.Resolutions.{inner_at}
+use Rattle.spec_expressions.specs.judged.Loads.{loaded, loaded_value}
+use Rattle.spec_statements.specs.judged.BlockContext.{BlockContext, form_at}
+
+-- ---- where
+
+-- the base of the access that an expression is, if it is one
+abbrev pub base_at : List PlainExpression → ℕ → Option ℕ
+base_at expressions e = option_and_then base_of (slice_get expressions e)
+
+-- a chain of accesses begins at what is no access
+pub data BeginsAt (expressions : List PlainExpression) : ℕ → ℕ → Type 0 where
+  itself : {e : ℕ} → base_at expressions e ≡ None → BeginsAt expressions e e
+  through : {e base start : ℕ} → base_at expressions e ≡ Some base → BeginsAt expressions base start → BeginsAt expressions e start
+
+-- variables and arguments
+abbrev pub IsVariable : Expression → Type 0
+IsVariable (x.Literal value) = ⊥
+IsVariable (x.Constant constant) = ⊥
+IsVariable (x.Override override) = ⊥
+IsVariable (x.ZeroValue type) = ⊥
+IsVariable (x.Compose type components) = ⊥
+IsVariable (x.Access base index) = ⊥
+IsVariable (x.AccessIndex base index) = ⊥
+IsVariable (x.Splat size value) = ⊥
+IsVariable (x.Swizzle size vector pattern) = ⊥
+IsVariable (x.FunctionArgument number) = Unit {0}
+IsVariable (x.GlobalVariable variable) = Unit {0}
+IsVariable (x.LocalVariable variable) = Unit {0}
+IsVariable (x.Load pointer) = ⊥
+IsVariable (x.ImageSample image sampler gather coordinate array_index offset level depth_ref clamp_to_edge) = ⊥
+IsVariable (x.ImageLoad image coordinate array_index sample level) = ⊥
+IsVariable (x.ImageQuery image query) = ⊥
+IsVariable (x.Unary op expr) = ⊥
+IsVariable (x.Binary op left right) = ⊥
+IsVariable (x.Select condition accept reject) = ⊥
+IsVariable (x.Derivative axis ctrl expr) = ⊥
+IsVariable (x.Relational fun argument) = ⊥
+IsVariable (x.Math fun arg arg1 arg2 arg3) = ⊥
+IsVariable (x.As expr kind convert) = ⊥
+IsVariable (x.CallResult function) = ⊥
+IsVariable (x.AtomicResult type comparison) = ⊥
+IsVariable (x.WorkGroupUniformLoadResult type) = ⊥
+IsVariable (x.ArrayLength array) = ⊥
+IsVariable (x.RayQueryVertexPositions query committed) = ⊥
+IsVariable x.RayQueryProceedResult = ⊥
+IsVariable (x.RayQueryGetIntersection query committed) = ⊥
+IsVariable x.SubgroupBallotResult = ⊥
+IsVariable (x.SubgroupOperationResult type) = ⊥
+IsVariable (x.CooperativeLoad columns rows role block) = ⊥
+IsVariable (x.CooperativeMultiplyAdd p q r) = ⊥
+
+abbrev pub IsVariableOf : PlainExpression → Type 0
+IsVariableOf (compose type components) = ⊥
+IsVariableOf (plain expression) = IsVariable expression
+
+abbrev pub IsVariableAt : List PlainExpression → ℕ → Type 0
+IsVariableAt expressions e = IsSomeAnd (slice_get expressions e) IsVariableOf
+
+-- a variable, an argument, or a chain of accesses on one
+abbrev pub IsPlaceOfVariable : List PlainExpression → ℕ → Type 0
+IsPlaceOfVariable expressions e = (start : ℕ) × BeginsAt expressions e start × IsVariableAt expressions start
+
+-- the space that a pointer points into
+abbrev pub pointer_space : Form → Option AddressSpace
+pointer_space (form.Pointer base space) = Some space
+pointer_space (form.ValuePointer n s space) = Some space
+pointer_space (form.Scalar s) = None
+pointer_space (form.Vector n s) = None
+pointer_space (form.Matrix columns rows s) = None
+pointer_space (form.CooperativeMatrix columns rows s role) = None
+pointer_space (form.Atomic s) = None
+pointer_space (form.Array base size stride) = None
+pointer_space (form.Struct handle) = None
+pointer_space (form.Image dim arrayed class) = None
+pointer_space (form.Sampler comparison) = None
+pointer_space (form.AccelerationStructure vertex_return) = None
+pointer_space (form.RayQuery vertex_return) = None
+pointer_space (form.BindingArray base size) = None
+pointer_space form.Nothing = None
+
+-- it is a pointer to what may be written
+abbrev pub IsWritable : (pointer : Form) → Type 0
+IsWritable pointer = IsSomeAnd (pointer_space pointer) (λ space. Has (access_of space).0 STORE.0)
+
+-- ---- what
+
+-- images and samplers are not stored
+abbrev pub IsStorable : (value : Form) → Type 0
+IsStorable (form.Image dim arrayed class) = ⊥
+IsStorable (form.Sampler comparison) = ⊥
+IsStorable (form.Scalar s) = Unit {0}
+IsStorable (form.Vector n s) = Unit {0}
+IsStorable (form.Matrix columns rows s) = Unit {0}
+IsStorable (form.CooperativeMatrix columns rows s role) = Unit {0}
+IsStorable (form.Atomic s) = Unit {0}
+IsStorable (form.Pointer base space) = Unit {0}
+IsStorable (form.ValuePointer n s space) = Unit {0}
+IsStorable (form.Array base size stride) = Unit {0}
+IsStorable (form.Struct handle) = Unit {0}
+IsStorable (form.AccelerationStructure vertex_return) = Unit {0}
+IsStorable (form.RayQuery vertex_return) = Unit {0}
+IsStorable (form.BindingArray base size) = Unit {0}
+IsStorable form.Nothing = Unit {0}
+
+-- it is of the type that would be loaded: of an atomic its scalar, and else what the pointer leads to
+abbrev pub FitsAt : List PlainType → (pointer value : Form) → Type 0
+FitsAt types (form.Pointer base space) value = value ≡ loaded types base (inner_at types base)
+FitsAt types (form.ValuePointer n s space) value = value ≡ loaded_value n s
+FitsAt types (form.Scalar s) value = ⊥
+FitsAt types (form.Vector n s) value = ⊥
+FitsAt types (form.Matrix columns rows s) value = ⊥
+FitsAt types (form.CooperativeMatrix columns rows s role) value = ⊥
+FitsAt types (form.Atomic s) value = ⊥
+FitsAt types (form.Array base size stride) value = ⊥
+FitsAt types (form.Struct handle) value = ⊥
+FitsAt types (form.Image dim arrayed class) value = ⊥
+FitsAt types (form.Sampler comparison) value = ⊥
+FitsAt types (form.AccelerationStructure vertex_return) value = ⊥
+FitsAt types (form.RayQuery vertex_return) value = ⊥
+FitsAt types (form.BindingArray base size) value = ⊥
+FitsAt types form.Nothing value = ⊥
+
+-- What may be stored, where it fits and may be written.
+pub record StoreOK (c : BlockContext) (pointer value : ℕ) : Type 0 where
+  pub place : IsPlaceOfVariable c.f.expressions pointer
+  pub storable : IsStorable (form_at c value)
+  pub fits : FitsAt c.m.types (form_at c pointer) (form_at c value)
+  pub writable : IsWritable (form_at c pointer)

@@ -1,0 +1,139 @@
+-- Operations of subgroups.
+use Rattle.std.specs.Prelude.{◌≡◌, ◌≤◌, ℕ, Option, Some, None, IfSome, IsSomeAnd, option_and_then, slice_get}
+use Rattle.ir_blocks.specs.declared.operations.GatherMode.{GatherMode}
+use Rattle.ir_blocks.specs.declared.operations.GatherMode.TheVariants as mode
+use Rattle.ir_types.specs.judged.ExpressionPlain.{PlainExpression, plain}
+use Rattle.ir_types.specs.declared.expressions.Expression.TheVariants as x
+use Rattle.ir_flags.specs.Sets.{Has}
+use Rattle.ir_flags.specs.declared.settings.TheConstants.Capabilities.{SUBGROUP}
+use Rattle.ir_flags.specs.declared.stages.SubgroupOperationSet.{SubgroupOperationSet}
+use Rattle.ir_flags.specs.declared.stages.TheConstants.SubgroupOperationSet.{VOTE, ARITHMETIC, BALLOT, SHUFFLE, SHUFFLE_RELATIVE, QUAD}
+use Rattle.ir_kinds.specs.judged.Scalars.{boolean, unsigned}
+use Rattle.ir_kinds.specs.declared.scalars.Scalar.{Scalar}
+use Rattle.ir_kinds.specs.declared.scalars.ScalarKind.{ScalarKind}
+use Rattle.ir_kinds.specs.declared.scalars.ScalarKind.TheVariants as kind
+use Rattle.ir_kinds.specs.declared.subgroups.CollectiveOperation.{CollectiveOperation}
+use Rattle.ir_kinds.specs.declared.subgroups.CollectiveOperation.TheVariants as over
+use Rattle.ir_kinds.specs.declared.subgroups.SubgroupOperation.{SubgroupOperation}
+use Rattle.ir_kinds.specs.declared.subgroups.SubgroupOperation.TheVariants as op
+use Rattle.typing_forms.specs.judged.Forms.{form_of_type}
+use Rattle.typing_forms.specs.declared.form.Form.TheVariants as form
+use Rattle.typing_layout.specs.judged.Constness.{IsOfKind}
+use Rattle.typing_layout.specs.declared.constness.ExpressionKind.TheVariants.{Const}
+use Rattle.spec_statements.specs.judged.Shapes.{IsAlone, IsInteger, IsOfValue, IsTruth, IsMadeOf, shaped_of}
+use Rattle.spec_statements.specs.declared.shapes.Shape.{Shape}
+use Rattle.spec_handles.specs.Operands.{gather_index}
+use Rattle.spec_statements.specs.judged.BlockContext.{BlockContext, form_at}
+
+-- ---- what is needed
+
+abbrev pub collective_needs : SubgroupOperation → SubgroupOperationSet
+collective_needs op.All = VOTE
+collective_needs op.Any = VOTE
+collective_needs op.Add = ARITHMETIC
+collective_needs op.Mul = ARITHMETIC
+collective_needs op.Min = ARITHMETIC
+collective_needs op.Max = ARITHMETIC
+collective_needs op.And = ARITHMETIC
+collective_needs op.Or = ARITHMETIC
+collective_needs op.Xor = ARITHMETIC
+
+abbrev pub gather_needs : GatherMode → SubgroupOperationSet
+gather_needs mode.BroadcastFirst = BALLOT
+gather_needs (mode.Broadcast index) = BALLOT
+gather_needs (mode.Shuffle index) = SHUFFLE
+gather_needs (mode.ShuffleDown index) = SHUFFLE_RELATIVE
+gather_needs (mode.ShuffleUp index) = SHUFFLE_RELATIVE
+gather_needs (mode.ShuffleXor index) = SHUFFLE
+gather_needs (mode.QuadBroadcast index) = QUAD
+gather_needs (mode.QuadSwap direction) = QUAD
+
+-- The module may use subgroups, and the operation.
+pub record HasOperation (c : BlockContext) (needed : SubgroupOperationSet) : Type 0 where
+  pub capable : Has c.capabilities.0 SUBGROUP.0
+  pub supported : Has c.operations.0 needed.0
+
+-- ---- answers
+
+-- the type that a `SubgroupOperationResult` declares
+abbrev pub answered_type : PlainExpression → Option ℕ
+answered_type (plain (x.SubgroupOperationResult type)) = Some type
+answered_type _ = None
+
+-- the answer is of the argument's type
+abbrev pub AnswersAs : BlockContext → (argument result : ℕ) → Type 0
+AnswersAs c argument result =
+    IsSomeAnd (option_and_then answered_type (slice_get c.f.expressions result)) (λ t. form_of_type c.m.types t ≡ form_at c argument)
+
+-- ---- ballots
+
+-- a ballot is by a truth value, or by who is there
+pub record BallotOK (c : BlockContext) (predicate : Option ℕ) : Type 0 where
+  pub operation : HasOperation c BALLOT
+  pub truth : IfSome predicate (λ e. form_at c e ≡ form.Scalar boolean)
+
+-- ---- collective operations
+
+-- integers and floats
+abbrev pub IsNumber : ScalarKind → Type 0
+IsNumber kind.Sint = Unit {0}
+IsNumber kind.Uint = Unit {0}
+IsNumber kind.Float = Unit {0}
+IsNumber kind.Bool = ⊥
+IsNumber kind.AbstractInt = ⊥
+IsNumber kind.AbstractFloat = ⊥
+
+-- truth values are required one by one; bits are of integers of four bytes up
+abbrev pub TakesShape : SubgroupOperation → Shape → Scalar → Type 0
+TakesShape op.All shape s = IsAlone shape × IsTruth s.kind
+TakesShape op.Any shape s = IsAlone shape × IsTruth s.kind
+TakesShape op.Add shape s = IsOfValue shape × IsNumber s.kind
+TakesShape op.Mul shape s = IsOfValue shape × IsNumber s.kind
+TakesShape op.Min shape s = IsOfValue shape × IsNumber s.kind
+TakesShape op.Max shape s = IsOfValue shape × IsNumber s.kind
+TakesShape op.And shape s = IsOfValue shape × IsInteger s.kind × (4 ≤ s.width)
+TakesShape op.Or shape s = IsOfValue shape × IsInteger s.kind × (4 ≤ s.width)
+TakesShape op.Xor shape s = IsOfValue shape × IsInteger s.kind × (4 ≤ s.width)
+
+abbrev pub IsScanned : SubgroupOperation → Type 0
+IsScanned op.All = ⊥
+IsScanned op.Any = ⊥
+IsScanned op.Add = Unit {0}
+IsScanned op.Mul = Unit {0}
+IsScanned op.Min = ⊥
+IsScanned op.Max = ⊥
+IsScanned op.And = ⊥
+IsScanned op.Or = ⊥
+IsScanned op.Xor = ⊥
+
+-- reductions are of all operations, scans of sums and products
+abbrev pub GoesOver : CollectiveOperation → SubgroupOperation → Type 0
+GoesOver over.Reduce operation = Unit {0}
+GoesOver over.InclusiveScan operation = IsScanned operation
+GoesOver over.ExclusiveScan operation = IsScanned operation
+
+pub record CollectiveOK (c : BlockContext) (done : SubgroupOperation) (over_all : CollectiveOperation) (argument result : ℕ) : Type 0 where
+  pub operation : HasOperation c (collective_needs done)
+  pub takes : IsSomeAnd (shaped_of (form_at c argument)) (λ v. TakesShape done v.shape v.scalar)
+  pub goes : GoesOver over_all done
+  pub answered : AnswersAs c argument result
+
+-- ---- gathers
+
+-- the index is known as the module is written
+abbrev pub IndexIsKnown : BlockContext → GatherMode → Type 0
+IndexIsKnown c mode.BroadcastFirst = Unit {0}
+IndexIsKnown c (mode.Broadcast index) = IsOfKind c.f.expressions index Const
+IndexIsKnown c (mode.Shuffle index) = Unit {0}
+IndexIsKnown c (mode.ShuffleDown index) = Unit {0}
+IndexIsKnown c (mode.ShuffleUp index) = Unit {0}
+IndexIsKnown c (mode.ShuffleXor index) = Unit {0}
+IndexIsKnown c (mode.QuadBroadcast index) = IsOfKind c.f.expressions index Const
+IndexIsKnown c (mode.QuadSwap direction) = Unit {0}
+
+pub record GatherOK (c : BlockContext) (how : GatherMode) (argument result : ℕ) : Type 0 where
+  pub operation : HasOperation c (gather_needs how)
+  pub index : IfSome (gather_index how) (λ e. form_at c e ≡ form.Scalar (unsigned 4))
+  pub known : IndexIsKnown c how
+  pub number : IsMadeOf IsOfValue IsNumber (form_at c argument)
+  pub answered : AnswersAs c argument result

@@ -1,0 +1,28 @@
+-- Values of workgroup memory that a whole workgroup loads together.
+use Rattle.std.specs.Prelude.{◌≡◌, ◌⊎◌, ℕ, List, Option, Some, None, IsSomeAnd, option_and_then, slice_get}
+use Rattle.ir_types.specs.judged.ExpressionPlain.{PlainExpression, plain}
+use Rattle.ir_types.specs.declared.expressions.Expression.TheVariants as x
+use Rattle.ir_kinds.specs.declared.spaces.AddressSpace.TheVariants.{WorkGroup}
+use Rattle.ir_types.specs.judged.Plain.{PlainType}
+use Rattle.typing_forms.specs.judged.Forms.{form_of_type}
+use Rattle.typing_forms.specs.declared.form.Form.{Form}
+use Rattle.typing_forms.specs.declared.form.Form.TheVariants as form
+use Rattle.spec_expressions.specs.judged.Access.{pointer_to}
+use Rattle.spec_statements.specs.judged.Atomics.{changed_scalar}
+use Rattle.spec_statements.specs.judged.BlockContext.{BlockContext, form_at}
+use Rattle.spec_statements.specs.judged.Stores.{pointer_space}
+
+-- the type that a `WorkGroupUniformLoadResult` declares
+abbrev pub loaded_type : PlainExpression → Option ℕ
+loaded_type (plain (x.WorkGroupUniformLoadResult type)) = Some type
+loaded_type _ = None
+
+-- a pointer to what is answered, or to an atomic of it
+abbrev pub LeadsTo : List PlainType → (pointer : Form) → (type : ℕ) → Type 0
+LeadsTo types pointer type =
+    (pointer ≡ pointer_to types type WorkGroup) ⊎ IsSomeAnd (changed_scalar types pointer) (λ s. form_of_type types type ≡ form.Scalar s)
+
+-- Workgroup memory is loaded from a pointer that leads to what is answered.
+pub record UniformLoadStatementOK (c : BlockContext) (pointer result : ℕ) : Type 0 where
+  pub space : pointer_space (form_at c pointer) ≡ Some WorkGroup
+  pub answered : IsSomeAnd (option_and_then loaded_type (slice_get c.f.expressions result)) (LeadsTo c.m.types (form_at c pointer))

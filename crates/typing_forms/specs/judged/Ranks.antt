@@ -1,0 +1,28 @@
+-- How well a scalar is taken for another one: the lower the rank, the better.
+use Rattle.std.specs.Prelude.{ℕ, List, [], ◌∷◌, Option, Some, None, if◌then◌else◌}
+use Rattle.ir_kinds.specs.declared.scalars.Scalar.{Scalar}
+use Rattle.ir_kinds.specs.judged.Scalars.{signed, unsigned, floating, abstract_int, abstract_float, is_scalar}
+
+-- what an abstract float becomes, with the ranks
+abbrev pub float_ranks : List (Scalar × ℕ)
+float_ranks = (floating 4, 1) ∷ (floating 2, 2) ∷ (floating 8, 3) ∷ []
+
+-- what an abstract integer becomes, with the ranks
+abbrev pub integer_ranks : List (Scalar × ℕ)
+integer_ranks =
+    (signed 4, 4) ∷ (unsigned 4, 5) ∷ (signed 2, 6) ∷ (unsigned 2, 7) ∷ (signed 8, 8) ∷ (unsigned 8, 9)
+    ∷ (abstract_float, 10) ∷ (floating 4, 11) ∷ (floating 2, 12) ∷ (floating 8, 13) ∷ []
+
+abbrev pub rank_in : List (Scalar × ℕ) → Scalar → Option ℕ
+rank_in [] to = None
+rank_in (row ∷ rows) to = if is_scalar row.0 to then Some row.1 else rank_in rows to
+
+-- the rank of a conversion to another scalar, if there is one
+abbrev pub conversion : Scalar → Scalar → Option ℕ
+conversion from to =
+    if is_scalar from abstract_int then rank_in integer_ranks to
+    else if is_scalar from abstract_float then rank_in float_ranks to else None
+
+-- the same, where a scalar is taken for itself at the best rank
+abbrev pub rank : Scalar → Scalar → Option ℕ
+rank from to = if is_scalar from to then Some 0 else conversion from to

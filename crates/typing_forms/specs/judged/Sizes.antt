@@ -1,0 +1,56 @@
+-- How many bytes a value takes.
+use Rattle.typing_forms.specs.declared.sizes.TheConstants.{MAX_TYPE_SIZE}
+use Rattle.std.specs.Prelude.{ℕ, ◌+◌, ◌-◌, ◌*◌, ◌/◌, Option, Some, None, if◌then◌else◌, nat_le}
+use Rattle.ir_kinds.specs.judged.Scalars.{component_count}
+use Rattle.ir_kinds.specs.declared.scalars.CooperativeSize.{CooperativeSize}
+use Rattle.ir_kinds.specs.declared.scalars.CooperativeSize.TheVariants.{Eight, Sixteen}
+use Rattle.ir_kinds.specs.declared.scalars.VectorSize.{VectorSize}
+use Rattle.ir_kinds.specs.declared.scalars.VectorSize.TheVariants.{Bi, Tri, Quad}
+use Rattle.ir_types.specs.judged.Plain.{PlainInner, struct, plain}
+use Rattle.ir_types.specs.declared.types.ArraySize.{ArraySize}
+use Rattle.ir_types.specs.declared.types.ArraySize.TheVariants as count
+use Rattle.ir_types.specs.declared.types.TypeInner.TheVariants as inner
+
+-- the least multiple of a step that is not below
+abbrev pub rounded_up : (step : ℕ) → ℕ → ℕ
+rounded_up step n = (n + (step - 1)) / step * step
+
+-- the alignment of a vector of this size whose scalars take so many bytes
+abbrev pub vector_alignment : VectorSize → (width : ℕ) → ℕ
+vector_alignment Bi width = 2 * width
+vector_alignment Tri width = 4 * width
+vector_alignment Quad width = 4 * width
+
+-- a column of a matrix, rounded up to its alignment
+abbrev pub column_size : VectorSize → (width : ℕ) → ℕ
+column_size rows width = rounded_up (vector_alignment rows width) (component_count rows * width)
+
+abbrev pub cooperative_count : CooperativeSize → ℕ
+cooperative_count Eight = 8
+cooperative_count Sixteen = 16
+
+-- how many elements count: one where the number isn't known
+abbrev pub counted : ArraySize → ℕ
+counted (count.Constant n) = n
+counted (count.Pending override) = 1
+counted count.Dynamic = 1
+
+abbrev pub type_size : PlainInner → ℕ
+type_size (struct members span) = span
+type_size (plain (inner.Scalar s)) = s.width
+type_size (plain (inner.Vector n s)) = component_count n * s.width
+type_size (plain (inner.Matrix columns rows s)) = component_count columns * column_size rows s.width
+type_size (plain (inner.CooperativeMatrix columns rows s role)) = cooperative_count columns * cooperative_count rows * s.width
+type_size (plain (inner.Atomic s)) = s.width
+type_size (plain (inner.Pointer base space)) = 4
+type_size (plain (inner.ValuePointer n s space)) = 4
+type_size (plain (inner.Array base size stride)) = counted size * stride
+type_size (plain _) = 0
+
+-- the greatest size that a type may have
+abbrev pub greatest_size : ℕ
+greatest_size = MAX_TYPE_SIZE
+
+-- the size where a type may have it
+abbrev pub allowed : ℕ → Option ℕ
+allowed size = if nat_le size greatest_size then Some size else None

@@ -1,0 +1,14 @@
+-- The alignment of a type from those of the types before it.
+use Rattle.std.specs.Prelude.{◌≡◌, ℕ, List, Option, Some, None, slice_get}
+use Rattle.typing_layout.specs.judged.Layout.{alignment, IsWidthOK}
+use Rattle.typing_layout.specs.judged.Tree.{Tree}
+use Rattle.typing_layout.specs.declared.layout.TypeLayout.{TypeLayout}
+
+-- the layouts have the alignments of the trees
+pub record AreAligned (tree : ℕ → Tree) (layouts : List TypeLayout) : Type 0 where
+  pub each : (handle : ℕ) (l : TypeLayout) → slice_get layouts handle ≡ Some l → l.alignment ≡ alignment (tree handle)
+
+-- the alignment of a type, or none where the width by which it is found isn't one
+abbrev pub IsAlignmentOf : Tree → Option ℕ → Type 0
+IsAlignmentOf t (Some a) = IsWidthOK t × (a ≡ alignment t)
+IsAlignmentOf t None = ¬ IsWidthOK t

@@ -1,0 +1,13 @@
+pub mod Constness
+pub mod Layout
+pub mod Tree
+pub mod View
+pub mod Blends
+pub mod Buffers
+pub mod Flags
+pub mod Images
+pub mod Immediates
+pub mod Parts
+pub mod Rules
+pub mod Structs
+pub mod Widths

@@ -1,0 +1,91 @@
+-- When the value of an expression is known.
+use Rattle.std.specs.Prelude.{◌≡◌, ◌<◌, ◌++◌, ℕ, List, [], ◌∷◌, Some, map, option_to_list, slice_get, length, All}
+use Rattle.ir_types.specs.judged.ExpressionPlain.{PlainExpression, compose, plain}
+use Rattle.ir_types.specs.declared.expressions.Expression.TheVariants as expression
+use Rattle.typing_layout.specs.declared.constness.ExpressionKind.{ExpressionKind}
+use Rattle.typing_layout.specs.declared.constness.ExpressionKind.TheVariants.{Const, Override, Runtime}
+
+-- the later of two kinds: const, override, runtime
+abbrev pub later : ExpressionKind → ExpressionKind → ExpressionKind
+later Const k = k
+later Override Const = Override
+later Override Override = Override
+later Override Runtime = Runtime
+later Runtime k = Runtime
+
+-- the latest of some kinds, and const where there is none
+abbrev pub latest : List ExpressionKind → ExpressionKind
+latest [] = Const
+latest (k ∷ ks) = later k (latest ks)
+
+-- Where an expression has its kind from.
+pub data Origin : Type 0 where
+  own : ExpressionKind → Origin
+  latest_of : (operands : List ℕ) → Origin
+
+abbrev pub origin_of : PlainExpression → Origin
+origin_of (compose type components) = latest_of components
+origin_of (plain (expression.Literal value)) = own Const
+origin_of (plain (expression.Constant handle)) = own Const
+origin_of (plain (expression.Override handle)) = own Override
+origin_of (plain (expression.ZeroValue type)) = own Const
+origin_of (plain (expression.Compose type components)) = latest_of components.items
+origin_of (plain (expression.Access base index)) = latest_of (base ∷ index ∷ [])
+origin_of (plain (expression.AccessIndex base index)) = latest_of (base ∷ [])
+origin_of (plain (expression.Splat size value)) = latest_of (value ∷ [])
+origin_of (plain (expression.Swizzle size vector pattern)) = latest_of (vector ∷ [])
+origin_of (plain (expression.FunctionArgument index)) = own Runtime
+origin_of (plain (expression.GlobalVariable handle)) = own Runtime
+origin_of (plain (expression.LocalVariable handle)) = own Runtime
+origin_of (plain (expression.Load pointer)) = own Runtime
+origin_of (plain (expression.ImageSample image sampler gather coordinate array_index offset level depth_ref clamp_to_edge)) = own Runtime
+origin_of (plain (expression.ImageLoad image coordinate array_index sample level)) = own Runtime
+origin_of (plain (expression.ImageQuery image query)) = own Runtime
+origin_of (plain (expression.Unary op expr)) = latest_of (expr ∷ [])
+origin_of (plain (expression.Binary op left right)) = latest_of (left ∷ right ∷ [])
+origin_of (plain (expression.Select condition accept reject)) = latest_of (condition ∷ accept ∷ reject ∷ [])
+origin_of (plain (expression.Derivative axis ctrl expr)) = own Runtime
+origin_of (plain (expression.Relational fun argument)) = latest_of (argument ∷ [])
+origin_of (plain (expression.Math fun arg arg1 arg2 arg3)) = latest_of (arg ∷ (option_to_list arg1 ++ option_to_list arg2 ++ option_to_list arg3))
+origin_of (plain (expression.As expr kind convert)) = latest_of (expr ∷ [])
+origin_of (plain (expression.CallResult function)) = own Runtime
+origin_of (plain (expression.AtomicResult type comparison)) = own Runtime
+origin_of (plain (expression.WorkGroupUniformLoadResult type)) = own Runtime
+origin_of (plain (expression.ArrayLength array)) = own Runtime
+origin_of (plain (expression.RayQueryVertexPositions query committed)) = own Runtime
+origin_of (plain expression.RayQueryProceedResult) = own Runtime
+origin_of (plain (expression.RayQueryGetIntersection query committed)) = own Runtime
+origin_of (plain expression.SubgroupBallotResult) = own Runtime
+origin_of (plain (expression.SubgroupOperationResult type)) = own Runtime
+origin_of (plain (expression.CooperativeLoad columns rows role block)) = own Runtime
+origin_of (plain (expression.CooperativeMultiplyAdd a b c)) = own Runtime
+
+-- The expression at a handle is of a kind: its own, or the latest of its operands' kinds.
+pub data IsOfKind (expressions : List PlainExpression) : ℕ → ExpressionKind → Type 0 where
+  by_itself : {handle : ℕ} {e : PlainExpression} {k : ExpressionKind} → slice_get expressions handle ≡ Some e → origin_of e ≡ own k
+      → IsOfKind expressions handle k
+  by_operands : {handle : ℕ} {e : PlainExpression} {operands : List ℕ} (kind : ℕ → ExpressionKind) → slice_get expressions handle ≡ Some e
+      → origin_of e ≡ latest_of operands
+      → ((place operand : ℕ) → slice_get operands place ≡ Some operand → IsOfKind expressions operand (kind operand))
+      → IsOfKind expressions handle (latest (map kind operands))
+
+-- the operands by which an expression has its kind
+abbrev pub operands_from : Origin → List ℕ
+operands_from (own k) = []
+operands_from (latest_of operands) = operands
+
+-- they come before it
+abbrev pub OriginsPrecede : List PlainExpression → Type 0
+OriginsPrecede expressions =
+    (handle : ℕ) (e : PlainExpression) → slice_get expressions handle ≡ Some e → All (λ operand. operand < handle) (operands_from (origin_of e))
+
+-- each is the kind of the expression at its index
+pub record AreKinds (expressions : List PlainExpression) (kinds : List ExpressionKind) : Type 0 where
+  pub many : length kinds ≡ length expressions
+  pub each : (handle : ℕ) (k : ExpressionKind) → slice_get kinds handle ≡ Some k → IsOfKind expressions handle k
+
+-- an expression is of one kind at most
+abbrev pub OneKind : Type 0
+OneKind =
+    (expressions : List PlainExpression) (handle : ℕ) (left right : ExpressionKind) → IsOfKind expressions handle left → IsOfKind expressions handle right
+    → left ≡ right

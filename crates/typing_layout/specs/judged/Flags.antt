@@ -1,0 +1,150 @@
+-- What a type may be used for.
+use Rattle.std.specs.Prelude.{◌≡◌, ◌≤◌, ◌==◌, ◌||◌, ℕ, List, [], ◌∷◌, Option, Some, None, Bool, false, IsTrue, IsSome, IfSome, slice_get}
+use Rattle.ir_kinds.specs.declared.bindings.Binding.{Binding}
+use Rattle.ir_kinds.specs.declared.bindings.Binding.TheVariants as bound
+use Rattle.ir_kinds.specs.declared.scalars.ScalarKind.{ScalarKind}
+use Rattle.ir_kinds.specs.declared.scalars.ScalarKind.TheVariants as kind
+use Rattle.ir_kinds.specs.declared.spaces.AddressSpace.{AddressSpace}
+use Rattle.ir_kinds.specs.declared.spaces.AddressSpace.TheVariants as space
+use Rattle.ir_types.specs.declared.types.ArraySize.{ArraySize}
+use Rattle.ir_types.specs.declared.types.ArraySize.TheVariants as count
+use Rattle.typing_layout.specs.declared.type_flags.TheConstants.TypeFlags.{DATA, SIZED, COPY, IO_SHAREABLE, HOST_SHAREABLE, CREATION_RESOLVED, ARGUMENT, CONSTRUCTIBLE}
+use Rattle.typing_layout.specs.judged.Tree.{Tree, scalar, vector, matrix, cooperative_matrix, atomic, pointer, value_pointer, array, struct, image, sampler, acceleration_structure, ray_query, binding_array, Members, no_members, member}
+use Rattle.typing_layout.specs.judged.Parts.{Part, listed, end_of, before}
+
+pub data TypeFlag : Type 0 where
+  -- values can be stored
+  Data : TypeFlag
+  -- their size is known before a shader runs
+  Sized : TypeFlag
+  -- they can be copied
+  Copy : TypeFlag
+  -- they go from one stage to the next
+  IoShareable : TypeFlag
+  -- the host lays them out as the shader does
+  HostShareable : TypeFlag
+  -- their size is known where the pipeline is made, no override aside
+  CreationResolved : TypeFlag
+  -- functions take them
+  Argument : TypeFlag
+  -- they can be composed
+  Constructible : TypeFlag
+
+-- the number of each in a set
+abbrev pub bit : TypeFlag → ℕ
+bit Data = DATA.0
+bit Sized = SIZED.0
+bit Copy = COPY.0
+bit IoShareable = IO_SHAREABLE.0
+bit HostShareable = HOST_SHAREABLE.0
+bit CreationResolved = CREATION_RESOLVED.0
+bit Argument = ARGUMENT.0
+bit Constructible = CONSTRUCTIBLE.0
+
+abbrev pub among : List TypeFlag → TypeFlag → Bool
+among [] f = false
+among (x ∷ xs) f = (bit x == bit f) || among xs f
+
+-- ---- kinds of types that have their flags from nothing else
+
+abbrev pub value_flags : List TypeFlag
+value_flags = Data ∷ Sized ∷ Copy ∷ CreationResolved ∷ Argument ∷ Constructible ∷ []
+
+abbrev pub shareable_flags : List TypeFlag
+shareable_flags = HostShareable ∷ value_flags
+
+abbrev pub number_flags : List TypeFlag
+number_flags = IoShareable ∷ shareable_flags
+
+abbrev pub scalar_flags : ScalarKind → List TypeFlag
+scalar_flags kind.Sint = number_flags
+scalar_flags kind.Uint = number_flags
+scalar_flags kind.Float = number_flags
+scalar_flags kind.Bool = value_flags
+scalar_flags kind.AbstractInt = number_flags
+scalar_flags kind.AbstractFloat = number_flags
+
+abbrev pub atomic_flags : List TypeFlag
+atomic_flags = Data ∷ Sized ∷ HostShareable ∷ CreationResolved ∷ []
+
+abbrev pub far_pointer_flags : List TypeFlag
+far_pointer_flags = Sized ∷ Copy ∷ CreationResolved ∷ []
+
+abbrev pub own_pointer_flags : List TypeFlag
+own_pointer_flags = Argument ∷ far_pointer_flags
+
+-- functions take pointers to an invocation's own variables
+abbrev pub pointer_flags : AddressSpace → List TypeFlag
+pointer_flags space.Function = own_pointer_flags
+pointer_flags space.Private = own_pointer_flags
+pointer_flags space.WorkGroup = far_pointer_flags
+pointer_flags space.Uniform = far_pointer_flags
+pointer_flags (space.Storage access) = far_pointer_flags
+pointer_flags space.Handle = far_pointer_flags
+pointer_flags space.Immediate = far_pointer_flags
+pointer_flags space.TaskPayload = far_pointer_flags
+pointer_flags space.RayPayload = far_pointer_flags
+pointer_flags space.IncomingRayPayload = far_pointer_flags
+
+abbrev pub resource_flags : List TypeFlag
+resource_flags = CreationResolved ∷ Argument ∷ []
+
+abbrev pub query_flags : List TypeFlag
+query_flags = Data ∷ Sized ∷ Constructible ∷ CreationResolved ∷ []
+
+abbrev pub binding_array_flags : List TypeFlag
+binding_array_flags = CreationResolved ∷ []
+
+-- those that an array may have from its elements
+abbrev pub array_flags : ArraySize → List TypeFlag
+array_flags (count.Constant n) = shareable_flags
+array_flags (count.Pending override) = Data ∷ Sized ∷ Copy ∷ HostShareable ∷ Argument ∷ []
+array_flags count.Dynamic = Data ∷ Copy ∷ HostShareable ∷ CreationResolved ∷ []
+
+-- ---- structs
+
+-- the source of a blend that a member is
+abbrev pub blend_source : Option Binding → Option ℕ
+blend_source None = None
+blend_source (Some (bound.BuiltIn built_in)) = None
+blend_source (Some (bound.Location location interpolation sampling source per_primitive)) = source
+
+abbrev pub HasBlendSource : List Part → Type 0
+HasBlendSource ps = (k : ℕ) × (p : Part) × (slice_get ps k ≡ Some p) × IsSome (blend_source p.binding)
+
+-- each member begins where the one before ends, or later
+abbrev pub IsInOrder : List Part → Type 0
+IsInOrder ps = (k : ℕ) (p : Part) → slice_get ps k ≡ Some p → IfSome (before ps k) (λ a. end_of a ≤ p.offset)
+
+-- a struct has the flags that all members have, `all` says of this one; but it goes between stages exactly as sources of
+-- a blend, and the host lays it out only with its members in order
+abbrev pub StructHas : TypeFlag → (all : Type 0) → List Part → Type 0
+StructHas Data all ps = all
+StructHas Sized all ps = all
+StructHas Copy all ps = all
+StructHas IoShareable all ps = HasBlendSource ps
+StructHas HostShareable all ps = all × IsInOrder ps
+StructHas CreationResolved all ps = all
+StructHas Argument all ps = all
+StructHas Constructible all ps = all
+
+abbrev mutual
+  pub HasFlag : TypeFlag → Tree → Type 0
+  HasFlag f (scalar s) = IsTrue (among (scalar_flags s.kind) f)
+  HasFlag f (vector n s) = IsTrue (among (scalar_flags s.kind) f)
+  HasFlag f (matrix columns rows s) = IsTrue (among shareable_flags f)
+  HasFlag f (cooperative_matrix columns rows s role) = IsTrue (among shareable_flags f)
+  HasFlag f (atomic s) = IsTrue (among atomic_flags f)
+  HasFlag f (pointer base space) = IsTrue (among (pointer_flags space) f)
+  HasFlag f (value_pointer n s space) = IsTrue (among (pointer_flags space) f)
+  HasFlag f (array base n stride) = HasFlag f base × IsTrue (among (array_flags n) f)
+  HasFlag f (struct ms span) = StructHas f (AllHave f ms) (listed ms)
+  HasFlag f (image dim arrayed class) = IsTrue (among resource_flags f)
+  HasFlag f (sampler comparison) = IsTrue (among resource_flags f)
+  HasFlag f (acceleration_structure vertex_return) = IsTrue (among resource_flags f)
+  HasFlag f (ray_query vertex_return) = IsTrue (among query_flags f)
+  HasFlag f (binding_array base n) = IsTrue (among binding_array_flags f)
+
+  pub AllHave : TypeFlag → Members → Type 0
+  AllHave f no_members = Unit {0}
+  AllHave f (member t binding offset ms) = HasFlag f t × AllHave f ms

@@ -1,0 +1,27 @@
+-- Which images, and what traces rays, there are under capabilities.
+use Rattle.std.specs.Prelude.{◌≡◌, ◌⊎◌, Bool, true, false}
+use Rattle.ir_flags.specs.Sets.{Has}
+use Rattle.ir_flags.specs.declared.settings.Capabilities.{Capabilities}
+use Rattle.ir_flags.specs.declared.settings.TheConstants.Capabilities.{CUBE_ARRAY_TEXTURES, TEXTURE_EXTERNAL, RAY_QUERY, RAY_TRACING_PIPELINE, RAY_HIT_VERTEX_POSITION}
+use Rattle.ir_kinds.specs.judged.Images.{is_depth}
+use Rattle.ir_kinds.specs.declared.images.ImageClass.{ImageClass}
+use Rattle.ir_kinds.specs.declared.images.ImageClass.TheVariants.{External}
+use Rattle.ir_kinds.specs.declared.images.ImageDimension.{ImageDimension}
+use Rattle.ir_kinds.specs.declared.images.ImageDimension.TheVariants.{D2, D3, Cube}
+
+-- cubes in layers have a capability; what has three dimensions has no layers and no depths; images from outside have a
+-- capability, two dimensions and no layers
+pub record ImageOK (capabilities : Capabilities) (dim : ImageDimension) (arrayed : Bool) (class : ImageClass) : Type 0 where
+  pub cube : dim ≡ Cube → arrayed ≡ true → Has capabilities.0 CUBE_ARRAY_TEXTURES.0
+  pub volume : dim ≡ D3 → (arrayed ≡ false) × (is_depth class ≡ false)
+  pub external : class ≡ External → Has capabilities.0 TEXTURE_EXTERNAL.0 × (dim ≡ D2) × (arrayed ≡ false)
+
+-- what gives the vertices of a hit has a capability
+abbrev pub VerticesOK : Capabilities → (vertex_return : Bool) → Type 0
+VerticesOK capabilities vertex_return = vertex_return ≡ true → Has capabilities.0 RAY_HIT_VERTEX_POSITION.0
+
+abbrev pub StructureOK : Capabilities → (vertex_return : Bool) → Type 0
+StructureOK capabilities vertex_return = (Has capabilities.0 RAY_QUERY.0 ⊎ Has capabilities.0 RAY_TRACING_PIPELINE.0) × VerticesOK capabilities vertex_return
+
+abbrev pub QueryOK : Capabilities → (vertex_return : Bool) → Type 0
+QueryOK capabilities vertex_return = Has capabilities.0 RAY_QUERY.0 × VerticesOK capabilities vertex_return

@@ -1,0 +1,100 @@
+-- Which types a module may have under capabilities, a kind a line.
+use Rattle.std.specs.Prelude.{◌≡◌, ◌⊎◌, ℕ, List, Bool, true, false}
+use Rattle.ir_flags.specs.Sets.{Has}
+use Rattle.ir_flags.specs.declared.settings.Capabilities.{Capabilities}
+use Rattle.ir_flags.specs.declared.settings.TheConstants.Capabilities.{COOPERATIVE_MATRIX}
+use Rattle.ir_kinds.specs.judged.Scalars.{floating}
+use Rattle.ir_kinds.specs.declared.images.ImageClass.{ImageClass}
+use Rattle.ir_kinds.specs.declared.images.ImageClass.TheVariants as class
+use Rattle.ir_kinds.specs.declared.scalars.Scalar.{Scalar}
+use Rattle.ir_kinds.specs.declared.scalars.ScalarKind.TheVariants as kind
+use Rattle.ir_kinds.specs.declared.spaces.AddressSpace.{AddressSpace}
+use Rattle.ir_kinds.specs.declared.spaces.AddressSpace.TheVariants as space
+use Rattle.ir_types.specs.judged.Plain.{PlainType}
+use Rattle.ir_types.specs.declared.types.ArraySize.{ArraySize}
+use Rattle.ir_types.specs.declared.types.ArraySize.TheVariants as count
+use Rattle.typing_forms.specs.judged.Resolutions.{inner_at}
+use Rattle.typing_layout.specs.judged.Tree.{Tree, scalar, vector, matrix, cooperative_matrix, atomic, pointer, value_pointer, array, struct, image, sampler, acceleration_structure, ray_query, binding_array}
+use Rattle.typing_layout.specs.judged.View.{type_tree}
+use Rattle.typing_layout.specs.judged.Blends.{BlendsOK}
+use Rattle.typing_layout.specs.judged.Flags.{HasFlag, Data, Sized}
+use Rattle.typing_layout.specs.judged.Images.{ImageOK, StructureOK, QueryOK}
+use Rattle.typing_layout.specs.judged.Parts.{listed}
+use Rattle.typing_layout.specs.judged.Structs.{StructOK}
+use Rattle.typing_layout.specs.judged.Widths.{ScalarOK, AtomicOK}
+
+abbrev pub CooperativeOK : Capabilities → Scalar → Type 0
+CooperativeOK capabilities s = Has capabilities.0 COOPERATIVE_MATRIX.0 × ((s ≡ floating 4) ⊎ (s ≡ floating 2))
+
+abbrev pub IsStorageSpace : AddressSpace → Type 0
+IsStorageSpace (space.Storage access) = Unit {0}
+IsStorageSpace space.Function = ⊥
+IsStorageSpace space.Private = ⊥
+IsStorageSpace space.WorkGroup = ⊥
+IsStorageSpace space.Uniform = ⊥
+IsStorageSpace space.Handle = ⊥
+IsStorageSpace space.Immediate = ⊥
+IsStorageSpace space.TaskPayload = ⊥
+IsStorageSpace space.RayPayload = ⊥
+IsStorageSpace space.IncomingRayPayload = ⊥
+
+-- what has no known size lies in storage buffers
+abbrev pub PointerOK : (base : Tree) → AddressSpace → Type 0
+PointerOK base space = HasFlag Data base × (HasFlag Sized base ⊎ IsStorageSpace space)
+
+-- how many elements there are is known once overrides are resolved
+abbrev pub IsKnownCount : (resolved : Bool) → ArraySize → Type 0
+IsKnownCount resolved (count.Constant n) = Unit {0}
+IsKnownCount resolved (count.Pending override) = resolved ≡ false
+IsKnownCount resolved count.Dynamic = Unit {0}
+
+abbrev pub ArrayOK : (resolved : Bool) → (base : Tree) → ArraySize → Type 0
+ArrayOK resolved base n = HasFlag Data base × HasFlag Sized base × IsKnownCount resolved n
+
+abbrev pub IsBoundImage : ImageClass → Type 0
+IsBoundImage class.External = ⊥
+IsBoundImage (class.Sampled kind multi) = Unit {0}
+IsBoundImage (class.Depth multi) = Unit {0}
+IsBoundImage (class.Storage format access) = Unit {0}
+
+-- what stands in binding arrays
+abbrev pub IsBound : Tree → Type 0
+IsBound (struct ms span) = Unit {0}
+IsBound (image dim arrayed class) = IsBoundImage class
+IsBound (sampler comparison) = Unit {0}
+IsBound (acceleration_structure vertex_return) = Unit {0}
+IsBound (scalar s) = ⊥
+IsBound (vector n s) = ⊥
+IsBound (matrix columns rows s) = ⊥
+IsBound (cooperative_matrix columns rows s role) = ⊥
+IsBound (atomic s) = ⊥
+IsBound (pointer base space) = ⊥
+IsBound (value_pointer n s space) = ⊥
+IsBound (array base n stride) = ⊥
+IsBound (ray_query vertex_return) = ⊥
+IsBound (binding_array base n) = ⊥
+
+abbrev pub BindingArrayOK : (base : Tree) → ArraySize → Type 0
+BindingArrayOK base n = IsBound base × IsKnownCount true n
+
+-- what is required of a type itself, of those that it names only what they may be used for
+abbrev pub ShapeOK : Capabilities → (resolved : Bool) → Tree → Type 0
+ShapeOK capabilities resolved (scalar s) = ScalarOK capabilities s
+ShapeOK capabilities resolved (vector n s) = ScalarOK capabilities s
+ShapeOK capabilities resolved (matrix columns rows s) = (s.kind ≡ kind.Float) × ScalarOK capabilities s
+ShapeOK capabilities resolved (cooperative_matrix columns rows s role) = CooperativeOK capabilities s
+ShapeOK capabilities resolved (atomic s) = AtomicOK capabilities s
+ShapeOK capabilities resolved (pointer base space) = PointerOK base space
+ShapeOK capabilities resolved (value_pointer n s space) = ScalarOK capabilities s
+ShapeOK capabilities resolved (array base n stride) = ArrayOK resolved base n
+ShapeOK capabilities resolved (struct ms span) = StructOK (listed ms) span
+ShapeOK capabilities resolved (image dim arrayed class) = ImageOK capabilities dim arrayed class
+ShapeOK capabilities resolved (sampler comparison) = Unit {0}
+ShapeOK capabilities resolved (acceleration_structure vertex_return) = StructureOK capabilities vertex_return
+ShapeOK capabilities resolved (ray_query vertex_return) = QueryOK capabilities vertex_return
+ShapeOK capabilities resolved (binding_array base n) = BindingArrayOK base n
+
+-- the module's type at a handle is accepted
+pub record TypeOK (capabilities : Capabilities) (resolved : Bool) (types : List PlainType) (handle : ℕ) : Type 0 where
+  pub shape : ShapeOK capabilities resolved (type_tree types handle)
+  pub blends : BlendsOK capabilities types (inner_at types handle)

@@ -1,0 +1,4 @@
+pub mod Laws
+pub mod Ranks
+pub mod Tables
+pub mod Types

@@ -1,0 +1,49 @@
+-- Which arguments a rule accepts, and at which rank.
+use Rattle.std.specs.Prelude.{ℕ, List, [], ◌∷◌, Option, Some, None, Bool, true, false, ◌&&◌, not, ◌==◌, is_some, slice_get, if◌then◌else◌}
+use Rattle.ir_kinds.specs.declared.scalars.ScalarKind.{ScalarKind}
+use Rattle.ir_kinds.specs.declared.scalars.ScalarKind.TheVariants as kind
+use Rattle.ir_types.specs.judged.Plain.{PlainInner}
+use Rattle.typing_forms.specs.judged.Ranks.{rank}
+use Rattle.typing_rules.specs.declared.rules.ValueType.{ValueType}
+use Rattle.typing_rules.specs.declared.rules.Rule.{Rule}
+use Rattle.typing_rules.specs.judged.Types.{constructor_place, value_type_of, listed}
+
+-- ---- acceptance
+
+-- from a type to another one of the same shape
+abbrev pub type_rank : ValueType → ValueType → Option ℕ
+type_rank given wanted = if constructor_place given.size == constructor_place wanted.size then rank given.scalar wanted.scalar else None
+
+abbrev pub rank_if : ValueType → Option ValueType → Option ℕ
+rank_if given (Some wanted) = type_rank given wanted
+rank_if given None = None
+
+-- from what is given at a place to what the rule requires there
+abbrev pub rank_at : ℕ → ValueType → Rule → Option ℕ
+rank_at place given rule = rank_if given (slice_get (listed rule.arguments) place)
+
+-- a rule accepts an argument that has a rank
+abbrev pub accepts : ℕ → ValueType → Rule → Bool
+accepts place given rule = is_some (rank_at place given rule)
+
+abbrev pub accepts_if : ℕ → Option ValueType → Rule → Bool
+accepts_if place (Some given) rule = accepts place given rule
+accepts_if place None rule = false
+
+-- no rule accepts what is neither a scalar nor a vector nor a matrix
+abbrev pub accepts_inner : ℕ → PlainInner → Rule → Bool
+accepts_inner place given rule = accepts_if place (value_type_of given) rule
+
+-- ---- rules without abstract arguments
+
+abbrev pub is_abstract_kind : ScalarKind → Bool
+is_abstract_kind kind.AbstractInt = true
+is_abstract_kind kind.AbstractFloat = true
+is_abstract_kind _ = false
+
+abbrev pub no_abstract : List ValueType → Bool
+no_abstract [] = true
+no_abstract (a ∷ more) = not (is_abstract_kind a.scalar.kind) && no_abstract more
+
+abbrev pub is_concrete : Rule → Bool
+is_concrete rule = no_abstract (listed rule.arguments)
