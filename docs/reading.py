@@ -113,8 +113,8 @@ def reached(files, root):
 def page(files):
     lines = ["# What the theorem rests on", "",
              "Written by `docs/reading.py`. Whoever wants to believe the theorem reads these definitions, from the top, and the first two"
-             " columns of [JUDGEMENT.md](JUDGEMENT.md) beside them; nothing else in `specs/` is cited by them, and nothing in `proofs/`"
-             " has to be read. A file is listed where it is reached first.", ""]
+             " columns of [JUDGEMENT.md](JUDGEMENT.md) beside them. They cite nothing else in `specs/`, and nothing in `proofs/` has to be"
+             " read; a crate that has other definitions keeps these in `specs/judged/`. A file is listed where it is reached first.", ""]
     read, whole = set(), 0
     for title, root in ROOTS:
         order, types = reached(files, root)
