@@ -14,13 +14,14 @@ use Rattle.ir_kinds.specs.declared.stages.ShaderStage.TheVariants.{Vertex, Fragm
 use Rattle.spec_analysis.specs.judged.Chains.{HasUse}
 use Rattle.spec_statements.specs.judged.ExpressionStages.{all_stages}
 use Rattle.spec_statements.specs.judged.Functions.{FunctionSettings, AllowsStage}
+use Rattle.spec_statements.specs.judged.ModuleFunctions.{reading_over}
 use Rattle.spec_interface.specs.judged.Contexts.{stage_set}
 use Rattle.spec_interface.specs.judged.Entries.{ConnectionsOK, EntryOK}
 use Rattle.spec_interface.specs.judged.EarlierPayloads.{HasEntryPayload, HasPayloadSoFar, IsPayloadBeforeEntry}
 use Rattle.spec_interface.specs.declared.parts.MeshParts.{MeshParts}
 use Rattle.spec_interface.specs.judged.Meshes.{HasParts, ImpliesMeshInfo, without_overrides, IsSaid, MeshOK}
 use Rattle.spec_interface.specs.judged.Modules as entries
-use Rattle.spec_interface.specs.judged.Modules.{IsConflict, reading_with, AreStages, entry_settings, EntryAtOK, EntriesOK}
+use Rattle.spec_interface.specs.judged.Modules.{IsConflict, AreStages, entry_settings, EntryAtOK, EntriesOK}
 use Rattle.spec_interface.specs.judged.Payloads.{PayloadOK}
 use Rattle.spec_interface.specs.judged.Stages.{StageOK}
 use Rattle.spec_interface.specs.judged.Uses.{OwnUse, EntryUses}
@@ -140,12 +141,12 @@ among_all stage = subst (λ bits. Has bits (stage_set stage).0) (sym all_shader_
 -- ---- the entry point
 
 entry_moves : {m n : PlainModule} {x y : PlainEntry} → LikeModule m n → LikeEntry x y → (stages : List ShaderStages) (s : FunctionSettings)
-    → EntryOK (reading_with stages m x.function) stages (HasUse m x.function) s m x → EntryOK (reading_with stages n y.function) stages (HasUse n y.function) s n y
+    → EntryOK (reading_over stages m x.function) stages (HasUse m x.function) s m x → EntryOK (reading_over stages n y.function) stages (HasUse n y.function) s n y
 entry_moves {m} {n} {x} {y} l k stages s h = record {
   stage = over_entry (λ a z. StageOK s.capabilities z) l k (stage m n.functions n.entries x y.function s.capabilities h.stage);
   function = function_moves l k.function s stages h.function;
   payload = over_entry PayloadOK l k (payload m n.functions n.entries x y.function h.payload);
-  runs = subst (λ (z : PlainEntry). AllowsStage (reading_with stages n y.function) s stages y.function (stage_set z.stage).0) (sym k.rest)
+  runs = subst (λ (z : PlainEntry). AllowsStage (reading_over stages n y.function) s stages y.function (stage_set z.stage).0) (sym k.rest)
       (stage_moves l k.function s stages stages (stage_set x.stage).0 (among_all x.stage) h.runs);
   connections = over_entry (λ a z. ConnectionsOK s.flags s.capabilities a z (EntryUses y (HasUse n y.function))) l k
       (connections m n.functions n.entries x y.function (EntryUses x (HasUse m x.function)) (EntryUses y (HasUse n y.function)) (uses_move (module_back l) (entry_back k)) s.flags s.capabilities h.connections);

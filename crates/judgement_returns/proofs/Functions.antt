@@ -1,5 +1,5 @@
 -- A function is accepted alike with other returns.
-use Rattle.std.proofs.Common.{◌≡◌, ℕ, Option, None, List, [], refl, sym, ap, subst, ◌∙◌}
+use Rattle.std.proofs.Common.{◌≡◌, ℕ, Option, None, List, refl, sym, ap, subst, ◌∙◌}
 use Rattle.std.specs.Prelude.{◌<◌, length}
 use Rattle.ir_blocks.specs.judged.Places.{Place, OccursAt}
 use Rattle.ir_blocks.specs.judged.Plain.{PlainStatement, return, call}
@@ -16,9 +16,8 @@ use Rattle.spec_statements.specs.judged.Payloads.{HasPayload}
 use Rattle.spec_statements.specs.judged.Stages.{statement_stages}
 use Rattle.spec_statements.specs.judged.Statements.{StatementOK}
 use Rattle.spec_statements.specs.judged.ModuleFunctions as functions
-use Rattle.spec_statements.specs.judged.ModuleFunctions.{settings_with, FunctionAtOK, FunctionsOK}
+use Rattle.spec_statements.specs.judged.ModuleFunctions.{reading_over, settings_with, FunctionAtOK, FunctionsOK}
 use Rattle.spec_statements.specs.judged.EarlierPayloads.{HasPayloadBefore, IsPayloadBefore}
-use Rattle.spec_interface.specs.judged.Modules.{reading_with}
 use Rattle.judgement_returns.specs.found.Alike.{Carried, kept, extra}
 use Rattle.judgement_returns.specs.judged.Like.{LikeFunction, LikeModule}
 use Rattle.judgement_returns.proofs.Analysis.{analysed_moves}
@@ -70,7 +69,7 @@ module _ {m n : PlainModule} {f g : PlainFunction} (l : LikeModule m n) (k : Lik
   function_like : LikeFunction f changed
   function_like = record { no_result = k.no_result; body = k.body; rest = refl }
 
-  forms_typed : (stages : List ShaderStages) (forms : List Form) → AreFormsBy (reading_with stages m f) f forms → AreFormsBy (reading_with stages other changed) changed forms
+  forms_typed : (stages : List ShaderStages) (forms : List Form) → AreFormsBy (reading_over stages m f) f forms → AreFormsBy (reading_over stages other changed) changed forms
   forms_typed stages forms h = record {
     many = h.many;
     each = λ e t at. typed_moves (inside m f) n.functions (same_results m.functions n.functions l.functions) f.expressions e t (h.each e t at);
@@ -95,8 +94,8 @@ module _ {m n : PlainModule} {f g : PlainFunction} (l : LikeModule m n) (k : Lik
     strict = λ asked. strict_moves f g.body k.body (h.strict asked);
   }
 
-  pub function_moves : (stages : List ShaderStages) → FunctionOK (reading_with stages m f) s m f → FunctionOK (reading_with stages n g) s n g
-  function_moves stages h = over_like (λ a b. FunctionOK (reading_with stages a b) s a b) l k (record {
+  pub function_moves : (stages : List ShaderStages) → FunctionOK (reading_over stages m f) s m f → FunctionOK (reading_over stages n g) s n g
+  function_moves stages h = over_like (λ a b. FunctionOK (reading_over stages a b) s a b) l k (record {
     arity = arity_moves module_like function_like h.arity;
     analysed = analysed_moves module_like function_like s.flags h.analysed;
     forms = h.forms;
@@ -115,8 +114,8 @@ module _ {m n : PlainModule} {f g : PlainFunction} (l : LikeModule m n) (k : Lik
   stage_runs callees stage among h p u (extra is rest may_return behind) = subst (λ z. Has (statement_stages s.subgroup_stages callees z).0 stage) (sym is) among
 
   pub stage_moves : (stages callees : List ShaderStages) (stage : ℕ) → Has all_stages.0 stage
-      → AllowsStage (reading_with stages m f) s callees f stage → AllowsStage (reading_with stages n g) s callees g stage
-  stage_moves stages callees stage among h = over_like (λ a b. AllowsStage (reading_with stages a b) s callees b stage) l k (record {
+      → AllowsStage (reading_over stages m f) s callees f stage → AllowsStage (reading_over stages n g) s callees g stage
+  stage_moves stages callees stage among h = over_like (λ a b. AllowsStage (reading_over stages a b) s callees b stage) l k (record {
     statements = λ flag p u stands. stage_runs callees stage among (h.statements flag) p u (k.body.back.statements p u stands);
     expressions = h.expressions;
   })
@@ -142,7 +141,7 @@ function_at_moves l s i h =
       at = g.1;
       held = h.held;
       before = held_moves l s.flags i h.held h.before;
-      ok = function_moves l g.2 (settings_with s h.held) [] h.ok;
+      ok = λ callees. function_moves l g.2 (settings_with s h.held) callees (h.ok callees);
     }
 
 pub functions_move : {m n : PlainModule} → LikeModule m n → (s : FunctionSettings) → FunctionsOK s m → FunctionsOK s n

@@ -32,7 +32,7 @@ use Rattle.spec_statements.specs.judged.Tables.{introduced, introduced_at}
 use Rattle.spec_statements.specs.judged.Stages.{statement_stages}
 use Rattle.spec_statements.specs.judged.ModuleFunctions.{reading_over, settings_with}
 use Rattle.spec_interface.specs.judged.Contexts.{stage_set}
-use Rattle.spec_interface.specs.judged.Modules.{reading_with, entry_settings}
+use Rattle.spec_interface.specs.judged.Modules.{entry_settings}
 use Rattle.spec_runs.specs.judged.Events.{Event, entered, executed, introduced_expression, named, sampled, used, passed, returned, fell_off, escaped}
 use Rattle.spec_runs.specs.judged.Good.{ArgumentsOK, ValueOK, DepthOK, TypesOK, UsesOK, LiveOK, SurelyLiveOK, StagesOK, NoEscape}
 use Rattle.spec_runs.specs.found.Invariants.{IsInvariant}
@@ -191,17 +191,17 @@ module _ (s : FunctionSettings) (m : PlainModule) (number : ℕ) (a : IsAccepted
   abbrev pub FitsAt : ℕ → PlainFunction → Type 0
   FitsAt = Fits (Has s.flags.0 STRICT_SCOPE.0) m s.subgroup_stages stages stage
 
-  function_fits : (index : ℕ) (f : PlainFunction) → slice_get m.functions index ≡ Some f → AllowsStage (reading_with stages m f) s stages f stage → FitsAt index f
+  function_fits : (index : ℕ) (f : PlainFunction) → slice_get m.functions index ≡ Some f → AllowsStage (reading_over stages m f) s stages f stage → FitsAt index f
   function_fits index f at allows =
       let here = a.functions index (slice_get_within m.functions index f at) in
       let same : here.function ≡ f = some_is (sym here.at ∙ at) in
-      let ok : FunctionOK _ (settings_with s here.held) m f = subst (λ g. FunctionOK (reading_of g) (settings_with s here.held) m g) same here.ok in
+      let ok : FunctionOK _ (settings_with s here.held) m f = subst (λ g. FunctionOK (reading_of g) (settings_with s here.held) m g) same (here.ok stages) in
       fits_in (settings_with s here.held) m f ok.forms ok.typed.many ok.typed.each (ok.body a.blocks) (a.handles.functions index f at) ok.arity s.subgroup_stages stages stage index
       (λ p function arguments result stands. a.handles.back (a_function index) (a_function function) (function_on_callee at (statement_calls stands refl)))
       (allows.statements a.blocks) (allows.expressions a.expressions)
     where
       reading_of : PlainFunction → Reading
-      reading_of g = reading_over m g
+      reading_of g = reading_over stages m g
 
   pub entry_fits : FitsAt (length m.functions) a.entry.entry.function
   entry_fits =

@@ -56,7 +56,8 @@ runs_fall_by_breaks s m number a returns u answers n = falls_by_breaks u m funct
     function_closed index f at =
         let here = a.functions index (slice_get_within m.functions index f at) in
         let same : here.function ≡ f = some_is (sym here.at ∙ at) in
-        let ends : SwitchesEnd here.function.body = switches_end (settings_with s here.held) m here.function here.ok.forms (here.ok.body a.blocks) in
+        let ok = here.ok a.entry.stages in
+        let ends : SwitchesEnd here.function.body = switches_end (settings_with s here.held) m here.function ok.forms (ok.body a.blocks) in
         record { no_open = returned_closed f (returns.functions index f at); switches = subst (λ g. SwitchesEnd g.body) same ends }
 
     entry_closed : Closed a.entry.entry.function

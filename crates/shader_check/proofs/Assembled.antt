@@ -29,7 +29,7 @@ use Rattle.module_validator.specs.declared.validator.ModuleValidator.{ModuleVali
 use Rattle.function_real_lower.specs.Made.{IsMadeOf}
 use Rattle.function_real_lower.specs.Readings.{reading_of, faults_of}
 use Rattle.spec_analysis.specs.judged.Summaries.{Summary}
-use Rattle.spec_interface.specs.judged.Modules.{AreStages, reading_with}
+use Rattle.spec_interface.specs.judged.Modules.{AreStages}
 use Rattle.spec_expressions.specs.judged.Context.{outside}
 use Rattle.spec_interface.specs.judged.Globals.{GlobalsOK}
 use Rattle.spec_handles.specs.InOrder.{HandlesOK}
@@ -66,7 +66,7 @@ module _ (s : FunctionSettings) (m : PlainModule) (handles : HandlesOK m) (summa
   }
 
   pub entries_noted : (kept : List Summary) (notes : List Note) (after : Option ℕ) → AreEntriesJudged reading_of s m summaries stages (length m.entries) kept notes after
-      → AreEntryNotes (λ e. reading_with stages m e.function) s m stages notes
+      → AreEntryNotes (λ e. reading_over stages m e.function) s m stages notes
   entries_noted kept notes after j index e n at there = noted_by_chains s m e summaries stages n.0 n.1 (j.noted index e n at there)
 
   pub entry_refused : (r : Refusal InvalidEntryPoint) → IsEntryRefusal reading_of faults_of s m summaries stages r → IsRefusedWith (IsEntryFault s m) r

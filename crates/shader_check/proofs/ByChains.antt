@@ -25,14 +25,14 @@ use Rattle.typing_forms.specs.declared.form.Form.{Form}
 use Rattle.function_real_lower.specs.Processed.{IsAnalysisFault, untyped, wrong_form, non_uniform}
 use Rattle.typing_errors.specs.Answers.{fault_of, ReportsFault}
 
-module _ (m : PlainModule) (f : PlainFunction) (summaries : List Summary) (stages : List ShaderStages) (known : CalleesKnown m f summaries) where
+module _ (m : PlainModule) (f : PlainFunction) (summaries : List Summary) (stages callees : List ShaderStages) (known : CalleesKnown m f summaries) where
   analysed_by_chains : (flags : ValidationFlags) → ((e : FunctionError) → IsAnalysisFault flags m f summaries e → ⊥) → IsAnalysed flags m f
   analysed_by_chains flags clear = record {
     formed = λ e wrong. clear (Expression e ExpectedGlobalOrArgument) (wrong_form (wrong_by_summaries m f summaries known e wrong));
     uniform = λ x fault. clear (NonUniformControlFlow (record { 0 = x.requirement }) x.expression Discard) (non_uniform fault);
   }
 
-  pub ok_by_chains : (s : FunctionSettings) → FunctionOK (reading_of (question m f summaries stages)) s m f → FunctionOK (reading_over m f) s m f
+  pub ok_by_chains : (s : FunctionSettings) → FunctionOK (reading_of (question m f summaries stages)) s m f → FunctionOK (reading_over callees m f) s m f
   ok_by_chains s ok = record {
     arity = ok.arity;
     analysed = analysed_by_chains s.flags ok.analysed;
@@ -43,19 +43,19 @@ module _ (m : PlainModule) (f : PlainFunction) (summaries : List Summary) (stage
     body = ok.body;
   }
 
-  has_no_type : (forms : List Form) → AreFormsBy (reading_over m f) f forms → (e : ℕ) (o : Option TypingFault) → ReportsFault (inside m f) f.expressions e o → ⊥
+  has_no_type : (forms : List Form) → AreFormsBy (reading_over callees m f) f forms → (e : ℕ) (o : Option TypingFault) → ReportsFault (inside m f) f.expressions e o → ⊥
   has_no_type forms typed e None tells = tells
   has_no_type forms typed e (Some fault) tells =
       let lt : e < length f.expressions = slice_get_within f.expressions e tells.faulty.expression tells.faulty.stands in
       let found = get-within forms e (subst (λ n. e < n) (sym typed.many) lt) in
       tells.none found.0 (typed.each e found.0 found.1)
 
-  no_fault : (flags : ValidationFlags) → IsAnalysed flags m f → (forms : List Form) → AreFormsBy (reading_over m f) f forms → (e : FunctionError) → IsAnalysisFault flags m f summaries e → ⊥
+  no_fault : (flags : ValidationFlags) → IsAnalysed flags m f → (forms : List Form) → AreFormsBy (reading_over callees m f) f forms → (e : FunctionError) → IsAnalysisFault flags m f summaries e → ⊥
   no_fault flags a forms typed _ (untyped {e} {error} tells) = has_no_type forms typed e (fault_of error) tells
   no_fault flags a forms typed _ (wrong_form {e} wrong) = a.formed e (wrong_by_chains m f summaries known e wrong)
   no_fault flags a forms typed _ (non_uniform {r} {e} {d} fault) = a.uniform (record { requirement = r.0; expression = e }) fault
 
-  pub ok_by_summaries : (s : FunctionSettings) → FunctionOK (reading_over m f) s m f → FunctionOK (reading_of (question m f summaries stages)) s m f
+  pub ok_by_summaries : (s : FunctionSettings) → FunctionOK (reading_over callees m f) s m f → FunctionOK (reading_of (question m f summaries stages)) s m f
   ok_by_summaries s ok = record {
     arity = ok.arity;
     analysed = no_fault s.flags ok.analysed ok.forms ok.typed;
@@ -73,7 +73,7 @@ module _ (s : FunctionSettings) (m : PlainModule) (index : ℕ) where
     at = a.at;
     held = a.given.held;
     before = a.given.before;
-    ok = ok_by_chains m a.function a.given.summaries a.given.stages a.given.known (settings_with s a.given.held) a.ok;
+    ok = λ callees. ok_by_chains m a.function a.given.summaries a.given.stages callees a.given.known (settings_with s a.given.held) a.ok;
   }
 
   pub refused_at : (e : FunctionError) → IsRefusedAt reading_of faults_of s m index e → FunctionAtOK s m index → ⊥
@@ -81,6 +81,6 @@ module _ (s : FunctionSettings) (m : PlainModule) (index : ℕ) where
       let same : ok.function ≡ r.function = some_is (sym ok.at ∙ r.at) in
       let held : ok.held ≡ r.given.held = one_payload s.flags m index ok.held r.given.held ok.before r.given.before in
       r.refused
-      (ok_by_summaries m r.function r.given.summaries r.given.stages r.given.known (settings_with s r.given.held)
-      (subst (λ h. FunctionOK (reading_over m r.function) (settings_with s h) m r.function) held
-      (subst (λ g. FunctionOK (reading_over m g) (settings_with s ok.held) m g) same ok.ok)))
+      (ok_by_summaries m r.function r.given.summaries r.given.stages r.given.stages r.given.known (settings_with s r.given.held)
+      (subst (λ h. FunctionOK (reading_over r.given.stages m r.function) (settings_with s h) m r.function) held
+      (subst (λ g. FunctionOK (reading_over r.given.stages m g) (settings_with s ok.held) m g) same (ok.ok r.given.stages))))

@@ -19,7 +19,7 @@ use Rattle.spec_analysis.specs.judged.Chains.{HasUse}
 use Rattle.spec_analysis.specs.judged.Summaries.{Summary, AreSummaries, CalleesKnown}
 use Rattle.spec_interface.proofs.OneStages.{all_agree, allows_other}
 use Rattle.spec_interface.specs.judged.Entries.{EntryOK}
-use Rattle.spec_interface.specs.judged.Modules.{reading_with, AreStages, entry_settings, EntryAtOK, IsConflict}
+use Rattle.spec_interface.specs.judged.Modules.{AreStages, entry_settings, EntryAtOK, IsConflict}
 use Rattle.spec_statements.specs.judged.ModuleFunctions.{reading_over}
 use Rattle.spec_handles.specs.InOrder.{HandlesOK}
 use Rattle.spec_statements.specs.judged.Functions.{FunctionSettings, FunctionOK, AllowsStage}
@@ -27,51 +27,40 @@ use Rattle.spec_interface.specs.judged.Contexts.{stage_set}
 
 -- ---- functions
 
-module _ (stages : List ShaderStages) (s : FunctionSettings) (m : PlainModule) (f : PlainFunction) where
-  with_stages : FunctionOK (reading_over m f) s m f → FunctionOK (reading_with stages m f) s m f
-  with_stages ok = record {
-    arity = ok.arity;
-    analysed = ok.analysed;
-    forms = ok.forms;
-    typed = record { many = ok.typed.many; each = ok.typed.each };
-    interface = ok.interface;
-    expressions = ok.expressions;
-    body = ok.body;
-  }
-
-  without_stages : FunctionOK (reading_with stages m f) s m f → FunctionOK (reading_over m f) s m f
-  without_stages ok = record {
-    arity = ok.arity;
-    analysed = ok.analysed;
-    forms = ok.forms;
-    typed = record { many = ok.typed.many; each = ok.typed.each };
-    interface = ok.interface;
-    expressions = ok.expressions;
-    body = ok.body;
-  }
+-- a function is as good with other stages of its callees
+with_stages : (given stages : List ShaderStages) (s : FunctionSettings) (m : PlainModule) (f : PlainFunction) → FunctionOK (reading_over given m f) s m f → FunctionOK (reading_over stages m f) s m f
+with_stages given stages s m f ok = record {
+  arity = ok.arity;
+  analysed = ok.analysed;
+  forms = ok.forms;
+  typed = record { many = ok.typed.many; each = ok.typed.each };
+  interface = ok.interface;
+  expressions = ok.expressions;
+  body = ok.body;
+}
 
 -- ---- one entry point
 
 module _ (m : PlainModule) (e : PlainEntry) (summaries : List Summary) (stages : List ShaderStages) (known : CalleesKnown m e.function summaries) (s : FunctionSettings) (Uses : ℕ → ℕ → Type 0) where
-  runs_by_chains : (stage : ℕ) → AllowsStage (reading_of (question m e.function summaries stages)) s stages e.function stage → AllowsStage (reading_with stages m e.function) s stages e.function stage
+  runs_by_chains : (stage : ℕ) → AllowsStage (reading_of (question m e.function summaries stages)) s stages e.function stage → AllowsStage (reading_over stages m e.function) s stages e.function stage
   runs_by_chains stage a = record { statements = a.statements; expressions = a.expressions }
 
-  runs_by_summaries : (stage : ℕ) → AllowsStage (reading_with stages m e.function) s stages e.function stage → AllowsStage (reading_of (question m e.function summaries stages)) s stages e.function stage
+  runs_by_summaries : (stage : ℕ) → AllowsStage (reading_over stages m e.function) s stages e.function stage → AllowsStage (reading_of (question m e.function summaries stages)) s stages e.function stage
   runs_by_summaries stage a = record { statements = a.statements; expressions = a.expressions }
 
-  pub entry_by_chains : EntryOK (reading_of (question m e.function summaries stages)) stages Uses s m e → EntryOK (reading_with stages m e.function) stages Uses s m e
+  pub entry_by_chains : EntryOK (reading_of (question m e.function summaries stages)) stages Uses s m e → EntryOK (reading_over stages m e.function) stages Uses s m e
   entry_by_chains ok = record {
     stage = ok.stage;
-    function = with_stages stages s m e.function (ok_by_chains m e.function summaries stages known s ok.function);
+    function = ok_by_chains m e.function summaries stages stages known s ok.function;
     payload = ok.payload;
     runs = runs_by_chains (stage_set e.stage).0 ok.runs;
     connections = ok.connections;
   }
 
-  pub entry_by_summaries : EntryOK (reading_with stages m e.function) stages Uses s m e → EntryOK (reading_of (question m e.function summaries stages)) stages Uses s m e
+  pub entry_by_summaries : EntryOK (reading_over stages m e.function) stages Uses s m e → EntryOK (reading_of (question m e.function summaries stages)) stages Uses s m e
   entry_by_summaries ok = record {
     stage = ok.stage;
-    function = ok_by_summaries m e.function summaries stages known s (without_stages stages s m e.function ok.function);
+    function = ok_by_summaries m e.function summaries stages stages known s ok.function;
     payload = ok.payload;
     runs = runs_by_summaries (stage_set e.stage).0 ok.runs;
     connections = ok.connections;
@@ -79,7 +68,7 @@ module _ (m : PlainModule) (e : PlainEntry) (summaries : List Summary) (stages :
 
 -- what is noted of one
 pub noted_by_chains : (s : FunctionSettings) (m : PlainModule) (e : PlainEntry) (summaries : List Summary) (stages : List ShaderStages) (own : ShaderStages) (blending : Bool)
-    → IsEntryNoted (reading_of (question m e.function summaries stages)) stages s m e own blending → IsEntryNoted (reading_with stages m e.function) stages s m e own blending
+    → IsEntryNoted (reading_of (question m e.function summaries stages)) stages s m e own blending → IsEntryNoted (reading_over stages m e.function) stages s m e own blending
 noted_by_chains s m e summaries stages own blending n = record {
   run = λ stage. (
     (λ h. (let r = (n.run stage).0 h in (r.0, record { statements = r.1.statements; expressions = r.1.expressions }))),
@@ -106,10 +95,10 @@ module _ (s : FunctionSettings) (m : PlainModule) (handles : HandlesOK m) (summa
 
   -- whichever stages are reported of the functions
   other_stages : (index : ℕ) (e : PlainEntry) → slice_get m.entries index ≡ Some e → (others : List ShaderStages) → AreStages s m others → (held : Option ℕ)
-      → EntryOK (reading_with others m e.function) others (HasUse m e.function) (entry_settings s held) m e → EntryOK (reading_with stages m e.function) stages (HasUse m e.function) (entry_settings s held) m e
+      → EntryOK (reading_over others m e.function) others (HasUse m e.function) (entry_settings s held) m e → EntryOK (reading_over stages m e.function) stages (HasUse m e.function) (entry_settings s held) m e
   other_stages index e at others these held ok = record {
     stage = ok.stage;
-    function = with_stages stages (entry_settings s held) m e.function (without_stages others (entry_settings s held) m e.function ok.function);
+    function = with_stages others stages (entry_settings s held) m e.function ok.function;
     payload = ok.payload;
     runs = allows_other (length m.functions) e.function others stages (entry_conditions m handles index e at).callees
         (all_agree s m (λ i f there. ((order_gives_conditions m handles).functions i f there).callees) others stages these run (length m.functions)) (entry_settings s held) m (stage_set e.stage).0 ok.runs;

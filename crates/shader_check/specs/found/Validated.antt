@@ -19,9 +19,9 @@ use Rattle.module_validator.specs.Refusals.{IsVariableFault}
 use Rattle.function_real_lower.specs.Readings.{reading_of, faults_of}
 use Rattle.spec_analysis.specs.judged.Summaries.{Summary, AreSummaries}
 use Rattle.spec_interface.specs.judged.Modules as entries
-use Rattle.spec_interface.specs.judged.Modules.{EntriesOK, AreStages, reading_with}
+use Rattle.spec_interface.specs.judged.Modules.{EntriesOK, AreStages}
 use Rattle.spec_expressions.specs.judged.Context.{outside}
-use Rattle.spec_statements.specs.judged.ModuleFunctions.{FunctionsOK}
+use Rattle.spec_statements.specs.judged.ModuleFunctions.{reading_over, FunctionsOK}
 use Rattle.spec_interface.specs.judged.Globals.{GlobalsOK}
 use Rattle.judgement.specs.judged.ModuleSteps.{ModuleOK}
 use Rattle.judgement.specs.declared.settings.ModuleSettings.{ModuleSettings}
@@ -48,7 +48,7 @@ stages_of i = i.available_stages
 pub record AreNoted (s : FunctionSettings) (m : PlainModule) (functions entries : List FunctionInfo) : Type 0 where
   pub run : AreStages s m (map stages_of functions)
   pub counted : length entries ≡ length m.entries
-  pub entries_noted : AreEntryNotes (λ e. reading_with (map stages_of functions) m e.function) s m (map stages_of functions) (map (note_of stages_of (λ i. i.dual_source_blending)) entries)
+  pub entries_noted : AreEntryNotes (λ e. reading_over (map stages_of functions) m e.function) s m (map stages_of functions) (map (note_of stages_of (λ i. i.dual_source_blending)) entries)
 
 -- All steps accept the module, and this is kept of it.
 pub record IsValidated (s : FunctionSettings) (resolved : Bool) (m : PlainModule) (info : ModuleInfo) : Type 0 where

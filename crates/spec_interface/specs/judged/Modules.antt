@@ -7,8 +7,8 @@ use Rattle.spec_analysis.specs.judged.Chains.{HasUse}
 use Rattle.spec_interface.specs.judged.Entries.{EntryOK}
 use Rattle.spec_interface.specs.judged.EarlierPayloads.{IsPayloadBeforeEntry}
 use Rattle.spec_statements.specs.judged.ModuleFunctions.{reading_over}
-use Rattle.spec_statements.specs.judged.ExpressionStages.{all_stages, IsRunBy}
-use Rattle.spec_statements.specs.judged.Functions.{Reading, FunctionSettings, AllowsStage}
+use Rattle.spec_statements.specs.judged.ExpressionStages.{all_stages}
+use Rattle.spec_statements.specs.judged.Functions.{FunctionSettings, AllowsStage}
 
 -- ---- names
 
@@ -23,15 +23,11 @@ pub record IsConflict (m : PlainModule) (index : ℕ) (e : PlainEntry) : Type 0 
 
 -- ---- stages
 
--- What is said of a function of a module, where these stages may run those that it calls.
-abbrev pub reading_with : List ShaderStages → PlainModule → PlainFunction → Reading
-reading_with stages m f = record (reading_over m f) { IsRunBy = IsRunBy stages f.expressions }
-
 -- these stages may run the functions of a module, each with its callees
 pub record AreStages (s : FunctionSettings) (m : PlainModule) (stages : List ShaderStages) : Type 0 where
   pub many : length stages ≡ length m.functions
   pub each : (index : ℕ) (f : PlainFunction) (own : ShaderStages) → slice_get m.functions index ≡ Some f → slice_get stages index ≡ Some own
-      → (stage : ℕ) → Has own.0 stage ↔ (Has all_stages.0 stage × AllowsStage (reading_with stages m f) s stages f stage)
+      → (stage : ℕ) → Has own.0 stage ↔ (Has all_stages.0 stage × AllowsStage (reading_over stages m f) s stages f stage)
 
 -- ---- entry points
 
@@ -49,7 +45,7 @@ pub record EntryAtOK (s : FunctionSettings) (m : PlainModule) (index : ℕ) : Ty
   pub stages : List ShaderStages
   pub run : AreStages s m stages
   pub apart : ¬ IsConflict m index entry
-  pub ok : EntryOK (reading_with stages m entry.function) stages (HasUse m entry.function) (entry_settings s held) m entry
+  pub ok : EntryOK (reading_over stages m entry.function) stages (HasUse m entry.function) (entry_settings s held) m entry
 
 -- all entry points of a module do
 abbrev pub EntriesOK : FunctionSettings → PlainModule → Type 0

@@ -1,5 +1,6 @@
 -- When the functions of a module are accepted.
-use Rattle.std.specs.Prelude.{◌≡◌, ◌<◌, ℕ, [], Option, Some, length, slice_get}
+use Rattle.std.specs.Prelude.{◌≡◌, ◌<◌, ℕ, List, Option, Some, length, slice_get}
+use Rattle.ir_flags.specs.declared.stages.ShaderStages.{ShaderStages}
 use Rattle.ir_items.specs.judged.Plain.{PlainFunction, PlainModule}
 use Rattle.spec_statements.specs.judged.Expressions.{ExpressionOK}
 use Rattle.spec_statements.specs.judged.Scene.{scene_of}
@@ -10,27 +11,27 @@ use Rattle.spec_statements.specs.judged.EarlierPayloads.{IsPayloadBefore}
 use Rattle.spec_statements.specs.judged.Functions.{Reading, FunctionSettings, FunctionOK}
 
 -- What is said of a function of a module: the types of its expressions by the rules of their kinds, the analysis by chains of
--- calls, and the checks of expressions. Which stages may run an expression is reported of it alone, its callee aside: nothing here
--- requires it.
-abbrev pub reading_over : PlainModule → PlainFunction → Reading
-reading_over m f = record {
+-- calls, the checks of expressions, and which stages may run an expression where these may run the functions that it calls.
+abbrev pub reading_over : (callees : List ShaderStages) → PlainModule → PlainFunction → Reading
+reading_over callees m f = record {
   HasForm = HasType m f;
   IsAnalysed = λ flags. IsAnalysed flags m f;
   IsAccepted = λ capabilities forms e. ExpressionOK (scene_of capabilities m f forms) e;
-  IsRunBy = IsRunBy [] f.expressions;
+  IsRunBy = IsRunBy callees f.expressions;
 }
 
 -- with what a function is judged after payloads of this type
 abbrev pub settings_with : FunctionSettings → (held : Option ℕ) → FunctionSettings
 settings_with s held = record s { held = held }
 
--- The function at an index of a module meets the rules of functions, with what those before it leave to it.
+-- The function at an index of a module meets the rules of functions, with what those before it leave to it, whichever stages may
+-- run its callees.
 pub record FunctionAtOK (s : FunctionSettings) (m : PlainModule) (index : ℕ) : Type 0 where
   pub function : PlainFunction
   pub at : slice_get m.functions index ≡ Some function
   pub held : Option ℕ
   pub before : IsPayloadBefore s.flags m index held
-  pub ok : FunctionOK (reading_over m function) (settings_with s held) m function
+  pub ok : (callees : List ShaderStages) → FunctionOK (reading_over callees m function) (settings_with s held) m function
 
 -- all functions of a module do
 abbrev pub FunctionsOK : FunctionSettings → PlainModule → Type 0
