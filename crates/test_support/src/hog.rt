@@ -44,7 +44,7 @@ impl Hog {
     }
 
     /// Takes what is left, gives `most` bytes of it back, and takes all of these again but so many. What is left is then
-    /// the rest of a greater block, which the C library cuts up as requested. Answers as [`Hog::leave`].
+    /// the rest of a greater block, which the C library cuts up as it is needed. Answers as [`Hog::leave`].
     pub fn leave_of(
         &mut self,
         alloc: Global,
@@ -87,7 +87,7 @@ fn take(alloc: Global, blocks: &mut Vec<Vec<u8>>, size: usize) -> Option<bool> {
 }
 
 // The size to try where this one is refused, or `None` after the least. The C library keeps freed blocks by their size:
-// each has to be requested.
+// each is a call of its own.
 fn smaller(size: usize) -> Option<usize> {
     if size > SMALL {
         Some(size / 2)

@@ -37,7 +37,7 @@ function_settings s = record {
   held = None;
 }
 
--- The module n that is judged is m, with returns put in first where that is requested.
+-- The module n that is judged is m, with returns put in first where that is wanted.
 abbrev pub IsPrepared : (returns : Bool) → PlainModule → PlainModule → Type 0
 IsPrepared true m n = IsReturned m n
 IsPrepared false m n = n ≡ m
