@@ -3,6 +3,7 @@
 use ir_arena::arena::Arena;
 use ir_arena::handle::{Handle, NonMaxU32};
 use ir_arena::span::Span;
+use ir_blocks::plain_operation;
 use ir_items::{Block, Function, IrType, Module, Statement, SwitchCase};
 
 // The places of the lists in a document, as docs/FORMAT.md has them.
@@ -57,24 +58,23 @@ fn case_body<'a>(cases: &'a [SwitchCase], path: &[u32]) -> Option<&'a Block> {
 // The block in a statement that the path leads into, and how many parts of the path it takes.
 fn inner_block<'a>(statement: &'a Statement, path: &[u32]) -> Option<(&'a Block, usize)> {
     let part = step(path, 0)?;
-    if let Statement::Block(block) = statement {
-        return Some((block, 1));
+    match statement {
+        Statement::Block(block) => Some((block, 1)),
+        Statement::If { accept, reject, .. } => Some((if part == 2 { accept } else { reject }, 1)),
+        Statement::Switch { cases, .. } => Some((case_body(cases, path)?, 3)),
+        Statement::Loop {
+            body,
+            continuing,
+            ..
+        } => Some((if part == 1 { body } else { continuing }, 1)),
+        Statement::Emit(_)
+        | Statement::Break
+        | Statement::Continue
+        | Statement::Return { .. }
+        | Statement::Kill
+        | Statement::Call { .. }
+        | plain_operation!() => None,
     }
-    if let Statement::If { accept, reject, .. } = statement {
-        return Some((if part == 2 { accept } else { reject }, 1));
-    }
-    if let Statement::Loop {
-        body,
-        continuing,
-        ..
-    } = statement
-    {
-        return Some((if part == 1 { body } else { continuing }, 1));
-    }
-    if let Statement::Switch { cases, .. } = statement {
-        return Some((case_body(cases, path)?, 3));
-    }
-    None
 }
 
 // The span of the innermost statement that the path leads to.

@@ -16,10 +16,14 @@ HasCallee m _ = Unit {0}
 abbrev pub Meets : BlockContext → PlainStatement → Type 0
 Meets c u = HasCallee c.m u → StatementOK c u
 
--- it does, where its rule is checked without memory: it is no switch, and writes no texel
+-- its rule is checked without memory: it is no switch, and writes no texel
+abbrev pub TakesNoMemory : PlainStatement → Type 0
+TakesNoMemory (switch selector cases) = ⊥
+TakesNoMemory (operation (image_store image coordinate array_index value)) = ⊥
+TakesNoMemory _ = Unit {0}
+
+-- it meets its rule, if what it calls is there: spelled kind by kind, as the rules are
 abbrev pub MeetsPlainly : BlockContext → PlainStatement → Type 0
-MeetsPlainly c (switch selector cases) = Unit {0}
-MeetsPlainly c (operation (image_store image coordinate array_index value)) = Unit {0}
 MeetsPlainly c (call function arguments answer) = function < length c.m.functions → StatementOK c (call function arguments answer)
 MeetsPlainly c u = StatementOK c u
 

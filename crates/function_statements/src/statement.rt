@@ -9,7 +9,7 @@ ghost use Rattle.spec_statements.specs.judged.Conditions.{ConditionOK};
 ghost use Rattle.spec_statements.specs.judged.StorageImages.{ImageStoreOK};
 ghost use Rattle.spec_statements.specs.judged.Switches.{SwitchOK};
 ghost use Rattle.function_statement_checks.specs.Conditions.{IsConditionFault};
-ghost use Rattle.function_statements.specs.Bodies.{Meets, MeetsPlainly};
+ghost use Rattle.function_statements.specs.Bodies.{Meets, MeetsPlainly, TakesNoMemory};
 ghost use Rattle.function_statements.specs.Faults.{IfFault, IsStatementFault};
 ghost use Rattle.function_statements.specs.Switches.{IsSwitchFault};
 
@@ -88,9 +88,10 @@ fn check_break_if<C: StatementContext>(
     }
 }
 
-// Whether a statement meets its rule, what stands inside it aside, where its rule takes no memory: not a switch, and not a
-// texel that is written.
+// Whether a statement meets its rule, what stands inside it aside, whose rule takes no memory: it is no switch, and writes no
+// texel.
 fn check_plain<C: StatementContext>(context: &C, statement: &Statement) -> Result<(), FunctionError>
+    requires plain { TakesNoMemory (statement_view statement.now) }
     requires known { C.known context.now }
     requires precede { BasesPrecede (C.seen context.now).f.expressions }
     ensures { MatchResult result
@@ -101,7 +102,6 @@ fn check_plain<C: StatementContext>(context: &C, statement: &Statement) -> Resul
         Statement::Emit(range) => check_emit(context, *range),
         Statement::Block(_) => Ok(()),
         Statement::If { condition, .. } => check_condition(context, *condition),
-        Statement::Switch { .. } => Ok(()),
         Statement::Loop { break_if, .. } => check_break_if(context, break_if),
         Statement::Break => Ok(()),
         Statement::Continue => Ok(()),
@@ -110,7 +110,6 @@ fn check_plain<C: StatementContext>(context: &C, statement: &Statement) -> Resul
         Statement::ControlBarrier(barrier) => check_barrier(context, *barrier),
         Statement::MemoryBarrier(barrier) => check_barrier(context, *barrier),
         Statement::Store { pointer, value } => check_store(context, *pointer, *value),
-        Statement::ImageStore { .. } => Ok(()),
         Statement::Atomic {
             pointer,
             fun,
@@ -150,6 +149,7 @@ fn check_plain<C: StatementContext>(context: &C, statement: &Statement) -> Resul
             check_cooperative_store(context, *target, *block)
         }
         Statement::RayPipelineFunction(fun) => check_ray_pipeline(context, *fun),
+        Statement::Switch { .. } | Statement::ImageStore { .. } => unreachable!(),
     }
 }
 
