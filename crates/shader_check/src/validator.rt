@@ -9,7 +9,7 @@ ghost use Rattle.function_validator.specs.Faults.{IsFunctionFault};
 ghost use Rattle.function_interface.specs.Analysis.{IsRefusedFor};
 ghost use Rattle.function_interface.specs.Question.{question};
 ghost use Rattle.shader_check.specs.found.Judged.{AreJudged, IsRefusal};
-ghost use Rattle.shader_check.specs.found.Settings.{settings_for, settings_in};
+ghost use Rattle.shader_check.specs.found.Settings.{settings_for, settings_in, KeepsSettings};
 ghost use Rattle.module_globals.specs.Faults.{IsWrongBy};
 ghost use Rattle.ir_flags.specs.Sets.{Has};
 ghost use Rattle.ir_items.specs.found.GlobalView.{global_view};
@@ -66,12 +66,15 @@ pub struct Validator<L> {
 impl<L: Lower> Validator<L> {
     /// A validator that makes these checks, of shaders that may use this, without operations of subgroups. It takes no memory.
     pub fn new(alloc: Global, lower: L, flags: ValidationFlags, capabilities: Capabilities) -> Self
-        ensures lower { result.lower ≡ lower }
-        ensures flags { result.flags ≡ flags }
-        ensures capabilities { result.capabilities ≡ capabilities }
-        ensures stages { result.stages.0 ≡ 0 }
-        ensures operations { result.operations.0 ≡ 0 }
-        ensures held { result.held ≡ None }
+        ensures { result ≡ record {
+            alloc = alloc;
+            lower = lower;
+            flags = flags;
+            capabilities = capabilities;
+            stages = record { 0 = 0 };
+            operations = record { 0 = 0 };
+            held = None;
+        } }
     {
         Validator {
             alloc,
@@ -86,36 +89,21 @@ impl<L: Lower> Validator<L> {
 
     /// Says which stages have operations of subgroups.
     pub fn subgroup_stages(&mut self, stages: ShaderStages)
-        ensures stages { self.new.stages ≡ stages }
-        ensures lower { self.new.lower ≡ self.old.lower }
-        ensures flags { self.new.flags ≡ self.old.flags }
-        ensures capabilities { self.new.capabilities ≡ self.old.capabilities }
-        ensures operations { self.new.operations ≡ self.old.operations }
-        ensures held { self.new.held ≡ self.old.held }
+        ensures { self.new ≡ record self.old { stages = stages } }
     {
         self.stages = stages;
     }
 
     /// Says which operations of subgroups may be used.
     pub fn subgroup_operations(&mut self, operations: SubgroupOperationSet)
-        ensures operations { self.new.operations ≡ operations }
-        ensures lower { self.new.lower ≡ self.old.lower }
-        ensures flags { self.new.flags ≡ self.old.flags }
-        ensures capabilities { self.new.capabilities ≡ self.old.capabilities }
-        ensures stages { self.new.stages ≡ self.old.stages }
-        ensures held { self.new.held ≡ self.old.held }
+        ensures { self.new ≡ record self.old { operations = operations } }
     {
         self.operations = operations;
     }
 
     /// Forgets the payloads of the functions that were judged.
     pub fn reset(&mut self)
-        ensures held { self.new.held ≡ None }
-        ensures lower { self.new.lower ≡ self.old.lower }
-        ensures flags { self.new.flags ≡ self.old.flags }
-        ensures capabilities { self.new.capabilities ≡ self.old.capabilities }
-        ensures stages { self.new.stages ≡ self.old.stages }
-        ensures operations { self.new.operations ≡ self.old.operations }
+        ensures { self.new ≡ record self.old { held = None } }
     {
         self.held = None;
     }
@@ -153,12 +141,8 @@ impl<L: Lower> Validator<L> {
         ensures chains { CalleesKnown (module_view «module».now) (function_view fun.now) (map (L.summary self.old.lower) mod_info.now)
             → IfOk result (λ info. IsSummary (module_view «module».now) (function_view fun.now) (L.summary self.old.lower info)) }
         ensures held { OnOk result (IsPayloadAfter self.old.flags (module_view «module».now) (function_view fun.now) self.old.held self.new.held) }
-        ensures kept { OnErr result (self.new.held ≡ self.old.held) }
-        ensures lower { self.new.lower ≡ self.old.lower }
-        ensures flags { self.new.flags ≡ self.old.flags }
-        ensures capabilities { self.new.capabilities ≡ self.old.capabilities }
-        ensures stages { self.new.stages ≡ self.old.stages }
-        ensures operations { self.new.operations ≡ self.old.operations }
+        ensures unchanged { OnErr result (self.new ≡ self.old) }
+        ensures settings { KeepsSettings self.old self.new }
     {
         let settings = FunctionSettings {
             flags: self.flags,
@@ -207,12 +191,8 @@ impl<L: Lower> Validator<L> {
             MatchResult result
             (λ info. IsEntryValidated (L.reading self.old.lower q) q.stages s m e (L.summary self.old.lower info) (L.noted self.old.lower info) (L.blending self.old.lower info) self.new.held)
             (IsRefusalFor (IsRefusedAs (L.reading self.old.lower q) (L.faults self.old.lower q) q.stages (HasUse m e.function) s m e)) }
-        ensures kept { OnErr result (self.new.held ≡ self.old.held) }
-        ensures lower { self.new.lower ≡ self.old.lower }
-        ensures flags { self.new.flags ≡ self.old.flags }
-        ensures capabilities { self.new.capabilities ≡ self.old.capabilities }
-        ensures stages { self.new.stages ≡ self.old.stages }
-        ensures operations { self.new.operations ≡ self.old.operations }
+        ensures unchanged { OnErr result (self.new ≡ self.old) }
+        ensures settings { KeepsSettings self.old self.new }
     {
         let settings = FunctionSettings {
             flags: self.flags,
@@ -287,11 +267,7 @@ impl<L: Lower> Validator<L> {
             (λ infos. AreJudged (L.reading self.old.lower) s (module_view «module».now) (length (module_view «module».now).functions) (map (L.summary self.old.lower) infos.items) (map (L.noted self.old.lower) infos.items) self.new.held)
             (IsRefusal (L.reading self.old.lower) (L.faults self.old.lower) s (module_view «module».now)) }
         ensures none_held { OnErr result (self.new.held ≡ None) }
-        ensures lower { self.new.lower ≡ self.old.lower }
-        ensures flags { self.new.flags ≡ self.old.flags }
-        ensures capabilities { self.new.capabilities ≡ self.old.capabilities }
-        ensures stages { self.new.stages ≡ self.old.stages }
-        ensures operations { self.new.operations ≡ self.old.operations }
+        ensures settings { KeepsSettings self.old self.new }
     {
         self.reset();
         let declared = module.special_types.ray_desc;

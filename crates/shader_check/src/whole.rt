@@ -235,12 +235,7 @@ impl Validator<RealLower> {
         ensures judged { MatchResult result
             (IsValidated (settings_in self.old) false (module_view «module».now))
             (IsRefusedAt (IsValidationFault (settings_in self.old) false (module_view «module».now)) «module».now) }
-        ensures forgotten { self.new.held ≡ None }
-        ensures lower { self.new.lower ≡ self.old.lower }
-        ensures flags { self.new.flags ≡ self.old.flags }
-        ensures capabilities { self.new.capabilities ≡ self.old.capabilities }
-        ensures stages { self.new.stages ≡ self.old.stages }
-        ensures operations { self.new.operations ≡ self.old.operations }
+        ensures forgotten { self.new ≡ record self.old { held = None } }
     {
         self.reset();
         let judged = judge(self, module, false);
@@ -260,12 +255,7 @@ impl Validator<RealLower> {
         ensures judged { MatchResult result
             (IsValidated (settings_in self.old) true (module_view «module».now))
             (IsRefusedAt (IsValidationFault (settings_in self.old) true (module_view «module».now)) «module».now) }
-        ensures forgotten { self.new.held ≡ None }
-        ensures lower { self.new.lower ≡ self.old.lower }
-        ensures flags { self.new.flags ≡ self.old.flags }
-        ensures capabilities { self.new.capabilities ≡ self.old.capabilities }
-        ensures stages { self.new.stages ≡ self.old.stages }
-        ensures operations { self.new.operations ≡ self.old.operations }
+        ensures forgotten { self.new ≡ record self.old { held = None } }
     {
         self.reset();
         let judged = judge(self, module, true);

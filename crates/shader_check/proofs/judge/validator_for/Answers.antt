@@ -1,5 +1,7 @@
-use Rattle.std.proofs.Common.{◌∙◌, false, None}
-use Rattle.shader_check.specs.found.Settings.{settings_for}
+use Rattle.std.proofs.Common.{◌∙◌, ap}
+use Rattle.function_real_lower.specs.declared.real.RealLower.{RealLower}
+use Rattle.shader_check.specs.declared.validator.Validator.{Validator}
+use Rattle.shader_check.specs.found.Settings.{settings_in}
 use Rattle.shader_check.proofs.judge.validator_for.Goals as goal
 
 pub returns : goal.returns
@@ -7,4 +9,5 @@ returns c =
     let made = c.new-validator.ensures in
     let first = c.subgroup_stages.ensures in
     let second = c.subgroup_operations.ensures in
-    λ i. settings_for ((second.flags ∙ (first.flags ∙ made.flags)) i) ((second.capabilities ∙ (first.capabilities ∙ made.capabilities)) i) (second.operations i) ((second.stages ∙ first.stages) i) false None
+    let settings = c.args.settings.now in
+    ap settings_in (second ∙ (ap (λ (v : Validator RealLower). record v { operations = settings.subgroup_operations }) first ∙ ap (λ (v : Validator RealLower). record v { operations = settings.subgroup_operations; stages = settings.subgroup_stages }) made))
