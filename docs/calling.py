@@ -52,7 +52,9 @@ def signature(lines, start):
         bare = line.strip()
         if bare == "{" or bare == "{}":
             break
-        if bare.endswith(";") and not bare.startswith("//"):
+        clause = "".join(taken) + line
+        is_inside = clause.count("{") > clause.count("}")
+        if bare.endswith(";") and not bare.startswith("//") and not is_inside:
             taken.append(line.rstrip(";"))
             break
         if bare.endswith("{") and "{ " not in bare:

@@ -1,8 +1,8 @@
 //! All functions of a module, one after the other.
 
-ghost use Rattle.std.specs.Prelude.{◌≡◌, ◌<◌, ◌+◌, ◌++◌, ◌∷◌, [], MatchResult, false, length, map};
+ghost use Rattle.std.specs.Prelude.{◌≡◌, ◌<◌, ◌+◌, ◌++◌, ◌∷◌, [], MatchResult, length, map};
 ghost use Rattle.shader_check.specs.found.Judged.{AreJudged, IsReportedAt, IsRefusal};
-ghost use Rattle.shader_check.specs.found.Settings.{settings_for};
+ghost use Rattle.shader_check.specs.found.Settings.{settings_in};
 ghost use Rattle.ir_items.specs.found.View.{module_view};
 ghost use Rattle.spec_handles.specs.InOrder.{HandlesOK};
 ghost use Rattle.function_statement_checks.specs.Descriptors.{AreDescriptors};
@@ -59,8 +59,8 @@ fn judge_next<L: Lower>(
     requires handles { HandlesOK (module_view «module».now) }
     requires within { handle < length (module_view «module».now).functions }
     requires marked { AreDescriptors (module_view «module».now).types (module_view «module».now).special.ray_desc descriptors.now }
-    requires before { AreJudged (L.reading validator.now.lower) (settings_for validator.now.flags validator.now.capabilities validator.now.operations validator.now.stages false None) (module_view «module».now) handle (map (L.summary validator.now.lower) infos.now) (map (L.noted validator.now.lower) infos.now) held }
-    ensures { let s = settings_for validator.now.flags validator.now.capabilities validator.now.operations validator.now.stages false None in
+    requires before { AreJudged (L.reading validator.now.lower) (settings_in validator.now) (module_view «module».now) handle (map (L.summary validator.now.lower) infos.now) (map (L.noted validator.now.lower) infos.now) held }
+    ensures { let s = settings_in validator.now in
         MatchResult result
         (λ v. AreJudged (L.reading validator.now.lower) s (module_view «module».now) (handle + 1) (map (L.summary validator.now.lower) infos.now ++ L.summary validator.now.lower v.info ∷ [])
         (map (L.noted validator.now.lower) infos.now ++ L.noted validator.now.lower v.info ∷ []) v.held)
@@ -99,7 +99,7 @@ pub(crate) fn judge_all<L: Lower>(
     requires made { L.is_for validator.now.lower (module_view «module».now) }
     requires handles { HandlesOK (module_view «module».now) }
     requires marked { AreDescriptors (module_view «module».now).types (module_view «module».now).special.ray_desc descriptors.now }
-    ensures { let s = settings_for validator.now.flags validator.now.capabilities validator.now.operations validator.now.stages false None in
+    ensures { let s = settings_in validator.now in
         MatchResult result
         (λ j. AreJudged (L.reading validator.now.lower) s (module_view «module».now) (length (module_view «module».now).functions) (map (L.summary validator.now.lower) j.infos.items) (map (L.noted validator.now.lower) j.infos.items) j.held)
         (IsRefusal (L.reading validator.now.lower) (L.faults validator.now.lower) s (module_view «module».now)) }

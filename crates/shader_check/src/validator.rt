@@ -1,6 +1,6 @@
 //! A validator of functions, over any layer beneath them.
 
-ghost use Rattle.std.specs.Prelude.{◌≡◌, ◌<◌, ◌↔◌, ℕ, IfErr, IfOk, IfSome, MatchResult, None, OnErr, OnOk, false, length, map};
+ghost use Rattle.std.specs.Prelude.{◌≡◌, ◌<◌, ◌↔◌, ℕ, IfErr, IfOk, IfSome, MatchResult, None, OnErr, OnOk, length, map, true};
 ghost use Rattle.function_entry_checks.specs.Faults.{IsRefusedFor as IsRefusalFor};
 ghost use Rattle.function_validator.specs.EntryFaults.{IsRefusedAs};
 ghost use Rattle.function_validator.specs.Globals.{IsRefusedFor as IsVariableRefused, IsVariableOf};
@@ -9,7 +9,7 @@ ghost use Rattle.function_validator.specs.Faults.{IsFunctionFault};
 ghost use Rattle.function_interface.specs.Analysis.{IsRefusedFor};
 ghost use Rattle.function_interface.specs.Question.{question};
 ghost use Rattle.shader_check.specs.found.Judged.{AreJudged, IsRefusal};
-ghost use Rattle.shader_check.specs.found.Settings.{settings_for, settings_in, KeepsSettings};
+ghost use Rattle.shader_check.specs.found.Settings.{settings_at, settings_in, KeepsSettings};
 ghost use Rattle.module_globals.specs.Faults.{IsWrongBy};
 ghost use Rattle.ir_flags.specs.Sets.{Has};
 ghost use Rattle.ir_items.specs.found.GlobalView.{global_view};
@@ -18,7 +18,6 @@ ghost use Rattle.ir_items.specs.declared.entries.MeshStageInfo.{MeshStageInfo};
 ghost use Rattle.ir_proc.specs.found.Filters.{ParentsPrecede};
 ghost use Rattle.spec_analysis.specs.judged.Chains.{HasUse};
 ghost use Rattle.spec_analysis.specs.judged.Summaries.{CalleesKnown, IsJoined, IsSummary};
-ghost use Rattle.spec_interface.specs.judged.Modules.{entry_settings};
 ghost use Rattle.spec_interface.specs.judged.Globals.{VariableBy};
 ghost use Rattle.spec_statements.specs.judged.ExpressionStages.{all_stages};
 ghost use Rattle.spec_handles.specs.Conditions.{HandlesInRange, OperandsPrecede};
@@ -67,13 +66,13 @@ impl<L: Lower> Validator<L> {
     /// A validator that makes these checks, of shaders that may use this, without operations of subgroups. It takes no memory.
     pub fn new(alloc: Global, lower: L, flags: ValidationFlags, capabilities: Capabilities) -> Self
         ensures { result ≡ record {
-            alloc = alloc;
-            lower = lower;
-            flags = flags;
-            capabilities = capabilities;
-            stages = record { 0 = 0 };
-            operations = record { 0 = 0 };
-            held = None;
+          alloc = alloc;
+          lower = lower;
+          flags = flags;
+          capabilities = capabilities;
+          stages = record { 0 = 0 };
+          operations = record { 0 = 0 };
+          held = None;
         } }
     {
         Validator {
@@ -130,13 +129,13 @@ impl<L: Lower> Validator<L> {
         requires precede { OperandsPrecede (function_view fun.now).expressions }
         requires parents { ParentsPrecede (module_view «module».now).filters }
         ensures accepted { let q = question (module_view «module».now) (function_view fun.now) (map (L.summary self.old.lower) mod_info.now) (map (L.noted self.old.lower) mod_info.now) in
-            OnOk result (FunctionOK (L.reading self.old.lower q) (settings_for self.old.flags self.old.capabilities self.old.operations self.old.stages entry_point self.old.held) q.m q.f) }
+            OnOk result (FunctionOK (L.reading self.old.lower q) (settings_at self.old entry_point) q.m q.f) }
         ensures refused { let q = question (module_view «module».now) (function_view fun.now) (map (L.summary self.old.lower) mod_info.now) (map (L.noted self.old.lower) mod_info.now) in
-            IfErr result (IsRefusedFor (λ _. FunctionOK (L.reading self.old.lower q) (settings_for self.old.flags self.old.capabilities self.old.operations self.old.stages entry_point self.old.held) q.m q.f → ⊥)) }
+            IfErr result (IsRefusedFor (λ _. FunctionOK (L.reading self.old.lower q) (settings_at self.old entry_point) q.m q.f → ⊥)) }
         ensures fault { let q = question (module_view «module».now) (function_view fun.now) (map (L.summary self.old.lower) mod_info.now) (map (L.noted self.old.lower) mod_info.now) in
-            IfErr result (IsRefusedFor (IsFunctionFault (L.reading self.old.lower q) (L.faults self.old.lower q) (settings_for self.old.flags self.old.capabilities self.old.operations self.old.stages entry_point self.old.held) q.m q.f)) }
+            IfErr result (IsRefusedFor (IsFunctionFault (L.reading self.old.lower q) (L.faults self.old.lower q) (settings_at self.old entry_point) q.m q.f)) }
         ensures noted { let q = question (module_view «module».now) (function_view fun.now) (map (L.summary self.old.lower) mod_info.now) (map (L.noted self.old.lower) mod_info.now) in
-            IfOk result (λ info. (stage : ℕ) → Has (L.noted self.old.lower info).0 stage ↔ (Has all_stages.0 stage × AllowsStage (L.reading self.old.lower q) (settings_for self.old.flags self.old.capabilities self.old.operations self.old.stages entry_point self.old.held) q.stages q.f stage)) }
+            IfOk result (λ info. (stage : ℕ) → Has (L.noted self.old.lower info).0 stage ↔ (Has all_stages.0 stage × AllowsStage (L.reading self.old.lower q) (settings_at self.old entry_point) q.stages q.f stage)) }
         ensures joined { IfOk result (λ info. IsJoined (length (module_view «module».now).globals) (function_view fun.now) (map (L.summary self.old.lower) mod_info.now) (L.summary self.old.lower info)) }
         ensures chains { CalleesKnown (module_view «module».now) (function_view fun.now) (map (L.summary self.old.lower) mod_info.now)
             → IfOk result (λ info. IsSummary (module_view «module».now) (function_view fun.now) (L.summary self.old.lower info)) }
@@ -187,7 +186,7 @@ impl<L: Lower> Validator<L> {
         ensures judged { let m = module_view «module».now in
             let e = entry_view ep.now in
             let q = question m e.function (map (L.summary self.old.lower) mod_info.now) (map (L.noted self.old.lower) mod_info.now) in
-            let s = entry_settings (settings_in self.old) self.old.held in
+            let s = settings_at self.old true in
             MatchResult result
             (λ info. IsEntryValidated (L.reading self.old.lower q) q.stages s m e (L.summary self.old.lower info) (L.noted self.old.lower info) (L.blending self.old.lower info) self.new.held)
             (IsRefusalFor (IsRefusedAs (L.reading self.old.lower q) (L.faults self.old.lower q) q.stages (HasUse m e.function) s m e)) }
@@ -262,7 +261,7 @@ impl<L: Lower> Validator<L> {
     ) -> Result<Vec<L::Info>, Refusal<InvalidFunction>>
         requires made { L.is_for self.old.lower (module_view «module».now) }
         requires handles { HandlesOK (module_view «module».now) }
-        ensures judged { let s = settings_for self.old.flags self.old.capabilities self.old.operations self.old.stages false None in
+        ensures judged { let s = settings_in self.old in
             MatchResult result
             (λ infos. AreJudged (L.reading self.old.lower) s (module_view «module».now) (length (module_view «module».now).functions) (map (L.summary self.old.lower) infos.items) (map (L.noted self.old.lower) infos.items) self.new.held)
             (IsRefusal (L.reading self.old.lower) (L.faults self.old.lower) s (module_view «module».now)) }
