@@ -1,5 +1,5 @@
 -- What denotes an answer is the result of one statement of its kind.
-use Rattle.std.proofs.Common.{◌≡◌, ◌∙◌, ℕ, Option, Some, None, option_and_then, slice_get, refl, sym, ap, subst, List}
+use Rattle.std.proofs.Common.{◌≡◌, ◌∙◌, ℕ, [], Option, Some, None, option_and_then, slice_get, refl, sym, ap, subst, List}
 use Rattle.std.proofs.lemmas.Option.{slice_get_within}
 use Rattle.std.specs.Prelude.{IsSomeAnd}
 use Rattle.ir_blocks.specs.judged.Places.{Place, OccursAt}
@@ -124,4 +124,4 @@ pub answered_by_one : AnsweredByOne
 answered_by_one s m ok blocks expressions index f at =
     let here = ok index (slice_get_within m.functions index f at) in
     let same : here.function ≡ f = some_is (sym here.at ∙ at) in
-    subst EachAnswered same (each_answered _ _ (here.ok.body blocks) expressions)
+    subst EachAnswered same (each_answered _ _ ((here.ok []).body blocks) expressions)
